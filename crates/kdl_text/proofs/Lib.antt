@@ -1,0 +1,5 @@
+mod Texts
+mod Eats
+pub mod Going
+pub mod Runs
+pub mod Newlines

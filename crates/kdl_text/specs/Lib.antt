@@ -1,0 +1,4 @@
+pub mod Chars
+pub mod Here
+pub mod Reading
+pub mod Spans

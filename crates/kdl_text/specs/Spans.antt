@@ -1,0 +1,13 @@
+-- Spans: places in a text, in bytes.
+use Rattle.std.specs.Prelude.{◌≡◌, ℕ, ◌-◌, ◌++◌}
+use Rattle.kdl_text.specs.Chars.{Text}
+use Rattle.kdl_text.specs.Here.{bytes}
+use Rattle.kdl_text.specs.declared.span.SourceSpan.{SourceSpan}
+
+-- the span, in the whole text, of what stands in t before r
+abbrev pub span_between : Text → Text → Text → SourceSpan
+span_between whole t r = record { offset = bytes whole - bytes t; len = bytes t - bytes r }
+
+-- the span selects a piece of the text, so both its ends are on character boundaries
+abbrev pub InText : Text → SourceSpan → Type 0
+InText whole span = (before piece after : Text) × (whole ≡ before ++ piece ++ after) × (span.offset ≡ bytes before) × (span.len ≡ bytes piece)

@@ -1,0 +1,486 @@
+//! Characters: their classes, and the cursor through which every reader looks at a text.
+//!
+//! A text is looked at by a `Cursor` alone, which counts each look and each byte of a slice.
+
+ghost use Rattle.kdl_text.specs.Chars as class;
+ghost use Rattle.kdl_text.specs.Chars.{Text, Newline};
+ghost use Rattle.kdl_text.specs.Here.{Here, Behind, Skips, Took, Ate, AteTwo, Stayed, first, tail, looked, stepped, sliced, bytes, raise, in_class, RunOf};
+ghost use Rattle.kdl_text.specs.Reading.{Moves, Costs, ReadsNewline};
+ghost use Rattle.std.specs.Char.{len_utf8};
+ghost use Rattle.std.specs.Prelude.{◌≡◌, ℕ, ◌+◌, ◌-◌, ◌<◌, ◌≤◌, ◌^◌, ◌++◌, ◌∷◌, [], length, MatchOption, IfSome, IfOk, IsTrue, ◌↔◌, string_bytes};
+ghost use Rattle.std.specs.Str.{chars, IsUtf8};
+
+use std::alloc::{AllocError, Global};
+use std::marker::Model;
+
+/// Whether the character is one of the 18 spaces (KDL 2.0.0, Whitespace).
+#[inline]
+#[tactic(auto, unfolding(crate::specs::Chars::is_space))]
+pub fn is_space(c: char) -> bool
+    ensures { result ≡ class.is_space c }
+{
+    matches!(c, '\t' | ' ' | '\u{a0}' | '\u{1680}' | '\u{2000}'..='\u{200a}' | '\u{202f}' | '\u{205f}' | '\u{3000}')
+}
+
+/// Whether the character is part of a newline (KDL 2.0.0, Newline).
+#[inline]
+#[tactic(auto, unfolding(crate::specs::Chars::is_newline_char))]
+pub fn is_newline_char(c: char) -> bool
+    ensures { result ≡ class.is_newline_char c }
+{
+    matches!(c, '\n'..='\r' | '\u{85}' | '\u{2028}' | '\u{2029}')
+}
+
+/// Whether the character may stand in comments alone (KDL 2.0.0, Disallowed Literal Code Points).
+#[inline]
+#[tactic(auto, unfolding(crate::specs::Chars::is_banned))]
+pub fn is_banned(c: char) -> bool
+    ensures { result ≡ class.is_banned c }
+{
+    matches!(c, '\u{0}'..='\u{8}' | '\u{e}'..='\u{1f}' | '\u{7f}' | '\u{200e}'..='\u{200f}' | '\u{202a}'..='\u{202e}' | '\u{2066}'..='\u{2069}' | '\u{feff}')
+}
+
+/// Whether the character is one of `0` to `9`.
+#[inline]
+pub fn is_digit(c: char) -> bool
+    ensures { result ≡ class.is_digit c }
+{
+    matches!(c, '0'..='9')
+}
+
+/// Whether the character is `+` or `-`.
+#[inline]
+pub fn is_sign(c: char) -> bool
+    ensures { result ≡ class.is_sign c }
+{
+    matches!(c, '+' | '-')
+}
+
+/// Whether the character is one of `\ / ( ) { } [ ] ; " # =`.
+#[inline]
+#[tactic(auto, unfolding(crate::specs::Chars::is_mark))]
+fn is_mark(c: char) -> bool
+    ensures { result ≡ class.is_mark c }
+{
+    matches!(c, '\\' | '/' | '(' | ')' | '{' | '}' | '[' | ']' | ';' | '"' | '#' | '=')
+}
+
+/// Whether the character may stand in a bare string (KDL 2.0.0, Identifier String).
+#[inline]
+#[tactic(auto, unfolding(crate::specs::Chars::is_identifier_char))]
+pub fn is_identifier_char(c: char) -> bool
+    ensures { result ≡ class.is_identifier_char c }
+{
+    !(is_space(c) || is_newline_char(c) || is_banned(c) || is_mark(c))
+}
+
+/// Whether the character stands for itself in a quoted string (KDL 2.0.0, Quoted String).
+#[inline]
+#[tactic(auto, unfolding(crate::specs::Chars::is_literal))]
+pub fn is_literal(c: char) -> bool
+    ensures { result ≡ class.is_literal c }
+{
+    !(c == '\\' || c == '"' || is_newline_char(c) || is_banned(c))
+}
+
+/// A class of characters of which a cursor reads a run by one call.
+#[derive(Clone, Copy, Debug, PartialEq, Eq)]
+pub enum Class {
+    /// The 18 spaces.
+    Space,
+    /// The characters of bare strings and numbers.
+    Identifier,
+    /// The characters that stand for themselves in a quoted string.
+    Literal,
+    /// All but the characters of newlines.
+    Line,
+}
+
+impl Class {
+    /// Whether the character is of the class.
+    #[inline]
+    pub fn has(self, c: char) -> bool
+        ensures { result ≡ in_class self c }
+    {
+        match self {
+            Class::Space => is_space(c),
+            Class::Identifier => is_identifier_char(c),
+            Class::Literal => is_literal(c),
+            Class::Line => !is_newline_char(c),
+        }
+    }
+}
+
+/// A count of steps, which stays at the greatest `u64` once it is there.
+#[derive(Drop)]
+pub struct Steps {
+    count: u64,
+}
+
+impl Model for Steps {
+    ghost use Rattle.std.specs.Prelude.{ℕ};
+
+    ghost Value = { ℕ };
+
+    ghost view = { λ s. s.count };
+}
+
+impl Steps {
+    /// A count of no steps.
+    pub fn new() -> Self
+        ensures { result ≡ 0 }
+    {
+        Steps { count: 0 }
+    }
+
+    /// The steps counted so far.
+    pub fn count(&self) -> u64
+        ensures { result ≡ self.now }
+    {
+        self.count
+    }
+
+    /// Raises the count by so many steps, up to the greatest `u64`.
+    #[inline]
+    pub fn raise(&mut self, by: u64)
+        ensures { self.new ≡ raise self.old by }
+    {
+        self.count = self.count.saturating_add(by);
+    }
+}
+
+/// The first character, and the text behind it.
+#[inline]
+fn split_first(text: &str) -> Option<(char, &str)>
+    ensures parts { MatchOption result (chars text.now ≡ []) (λ (c, rest). (chars text.now ≡ c ∷ chars rest.now)
+        × (length text.now ≡ len_utf8 c + length rest.now)) }
+    ensures len { bytes (chars text.now) ≡ length text.now }
+    ensures text { IfSome result (λ (c, rest). IsUtf8 rest.now) }
+{
+    let mut chars = text.chars();
+    match chars.next() {
+        Some(c) => Some((c, chars.as_str())),
+        None => None,
+    }
+}
+
+/// The first character.
+#[inline]
+fn first_char(text: &str) -> Option<char>
+    ensures first { result ≡ first (chars text.now) }
+    ensures len { bytes (chars text.now) ≡ length text.now }
+{
+    text.chars().next()
+}
+
+/// The second character.
+fn second_char(text: &str) -> Option<char>
+    ensures { result ≡ first (tail (chars text.now)) }
+{
+    match split_first(text) {
+        Some((_, rest)) => first_char(rest),
+        None => None,
+    }
+}
+
+/// Whether the text begins with these two characters.
+#[inline]
+fn starts_with_two(text: &str, a: char, b: char) -> bool
+    ensures { result ≡ class.begins_two a b (chars text.now) }
+{
+    match split_first(text) {
+        Some((c, rest)) => c == a && first_char(rest) == Some(b),
+        None => false,
+    }
+}
+
+/// The text behind the longest run of characters of the class, and how many these are.
+#[inline]
+#[tactic(auto, using(crate::proofs::Runs::run_begins, crate::proofs::Runs::run_turn, crate::proofs::Runs::run_stops, crate::proofs::Runs::run_ends, crate::proofs::Runs::run_counts))]
+fn skip_class(text: &str, class: Class) -> (&str, u64)
+    ensures { RunOf (in_class class) text.now result.0.now result.1 }
+{
+    let _len = text.len();
+    let mut rest = text;
+    let mut count: u64 = 0;
+    'run: while let Some((c, next)) = split_first(rest) {
+        if !class.has(c) {
+            break;
+        }
+        rest = next;
+        count += 1;
+    }
+    (rest, count)
+}
+
+/// What stands before the rest of a text.
+#[inline]
+fn cut<'a>(text: &'a str, rest: &str) -> &'a str
+    requires { (p : Text) × (chars text.now ≡ p ++ chars rest.now) }
+    ensures parts { chars text.now ≡ chars result.now ++ chars rest.now }
+    ensures len { bytes (chars result.now) ≡ length result.now }
+{
+    &text[..text.len() - rest.len()]
+}
+
+fn same_bytes(a: &str, b: &str) -> bool
+    ensures { IsTrue result ↔ (a.now ≡ b.now) }
+{
+    a == b
+}
+
+fn same(a: &str, b: &str) -> bool
+    ensures { IsTrue result ↔ (chars a.now ≡ chars b.now) }
+{
+    same_bytes(a, b)
+}
+
+/// A place in a text, to which a slice can go back.
+#[derive(Drop)]
+pub struct Checkpoint<'a> {
+    rest: &'a str,
+    at: usize,
+}
+
+impl<'a> Model for Checkpoint<'a> {
+    ghost use Rattle.kdl_text.specs.Here.{Spot};
+    ghost use Rattle.std.specs.Prelude.{◌+◌, ◌<◌, ◌^◌, length};
+    ghost use Rattle.std.specs.Str.{chars};
+
+    ghost Value = { Spot };
+
+    ghost view = { λ c. record { rest = chars c.rest.now; at = c.at } };
+
+    ghost invariant = { λ c. c.at + length c.rest.now < 2 ^ 64 };
+}
+
+impl<'a> Checkpoint<'a> {
+    /// Where the place is, in bytes from the start of the text.
+    #[inline]
+    pub fn at(&self) -> usize
+        ensures { result ≡ self.now.at }
+    {
+        self.at
+    }
+}
+
+/// A piece of a text, whose slice was counted.
+#[derive(Drop)]
+pub struct Piece<'a> {
+    text: &'a str,
+}
+
+impl<'a> Model for Piece<'a> {
+    ghost use Rattle.kdl_text.specs.Chars.{Text};
+    ghost use Rattle.std.specs.Str.{chars};
+
+    ghost Value = { Text };
+
+    ghost view = { λ p. chars p.text.now };
+}
+
+impl<'a> Piece<'a> {
+    /// A copy of the piece. An empty one takes no memory.
+    #[inline]
+    pub fn to_string(&self, alloc: Global) -> Result<String, AllocError>
+        ensures { IfOk result (λ s. chars (string_bytes s) ≡ self.now) }
+    {
+        String::from_str(alloc, self.text)
+    }
+
+    /// Whether the piece is this text.
+    pub fn is(&self, text: &str) -> bool
+        ensures { IsTrue result ↔ (self.now ≡ chars text.now) }
+    {
+        same(self.text, text)
+    }
+
+    /// A cursor over the piece, on the given count.
+    pub fn cursor(&self, steps: Steps) -> Cursor<'a>
+        ensures { result ≡ record { rest = self.now; at = 0; steps = steps } }
+    {
+        Cursor::new(self.text, steps)
+    }
+}
+
+/// A reader of a text, character by character. Each look and each byte of a slice is a step.
+#[derive(Drop)]
+pub struct Cursor<'a> {
+    rest: &'a str,
+    at: usize,
+    steps: Steps,
+}
+
+impl<'a> Model for Cursor<'a> {
+    ghost use Rattle.kdl_text.specs.Here.{Here};
+    ghost use Rattle.std.specs.Prelude.{◌+◌, ◌<◌, ◌^◌, length};
+    ghost use Rattle.std.specs.Str.{chars};
+
+    ghost Value = { Here };
+
+    ghost view = { λ c. record { rest = chars c.rest.now; at = c.at; steps = c.steps } };
+
+    ghost invariant = { λ c. c.at + length c.rest.now < 2 ^ 64 };
+}
+
+impl<'a> Cursor<'a> {
+    /// A cursor at the start of the text, on the given count.
+    pub fn new(text: &'a str, steps: Steps) -> Self
+        ensures { result ≡ record { rest = chars text.now; at = 0; steps = steps } }
+    {
+        let _len = text.len();
+        Cursor { rest: text, at: 0, steps }
+    }
+
+    /// The count of steps, where the cursor is done.
+    pub fn into_steps(self) -> Steps
+        ensures { result ≡ self.entry.steps }
+    {
+        self.steps
+    }
+
+    /// Where the cursor stands, in bytes from the start of the text.
+    #[inline]
+    pub fn at(&self) -> usize
+        ensures { result ≡ self.now.at }
+    {
+        self.at
+    }
+
+    /// Where the cursor stands, to slice from there.
+    #[inline]
+    pub fn checkpoint(&self) -> Checkpoint<'a>
+        ensures rest { result.rest ≡ self.now.rest }
+        ensures at { result.at ≡ self.now.at }
+    {
+        Checkpoint { rest: self.rest, at: self.at }
+    }
+
+    /// The character here; none at the end of the text. A step.
+    #[inline]
+    pub fn look(&mut self) -> Option<char>
+        ensures result { result ≡ first self.old.rest }
+        ensures moved { self.new ≡ looked self.old }
+        ensures room { self.old.at + bytes self.old.rest < 2 ^ 64 }
+    {
+        self.steps.raise(1);
+        first_char(self.rest)
+    }
+
+    /// The character behind the one here, if there is one. A step.
+    pub fn look_second(&mut self) -> Option<char>
+        ensures result { result ≡ first (tail self.old.rest) }
+        ensures moved { self.new ≡ looked self.old }
+    {
+        self.steps.raise(1);
+        second_char(self.rest)
+    }
+
+    /// Goes past the character here, if there is one.
+    #[inline]
+    pub fn step(&mut self)
+        ensures { self.new ≡ stepped self.old }
+    {
+        if let Some((c, rest)) = split_first(self.rest) {
+            self.at += c.len_utf8();
+            self.rest = rest;
+        }
+    }
+
+    /// The character here, which the cursor goes past; none at the end of the text. A step.
+    #[inline]
+    pub fn take(&mut self) -> Option<char>
+        ensures took { Took result self.old self.new }
+        ensures room { self.old.at + bytes self.old.rest < 2 ^ 64 }
+    {
+        let _end = self.rest.len();
+        self.steps.raise(1);
+        match split_first(self.rest) {
+            Some((c, rest)) => {
+                self.at += c.len_utf8();
+                self.rest = rest;
+                Some(c)
+            }
+            None => None,
+        }
+    }
+
+    /// Goes past the character c, if it stands here. A step.
+    #[inline]
+    pub fn eat(&mut self, c: char) -> bool
+        ensures { Ate c result self.old self.new }
+    {
+        let eats = self.look() == Some(c);
+        if eats {
+            self.step();
+        }
+        eats
+    }
+
+    /// Whether the characters a and b stand here. Two steps.
+    #[inline]
+    pub fn looks_two(&mut self, a: char, b: char) -> bool
+        ensures result { result ≡ class.begins_two a b self.old.rest }
+        ensures stayed { Stayed 2 self.old self.new }
+    {
+        self.steps.raise(2);
+        starts_with_two(self.rest, a, b)
+    }
+
+    /// Goes past the characters a and b, if they stand here. Two steps.
+    #[inline]
+    pub fn eat_two(&mut self, a: char, b: char) -> bool
+        ensures { AteTwo a b result self.old self.new }
+    {
+        let eats = self.looks_two(a, b);
+        if eats {
+            self.step();
+            self.step();
+        }
+        eats
+    }
+
+    /// Goes past the longest run of characters of a class. A step for each, and one for the character behind them.
+    #[inline]
+    pub fn skip(&mut self, class: Class)
+        ensures { Skips (in_class class) self.old self.new }
+    {
+        let (rest, count) = skip_class(self.rest, class);
+        self.at += self.rest.len() - rest.len();
+        self.rest = rest;
+        self.steps.raise(count);
+        self.steps.raise(1);
+    }
+
+    /// The text from the checkpoint to here. A step for each of its bytes.
+    #[inline]
+    pub fn slice(&mut self, from: &Checkpoint<'a>) -> Piece<'a>
+        requires { Behind from.now self.old }
+        ensures result { from.now.rest ≡ result ++ self.old.rest }
+        ensures moved { self.new ≡ sliced result self.old }
+    {
+        let text = cut(from.rest, self.rest);
+        self.steps.raise(text.len() as u64);
+        Piece { text }
+    }
+}
+
+/// Goes past a newline, if one begins here (KDL 2.0.0, Newline): CR LF is one.
+pub fn newline(cursor: &mut Cursor) -> bool
+    ensures reads { ReadsNewline result cursor.old cursor.new }
+    ensures moves { Moves cursor.old cursor.new }
+    ensures costs { Costs 2 1 cursor.old cursor.new }
+{
+    match cursor.look() {
+        Some('\r') => {
+            cursor.step();
+            let _ = cursor.eat('\n');
+            true
+        }
+        Some(c) if is_newline_char(c) => {
+            cursor.step();
+            true
+        }
+        _ => false,
+    }
+}

@@ -1,0 +1,5 @@
+//! The text layer of KDL 2: characters, strings, numbers, and the places of faults.
+#![tactic(auto)]
+
+pub mod chars;
+pub mod span;
