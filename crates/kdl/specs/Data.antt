@@ -1,0 +1,18 @@
+-- What a document says, whatever its form.
+use Rattle.std.specs.Prelude.{List, Option}
+use Rattle.kdl_text.specs.Chars.{Text}
+use Rattle.kdl_entry.specs.Data.{Entry}
+
+mutual
+  -- a type or none, a name, entries, and children or none
+  pub data Node : Type 0 where
+    node : Option Text → Text → List Entry → Children → Node
+
+  -- an empty child block differs from none
+  pub data Children : Type 0 where
+    no_children : Children
+    children : Nodes → Children
+
+  pub data Nodes : Type 0 where
+    none : Nodes
+    first : Node → Nodes → Nodes

@@ -1,0 +1,14 @@
+-- What an entry says, whatever its form.
+use Rattle.std.specs.Prelude.{ℤ, Option}
+use Rattle.kdl_text.specs.Chars.{Text}
+
+-- a string or a whole number
+pub data Value : Type 0 where
+  text : Text → Value
+  integer : ℤ → Value
+
+-- an argument, or a property with its key; with a type or none
+pub record Entry : Type 0 where
+  pub key : Option Text
+  pub ty : Option Text
+  pub value : Value

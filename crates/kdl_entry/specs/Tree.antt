@@ -1,0 +1,75 @@
+-- Identifiers and entries with every text and span, and nothing of how memory holds them.
+use Rattle.std.specs.Prelude.{Bool, Option, option_map, String, string_bytes}
+use Rattle.std.specs.Str.{chars}
+use Rattle.std.specs.declared.alloc.Global.{Global}
+use Rattle.kdl_text.specs.Chars.{Text}
+use Rattle.kdl_text.specs.declared.span.SourceSpan.{SourceSpan}
+use Rattle.kdl_entry.specs.Data as data'
+use Rattle.kdl_entry.specs.Data.{Value, text, integer}
+use Rattle.kdl_entry.specs.declared.value.KdlValue.{KdlValue}
+use Rattle.kdl_entry.specs.declared.value.KdlValue.TheVariants.{String as StringValue, Integer}
+use Rattle.kdl_entry.specs.declared.identifier.KdlIdentifier.{KdlIdentifier}
+use Rattle.kdl_entry.specs.declared.entry.KdlEntry.{KdlEntry}
+use Rattle.kdl_entry.specs.declared.entry.KdlEntryFormat.{KdlEntryFormat}
+
+-- a string, and its spelling where it keeps one
+pub record Identifier : Type 0 where
+  pub value : Text
+  pub repr : Option Text
+  pub span : SourceSpan
+
+-- the spelling of the value, and the texts around the parts of an entry
+pub record EntryFormat : Type 0 where
+  pub value_repr : Text
+  pub leading : Text
+  pub trailing : Text
+  pub after_ty : Text
+  pub before_ty_name : Text
+  pub after_ty_name : Text
+  pub after_key : Text
+  pub after_eq : Text
+  pub autoformat_keep : Bool
+
+pub record Entry : Type 0 where
+  pub ty : Option Identifier
+  pub value : Value
+  pub name : Option Identifier
+  pub format : Option EntryFormat
+  pub span : SourceSpan
+
+-- the characters of a text in memory
+abbrev pub text_of : String Global → Text
+text_of s = chars (string_bytes s)
+
+abbrev pub value_tree : KdlValue → Value
+value_tree (StringValue s) = text (text_of s)
+value_tree (Integer z) = integer z
+
+abbrev pub identifier_tree : KdlIdentifier → Identifier
+identifier_tree i = record { value = text_of i.value; repr = option_map text_of i.repr; span = i.span }
+
+abbrev pub entry_format_tree : KdlEntryFormat → EntryFormat
+entry_format_tree f = record {
+    value_repr = text_of f.value_repr;
+    leading = text_of f.leading;
+    trailing = text_of f.trailing;
+    after_ty = text_of f.after_ty;
+    before_ty_name = text_of f.before_ty_name;
+    after_ty_name = text_of f.after_ty_name;
+    after_key = text_of f.after_key;
+    after_eq = text_of f.after_eq;
+    autoformat_keep = f.autoformat_keep;
+  }
+
+abbrev pub entry_tree : KdlEntry → Entry
+entry_tree e = record {
+    ty = option_map identifier_tree e.ty;
+    value = value_tree e.value;
+    name = option_map identifier_tree e.name;
+    format = option_map entry_format_tree e.format;
+    span = e.span;
+  }
+
+-- what an entry says
+abbrev pub entry_data : Entry → data'.Entry
+entry_data e = record { key = option_map (λ i. i.value) e.name; ty = option_map (λ i. i.value) e.ty; value = e.value }
