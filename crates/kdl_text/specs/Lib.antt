@@ -1,3 +1,4 @@
+pub mod Bare
 pub mod Chars
 pub mod Here
 pub mod Reading
