@@ -2,4 +2,5 @@
 #![tactic(auto)]
 
 pub mod chars;
+pub mod error;
 pub mod span;
