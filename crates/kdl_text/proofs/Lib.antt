@@ -1,5 +1,6 @@
-mod Texts
-mod Eats
+pub mod Ends
+pub mod Eats
 pub mod Going
-pub mod Runs
 pub mod Newlines
+pub mod Runs
+pub mod Texts
