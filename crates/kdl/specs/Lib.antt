@@ -1,0 +1,6 @@
+pub mod Data
+pub mod Grammar
+pub mod Laid
+pub mod Machine
+pub mod Print
+pub mod Tree

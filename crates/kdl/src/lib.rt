@@ -1,0 +1,5 @@
+//! Nodes and documents.
+#![tactic(auto)]
+
+pub mod document;
+pub mod node;

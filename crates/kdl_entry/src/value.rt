@@ -1,0 +1,5 @@
+#[derive(Drop)]
+pub enum KdlValue {
+    String(String),
+    Integer(i128),
+}
