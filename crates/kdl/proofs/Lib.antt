@@ -1,6 +1,11 @@
+pub mod Answering
+pub mod Refusals
+pub mod Turns
+pub mod Views
 pub mod TokenHoles
 pub mod Places
 pub mod RunsLemmas
 pub mod Complete
 pub mod Sound
 pub mod Printed
+pub mod Trees

@@ -1,6 +1,11 @@
 -- The piece between two places.
 use Rattle.std.proofs.Common.{◌≡◌, ℕ, ◌+◌, ◌-◌, List, [], ◌∷◌, ◌++◌, length, take, refl, sym, ap, subst, ◌∙◌, arith, length-append}
 use Rattle.std.proofs.Math.Seq.{take-append_seam}
+use Rattle.std.proofs.lemmas.Str.{chars-nil}
+use Rattle.std.specs.Prelude.{String, string_bytes}
+use Rattle.std.specs.Str.{chars}
+use Rattle.std.specs.declared.alloc.Global.{Global}
+use Rattle.kdl_entry.specs.Tree.{text_of}
 use Rattle.kdl_text.specs.Chars.{Text, Star, Plus, Space, Newline}
 use Rattle.kdl_text.proofs.Ends.{End, here, also, then, end_star, end_plus, end_newline, end_space}
 use Rattle.kdl_entry.specs.Places.{Is}
@@ -42,3 +47,7 @@ end_gap (line_space n g) = then (end_line_space n) (end_gap g)
 -- the piece before r is of the class
 pub place : {R : Text → Text → Type 0} {s r : Text} → R s r → End s r → Is R (between s r) s r
 place d e = record { is = d; text = cut e }
+
+-- no bytes are no characters
+pub empty_text : (s : String Global) → string_bytes s ≡ [] → text_of s ≡ []
+empty_text s e = ap chars e ∙ chars-nil

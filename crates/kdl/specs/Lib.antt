@@ -1,3 +1,4 @@
+pub mod Building
 pub mod Data
 pub mod Grammar
 pub mod Laid

@@ -69,6 +69,11 @@ abbrev pub nodes_of : List Node → Nodes
 nodes_of [] = none
 nodes_of (n ∷ ns) = first n (nodes_of ns)
 
+-- the nodes ns, and ms behind them
+abbrev pub join : Nodes → Nodes → Nodes
+join none ms = ms
+join (first n ns) ms = first n (join ns ms)
+
 abbrev pub children_of : Option Document → Children
 children_of None = no_children
 children_of (Some d) = children d
@@ -92,14 +97,17 @@ document_format_tree f = record { leading = text_of f.leading; trailing = text_o
 abbrev pub document_step : KdlDocument-F Document Node → Document
 document_step d = document (option_map document_format_tree d.format) d.span (nodes_of d.nodes.items)
 
-abbrev pub node_step : KdlNode-F Document Node → Node
-node_step n = node (record {
+abbrev pub head_tree : {D N : Type 0} → KdlNode-F D N → Head
+head_tree n = record {
     ty = option_map identifier_tree n.ty;
     name = identifier_tree n.name;
     entries = map entry_tree n.entries.items;
     format = option_map node_format_tree n.format;
     span = n.span;
-  }) (children_of n.children)
+  }
+
+abbrev pub node_step : KdlNode-F Document Node → Node
+node_step n = node (head_tree n) (children_of n.children)
 
 abbrev pub document_tree : KdlDocument → Document
 document_tree = fold-KdlDocument Document Node document_step node_step

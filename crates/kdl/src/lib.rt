@@ -1,5 +1,9 @@
 //! Nodes and documents.
 #![tactic(auto)]
 
-pub mod document;
-pub mod node;
+mod document;
+mod node;
+mod parser;
+
+pub use document::{KdlDocument, KdlDocumentFormat};
+pub use node::{KdlNode, KdlNodeFormat};

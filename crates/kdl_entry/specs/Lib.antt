@@ -1,6 +1,7 @@
 pub mod Data
 pub mod Entries
 pub mod Laid
+pub mod Lexed
 pub mod Places
 pub mod Print
 pub mod Spelled

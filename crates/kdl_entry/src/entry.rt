@@ -1,3 +1,5 @@
+ghost use Rattle.std.specs.Prelude.{◌≡◌, Some};
+
 use crate::identifier::KdlIdentifier;
 use crate::value::KdlValue;
 use kdl_text::span::SourceSpan;
@@ -22,4 +24,13 @@ pub struct KdlEntry {
     name: Option<KdlIdentifier>,
     format: Option<KdlEntryFormat>,
     span: SourceSpan,
+}
+
+impl KdlEntry {
+    /// An entry as it was read.
+    pub fn parsed(ty: Option<KdlIdentifier>, name: Option<KdlIdentifier>, value: KdlValue, format: KdlEntryFormat, span: SourceSpan) -> KdlEntry
+        ensures { result ≡ record { ty = ty; value = value; name = name; format = Some format; span = span } }
+    {
+        KdlEntry { ty, value, name, format: Some(format), span }
+    }
 }

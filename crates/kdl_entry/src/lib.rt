@@ -1,6 +1,11 @@
 //! Values, identifiers and entries.
 #![tactic(auto)]
 
-pub mod entry;
-pub mod identifier;
-pub mod value;
+mod entry;
+mod identifier;
+pub mod tokens;
+mod value;
+
+pub use entry::{KdlEntry, KdlEntryFormat};
+pub use identifier::KdlIdentifier;
+pub use value::KdlValue;

@@ -58,6 +58,10 @@ sliced p h = record h { steps = raise h.steps (bytes p) }
 abbrev pub Behind : Spot → Here → Type 0
 Behind old new = (p : Text) × (old.rest ≡ p ++ new.rest)
 
+-- some piece lies between the two places
+abbrev pub Ahead : Spot → Spot → Type 0
+Ahead from to = (p : Text) × (from.rest ≡ p ++ to.rest)
+
 -- a look at the character here, and a step past it
 abbrev pub Took : Option ℕ → Here → Here → Type 0
 Took None old new = (old.rest ≡ []) × (new ≡ looked old)

@@ -1,5 +1,6 @@
 pub mod Bare
 pub mod Chars
+pub mod Failures
 pub mod Here
 pub mod Numbers
 pub mod Reading

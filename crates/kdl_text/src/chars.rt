@@ -4,12 +4,13 @@
 
 ghost use Rattle.kdl_text.specs.Chars as class;
 ghost use Rattle.kdl_text.specs.Chars.{Text, Newline};
-ghost use Rattle.kdl_text.specs.Here.{Here, Behind, Skips, Took, Ate, AteTwo, Stayed, first, tail, looked, stepped, sliced, bytes, raise, in_class, RunOf};
+ghost use Rattle.kdl_text.specs.Here.{Here, Ahead, Behind, Skips, Took, Ate, AteTwo, Stayed, first, first_len, tail, looked, stepped, sliced, bytes, raise, in_class, RunOf};
 ghost use Rattle.kdl_text.specs.Reading.{Moves, Costs, ReadsNewline};
 ghost use Rattle.std.specs.Char.{len_utf8};
 ghost use Rattle.std.specs.Prelude.{◌≡◌, ℕ, ◌+◌, ◌-◌, ◌<◌, ◌≤◌, ◌^◌, ◌++◌, ◌∷◌, [], length, MatchOption, IfSome, IfOk, IsTrue, ◌↔◌, string_bytes};
 ghost use Rattle.std.specs.Str.{chars, IsUtf8};
 
+use crate::span::SourceSpan;
 use std::alloc::{AllocError, Global};
 use std::marker::Model;
 
@@ -262,6 +263,18 @@ impl<'a> Checkpoint<'a> {
     {
         self.at
     }
+
+    /// The span of the character at the place, of length 0 at the end of the text.
+    pub fn char_span(&self) -> SourceSpan
+        ensures offset { result.offset ≡ self.now.at }
+        ensures len { result.len ≡ first_len self.now.rest }
+    {
+        let len = match first_char(self.rest) {
+            Some(c) => c.len_utf8(),
+            None => 0,
+        };
+        SourceSpan { offset: self.at, len }
+    }
 }
 
 /// A piece of a text, whose slice was counted.
@@ -460,6 +473,18 @@ impl<'a> Cursor<'a> {
         ensures moved { self.new ≡ sliced result self.old }
     {
         let text = cut(from.rest, self.rest);
+        self.steps.raise(text.len() as u64);
+        Piece { text }
+    }
+
+    /// The text from one checkpoint to another behind it. A step for each of its bytes.
+    #[inline]
+    pub fn slice_between(&mut self, from: &Checkpoint<'a>, to: &Checkpoint<'a>) -> Piece<'a>
+        requires { Ahead from.now to.now }
+        ensures result { from.now.rest ≡ result ++ to.now.rest }
+        ensures moved { self.new ≡ sliced result self.old }
+    {
+        let text = cut(from.rest, to.rest);
         self.steps.raise(text.len() as u64);
         Piece { text }
     }
