@@ -3,3 +3,4 @@ pub mod Chars
 pub mod Here
 pub mod Reading
 pub mod Spans
+pub mod Strings

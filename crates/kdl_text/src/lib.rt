@@ -3,3 +3,4 @@
 
 pub mod chars;
 pub mod span;
+pub mod strings;

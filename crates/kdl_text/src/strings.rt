@@ -1,0 +1,251 @@
+//! Readers of strings (KDL 2.0.0, String).
+//!
+//! Each stands on the first character of the string, and leaves the cursor behind its last one.
+
+ghost use Rattle.kdl_text.specs.Bare as bare;
+ghost use Rattle.kdl_text.specs.Bare.{BareString};
+ghost use Rattle.kdl_text.specs.Chars.{Text, is_identifier_char, is_literal};
+ghost use Rattle.kdl_text.specs.Here.{Ran, in_class};
+ghost use Rattle.kdl_text.specs.Reading.{Moves, Costs};
+ghost use Rattle.kdl_text.specs.Strings as spec;
+ghost use Rattle.kdl_text.specs.Strings.{QuotedBody, QuotedString, IsUnit, HexNumber, Run, escaped};
+ghost use Rattle.kdl_text.specs.declared.chars.Class.TheVariants.{Literal};
+ghost use Rattle.kdl_text.specs.declared.strings.StringFailure.TheVariants.{Fault, Memory};
+ghost use Rattle.std.specs.Prelude.{◌≡◌, ℕ, ◌∷◌, ◌++◌, MatchOption, MatchResult, IfSome, IfNone, IfOk, IfErr, string_bytes};
+ghost use Rattle.std.specs.Str.{chars};
+
+use crate::chars::{Class, Cursor, Piece, is_digit, is_newline_char, is_space};
+use std::alloc::{AllocError, Global};
+
+/// Why a text is no string.
+#[derive(Clone, Copy, Debug, Drop, PartialEq, Eq)]
+pub enum StringFault {
+    /// No quote begins it.
+    Unopened,
+    /// The text ends before the closing quote.
+    Unclosed,
+    /// A backslash with no escape behind it.
+    BadEscape,
+    /// A newline in a string of a single line.
+    Newline,
+    /// A character that may not stand in a document.
+    Banned,
+}
+
+/// Why a string was not read.
+#[derive(Clone, Copy, Debug, Drop, PartialEq, Eq)]
+pub enum StringFailure {
+    /// No string begins here.
+    Fault(StringFault),
+    /// The memory for its value is missing.
+    Memory,
+}
+
+impl From<AllocError> for StringFailure {
+    ghost from_gives = { λ _ e. e ≡ Memory };
+
+    fn from(_: AllocError) -> Self {
+        StringFailure::Memory
+    }
+}
+
+impl From<StringFault> for StringFailure {
+    ghost from_gives = { λ fault e. e ≡ Fault fault };
+
+    fn from(fault: StringFault) -> Self {
+        StringFailure::Fault(fault)
+    }
+}
+
+/// Whether the piece is one of the words that a bare string may not be.
+fn is_excluded(piece: &Piece) -> bool
+    ensures { result ≡ bare.is_excluded piece.now }
+{
+    piece.is("true") || piece.is("false") || piece.is("null") || piece.is("inf") || piece.is("nan")
+}
+
+/// Goes past the longest run of identifier characters, and gives it where it is a bare string
+/// (KDL 2.0.0, Identifier String). None: no bare string begins here.
+pub fn bare_string<'a>(cursor: &mut Cursor<'a>) -> Option<Piece<'a>>
+    ensures found { IfSome result (λ p. BareString cursor.old.rest cursor.new.rest p) }
+    ensures only { (r w : Text) → BareString cursor.old.rest r w → MatchOption result ⊥ (λ p. (r ≡ cursor.new.rest) × (w ≡ p)) }
+    ensures run { Run is_identifier_char cursor.old.rest cursor.new.rest }
+    ensures moves { Moves cursor.old cursor.new }
+    ensures costs { Costs 2 5 cursor.old cursor.new }
+    ensures cost { IfSome result (λ _. Costs 24 0 cursor.old cursor.new) }
+{
+    let start = cursor.checkpoint();
+    let signed = cursor.eat('+') || cursor.eat('-');
+    let pointed = cursor.eat('.');
+    let digit = match cursor.look() {
+        Some(c) => is_digit(c),
+        None => false,
+    };
+    cursor.skip(Class::Identifier);
+    let piece = cursor.slice(&start);
+    if digit {
+        return None;
+    }
+    if signed || pointed {
+        return Some(piece);
+    }
+    if piece.is("") || is_excluded(&piece) {
+        return None;
+    }
+    Some(piece)
+}
+
+fn is_blank(c: char) -> bool
+    ensures { result ≡ spec.is_blank c }
+{
+    is_space(c) || is_newline_char(c)
+}
+
+/// Goes past spaces and newlines.
+fn skip_blanks(cursor: &mut Cursor)
+    ensures run { Run spec.is_blank cursor.old.rest cursor.new.rest }
+    ensures moves { Moves cursor.old cursor.new }
+    ensures costs { Costs 1 1 cursor.old cursor.new }
+{
+    'blanks: while let Some(c) = cursor.look() {
+        if !is_blank(c) {
+            return;
+        }
+        cursor.step();
+    }
+}
+
+/// Behind `\u{`: the character whose number stands before the brace.
+fn hex_number(cursor: &mut Cursor) -> Option<char>
+    ensures found { IfSome result (λ c. HexNumber cursor.old.rest cursor.new.rest c) }
+    ensures none { IfNone result ((r : Text) (c : ℕ) → HexNumber cursor.old.rest r c → ⊥) }
+    ensures moves { Moves cursor.old cursor.new }
+    ensures costs { Costs 1 1 cursor.old cursor.new }
+{
+    let mut value = 0u32;
+    let mut count = 0u8;
+    'digits: loop {
+        let Some(c) = cursor.take() else {
+            return None;
+        };
+        if c == '}' {
+            if count == 0 {
+                return None;
+            }
+            return char::from_u32(value);
+        }
+        let Some(digit) = c.to_digit(16) else {
+            return None;
+        };
+        if count == 6 {
+            return None;
+        }
+        count += 1;
+        value = value * 16 + digit;
+    }
+}
+
+/// The character that a letter behind a backslash stands for.
+fn letter_escape(letter: char) -> Option<char>
+    ensures { result ≡ spec.letter_escape letter }
+{
+    match letter {
+        '\\' | '"' => Some(letter),
+        'b' => Some('\u{8}'),
+        'f' => Some('\u{c}'),
+        'n' => Some('\n'),
+        'r' => Some('\r'),
+        't' => Some('\t'),
+        's' => Some(' '),
+        _ => None,
+    }
+}
+
+/// Behind a backslash: the character of an escape, or none for an escape of spaces and newlines.
+fn escape(cursor: &mut Cursor) -> Result<Option<char>, StringFault>
+    ensures found { IfOk result (λ c. IsUnit (92 ∷ cursor.old.rest) cursor.new.rest (escaped c)) }
+    ensures none { IfErr result (λ _. (r : Text) (u : spec.StringUnit) → IsUnit (92 ∷ cursor.old.rest) r u → ⊥) }
+    ensures moves { Moves cursor.old cursor.new }
+    ensures costs { Costs 1 1 cursor.old cursor.new }
+{
+    let Some(letter) = cursor.take() else {
+        return Err(StringFault::Unclosed);
+    };
+    if is_blank(letter) {
+        skip_blanks(cursor);
+        return Ok(None);
+    }
+    if letter == 'u' {
+        if !cursor.eat('{') {
+            return Err(StringFault::BadEscape);
+        }
+        return match hex_number(cursor) {
+            Some(c) => Ok(Some(c)),
+            None => Err(StringFault::BadEscape),
+        };
+    }
+    match letter_escape(letter) {
+        Some(c) => Ok(Some(c)),
+        None => Err(StringFault::BadEscape),
+    }
+}
+
+/// The characters from here on that stand for themselves.
+fn literal_run<'a>(cursor: &mut Cursor<'a>) -> Piece<'a>
+    ensures run { Run is_literal cursor.old.rest cursor.new.rest } 
+    ensures result { cursor.old.rest ≡ result ++ cursor.new.rest }
+    ensures moves { Moves cursor.old cursor.new }
+    ensures costs { Costs 2 1 cursor.old cursor.new }
+{
+    let start = cursor.checkpoint();
+    cursor.skip(Class::Literal);
+    cursor.slice(&start)
+}
+
+/// Why the character may not stand in a quoted string.
+fn fault_at(c: char) -> StringFault {
+    if is_newline_char(c) { StringFault::Newline } else { StringFault::Banned }
+}
+
+/// The units of a quoted string and its closing quote.
+fn quoted_body(alloc: Global, cursor: &mut Cursor) -> Result<String, StringFailure>
+    ensures found { IfOk result (λ v. QuotedBody cursor.old.rest cursor.new.rest (chars (string_bytes v))) }
+    ensures only { (r w : Text) → QuotedBody cursor.old.rest r w →
+        MatchResult result (λ v. (r ≡ cursor.new.rest) × (w ≡ chars (string_bytes v))) (λ e. e ≡ Memory) }
+    ensures moves { Moves cursor.old cursor.new }
+    ensures costs { Costs 3 2 cursor.old cursor.new }
+{
+    let mut out = literal_run(cursor).to_string(alloc)?;
+    'units: loop {
+        match cursor.take() {
+            Some('"') => return Ok(out),
+            Some('\\') => {
+                if let Some(c) = escape(cursor)? {
+                    out.push(c)?;
+                }
+            }
+            Some(c) => return Err(StringFailure::Fault(fault_at(c))),
+            None => return Err(StringFailure::Fault(StringFault::Unclosed)),
+        }
+        literal_run(cursor).push_to(&mut out)?;
+    }
+}
+
+/// Reads a quoted string of one line (KDL 2.0.0, Quoted String): its value, and the cursor goes behind the closing quote.
+/// A fault: no quoted string begins here. `Memory`: the memory for the value is missing.
+pub fn quoted_string(alloc: Global, cursor: &mut Cursor) -> Result<String, StringFailure>
+    ensures found { IfOk result (λ v. QuotedString cursor.old.rest cursor.new.rest (chars (string_bytes v))) }
+    ensures only { (r w : Text) → QuotedString cursor.old.rest r w →
+        MatchResult result (λ v. (r ≡ cursor.new.rest) × (w ≡ chars (string_bytes v))) (λ e. e ≡ Memory) }
+    ensures moves { Moves cursor.old cursor.new }
+    ensures costs { Costs 3 3 cursor.old cursor.new }
+    ensures cost { IfOk result (λ _. Costs 24 0 cursor.old cursor.new) }
+{
+    if !cursor.eat('"') {
+        return Err(StringFailure::Fault(StringFault::Unopened));
+    }
+    quoted_body(alloc, cursor)
+}
+
+#[cfg(test)]
+mod tests;
