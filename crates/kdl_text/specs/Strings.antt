@@ -78,8 +78,3 @@ pub data QuotedBody : Text → Text → Text → Type 0 where
 -- a quote, units, and a quote
 pub data QuotedString : Text → Text → Text → Type 0 where
   quoted : {t r v : Text} → QuotedBody t r v → QuotedString (34 ∷ t) r v
-
--- the unit that an escape makes: its character, or none for spaces and newlines
-abbrev pub escaped : Option ℕ → StringUnit
-escaped (Some c) = escape c
-escaped None = spaces

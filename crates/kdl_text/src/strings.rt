@@ -4,15 +4,15 @@
 
 ghost use Rattle.kdl_text.specs.Bare as bare;
 ghost use Rattle.kdl_text.specs.Bare.{BareString};
-ghost use Rattle.kdl_text.specs.Chars.{Text, is_identifier_char, is_literal};
-ghost use Rattle.kdl_text.specs.Here.{Ran, in_class};
+ghost use Rattle.kdl_text.specs.Chars.{Text, is_digit, is_identifier_char, is_literal, is_sign, starts};
+ghost use Rattle.kdl_text.specs.Here.{looked};
 ghost use Rattle.kdl_text.specs.Reading.{Moves, Costs};
 ghost use Rattle.kdl_text.specs.Strings as spec;
-ghost use Rattle.kdl_text.specs.Strings.{QuotedBody, QuotedString, IsUnit, HexNumber, Run, escaped};
+ghost use Rattle.kdl_text.specs.Strings.{QuotedBody, QuotedString, StringUnit, IsUnit, HexNumber, Run, unit_value};
 ghost use Rattle.kdl_text.specs.declared.chars.Class.TheVariants.{Literal};
-ghost use Rattle.kdl_text.specs.declared.strings.StringFailure.TheVariants.{Fault, Memory};
-ghost use Rattle.std.specs.Prelude.{◌≡◌, ℕ, ◌∷◌, ◌++◌, MatchOption, MatchResult, IfSome, IfNone, IfOk, IfErr, string_bytes};
-ghost use Rattle.std.specs.Str.{chars};
+ghost use Rattle.kdl_text.specs.declared.strings.StringFailure.TheVariants.{Memory};
+ghost use Rattle.std.specs.Prelude.{◌≡◌, ℕ, true, false, IsTrue, ◌∷◌, ◌++◌, MatchOption, MatchResult, IfSome, IfNone, IfOk, IfErr, string_bytes};
+ghost use Rattle.std.specs.Str.{chars, bytes_eq};
 
 use crate::chars::{Class, Cursor, Piece, is_digit, is_newline_char, is_space};
 use std::alloc::{AllocError, Global};
@@ -49,19 +49,42 @@ impl From<AllocError> for StringFailure {
     }
 }
 
-impl From<StringFault> for StringFailure {
-    ghost from_gives = { λ fault e. e ≡ Fault fault };
-
-    fn from(fault: StringFault) -> Self {
-        StringFailure::Fault(fault)
-    }
+fn is_word(piece: &Piece, word: &str) -> bool
+    ensures { result ≡ bytes_eq piece.now (chars word.now) }
+{
+    piece.is(word)
 }
 
 /// Whether the piece is one of the words that a bare string may not be.
 fn is_excluded(piece: &Piece) -> bool
     ensures { result ≡ bare.is_excluded piece.now }
 {
-    piece.is("true") || piece.is("false") || piece.is("null") || piece.is("inf") || piece.is("nan")
+    is_word(piece, "true") || is_word(piece, "false") || is_word(piece, "null") || is_word(piece, "inf") || is_word(piece, "nan")
+}
+
+fn eat_sign(cursor: &mut Cursor) -> bool
+    ensures signed { IsTrue result → (c : ℕ) × (is_sign c ≡ true) × (cursor.old.rest ≡ c ∷ cursor.new.rest) }
+    ensures plain { result ≡ false → (starts is_sign cursor.old.rest ≡ false) × (cursor.new.rest ≡ cursor.old.rest) }
+    ensures moves { Moves cursor.old cursor.new }
+    ensures costs { Costs 1 1 cursor.old cursor.new }
+{
+    match cursor.look() {
+        Some('+' | '-') => {
+            cursor.step();
+            true
+        }
+        _ => false,
+    }
+}
+
+fn looks_digit(cursor: &mut Cursor) -> bool
+    ensures result { result ≡ starts is_digit cursor.old.rest }
+    ensures moved { cursor.new ≡ looked cursor.old }
+{
+    match cursor.look() {
+        Some(c) => is_digit(c),
+        None => false,
+    }
 }
 
 /// Goes past the longest run of identifier characters, and gives it where it is a bare string
@@ -71,16 +94,13 @@ pub fn bare_string<'a>(cursor: &mut Cursor<'a>) -> Option<Piece<'a>>
     ensures only { (r w : Text) → BareString cursor.old.rest r w → MatchOption result ⊥ (λ p. (r ≡ cursor.new.rest) × (w ≡ p)) }
     ensures run { Run is_identifier_char cursor.old.rest cursor.new.rest }
     ensures moves { Moves cursor.old cursor.new }
-    ensures costs { Costs 2 5 cursor.old cursor.new }
+    ensures costs { Costs 2 4 cursor.old cursor.new }
     ensures cost { IfSome result (λ _. Costs 24 0 cursor.old cursor.new) }
 {
     let start = cursor.checkpoint();
-    let signed = cursor.eat('+') || cursor.eat('-');
+    let signed = eat_sign(cursor);
     let pointed = cursor.eat('.');
-    let digit = match cursor.look() {
-        Some(c) => is_digit(c),
-        None => false,
-    };
+    let digit = looks_digit(cursor);
     cursor.skip(Class::Identifier);
     let piece = cursor.slice(&start);
     if digit {
@@ -145,6 +165,16 @@ fn hex_number(cursor: &mut Cursor) -> Option<char>
     }
 }
 
+/// Behind `\u`: the character whose number stands in braces.
+fn hex_escape(cursor: &mut Cursor) -> Option<char>
+    ensures found { IfSome result (λ c. IsUnit (92 ∷ 117 ∷ cursor.old.rest) cursor.new.rest (spec.escape c)) }
+    ensures none { IfNone result ((r : Text) (u : StringUnit) → IsUnit (92 ∷ 117 ∷ cursor.old.rest) r u → ⊥) }
+    ensures moves { Moves cursor.old cursor.new }
+    ensures costs { Costs 1 1 cursor.old cursor.new }
+{
+    if cursor.eat('{') { hex_number(cursor) } else { None }
+}
+
 /// The character that a letter behind a backslash stands for.
 fn letter_escape(letter: char) -> Option<char>
     ensures { result ≡ spec.letter_escape letter }
@@ -161,33 +191,27 @@ fn letter_escape(letter: char) -> Option<char>
     }
 }
 
-/// Behind a backslash: the character of an escape, or none for an escape of spaces and newlines.
-fn escape(cursor: &mut Cursor) -> Result<Option<char>, StringFault>
-    ensures found { IfOk result (λ c. IsUnit (92 ∷ cursor.old.rest) cursor.new.rest (escaped c)) }
-    ensures none { IfErr result (λ _. (r : Text) (u : spec.StringUnit) → IsUnit (92 ∷ cursor.old.rest) r u → ⊥) }
+/// Reads what stands behind a backslash, and appends its character, or nothing for spaces and newlines.
+fn escape(cursor: &mut Cursor, out: &mut String) -> Result<(), StringFailure>
+    ensures found { IfOk result (λ _. (u : StringUnit) × IsUnit (92 ∷ cursor.old.rest) cursor.new.rest u
+        × (chars (string_bytes out.new) ≡ chars (string_bytes out.old) ++ unit_value u)) }
+    ensures only { (r : Text) (u : StringUnit) → IsUnit (92 ∷ cursor.old.rest) r u → IfErr result (λ e. e ≡ Memory) }
     ensures moves { Moves cursor.old cursor.new }
     ensures costs { Costs 1 1 cursor.old cursor.new }
 {
     let Some(letter) = cursor.take() else {
-        return Err(StringFault::Unclosed);
+        return Err(StringFailure::Fault(StringFault::Unclosed));
     };
     if is_blank(letter) {
         skip_blanks(cursor);
-        return Ok(None);
+        return Ok(());
     }
-    if letter == 'u' {
-        if !cursor.eat('{') {
-            return Err(StringFault::BadEscape);
-        }
-        return match hex_number(cursor) {
-            Some(c) => Ok(Some(c)),
-            None => Err(StringFault::BadEscape),
-        };
-    }
-    match letter_escape(letter) {
-        Some(c) => Ok(Some(c)),
-        None => Err(StringFault::BadEscape),
-    }
+    let value = if letter == 'u' { hex_escape(cursor) } else { letter_escape(letter) };
+    let Some(c) = value else {
+        return Err(StringFailure::Fault(StringFault::BadEscape));
+    };
+    out.push(c)?;
+    Ok(())
 }
 
 /// The characters from here on that stand for themselves.
@@ -219,11 +243,7 @@ fn quoted_body(alloc: Global, cursor: &mut Cursor) -> Result<String, StringFailu
     'units: loop {
         match cursor.take() {
             Some('"') => return Ok(out),
-            Some('\\') => {
-                if let Some(c) = escape(cursor)? {
-                    out.push(c)?;
-                }
-            }
+            Some('\\') => escape(cursor, &mut out)?,
             Some(c) => return Err(StringFailure::Fault(fault_at(c))),
             None => return Err(StringFailure::Fault(StringFault::Unclosed)),
         }
@@ -238,7 +258,7 @@ pub fn quoted_string(alloc: Global, cursor: &mut Cursor) -> Result<String, Strin
     ensures only { (r w : Text) → QuotedString cursor.old.rest r w →
         MatchResult result (λ v. (r ≡ cursor.new.rest) × (w ≡ chars (string_bytes v))) (λ e. e ≡ Memory) }
     ensures moves { Moves cursor.old cursor.new }
-    ensures costs { Costs 3 3 cursor.old cursor.new }
+    ensures costs { Costs 3 1 cursor.old cursor.new }
     ensures cost { IfOk result (λ _. Costs 24 0 cursor.old cursor.new) }
 {
     if !cursor.eat('"') {
