@@ -5,7 +5,8 @@ use Rattle.std.proofs.lemmas.Bool.Decides.{nat_tests}
 use Rattle.std.proofs.Math.Nat.{pow-succ'}
 use Rattle.std.proofs.lemmas.List.Folds.{list_all-append}
 use Rattle.std.specs.List.{list_all}
-use Rattle.std.specs.Prelude.{Some, None}
+use Rattle.std.specs.Prelude.{Option, Some, None, IfSome, IfNone}
+use Rattle.std.specs.Option.{SomeIff}
 use Rattle.std.specs.Char.{is_digit, digit_value, IsScalar}
 use Rattle.std.specs.Str.Parse.{digits_value, digits_value_after}
 use Rattle.kdl_text.specs.Chars.{Text, is_scalar}
@@ -153,11 +154,14 @@ module _ (f a b : Here) (value count : ℕ) (i : Digits f a value count) where
   refused : (d : ℕ) → Took (Some d) a b → ((r : Text) (c : ℕ) → HexTail i.digits (d ∷ b.rest) r c → ⊥) → NoHex f b
   refused d t h = let k = past d t in record { none = λ r c n. h r c (at_tail d t r c n); moves = k.0; costs = record { most = omega (arith, k.1.most); least = k.1.least } }
 
-  pub digits_none : Took (Some 125) a b → count ≡ 0 → NoHex f b
-  digits_none t e = refused 125 t (λ r c k. let z = (closed i.digits b.rest r c k).some in omega (arith, i.count_is))
+  brace_took : (d : ℕ) → Took (Some d) a b → d ≡ 125 → Took (Some 125) a b
+  brace_took d t e = subst (λ z. Took (Some z) a b) e t
 
-  pub digits_unscalar : Took (Some 125) a b → (IsScalar value → ⊥) → NoHex f b
-  digits_unscalar t e = refused 125 t (λ r c k. let z = closed i.digits b.rest r c k in e (is_scalar-IsScalar value (subst (λ x. is_scalar x ≡ true) (z.value ∙ sym i.value_is) z.scalar)))
+  pub digits_none : (d : ℕ) → Took (Some d) a b → d ≡ 125 → count ≡ 0 → NoHex f b
+  digits_none d t is e = refused 125 (brace_took d t is) (λ r c k. let z = (closed i.digits b.rest r c k).some in omega (arith, i.count_is))
+
+  unscalar : Took (Some 125) a b → (IsScalar value → ⊥) → NoHex f b
+  unscalar t e = refused 125 t (λ r c k. let z = closed i.digits b.rest r c k in e (is_scalar-IsScalar value (subst (λ x. is_scalar x ≡ true) (z.value ∙ sym i.value_is) z.scalar)))
 
   pub digits_other : (d : ℕ) → Took (Some d) a b → (d ≡ 125 → ⊥) → (digit_value d < 16 → ⊥) → NoHex f b
   digits_other d t ne fails = refused d t (λ r c. tail_other i.digits d b.rest r c (digit_fails d fails) ne)
@@ -165,26 +169,35 @@ module _ (f a b : Here) (value count : ℕ) (i : Digits f a value count) where
   pub digits_long : (d : ℕ) → Took (Some d) a b → (d ≡ 125 → ⊥) → count ≡ 6 → NoHex f b
   digits_long d t ne six = refused d t (λ r c. tail_long i.digits d b.rest r c (sym i.count_is ∙ six) ne)
 
-  pub digits_done : (c : ℕ) → Took (Some 125) a b → (count ≡ 0 → ⊥) → c ≡ value → IsScalar c → HexNumber f.rest b.rest c × Moves f b × Costs 1 0 f b
-  digits_done c t some e ok = (
-    i.from b.rest c (subst (λ z. HexTail i.digits z b.rest c) (sym t.0) (done i.digits b.rest c (omega (arith, i.count_is)) (omega (arith, i.count_is, i.few)) (e ∙ i.value_is) (scalar_is c ok))),
-    past 125 t,
-  )
+  finished : (c : ℕ) → Took (Some 125) a b → (count ≡ 0 → ⊥) → c ≡ value → IsScalar c → HexNumber f.rest b.rest c
+  finished c t some e ok =
+      i.from b.rest c (subst (λ z. HexTail i.digits z b.rest c) (sym t.0) (done i.digits b.rest c (omega (arith, i.count_is)) (omega (arith, i.count_is, i.few)) (e ∙ i.value_is) (scalar_is c ok)))
 
-  pub digits_room : (d : ℕ) → count ≤ 6 → (count ≡ 6 → ⊥) → d < 16 → value * 16 + d < 2 ^ 32
-  digits_room d l ne s = omega (arith, room count value (omega arith) i.low)
+  pub digits_found : (o : Option ℕ) (d : ℕ) → Took (Some d) a b → d ≡ 125 → (count ≡ 0 → ⊥) → SomeIff o (IsScalar value) value → IfSome o (λ c. HexNumber f.rest b.rest c)
+  digits_found None d t is some h = tt
+  digits_found (Some c) d t is some h = finished c (brace_took d t is) some h.1 (subst IsScalar (sym h.1) h.0)
 
-  pub digits_turn : (d : ℕ) → Took (Some d) a b → digit_value d < 16 → (count ≡ 6 → ⊥) → Digits f b (value * 16 + digit_value d) (count + 1)
-  digits_turn d t fits ne =
+  pub digits_unfound : (o : Option ℕ) (d : ℕ) → Took (Some d) a b → d ≡ 125 → SomeIff o (IsScalar value) value → IfNone o ((r : Text) (c : ℕ) → HexNumber f.rest r c → ⊥)
+  digits_unfound None d t is h = (unscalar (brace_took d t is) h).none
+  digits_unfound (Some c) d t is h = tt
+
+  pub digits_moves : (d : ℕ) → Took (Some d) a b → Moves f b
+  digits_moves d t = (past d t).0
+
+  pub digits_room : (count ≡ 6 → ⊥) → value < 1048576
+  digits_room ne = room count value (omega (arith, i.few)) i.low
+
+  pub digits_turn : (d x : ℕ) → Took (Some d) a b → digit_value d < 16 → x ≡ digit_value d → (count ≡ 6 → ⊥) → Digits f b (value * 16 + x) (count + 1)
+  digits_turn d x t fits is ne =
       let hex : is_hex d ≡ true = lt-ltb _ _ fits in
       let k = past d t in
       record {
       digits = i.digits ++ d ∷ [];
       all = rw (list_all-append is_hex i.digits (d ∷ []), i.all, hex) refl;
-      value_is = rw i.value_is (sym (value_after i.digits d 0));
+      value_is = rw (is, i.value_is) (sym (value_after i.digits d 0));
       count_is = omega (arith, i.count_is, length-append i.digits (d ∷ []));
       few = omega (arith, i.few);
-      low = pow_more count value (digit_value d) i.low fits;
+      low = rw is (pow_more count value (digit_value d) i.low fits);
       to = λ r c n. step_to i.digits d b.rest r c hex (at_tail d t r c n);
       from = λ r c n. i.from r c (subst (λ z. HexTail i.digits z r c) (sym t.0) (step_from i.digits d b.rest r c hex n));
       moves = k.0;

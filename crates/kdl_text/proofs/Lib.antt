@@ -3,7 +3,9 @@ mod Eats
 mod Blanks
 pub mod Going
 pub mod Goes
+mod Escapes
 mod Hex
+mod Quoting
 pub mod Runs
 pub mod Newlines
 pub mod Slices

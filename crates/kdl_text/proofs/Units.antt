@@ -29,7 +29,7 @@ number_det {r = r} {s = s} a b =
     let (same, ends) = run_same is_hex a.digits b.digits (125 ∷ r) (125 ∷ s) a.all b.all refl refl (sym a.text ∙ b.text) in
     (a.value ∙ ap (digits_value 16) same ∙ sym b.value, cc)
 
-backslash : is_literal 92 ≡ false
+pub backslash : is_literal 92 ≡ false
 unfolding is_literal
 backslash = refl
 
@@ -37,7 +37,7 @@ quote : is_literal 34 ≡ false
 unfolding is_literal
 quote = refl
 
-blank_u : is_blank 117 ≡ false
+pub blank_u : is_blank 117 ≡ false
 unfolding is_space is_newline_char
 blank_u = refl
 

@@ -165,16 +165,6 @@ fn hex_number(cursor: &mut Cursor) -> Option<char>
     }
 }
 
-/// Behind `\u`: the character whose number stands in braces.
-fn hex_escape(cursor: &mut Cursor) -> Option<char>
-    ensures found { IfSome result (λ c. IsUnit (92 ∷ 117 ∷ cursor.old.rest) cursor.new.rest (spec.escape c)) }
-    ensures none { IfNone result ((r : Text) (u : StringUnit) → IsUnit (92 ∷ 117 ∷ cursor.old.rest) r u → ⊥) }
-    ensures moves { Moves cursor.old cursor.new }
-    ensures costs { Costs 1 1 cursor.old cursor.new }
-{
-    if cursor.eat('{') { hex_number(cursor) } else { None }
-}
-
 /// The character that a letter behind a backslash stands for.
 fn letter_escape(letter: char) -> Option<char>
     ensures { result ≡ spec.letter_escape letter }
@@ -189,6 +179,22 @@ fn letter_escape(letter: char) -> Option<char>
         's' => Some(' '),
         _ => None,
     }
+}
+
+/// The character of the escape that begins with this letter: `u` has its number behind it, in braces.
+fn escaped_char(letter: char, cursor: &mut Cursor) -> Option<char>
+    ensures found { IfSome result (λ c. IsUnit (92 ∷ letter ∷ cursor.old.rest) cursor.new.rest (spec.escape c)) }
+    ensures none { spec.is_blank letter ≡ false → IfNone result ((r : Text) (u : StringUnit) → IsUnit (92 ∷ letter ∷ cursor.old.rest) r u → ⊥) }
+    ensures moves { Moves cursor.old cursor.new }
+    ensures costs { Costs 1 1 cursor.old cursor.new }
+{
+    if letter != 'u' {
+        return letter_escape(letter);
+    }
+    if !cursor.eat('{') {
+        return None;
+    }
+    hex_number(cursor)
 }
 
 /// Reads what stands behind a backslash, and appends its character, or nothing for spaces and newlines.
@@ -206,8 +212,7 @@ fn escape(cursor: &mut Cursor, out: &mut String) -> Result<(), StringFailure>
         skip_blanks(cursor);
         return Ok(());
     }
-    let value = if letter == 'u' { hex_escape(cursor) } else { letter_escape(letter) };
-    let Some(c) = value else {
+    let Some(c) = escaped_char(letter, cursor) else {
         return Err(StringFailure::Fault(StringFault::BadEscape));
     };
     out.push(c)?;
