@@ -1,5 +1,6 @@
 mod Texts
 mod Eats
+pub mod Bares
 mod Blanks
 pub mod Going
 pub mod Goes

@@ -2,7 +2,8 @@
 use Rattle.std.proofs.Common.{◌≡◌, ℕ, ◌+◌, ◌<◌, ◌≤◌, Bool, true, false, List, [], ◌∷◌, ◌++◌, length, refl, sym, ap, ◌∙◌, subst, arith}
 use Rattle.std.proofs.lemmas.Str.{len_utf8_bounds}
 use Rattle.std.proofs.lemmas.List.{append_cancel_right}
-use Rattle.std.specs.Prelude.{Some, None}
+use Rattle.std.specs.Prelude.{Some, None, Result, Ok, Err, IfOk, MatchResult}
+use Rattle.std.specs.Result.{IsErrAnd}
 use Rattle.kdl_text.specs.Chars.{Text, is_literal, starts}
 use Rattle.kdl_text.specs.Here.{Here, Took, bytes, raise}
 use Rattle.kdl_text.specs.Reading.{Moves, Costs}
@@ -10,7 +11,7 @@ use Rattle.kdl_text.specs.Strings.{StringUnit, unit_value, Run, IsUnit, QuotedBo
 use Rattle.kdl_text.proofs.Going.{stays, moves_then, moves_one, costs_then, fewer_bytes, shorter}
 use Rattle.kdl_text.proofs.Goes.{Goes, goes_start, goes_then, goes_end, goes_none}
 use Rattle.kdl_text.proofs.Slices.{costs_took, ended}
-use Rattle.kdl_text.proofs.Units.{goes_unit, goes_literals, body_done, body_end, body_empty, body_none, unit_front}
+use Rattle.kdl_text.proofs.Units.{goes_unit, goes_literals, body_done, body_end, body_empty, body_none, body_unit, unit_front}
 
 -- the string read so far, up to no literal character
 pub record Reading (f a : Here) (out : Text) : Type 0 where
@@ -69,11 +70,10 @@ module _ (f a : Here) (out : Text) (i : Reading f a out) where
       let (moved, cost) = reading_fails c b d took m k in
       (moves_then moved n, record { most = omega (arith, cost.most, l.most); least = omega (arith, cost.least, l.least) })
 
-  -- where the backslash begins no unit
-  pub reading_refused : (c : ℕ) (b : Here) → Took (Some c) a b → c ≡ 92 → ((r : Text) (u : StringUnit) → IsUnit (92 ∷ b.rest) r u → ⊥) → (r w : Text) → QuotedBody f.rest r w → ⊥
-  reading_refused c b any is none =
-      let took : Took (Some 92) a b = backslash_took c b any is in
-      goes_none (subst (Goes QuotedBody f.rest out) took.0 i.goes) (λ r v. body_none (λ e. cc) none)
+  pub reading_unit : (c : ℕ) (b : Here) → Took (Some c) a b → c ≡ 92 → (r w : Text) → QuotedBody f.rest r w → (m : Text) × (u : StringUnit) × IsUnit (92 ∷ b.rest) m u
+  reading_unit c b any is r w q =
+      let (v, e, more) = i.goes.back r w q in
+      body_unit (subst (λ z. QuotedBody z r v) (backslash_took c b any is).0 more)
 
   past : (c : ℕ) (b : Here) → Took (Some c) a b → Moves f b
   past c b took = moves_then i.moves (moves_one took)
@@ -99,3 +99,25 @@ module _ (f a : Here) (out : Text) (i : Reading f a out) where
 
 pub failed_early : (f a : Here) → Moves f a → Costs 2 1 f a → Costs 3 2 f a
 failed_early f a m k = let l = fewer_bytes m in record { most = omega (arith, k.most); least = k.least }
+
+pub failed : {T E : Type 0} (r : Result T E) (A : T → Type 0) (x y : E) → IsErrAnd r (λ e. e ≡ x) → x ≡ y → MatchResult r A (λ e. e ≡ y)
+failed (Ok v) A x y h k = absurd h
+failed (Err e) A x y h k = h ∙ k
+
+-- the whole string, with its first quote
+pub quoted_found : {T E : Type 0} (o : Result T E) (f : T → Text) (s m r : Text) → s ≡ 34 ∷ m → IfOk o (λ v. QuotedBody m r (f v)) → IfOk o (λ v. QuotedString s r (f v))
+quoted_found (Ok v) f s m r h q = rw h (quoted q)
+quoted_found (Err e) f s m r h q = tt
+
+inside : {m r w : Text} → QuotedString (34 ∷ m) r w → QuotedBody m r w
+inside (quoted q) = q
+
+pub unquoted : (s m r w : Text) → s ≡ 34 ∷ m → QuotedString s r w → QuotedBody m r w
+unquoted s m r w h q = inside (subst (λ z. QuotedString z r w) h q)
+
+pub quoted_cost : {T E : Type 0} (o : Result T E) (a b e : Here) → Took (Some 34) a b → Moves b e → Costs 3 2 b e → IfOk o (λ _. Costs 24 0 a e)
+quoted_cost o a b e took m k = each o (let x = fewer_bytes m in record { most = omega (arith, k.most, ap bytes took.0, took.2, (len_utf8_bounds 34).0); least = omega (arith, k.least, ap length took.0, took.2) })
+  where
+    each : {T E : Type 0} (o : Result T E) {P : Type 0} → P → IfOk o (λ _. P)
+    each (Ok v) p = p
+    each (Err e) p = tt

@@ -4,14 +4,15 @@
 
 ghost use Rattle.kdl_text.specs.Bare as bare;
 ghost use Rattle.kdl_text.specs.Bare.{BareString};
-ghost use Rattle.kdl_text.specs.Chars.{Text, is_digit, is_identifier_char, is_literal, is_sign, starts};
+ghost use Rattle.kdl_text.specs.Chars.{Text, is_digit, is_identifier_char, is_literal, is_sign, starts, within};
 ghost use Rattle.kdl_text.specs.Here.{looked};
 ghost use Rattle.kdl_text.specs.Reading.{Moves, Costs};
 ghost use Rattle.kdl_text.specs.Strings as spec;
 ghost use Rattle.kdl_text.specs.Strings.{QuotedBody, QuotedString, StringUnit, IsUnit, HexNumber, Run, unit_value};
 ghost use Rattle.kdl_text.specs.declared.chars.Class.TheVariants.{Literal};
 ghost use Rattle.kdl_text.specs.declared.strings.StringFailure.TheVariants.{Memory};
-ghost use Rattle.std.specs.Prelude.{◌≡◌, ℕ, true, false, IsTrue, ◌∷◌, ◌++◌, MatchOption, MatchResult, IfSome, IfNone, IfOk, IfErr, string_bytes};
+ghost use Rattle.std.specs.Prelude.{◌≡◌, ◌&&◌, ◌||◌, [], not, ℕ, true, false, IsTrue, ◌∷◌, ◌++◌, MatchOption, MatchResult, IfSome, IfNone, IfOk, IfErr, string_bytes};
+ghost use Rattle.std.specs.List.{list_all};
 ghost use Rattle.std.specs.Str.{chars, bytes_eq};
 
 use crate::chars::{Class, Cursor, Piece, is_digit, is_newline_char, is_space};
@@ -50,7 +51,8 @@ impl From<AllocError> for StringFailure {
 }
 
 fn is_word(piece: &Piece, word: &str) -> bool
-    ensures { result ≡ bytes_eq piece.now (chars word.now) }
+    requires { list_all (within 0 127) word.now ≡ true }
+    ensures { result ≡ bytes_eq piece.now word.now }
 {
     piece.is(word)
 }
@@ -87,6 +89,13 @@ fn looks_digit(cursor: &mut Cursor) -> bool
     }
 }
 
+/// Whether identifier characters are a bare string, by the sign, the point and the digit at their front.
+fn has_bare_form(signed: bool, pointed: bool, digit: bool, piece: &Piece) -> bool
+    ensures { result ≡ not digit && ((signed || pointed) || not (bytes_eq piece.now [] || bare.is_excluded piece.now)) }
+{
+    !digit && (signed || pointed || !(is_word(piece, "") || is_excluded(piece)))
+}
+
 /// Goes past the longest run of identifier characters, and gives it where it is a bare string
 /// (KDL 2.0.0, Identifier String). None: no bare string begins here.
 pub fn bare_string<'a>(cursor: &mut Cursor<'a>) -> Option<Piece<'a>>
@@ -103,16 +112,8 @@ pub fn bare_string<'a>(cursor: &mut Cursor<'a>) -> Option<Piece<'a>>
     let digit = looks_digit(cursor);
     cursor.skip(Class::Identifier);
     let piece = cursor.slice(&start);
-    if digit {
-        return None;
-    }
-    if signed || pointed {
-        return Some(piece);
-    }
-    if piece.is("") || is_excluded(&piece) {
-        return None;
-    }
-    Some(piece)
+    let fits = has_bare_form(signed, pointed, digit, &piece);
+    if fits { Some(piece) } else { None }
 }
 
 fn is_blank(c: char) -> bool

@@ -1,6 +1,8 @@
 use Rattle.std.proofs.Common.{sym, ◌∙◌, refl, arith}
+use Rattle.std.proofs.Common.{String, Global}
+use Rattle.kdl_text.specs.declared.strings.StringFailure.{StringFailure}
 use Rattle.kdl_text.proofs.Going.{moves_then, moves_one}
-use Rattle.kdl_text.proofs.Quoting.{reading_begins, reading_turn, reading_fails, reading_runs_out, reading_refused, reading_ends, reading_over, reading_other, reading_past, failed_early}
+use Rattle.kdl_text.proofs.Quoting.{reading_begins, reading_turn, reading_fails, reading_runs_out, reading_unit, failed, reading_ends, reading_over, reading_other, reading_past, failed_early}
 use Rattle.kdl_text.proofs.strings.quoted_body.Goals as goal
 
 pub units-init : goal.units-init
@@ -25,7 +27,10 @@ pub returns-in-Some-eq34-clause-moves : goal.returns-in-Some-eq34-clause-moves
 returns-in-Some-eq34-clause-moves c = reading_past _ _ _ c.units.invariant _ _ c.in-Some-eq34.ensures.took
 
 pub returns-in_err-escape-in-Some-eq92-clause-only : goal.returns-in_err-escape-in-Some-eq92-clause-only
-returns-in_err-escape-in-Some-eq92-clause-only c r w b = ?
+returns-in_err-escape-in-Some-eq92-clause-only c r w b =
+    let (m, u, unit) = reading_unit _ _ _ c.units.invariant _ _ c.in-Some-eq92.ensures.took c.in-Some-eq92.field-0-test r w b in
+    let memory = c.in_err-escape-in-Some-eq92.ensures.only m u unit in
+    failed {T = String Global} {E = StringFailure} c.from_residual-in_err-escape-in-Some-eq92.result _ _ _ c.from_residual-in_err-escape-in-Some-eq92.ensures.1 memory
 
 pub returns-in_err-escape-in-Some-eq92-clause-moves : goal.returns-in_err-escape-in-Some-eq92-clause-moves
 returns-in_err-escape-in-Some-eq92-clause-moves c = (reading_fails _ _ _ c.units.invariant _ _ _ c.in-Some-eq92.ensures.took c.escape.ensures.moves c.escape.ensures.costs).0
@@ -36,7 +41,7 @@ returns-in_err-escape-in-Some-eq92-clause-costs c =
     record { most = omega (arith, k.most); least = k.least }
 
 pub returns-in-Some-clause-only : goal.returns-in-Some-clause-only
-returns-in-Some-clause-only c r w b = ?
+returns-in-Some-clause-only c r w b = absurd (reading_other _ _ _ c.units.invariant _ _ c.in-Some.ensures.took c.in-Some.c-test.0.1 c.in-Some.c-test.1 r w b)
 
 pub returns-in-Some-clause-moves : goal.returns-in-Some-clause-moves
 returns-in-Some-clause-moves c = reading_past _ _ _ c.units.invariant _ _ c.in-Some.ensures.took
