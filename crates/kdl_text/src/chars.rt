@@ -301,6 +301,14 @@ impl<'a> Piece<'a> {
         String::from_str(alloc, self.text)
     }
 
+    /// Appends the piece to the text. An empty one takes no memory.
+    #[inline]
+    pub fn push_to(&self, out: &mut String) -> Result<(), AllocError>
+        ensures { IfOk result (λ _. chars (string_bytes out.new) ≡ chars (string_bytes out.old) ++ self.now) }
+    {
+        out.push_str(self.text)
+    }
+
     /// Whether the piece is this text.
     pub fn is(&self, text: &str) -> bool
         ensures { IsTrue result ↔ (self.now ≡ chars text.now) }

@@ -4,3 +4,4 @@
 pub mod chars;
 pub mod error;
 pub mod span;
+pub mod strings;

@@ -1,0 +1,6 @@
+use Rattle.std.proofs.Common.{sym, ◌∙◌}
+use Rattle.kdl_text.proofs.Blanks.{blank_begins, blank_turn, blank_stops, blank_ends}
+use Rattle.kdl_text.proofs.strings.skip_blanks.Goals as goal
+
+pub blanks-preserved : goal.blanks-preserved
+blanks-preserved c = blank_turn _ _ _ _ _ c.blanks.invariant c.in-Some.ensures.result c.look.ensures.moved (sym c.is_blank.ensures ∙ c.if-not-is_blank.false) c.step.ensures

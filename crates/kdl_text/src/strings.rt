@@ -1,0 +1,277 @@
+//! Readers of strings (KDL 2.0.0, String).
+//!
+//! Each stands on the first character of the string, and leaves the cursor behind its last one.
+
+ghost use Rattle.kdl_text.specs.Bare as bare;
+ghost use Rattle.kdl_text.specs.Bare.{BareString};
+ghost use Rattle.kdl_text.specs.Chars.{Text, is_digit, is_identifier_char, is_literal, is_sign, starts, within};
+ghost use Rattle.kdl_text.specs.Here.{looked};
+ghost use Rattle.kdl_text.specs.Reading.{Moves, Costs};
+ghost use Rattle.kdl_text.specs.Strings as spec;
+ghost use Rattle.kdl_text.specs.Strings.{QuotedBody, QuotedString, StringUnit, IsUnit, HexNumber, Run, unit_value};
+ghost use Rattle.kdl_text.specs.declared.chars.Class.TheVariants.{Literal};
+ghost use Rattle.kdl_text.specs.declared.strings.StringFailure.TheVariants.{Memory};
+ghost use Rattle.std.specs.Prelude.{◌≡◌, ◌&&◌, ◌||◌, [], not, ℕ, true, false, IsTrue, ◌∷◌, ◌++◌, MatchOption, MatchResult, IfSome, IfNone, IfOk, IfErr, string_bytes};
+ghost use Rattle.std.specs.List.{list_all};
+ghost use Rattle.std.specs.Str.{chars, bytes_eq};
+
+use crate::chars::{Class, Cursor, Piece, is_digit, is_newline_char, is_space};
+use std::alloc::{AllocError, Global};
+
+/// Why a text is no string.
+#[derive(Clone, Copy, Debug, Drop, PartialEq, Eq)]
+pub enum StringFault {
+    /// No quote begins it.
+    Unopened,
+    /// The text ends before the closing quote.
+    Unclosed,
+    /// A backslash with no escape behind it.
+    BadEscape,
+    /// A newline in a string of a single line.
+    Newline,
+    /// A character that may not stand in a document.
+    Banned,
+}
+
+/// Why a string was not read.
+#[derive(Clone, Copy, Debug, Drop, PartialEq, Eq)]
+pub enum StringFailure {
+    /// No string begins here.
+    Fault(StringFault),
+    /// The memory for its value is missing.
+    Memory,
+}
+
+impl From<AllocError> for StringFailure {
+    ghost from_gives = { λ _ e. e ≡ Memory };
+
+    fn from(_: AllocError) -> Self {
+        StringFailure::Memory
+    }
+}
+
+fn is_word(piece: &Piece, word: &str) -> bool
+    requires { list_all (within 0 127) word.now ≡ true }
+    ensures { result ≡ bytes_eq piece.now word.now }
+{
+    piece.is(word)
+}
+
+/// Whether the piece is one of the words that a bare string may not be.
+fn is_excluded(piece: &Piece) -> bool
+    ensures { result ≡ bare.is_excluded piece.now }
+{
+    is_word(piece, "true") || is_word(piece, "false") || is_word(piece, "null") || is_word(piece, "inf") || is_word(piece, "nan")
+}
+
+fn eat_sign(cursor: &mut Cursor) -> bool
+    ensures signed { IsTrue result → (c : ℕ) × (is_sign c ≡ true) × (cursor.old.rest ≡ c ∷ cursor.new.rest) }
+    ensures plain { result ≡ false → (starts is_sign cursor.old.rest ≡ false) × (cursor.new.rest ≡ cursor.old.rest) }
+    ensures moves { Moves cursor.old cursor.new }
+    ensures costs { Costs 1 1 cursor.old cursor.new }
+{
+    match cursor.look() {
+        Some('+' | '-') => {
+            cursor.step();
+            true
+        }
+        _ => false,
+    }
+}
+
+fn looks_digit(cursor: &mut Cursor) -> bool
+    ensures result { result ≡ starts is_digit cursor.old.rest }
+    ensures moved { cursor.new ≡ looked cursor.old }
+{
+    match cursor.look() {
+        Some(c) => is_digit(c),
+        None => false,
+    }
+}
+
+/// Whether identifier characters are a bare string, by the sign, the point and the digit at their front.
+fn has_bare_form(signed: bool, pointed: bool, digit: bool, piece: &Piece) -> bool
+    ensures { result ≡ not digit && ((signed || pointed) || not (bytes_eq piece.now [] || bare.is_excluded piece.now)) }
+{
+    !digit && (signed || pointed || !(is_word(piece, "") || is_excluded(piece)))
+}
+
+/// Goes past the longest run of identifier characters, and gives it where it is a bare string
+/// (KDL 2.0.0, Identifier String). None: no bare string begins here.
+pub fn bare_string<'a>(cursor: &mut Cursor<'a>) -> Option<Piece<'a>>
+    ensures found { IfSome result (λ p. BareString cursor.old.rest cursor.new.rest p) }
+    ensures only { (r w : Text) → BareString cursor.old.rest r w → MatchOption result ⊥ (λ p. (r ≡ cursor.new.rest) × (w ≡ p)) }
+    ensures run { Run is_identifier_char cursor.old.rest cursor.new.rest }
+    ensures moves { Moves cursor.old cursor.new }
+    ensures costs { Costs 2 4 cursor.old cursor.new }
+    ensures cost { IfSome result (λ _. Costs 24 0 cursor.old cursor.new) }
+{
+    let start = cursor.checkpoint();
+    let signed = eat_sign(cursor);
+    let pointed = cursor.eat('.');
+    let digit = looks_digit(cursor);
+    cursor.skip(Class::Identifier);
+    let piece = cursor.slice(&start);
+    let fits = has_bare_form(signed, pointed, digit, &piece);
+    if fits { Some(piece) } else { None }
+}
+
+fn is_blank(c: char) -> bool
+    ensures { result ≡ spec.is_blank c }
+{
+    is_space(c) || is_newline_char(c)
+}
+
+/// Goes past spaces and newlines.
+fn skip_blanks(cursor: &mut Cursor)
+    ensures run { Run spec.is_blank cursor.old.rest cursor.new.rest }
+    ensures moves { Moves cursor.old cursor.new }
+    ensures costs { Costs 1 1 cursor.old cursor.new }
+{
+    'blanks: while let Some(c) = cursor.look() {
+        if !is_blank(c) {
+            return;
+        }
+        cursor.step();
+    }
+}
+
+/// Behind `\u{`: the character whose number stands before the brace.
+fn hex_number(cursor: &mut Cursor) -> Option<char>
+    ensures found { IfSome result (λ c. HexNumber cursor.old.rest cursor.new.rest c) }
+    ensures none { IfNone result ((r : Text) (c : ℕ) → HexNumber cursor.old.rest r c → ⊥) }
+    ensures moves { Moves cursor.old cursor.new }
+    ensures costs { Costs 1 1 cursor.old cursor.new }
+{
+    let mut value = 0u32;
+    let mut count = 0u8;
+    'digits: loop {
+        let Some(c) = cursor.take() else {
+            return None;
+        };
+        if c == '}' {
+            if count == 0 {
+                return None;
+            }
+            return char::from_u32(value);
+        }
+        let Some(digit) = c.to_digit(16) else {
+            return None;
+        };
+        if count == 6 {
+            return None;
+        }
+        count += 1;
+        value = value * 16 + digit;
+    }
+}
+
+/// The character that a letter behind a backslash stands for.
+fn letter_escape(letter: char) -> Option<char>
+    ensures { result ≡ spec.letter_escape letter }
+{
+    match letter {
+        '\\' | '"' => Some(letter),
+        'b' => Some('\u{8}'),
+        'f' => Some('\u{c}'),
+        'n' => Some('\n'),
+        'r' => Some('\r'),
+        't' => Some('\t'),
+        's' => Some(' '),
+        _ => None,
+    }
+}
+
+/// The character of the escape that begins with this letter: `u` has its number behind it, in braces.
+fn escaped_char(letter: char, cursor: &mut Cursor) -> Option<char>
+    ensures found { IfSome result (λ c. IsUnit (92 ∷ letter ∷ cursor.old.rest) cursor.new.rest (spec.escape c)) }
+    ensures none { spec.is_blank letter ≡ false → IfNone result ((r : Text) (u : StringUnit) → IsUnit (92 ∷ letter ∷ cursor.old.rest) r u → ⊥) }
+    ensures moves { Moves cursor.old cursor.new }
+    ensures costs { Costs 1 1 cursor.old cursor.new }
+{
+    if letter != 'u' {
+        return letter_escape(letter);
+    }
+    if !cursor.eat('{') {
+        return None;
+    }
+    hex_number(cursor)
+}
+
+/// Reads what stands behind a backslash, and appends its character, or nothing for spaces and newlines.
+fn escape(cursor: &mut Cursor, out: &mut String) -> Result<(), StringFailure>
+    ensures found { IfOk result (λ _. (u : StringUnit) × IsUnit (92 ∷ cursor.old.rest) cursor.new.rest u
+        × (chars (string_bytes out.new) ≡ chars (string_bytes out.old) ++ unit_value u)) }
+    ensures only { (r : Text) (u : StringUnit) → IsUnit (92 ∷ cursor.old.rest) r u → IfErr result (λ e. e ≡ Memory) }
+    ensures moves { Moves cursor.old cursor.new }
+    ensures costs { Costs 1 1 cursor.old cursor.new }
+{
+    let Some(letter) = cursor.take() else {
+        return Err(StringFailure::Fault(StringFault::Unclosed));
+    };
+    if is_blank(letter) {
+        skip_blanks(cursor);
+        return Ok(());
+    }
+    let Some(c) = escaped_char(letter, cursor) else {
+        return Err(StringFailure::Fault(StringFault::BadEscape));
+    };
+    out.push(c)?;
+    Ok(())
+}
+
+/// The characters from here on that stand for themselves.
+fn literal_run<'a>(cursor: &mut Cursor<'a>) -> Piece<'a>
+    ensures run { Run is_literal cursor.old.rest cursor.new.rest } 
+    ensures result { cursor.old.rest ≡ result ++ cursor.new.rest }
+    ensures moves { Moves cursor.old cursor.new }
+    ensures costs { Costs 2 1 cursor.old cursor.new }
+{
+    let start = cursor.checkpoint();
+    cursor.skip(Class::Literal);
+    cursor.slice(&start)
+}
+
+/// Why the character may not stand in a quoted string.
+fn fault_at(c: char) -> StringFault {
+    if is_newline_char(c) { StringFault::Newline } else { StringFault::Banned }
+}
+
+/// The units of a quoted string and its closing quote.
+fn quoted_body(alloc: Global, cursor: &mut Cursor) -> Result<String, StringFailure>
+    ensures found { IfOk result (λ v. QuotedBody cursor.old.rest cursor.new.rest (chars (string_bytes v))) }
+    ensures only { (r w : Text) → QuotedBody cursor.old.rest r w →
+        MatchResult result (λ v. (r ≡ cursor.new.rest) × (w ≡ chars (string_bytes v))) (λ e. e ≡ Memory) }
+    ensures moves { Moves cursor.old cursor.new }
+    ensures costs { Costs 3 2 cursor.old cursor.new }
+{
+    let mut out = literal_run(cursor).to_string(alloc)?;
+    'units: loop {
+        match cursor.take() {
+            Some('"') => return Ok(out),
+            Some('\\') => escape(cursor, &mut out)?,
+            Some(c) => return Err(StringFailure::Fault(fault_at(c))),
+            None => return Err(StringFailure::Fault(StringFault::Unclosed)),
+        }
+        literal_run(cursor).push_to(&mut out)?;
+    }
+}
+
+/// Reads a quoted string of one line (KDL 2.0.0, Quoted String): its value, and the cursor goes behind the closing quote.
+/// A fault: no quoted string begins here. `Memory`: the memory for the value is missing.
+pub fn quoted_string(alloc: Global, cursor: &mut Cursor) -> Result<String, StringFailure>
+    ensures found { IfOk result (λ v. QuotedString cursor.old.rest cursor.new.rest (chars (string_bytes v))) }
+    ensures only { (r w : Text) → QuotedString cursor.old.rest r w →
+        MatchResult result (λ v. (r ≡ cursor.new.rest) × (w ≡ chars (string_bytes v))) (λ e. e ≡ Memory) }
+    ensures moves { Moves cursor.old cursor.new }
+    ensures costs { Costs 3 1 cursor.old cursor.new }
+    ensures cost { IfOk result (λ _. Costs 24 0 cursor.old cursor.new) }
+{
+    if !cursor.eat('"') {
+        return Err(StringFailure::Fault(StringFault::Unopened));
+    }
+    quoted_body(alloc, cursor)
+}
+
+#[cfg(test)]
+mod tests;
