@@ -3,3 +3,5 @@ mod Eats
 pub mod Going
 pub mod Runs
 pub mod Newlines
+pub mod WholeNumbers
+pub mod NumberReads

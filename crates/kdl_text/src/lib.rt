@@ -2,4 +2,5 @@
 #![tactic(auto)]
 
 pub mod chars;
+pub mod numbers;
 pub mod span;
