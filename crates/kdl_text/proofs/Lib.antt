@@ -7,9 +7,11 @@ pub mod Goes
 pub mod Going
 mod Hex
 pub mod Newlines
+pub mod NumberReads
 mod Quoting
 pub mod Runs
 pub mod Slices
 pub mod Texts
 pub mod Units
+pub mod WholeNumbers
 mod Words

@@ -2,6 +2,7 @@ pub mod Bare
 pub mod Chars
 pub mod Failures
 pub mod Here
+pub mod Magnitudes
 pub mod Numbers
 pub mod Reading
 pub mod Spans

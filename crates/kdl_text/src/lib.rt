@@ -3,5 +3,6 @@
 
 pub mod chars;
 pub mod error;
+pub mod numbers;
 pub mod span;
 pub mod strings;

@@ -1,0 +1,66 @@
+-- Numbers (KDL 2.0.0, Number).
+use Rattle.std.specs.Prelude.{◌≡◌, ℕ, ◌^◌, ℤ, pos, neg_ℤ, Bool, true, false, ◌&&◌, ◌||◌, ◌==◌, nat_lt, nat_le, if◌then◌else◌, [], ◌∷◌, Option, Some, None}
+use Rattle.std.specs.Char.{is_digit as is_digit_in}
+use Rattle.std.specs.Str.Parse.{digits_value}
+use Rattle.kdl_text.specs.Chars.{Text, is_digit, is_sign, is_identifier_char, starts}
+
+-- a digit of the base: `0` to `9`, then the letters from `a` or `A` on
+unfoldable pub is_digit_of : ℕ → ℕ → Bool
+is_digit_of radix c = is_digit_in c radix
+
+-- a digit of the base, or `_`
+abbrev pub is_part : ℕ → ℕ → Bool
+is_part radix c = is_digit_of radix c || c == 95
+
+-- no sign, `+` or `-`, and whether it is `-`
+pub data Sign : Text → Text → Bool → Type 0 where
+  none : {t : Text} → starts is_sign t ≡ false → Sign t t false
+  plus : {r : Text} → Sign (43 ∷ r) r false
+  minus : {r : Text} → Sign (45 ∷ r) r true
+
+-- the base that the letter behind a `0` marks: 16 by `x` or `X`, 8 by `o` or `O`, 2 by `b` or `B`
+abbrev pub base_of : ℕ → Option ℕ
+base_of c =
+    if c == 120 || c == 88 then Some 16
+    else if c == 111 || c == 79 then Some 8
+    else if c == 98 || c == 66 then Some 2
+    else None
+
+-- the base whose mark begins the text
+abbrev pub marked : Text → Option ℕ
+marked [] = None
+marked (c ∷ []) = None
+marked (c ∷ d ∷ s) = if c == 48 then base_of d else None
+
+-- the mark of a base: none for 10
+pub data BaseMark : Text → Text → ℕ → Type 0 where
+  ten : {t : Text} → marked t ≡ None → BaseMark t t 10
+  other : {c d radix : ℕ} {r : Text} → marked (c ∷ d ∷ r) ≡ Some radix → BaseMark (c ∷ d ∷ r) r radix
+
+-- digits and `_`, as many as stand here; w is the digits alone
+pub data Digits (radix : ℕ) : Text → Text → Text → Type 0 where
+  stop : {r : Text} → starts (is_part radix) r ≡ false → Digits radix r r []
+  digit : {c : ℕ} {s r w : Text} → is_digit_of radix c ≡ true → Digits radix s r w → Digits radix (c ∷ s) r (c ∷ w)
+  mark : {s r w : Text} → Digits radix s r w → Digits radix (95 ∷ s) r w
+
+-- a digit, then digits and `_`
+pub data Integer (radix : ℕ) : Text → Text → Text → Type 0 where
+  integer : {c : ℕ} {s r w : Text} → is_digit_of radix c ≡ true → Digits radix s r w → Integer radix (c ∷ s) r (c ∷ w)
+
+-- n, or -n behind `-`
+abbrev pub signed : Bool → ℕ → ℤ
+signed negative n = if negative then neg_ℤ (pos n) else pos n
+
+-- that is a number of 128 bits with a sign
+abbrev pub fits : Bool → ℕ → Bool
+fits negative n = if negative then nat_le n (2 ^ 127) else nat_lt n (2 ^ 127)
+
+-- a sign, the mark of a base and an integer, which stand for z, and no identifier character behind them
+pub data WholeNumber : Text → Text → ℤ → Type 0 where
+  whole : {t s u r w : Text} {negative : Bool} {radix : ℕ} {z : ℤ} → Sign t s negative → BaseMark s u radix → Integer radix u r w → starts is_identifier_char r ≡ false
+      → fits negative (digits_value radix w) ≡ true → z ≡ signed negative (digits_value radix w) → WholeNumber t r z
+
+-- the text begins as a number does: with a digit, or a sign and a digit
+abbrev pub begins_number : Text → Bool
+begins_number [] = false
+begins_number (c ∷ s) = is_digit c || (is_sign c && starts is_digit s)
