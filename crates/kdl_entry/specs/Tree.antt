@@ -1,5 +1,5 @@
 -- Identifiers and entries with every text and span, and nothing of how memory holds them.
-use Rattle.std.specs.Prelude.{Bool, Option, option_map, String, string_bytes}
+use Rattle.std.specs.Prelude.{ℤ, [], Bool, false, Option, Some, None, option_map, String, string_bytes}
 use Rattle.std.specs.Str.{chars}
 use Rattle.std.specs.declared.alloc.Global.{Global}
 use Rattle.kdl_text.specs.Chars.{Text}
@@ -36,6 +36,42 @@ pub record Entry : Type 0 where
   pub name : Option Identifier
   pub format : Option EntryFormat
   pub span : SourceSpan
+
+-- the span of what was not parsed
+abbrev pub no_span : SourceSpan
+no_span = record { offset = 0; len = 0 }
+
+-- a string without a spelling
+abbrev pub plain_identifier : Text → Identifier
+plain_identifier s = record { value = s; repr = None; span = no_span }
+
+-- empty texts, without the mark
+abbrev pub empty_format : EntryFormat
+empty_format = record {
+    value_repr = [];
+    leading = [];
+    trailing = [];
+    after_ty = [];
+    before_ty_name = [];
+    after_ty_name = [];
+    after_key = [];
+    after_eq = [];
+    autoformat_keep = false;
+  }
+
+-- a property with a key, an argument with none, without a type and a format
+abbrev pub plain_entry : Option Identifier → Value → Entry
+plain_entry name value = record { ty = None; value = value; name = name; format = None; span = no_span }
+
+-- the text of a string
+abbrev pub text_value : Value → Option Text
+text_value (text s) = Some s
+text_value (integer z) = None
+
+-- the whole number of a value
+abbrev pub integer_value : Value → Option ℤ
+integer_value (text s) = None
+integer_value (integer z) = Some z
 
 -- the characters of a text in memory
 abbrev pub text_of : String Global → Text
