@@ -1,2 +1,3 @@
+pub mod Equality
 pub mod Printing
 pub mod Spellings

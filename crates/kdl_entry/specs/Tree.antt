@@ -48,20 +48,28 @@ plain_identifier s = record { value = s; repr = None; span = no_span }
 -- empty texts, without the mark
 abbrev pub empty_format : EntryFormat
 empty_format = record {
-    value_repr = [];
-    leading = [];
-    trailing = [];
-    after_ty = [];
-    before_ty_name = [];
-    after_ty_name = [];
-    after_key = [];
-    after_eq = [];
-    autoformat_keep = false;
-  }
+  value_repr = [];
+  leading = [];
+  trailing = [];
+  after_ty = [];
+  before_ty_name = [];
+  after_ty_name = [];
+  after_key = [];
+  after_eq = [];
+  autoformat_keep = false;
+}
 
 -- a property with a key, an argument with none, without a type and a format
 abbrev pub plain_entry : Option Identifier → Value → Entry
 plain_entry name value = record { ty = None; value = value; name = name; format = None; span = no_span }
+
+-- an identifier, wherever it stood
+abbrev pub without_span : Identifier → Identifier
+without_span i = record i { span = no_span }
+
+-- an entry, wherever it and its identifiers stood
+abbrev pub without_spans : Entry → Entry
+without_spans e = record e { ty = option_map without_span e.ty; name = option_map without_span e.name; span = no_span }
 
 -- the text of a string
 abbrev pub text_value : Value → Option Text
@@ -86,25 +94,25 @@ identifier_tree i = record { value = text_of i.value; repr = option_map text_of 
 
 abbrev pub entry_format_tree : KdlEntryFormat → EntryFormat
 entry_format_tree f = record {
-    value_repr = text_of f.value_repr;
-    leading = text_of f.leading;
-    trailing = text_of f.trailing;
-    after_ty = text_of f.after_ty;
-    before_ty_name = text_of f.before_ty_name;
-    after_ty_name = text_of f.after_ty_name;
-    after_key = text_of f.after_key;
-    after_eq = text_of f.after_eq;
-    autoformat_keep = f.autoformat_keep;
-  }
+  value_repr = text_of f.value_repr;
+  leading = text_of f.leading;
+  trailing = text_of f.trailing;
+  after_ty = text_of f.after_ty;
+  before_ty_name = text_of f.before_ty_name;
+  after_ty_name = text_of f.after_ty_name;
+  after_key = text_of f.after_key;
+  after_eq = text_of f.after_eq;
+  autoformat_keep = f.autoformat_keep;
+}
 
 abbrev pub entry_tree : KdlEntry → Entry
 entry_tree e = record {
-    ty = option_map identifier_tree e.ty;
-    value = value_tree e.value;
-    name = option_map identifier_tree e.name;
-    format = option_map entry_format_tree e.format;
-    span = e.span;
-  }
+  ty = option_map identifier_tree e.ty;
+  value = value_tree e.value;
+  name = option_map identifier_tree e.name;
+  format = option_map entry_format_tree e.format;
+  span = e.span;
+}
 
 -- what an entry says
 abbrev pub entry_data : Entry → data'.Entry

@@ -58,6 +58,7 @@ impl KdlEntryFormat {
 impl Clone for KdlEntryFormat {
     ghost use Rattle.kdl_entry.specs.Tree.{entry_format_tree};
     ghost use Rattle.std.specs.Prelude.{◌≡◌};
+
     ghost is_clone = { λ v w. entry_format_tree w ≡ entry_format_tree v };
 
     fn clone(&self) -> Result<KdlEntryFormat, AllocError> {
@@ -98,7 +99,13 @@ impl KdlEntry {
     pub fn new(value: KdlValue) -> KdlEntry
         ensures { entry_tree result ≡ plain_entry None (value_tree value) }
     {
-        KdlEntry { ty: None, value, name: None, format: None, span: SourceSpan { offset: 0, len: 0 } }
+        KdlEntry {
+            ty: None,
+            value,
+            name: None,
+            format: None,
+            span: SourceSpan { offset: 0, len: 0 },
+        }
     }
 
     /// The key, where the entry is a property.
@@ -183,13 +190,20 @@ impl KdlEntry {
     pub fn new_prop(name: KdlIdentifier, value: KdlValue) -> KdlEntry
         ensures { entry_tree result ≡ plain_entry (Some (identifier_tree name)) (value_tree value) }
     {
-        KdlEntry { ty: None, value, name: Some(name), format: None, span: SourceSpan { offset: 0, len: 0 } }
+        KdlEntry {
+            ty: None,
+            value,
+            name: Some(name),
+            format: None,
+            span: SourceSpan { offset: 0, len: 0 },
+        }
     }
 }
 
 impl From<KdlValue> for KdlEntry {
     ghost use Rattle.kdl_entry.specs.Tree.{entry_tree, value_tree, plain_entry};
     ghost use Rattle.std.specs.Prelude.{◌≡◌, None};
+
     ghost from_gives = { λ v e. entry_tree e ≡ plain_entry None (value_tree v) };
 
     fn from(value: KdlValue) -> KdlEntry {
@@ -200,6 +214,7 @@ impl From<KdlValue> for KdlEntry {
 impl From<(KdlIdentifier, KdlValue)> for KdlEntry {
     ghost use Rattle.kdl_entry.specs.Tree.{entry_tree, identifier_tree, value_tree, plain_entry};
     ghost use Rattle.std.specs.Prelude.{◌≡◌, Some};
+
     ghost from_gives = { λ p e. entry_tree e ≡ plain_entry (Some (identifier_tree p.0)) (value_tree p.1) };
 
     fn from(parts: (KdlIdentifier, KdlValue)) -> KdlEntry {
@@ -210,6 +225,7 @@ impl From<(KdlIdentifier, KdlValue)> for KdlEntry {
 impl Clone for KdlEntry {
     ghost use Rattle.kdl_entry.specs.Tree.{entry_tree};
     ghost use Rattle.std.specs.Prelude.{◌≡◌};
+
     ghost is_clone = { λ v w. entry_tree w ≡ entry_tree v };
 
     fn clone(&self) -> Result<KdlEntry, AllocError> {
@@ -217,7 +233,13 @@ impl Clone for KdlEntry {
         let value = self.value.clone()?;
         let name = self.name.clone()?;
         let format = self.format.clone()?;
-        Ok(KdlEntry { ty, value, name, format, span: self.span })
+        Ok(KdlEntry {
+            ty,
+            value,
+            name,
+            format,
+            span: self.span,
+        })
     }
 }
 
@@ -229,8 +251,18 @@ impl fmt::Display for KdlEntry {
         match &self.format {
             Some(format) => {
                 write_text(format.leading.as_str(), f)?;
-                write_key(&self.name, format.after_key.as_str(), format.after_eq.as_str(), f)?;
-                write_type(&self.ty, format.before_ty_name.as_str(), format.after_ty_name.as_str(), f)?;
+                write_key(
+                    &self.name,
+                    format.after_key.as_str(),
+                    format.after_eq.as_str(),
+                    f,
+                )?;
+                write_type(
+                    &self.ty,
+                    format.before_ty_name.as_str(),
+                    format.after_ty_name.as_str(),
+                    f,
+                )?;
                 write_text(format.after_ty.as_str(), f)?;
                 write_text(format.value_repr.as_str(), f)?;
                 write_text(format.trailing.as_str(), f)

@@ -88,23 +88,33 @@ impl KdlIdentifier {
     pub fn parsed(value: String, repr: String, span: SourceSpan) -> KdlIdentifier
         ensures { identifier_tree result ≡ record { value = text_of value; repr = Some (text_of repr); span = span } }
     {
-        KdlIdentifier { value, repr: Some(repr), span }
+        KdlIdentifier {
+            value,
+            repr: Some(repr),
+            span,
+        }
     }
 }
 
 impl From<String> for KdlIdentifier {
     ghost use Rattle.kdl_entry.specs.Tree.{identifier_tree, plain_identifier, text_of};
     ghost use Rattle.std.specs.Prelude.{◌≡◌};
+
     ghost from_gives = { λ s i. identifier_tree i ≡ plain_identifier (text_of s) };
 
     fn from(value: String) -> KdlIdentifier {
-        KdlIdentifier { value, repr: None, span: SourceSpan { offset: 0, len: 0 } }
+        KdlIdentifier {
+            value,
+            repr: None,
+            span: SourceSpan { offset: 0, len: 0 },
+        }
     }
 }
 
 impl From<KdlIdentifier> for String {
     ghost use Rattle.kdl_entry.specs.Tree.{identifier_tree, text_of};
     ghost use Rattle.std.specs.Prelude.{◌≡◌};
+
     ghost from_gives = { λ i s. text_of s ≡ (identifier_tree i).value };
 
     fn from(identifier: KdlIdentifier) -> String {
@@ -115,12 +125,17 @@ impl From<KdlIdentifier> for String {
 impl Clone for KdlIdentifier {
     ghost use Rattle.kdl_entry.specs.Tree.{identifier_tree};
     ghost use Rattle.std.specs.Prelude.{◌≡◌};
+
     ghost is_clone = { λ v w. identifier_tree w ≡ identifier_tree v };
 
     fn clone(&self) -> Result<KdlIdentifier, AllocError> {
         let value = self.value.clone()?;
         let repr = self.repr.clone()?;
-        Ok(KdlIdentifier { value, repr, span: self.span })
+        Ok(KdlIdentifier {
+            value,
+            repr,
+            span: self.span,
+        })
     }
 }
 

@@ -3,13 +3,12 @@
 
 mod entry;
 mod identifier;
+pub mod laws;
 mod print;
 mod spelled;
 mod value;
 
-pub use entry::KdlEntry;
-pub use entry::KdlEntryFormat;
+pub use entry::{KdlEntry, KdlEntryFormat};
 pub use identifier::KdlIdentifier;
-pub use print::write_text;
-pub use print::write_type;
+pub use print::{write_char, write_text, write_type};
 pub use value::KdlValue;

@@ -34,7 +34,12 @@ pub(crate) fn write_integer<W: Write>(x: i128, f: &mut Formatter<W>) -> fmt::Res
 }
 
 /// Writes a type between parentheses, with a text before it and one behind it; nothing where there is none.
-pub fn write_type<W: Write>(ty: &Option<KdlIdentifier>, before: &str, after: &str, f: &mut Formatter<W>) -> fmt::Result
+pub fn write_type<W: Write>(
+    ty: &Option<KdlIdentifier>,
+    before: &str,
+    after: &str,
+    f: &mut Formatter<W>,
+) -> fmt::Result
     ensures { WritesOnOk W.write_str_gives f.old result (encode_utf8_all (print_type (option_map identifier_tree ty.now) (chars before.now) (chars after.now))) f.new }
 {
     if let Some(ty) = ty {
@@ -48,7 +53,12 @@ pub fn write_type<W: Write>(ty: &Option<KdlIdentifier>, before: &str, after: &st
 }
 
 /// Writes the key of a property and `=`, with a text behind each; nothing where there is none.
-pub(crate) fn write_key<W: Write>(name: &Option<KdlIdentifier>, after_key: &str, after_eq: &str, f: &mut Formatter<W>) -> fmt::Result
+pub(crate) fn write_key<W: Write>(
+    name: &Option<KdlIdentifier>,
+    after_key: &str,
+    after_eq: &str,
+    f: &mut Formatter<W>,
+) -> fmt::Result
     ensures { WritesOnOk W.write_str_gives f.old result (encode_utf8_all (print_key (option_map identifier_tree name.now) (chars after_key.now) (chars after_eq.now))) f.new }
 {
     if let Some(name) = name {

@@ -67,7 +67,11 @@ fn is_text(s: &str, word: &str) -> bool
 fn is_excluded(s: &str) -> bool
     ensures { result ≡ bare.is_excluded (chars s.now) }
 {
-    is_text(s, "true") || is_text(s, "false") || is_text(s, "null") || is_text(s, "inf") || is_text(s, "nan")
+    is_text(s, "true")
+        || is_text(s, "false")
+        || is_text(s, "null")
+        || is_text(s, "inf")
+        || is_text(s, "nan")
 }
 
 /// Whether the text has one of the forms of a bare string, by its front.

@@ -3,7 +3,8 @@
 ghost use Rattle.kdl_entry.specs.Print.{print_value};
 ghost use Rattle.kdl_entry.specs.Tree.{value_tree, text_value, integer_value};
 ghost use Rattle.kdl_entry.specs.Data as data';
-ghost use Rattle.std.specs.Prelude.{◌≡◌, IfOk, Some, is_none, not, option_map};
+ghost use Rattle.std.specs.Prelude.{◌≡◌, IfOk, Some, option_map};
+ghost use Rattle.std.specs.Option.{is_some};
 ghost use Rattle.std.specs.Str.{chars, encode_utf8_all};
 
 use crate::print::write_integer;
@@ -32,14 +33,14 @@ impl KdlValue {
 
     /// Whether the value is a string.
     pub fn is_string(&self) -> bool
-        ensures { result ≡ not (is_none (text_value (value_tree self.now))) }
+        ensures { result ≡ is_some (text_value (value_tree self.now)) }
     {
         matches!(self, KdlValue::String(..))
     }
 
     /// Whether the value is a whole number.
     pub fn is_integer(&self) -> bool
-        ensures { result ≡ not (is_none (integer_value (value_tree self.now))) }
+        ensures { result ≡ is_some (integer_value (value_tree self.now)) }
     {
         matches!(self, KdlValue::Integer(..))
     }
@@ -69,6 +70,7 @@ impl From<i128> for KdlValue {
     ghost use Rattle.kdl_entry.specs.Tree.{value_tree};
     ghost use Rattle.kdl_entry.specs.Data as data';
     ghost use Rattle.std.specs.Prelude.{◌≡◌};
+
     ghost from_gives = { λ z v. value_tree v ≡ data'.integer z };
 
     fn from(value: i128) -> KdlValue {
@@ -80,6 +82,7 @@ impl From<String> for KdlValue {
     ghost use Rattle.kdl_entry.specs.Tree.{value_tree, text_of};
     ghost use Rattle.kdl_entry.specs.Data as data';
     ghost use Rattle.std.specs.Prelude.{◌≡◌};
+
     ghost from_gives = { λ s v. value_tree v ≡ data'.text (text_of s) };
 
     fn from(value: String) -> KdlValue {
@@ -90,6 +93,7 @@ impl From<String> for KdlValue {
 impl Clone for KdlValue {
     ghost use Rattle.kdl_entry.specs.Tree.{value_tree};
     ghost use Rattle.std.specs.Prelude.{◌≡◌};
+
     ghost is_clone = { λ v w. value_tree w ≡ value_tree v };
 
     fn clone(&self) -> Result<KdlValue, AllocError> {

@@ -1,8 +1,7 @@
-use Rattle.std.proofs.Common.{◌≡◌, ◌∙◌, sym, refl, ℕ, List, rules, arith, Bool, true, false, ◌||◌}
+use Rattle.std.proofs.Common.{◌≡◌, arith, true, ◌||◌}
 use Rattle.std.proofs.lemmas.Grind.{common_steps}
 use Rattle.std.proofs.Output.{has_written_of_eq}
 use Rattle.kdl_text.specs.Chars.{is_newline_char, is_banned}
-use Rattle.kdl_entry.specs.Spelled.{char_text}
 use Rattle.kdl_entry.proofs.Spellings.{coded_bytes}
 use Rattle.kdl_entry.proofs.spelled.write_char_text.Goals as goal
 

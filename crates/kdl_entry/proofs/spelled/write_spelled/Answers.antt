@@ -1,5 +1,4 @@
-use Rattle.std.proofs.Common.{sym, ◌∙◌, rules, arith}
-use Rattle.std.proofs.lemmas.Grind.{common_steps}
+use Rattle.std.proofs.Common.{sym, ◌∙◌, rules}
 use Rattle.std.proofs.Output.{has_written_append, has_written_of_eq}
 use Rattle.kdl_entry.proofs.Spellings.{bare_bytes, quoted_bytes}
 use Rattle.kdl_entry.proofs.spelled.write_spelled.Goals as goal

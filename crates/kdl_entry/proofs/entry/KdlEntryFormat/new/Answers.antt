@@ -1,4 +1,3 @@
-use Rattle.std.proofs.Common.{rules}
 use Rattle.kdl_entry.proofs.Printing.{no_chars}
 use Rattle.kdl_entry.proofs.entry.KdlEntryFormat.new.Goals as goal
 
