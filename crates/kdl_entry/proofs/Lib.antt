@@ -1,1 +1,4 @@
+pub mod Equality
 pub mod Fronts
+pub mod Printing
+pub mod Spellings

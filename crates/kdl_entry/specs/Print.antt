@@ -1,5 +1,5 @@
 -- What values, identifiers and entries print.
-use Rattle.std.specs.Prelude.{ℤ, [], ◌∷◌, ◌++◌, Option, Some, None}
+use Rattle.std.specs.Prelude.{[], ◌∷◌, ◌++◌, Option, Some, None}
 use Rattle.std.specs.Fmt.{signed_decimal}
 use Rattle.kdl_text.specs.Chars.{Text}
 use Rattle.kdl_entry.specs.Data.{Value, text, integer}

@@ -1,5 +1,5 @@
 -- Identifiers and entries with every text and span, and nothing of how memory holds them.
-use Rattle.std.specs.Prelude.{Bool, Option, option_map, String, string_bytes}
+use Rattle.std.specs.Prelude.{ℤ, [], Bool, false, Option, Some, None, option_map, String, string_bytes}
 use Rattle.std.specs.Str.{chars}
 use Rattle.std.specs.declared.alloc.Global.{Global}
 use Rattle.kdl_text.specs.Chars.{Text}
@@ -37,6 +37,50 @@ pub record Entry : Type 0 where
   pub format : Option EntryFormat
   pub span : SourceSpan
 
+-- the span of what was not parsed
+abbrev pub no_span : SourceSpan
+no_span = record { offset = 0; len = 0 }
+
+-- a string without a spelling
+abbrev pub plain_identifier : Text → Identifier
+plain_identifier s = record { value = s; repr = None; span = no_span }
+
+-- empty texts, without the mark
+abbrev pub empty_format : EntryFormat
+empty_format = record {
+  value_repr = [];
+  leading = [];
+  trailing = [];
+  after_ty = [];
+  before_ty_name = [];
+  after_ty_name = [];
+  after_key = [];
+  after_eq = [];
+  autoformat_keep = false;
+}
+
+-- a property with a key, an argument with none, without a type and a format
+abbrev pub plain_entry : Option Identifier → Value → Entry
+plain_entry name value = record { ty = None; value = value; name = name; format = None; span = no_span }
+
+-- an identifier, wherever it stood
+abbrev pub without_span : Identifier → Identifier
+without_span i = record i { span = no_span }
+
+-- an entry, wherever it and its identifiers stood
+abbrev pub without_spans : Entry → Entry
+without_spans e = record e { ty = option_map without_span e.ty; name = option_map without_span e.name; span = no_span }
+
+-- the text of a string
+abbrev pub text_value : Value → Option Text
+text_value (text s) = Some s
+text_value (integer z) = None
+
+-- the whole number of a value
+abbrev pub integer_value : Value → Option ℤ
+integer_value (text s) = None
+integer_value (integer z) = Some z
+
 -- the characters of a text in memory
 abbrev pub text_of : String Global → Text
 text_of s = chars (string_bytes s)
@@ -50,25 +94,25 @@ identifier_tree i = record { value = text_of i.value; repr = option_map text_of 
 
 abbrev pub entry_format_tree : KdlEntryFormat → EntryFormat
 entry_format_tree f = record {
-    value_repr = text_of f.value_repr;
-    leading = text_of f.leading;
-    trailing = text_of f.trailing;
-    after_ty = text_of f.after_ty;
-    before_ty_name = text_of f.before_ty_name;
-    after_ty_name = text_of f.after_ty_name;
-    after_key = text_of f.after_key;
-    after_eq = text_of f.after_eq;
-    autoformat_keep = f.autoformat_keep;
-  }
+  value_repr = text_of f.value_repr;
+  leading = text_of f.leading;
+  trailing = text_of f.trailing;
+  after_ty = text_of f.after_ty;
+  before_ty_name = text_of f.before_ty_name;
+  after_ty_name = text_of f.after_ty_name;
+  after_key = text_of f.after_key;
+  after_eq = text_of f.after_eq;
+  autoformat_keep = f.autoformat_keep;
+}
 
 abbrev pub entry_tree : KdlEntry → Entry
 entry_tree e = record {
-    ty = option_map identifier_tree e.ty;
-    value = value_tree e.value;
-    name = option_map identifier_tree e.name;
-    format = option_map entry_format_tree e.format;
-    span = e.span;
-  }
+  ty = option_map identifier_tree e.ty;
+  value = value_tree e.value;
+  name = option_map identifier_tree e.name;
+  format = option_map entry_format_tree e.format;
+  span = e.span;
+}
 
 -- what an entry says
 abbrev pub entry_data : Entry → data'.Entry

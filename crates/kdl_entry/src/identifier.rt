@@ -1,18 +1,152 @@
-ghost use Rattle.std.specs.Prelude.{◌≡◌, Some};
+//! Identifiers: the names of nodes and properties, and types.
 
+ghost use Rattle.kdl_entry.specs.Print.{print_identifier};
+ghost use Rattle.kdl_entry.specs.Tree.{identifier_tree, plain_identifier, text_of};
+ghost use Rattle.std.specs.Prelude.{◌≡◌, IfOk, None, Some, option_map};
+ghost use Rattle.std.specs.Str.{chars, encode_utf8_all};
+
+use crate::print::write_text;
+use crate::spelled::write_spelled;
 use kdl_text::span::SourceSpan;
+use std::alloc::{AllocError, Global};
+use std::fmt;
 
-#[derive(Drop)]
+/// A name or a type: a string, with its spelling where it keeps one.
+///
+/// Equality and hash ignore the span and regard the spelling.
+#[derive(Debug, Drop)]
+#[derive_where(PartialEq, Eq, Hash)]
 pub struct KdlIdentifier {
     value: String,
     repr: Option<String>,
+    #[derive_where(skip(EqHashOrd))]
     span: SourceSpan,
 }
 
 impl KdlIdentifier {
-    pub fn parsed(value: String, repr: String, span: SourceSpan) -> KdlIdentifier
-        ensures { result ≡ record { value = value; repr = Some repr; span = span } }
+    /// The string.
+    pub fn value(&self) -> &str
+        ensures { chars result.now ≡ (identifier_tree self.now).value }
     {
-        KdlIdentifier { value, repr: Some(repr), span }
+        self.value.as_str()
+    }
+
+    /// Sets the string, and leaves the spelling.
+    pub fn set_value(&mut self, value: String)
+        ensures { identifier_tree self.new ≡ record (identifier_tree self.old) { value = text_of value } }
+    {
+        self.value = value;
+    }
+
+    /// Where the identifier stood in the text that it was parsed from, in bytes.
+    pub fn span(&self) -> SourceSpan
+        ensures { result ≡ (identifier_tree self.now).span }
+    {
+        self.span
+    }
+
+    /// Sets the span.
+    pub fn set_span(&mut self, span: SourceSpan)
+        ensures { identifier_tree self.new ≡ record (identifier_tree self.old) { span = span } }
+    {
+        self.span = span;
+    }
+
+    /// The spelling, where the identifier keeps one.
+    pub fn repr(&self) -> Option<&str>
+        ensures { option_map (λ r. chars r.now) result ≡ (identifier_tree self.now).repr }
+    {
+        match &self.repr {
+            Some(repr) => Some(repr.as_str()),
+            None => None,
+        }
+    }
+
+    /// Sets the spelling, which is printed in place of the string.
+    pub fn set_repr(&mut self, repr: String)
+        ensures { identifier_tree self.new ≡ record (identifier_tree self.old) { repr = Some (text_of repr) } }
+    {
+        self.repr = Some(repr);
+    }
+
+    /// Drops the spelling.
+    pub fn clear_format(&mut self)
+        ensures { identifier_tree self.new ≡ record (identifier_tree self.old) { repr = None } }
+    {
+        self.repr = None;
+    }
+
+    /// An identifier with a copy of the text as its string, without a spelling and with the span 0 of length 0.
+    /// Fails where memory is wanting; an empty text takes none.
+    pub fn from_text(alloc: Global, text: &str) -> Result<KdlIdentifier, AllocError>
+        ensures { IfOk result (λ i. identifier_tree i ≡ plain_identifier (chars text.now)) }
+    {
+        Ok(KdlIdentifier::from(String::from_str(alloc, text)?))
+    }
+
+    /// An identifier as it was read: its string, its spelling and where it stood.
+    pub fn parsed(value: String, repr: String, span: SourceSpan) -> KdlIdentifier
+        ensures { identifier_tree result ≡ record { value = text_of value; repr = Some (text_of repr); span = span } }
+    {
+        KdlIdentifier {
+            value,
+            repr: Some(repr),
+            span,
+        }
+    }
+}
+
+impl From<String> for KdlIdentifier {
+    ghost use Rattle.kdl_entry.specs.Tree.{identifier_tree, plain_identifier, text_of};
+    ghost use Rattle.std.specs.Prelude.{◌≡◌};
+
+    ghost from_gives = { λ s i. identifier_tree i ≡ plain_identifier (text_of s) };
+
+    fn from(value: String) -> KdlIdentifier {
+        KdlIdentifier {
+            value,
+            repr: None,
+            span: SourceSpan { offset: 0, len: 0 },
+        }
+    }
+}
+
+impl From<KdlIdentifier> for String {
+    ghost use Rattle.kdl_entry.specs.Tree.{identifier_tree, text_of};
+    ghost use Rattle.std.specs.Prelude.{◌≡◌};
+
+    ghost from_gives = { λ i s. text_of s ≡ (identifier_tree i).value };
+
+    fn from(identifier: KdlIdentifier) -> String {
+        identifier.value
+    }
+}
+
+impl Clone for KdlIdentifier {
+    ghost use Rattle.kdl_entry.specs.Tree.{identifier_tree};
+    ghost use Rattle.std.specs.Prelude.{◌≡◌};
+
+    ghost is_clone = { λ v w. identifier_tree w ≡ identifier_tree v };
+
+    fn clone(&self) -> Result<KdlIdentifier, AllocError> {
+        let value = self.value.clone()?;
+        let repr = self.repr.clone()?;
+        Ok(KdlIdentifier {
+            value,
+            repr,
+            span: self.span,
+        })
+    }
+}
+
+/// The spelling, or else the string as it is spelled.
+impl fmt::Display for KdlIdentifier {
+    ghost output = { λ i. Some (encode_utf8_all (print_identifier (identifier_tree i))) };
+
+    fn fmt<W: fmt::Write>(&self, f: &mut fmt::Formatter<W>) -> fmt::Result {
+        match &self.repr {
+            Some(repr) => write_text(repr.as_str(), f),
+            None => write_spelled(self.value.as_str(), f),
+        }
     }
 }

@@ -1,5 +1,117 @@
-#[derive(Drop)]
+//! Values: strings and whole numbers.
+
+ghost use Rattle.kdl_entry.specs.Print.{print_value};
+ghost use Rattle.kdl_entry.specs.Tree.{value_tree, text_value, integer_value};
+ghost use Rattle.kdl_entry.specs.Data as data';
+ghost use Rattle.std.specs.Prelude.{◌≡◌, IfOk, Some, option_map};
+ghost use Rattle.std.specs.Option.{is_some};
+ghost use Rattle.std.specs.Str.{chars, encode_utf8_all};
+
+use crate::print::write_integer;
+use crate::spelled::write_spelled;
+use std::alloc::{AllocError, Global};
+use std::fmt;
+
+/// The value of an argument or a property (KDL 2.0.0, Value).
+///
+/// Values are ordered by their variants, as they stand here, and then by what they hold: texts by their bytes.
+#[derive(PartialEq, Eq, PartialOrd, Ord, Hash, Debug, Drop)]
 pub enum KdlValue {
+    /// A string.
     String(String),
+    /// A whole number.
     Integer(i128),
+}
+
+impl KdlValue {
+    /// A string with a copy of the text. Fails where memory is wanting; an empty text takes none.
+    pub fn from_text(alloc: Global, text: &str) -> Result<KdlValue, AllocError>
+        ensures { IfOk result (λ v. value_tree v ≡ data'.text (chars text.now)) }
+    {
+        Ok(KdlValue::String(String::from_str(alloc, text)?))
+    }
+
+    /// Whether the value is a string.
+    pub fn is_string(&self) -> bool
+        ensures { result ≡ is_some (text_value (value_tree self.now)) }
+    {
+        matches!(self, KdlValue::String(..))
+    }
+
+    /// Whether the value is a whole number.
+    pub fn is_integer(&self) -> bool
+        ensures { result ≡ is_some (integer_value (value_tree self.now)) }
+    {
+        matches!(self, KdlValue::Integer(..))
+    }
+
+    /// The text, where the value is a string.
+    pub fn as_string(&self) -> Option<&str>
+        ensures { option_map (λ s. chars s.now) result ≡ text_value (value_tree self.now) }
+    {
+        match self {
+            KdlValue::String(s) => Some(s.as_str()),
+            _ => None,
+        }
+    }
+
+    /// The number, where the value is a whole number.
+    pub fn as_integer(&self) -> Option<i128>
+        ensures { result ≡ integer_value (value_tree self.now) }
+    {
+        match self {
+            KdlValue::Integer(x) => Some(*x),
+            _ => None,
+        }
+    }
+}
+
+impl From<i128> for KdlValue {
+    ghost use Rattle.kdl_entry.specs.Tree.{value_tree};
+    ghost use Rattle.kdl_entry.specs.Data as data';
+    ghost use Rattle.std.specs.Prelude.{◌≡◌};
+
+    ghost from_gives = { λ z v. value_tree v ≡ data'.integer z };
+
+    fn from(value: i128) -> KdlValue {
+        KdlValue::Integer(value)
+    }
+}
+
+impl From<String> for KdlValue {
+    ghost use Rattle.kdl_entry.specs.Tree.{value_tree, text_of};
+    ghost use Rattle.kdl_entry.specs.Data as data';
+    ghost use Rattle.std.specs.Prelude.{◌≡◌};
+
+    ghost from_gives = { λ s v. value_tree v ≡ data'.text (text_of s) };
+
+    fn from(value: String) -> KdlValue {
+        KdlValue::String(value)
+    }
+}
+
+impl Clone for KdlValue {
+    ghost use Rattle.kdl_entry.specs.Tree.{value_tree};
+    ghost use Rattle.std.specs.Prelude.{◌≡◌};
+
+    ghost is_clone = { λ v w. value_tree w ≡ value_tree v };
+
+    fn clone(&self) -> Result<KdlValue, AllocError> {
+        match self {
+            KdlValue::String(s) => Ok(KdlValue::String(s.clone()?)),
+            KdlValue::Integer(x) => Ok(KdlValue::Integer(*x)),
+        }
+    }
+}
+
+/// A string as it is spelled, a number in base 10.
+impl fmt::Display for KdlValue {
+    ghost output = { λ v. Some (encode_utf8_all (print_value (value_tree v))) };
+
+    fn fmt<W: fmt::Write>(&self, f: &mut fmt::Formatter<W>) -> fmt::Result {
+        match self {
+            KdlValue::String(s) => write_spelled(s.as_str(), f),
+            KdlValue::Integer(x) => write_integer(*x, f),
+        }
+    }
 }

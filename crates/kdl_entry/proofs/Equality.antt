@@ -1,0 +1,93 @@
+-- What `==` means, on trees.
+use mathlib.Core.Bool.{beq}
+use Rattle.std.proofs.Common.{◌≡◌, ℕ, List, Bool, true, false, ◌&&◌, Option, Some, None, option_map, String, string_bytes, ap, sym, ◌∙◌, refl, Global}
+use Rattle.std.proofs.lemmas.Slice.Eq.{bytes_eq-Decides}
+use Rattle.std.proofs.lemmas.Str.{IsUtf8-string_bytes, encodes-chars}
+use Rattle.std.specs.Bool.{Decides}
+use Rattle.std.specs.Option.{option_eq}
+use Rattle.std.specs.Str.{chars, encode_utf8_all}
+use Rattle.std.specs.String.{string_eq}
+use Rattle.std.proofs.lemmas.Bool.Decides.{Decides-and, Decides-like, Decides-int_eq}
+use Rattle.kdl_entry.specs.Tree.{Identifier, text_of, value_tree, identifier_tree, entry_tree, entry_format_tree, without_span, without_spans}
+use Rattle.kdl_entry.specs.declared.value.KdlValue.{KdlValue}
+use Rattle.kdl_entry.specs.declared.value.KdlValue.TheVariants.{String as StringValue, Integer}
+use Rattle.kdl_entry.specs.declared.identifier.KdlIdentifier.{KdlIdentifier}
+use Rattle.kdl_entry.specs.declared.entry.KdlEntry.{KdlEntry}
+use Rattle.kdl_entry.specs.declared.entry.KdlEntryFormat.{KdlEntryFormat}
+use Rattle.kdl_entry.specs.contracts.entry.KdlEntryPartialEq.TheImpl as entry_impl
+use Rattle.kdl_entry.specs.contracts.entry.KdlEntryFormatPartialEq.TheImpl as format_impl
+use Rattle.kdl_entry.specs.contracts.value.KdlValuePartialEq.TheImpl as value_impl
+use Rattle.kdl_entry.specs.contracts.identifier.KdlIdentifierPartialEq.TheImpl as identifier_impl
+
+pub same_bytes : (s t : String Global) → text_of s ≡ text_of t → string_bytes s ≡ string_bytes t
+same_bytes s t e = sym (encodes-chars _ (IsUtf8-string_bytes s)) ∙ ap encode_utf8_all e ∙ encodes-chars _ (IsUtf8-string_bytes t)
+
+-- texts in memory are equal exactly where their characters are
+pub text_decides : (s t : String Global) → Decides (string_eq s t) (text_of s ≡ text_of t)
+text_decides s t =
+    let d = bytes_eq-Decides (string_bytes s) (string_bytes t) in
+    (λ e. ap chars (d.0 e), λ e. d.1 (same_bytes s t e))
+
+-- options are equal exactly where what they hold is
+pub option_decides : {A B : Type 0} (eq : A → A → Bool) (f : A → B) → ((x y : A) → Decides (eq x y) (f x ≡ f y))
+    → (o p : Option A) → Decides (option_eq eq o p) (option_map f o ≡ option_map f p)
+option_decides eq f d None None = (λ e. refl, λ e. refl)
+option_decides eq f d None (Some y) = (λ e. cc, λ e. cc)
+option_decides eq f d (Some x) None = (λ e. cc, λ e. cc)
+option_decides eq f d (Some x) (Some y) = (λ e. ap (λ z. Some z) ((d x y).0 e), λ e. (d x y).1 (cc))
+
+-- values are equal exactly where they are of one kind and say the same
+pub value_decides : (v w : KdlValue) → Decides (value_impl.ghosts.eq v w) (value_tree v ≡ value_tree w)
+value_decides (StringValue s) (StringValue t) = Decides-like _ (λ e. cc) (λ e. cc) (text_decides s t)
+value_decides (StringValue s) (Integer z) = (λ e. cc, λ e. cc)
+value_decides (Integer y) (StringValue t) = (λ e. cc, λ e. cc)
+value_decides (Integer y) (Integer z) = Decides-like _ (λ e. cc) (λ e. cc) (Decides-int_eq y z)
+
+-- identifiers are equal exactly where all but their spans is
+pub identifier_decides : (i j : KdlIdentifier) → Decides (identifier_impl.ghosts.eq i j) (without_span (identifier_tree i) ≡ without_span (identifier_tree j))
+identifier_decides i j =
+    Decides-like _ (λ e. cc) (λ e. (ap (λ x. x.value) e, ap (λ x. x.repr) e))
+      (Decides-and _ _ (text_decides i.value j.value) (option_decides string_eq text_of text_decides i.repr j.repr))
+
+mark_decides : (a b : Bool) → Decides (beq a b) (a ≡ b)
+mark_decides true true = (λ e. refl, λ e. refl)
+mark_decides true false = (λ e. cc, λ e. cc)
+mark_decides false true = (λ e. cc, λ e. cc)
+mark_decides false false = (λ e. refl, λ e. refl)
+
+-- formats are equal exactly where all their texts and marks are
+pub format_decides : (f g : KdlEntryFormat) → Decides (format_impl.ghosts.eq f g) (entry_format_tree f ≡ entry_format_tree g)
+format_decides f g =
+    let last = Decides-and _ _ (text_decides f.after_eq g.after_eq) (mark_decides f.autoformat_keep g.autoformat_keep) in
+    let keys = Decides-and _ _ (text_decides f.after_key g.after_key) last in
+    let types = Decides-and _ _ (text_decides f.before_ty_name g.before_ty_name) (Decides-and _ _ (text_decides f.after_ty_name g.after_ty_name) keys) in
+    let ends = Decides-and _ _ (text_decides f.trailing g.trailing) (Decides-and _ _ (text_decides f.after_ty g.after_ty) types) in
+    let all = Decides-and _ _ (text_decides f.value_repr g.value_repr) (Decides-and _ _ (text_decides f.leading g.leading) ends) in
+    Decides-like _
+      (λ (value, (leading, (trailing, (ty, (before, (behind, (key, (eq, mark)))))))). cc)
+      (λ e. (ap (λ x. x.value_repr) e, (ap (λ x. x.leading) e, (ap (λ x. x.trailing) e, (ap (λ x. x.after_ty) e, (ap (λ x. x.before_ty_name) e,
+        (ap (λ x. x.after_ty_name) e, (ap (λ x. x.after_key) e, (ap (λ x. x.after_eq) e, ap (λ x. x.autoformat_keep) e)))))))))
+      all
+
+-- an identifier's tree, wherever it stood
+abbrev spanless : KdlIdentifier → Identifier
+spanless i = without_span (identifier_tree i)
+
+mapped : (o : Option KdlIdentifier) → option_map without_span (option_map identifier_tree o) ≡ option_map spanless o
+mapped None = refl
+mapped (Some i) = refl
+
+name_decides : (o p : Option KdlIdentifier) → Decides (option_eq identifier_impl.ghosts.eq o p)
+    (option_map without_span (option_map identifier_tree o) ≡ option_map without_span (option_map identifier_tree p))
+name_decides o p =
+    Decides-like _ (λ e. mapped o ∙ e ∙ sym (mapped p)) (λ e. sym (mapped o) ∙ e ∙ mapped p)
+      (option_decides identifier_impl.ghosts.eq spanless identifier_decides o p)
+
+-- entries are equal exactly where all but their spans is
+pub entry_decides : (e d : KdlEntry) → Decides (entry_impl.ghosts.eq e d) (without_spans (entry_tree e) ≡ without_spans (entry_tree d))
+entry_decides e d =
+    let format = option_decides format_impl.ghosts.eq entry_format_tree format_decides e.format d.format in
+    let rest = Decides-and _ _ (value_decides e.value d.value) (Decides-and _ _ (name_decides e.name d.name) format) in
+    Decides-like _ (λ (ty, (value, (name, form))). cc)
+      (λ h. (ap (λ x. x.ty) h, (ap (λ x. x.value) h, (ap (λ x. x.name) h, ap (λ x. x.format) h))))
+      (Decides-and _ _ (name_decides e.ty d.ty) rest)

@@ -1,0 +1,36 @@
+//! What `==` means.
+
+ghost use Rattle.kdl_entry.specs.Tree.{identifier_tree, entry_tree, value_tree, entry_format_tree, without_span, without_spans};
+ghost use Rattle.std.specs.Prelude.{◌≡◌, IsTrue, ◌↔◌};
+
+use crate::entry::{KdlEntry, KdlEntryFormat};
+use crate::identifier::KdlIdentifier;
+use crate::value::KdlValue;
+
+/// Two values are equal exactly where they are of one kind and say the same.
+pub fn equal_values(a: &KdlValue, b: &KdlValue) -> bool
+    ensures { IsTrue result ↔ (value_tree a.now ≡ value_tree b.now) }
+{
+    a == b
+}
+
+/// Two formats are equal exactly where all their texts and their marks are.
+pub fn equal_formats(a: &KdlEntryFormat, b: &KdlEntryFormat) -> bool
+    ensures { IsTrue result ↔ (entry_format_tree a.now ≡ entry_format_tree b.now) }
+{
+    a == b
+}
+
+/// Two identifiers are equal exactly where their strings and their spellings are, wherever they stood.
+pub fn equal_identifiers(a: &KdlIdentifier, b: &KdlIdentifier) -> bool
+    ensures { IsTrue result ↔ (without_span (identifier_tree a.now) ≡ without_span (identifier_tree b.now)) }
+{
+    a == b
+}
+
+/// Two entries are equal exactly where all their parts are, wherever they stood.
+pub fn equal_entries(a: &KdlEntry, b: &KdlEntry) -> bool
+    ensures { IsTrue result ↔ (without_spans (entry_tree a.now) ≡ without_spans (entry_tree b.now)) }
+{
+    a == b
+}
