@@ -1,3 +1,4 @@
+pub mod Cutting
 pub mod Equality
 pub mod Fronts
 pub mod Printing

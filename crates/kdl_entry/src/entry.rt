@@ -186,6 +186,25 @@ impl KdlEntry {
         self.format = Some(format);
     }
 
+    /// An entry as it was read: its key and type or none, its value, the texts around them and where it stood.
+    pub fn parsed(
+        ty: Option<KdlIdentifier>,
+        name: Option<KdlIdentifier>,
+        value: KdlValue,
+        format: KdlEntryFormat,
+        span: SourceSpan,
+    ) -> KdlEntry
+        ensures { entry_tree result ≡ record { ty = option_map identifier_tree ty; value = value_tree value; name = option_map identifier_tree name; format = Some (entry_format_tree format); span = span } }
+    {
+        KdlEntry {
+            ty,
+            value,
+            name,
+            format: Some(format),
+            span,
+        }
+    }
+
     /// A property without a type and a format, with the span 0 of length 0.
     pub fn new_prop(name: KdlIdentifier, value: KdlValue) -> KdlEntry
         ensures { entry_tree result ≡ plain_entry (Some (identifier_tree name)) (value_tree value) }

@@ -6,6 +6,7 @@ mod identifier;
 pub mod laws;
 mod print;
 mod spelled;
+pub mod tokens;
 mod value;
 
 pub use entry::{KdlEntry, KdlEntryFormat};

@@ -11,7 +11,9 @@ ghost use Rattle.std.specs.Str.{chars};
 
 use crate::value::KdlValue;
 use kdl_text::chars::{Checkpoint, Class, Cursor, Piece, Steps, is_identifier_char, is_newline_char, is_space, newline};
+use kdl_text::numbers::{begins_number, whole_number};
 use kdl_text::span::SourceSpan;
+use kdl_text::strings::{StringFailure, bare_string, quoted_string};
 use std::alloc::{AllocError, AllocFailed, Global};
 use std::marker::Model;
 
@@ -59,6 +61,93 @@ pub struct Token<'a> {
     pub kind: TokenKind,
     pub start: Checkpoint<'a>,
     pub end: Checkpoint<'a>,
+}
+
+/// A fault at the place.
+fn fault(place: &Checkpoint) -> ReadFailure
+    ensures { IsFaultAt place.now result }
+{
+    ReadFailure::Fault(place.char_span())
+}
+
+/// The number that begins here.
+#[tactic(auto, using(crate::proofs::Lexing::a_number_here, crate::proofs::Lexing::no_number_here))]
+fn number(cursor: &mut Cursor, start: &Checkpoint) -> Result<Option<TokenKind>, ReadFailure>
+    requires { spec.begins_number cursor.old.rest ≡ true }
+    ensures read { ReadsKind cursor.old.rest start.now result cursor.new.rest }
+    ensures moves { Moves cursor.old cursor.new }
+{
+    match whole_number(cursor) {
+        Ok(n) => Ok(Some(TokenKind::Value(KdlValue::Integer(n)))),
+        Err(_) => Err(fault(start)),
+    }
+}
+
+/// The bare string that begins here.
+#[tactic(auto, using(crate::proofs::Lexing::a_bare_here, crate::proofs::Lexing::no_bare_here))]
+fn bare(cursor: &mut Cursor, alloc: Global, start: &Checkpoint) -> Result<Option<TokenKind>, ReadFailure>
+    requires word { starts is_identifier_char cursor.old.rest ≡ true }
+    requires no_number { spec.begins_number cursor.old.rest ≡ false }
+    ensures read { ReadsKind cursor.old.rest start.now result cursor.new.rest }
+    ensures moves { Moves cursor.old cursor.new }
+{
+    match bare_string(cursor) {
+        Some(piece) => Ok(Some(TokenKind::Value(KdlValue::String(piece.to_string(alloc)?)))),
+        None => Err(fault(start)),
+    }
+}
+
+/// The word that begins here: a number or a bare string.
+fn word(cursor: &mut Cursor, alloc: Global, start: &Checkpoint) -> Result<Option<TokenKind>, ReadFailure>
+    requires { starts is_identifier_char cursor.old.rest ≡ true }
+    ensures read { ReadsKind cursor.old.rest start.now result cursor.new.rest }
+    ensures moves { Moves cursor.old cursor.new }
+{
+    if begins_number(cursor) {
+        number(cursor, start)
+    } else {
+        bare(cursor, alloc, start)
+    }
+}
+
+/// The quoted string that begins here.
+#[tactic(auto, using(crate::proofs::Lexing::a_quoted_here, crate::proofs::Lexing::no_quoted_here))]
+fn quoted(cursor: &mut Cursor, alloc: Global, start: &Checkpoint) -> Result<Option<TokenKind>, ReadFailure>
+    requires { begins 34 cursor.old.rest ≡ true }
+    ensures read { ReadsKind cursor.old.rest start.now result cursor.new.rest }
+    ensures moves { Moves cursor.old cursor.new }
+{
+    match quoted_string(alloc, cursor) {
+        Ok(value) => Ok(Some(TokenKind::Value(KdlValue::String(value)))),
+        Err(StringFailure::Fault(_)) => Err(fault(start)),
+        Err(StringFailure::Memory) => Err(ReadFailure::Memory),
+    }
+}
+
+/// What token begins here, which the cursor goes past; none at the end of the text.
+#[tactic(auto, using(crate::proofs::Lexing::at_end, crate::proofs::Lexing::a_semicolon_here, crate::proofs::Lexing::spaces_here, crate::proofs::Lexing::a_newline_here, crate::proofs::Lexing::other_here))]
+fn kind(cursor: &mut Cursor, alloc: Global, start: &Checkpoint) -> Result<Option<TokenKind>, ReadFailure>
+    ensures read { ReadsKind cursor.old.rest start.now result cursor.new.rest }
+    ensures moves { Moves cursor.old cursor.new }
+{
+    match cursor.look() {
+        None => Ok(None),
+        Some(';') => {
+            cursor.step();
+            Ok(Some(TokenKind::Semicolon))
+        }
+        Some('"') => quoted(cursor, alloc, start),
+        Some(c) if is_space(c) => {
+            cursor.skip(Class::Space);
+            Ok(Some(TokenKind::Space))
+        }
+        Some(c) if is_newline_char(c) => {
+            let _ = newline(cursor);
+            Ok(Some(TokenKind::Newline))
+        }
+        Some(c) if is_identifier_char(c) => word(cursor, alloc, start),
+        Some(_) => Err(fault(start)),
+    }
 }
 
 /// The tokens of a text, one at a time.
@@ -113,6 +202,10 @@ impl<'a> Lexer<'a> {
         ensures lexed { Lexed self.old result self.new }
         ensures moves { Moves self.old self.new }
     {
-        Err(ReadFailure::Memory)
+        let start = self.cursor.checkpoint();
+        match kind(&mut self.cursor, alloc, &start)? {
+            Some(kind) => Ok(Some(Token { kind, start, end: self.cursor.checkpoint() })),
+            None => Ok(None),
+        }
     }
 }
