@@ -1,16 +1,14 @@
 -- Bare strings: a text begins with one at most, and the reader's cases.
-use Rattle.std.proofs.Common.{◌≡◌, ℕ, ◌+◌, ◌*◌, ◌<◌, ◌≤◌, Bool, true, false, not, ◌&&◌, ◌||◌, ◌==◌, if◌then◌else◌, List, [], ◌∷◌, ◌++◌, length, IsTrue, refl, sym, ap, ◌∙◌, subst, arith, append_assoc, length-append}
+use Rattle.std.proofs.Common.{◌≡◌, ℕ, ◌<◌, Bool, true, false, not, ◌&&◌, ◌||◌, [], ◌∷◌, ◌++◌, length, IsTrue, refl, sym, ap, ◌∙◌, subst, arith, append_assoc, length-append}
 use Rattle.std.proofs.lemmas.Bool.{and_parts, false≢true}
 use Rattle.std.proofs.lemmas.Bool.Decides.{nat_tests}
 use Rattle.std.proofs.lemmas.List.{append_cancel_right}
 use Rattle.std.proofs.lemmas.List.Folds.{list_all-append}
-use Rattle.std.proofs.lemmas.Str.{len_utf8_bounds}
 use Rattle.std.specs.List.{list_all}
-use Rattle.std.specs.Prelude.{Some}
 use Rattle.std.specs.Str.{bytes_eq}
 use Rattle.kdl_text.specs.Chars.{Text, is_space, is_newline_char, is_banned, is_mark, is_identifier_char, is_digit, is_sign, begins, starts}
-use Rattle.kdl_text.specs.Bare.{BareString, bare, is_bare, bare_form, is_excluded, after_sign, after_point}
-use Rattle.kdl_text.specs.Here.{Here, Took, Ate, Skips, Ran, looked, sliced, bytes, raise}
+use Rattle.kdl_text.specs.Bare.{BareString, bare, is_bare, bare_form, is_excluded}
+use Rattle.kdl_text.specs.Here.{Here, Ate, Skips, looked, sliced, bytes}
 use Rattle.kdl_text.specs.Reading.{Moves, Costs}
 use Rattle.kdl_text.specs.Strings.{Run}
 use Rattle.kdl_text.proofs.Going.{moves_then, moves_looked, costs_then, stayed_looked, bytes-append}

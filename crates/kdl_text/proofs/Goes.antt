@@ -1,5 +1,5 @@
 -- How a reader of a value goes on: what has been read of it, and what is to come.
-use Rattle.std.proofs.Common.{◌≡◌, List, [], ◌++◌, refl, ap, sym, ◌∙◌, append_assoc, append-nil, subst}
+use Rattle.std.proofs.Common.{◌≡◌, [], ◌++◌, refl, ap, sym, ◌∙◌, append_assoc, append-nil, subst}
 use Rattle.kdl_text.specs.Chars.{Text}
 
 -- an X from s stands for `out`, and then for what an X from t stands for

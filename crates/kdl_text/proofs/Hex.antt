@@ -1,5 +1,5 @@
 -- The loop over the digits of an escape.
-use Rattle.std.proofs.Common.{◌≡◌, ℕ, zero, suc, ◌+◌, ◌*◌, ◌<◌, ◌≤◌, ◌^◌, Bool, true, false, ◌&&◌, ◌==◌, ◌↔◌, IsTrue, List, [], ◌∷◌, ◌++◌, length, refl, sym, ap, subst, ◌∙◌, arith, append_assoc, append-nil, length-append, lt-ltb, add-one}
+use Rattle.std.proofs.Common.{◌≡◌, ℕ, zero, suc, ◌+◌, ◌*◌, ◌<◌, ◌≤◌, ◌^◌, true, false, [], ◌∷◌, ◌++◌, length, refl, sym, ap, subst, ◌∙◌, arith, append_assoc, append-nil, length-append, lt-ltb, add-one}
 use Rattle.std.proofs.lemmas.Bool.{and_parts, false≢true}
 use Rattle.std.proofs.lemmas.Bool.Decides.{nat_tests}
 use Rattle.std.proofs.Math.Nat.{pow-succ'}
@@ -7,10 +7,10 @@ use Rattle.std.proofs.lemmas.List.Folds.{list_all-append}
 use Rattle.std.specs.List.{list_all}
 use Rattle.std.specs.Prelude.{Option, Some, None, IfSome, IfNone}
 use Rattle.std.specs.Option.{SomeIff}
-use Rattle.std.specs.Char.{is_digit, digit_value, IsScalar}
+use Rattle.std.specs.Char.{digit_value, IsScalar}
 use Rattle.std.specs.Str.Parse.{digits_value, digits_value_after}
 use Rattle.kdl_text.specs.Chars.{Text, is_scalar}
-use Rattle.kdl_text.specs.Here.{Here, Took, bytes, raise}
+use Rattle.kdl_text.specs.Here.{Here, Took}
 use Rattle.kdl_text.specs.Reading.{Moves, Costs}
 use Rattle.kdl_text.specs.Strings.{HexNumber, is_hex}
 use Rattle.kdl_text.proofs.Going.{stays, moves_then, moves_one, costs_then}
@@ -124,7 +124,12 @@ pub record Digits (f a : Here) (value count : ℕ) : Type 0 where
 
 pub digits_begin : (f : Here) → Digits f f 0 0
 digits_begin f = record {
-  digits = []; all = refl; value_is = refl; count_is = refl; few = omega arith; low = omega arith;
+  digits = [];
+  all = refl;
+  value_is = refl;
+  count_is = refl;
+  few = omega arith;
+  low = omega arith;
   to = λ r c k. record { digits = k.digits; text = k.text; all = k.all; some = k.some; few = k.few; value = k.value; scalar = k.scalar };
   from = λ r c k. record { digits = k.digits; text = k.text; all = k.all; some = k.some; few = k.few; value = k.value; scalar = k.scalar };
   moves = stays f;
@@ -192,14 +197,14 @@ module _ (f a b : Here) (value count : ℕ) (i : Digits f a value count) where
       let hex : is_hex d ≡ true = lt-ltb _ _ fits in
       let k = past d t in
       record {
-      digits = i.digits ++ d ∷ [];
-      all = rw (list_all-append is_hex i.digits (d ∷ []), i.all, hex) refl;
-      value_is = rw (is, i.value_is) (sym (value_after i.digits d 0));
-      count_is = omega (arith, i.count_is, length-append i.digits (d ∷ []));
-      few = omega (arith, i.few);
-      low = rw is (pow_more count value (digit_value d) i.low fits);
-      to = λ r c n. step_to i.digits d b.rest r c hex (at_tail d t r c n);
-      from = λ r c n. i.from r c (subst (λ z. HexTail i.digits z r c) (sym t.0) (step_from i.digits d b.rest r c hex n));
-      moves = k.0;
-      costs = k.1;
-    }
+        digits = i.digits ++ d ∷ [];
+        all = rw (list_all-append is_hex i.digits (d ∷ []), i.all, hex) refl;
+        value_is = rw (is, i.value_is) (sym (value_after i.digits d 0));
+        count_is = omega (arith, i.count_is, length-append i.digits (d ∷ []));
+        few = omega (arith, i.few);
+        low = rw is (pow_more count value (digit_value d) i.low fits);
+        to = λ r c n. step_to i.digits d b.rest r c hex (at_tail d t r c n);
+        from = λ r c n. i.from r c (subst (λ z. HexTail i.digits z r c) (sym t.0) (step_from i.digits d b.rest r c hex n));
+        moves = k.0;
+        costs = k.1;
+      }

@@ -1,16 +1,16 @@
 -- The loop over the units of a quoted string.
-use Rattle.std.proofs.Common.{◌≡◌, ℕ, ◌+◌, ◌<◌, ◌≤◌, Bool, true, false, List, [], ◌∷◌, ◌++◌, length, refl, sym, ap, ◌∙◌, subst, arith}
+use Rattle.std.proofs.Common.{◌≡◌, ℕ, false, ◌∷◌, ◌++◌, length, sym, ap, ◌∙◌, subst, arith}
 use Rattle.std.proofs.lemmas.Str.{len_utf8_bounds}
 use Rattle.std.proofs.lemmas.List.{append_cancel_right}
 use Rattle.std.specs.Prelude.{Some, None, Result, Ok, Err, IfOk, MatchResult}
 use Rattle.std.specs.Result.{IsErrAnd}
 use Rattle.kdl_text.specs.Chars.{Text, is_literal, starts}
-use Rattle.kdl_text.specs.Here.{Here, Took, bytes, raise}
+use Rattle.kdl_text.specs.Here.{Here, Took, bytes}
 use Rattle.kdl_text.specs.Reading.{Moves, Costs}
 use Rattle.kdl_text.specs.Strings.{StringUnit, unit_value, Run, IsUnit, QuotedBody, QuotedString, quoted}
-use Rattle.kdl_text.proofs.Going.{stays, moves_then, moves_one, costs_then, fewer_bytes, shorter}
-use Rattle.kdl_text.proofs.Goes.{Goes, goes_start, goes_then, goes_end, goes_none}
-use Rattle.kdl_text.proofs.Slices.{costs_took, ended}
+use Rattle.kdl_text.proofs.Going.{moves_then, moves_one, fewer_bytes}
+use Rattle.kdl_text.proofs.Goes.{Goes, goes_then, goes_end, goes_none}
+use Rattle.kdl_text.proofs.Slices.{costs_took}
 use Rattle.kdl_text.proofs.Units.{goes_unit, goes_literals, body_done, body_end, body_empty, body_none, body_unit, unit_front}
 
 -- the string read so far, up to no literal character
@@ -60,9 +60,10 @@ module _ (f a : Here) (out : Text) (i : Reading f a out) where
   pub reading_fails : (c : ℕ) (b d : Here) → Took (Some c) a b → Moves b d → Costs 1 1 b d → Moves f d × Costs 3 0 f d
   reading_fails c b d took m k =
       let x1 = fewer_bytes m in
-      let w = costs_took took in
-      (moves_then i.moves (moves_then (moves_one took) m),
-       record { most = omega (arith, i.costs.most, ap bytes took.0, took.2, (len_utf8_bounds c).0, k.most); least = omega (arith, i.costs.least, w.least, k.least) })
+      let w = costs_took took in (
+        moves_then i.moves (moves_then (moves_one took) m),
+        record { most = omega (arith, i.costs.most, ap bytes took.0, took.2, (len_utf8_bounds c).0, k.most); least = omega (arith, i.costs.least, w.least, k.least) },
+      )
 
   pub reading_runs_out : (c : ℕ) (b d e : Here) → Took (Some c) a b → Moves b d → Costs 1 1 b d → Moves d e → Costs 2 1 d e → Moves f e × Costs 3 2 f e
   reading_runs_out c b d e took m k n l =

@@ -1,11 +1,13 @@
 -- Runs and slices: what they cost.
-use Rattle.std.proofs.Common.{◌≡◌, ℕ, ◌+◌, ◌*◌, ◌<◌, ◌≤◌, Bool, true, false, List, [], ◌∷◌, ◌++◌, length, refl, sym, ap, ◌∙◌, arith, length-append}
-use Rattle.std.specs.Prelude.{Some, None}
+use Rattle.std.proofs.Common.{◌≡◌, ℕ, List, Bool, true, false, ◌++◌, length, refl, ap, ◌∙◌, arith, length-append}
+use Rattle.std.specs.Prelude.{Some, None, Result, Ok, Err, is_ok, IfOk, if◌then◌else◌}
+use Rattle.std.specs.Str.{chars, IsUtf8}
+use Rattle.std.proofs.lemmas.Str.{chars-append}
 use Rattle.kdl_text.specs.Chars.{Text}
-use Rattle.kdl_text.specs.Here.{Here, Took, Ate, Ran, Skips, Behind, looked, sliced, bytes, raise}
+use Rattle.kdl_text.specs.Here.{Here, Took, Ate, Ran, Skips, looked, sliced, bytes}
 use Rattle.kdl_text.specs.Reading.{Moves, Costs}
 use Rattle.kdl_text.specs.Strings.{Run}
-use Rattle.kdl_text.proofs.Going.{moves_one, moves_then, moves_stayed, stays, stayed_looked, bytes-append, fewer_bytes, shorter}
+use Rattle.kdl_text.proofs.Going.{moves_one, moves_stayed, stayed_looked, bytes-append}
 use Rattle.kdl_text.proofs.Runs.{length-bytes}
 use Rattle.std.proofs.lemmas.Str.{len_utf8_bounds}
 
@@ -29,9 +31,9 @@ pub costs_sliced : (c : ℕ) (x : Text) (f a b : Here) → b ≡ sliced x a → 
 costs_sliced c x f a b e t i =
     let s = ap (λ z. z.steps) e in let r = ap (λ z. z.rest) e in
     record {
-    most = omega (arith, s, ap bytes r, ap bytes t, bytes-append x a.rest, i.most);
-    least = omega (arith, s, ap length r, i.least);
-  }
+      most = omega (arith, s, ap bytes r, ap bytes t, bytes-append x a.rest, i.most);
+      least = omega (arith, s, ap length r, i.least);
+    }
 
 pub costs_took : {c : ℕ} {a b : Here} → Took (Some c) a b → Costs 1 0 a b
 costs_took {c = c} (r, at, s) = record { most = omega (arith, ap bytes r, s, (len_utf8_bounds c).0); least = omega (arith, ap length r, s) }
@@ -55,7 +57,12 @@ pub record Sliced (p : ℕ → Bool) (x : Text) (a e : Here) : Type 0 where
 pub ran_sliced : (p : ℕ → Bool) (x : Text) (a m e : Here) → Skips p a m → a.rest ≡ x ++ m.rest → e ≡ sliced x m → Sliced p x a e
 ran_sliced p x a m e (run, r) t s =
     rw s (record {
-    run = run_ran r;
-    moves = moves_sliced x a m (sliced x m) refl (moves_ran r);
-    costs = costs_sliced 1 x a m (sliced x m) refl t (costs_ran r);
-  })
+      run = run_ran r;
+      moves = moves_sliced x a m (sliced x m) refl (moves_ran r);
+      costs = costs_sliced 1 x a m (sliced x m) refl t (costs_ran r);
+    })
+
+-- a text behind a text
+pub pushed : {T E : Type 0} (r : Result T E) (a n t x : List ℕ) → IsUtf8 a → n ≡ (if is_ok r then a ++ t else a) → chars t ≡ x → IfOk r (λ _. chars n ≡ chars a ++ x)
+pushed (Ok v) a n t x u e h = ap chars e ∙ chars-append a t u ∙ ap (λ z. chars a ++ z) h
+pushed (Err v) a n t x u e h = tt

@@ -1,6 +1,5 @@
 use Rattle.std.proofs.Common.{◌≡◌, ℕ, ◌+◌, ◌-◌, ◌≤◌, List, [], ◌∷◌, ◌++◌, length, take, sym, ap, ◌∙◌, subst, arith, length-append, refl}
-use Rattle.std.specs.Prelude.{Result, Ok, Err, is_ok, IfOk, if◌then◌else◌}
-use Rattle.std.proofs.lemmas.Str.{chars-append, encodes-chars, encodes-append, IsCharBoundary-at_seam, length-encode}
+use Rattle.std.proofs.lemmas.Str.{encodes-chars, encodes-append, IsCharBoundary-at_seam, length-encode}
 use Rattle.std.proofs.Math.Seq.{take-append_seam}
 use Rattle.std.specs.Str.{chars, IsUtf8, IsCharBoundary}
 use lib.Utf8.{encodes, encode}
@@ -39,8 +38,3 @@ bytes-encodes (c ∷ cs) = omega (arith, length-append (encode c) (encodes cs), 
 
 pub bytes-chars : (bs : List ℕ) → IsUtf8 bs → bytes (chars bs) ≡ length bs
 bytes-chars bs u = bytes-encodes (chars bs) ∙ ap length (encodes-chars bs u)
-
--- a text behind a text
-pub pushed : {T E : Type 0} (r : Result T E) (a n t : List ℕ) (x : List ℕ) → IsUtf8 a → n ≡ (if is_ok r then a ++ t else a) → chars t ≡ x → IfOk r (λ _. chars n ≡ chars a ++ x)
-pushed (Ok v) a n t x u e h = ap chars e ∙ chars-append a t u ∙ ap (λ z. chars a ++ z) h
-pushed (Err v) a n t x u e h = tt

@@ -1,12 +1,12 @@
 -- Units of quoted strings: a text begins with one at most.
-use Rattle.std.proofs.Common.{◌≡◌, ℕ, ◌+◌, ◌<◌, ◌≤◌, Bool, true, false, ◌&&◌, ◌||◌, ◌==◌, List, [], ◌∷◌, ◌++◌, length, refl, sym, ap, ◌∙◌, subst, arith, length-append}
+use Rattle.std.proofs.Common.{◌≡◌, ℕ, ◌<◌, ◌≤◌, Bool, true, false, ◌==◌, List, [], ◌∷◌, ◌++◌, length, refl, sym, ap, ◌∙◌, subst, arith, length-append}
 use Rattle.std.proofs.lemmas.Bool.{and_parts, false≢true}
 use Rattle.std.proofs.lemmas.Bool.Decides.{nat_tests}
 use Rattle.std.specs.List.{list_all}
-use Rattle.std.specs.Prelude.{Option, Some, None}
+use Rattle.std.specs.Prelude.{Some}
 use Rattle.std.specs.Str.Parse.{digits_value}
-use Rattle.kdl_text.specs.Chars.{Text, is_space, is_newline_char, is_banned, is_literal, starts}
-use Rattle.kdl_text.specs.Strings.{StringUnit, literal, escape, spaces, unit_value, values, is_blank, is_hex, letter_escape, HexNumber, Run, IsUnit, one_literal, one_letter, one_number, one_gap, AreUnits, none, more, QuotedBody, body, QuotedString, quoted}
+use Rattle.kdl_text.specs.Chars.{Text, is_space, is_newline_char, is_literal, starts}
+use Rattle.kdl_text.specs.Strings.{StringUnit, escape, unit_value, values, is_blank, is_hex, letter_escape, HexNumber, Run, IsUnit, one_literal, one_letter, one_number, one_gap, AreUnits, none, more, QuotedBody, body, QuotedString, quoted}
 use Rattle.kdl_text.proofs.Goes.{Goes, goes_start, goes_then}
 
 -- runs of a class from one place are the same

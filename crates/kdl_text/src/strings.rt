@@ -4,12 +4,13 @@
 
 ghost use Rattle.kdl_text.specs.Bare as bare;
 ghost use Rattle.kdl_text.specs.Bare.{BareString};
-ghost use Rattle.kdl_text.specs.Chars.{Text, is_digit, is_identifier_char, is_literal, is_sign, starts, within};
+ghost use Rattle.kdl_text.specs.Chars.{Text, is_digit, is_identifier_char, is_literal, is_newline_char, is_sign, starts, within};
 ghost use Rattle.kdl_text.specs.Here.{looked};
 ghost use Rattle.kdl_text.specs.Reading.{Moves, Costs};
 ghost use Rattle.kdl_text.specs.Strings as spec;
 ghost use Rattle.kdl_text.specs.Strings.{QuotedBody, QuotedString, StringUnit, IsUnit, HexNumber, Run, unit_value};
 ghost use Rattle.kdl_text.specs.declared.chars.Class.TheVariants.{Literal};
+ghost use Rattle.kdl_text.specs.declared.strings.StringFault.TheVariants.{Newline, Banned};
 ghost use Rattle.kdl_text.specs.declared.strings.StringFailure.TheVariants.{Memory};
 ghost use Rattle.std.specs.Prelude.{◌≡◌, ◌&&◌, ◌||◌, [], not, ℕ, true, false, IsTrue, ◌∷◌, ◌++◌, MatchOption, MatchResult, IfSome, IfNone, IfOk, IfErr, string_bytes};
 ghost use Rattle.std.specs.List.{list_all};
@@ -61,7 +62,11 @@ fn is_word(piece: &Piece, word: &str) -> bool
 fn is_excluded(piece: &Piece) -> bool
     ensures { result ≡ bare.is_excluded piece.now }
 {
-    is_word(piece, "true") || is_word(piece, "false") || is_word(piece, "null") || is_word(piece, "inf") || is_word(piece, "nan")
+    is_word(piece, "true")
+        || is_word(piece, "false")
+        || is_word(piece, "null")
+        || is_word(piece, "inf")
+        || is_word(piece, "nan")
 }
 
 fn eat_sign(cursor: &mut Cursor) -> bool
@@ -222,7 +227,7 @@ fn escape(cursor: &mut Cursor, out: &mut String) -> Result<(), StringFailure>
 
 /// The characters from here on that stand for themselves.
 fn literal_run<'a>(cursor: &mut Cursor<'a>) -> Piece<'a>
-    ensures run { Run is_literal cursor.old.rest cursor.new.rest } 
+    ensures run { Run is_literal cursor.old.rest cursor.new.rest }
     ensures result { cursor.old.rest ≡ result ++ cursor.new.rest }
     ensures moves { Moves cursor.old cursor.new }
     ensures costs { Costs 2 1 cursor.old cursor.new }
@@ -233,8 +238,15 @@ fn literal_run<'a>(cursor: &mut Cursor<'a>) -> Piece<'a>
 }
 
 /// Why the character may not stand in a quoted string.
-fn fault_at(c: char) -> StringFault {
-    if is_newline_char(c) { StringFault::Newline } else { StringFault::Banned }
+fn fault_at(c: char) -> StringFault
+    ensures newline { is_newline_char c ≡ true → result ≡ Newline }
+    ensures banned { is_newline_char c ≡ false → result ≡ Banned }
+{
+    if is_newline_char(c) {
+        StringFault::Newline
+    } else {
+        StringFault::Banned
+    }
 }
 
 /// The units of a quoted string and its closing quote.

@@ -23,11 +23,11 @@ fn faulty(alloc: Global, text: &str, fault: StringFault) -> bool {
     }
 }
 
-/// Whether a bare string begins the text and leaves `rest`.
-fn bare(text: &str, rest: usize) -> bool {
+/// Whether a bare string begins the text and ends behind so many bytes.
+fn bare(text: &str, end: usize) -> bool {
     let mut cursor = Cursor::new(text, Steps::new());
     match bare_string(&mut cursor) {
-        Some(_) => cursor.at() + rest == text.len(),
+        Some(_) => cursor.at() == end,
         None => false,
     }
 }
@@ -38,7 +38,13 @@ fn escapes(rt: HostRuntime) -> Result<(), Fail> {
     assert!(rt; reads(alloc, "\"\"", ""));
     assert!(rt; reads(alloc, "\"a b\" c", "a b"));
     assert!(rt; reads(alloc, r#""\\\"\b\f\n\r\t\s/""#, "\\\"\u{8}\u{c}\n\r\t /"));
-    assert!(rt; reads(alloc, r#""\u{10FFFF}\u{e9}\u{00000a}""#, "\u{10FFFF}\u{e9}\n"));
+    assert!(rt;
+        reads(
+            alloc,
+            r#""\u{10FFFF}\u{e9}\u{00000a}""#,
+            "\u{10FFFF}\u{e9}\n"
+        )
+    );
     assert!(rt; reads(alloc, "\"a\\ \r\n  b\"", "ab"));
     Ok(())
 }
@@ -64,9 +70,35 @@ fn refusals(rt: HostRuntime) -> Result<(), Fail> {
 
 #[test]
 fn bares(rt: HostRuntime) -> Result<(), Fail> {
-    assert!(rt; bare("a-b.c d", 2) && bare("a[b", 2) && bare("a]", 1) && bare("+", 0) && bare("-", 0) && bare(".", 0));
-    assert!(rt; bare("+. ", 1) && bare("-a=", 1) && bare(".a", 0) && bare("true1", 0) && bare("a\u{feff}", 3));
-    assert!(rt; !bare("true", 0) && !bare("false", 0) && !bare("null", 0) && !bare("inf", 0) && !bare("nan", 0));
-    assert!(rt; !bare(".5", 0) && !bare("-.5", 0) && !bare("+5", 0) && !bare("5a", 0) && !bare("", 0) && !bare(" a", 0));
+    assert!(rt;
+        bare("a-b.c d", 5)
+            && bare("a[b", 1)
+            && bare("a]", 1)
+            && bare("+", 1)
+            && bare("-", 1)
+            && bare(".", 1)
+    );
+    assert!(rt;
+        bare("+. ", 2)
+            && bare("-a=", 2)
+            && bare(".a", 2)
+            && bare("true1", 5)
+            && bare("a\u{feff}", 1)
+    );
+    assert!(rt;
+        !bare("true", 4)
+            && !bare("false", 5)
+            && !bare("null", 4)
+            && !bare("inf", 3)
+            && !bare("nan", 3)
+    );
+    assert!(rt;
+        !bare(".5", 2)
+            && !bare("-.5", 3)
+            && !bare("+5", 2)
+            && !bare("5a", 2)
+            && !bare("", 0)
+            && !bare(" a", 0)
+    );
     Ok(())
 }

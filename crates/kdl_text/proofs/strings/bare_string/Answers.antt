@@ -1,4 +1,4 @@
-use Rattle.std.proofs.Common.{sym, ap, subst, ◌∙◌}
+use Rattle.std.proofs.Common.{sym, ◌∙◌}
 use Rattle.kdl_text.proofs.Bares.{past_moves, bare_past, past_run, past_found, past_only, past_none, past_cost}
 use Rattle.kdl_text.proofs.strings.bare_string.Goals as goal
 

@@ -1,5 +1,3 @@
-use Rattle.std.proofs.Common.{ap, ◌∙◌}
-use Rattle.std.specs.Prelude.{Some}
 use Rattle.kdl_text.proofs.Going.{took_from, moves_one}
 use Rattle.kdl_text.proofs.strings.eat_sign.Goals as goal
 

@@ -1,4 +1,4 @@
-use Rattle.std.proofs.Common.{sym, ◌∙◌, refl, append-nil}
+use Rattle.std.proofs.Common.{sym, ◌∙◌, append-nil}
 use Rattle.std.proofs.lemmas.Str.{IsUtf8-string_bytes}
 use Rattle.kdl_text.specs.Strings.{spaces}
 use Rattle.kdl_text.proofs.Going.{moves_then, moves_one}

@@ -1,4 +1,3 @@
-use Rattle.std.proofs.Common.{sym, ◌∙◌, refl}
 use Rattle.kdl_text.proofs.Going.{moves_then, moves_one}
 use Rattle.kdl_text.proofs.Escapes.{number_found, number_none, brace_none, letter_found, letter_none}
 use Rattle.kdl_text.proofs.strings.escaped_char.Goals as goal
