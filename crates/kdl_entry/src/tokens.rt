@@ -78,7 +78,7 @@ fn number(cursor: &mut Cursor, start: &Checkpoint) -> Result<Option<TokenKind>, 
     ensures moves { Moves cursor.old cursor.new }
 {
     match whole_number(cursor) {
-        Ok(n) => Ok(Some(TokenKind::Value(KdlValue::Integer(n)))),
+        Ok(n) => Ok(Some(TokenKind::Value(KdlValue::from(n)))),
         Err(_) => Err(fault(start)),
     }
 }
@@ -125,7 +125,7 @@ fn quoted(cursor: &mut Cursor, alloc: Global, start: &Checkpoint) -> Result<Opti
 }
 
 /// What token begins here, which the cursor goes past; none at the end of the text.
-#[tactic(auto, using(crate::proofs::Lexing::at_end, crate::proofs::Lexing::a_semicolon_here, crate::proofs::Lexing::spaces_here, crate::proofs::Lexing::a_newline_here, crate::proofs::Lexing::other_here))]
+#[tactic(auto, using(crate::proofs::Lexing::at_end, crate::proofs::Lexing::a_semicolon_here, crate::proofs::Lexing::spaces_here, crate::proofs::Lexing::a_newline_here, crate::proofs::Lexing::other_here, crate::proofs::Lexing::begins_quote, crate::proofs::Lexing::begins_word, crate::proofs::Lexing::same_place, crate::proofs::Lexing::step_moves, crate::proofs::Lexing::skip_moves))]
 fn kind(cursor: &mut Cursor, alloc: Global, start: &Checkpoint) -> Result<Option<TokenKind>, ReadFailure>
     ensures read { ReadsKind cursor.old.rest start.now result cursor.new.rest }
     ensures moves { Moves cursor.old cursor.new }
