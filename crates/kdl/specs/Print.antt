@@ -85,3 +85,7 @@ abbrev mutual
 
   pub print_document : Document → ℕ → Text
   print_document (document f span ns) depth = leading_text f ++ print_nodes ns depth ++ trailing_text f
+
+-- a child document between its braces
+abbrev pub print_block : Document → ℕ → Text
+print_block d depth = (123 ∷ after_brace (format_of d)) ++ print_document d (depth + 1) ++ before_brace (format_of d) depth ++ (125 ∷ [])

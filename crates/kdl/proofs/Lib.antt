@@ -1,0 +1,4 @@
+pub mod Printing
+pub mod Same
+pub mod Trees
+pub mod Writing

@@ -1,0 +1,89 @@
+-- The trees of a node and of a document, by their fields.
+use Rattle.std.proofs.Common.{◌≡◌, ℕ, List, [], ◌∷◌, ◌++◌, map, ap, ◌∙◌, refl, Option, None, Some, option_map, length, ◌≤◌, take}
+use Rattle.std.proofs.lemmas.List.{take_all, map-append}
+use Rattle.std.specs.Option.{MatchOption, IsSomeAnd}
+use Rattle.std.specs.List.{AllZip}
+use Rattle.kdl_entry.specs.declared.entry.KdlEntry.{KdlEntry}
+use Rattle.kdl_entry.specs.Tree.{identifier_tree, entry_tree}
+use Rattle.kdl.specs.Tree.{Document, document, Node, node, Nodes, none, first, join, nodes_of, children_of, head_tree, document_step, node_step, document_tree, node_tree, nodes_tree, document_format_tree, node_format_tree}
+use Rattle.kdl.specs.declared.node.KdlNode.{KdlNode}
+use Rattle.kdl.specs.declared.document.KdlDocument.{KdlDocument}
+use Rattle.kdl.specs.declared.document.KdlDocument.TheOpen.{KdlNode-F, KdlDocument-F}
+use Rattle.kdl.specs.declared.document.KdlDocument.TheViews.{out-KdlDocument, out-KdlNode, roll-KdlDocument, roll-KdlNode}
+use Rattle.kdl.specs.declared.document.KdlDocument.TheFolds.{map-KdlNode, fold_out-KdlDocument, fold_out-KdlNode, fold-roll-KdlDocument, fold-roll-KdlNode}
+
+-- the fields of a node, and of a document
+abbrev pub NodeFields : Type 0
+NodeFields = KdlNode-F KdlDocument KdlNode
+
+abbrev pub DocumentFields : Type 0
+DocumentFields = KdlDocument-F KdlDocument KdlNode
+
+-- the trees of such fields
+abbrev pub document_of : DocumentFields → Document
+document_of x = document (option_map document_format_tree x.format) x.span (nodes_tree x.nodes.items)
+
+abbrev pub node_of : NodeFields → Node
+node_of x = node (head_tree x) (children_of (option_map document_tree x.children))
+
+abbrev mapped : NodeFields → KdlNode-F Document Node
+mapped = map-KdlNode KdlDocument KdlNode Document Node document_tree node_tree
+
+step_mapped : (x : NodeFields) → node_step (mapped x) ≡ node_of x
+step_mapped x =
+    elim x.children as (λ o. node_step (mapped (record x { children = o })) ≡ node_of (record x { children = o })) [ None ↦ refl | Some c ↦ refl ]
+
+pub document_tree_out : (x : KdlDocument) → document_tree x ≡ document_of (out-KdlDocument x)
+document_tree_out x = fold_out-KdlDocument Document Node document_step node_step x
+
+pub document_tree_roll : (x : DocumentFields) → document_tree (roll-KdlDocument x) ≡ document_of x
+document_tree_roll x = fold-roll-KdlDocument Document Node document_step node_step x
+
+pub node_tree_out : (x : KdlNode) → node_tree x ≡ node_of (out-KdlNode x)
+node_tree_out x = fold_out-KdlNode Document Node document_step node_step x ∙ step_mapped (out-KdlNode x)
+
+pub node_tree_roll : (x : NodeFields) → node_tree (roll-KdlNode x) ≡ node_of x
+node_tree_roll x = fold-roll-KdlNode Document Node document_step node_step x ∙ step_mapped x
+
+-- nodes with more nodes behind them
+pub nodes_of-append : (xs ys : List Node) → nodes_of (xs ++ ys) ≡ join (nodes_of xs) (nodes_of ys)
+nodes_of-append [] ys = refl
+nodes_of-append (x ∷ xs) ys = ap (first x) (nodes_of-append xs ys)
+
+pub nodes_tree-append : (xs ys : List KdlNode) → nodes_tree (xs ++ ys) ≡ join (nodes_tree xs) (nodes_tree ys)
+nodes_tree-append xs ys = ap nodes_of (map-append node_tree xs ys) ∙ nodes_of-append (map node_tree xs) (map node_tree ys)
+
+pub nodes_tree_more : (xs : List KdlNode) (x : KdlNode) → nodes_tree (xs ++ x ∷ []) ≡ join (nodes_tree xs) (first (node_tree x) none)
+nodes_tree_more xs x = nodes_tree-append xs (x ∷ [])
+
+pub join_none : (ns : Nodes) → join ns none ≡ ns
+join_none none = refl
+join_none (first n ns) = ap (first n) (join_none ns)
+
+pub join_assoc : (ns ms ks : Nodes) → join (join ns ms) ks ≡ join ns (join ms ks)
+join_assoc none ms ks = refl
+join_assoc (first n ns) ms ks = ap (first n) (join_assoc ns ms ks)
+
+-- clones have the same trees
+pub option_cloned : {A B : Type 0} (f : A → B) (o p : Option A) → MatchOption o (p ≡ None) (λ x. IsSomeAnd p (λ y. f y ≡ f x)) → option_map f p ≡ option_map f o
+option_cloned f None p h = ap (option_map f) h
+option_cloned f (Some x) None h = absurd h
+option_cloned f (Some x) (Some y) h = ap Some h
+
+pub entries_cloned : (xs ys : List KdlEntry) → AllZip (λ x y. entry_tree y ≡ entry_tree x) xs ys → map entry_tree ys ≡ map entry_tree xs
+entries_cloned [] [] h = refl
+entries_cloned [] (y ∷ ys) h = absurd h
+entries_cloned (x ∷ xs) [] h = absurd h
+entries_cloned (x ∷ xs) (y ∷ ys) h = rw (h.0, entries_cloned xs ys h.1) refl
+
+pub all_taken : (i : ℕ) (xs ys : List KdlNode) → length xs ≤ i → xs ≡ ys → map node_tree (take i xs) ≡ map node_tree ys
+all_taken i xs ys h e = rw (take_all i xs h, e) refl
+
+pub same_document : (x y : DocumentFields) → option_map document_format_tree x.format ≡ option_map document_format_tree y.format → x.span ≡ y.span
+    → map node_tree x.nodes.items ≡ map node_tree y.nodes.items → document_of x ≡ document_of y
+same_document x y f s n = rw (f, s, n) refl
+
+pub same_node : (x y : NodeFields) → option_map identifier_tree x.ty ≡ option_map identifier_tree y.ty → identifier_tree x.name ≡ identifier_tree y.name
+    → map entry_tree x.entries.items ≡ map entry_tree y.entries.items → option_map node_format_tree x.format ≡ option_map node_format_tree y.format
+    → x.span ≡ y.span → children_of (option_map document_tree x.children) ≡ children_of (option_map document_tree y.children) → node_of x ≡ node_of y
+same_node x y t n e f s c = rw (t, n, e, f, s, c) refl

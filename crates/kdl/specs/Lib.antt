@@ -1,0 +1,4 @@
+pub mod Data
+pub mod Print
+pub mod Same
+pub mod Tree
