@@ -2,7 +2,7 @@
 use Rattle.std.proofs.Common.{◌≡◌, ◌↔◌, List, [], ◌∷◌, Option, Some, None, refl, sym, ap, subst, ◌∙◌}
 use Rattle.kdl_text.specs.Chars.{Text, Space, Star, none, more, Plus, plus}
 use Rattle.kdl_entry.specs.Tokens.{Token, space, BeginsToken, a_space, Cuts, one, run}
-use Rattle.kdl.proofs.TokenHoles.{token_det, no_token}
+use Rattle.kdl_entry.proofs.Cutting.{token_det, no_token}
 use Rattle.kdl.specs.Tree.{Document}
 use Rattle.kdl.specs.Machine.{State, gap, fresh, spaced, Phase, Under, move, step, finish, Runs, stops, reads}
 

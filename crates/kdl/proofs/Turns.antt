@@ -12,6 +12,7 @@ use Rattle.kdl_entry.specs.Tokens.{Token, space, newline, value, semicolon, Cuts
 use Rattle.kdl_entry.specs.declared.tokens.Token.{Token as CodeToken}
 use Rattle.kdl_entry.specs.declared.tokens.ReadFailure.{ReadFailure}
 use Rattle.kdl_entry.specs.declared.tokens.ReadFailure.TheVariants.{Fault, Memory}
+use Rattle.kdl_entry.proofs.Cutting.{cut_shorter}
 use Rattle.kdl.specs.Building.{Answers, Did, Same, Stays, EndsIn}
 use Rattle.kdl.specs.Data.{Nodes}
 use Rattle.kdl.specs.Grammar.{IsDocument}
@@ -114,7 +115,7 @@ at_the_end st here t d g e f = (g.same (document_tree d)).0 (subst (λ (z : Text
 
 -- a turn comes nearer to the end
 pub nearer : (st : State) (old mid new : Here) (t : Text) (k : CodeToken) → HandsOut old k mid → Stays mid new → length new.rest < length old.rest
-nearer st old mid new t k h y = ?
+nearer st old mid new t k h y = omega (arith, cut_shorter h.cuts, ap length y.rest)
 
 pub lexer_told : (st : State) (old new : Here) (t : Text) (e : ReadFailure) → Going st old t → Lexed old (Err e) new → Answers t (Err e)
 lexer_told st old new t (Fault span) g x = lexer_fault st old t span g x.0 x.1

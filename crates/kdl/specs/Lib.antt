@@ -4,4 +4,5 @@ pub mod Grammar
 pub mod Laid
 pub mod Machine
 pub mod Print
+pub mod Same
 pub mod Tree

@@ -8,7 +8,7 @@ use Rattle.kdl_entry.specs.Tokens.{Token, space, newline, value, semicolon, Begi
 use Rattle.kdl_entry.specs.Laid.{argument_format}
 use Rattle.kdl_entry.specs.Tree.{Identifier, Entry}
 use Rattle.kdl.specs.Laid.{plain_format}
-use Rattle.kdl.specs.Tree.{Node, node, no_children, Document, document, Nodes, none, first}
+use Rattle.kdl.specs.Tree.{Node, node, no_children, Document, document, Nodes, none, first, join}
 
 -- the text between two places
 unfoldable pub between : Text → Text → Text
@@ -35,10 +35,6 @@ pub record State : Type 0 where
   pub under : Option Under
   pub nodes : Nodes
   pub from : Text
-
-abbrev pub join : Nodes → Nodes → Nodes
-join none ys = ys
-join (first x xs) ys = first x (join xs ys)
 
 abbrev pub begun : Text → Text → Text → Under
 begun leading repr v = record { leading = leading; name = record { value = v; repr = Some repr; span = unplaced }; entries = [] }

@@ -80,15 +80,15 @@ children_of (Some d) = children d
 
 abbrev pub node_format_tree : KdlNodeFormat → NodeFormat
 node_format_tree f = record {
-    leading = text_of f.leading;
-    before_ty_name = text_of f.before_ty_name;
-    after_ty_name = text_of f.after_ty_name;
-    after_ty = text_of f.after_ty;
-    before_children = text_of f.before_children;
-    before_terminator = text_of f.before_terminator;
-    terminator = text_of f.terminator;
-    trailing = text_of f.trailing;
-  }
+  leading = text_of f.leading;
+  before_ty_name = text_of f.before_ty_name;
+  after_ty_name = text_of f.after_ty_name;
+  after_ty = text_of f.after_ty;
+  before_children = text_of f.before_children;
+  before_terminator = text_of f.before_terminator;
+  terminator = text_of f.terminator;
+  trailing = text_of f.trailing;
+}
 
 abbrev pub document_format_tree : KdlDocumentFormat → DocumentFormat
 document_format_tree f = record { leading = text_of f.leading; trailing = text_of f.trailing }
@@ -97,14 +97,15 @@ document_format_tree f = record { leading = text_of f.leading; trailing = text_o
 abbrev pub document_step : KdlDocument-F Document Node → Document
 document_step d = document (option_map document_format_tree d.format) d.span (nodes_of d.nodes.items)
 
+-- a node but for its children, by its fields
 abbrev pub head_tree : {D N : Type 0} → KdlNode-F D N → Head
 head_tree n = record {
-    ty = option_map identifier_tree n.ty;
-    name = identifier_tree n.name;
-    entries = map entry_tree n.entries.items;
-    format = option_map node_format_tree n.format;
-    span = n.span;
-  }
+  ty = option_map identifier_tree n.ty;
+  name = identifier_tree n.name;
+  entries = map entry_tree n.entries.items;
+  format = option_map node_format_tree n.format;
+  span = n.span;
+}
 
 abbrev pub node_step : KdlNode-F Document Node → Node
 node_step n = node (head_tree n) (children_of n.children)

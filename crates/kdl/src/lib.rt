@@ -1,9 +1,13 @@
-//! Nodes and documents.
+//! KDL 2 documents: nodes and documents that keep every byte of their form.
 #![tactic(auto)]
 
 mod document;
 mod node;
 mod parser;
+mod print;
 
 pub use document::{KdlDocument, KdlDocumentFormat};
+pub use kdl_entry::{KdlEntry, KdlEntryFormat, KdlIdentifier, KdlValue};
+pub use kdl_text::error::{KdlDiagnostic, KdlError, ParseFailure};
+pub use kdl_text::span::{Severity, SourceSpan};
 pub use node::{KdlNode, KdlNodeFormat};

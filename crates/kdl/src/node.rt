@@ -1,32 +1,99 @@
-ghost use Rattle.kdl.specs.Tree.{node, no_children, node_format_tree, node_tree};
+//! Nodes.
+
+ghost use Rattle.kdl.specs.Tree.{node, no_children, children_of, head_tree, node_tree, document_tree, node_format_tree};
+ghost use Rattle.kdl.specs.Print.{print_node, print_head, before_block, end_text};
+ghost use Rattle.kdl.specs.Same.{same_node};
+ghost use Rattle.kdl.specs.declared.node.KdlNode.{out-KdlNode};
 ghost use Rattle.kdl_entry.specs.Tree.{identifier_tree, entry_tree};
-ghost use Rattle.std.specs.Prelude.{◌≡◌, Some, None, map};
+ghost use Rattle.std.specs.Fmt.{WritesOnOk};
+ghost use Rattle.std.specs.Prelude.{◌≡◌, [], IfOk, None, Some, map, option_map, true};
+ghost use Rattle.std.specs.Str.{encode_utf8_all};
 
 use crate::document::KdlDocument;
-use kdl_entry::KdlEntry;
-use kdl_entry::KdlIdentifier;
+use crate::print::{ends_formatted, write_pieces, write_spaces};
+use kdl_entry::{KdlEntry, KdlIdentifier, write_text, write_type};
 use kdl_text::span::SourceSpan;
+use std::alloc::{AllocError, Global};
+use std::fmt;
 
-#[derive(Drop)]
+/// The texts around the parts of a node.
+#[derive(PartialEq, Eq, Hash, Debug, Drop)]
 pub struct KdlNodeFormat {
+    /// What stands before the node.
     pub leading: String,
+    /// What stands between the `(` of the type and its name.
     pub before_ty_name: String,
+    /// What stands between the name of the type and its `)`.
     pub after_ty_name: String,
+    /// What stands between the `)` of the type and the node's name.
     pub after_ty: String,
+    /// What stands between the last entry and the `{` of the children.
     pub before_children: String,
+    /// What stands between the last entry, or the `}` of the children, and the terminator.
     pub before_terminator: String,
+    /// The newline or `;` that ends the node.
     pub terminator: String,
+    /// What stands behind the terminator.
     pub trailing: String,
 }
 
+impl KdlNodeFormat {
+    /// A format whose texts are empty. It takes no memory.
+    #[tactic(auto, using(crate::proofs::Writing::writes))]
+    pub fn new(alloc: Global) -> KdlNodeFormat
+        ensures { node_format_tree result ≡ record { leading = []; before_ty_name = []; after_ty_name = []; after_ty = []; before_children = []; before_terminator = []; terminator = []; trailing = [] } }
+    {
+        KdlNodeFormat {
+            leading: String::new(alloc),
+            before_ty_name: String::new(alloc),
+            after_ty_name: String::new(alloc),
+            after_ty: String::new(alloc),
+            before_children: String::new(alloc),
+            before_terminator: String::new(alloc),
+            terminator: String::new(alloc),
+            trailing: String::new(alloc),
+        }
+    }
+}
+
+impl Clone for KdlNodeFormat {
+    ghost is_clone = { λ v w. node_format_tree w ≡ node_format_tree v };
+
+    fn clone(&self) -> Result<KdlNodeFormat, AllocError> {
+        let leading = self.leading.clone()?;
+        let before_ty_name = self.before_ty_name.clone()?;
+        let after_ty_name = self.after_ty_name.clone()?;
+        let after_ty = self.after_ty.clone()?;
+        let before_children = self.before_children.clone()?;
+        let before_terminator = self.before_terminator.clone()?;
+        let terminator = self.terminator.clone()?;
+        let trailing = self.trailing.clone()?;
+        Ok(KdlNodeFormat {
+            leading,
+            before_ty_name,
+            after_ty_name,
+            after_ty,
+            before_children,
+            before_terminator,
+            terminator,
+            trailing,
+        })
+    }
+}
+
+/// A node: a name, maybe a type, entries, maybe children, and the texts around them (KDL 2.0.0, Node).
+///
+/// Two nodes are equal where they agree in all but their spans.
 #[cycle(tree)]
-#[derive(Drop)]
+#[derive(Debug, Drop)]
+#[derive_where(PartialEq, Eq, Hash)]
 pub struct KdlNode {
     ty: Option<KdlIdentifier>,
     name: KdlIdentifier,
     entries: Vec<KdlEntry>,
     children: Option<KdlDocument>,
     format: Option<KdlNodeFormat>,
+    #[derive_where(skip(EqHashOrd))]
     span: SourceSpan,
 }
 
@@ -48,5 +115,185 @@ impl KdlNode {
             format: Some(format),
             span,
         }
+    }
+
+    /// The name.
+    pub fn name(&self) -> &KdlIdentifier
+        ensures { result.now ≡ (out-KdlNode self.now).name }
+    {
+        &self.name
+    }
+
+    /// The type, where the node has one.
+    pub fn ty(&self) -> Option<&KdlIdentifier>
+        ensures { option_map (λ t. t.now) result ≡ (out-KdlNode self.now).ty }
+    {
+        self.ty.as_ref()
+    }
+
+    /// The entries, in order.
+    pub fn entries(&self) -> &[KdlEntry]
+        ensures { result.now ≡ (out-KdlNode self.now).entries.items }
+    {
+        self.entries.as_slice()
+    }
+
+    /// The children, where the node has a child block.
+    pub fn children(&self) -> Option<&KdlDocument>
+        ensures { option_map (λ d. d.now) result ≡ (out-KdlNode self.now).children }
+    {
+        self.children.as_ref()
+    }
+
+    /// The texts around the parts, where the node keeps them.
+    pub fn format(&self) -> Option<&KdlNodeFormat>
+        ensures { option_map (λ f. f.now) result ≡ (out-KdlNode self.now).format }
+    {
+        self.format.as_ref()
+    }
+
+    /// Where the node stood in the text that it was read from, in bytes.
+    pub fn span(&self) -> SourceSpan
+        ensures { result ≡ (out-KdlNode self.now).span }
+    {
+        self.span
+    }
+
+    /// Sets the span, and nothing else. The node stays equal to what it was.
+    #[tactic(auto, using(crate::proofs::Same::node_spanned))]
+    pub fn set_span(&mut self, span: SourceSpan)
+        ensures same { same_node self.old self.new ≡ true }
+        ensures rest { out-KdlNode self.new ≡ record (out-KdlNode self.old) { span = span } }
+    {
+        self.span = span;
+    }
+}
+
+impl KdlNode {
+    /// Writes the node at the given depth.
+    #[cycle(stringify)]
+    pub(crate) fn stringify<W: fmt::Write>(
+        &self,
+        depth: usize,
+        f: &mut fmt::Formatter<W>,
+    ) -> fmt::Result
+        ensures { WritesOnOk W.write_str_gives f.old result (encode_utf8_all (print_node (node_tree self.now) depth)) f.new }
+    {
+        self.write_head(depth, f)?;
+        write_pieces(&self.entries, f)?;
+        if let Some(children) = &self.children {
+            write_before_block(&self.format, &self.entries, f)?;
+            children.stringify_block(depth, f)?;
+            return write_end(&self.format, f);
+        }
+        write_end(&self.format, f)
+    }
+
+    /// Writes the leading text, the type and the name.
+    #[tactic(auto, using(crate::proofs::Writing::writes))]
+    fn write_head<W: fmt::Write>(&self, depth: usize, f: &mut fmt::Formatter<W>) -> fmt::Result
+        ensures { WritesOnOk W.write_str_gives f.old result (encode_utf8_all (print_head (head_tree (out-KdlNode self.now)) depth)) f.new }
+    {
+        match &self.format {
+            Some(format) => {
+                write_text(&format.leading, f)?;
+                write_type(&self.ty, &format.before_ty_name, &format.after_ty_name, f)?;
+                write_text(&format.after_ty, f)?;
+                write!(f, "{}", self.name)
+            }
+            None => {
+                write_spaces(depth, f)?;
+                write_type(&self.ty, "", "", f)?;
+                write!(f, "{}", self.name)
+            }
+        }
+    }
+}
+
+impl fmt::Display for KdlNode {
+    ghost output = { λ n. Some (encode_utf8_all (print_node (node_tree n) 0)) };
+
+    fn fmt<W: fmt::Write>(&self, f: &mut fmt::Formatter<W>) -> fmt::Result {
+        self.stringify(0, f)
+    }
+}
+
+impl KdlNode {
+    /// A copy with the same tree.
+    #[cycle(copy)]
+    pub(crate) fn copy(&self) -> Result<KdlNode, AllocError>
+        ensures { IfOk result (λ n. node_tree n ≡ node_tree self.now) }
+    {
+        let ty = self.ty.clone()?;
+        let name = self.name.clone()?;
+        let entries = self.entries.clone()?;
+        let format = self.format.clone()?;
+        let children = copy_children(&self.children)?;
+        Ok(KdlNode {
+            ty,
+            name,
+            entries,
+            children,
+            format,
+            span: self.span,
+        })
+    }
+}
+
+impl Clone for KdlNode {
+    ghost is_clone = { λ v w. node_tree w ≡ node_tree v };
+
+    fn clone(&self) -> Result<KdlNode, AllocError> {
+        self.copy()
+    }
+}
+
+/// A copy of a child block, with the same tree.
+#[cycle(copy)]
+fn copy_children(children: &Option<KdlDocument>) -> Result<Option<KdlDocument>, AllocError>
+    ensures { IfOk result (λ o. children_of (option_map document_tree o) ≡ children_of (option_map document_tree children.now)) }
+{
+    match children {
+        Some(children) => Ok(Some(children.copy()?)),
+        None => Ok(None),
+    }
+}
+
+/// Writes what stands before the `{` of a child block.
+#[tactic(auto, using(crate::proofs::Writing::writes))]
+fn write_before_block<W: fmt::Write>(
+    format: &Option<KdlNodeFormat>,
+    entries: &[KdlEntry],
+    f: &mut fmt::Formatter<W>,
+) -> fmt::Result
+    ensures { WritesOnOk W.write_str_gives f.old result (encode_utf8_all (before_block (option_map node_format_tree format.now) (map entry_tree entries.now))) f.new }
+{
+    match format {
+        Some(format) => write_text(&format.before_children, f),
+        None => {
+            if ends_formatted(entries) {
+                Ok(())
+            } else {
+                f.write_str(" ")
+            }
+        }
+    }
+}
+
+/// Writes what stands behind the last entry, or behind the child block.
+#[tactic(auto, using(crate::proofs::Writing::writes))]
+fn write_end<W: fmt::Write>(
+    format: &Option<KdlNodeFormat>,
+    f: &mut fmt::Formatter<W>,
+) -> fmt::Result
+    ensures { WritesOnOk W.write_str_gives f.old result (encode_utf8_all (end_text (option_map node_format_tree format.now))) f.new }
+{
+    match format {
+        Some(format) => {
+            write_text(&format.before_terminator, f)?;
+            write_text(&format.terminator, f)?;
+            write_text(&format.trailing, f)
+        }
+        None => Ok(()),
     }
 }

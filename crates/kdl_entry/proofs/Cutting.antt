@@ -115,7 +115,7 @@ unit_end : {s r : Text} {u : StringUnit} → IsUnit s r u → End s r
 unit_end (one_literal {c = c} x) = also c here
 unit_end (one_letter {e = e} x) = also 92 (also e here)
 unit_end (one_number h) = also 92 (also 117 (also 123 (past (record { piece = h.digits; text = h.text }))))
-unit_end (one_gap {e = e} x run) = also 92 (also e (record { piece = run.run; text = run.text }))
+unit_end (one_gap {e = e} x gap) = also 92 (also e (record { piece = gap.run; text = gap.text }))
 
 units_end : {s r : Text} {us : List StringUnit} → AreUnits s r us → End s r
 units_end AreUnits.none = here

@@ -1,5 +1,11 @@
 -- From what the readers answer to tokens.
 use Rattle.std.proofs.Common.{◌≡◌, ℕ, ℤ, List, Bool, true, false, [], ◌∷◌, ◌++◌, refl, sym, subst, ap, ◌∙◌, ◌==◌, ◌&&◌, arith}
+use Rattle.std.proofs.Common.{zero, suc, lit<, of_z, to_z, ◌<◌, ◌^◌}
+use Rattle.std.specs.Int.{w128}
+use Rattle.std.proofs.Math.Facts.{to_z-of_z}
+use Rattle.std.proofs.lemmas.Bool.Decides.{nat_tests}
+use Rattle.std.specs.Prelude.{FitsSigned}
+use Rattle.std.specs.Str.Parse.{digits_value}
 use Rattle.std.proofs.lemmas.Bool.{and_parts, eqb-true}
 use Rattle.std.specs.Prelude.{Some, None, Option, Result, Ok, Err}
 use Rattle.std.specs.List.{list_all}
@@ -9,7 +15,7 @@ use Rattle.kdl_text.specs.Chars.Newline.{one as newline_char}
 use Rattle.kdl_text.specs.Bare.{BareString}
 use Rattle.kdl_text.specs.Here.{Here, Spot, Skips, Ran, first, tail, looked, stepped}
 use Rattle.kdl_text.specs.Magnitudes.{ReadsWhole}
-use Rattle.kdl_text.specs.Numbers.{WholeNumber, begins_number}
+use Rattle.kdl_text.specs.Numbers.{WholeNumber, whole, begins_number, fits, signed}
 use Rattle.kdl_text.specs.Reading.{Moves, ReadsNewline}
 use Rattle.kdl_text.specs.Strings.{QuotedString}
 use Rattle.kdl_text.specs.declared.numbers.NumberFault.{NumberFault}
@@ -198,3 +204,12 @@ step_moves c a b e h x y = moves_one (took_from c a b e h x y)
 
 pub skip_moves : (a b e : Here) → b ≡ looked a → Skips is_space b e → Moves a e
 skip_moves a b e x (u, k) = moves_then (moves_stayed (stayed_looked a b x)) (moves_ran k)
+
+in_range : (b : Bool) (n : ℕ) → fits b n ≡ true → FitsSigned w128 (signed b n)
+in_range false n h = record { sfits = grind (arith, nat_tests) }
+in_range true zero h = record { sfits = lit< tt }
+in_range true (suc n) h = record { sfits = grind (arith, nat_tests) }
+
+-- a whole number is one of 128 bits
+pub number_fits : (s r : Text) (z : ℤ) → WholeNumber s r z → to_z w128 (of_z w128 z) ≡ z
+number_fits s r z (whole {w = w} {negative = b} {radix = k} g m i x y e) = to_z-of_z (subst (λ (u : ℤ). FitsSigned w128 u) (sym e) (in_range b (digits_value k w) y))
