@@ -1,5 +1,6 @@
-//! The text layer of KDL 2: characters, strings, numbers, and the places of faults.
+//! The text layer of KDL 2: characters, comments and spaces, strings, numbers, and the places of faults.
 #![tactic(auto)]
 
 pub mod chars;
 pub mod span;
+pub mod trivia;
