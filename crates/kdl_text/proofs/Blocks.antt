@@ -1,5 +1,5 @@
 -- Block comments within one another: what a count of the open ones says.
-use Rattle.std.proofs.Common.{◌≡◌, ℕ, zero, suc, ◌+◌, ◌-◌, ◌<◌, ◌↔◌, Bool, true, false, List, [], ◌∷◌, ◌++◌, refl, ap, sym, ◌∙◌, subst, add-one, sub-one, arith}
+use Rattle.std.proofs.Common.{◌≡◌, ℕ, zero, suc, ◌+◌, ◌-◌, ◌<◌, ◌↔◌, false, [], ◌∷◌, refl, add-one, sub-one, arith}
 use Rattle.kdl_text.specs.Chars.{Text, begins_two}
 use Rattle.kdl_text.specs.Trivia.{Parts}
 use Rattle.kdl_text.specs.Trivia.Parts.{close, nested, other}

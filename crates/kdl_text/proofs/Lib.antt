@@ -10,3 +10,4 @@ pub mod TriviaDet
 pub mod TriviaRuns
 pub mod TriviaSpaces
 pub mod TriviaPieces
+pub mod ValueEnds

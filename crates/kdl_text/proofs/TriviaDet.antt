@@ -1,11 +1,10 @@
 -- Comments and spaces: what each begins with, and that a text begins with one of each at most.
-use Rattle.std.proofs.Common.{◌≡◌, ℕ, ◌+◌, ◌<◌, ◌≤◌, List, [], ◌∷◌, ◌++◌, Bool, true, false, ◌&&◌, ◌||◌, ◌==◌, ◌⊎◌, inl, inr, length, refl, ap, sym, ◌∙◌, subst, arith, append_assoc, length-append}
-use Rattle.std.proofs.lemmas.Bool.{and_parts, eqb-true}
+use Rattle.std.proofs.Common.{◌≡◌, ℕ, [], ◌∷◌, true, false, ◌⊎◌, inl, inr, refl, sym, subst, arith}
 use Rattle.std.proofs.lemmas.Bool.Decides.{nat_tests}
-use Rattle.kdl_text.specs.Chars.{Text, is_space, is_newline_char, begins, begins_two, starts, Newline, crlf, one, Star, Space}
+use Rattle.kdl_text.specs.Chars.{Text, is_space, is_newline_char, begins, begins_two, starts, Newline, crlf, one, Star, Plus, plus, Space}
 use Rattle.kdl_text.specs.Chars.Star.{none, more}
 use Rattle.kdl_text.specs.Chars.Space.{space}
-use Rattle.kdl_text.specs.Here.{bytes}
+use Rattle.kdl_text.specs.Reading.{Longest}
 use Rattle.kdl_text.specs.Trivia.{Parts, BlockComment, Line, LineComment, Ws, EscEnd, Escline, NodeSpace, Break, LineSpace, Slashdash}
 use Rattle.kdl_text.specs.Trivia.Parts.{close, nested, other}
 use Rattle.kdl_text.specs.Trivia.BlockComment.{block}
@@ -19,8 +18,7 @@ use Rattle.kdl_text.specs.Trivia.Break.{newline as break_newline, comment as bre
 use Rattle.kdl_text.specs.Trivia.LineSpace.{space as line_space, «break» as line_break}
 use Rattle.kdl_text.specs.Trivia.Slashdash.{slashdash}
 use Rattle.kdl_text.proofs.Newlines.{newline_det}
-use Rattle.kdl_text.proofs.Stars.{Det, meets, stops}
-use Rattle.kdl_text.proofs.Going.{bytes-append}
+use Rattle.kdl_text.proofs.Stars.{Det, meets, stops, star_map}
 
 -- no character is of two kinds
 pub slash_no_space : is_space 47 ≡ false
@@ -71,6 +69,10 @@ ws_begins (ws_comment p) = inr (block_begins p)
 
 pub escline_begins : {s r : Text} → Escline s r → begins 92 s ≡ true
 escline_begins (escline p e) = refl
+
+pub node_space_begins : {s r : Text} → NodeSpace s r → ((starts is_space s ≡ true) ⊎ (begins_two 47 42 s ≡ true)) ⊎ (begins 92 s ≡ true)
+node_space_begins (ws p) = inl (ws_begins p)
+node_space_begins (node_escline p) = inr (escline_begins p)
 
 pub break_begins : {s r : Text} → Break s r → (starts is_newline_char s ≡ true) ⊎ (begins_two 47 47 s ≡ true)
 break_begins (break_newline n) = inl (newline_begins n)
@@ -229,3 +231,19 @@ break_dets s r t p q = break_det p q
 
 pub line_space_dets : Det LineSpace
 line_space_dets s r t p q = line_space_det p q
+
+-- spaces are ws, and these are node-spaces
+pub spaces_ws : {s r : Text} → Star Space s r → Star Ws s r
+spaces_ws p = star_map (λ u v. ws_space) p
+
+pub ws_node_spaces : {s r : Text} → Star Ws s r → Star NodeSpace s r
+ws_node_spaces p = star_map (λ u v. ws) p
+
+pub spaces_node_spaces : {s r : Text} → Star Space s r → Star NodeSpace s r
+spaces_node_spaces p = ws_node_spaces (spaces_ws p)
+
+-- the longest run of spaces has one, if one begins there
+pub spaces_plus : {s r : Text} → starts is_space s ≡ true → Longest Space s r → Plus Space s r
+spaces_plus {s = []} x l = cc
+spaces_plus {s = c ∷ s} x (none, stuck) = absurd (stuck s (space x))
+spaces_plus {s = c ∷ s} x (more p ps, stuck) = plus p ps

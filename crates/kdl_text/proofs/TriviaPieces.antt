@@ -1,5 +1,5 @@
 -- Comments and spaces are pieces of their text, and all but the rest of a line have a character at least.
-use Rattle.std.proofs.Common.{◌≡◌, ℕ, ◌+◌, ◌<◌, ◌≤◌, List, [], ◌∷◌, ◌++◌, length, refl, ap, sym, ◌∙◌, arith, append_assoc, length-append}
+use Rattle.std.proofs.Common.{◌≡◌, ℕ, ◌<◌, ◌≤◌, [], ◌∷◌, ◌++◌, length, refl, ap, sym, ◌∙◌, arith, append_assoc, length-append}
 use Rattle.std.proofs.lemmas.Str.{len_utf8_bounds}
 use Rattle.kdl_text.specs.Chars.{Text, Newline, crlf, one, Star, Plus, plus, Space}
 use Rattle.kdl_text.specs.Chars.Star.{none, more}

@@ -1,15 +1,15 @@
 -- What the readers of comments and spaces have read: lines, runs of spaces and block comments, esclines.
-use Rattle.std.proofs.Common.{◌≡◌, ℕ, ◌+◌, ◌≤◌, ◌<◌, ◌↔◌, List, [], ◌∷◌, ◌++◌, Bool, true, false, not, ◌&&◌, ◌==◌, length, refl, ap, sym, ◌∙◌, subst, arith, length-append}
+use Rattle.std.proofs.Common.{◌≡◌, ℕ, ◌+◌, ◌≤◌, ◌<◌, ◌↔◌, [], ◌∷◌, ◌++◌, Bool, true, false, not, length, refl, ap, sym, ◌∙◌, subst, arith, length-append}
 use Rattle.std.proofs.lemmas.Bool.{and_parts}
 use Rattle.std.proofs.lemmas.Str.{len_utf8_bounds}
 use Rattle.std.specs.Prelude.{Some, None, Result, Ok, Err}
 use Rattle.std.specs.List.{list_all}
-use Rattle.kdl_text.specs.Chars.{Text, is_space, is_newline_char, begins, begins_two, starts, Newline, Star, Space}
+use Rattle.kdl_text.specs.Chars.{Text, is_space, is_newline_char, begins, begins_two, starts, Newline, Star, Plus, plus, Space}
 use Rattle.kdl_text.specs.Chars.Star.{none, more}
 use Rattle.kdl_text.specs.Chars.Space.{space}
-use Rattle.kdl_text.specs.Here.{Here, Ran, Took, TookTwo, Stayed, Ate, AteTwo, looked, stepped, first, bytes, raise}
+use Rattle.kdl_text.specs.Here.{Here, Ran, Took, TookTwo, Stayed, Ate, AteTwo, looked, first, bytes}
 use Rattle.kdl_text.specs.Reading.{Reads, Moves, Costs, Longest, ReadsNewline}
-use Rattle.kdl_text.specs.Trivia.{Parts, BlockComment, Line, LineComment, Ws, EscEnd, Escline}
+use Rattle.kdl_text.specs.Trivia.{Parts, BlockComment, Line, LineComment, Ws, EscEnd}
 use Rattle.kdl_text.specs.Trivia.BlockComment.{block}
 use Rattle.kdl_text.specs.Trivia.Line.{ends as line_ends, newline as line_newline, other as line_other}
 use Rattle.kdl_text.specs.Trivia.LineComment.{line}
@@ -19,8 +19,9 @@ use Rattle.kdl_text.specs.TriviaReading.{PieceCosts, Opens, RunsWs}
 use Rattle.kdl_text.proofs.Newlines.{not_newline}
 use Rattle.kdl_text.proofs.Runs.{length-bytes}
 use Rattle.kdl_text.proofs.Stars.{join, snoc, star_map}
-use Rattle.kdl_text.proofs.Going.{stays, moves_then, moves_stayed, moves_two, shorter, fewer_bytes, bytes-append, stayed_looked}
-use Rattle.kdl_text.proofs.TriviaDet.{slash_no_space, slash_no_newline, block_det, line_det, line_comment_det, esc_end_det, no_line_comment}
+use Rattle.kdl_text.proofs.Going.{stays, moves_then, moves_stayed, moves_two, fewer_bytes, bytes-append, stayed_looked}
+use Rattle.kdl_text.proofs.TriviaPieces.{star_end, space_end, end_then, end_length, end_bytes, space_shorter}
+use Rattle.kdl_text.proofs.TriviaDet.{spaces_plus, block_det, line_det, line_comment_det, esc_end_det, no_line_comment}
 
 -- one piece was found, and there is one at most
 pub reads_found : (R : Text → Text → Type 0) (s t : Text) → R s t → ((r : Text) → R s r → r ≡ t) → (r : Text) → R s r ↔ (r ≡ t)
@@ -45,6 +46,15 @@ no_more x (space y) = cc
 
 pub spaces_ran : {run : Text} {a b : Here} → Ran is_space run a b → Longest Space a.rest b.rest
 spaces_ran {run = run} {b = b} r = (rw r.text (star_run run b.rest r.all), λ t. no_more r.stops)
+
+-- where a space begins, a run of them
+pub spaces_costs : (a b : Here) → starts is_space a.rest ≡ true → Longest Space a.rest b.rest → Costs 1 1 a b → PieceCosts 9 a b
+spaces_costs a b x l c =
+    let less = run_bytes (spaces_plus x l) in
+    record { fewer = less; costs = record { most = omega (arith, c.most, less); least = c.least } }
+  where
+    run_bytes : {s r : Text} → Plus Space s r → bytes r < bytes s
+    run_bytes (plus p ps) = let e = star_end (λ u v. space_end) ps in end_bytes (end_then (space_end p) e) (omega (arith, space_shorter p, end_length e))
 
 -- the rest of a line
 line_run : (run rest r : Text) → list_all (λ c. not (is_newline_char c)) run ≡ true → Line rest r → Line (run ++ rest) r
@@ -101,9 +111,9 @@ two_costs c d k a m e t v h s =
     let x = ap bytes t.rest in
     let y = (len_utf8_bounds c).0 in
     record {
-    fewer = omega (arith, x, y, fewer_bytes v);
-    costs = record { most = omega (arith, t.steps, x, y, (len_utf8_bounds d).0, h.most, fewer_bytes v); least = omega (arith, t.steps, ap length t.rest, h.least) };
-  }
+      fewer = omega (arith, x, y, fewer_bytes v);
+      costs = record { most = omega (arith, t.steps, x, y, (len_utf8_bounds d).0, h.most, fewer_bytes v); least = omega (arith, t.steps, ap length t.rest, h.least) };
+    }
 
 -- the same after looks
 pub stayed_costs : (n c d k : ℕ) (a b m e : Here) → Stayed n a b → n ≤ 4 → TookTwo c d b m → Moves m e → Costs 2 k m e → k ≤ 2 → PieceCosts 9 a e
@@ -111,9 +121,9 @@ stayed_costs n c d k a b m e s few t v h small =
     let x = ap bytes (sym s.rest ∙ t.rest) in
     let y = (len_utf8_bounds c).0 in
     record {
-    fewer = omega (arith, x, y, fewer_bytes v);
-    costs = record { most = omega (arith, s.steps, t.steps, x, y, (len_utf8_bounds d).0, h.most, fewer_bytes v); least = omega (arith, s.steps, t.steps, ap length (sym s.rest ∙ t.rest), h.least) };
-  }
+      fewer = omega (arith, x, y, fewer_bytes v);
+      costs = record { most = omega (arith, s.steps, t.steps, x, y, (len_utf8_bounds d).0, h.most, fewer_bytes v); least = omega (arith, s.steps, t.steps, ap length (sym s.rest ∙ t.rest), h.least) };
+    }
 
 pub stayed_line : (n : ℕ) (a b m : Here) (e : Text) → Stayed n a b → TookTwo 47 47 b m → ((r : Text) → Line m.rest r ↔ (r ≡ e)) → (r : Text) → LineComment a.rest r ↔ (r ≡ e)
 stayed_line n a b m e s t p r = rw s.rest at (line_reads b m e t p r)

@@ -1,26 +1,25 @@
 -- Esclines and node-spaces, and why none was read.
-use Rattle.std.proofs.Common.{◌≡◌, ℕ, ◌+◌, ◌≤◌, ◌<◌, ◌↔◌, List, [], ◌∷◌, ◌++◌, Bool, true, false, ◌&&◌, ◌==◌, length, refl, ap, sym, ◌∙◌, subst, arith}
+use Rattle.std.proofs.Common.{◌≡◌, ℕ, ◌+◌, ◌≤◌, ◌↔◌, [], ◌∷◌, true, false, ◌==◌, length, refl, ap, sym, ◌∙◌, arith}
 use Rattle.std.proofs.lemmas.Bool.{and_parts, eqb-true}
 use Rattle.std.proofs.lemmas.Str.{len_utf8_bounds}
-use Rattle.std.specs.Prelude.{Some, None, Result, Ok, Err}
-use Rattle.kdl_text.specs.Chars.{Text, is_space, is_newline_char, begins, begins_two, starts, Newline, Star, Space}
+use Rattle.std.specs.Prelude.{Some, Ok, Err}
+use Rattle.kdl_text.specs.Chars.{Text, is_space, begins, begins_two, starts}
 use Rattle.kdl_text.specs.Chars.Space.{space}
-use Rattle.kdl_text.specs.Here.{Here, Took, TookTwo, Stayed, Ate, AteTwo, looked, stepped, first, bytes, raise}
+use Rattle.kdl_text.specs.Here.{Here, Took, TookTwo, AteTwo, looked, stepped, first, bytes}
 use Rattle.kdl_text.specs.Reading.{Reads, Moves, Costs, Longest}
-use Rattle.kdl_text.specs.Trivia.{Parts, BlockComment, LineComment, Ws, EscEnd, Escline, NodeSpace}
-use Rattle.kdl_text.specs.Trivia.BlockComment.{block}
+use Rattle.kdl_text.specs.Trivia.{Parts, BlockComment, Ws, EscEnd, Escline, NodeSpace}
 use Rattle.kdl_text.specs.Trivia.Ws.{space as ws_space, comment as ws_comment}
-use Rattle.kdl_text.specs.Trivia.EscEnd.{comment, newline, ends}
+use Rattle.kdl_text.specs.Trivia.EscEnd.{comment, newline}
 use Rattle.kdl_text.specs.Trivia.Escline.{escline}
 use Rattle.kdl_text.specs.Trivia.NodeSpace.{ws, escline as node_escline}
-use Rattle.kdl_text.specs.TriviaReading.{PieceCosts, Opens, Inside, At, Faulty, RunsWs, ReadsEscline}
+use Rattle.kdl_text.specs.TriviaReading.{PieceCosts, Opens, Inside, Faulty, RunsWs, ReadsEscline}
 use Rattle.kdl_text.specs.TriviaReading.Inside.{front, escline as in_escline}
 use Rattle.kdl_text.specs.declared.trivia.TriviaFault.{TriviaFault}
 use Rattle.kdl_text.specs.declared.trivia.TriviaFault.TheVariants.{UnclosedComment, NotEscline}
 use Rattle.kdl_text.proofs.Stars.{meets, stops}
 use Rattle.kdl_text.proofs.Going.{moves_then, moves_one, moves_two, moves_stayed, fewer_bytes, stayed_looked, took_from}
-use Rattle.kdl_text.proofs.TriviaDet.{slash_no_space, backslash_no_space, slash_no_newline, block_begins, escline_begins, newline_begins, line_comment_begins, ws_dets, escline_end, escline_det, node_space_det, no_escline, no_ws}
-use Rattle.kdl_text.proofs.TriviaRuns.{reads_found, ate_here, block_reads, opens_here}
+use Rattle.kdl_text.proofs.TriviaDet.{slash_no_space, backslash_no_space, slash_no_newline, block_begins, escline_begins, newline_begins, line_comment_begins, ws_dets, escline_end, escline_det, node_space_det}
+use Rattle.kdl_text.proofs.TriviaRuns.{reads_found, block_reads, opens_here}
 
 opens_is : (s : Text) → begins_two 47 42 s ≡ true → (t : Text) × (s ≡ 47 ∷ 42 ∷ t)
 opens_is [] h = cc
@@ -49,7 +48,7 @@ esc_read a b m e t (l, x) p = let found : Escline a.rest e = rw t.0 (escline l.0
 pub esc_unclosed : (at : ℕ) (a b e : Here) → Took (Some 92) a b → RunsWs (Err at) b e → ReadsEscline (Err (UnclosedComment at)) a e
 esc_unclosed at a b e t (u, run, o, x) = (
   λ r p. opens_end o (escline_end run (λ w. opens_ws o) (rw t.0 at p)),
-  (u, rw t.0 (in_escline run), o, omega (arith, x, t.1, ap bytes t.0))
+  (u, rw t.0 (in_escline run), o, omega (arith, x, t.1, ap bytes t.0)),
 )
 
 no_inside : {s m u : Text} → Longest Ws s m → begins_two 47 42 m ≡ false → Inside (92 ∷ s) u → Opens u → ⊥
@@ -70,9 +69,9 @@ esc_costs k a b e t m h s =
     let x = ap bytes t.0 in
     let y = len_utf8_bounds 92 in
     record {
-    fewer = omega (arith, x, y.0, fewer_bytes m);
-    costs = record { most = omega (arith, t.2, x, y.0, h.most, fewer_bytes m); least = omega (arith, t.2, ap length t.0, h.least) };
-  }
+      fewer = omega (arith, x, y.0, fewer_bytes m);
+      costs = record { most = omega (arith, t.2, x, y.0, h.most, fewer_bytes m); least = omega (arith, t.2, ap length t.0, h.least) };
+    }
 
 pub both_costs : (a b e : Here) → Costs 3 3 a b → Costs 2 4 b e → Moves b e → Costs 3 7 a e
 both_costs a b e c d m = record { most = omega (arith, c.most, d.most, fewer_bytes m); least = omega (arith, c.least, d.least) }

@@ -1,5 +1,5 @@
 -- How the answers of the readers of comments and spaces stand to the text.
-use Rattle.std.specs.Prelude.{◌≡◌, ℕ, ◌+◌, ◌<◌, Bool, true, false, [], ◌∷◌, Result, Ok, Err}
+use Rattle.std.specs.Prelude.{◌≡◌, ℕ, ◌+◌, ◌<◌, true, false, [], ◌∷◌, Result, Ok, Err}
 use Rattle.kdl_text.specs.Chars.{Text, is_space, begins, begins_two, starts, Star}
 use Rattle.kdl_text.specs.Here.{Here, bytes, Stayed}
 use Rattle.kdl_text.specs.Reading.{Reads, Costs, Longest}

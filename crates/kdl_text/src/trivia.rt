@@ -110,6 +110,7 @@ pub fn line_comment(cursor: &mut Cursor)
 }
 
 /// Goes past spaces, as many as there are (KDL 2.0.0, Whitespace).
+#[inline]
 pub fn spaces(cursor: &mut Cursor)
     ensures reads { Longest Space cursor.old.rest cursor.new.rest }
     ensures moves { Moves cursor.old cursor.new }
@@ -210,6 +211,7 @@ pub fn node_space(cursor: &mut Cursor) -> SpaceRead
 }
 
 /// Goes past the mark `/-` of a slashdash, if it is here (KDL 2.0.0, Slashdash Comments).
+#[inline]
 pub fn slashdash_mark(cursor: &mut Cursor) -> bool
     ensures reads { AteTwo 47 45 result cursor.old cursor.new }
     ensures moves { Moves cursor.old cursor.new }
@@ -224,11 +226,15 @@ pub fn slash(cursor: &mut Cursor) -> SlashRead
     ensures costs { SlashCosts result cursor.old cursor.new }
 {
     if cursor.eat_two('/', '*') {
-        if block_end(cursor) { SlashRead::Block } else { SlashRead::Unclosed }
+        if block_end(cursor) {
+            SlashRead::Block
+        } else {
+            SlashRead::Unclosed
+        }
     } else if cursor.eat_two('/', '/') {
         line_end(cursor);
         SlashRead::Line
-    } else if cursor.eat_two('/', '-') {
+    } else if slashdash_mark(cursor) {
         SlashRead::Dash
     } else {
         SlashRead::Other

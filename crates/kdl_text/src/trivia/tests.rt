@@ -3,9 +3,12 @@ use crate::chars::Steps;
 use std::alloc::{AllocError, Global};
 use std::test::Fail;
 
-const NEWLINES: [&str; 8] = ["\r\n", "\r", "\n", "\u{85}", "\u{b}", "\u{c}", "\u{2028}", "\u{2029}"];
+const NEWLINES: [&str; 8] = [
+    "\r\n", "\r", "\n", "\u{85}", "\u{b}", "\u{c}", "\u{2028}", "\u{2029}",
+];
 
-const SPACES: &str = "\u{9}\u{20}\u{a0}\u{1680}\u{2000}\u{2001}\u{2002}\u{2003}\u{2004}\u{2005}\u{2006}\u{2007}\u{2008}\u{2009}\u{200a}\u{202f}\u{205f}\u{3000}";
+const SPACES: &str =
+    "\u{9}\u{20}\u{a0}\u{1680}\u{2000}\u{2001}\u{2002}\u{2003}\u{2004}\u{2005}\u{2006}\u{2007}\u{2008}\u{2009}\u{200a}\u{202f}\u{205f}\u{3000}";
 
 fn joined(alloc: Global, parts: &[&str]) -> Result<String, AllocError> {
     let mut text = String::new(alloc);
@@ -30,7 +33,14 @@ fn at_slash(text: &str) -> (SlashRead, usize) {
 
 #[test]
 fn block_comments(rt: HostRuntime) {
-    for (text, end) in [("/**/", 4), ("/* a */b", 7), ("/***/*/", 5), ("/*/*/**/*/*/", 12), ("/*//**/*/ ", 9), ("/* \n \" \u{feff} */", 13)] {
+    for (text, end) in [
+        ("/**/", 4),
+        ("/* a */b", 7),
+        ("/***/*/", 5),
+        ("/*/*/**/*/*/", 12),
+        ("/*//**/*/ ", 9),
+        ("/* \n \" \u{feff} */", 13),
+    ] {
         assert_eq!(rt; at_slash(text), (SlashRead::Block, end), "{text}");
         assert_eq!(rt; one(text), (SpaceRead::Read, end), "{text}");
         let mut cursor = Cursor::new(text, Steps::new());
@@ -40,7 +50,14 @@ fn block_comments(rt: HostRuntime) {
     }
     for text in ["/*", "/*/", "/* /* */", "/* *", "/*/*/"] {
         assert_eq!(rt; at_slash(text), (SlashRead::Unclosed, text.len()), "{text}");
-        assert_eq!(rt; one(text), (SpaceRead::Fault(TriviaFault::UnclosedComment(0)), text.len()), "{text}");
+        assert_eq!(rt;
+            one(text),
+            (
+                SpaceRead::Fault(TriviaFault::UnclosedComment(0)),
+                text.len()
+            ),
+            "{text}"
+        );
         let mut cursor = Cursor::new(text, Steps::new());
         assert!(rt; cursor.looks_two('/', '*'));
         assert!(rt; !block_comment(&mut cursor));
@@ -70,12 +87,17 @@ fn deep_block_comments(rt: HostRuntime) -> Result<(), Fail> {
 #[test]
 fn line_comments(rt: HostRuntime) -> Result<(), Fail> {
     for newline in NEWLINES {
-        let text = joined(rt.alloc(), &["// /* \u{feff}\t\"", newline, " "])?;
-        assert_eq!(rt; at_slash(&text), (SlashRead::Line, text.len() - 1), "{newline:?}");
+        let line = joined(rt.alloc(), &["// /* \u{feff}\t\"", newline])?;
+        let text = joined(rt.alloc(), &[line.as_str(), " "])?;
+        assert_eq!(rt;
+            at_slash(&text),
+            (SlashRead::Line, line.len()),
+            "{newline:?}"
+        );
         let mut cursor = Cursor::new(&text, Steps::new());
         assert!(rt; cursor.looks_two('/', '/'));
         line_comment(&mut cursor);
-        assert_eq!(rt; cursor.at(), text.len() - 1);
+        assert_eq!(rt; cursor.at(), line.len());
     }
     assert_eq!(rt; at_slash("//"), (SlashRead::Line, 2));
     assert_eq!(rt; at_slash("// c"), (SlashRead::Line, 4));
@@ -101,22 +123,40 @@ fn esclines(rt: HostRuntime) -> Result<(), Fail> {
     let alloc = rt.alloc();
     for newline in NEWLINES {
         for front in ["\\", "\\ \t", "\\ /* x */ ", "\\/**/ // c"] {
-            let text = joined(alloc, &[front, newline, " \n"])?;
-            assert_eq!(rt; one(&text), (SpaceRead::Read, text.len() - 2), "{text:?}");
+            let line = joined(alloc, &[front, newline])?;
+            let text = joined(alloc, &[line.as_str(), " \n"])?;
+            assert_eq!(rt; one(&text), (SpaceRead::Read, line.len()), "{text:?}");
             let mut cursor = Cursor::new(&text, Steps::new());
             assert_eq!(rt; cursor.look(), Some('\\'));
             assert_eq!(rt; escline(&mut cursor), Ok(()));
-            assert_eq!(rt; cursor.at(), text.len() - 2);
+            assert_eq!(rt; cursor.at(), line.len());
         }
     }
     for text in ["\\", "\\ ", "\\ // c", "\\//", "\\/* x */"] {
         assert_eq!(rt; one(text), (SpaceRead::Read, text.len()), "{text}");
     }
-    for (text, end) in [("\\x", 1), ("\\ \\\n", 2), ("\\ / ", 2), ("\\ /* c */x\n", 9), ("\\/-", 1)] {
-        assert_eq!(rt; one(text), (SpaceRead::Fault(TriviaFault::NotEscline(0)), end), "{text}");
+    for (text, end) in [
+        ("\\x", 1),
+        ("\\ \\\n", 2),
+        ("\\ / ", 2),
+        ("\\ /* c */x\n", 9),
+        ("\\/-", 1),
+    ] {
+        assert_eq!(rt;
+            one(text),
+            (SpaceRead::Fault(TriviaFault::NotEscline(0)), end),
+            "{text}"
+        );
     }
     for (text, at) in [("\\/*", 1), ("\\ /* */ \u{3000}/* /* */\n", 11)] {
-        assert_eq!(rt; one(text), (SpaceRead::Fault(TriviaFault::UnclosedComment(at)), text.len()), "{text}");
+        assert_eq!(rt;
+            one(text),
+            (
+                SpaceRead::Fault(TriviaFault::UnclosedComment(at)),
+                text.len()
+            ),
+            "{text}"
+        );
     }
     Ok(())
 }
@@ -124,16 +164,14 @@ fn esclines(rt: HostRuntime) -> Result<(), Fail> {
 #[test]
 fn single_spaces(rt: HostRuntime) -> Result<(), Fail> {
     let alloc = rt.alloc();
-    let mut count = 0u32;
+    assert_eq!(rt; SPACES.chars().count(), 18);
     for c in SPACES.chars() {
         let mut text = String::new(alloc);
         text.push(c)?;
         let end = text.len();
         text.push_str(" x")?;
         assert_eq!(rt; one(&text), (SpaceRead::Read, end), "{c:?}");
-        count += 1;
     }
-    assert_eq!(rt; count, 18);
     for text in ["", "x", "\n", "\u{200b}", "\u{feff}", "/", "/-", "="] {
         assert_eq!(rt; one(text), (SpaceRead::Absent, 0), "{text:?}");
     }

@@ -1,5 +1,5 @@
 use Rattle.std.proofs.Common.{arith}
-use Rattle.kdl_text.proofs.Going.{moves_then, moves_stayed, stayed_looked}
+use Rattle.kdl_text.proofs.Going.{stayed_looked}
 use Rattle.kdl_text.proofs.TriviaRuns.{stayed_costs}
 use Rattle.kdl_text.proofs.TriviaSpaces.{space_escline, space_no_escline, looked_costs, space_not_slash, space_comment, space_unclosed, space_moves, space_space, space_step}
 use Rattle.kdl_text.proofs.trivia.node_space.Goals as goal
