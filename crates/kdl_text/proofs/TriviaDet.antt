@@ -176,11 +176,11 @@ esc_end_det ends (newline n) = elim n [ ]
 esc_end_det ends ends = refl
 
 -- an escline ends where the longest run of ws behind its backslash does
-pub escline_end : {s u r : Text} → Star Ws s u → ((t : Text) → Ws u t → ⊥) → Escline (92 ∷ s) r → EscEnd u r
-escline_end {r = r} run stuck (escline p e) = subst (λ u. EscEnd u r) (stops (meets ws_dets p run stuck) (λ u. esc_end_ws e)) e
+pub escline_ends_at : {s u r : Text} → Star Ws s u → ((t : Text) → Ws u t → ⊥) → Escline (92 ∷ s) r → EscEnd u r
+escline_ends_at {r = r} run stuck (escline p e) = subst (λ u. EscEnd u r) (stops (meets ws_dets p run stuck) (λ u. esc_end_ws e)) e
 
 escline_same : {s u r t : Text} → Star Ws s u → EscEnd u t → Escline (92 ∷ s) r → r ≡ t
-escline_same run e p = esc_end_det (escline_end run (λ t. esc_end_ws e) p) e
+escline_same run e p = esc_end_det (escline_ends_at run (λ t. esc_end_ws e) p) e
 
 pub escline_det : {s r t : Text} → Escline s r → Escline s t → r ≡ t
 escline_det p (escline q e) = escline_same q e p

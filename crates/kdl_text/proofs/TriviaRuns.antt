@@ -56,6 +56,17 @@ spaces_costs a b x l c =
     run_bytes : {s r : Text} → Plus Space s r → bytes r < bytes s
     run_bytes (plus p ps) = let e = star_end (λ u v. space_end) ps in end_bytes (end_then (space_end p) e) (omega (arith, space_shorter p, end_length e))
 
+-- a piece, at one rate for all readers
+pub piece_costs : {a b : Here} → PieceCosts 9 a b → Costs 24 0 a b
+piece_costs p = record { most = omega (arith, p.costs.most, p.fewer); least = p.costs.least }
+
+-- and with the looks before it
+pub looked_piece_costs : (n : ℕ) (a b e : Here) → Stayed n a b → n ≤ 15 → PieceCosts 9 b e → Costs 24 0 a e
+looked_piece_costs n a b e s few p = record { most = omega (arith, s.steps, ap bytes s.rest, p.costs.most, p.fewer); least = omega (arith, s.steps, ap length s.rest, p.costs.least) }
+
+pub piece_nine : {a b : Here} → PieceCosts 8 a b → PieceCosts 9 a b
+piece_nine p = record { fewer = p.fewer; costs = record { most = omega (arith, p.costs.most, p.fewer); least = p.costs.least } }
+
 -- the rest of a line
 line_run : (run rest r : Text) → list_all (λ c. not (is_newline_char c)) run ≡ true → Line rest r → Line (run ++ rest) r
 line_run [] rest r h l = l

@@ -18,7 +18,7 @@ use Rattle.kdl_text.specs.declared.trivia.TriviaFault.{TriviaFault}
 use Rattle.kdl_text.specs.declared.trivia.TriviaFault.TheVariants.{UnclosedComment, NotEscline}
 use Rattle.kdl_text.proofs.Stars.{meets, stops}
 use Rattle.kdl_text.proofs.Going.{moves_then, moves_one, moves_two, moves_stayed, fewer_bytes, stayed_looked, took_from}
-use Rattle.kdl_text.proofs.TriviaDet.{slash_no_space, backslash_no_space, slash_no_newline, block_begins, escline_begins, newline_begins, line_comment_begins, ws_dets, escline_end, escline_det, node_space_det}
+use Rattle.kdl_text.proofs.TriviaDet.{slash_no_space, backslash_no_space, slash_no_newline, block_begins, escline_begins, newline_begins, line_comment_begins, ws_dets, escline_ends_at, escline_det, node_space_det}
 use Rattle.kdl_text.proofs.TriviaRuns.{reads_found, block_reads, opens_here}
 
 opens_is : (s : Text) → begins_two 47 42 s ≡ true → (t : Text) × (s ≡ 47 ∷ 42 ∷ t)
@@ -47,7 +47,7 @@ esc_read a b m e t (l, x) p = let found : Escline a.rest e = rw t.0 (escline l.0
 
 pub esc_unclosed : (at : ℕ) (a b e : Here) → Took (Some 92) a b → RunsWs (Err at) b e → ReadsEscline (Err (UnclosedComment at)) a e
 esc_unclosed at a b e t (u, run, o, x) = (
-  λ r p. opens_end o (escline_end run (λ w. opens_ws o) (rw t.0 at p)),
+  λ r p. opens_end o (escline_ends_at run (λ w. opens_ws o) (rw t.0 at p)),
   (u, rw t.0 (in_escline run), o, omega (arith, x, t.1, ap bytes t.0)),
 )
 
@@ -57,7 +57,7 @@ no_inside (run, stuck) x (in_escline w) o = let e = stops (meets ws_dets run w (
 
 pub esc_none : (at : ℕ) (a b m e : Here) → at ≡ a.at → Took (Some 92) a b → RunsWs (Ok tt) b m → ((r : Text) → EscEnd m.rest r → ⊥) → ReadsEscline (Err (NotEscline at)) a e
 esc_none at a b m e i t (l, x) n =
-    let no : (r : Text) → Escline a.rest r → ⊥ = λ r p. n r (escline_end l.0 l.1 (rw t.0 at p)) in
+    let no : (r : Text) → Escline a.rest r → ⊥ = λ r p. n r (escline_ends_at l.0 l.1 (rw t.0 at p)) in
     (no, (i, rw t.0 refl, no, λ u w. no_inside l x (rw t.0 at w)))
 
 -- what went on behind the backslash
