@@ -1,5 +1,6 @@
 pub mod Bares
 mod Blanks
+mod Blocks
 pub mod Eats
 pub mod Ends
 mod Escapes
@@ -11,7 +12,14 @@ pub mod NumberReads
 mod Quoting
 pub mod Runs
 pub mod Slices
+pub mod Stars
 pub mod Texts
+pub mod TriviaDet
+pub mod TriviaPieces
+pub mod TriviaRuns
+pub mod TriviaSpaces
+mod Turns
 pub mod Units
+pub mod ValueEnds
 pub mod WholeNumbers
 mod Words

@@ -7,3 +7,5 @@ pub mod Numbers
 pub mod Reading
 pub mod Spans
 pub mod Strings
+pub mod Trivia
+pub mod TriviaReading

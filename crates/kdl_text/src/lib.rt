@@ -1,4 +1,4 @@
-//! The text layer of KDL 2: characters, strings, numbers, and the places of faults.
+//! The text layer of KDL 2: characters, comments and spaces, strings, numbers, and the places of faults.
 #![tactic(auto)]
 
 pub mod chars;
@@ -6,3 +6,4 @@ pub mod error;
 pub mod numbers;
 pub mod span;
 pub mod strings;
+pub mod trivia;

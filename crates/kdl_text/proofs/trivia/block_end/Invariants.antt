@@ -1,0 +1,9 @@
+use Rattle.std.proofs.Common.{length}
+use Rattle.kdl_text.proofs.Turns.{Inside}
+use Rattle.kdl_text.proofs.trivia.block_end.Given as goal
+
+abbrev pub invariant-parts : goal.invariant-parts
+invariant-parts l = Inside l.initial.cursor l.depth l.cursor
+
+abbrev pub decreases-parts : goal.decreases-parts
+decreases-parts l = length l.cursor.rest

@@ -1,0 +1,34 @@
+use Rattle.std.proofs.Common.{arith, refl, true}
+use Rattle.kdl_text.proofs.Going.{moves_then, moves_two, moves_stayed}
+use Rattle.kdl_text.proofs.TriviaRuns.{block_reads, opens_here, two_costs, stayed_costs, stayed_line}
+use Rattle.kdl_text.proofs.trivia.slash.Goals as goal
+
+pub returns-then-block_end-clause-reads : goal.returns-then-block_end-clause-reads
+returns-then-block_end-clause-reads c = block_reads true _ _ c.block_end.new.cursor.rest c.if-eat_two.ensures c.if-block_end.ensures.reads
+
+pub returns-then-block_end-clause-moves : goal.returns-then-block_end-clause-moves
+returns-then-block_end-clause-moves c = moves_then (moves_two c.if-eat_two.ensures) c.if-block_end.ensures.moves
+
+pub returns-then-block_end-clause-costs : goal.returns-then-block_end-clause-costs
+returns-then-block_end-clause-costs c = two_costs _ _ _ _ _ _ c.if-eat_two.ensures c.if-block_end.ensures.moves c.if-block_end.ensures.costs (omega arith)
+
+pub returns-else-block_end-clause-reads : goal.returns-else-block_end-clause-reads
+returns-else-block_end-clause-reads c = (opens_here _ _ c.block_end.new.cursor.rest c.if-eat_two.ensures c.if-block_end.ensures.reads, c.if-block_end.ensures.ended refl)
+
+pub returns-else-block_end-clause-moves : goal.returns-else-block_end-clause-moves
+returns-else-block_end-clause-moves c = moves_then (moves_two c.if-eat_two.ensures) c.if-block_end.ensures.moves
+
+pub returns-else-block_end-clause-costs : goal.returns-else-block_end-clause-costs
+returns-else-block_end-clause-costs c = two_costs _ _ _ _ _ _ c.if-eat_two.ensures c.if-block_end.ensures.moves c.if-block_end.ensures.costs (omega arith)
+
+pub returns-then-eat_two-2-clause-reads : goal.returns-then-eat_two-2-clause-reads
+returns-then-eat_two-2-clause-reads c = stayed_line _ _ _ _ _ c.if-eat_two.ensures.1 c.if-eat_two-2.ensures c.line_end.ensures.reads
+
+pub returns-then-eat_two-2-clause-moves : goal.returns-then-eat_two-2-clause-moves
+returns-then-eat_two-2-clause-moves c = moves_then (moves_stayed c.if-eat_two.ensures.1) (moves_then (moves_two c.if-eat_two-2.ensures) c.line_end.ensures.moves)
+
+pub returns-then-eat_two-2-clause-costs : goal.returns-then-eat_two-2-clause-costs
+returns-then-eat_two-2-clause-costs c = stayed_costs _ _ _ _ _ _ _ _ c.if-eat_two.ensures.1 (omega arith) c.if-eat_two-2.ensures c.line_end.ensures.moves c.line_end.ensures.costs (omega arith)
+
+pub returns-then-slashdash_mark-clause-moves : goal.returns-then-slashdash_mark-clause-moves
+returns-then-slashdash_mark-clause-moves c = moves_then (moves_stayed c.if-eat_two.ensures.1) (moves_then (moves_stayed c.if-eat_two-2.ensures.1) c.slashdash_mark.ensures.moves)

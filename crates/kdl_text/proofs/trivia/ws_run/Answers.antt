@@ -1,0 +1,18 @@
+use Rattle.kdl_text.proofs.TriviaRuns.{begun, run_stops, run_unclosed, run_turn}
+use Rattle.kdl_text.proofs.trivia.ws_run.Goals as goal
+
+pub run-init : goal.run-init
+run-init c = begun _
+
+pub returns-then-not-eat_two : goal.returns-then-not-eat_two
+returns-then-not-eat_two c =
+    let e = run_stops _ _ _ c.run.invariant c.spaces.ensures.reads c.spaces.ensures.moves c.spaces.ensures.costs _ c.if-not-eat_two.ensures in
+    record { reads = e.reads; moves = e.moves; costs = e.costs }
+
+pub returns-then-not-block_end : goal.returns-then-not-block_end
+returns-then-not-block_end c =
+    let e = run_unclosed _ _ _ c.run.invariant c.spaces.ensures.reads c.spaces.ensures.moves c.spaces.ensures.costs _ _ c.if-not-eat_two.ensures c.if-not-block_end.ensures.moves c.if-not-block_end.ensures.costs _ c.at-at.ensures c.if-not-block_end.ensures.reads in
+    record { reads = e.reads; moves = e.moves; costs = e.costs }
+
+pub run-preserved : goal.run-preserved
+run-preserved c = run_turn _ _ _ c.run.invariant c.spaces.ensures.reads c.spaces.ensures.moves c.spaces.ensures.costs _ _ c.if-not-eat_two.ensures c.if-not-block_end.ensures.moves c.if-not-block_end.ensures.costs c.if-not-block_end.ensures.reads

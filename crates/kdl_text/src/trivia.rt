@@ -1,0 +1,242 @@
+//! Trivia: comments, spaces, esclines, and the mark of a slashdash.
+
+ghost use Rattle.kdl_text.specs.Chars.{Text, begins, begins_two, Space};
+ghost use Rattle.kdl_text.specs.Here.{AteTwo};
+ghost use Rattle.kdl_text.specs.Reading.{Reads, Moves, Costs, Longest};
+ghost use Rattle.kdl_text.specs.Trivia.{Parts, BlockComment, Line, LineComment, EscEnd};
+ghost use Rattle.kdl_text.specs.TriviaReading.{PieceCosts, RunsWs, ReadsEscline, ReadsSlash, SlashCosts, ReadsNodeSpace, SpaceCosts};
+ghost use Rattle.std.specs.Prelude.{◌≡◌, true, false, []};
+
+use crate::chars::{Class, Cursor, is_space, newline};
+
+#[cfg(test)]
+mod tests;
+
+/// What is wrong where a space or a comment should be, with the offset of the piece in bytes from the start of the text.
+#[derive(Clone, Copy, Debug, PartialEq, Eq)]
+pub enum TriviaFault {
+    /// A block comment isn't closed (KDL 2.0.0, Multi-line Comments).
+    UnclosedComment(usize),
+    /// A backslash begins no escline (KDL 2.0.0, Line Continuation).
+    NotEscline(usize),
+}
+
+/// What begins at a slash.
+#[derive(Clone, Copy, Debug, PartialEq, Eq)]
+pub enum SlashRead {
+    /// A block comment, which the cursor went past.
+    Block,
+    /// A line comment, which the cursor went past with its newline.
+    Line,
+    /// The mark `/-`, which the cursor went past.
+    Dash,
+    /// A block comment that isn't closed. The cursor is at the end of the text.
+    Unclosed,
+    /// None of these. The cursor has not moved.
+    Other,
+}
+
+/// What a reader of one node-space met.
+#[derive(Clone, Copy, Debug, PartialEq, Eq)]
+pub enum SpaceRead {
+    /// One, which the cursor went past.
+    Read,
+    /// No space, no `/*` and no backslash. The cursor has not moved.
+    Absent,
+    /// A block comment that isn't closed, or a backslash that begins no escline. The cursor has moved.
+    Fault(TriviaFault),
+}
+
+/// Goes past all that follows the `/*` of a block comment. False: it isn't closed, and the cursor is at the end.
+fn block_end(cursor: &mut Cursor) -> bool
+    ensures reads { Reads Parts result cursor.old.rest cursor.new.rest }
+    ensures ended { result ≡ false → cursor.new.rest ≡ [] }
+    ensures moves { Moves cursor.old cursor.new }
+    ensures costs { Costs 2 1 cursor.old cursor.new }
+{
+    let mut depth: u64 = 1;
+    'parts: loop {
+        match cursor.take() {
+            None => return false,
+            Some('/') => {
+                if cursor.eat('*') {
+                    depth += 1;
+                }
+            }
+            Some('*') => {
+                if cursor.eat('/') {
+                    depth -= 1;
+                    if depth == 0 {
+                        return true;
+                    }
+                }
+            }
+            Some(_) => {}
+        }
+    }
+}
+
+/// Goes past the block comment that begins here (KDL 2.0.0, Multi-line Comments). False: it isn't closed, and the cursor is at the end.
+pub fn block_comment(cursor: &mut Cursor) -> bool
+    requires { begins_two 47 42 cursor.old.rest ≡ true }
+    ensures reads { Reads BlockComment result cursor.old.rest cursor.new.rest }
+    ensures ended { result ≡ false → cursor.new.rest ≡ [] }
+    ensures moves { Moves cursor.old cursor.new }
+    ensures costs { PieceCosts 9 cursor.old cursor.new }
+{
+    let _ = cursor.eat_two('/', '*');
+    block_end(cursor)
+}
+
+/// Goes past the rest of a line, and the newline that ends it, if one does.
+fn line_end(cursor: &mut Cursor)
+    ensures reads { Reads Line true cursor.old.rest cursor.new.rest }
+    ensures moves { Moves cursor.old cursor.new }
+    ensures costs { Costs 2 2 cursor.old cursor.new }
+{
+    cursor.skip(Class::Line);
+    let _ = newline(cursor);
+}
+
+/// Goes past the line comment that begins here, its newline included (KDL 2.0.0, Single-line Comments).
+pub fn line_comment(cursor: &mut Cursor)
+    requires { begins_two 47 47 cursor.old.rest ≡ true }
+    ensures reads { Reads LineComment true cursor.old.rest cursor.new.rest }
+    ensures moves { Moves cursor.old cursor.new }
+    ensures costs { PieceCosts 9 cursor.old cursor.new }
+{
+    let _ = cursor.eat_two('/', '/');
+    line_end(cursor);
+}
+
+/// Goes past spaces, as many as there are (KDL 2.0.0, Whitespace).
+#[inline]
+pub fn spaces(cursor: &mut Cursor)
+    ensures reads { Longest Space cursor.old.rest cursor.new.rest }
+    ensures moves { Moves cursor.old cursor.new }
+    ensures costs { Costs 1 1 cursor.old cursor.new }
+{
+    cursor.skip(Class::Space);
+}
+
+/// Goes past spaces and block comments, as many as there are. An error is the offset of a block comment that isn't closed.
+fn ws_run(cursor: &mut Cursor) -> Result<(), usize>
+    ensures reads { RunsWs result cursor.old cursor.new }
+    ensures moves { Moves cursor.old cursor.new }
+    ensures costs { Costs 3 3 cursor.old cursor.new }
+{
+    'run: loop {
+        spaces(cursor);
+        let at = cursor.at();
+        if !cursor.eat_two('/', '*') {
+            return Ok(());
+        }
+        if !block_end(cursor) {
+            return Err(at);
+        }
+    }
+}
+
+/// Goes past what ends an escline: a line comment, a newline, or nothing at the end of the text. False: none of these is here.
+fn escline_end(cursor: &mut Cursor) -> bool
+    ensures reads { Reads EscEnd result cursor.old.rest cursor.new.rest }
+    ensures moves { Moves cursor.old cursor.new }
+    ensures costs { Costs 2 4 cursor.old cursor.new }
+{
+    if cursor.eat_two('/', '/') {
+        line_end(cursor);
+        return true;
+    }
+    if newline(cursor) {
+        return true;
+    }
+    match cursor.look() {
+        None => true,
+        Some(_) => false,
+    }
+}
+
+/// Goes past the escline whose backslash is here (KDL 2.0.0, Line Continuation).
+///
+/// Fails with `UnclosedComment` if a block comment in it isn't closed, and with `NotEscline` if anything else
+/// than a line comment, a newline or the end of the text follows.
+pub fn escline(cursor: &mut Cursor) -> Result<(), TriviaFault>
+    requires { begins 92 cursor.old.rest ≡ true }
+    ensures reads { ReadsEscline result cursor.old cursor.new }
+    ensures moves { Moves cursor.old cursor.new }
+    ensures costs { PieceCosts 8 cursor.old cursor.new }
+{
+    let at = cursor.at();
+    let _ = cursor.eat('\\');
+    match ws_run(cursor) {
+        Err(comment) => Err(TriviaFault::UnclosedComment(comment)),
+        Ok(()) => {
+            if escline_end(cursor) {
+                Ok(())
+            } else {
+                Err(TriviaFault::NotEscline(at))
+            }
+        }
+    }
+}
+
+/// Goes past one space, block comment or escline (KDL 2.0.0, Whitespace and Line Continuation), if one begins here.
+pub fn node_space(cursor: &mut Cursor) -> SpaceRead
+    ensures reads { ReadsNodeSpace result cursor.old cursor.new }
+    ensures moves { Moves cursor.old cursor.new }
+    ensures costs { SpaceCosts result cursor.old cursor.new }
+{
+    match cursor.look() {
+        Some('\\') => match escline(cursor) {
+            Ok(()) => SpaceRead::Read,
+            Err(fault) => SpaceRead::Fault(fault),
+        },
+        Some('/') => {
+            let at = cursor.at();
+            if !cursor.eat_two('/', '*') {
+                return SpaceRead::Absent;
+            }
+            if block_end(cursor) {
+                SpaceRead::Read
+            } else {
+                SpaceRead::Fault(TriviaFault::UnclosedComment(at))
+            }
+        }
+        Some(c) if is_space(c) => {
+            cursor.step();
+            SpaceRead::Read
+        }
+        _ => SpaceRead::Absent,
+    }
+}
+
+/// Goes past the mark `/-` of a slashdash, if it is here (KDL 2.0.0, Slashdash Comments).
+#[inline]
+pub fn slashdash_mark(cursor: &mut Cursor) -> bool
+    ensures reads { AteTwo 47 45 result cursor.old cursor.new }
+    ensures moves { Moves cursor.old cursor.new }
+{
+    cursor.eat_two('/', '-')
+}
+
+/// Goes past the block comment, the line comment or the mark `/-` that begins with the slash here, if one of them does.
+pub fn slash(cursor: &mut Cursor) -> SlashRead
+    ensures reads { ReadsSlash result cursor.old cursor.new }
+    ensures moves { Moves cursor.old cursor.new }
+    ensures costs { SlashCosts result cursor.old cursor.new }
+{
+    if cursor.eat_two('/', '*') {
+        if block_end(cursor) {
+            SlashRead::Block
+        } else {
+            SlashRead::Unclosed
+        }
+    } else if cursor.eat_two('/', '/') {
+        line_end(cursor);
+        SlashRead::Line
+    } else if slashdash_mark(cursor) {
+        SlashRead::Dash
+    } else {
+        SlashRead::Other
+    }
+}
