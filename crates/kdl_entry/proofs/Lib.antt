@@ -1,3 +1,4 @@
 pub mod Equality
+pub mod Escapes
 pub mod Printing
 pub mod Spellings
