@@ -35,9 +35,9 @@ nodes_more xs i x depth h =
     rw (take_more xs i x h, nodes_tree_more (take i xs) n, print_nodes-join (nodes_tree (take i xs)) (first (node_tree n) none) depth, append-nil (print_node (node_tree n) depth)) refl
 
 -- the last entry, as a look-up gives it
-pub has_format : {A B C : Type 0} (v : A → B) (w : B → C) (o : Option A) (p : Option B) → option_map v o ≡ p → is_some o ≡ not (is_none (option_map w p))
-has_format v w None p h = rw (← h) refl
-has_format v w (Some a) p h = rw (← h) refl
+pub has_format : {A B : Type 0} (v : A → B) (o : Option A) (p : Option B) → option_map v o ≡ p → is_some o ≡ not (is_none p)
+has_format v None p h = rw (← h) refl
+has_format v (Some a) p h = rw (← h) refl
 
 pub last_formatted : (es : List KdlEntry) (e : KdlEntry) → slice_get es (length es - 1) ≡ Some e → last_has_format (map entry_tree es) ≡ not (is_none (option_map entry_format_tree e.format))
 last_formatted [] e h = absurd (cc)

@@ -1,6 +1,6 @@
 -- What `==` means, on trees.
 use mathlib.Core.Bool.{beq}
-use Rattle.std.proofs.Common.{◌≡◌, ℕ, List, Bool, true, false, ◌&&◌, Option, Some, None, option_map, String, string_bytes, ap, sym, ◌∙◌, refl, Global}
+use Rattle.std.proofs.Common.{◌≡◌, Bool, true, false, Option, Some, None, option_map, String, string_bytes, ap, sym, ◌∙◌, refl, Global}
 use Rattle.std.proofs.lemmas.Slice.Eq.{bytes_eq-Decides}
 use Rattle.std.proofs.lemmas.Str.{IsUtf8-string_bytes, encodes-chars}
 use Rattle.std.specs.Bool.{Decides}
@@ -47,7 +47,7 @@ value_decides (Integer y) (Integer z) = Decides-like _ (λ e. cc) (λ e. cc) (De
 pub identifier_decides : (i j : KdlIdentifier) → Decides (identifier_impl.ghosts.eq i j) (without_span (identifier_tree i) ≡ without_span (identifier_tree j))
 identifier_decides i j =
     Decides-like _ (λ e. cc) (λ e. (ap (λ x. x.value) e, ap (λ x. x.repr) e))
-      (Decides-and _ _ (text_decides i.value j.value) (option_decides string_eq text_of text_decides i.repr j.repr))
+    (Decides-and _ _ (text_decides i.value j.value) (option_decides string_eq text_of text_decides i.repr j.repr))
 
 mark_decides : (a b : Bool) → Decides (beq a b) (a ≡ b)
 mark_decides true true = (λ e. refl, λ e. refl)
@@ -64,10 +64,24 @@ format_decides f g =
     let ends = Decides-and _ _ (text_decides f.trailing g.trailing) (Decides-and _ _ (text_decides f.after_ty g.after_ty) types) in
     let all = Decides-and _ _ (text_decides f.value_repr g.value_repr) (Decides-and _ _ (text_decides f.leading g.leading) ends) in
     Decides-like _
-      (λ (value, (leading, (trailing, (ty, (before, (behind, (key, (eq, mark)))))))). cc)
-      (λ e. (ap (λ x. x.value_repr) e, (ap (λ x. x.leading) e, (ap (λ x. x.trailing) e, (ap (λ x. x.after_ty) e, (ap (λ x. x.before_ty_name) e,
-        (ap (λ x. x.after_ty_name) e, (ap (λ x. x.after_key) e, (ap (λ x. x.after_eq) e, ap (λ x. x.autoformat_keep) e)))))))))
-      all
+    (λ (value, (leading, (trailing, (ty, (before, (behind, (key, (eq, mark)))))))). cc)
+    (λ e. (
+      ap (λ x. x.value_repr) e,
+      (
+        ap (λ x. x.leading) e,
+        (
+          ap (λ x. x.trailing) e,
+          (
+            ap (λ x. x.after_ty) e,
+            (
+              ap (λ x. x.before_ty_name) e,
+              (ap (λ x. x.after_ty_name) e, (ap (λ x. x.after_key) e, (ap (λ x. x.after_eq) e, ap (λ x. x.autoformat_keep) e))),
+            ),
+          ),
+        ),
+      ),
+    ))
+    all
 
 -- an identifier's tree, wherever it stood
 abbrev spanless : KdlIdentifier → Identifier
@@ -81,7 +95,7 @@ name_decides : (o p : Option KdlIdentifier) → Decides (option_eq identifier_im
     (option_map without_span (option_map identifier_tree o) ≡ option_map without_span (option_map identifier_tree p))
 name_decides o p =
     Decides-like _ (λ e. mapped o ∙ e ∙ sym (mapped p)) (λ e. sym (mapped o) ∙ e ∙ mapped p)
-      (option_decides identifier_impl.ghosts.eq spanless identifier_decides o p)
+    (option_decides identifier_impl.ghosts.eq spanless identifier_decides o p)
 
 -- entries are equal exactly where all but their spans is
 pub entry_decides : (e d : KdlEntry) → Decides (entry_impl.ghosts.eq e d) (without_spans (entry_tree e) ≡ without_spans (entry_tree d))
@@ -89,5 +103,5 @@ entry_decides e d =
     let format = option_decides format_impl.ghosts.eq entry_format_tree format_decides e.format d.format in
     let rest = Decides-and _ _ (value_decides e.value d.value) (Decides-and _ _ (name_decides e.name d.name) format) in
     Decides-like _ (λ (ty, (value, (name, form))). cc)
-      (λ h. (ap (λ x. x.ty) h, (ap (λ x. x.value) h, (ap (λ x. x.name) h, ap (λ x. x.format) h))))
-      (Decides-and _ _ (name_decides e.ty d.ty) rest)
+    (λ h. (ap (λ x. x.ty) h, (ap (λ x. x.value) h, (ap (λ x. x.name) h, ap (λ x. x.format) h))))
+    (Decides-and _ _ (name_decides e.ty d.ty) rest)

@@ -1,5 +1,6 @@
 pub mod Cutting
 pub mod Equality
+pub mod Escapes
 pub mod Fronts
 pub mod Lexing
 pub mod Printing

@@ -24,7 +24,7 @@ signed_ascii (negsuc n) h (suc i) = IsAscii-decimal_wide (suc n) (omega arith) i
 pub signed_bytes : (z : ℤ) → mag z < 2 ^ 127 → signed_decimal z ≡ encode_utf8_all (signed_decimal z)
 signed_bytes z h = sym (encodes-IsAscii (signed_decimal z) (signed_ascii z h))
 
--- a character of one byte
+-- a character alone
 pub char_bytes : (c : ℕ) → encode_utf8 c ≡ encode_utf8_all (c ∷ [])
 char_bytes c = sym (append-nil (encode_utf8 c))
 

@@ -1,5 +1,5 @@
--- Printing a string, a character at a time.
-use Rattle.std.proofs.Common.{◌≡◌, ℕ, zero, suc, ◌<◌, ◌^◌, true, false, ◌||◌, List, [], ◌∷◌, ◌++◌, refl, sym, ap, ◌∙◌, arith, append_assoc, encode_utf8}
+-- Printing a string: its characters, and the bytes that are written.
+use Rattle.std.proofs.Common.{◌≡◌, ℕ, zero, suc, ◌<◌, ◌^◌, true, false, ◌||◌, List, [], ◌∷◌, ◌++◌, refl, sym, ap, ◌∙◌, arith, encode_utf8}
 use Rattle.std.proofs.lemmas.Bool.{and_parts}
 use Rattle.std.proofs.lemmas.Bool.Decides.{nat_tests, same_from_decides}
 use Rattle.std.proofs.lemmas.Slice.Eq.{bytes_eq-Decides}
@@ -47,12 +47,6 @@ pub coded_bytes : (c : ℕ) → c < 2 ^ 32 → escape_letter c ≡ 0 → (is_new
     → 92 ∷ 117 ∷ 123 ∷ digits 16 false c ++ (125 ∷ []) ≡ encode_utf8_all (char_text c)
 unfolding char_text
 coded_bytes c small none coded = rw (none, coded) (sym (code_bytes c small))
-
-pub escaped-cons : (done s next : List ℕ) (c : ℕ) (whole : List ℕ) → chars s ≡ c ∷ chars next
-    → done ++ encode_utf8_all (escaped (chars s)) ≡ whole
-    → (done ++ encode_utf8_all (char_text c)) ++ encode_utf8_all (escaped (chars next)) ≡ whole
-escaped-cons done s next c whole e h =
-    append_assoc done _ _ ∙ ap (λ x. done ++ x) (sym (encodes-append (char_text c) (escaped (chars next))) ∙ ap (λ x. encode_utf8_all (escaped x)) (sym e)) ∙ h
 
 pub bare_bytes : (bs : List ℕ) → IsUtf8 bs → prints_bare (chars bs) ≡ true → bs ≡ encode_utf8_all (spelled (chars bs))
 unfolding spelled

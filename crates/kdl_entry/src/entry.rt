@@ -99,10 +99,16 @@ impl KdlEntry {
     pub fn new(value: KdlValue) -> KdlEntry
         ensures { entry_tree result ≡ plain_entry None (value_tree value) }
     {
+        KdlEntry::plain(None, value)
+    }
+
+    fn plain(name: Option<KdlIdentifier>, value: KdlValue) -> KdlEntry
+        ensures { entry_tree result ≡ plain_entry (option_map identifier_tree name) (value_tree value) }
+    {
         KdlEntry {
             ty: None,
             value,
-            name: None,
+            name,
             format: None,
             span: SourceSpan { offset: 0, len: 0 },
         }
@@ -209,13 +215,7 @@ impl KdlEntry {
     pub fn new_prop(name: KdlIdentifier, value: KdlValue) -> KdlEntry
         ensures { entry_tree result ≡ plain_entry (Some (identifier_tree name)) (value_tree value) }
     {
-        KdlEntry {
-            ty: None,
-            value,
-            name: Some(name),
-            format: None,
-            span: SourceSpan { offset: 0, len: 0 },
-        }
+        KdlEntry::plain(Some(name), value)
     }
 }
 

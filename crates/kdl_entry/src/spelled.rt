@@ -1,14 +1,16 @@
 //! The spelling in which a string is printed.
 
 ghost use Rattle.kdl_entry.specs.Spelled as spec;
+ghost use Rattle.kdl_entry.specs.Spelled.{PlainRun};
 ghost use Rattle.kdl_text.specs.Bare as bare;
 ghost use Rattle.kdl_text.specs.Chars as class;
 ghost use Rattle.std.specs.Char.{IsScalar, is_ascii};
 ghost use Rattle.std.specs.Fmt.{WritesOnOk};
 ghost use Rattle.std.specs.List.{list_all};
-ghost use Rattle.std.specs.Prelude.{◌≡◌, ◌++◌, ◌∷◌, [], ◌<◌, true, length, MatchOption, IfSome, encode_utf8};
+ghost use Rattle.std.specs.Prelude.{◌≡◌, ◌++◌, ◌∷◌, [], ◌<◌, ◌≤◌, true, length, MatchOption, IfSome, encode_utf8};
 ghost use Rattle.std.specs.Str.{chars, bytes_eq, encode_utf8_all, IsUtf8};
 
+use crate::print::write_text;
 use kdl_text::chars::{is_banned, is_digit, is_identifier_char, is_newline_char};
 use std::fmt;
 use std::fmt::{Formatter, Write};
@@ -126,16 +128,55 @@ fn write_char_text<W: Write>(c: char, f: &mut Formatter<W>) -> fmt::Result
     }
 }
 
+/// Whether the character is printed as it is between quotes.
+#[tactic(auto, unfolding(crate::specs::Spelled::char_text))]
+fn is_plain(c: char) -> bool
+    ensures { result ≡ true → spec.char_text c ≡ c ∷ [] }
+{
+    escape_letter(c) == '\0' && !is_newline_char(c) && !is_banned(c)
+}
+
+/// The text behind the longest run of characters that are printed as they are between quotes.
+#[tactic(auto, using(crate::proofs::Escapes::run_begins, crate::proofs::Escapes::run_turn))]
+fn skip_plain(s: &str) -> &str
+    ensures run { PlainRun s.now result.now }
+    ensures shorter { length result.now ≤ length s.now }
+{
+    let mut rest = s;
+    'chars: while let Some((c, next)) = next_char(rest) {
+        if !is_plain(c) {
+            break;
+        }
+        rest = next;
+    }
+    rest
+}
+
+/// The characters of such a run that stand before the rest.
+fn before<'a>(s: &'a str, rest: &str) -> &'a str
+    requires { PlainRun s.now rest.now }
+    ensures parts { chars s.now ≡ chars result.now ++ chars rest.now }
+    ensures as_is { spec.escaped (chars result.now) ≡ chars result.now }
+{
+    &s[..s.len() - rest.len()]
+}
+
 /// Writes a text as it stands between quotes.
 fn write_escaped<W: Write>(s: &str, f: &mut Formatter<W>) -> fmt::Result
     ensures { WritesOnOk W.write_str_gives f.old result (encode_utf8_all (spec.escaped (chars s.now))) f.new }
 {
     let mut rest = s;
-    'chars: while let Some((c, next)) = next_char(rest) {
-        write_char_text(c, f)?;
-        rest = next;
+    'runs: loop {
+        let next = skip_plain(rest);
+        write_text(before(rest, next), f)?;
+        match next_char(next) {
+            Some((c, behind)) => {
+                write_char_text(c, f)?;
+                rest = behind;
+            }
+            None => return Ok(()),
+        }
     }
-    Ok(())
 }
 
 /// Writes a string as it is spelled: bare where that reads back, else between quotes (KDL 2.0.0, String).

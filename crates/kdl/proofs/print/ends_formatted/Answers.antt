@@ -5,4 +5,4 @@ use Rattle.kdl.proofs.print.ends_formatted.Goals as goal
 
 pub returns-in-Some : goal.returns-in-Some
 returns-in-Some c =
-    c.is_some.ensures ∙ has_format (λ n. n.now) entry_format_tree _ _ c.format.ensures ∙ sym (last_formatted c.args.entries.now c.in-Some.last.now (sym c.in-Some.ensures.value))
+    c.is_some.ensures ∙ has_format (λ t. entry_format_tree t.now) _ _ c.format.ensures ∙ sym (last_formatted c.args.entries.now c.in-Some.last.now (sym c.in-Some.ensures.value))

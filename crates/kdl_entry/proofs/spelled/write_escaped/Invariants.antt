@@ -6,10 +6,10 @@ use denote.Shadow.{shadow}
 use Rattle.kdl_entry.specs.Spelled.{escaped}
 use Rattle.kdl_entry.proofs.spelled.write_escaped.Given as goal
 
-abbrev pub invariant-chars : goal.invariant-chars
-invariant-chars g l =
+abbrev pub invariant-runs : goal.invariant-runs
+invariant-runs g l =
     shadow (Utf8 l.rest) × (done : List ℕ) × (done ++ encode_utf8_all (escaped (chars l.rest)) ≡ encode_utf8_all (escaped (chars l.fn.s)))
     × (IsPlainFormatter l.initial.f → HasWritten g.W.Write.write_str_gives l.initial.f done l.f)
 
-abbrev pub decreases-chars : goal.decreases-chars
-decreases-chars g l = length l.rest
+abbrev pub decreases-runs : goal.decreases-runs
+decreases-runs g l = length l.rest
