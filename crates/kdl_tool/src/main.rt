@@ -1,0 +1,39 @@
+//! `kdl-tool`: reads a KDL document from standard input, and writes it to standard output.
+#![tactic(auto)]
+
+#[cfg(test)]
+mod tests;
+#[cfg(test)]
+mod tests_cat;
+mod tool;
+mod watched;
+
+use std::alloc::Global;
+use std::io::ErrorKind;
+use std::process::ExitCode;
+use std::{env, io};
+use tool::{Outcome, run};
+use watched::Watched;
+
+/// Runs the tool on the arguments, standard input and standard output, and tells on standard
+/// error why it stopped.
+fn main(rt: HostRuntime) -> ExitCode {
+    let outcome = match arguments(&rt) {
+        Ok(words) => {
+            let mut reader = Watched::new(rt.stdin());
+            let mut writer = Watched::new(rt.stdout());
+            run(rt.alloc(), &words, &mut reader, &mut writer)
+        }
+        // An argument that is not UTF-8 is no word of the tool.
+        Err(error) if error.kind() == ErrorKind::InvalidData => Outcome::Usage,
+        Err(_) => Outcome::Memory,
+    };
+    let _ = outcome.report(&mut rt.stderr());
+    ExitCode::from(outcome.status())
+}
+
+/// The arguments without the program's name.
+fn arguments(rt: &HostRuntime) -> io::Result<Vec<String>> {
+    let words = env::args(rt)?.skip(1).collect(rt.alloc())?;
+    Ok(words)
+}

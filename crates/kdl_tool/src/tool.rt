@@ -1,0 +1,212 @@
+//! The tool itself, over any reader and any writer.
+ghost use Rattle.std.specs.Prelude.{◌≡◌, ◌↔◌, ℕ, true, false, IsTrue, IfOk, IfErr, OnOk, map, take, string_bytes};
+ghost use Rattle.std.specs.Io.KnownBytes.{Appends};
+ghost use Rattle.kdl_text.specs.Failures.{IsSyntax};
+ghost use Rattle.kdl_tool.specs.Runs.{IsCat, IsUsage, IsInput, Ran, WritesNothing, Marked, Answered, AreDocument, AreNoDocument, IsDone};
+ghost use Rattle.kdl_tool.specs.Reports.{status_of, report_of, line, lines_of};
+
+use crate::watched::Watched;
+use kdl::{KdlDocument, KdlError, ParseFailure};
+use std::alloc::Global;
+use std::io::{Read, Write};
+
+/// How many bytes are asked for at a time.
+const READ_SIZE: usize = 65536;
+
+/// What a run came to.
+#[derive(Debug, Drop)]
+pub enum Outcome {
+    /// The output is written, all of it.
+    Done,
+    /// The input is no KDL document.
+    Refused(KdlError),
+    /// The input is no UTF-8.
+    NotUtf8,
+    /// The document has no such value.
+    NoValue,
+    /// The words are none of the tool's.
+    Usage,
+    /// A `read` answered an error.
+    ReadFailed,
+    /// A `write` answered an error, or took no byte.
+    WriteFailed,
+    /// A request for memory was refused.
+    Memory,
+}
+
+/// Why the input was not read to its end.
+#[derive(Drop)]
+enum Unread {
+    Failed,
+    Memory,
+}
+
+/// Runs the tool: `cat` writes the document that it reads as it stands. Any other words are
+/// `Usage`, and nothing is read.
+///
+/// The whole input is read and parsed before the first byte is written. The first error of a
+/// `read` or a `write` ends the run, an interrupted one too. Nothing is flushed: that is for the
+/// owner of a writer with a buffer.
+pub fn run<R: Read, W: Write>(
+    alloc: Global,
+    words: &[String],
+    reader: &mut Watched<R>,
+    writer: &mut Watched<W>,
+) -> Outcome
+    ensures usage { IsUsage result ↔ (IsCat (map string_bytes words.now) → ⊥) }
+    ensures unread { IsUsage result → reader.new ≡ reader.old }
+    ensures unwritten { WritesNothing result → writer.new ≡ writer.old }
+    ensures ran { Ran result (R.remaining reader.old.inner) (R.remaining reader.new.inner)
+        (W.contents writer.old.inner) (W.contents writer.new.inner) }
+    ensures marked { Marked result reader.new.failed reader.new.ended writer.new.failed }
+{
+    if !is_cat(words) {
+        return Outcome::Usage;
+    }
+    match read_whole(alloc, reader) {
+        Ok(input) => answer(alloc, &input, writer),
+        Err(Unread::Failed) => Outcome::ReadFailed,
+        Err(Unread::Memory) => Outcome::Memory,
+    }
+}
+
+/// Whether the words are `cat` alone.
+fn is_cat(words: &[String]) -> bool
+    ensures { IsTrue result ↔ IsCat (map string_bytes words.now) }
+{
+    match words {
+        [word] => word.as_str() == "cat",
+        _ => false,
+    }
+}
+
+/// All that the reader has left, up to the first read that gives no byte.
+fn read_whole<R: Read>(alloc: Global, reader: &mut Watched<R>) -> Result<Vec<u8>, Unread>
+    ensures whole { IfOk result (λ input. IsInput (R.remaining reader.old.inner) (R.remaining reader.new.inner) input.items) }
+    ensures ended { OnOk result (reader.new.ended ≡ true) }
+    ensures failed { IfErr result (λ e. e ≡ Unread.Failed → reader.new.failed ≡ true) }
+{
+    let mut input = Vec::new(alloc);
+    let mut buffer = [0u8; READ_SIZE];
+    loop {
+        match reader.read(&mut buffer) {
+            Ok(0) => return Ok(input),
+            Ok(n) => {
+                if input.extend_from_slice(&buffer[..n]).is_err() {
+                    return Err(Unread::Memory);
+                }
+            }
+            Err(_) => return Err(Unread::Failed),
+        }
+    }
+}
+
+/// Parses the input, and writes the document that it is.
+fn answer<W: Write>(alloc: Global, input: &[u8], writer: &mut Watched<W>) -> Outcome
+    ensures unwritten { WritesNothing result → writer.new ≡ writer.old }
+    ensures answered { Answered result input.now (W.contents writer.old.inner) (W.contents writer.new.inner) }
+    ensures marked { Marked result true true writer.new.failed }
+{
+    let Ok(text) = str::from_utf8(input) else {
+        return Outcome::NotUtf8;
+    };
+    match printed(alloc, text) {
+        Ok(output) => {
+            if write_whole(output.as_bytes(), writer) {
+                Outcome::Done
+            } else {
+                Outcome::WriteFailed
+            }
+        }
+        Err(ParseFailure::Syntax(error)) => Outcome::Refused(error),
+        Err(ParseFailure::Memory) => Outcome::Memory,
+    }
+}
+
+/// The printed parse of a text.
+fn printed(alloc: Global, text: &str) -> Result<String, ParseFailure>
+    ensures document { OnOk result (AreDocument text.now) }
+    ensures same { IfOk result (λ output. string_bytes output ≡ text.now) }
+    ensures refused { IsSyntax result → AreNoDocument text.now }
+{
+    let document = KdlDocument::parse(alloc, text)?;
+    let output = document.to_string(alloc)?;
+    Ok(output)
+}
+
+/// Writes the bytes, and answers whether all were written. It stops at the first error, and at
+/// the first write that takes no byte.
+#[tactic(auto, using(crate::proofs::Steps::written_more))]
+fn write_whole<W: Write>(bytes: &[u8], writer: &mut Watched<W>) -> bool
+    ensures all { IsTrue result → Appends (W.contents writer.old.inner) (W.contents writer.new.inner) bytes.now }
+    ensures part { (n : ℕ) × Appends (W.contents writer.old.inner) (W.contents writer.new.inner) (take n bytes.now) }
+    ensures failed { result ≡ false → writer.new.failed ≡ true }
+{
+    let mut done = 0;
+    while done < bytes.len() {
+        match writer.write(&bytes[done..]) {
+            Ok(0) | Err(_) => return false,
+            Ok(n) => done += n,
+        }
+    }
+    true
+}
+
+impl Outcome {
+    /// The exit status: 0 where all is done, 1 where the input is refused, 2 for words that are
+    /// none of the tool's, and 3 where a read, a write or a request for memory failed.
+    pub fn status(&self) -> u8
+        ensures { result ≡ status_of self.now }
+    {
+        match self {
+            Outcome::Done => 0,
+            Outcome::Refused(_) | Outcome::NotUtf8 | Outcome::NoValue => 1,
+            Outcome::Usage => 2,
+            Outcome::ReadFailed | Outcome::WriteFailed | Outcome::Memory => 3,
+        }
+    }
+
+    /// Writes what there is to tell, a line for each fault, and answers whether all was written.
+    ///
+    /// A line of a refused input is `offset..end message`, in bytes of the input.
+    pub fn report<W: Write>(&self, writer: &mut W) -> bool
+        ensures all { IsTrue result → Appends (W.contents writer.old) (W.contents writer.new) (report_of self.now) }
+        ensures done { IsDone self.now → (IsTrue result × writer.new ≡ writer.old) }
+    {
+        match self {
+            Outcome::Done => true,
+            Outcome::Refused(error) => report_error(error, writer),
+            Outcome::NotUtf8 => report_line("0..0 Input is not UTF-8", writer),
+            Outcome::NoValue => report_line("0..0 No such value", writer),
+            Outcome::Usage => report_line("usage: kdl-tool cat, fmt, strip or get NAME", writer),
+            Outcome::ReadFailed => report_line("reading failed", writer),
+            Outcome::WriteFailed => report_line("writing failed", writer),
+            Outcome::Memory => report_line("out of memory", writer),
+        }
+    }
+}
+
+/// Writes a line, and answers whether all of it was written.
+fn report_line<W: Write>(text: &str, writer: &mut W) -> bool
+    ensures { IsTrue result → Appends (W.contents writer.old) (W.contents writer.new) (line text.now) }
+{
+    writeln!(writer, "{text}").is_ok()
+}
+
+/// Writes a line for each diagnostic, and answers whether all were written.
+fn report_error<W: Write>(error: &KdlError, writer: &mut W) -> bool
+    ensures { IsTrue result → Appends (W.contents writer.old) (W.contents writer.new) (lines_of error.now) }
+{
+    for diagnostic in &error.diagnostics {
+        let start = diagnostic.span.offset;
+        let end = start.saturating_add(diagnostic.span.len);
+        let message = match &diagnostic.message {
+            Some(message) => message.as_str(),
+            None => "Unexpected error",
+        };
+        if writeln!(writer, "{start}..{end} {message}").is_err() {
+            return false;
+        }
+    }
+    true
+}

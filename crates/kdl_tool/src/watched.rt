@@ -1,0 +1,104 @@
+//! A reader or a writer with two marks: that a call on it failed, and that it is read to its end.
+//!
+//! The marks are private to this module, and only `read` and `write` set them.
+ghost use Rattle.std.specs.Prelude.{◌≡◌, ◌||◌, ◌==◌, false, length, is_err, if◌then◌else◌};
+ghost use Rattle.std.specs.Io.{ReadsAtMost, WritesAtMost};
+ghost use Rattle.std.specs.Io.KnownBytes.{Keeps, ReadConsumes, WriteAppends};
+ghost use Rattle.kdl_tool.specs.Marks.{gave_none, is_refused};
+
+use std::io;
+use std::io::{Read, Write};
+
+/// A reader or a writer, and what its calls so far came to.
+#[derive(Drop)]
+pub struct Watched<T> {
+    inner: T,
+    failed: bool,
+    ended: bool,
+}
+
+impl<T> Watched<T> {
+    /// `inner` before any call on it: neither mark is set.
+    pub fn new(inner: T) -> Watched<T>
+        ensures inner { result.inner ≡ inner }
+        ensures failed { result.failed ≡ false }
+        ensures ended { result.ended ≡ false }
+    {
+        Watched {
+            inner,
+            failed: false,
+            ended: false,
+        }
+    }
+
+    /// Whether some `read` or `write` so far answered an error, an interrupted one too, or some
+    /// `write` took no byte of some.
+    pub fn failed(&self) -> bool
+        ensures { result ≡ self.now.failed }
+    {
+        self.failed
+    }
+
+    /// Whether the last `read` into a buffer with room gave no byte, so that the reader is at its
+    /// end.
+    pub fn ended(&self) -> bool
+        ensures { result ≡ self.now.ended }
+    {
+        self.ended
+    }
+}
+
+impl<R: Read> Read for Watched<R> {
+    ghost remaining = { λ w. R.remaining w.inner };
+
+    /// One `read` of the inner reader.
+    fn read(&mut self, buf: &mut [u8]) -> io::Result<usize>
+        ensures bound { ReadsAtMost result buf.new }
+        ensures bytes { ReadConsumes (R.remaining self.old.inner) (R.remaining self.new.inner) result buf.new }
+        ensures failed { self.new.failed ≡ (self.old.failed || is_err result) }
+        ensures ended { self.new.ended ≡ (if length buf.old == 0 then self.old.ended else gave_none result) }
+    {
+        let Watched {
+            inner,
+            failed,
+            ended,
+        } = self;
+        let outcome = inner.read(buf);
+        if outcome.is_err() {
+            *failed = true;
+        }
+        if !buf.is_empty() {
+            *ended = matches!(outcome, Ok(0));
+        }
+        outcome
+    }
+}
+
+impl<W: Write> Write for Watched<W> {
+    ghost contents = { λ w. W.contents w.inner };
+
+    /// One `write` of the inner writer.
+    fn write(&mut self, buf: &[u8]) -> io::Result<usize>
+        ensures bound { WritesAtMost result buf.now }
+        ensures bytes { WriteAppends (W.contents self.old.inner) (W.contents self.new.inner) result buf.now }
+        ensures failed { self.new.failed ≡ (self.old.failed || is_refused result (length buf.now)) }
+        ensures ended { self.new.ended ≡ self.old.ended }
+    {
+        let Watched { inner, failed, .. } = self;
+        let outcome = inner.write(buf);
+        match outcome {
+            Ok(n) if n > 0 || buf.is_empty() => {}
+            _ => *failed = true,
+        }
+        outcome
+    }
+
+    /// One `flush` of the inner writer. It sets no mark.
+    fn flush(&mut self) -> io::Result<()>
+        ensures bytes { Keeps (W.contents self.old.inner) (W.contents self.new.inner) }
+        ensures failed { self.new.failed ≡ self.old.failed }
+        ensures ended { self.new.ended ≡ self.old.ended }
+    {
+        self.inner.flush()
+    }
+}
