@@ -5,3 +5,4 @@ pub mod Runs
 pub mod Newlines
 pub mod WholeNumbers
 pub mod NumberReads
+pub mod Decimals
