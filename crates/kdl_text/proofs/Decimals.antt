@@ -16,7 +16,7 @@ ten_mark : is_digit_of 10 95 ≡ false
 unfolding is_digit_of
 ten_mark = refl
 
-fraction_det : {t r s : Text} {a b : Bool} → Fraction t r a → Fraction t s b → (r ≡ s) × (a ≡ b)
+pub fraction_det : {t r s : Text} {a b : Bool} → Fraction t r a → Fraction t s b → (r ≡ s) × (a ≡ b)
 fraction_det (no_fraction x) (no_fraction y) = (refl, refl)
 fraction_det (no_fraction x) (fraction i) = cc
 fraction_det (fraction i) (no_fraction x) = cc
@@ -97,6 +97,10 @@ no_more l (mark i) p = let h = l.mark in cc
 
 no_mark : {c d k : ℕ} {q u v r : Text} → marked (c ∷ d ∷ q) ≡ Some k → Integer 10 (c ∷ d ∷ q) u v → DecimalPart u r → ⊥
 no_mark {c = c} {d = d} {k = k} {q = q} h (integer x i) p = no_more (mark_letter c d k q h) i p
+
+-- base 10 has no mark
+pub no_ten : (c d : ℕ) (s : Text) → marked (c ∷ d ∷ s) ≡ Some 10 → ⊥
+no_ten c d s h = grind (arith, nat_tests)
 
 -- at a decimal no mark of another base stands
 pub mark_is_ten : {s u v r x : Text} {k : ℕ} → Integer 10 s u v → DecimalPart u r → BaseMark s x k → (x ≡ s) × (k ≡ 10)

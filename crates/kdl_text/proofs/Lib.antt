@@ -6,3 +6,4 @@ pub mod Newlines
 pub mod WholeNumbers
 pub mod NumberReads
 pub mod Decimals
+pub mod DecimalReads
