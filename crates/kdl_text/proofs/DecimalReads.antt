@@ -1,8 +1,15 @@
 -- Readers of numbers that may be decimals, a step at a time.
-use Rattle.std.proofs.Common.{◌≡◌, ℕ, ◌+◌, ◌*◌, ◌<◌, ◌≤◌, List, [], ◌∷◌, ◌++◌, Bool, true, false, not, ◌||◌, ◌==◌, length, refl, ap, sym, ◌∙◌, subst, arith, ℤ, Some, None, ◌↔◌, lit≤, ne_eqb, length-append}
+use Rattle.std.proofs.Common.{◌≡◌, ℕ, ◌+◌, ◌*◌, ◌<◌, ◌≤◌, List, [], ◌∷◌, ◌++◌, Bool, true, false, not, ◌||◌, ◌==◌, length, refl, ap, sym, ◌∙◌, subst, arith, ℤ, Some, None, ◌↔◌, lit≤, length-append, ◌⊎◌, inl, inr, append-nil, IsTrue, cond, suc, ◌&&◌}
 use Rattle.std.proofs.lemmas.Str.{len_utf8_bounds}
 use Rattle.std.specs.Prelude.{if◌then◌else◌, Result, Ok, Err, IfOk, Option}
 use Rattle.std.specs.Char.{len_utf8}
+use Rattle.std.specs.Option.{is_some}
+use Rattle.std.specs.List.{list_all}
+use Rattle.std.specs.Str.{encode_utf8_all}
+use Rattle.std.proofs.Math.Utf8.{scalars}
+use lib.Utf8.{scalar}
+use Rattle.std.proofs.lemmas.Str.{chars-encodes}
+use Rattle.std.proofs.lemmas.Bool.{and_parts}
 use Rattle.std.specs.Str.Parse.{digits_value}
 use Rattle.std.specs.Str.{chars}
 use Rattle.std.specs.Prelude.{string_bytes}
@@ -27,7 +34,7 @@ use Rattle.kdl_text.specs.declared.numbers.NumberFault.TheVariants.{OutOfRange}
 use Rattle.kdl_text.proofs.Going.{stays, moves_then, moves_stayed, moves_one, stayed_looked, took_from, fewer_bytes, bytes-append, shorter, costs_then}
 use Rattle.kdl_text.proofs.Runs.{length-bytes}
 use Rattle.kdl_text.proofs.WholeNumbers.{sign_det, integer_det, integer_digit, whole_is, whole_digit, whole_number_det, shorter_integer}
-use Rattle.kdl_text.proofs.Decimals.{part_is, fraction_det, no_ten, mark_is_ten, part_of, part_begins, number_det}
+use Rattle.kdl_text.proofs.Decimals.{part_det, part_is, fraction_det, no_ten, mark_is_ten, part_of, part_begins, number_det}
 use Rattle.kdl_text.proofs.NumberReads.{tight}
 
 -- no number begins where no digit stands behind the sign and the mark
@@ -142,6 +149,14 @@ exponent_broken n a b d (c, is, t) g h r p x = broken is g h (subst (λ q. Expon
 pub mark_eaten : (c : ℕ) (a b e : Here) → Some c ≡ first a.rest → is_exponent_mark c ≡ true → b ≡ looked a → e ≡ stepped b → AteMark true a e
 mark_eaten c a b e h is x y = (c, is, took_from c a b e h x y)
 
+pub either : (a b : Bool) → ((a ≡ false) × (b ≡ true)) ⊎ (a ≡ true) → (a || b) ≡ true
+either true b h = refl
+either false b (inl h) = h.1
+either false b (inr h) = cc
+
+pub neither : (a b : Bool) → a ≡ false → b ≡ false → (a || b) ≡ false
+neither a b x y = rw (x, y) refl
+
 -- the part that makes a decimal
 pub part_broken : (t s : Text) (a : Bool) → Fraction t s a → ((r : Text) (b : Bool) → Exponent s r b → ⊥) → (r : Text) → DecimalPart t r → ⊥
 part_broken t s a f n r (part {s = u} {power = d} g h x y) = n r d (subst (λ z. Exponent z r d) (sym (fraction_det f g).0) h)
@@ -209,3 +224,81 @@ part_moves f a b d m s n = moves_then m (moves_then (moves_stayed s) n)
 pub part_costs : (p : Text) (f a b d e : Here) → Moves f a → Costs 2 4 f a → length a.rest < length f.rest → Stayed 1 a b → Moves b d → Costs 2 6 b d → f.rest ≡ p ++ d.rest → e ≡ sliced p d → Costs 24 0 f e
 part_costs p f a b d e m c less s n k h x =
     slice_costs 11 p f d e h (costs_then 2 4 7 f a d c (costs_then 2 1 6 a b d (costs_stayed a b s) k)) x (lit≤ tt) (omega (arith, less, ap length s.rest, shorter n))
+
+-- the end of a text, seen by a look
+pub at_end : (s : Text) (o : Option ℕ) (b : Bool) → o ≡ first s → is_some o ≡ not b → IsTrue b ↔ (s ≡ [])
+at_end [] o true h e = (λ y. refl, λ y. refl)
+at_end [] o false h e = let x : is_some o ≡ false = ap is_some h in cc
+at_end (c ∷ s) o true h e = let x : is_some o ≡ true = ap is_some h in cc
+at_end (c ∷ s) o false h e = (λ y. cc, λ y. cc)
+
+-- texts without `_`
+abbrev pub is_unmarked : Text → Bool
+is_unmarked s = list_all (λ c. not (c == 95)) s
+
+plain_shorter : (s : Text) → length (plain s) ≤ length s
+plain_shorter [] = omega arith
+plain_shorter (c ∷ s) = go (not (c == 95)) (plain_shorter s)
+  where
+    go : (b : Bool) → length (plain s) ≤ length s → length (cond b (c ∷ plain s) (plain s)) ≤ suc (length s)
+    go true i = omega (arith, i)
+    go false i = omega (arith, i)
+
+pub plain_same : (s : Text) → is_unmarked s ≡ true → plain s ≡ s
+plain_same [] h = refl
+plain_same (c ∷ s) h = go (not (c == 95)) h (plain_same s)
+  where
+    go : (b : Bool) → (b && is_unmarked s) ≡ true → (is_unmarked s ≡ true → plain s ≡ s) → cond b (c ∷ plain s) (plain s) ≡ c ∷ s
+    go true h i = ap (λ z. c ∷ z) (i h)
+    go false h i = cc
+
+pub same_plain : (s : Text) → plain s ≡ s → is_unmarked s ≡ true
+same_plain [] h = refl
+same_plain (c ∷ s) h = go (not (c == 95)) h (same_plain s) (plain_shorter s)
+  where
+    go : (b : Bool) → cond b (c ∷ plain s) (plain s) ≡ c ∷ s → (plain s ≡ s → is_unmarked s ≡ true) → length (plain s) ≤ length s → (b && is_unmarked s) ≡ true
+    go true h i le = let e : plain s ≡ s = cc in i e
+    go false h i le = absurd (omega (arith, ap length h, le))
+
+own_text : {t w r : Text} → Decimal t r w → r ≡ [] → w ≡ t → plain t ≡ t
+own_text {t = t} {w = w} {r = r} (decimal p a i d f g) e h =
+    let x : p ≡ t = sym (append-nil p) ∙ ap (λ z. p ++ z) (sym e) ∙ sym f in
+    ap plain (sym x) ∙ sym g ∙ h
+
+-- whether the whole text is a decimal without `_`
+pub plain_none : (s t : Text) → s ≡ t → ((r : Text) (v : NumberValue) → IsNumber s r v → ⊥) → IsTrue false ↔ Decimal t [] t
+plain_none s t e h = (λ y. cc, λ d. absurd (h [] (decimal_text t) (subst (λ z. IsNumber z [] (decimal_text t)) (sym e) (is_decimal d))))
+
+module _ (f : Front) (s t u : Text) (e : s ≡ t) (x : IsFront f s u) where
+  pub plain_other : (f.radix ≡ TenDigits → ⊥) → IsTrue false ↔ Decimal t [] t
+  plain_other n = (λ y. cc, λ d. absurd (not_ten f.radix n (front_decimal f s u x [] t (subst (λ z. Decimal z [] t) (sym e) d)).0))
+
+  pub plain_no_part : ((r : Text) → DecimalPart u r → ⊥) → IsTrue false ↔ Decimal t [] t
+  plain_no_part n = (λ y. cc, λ d. absurd (n [] (front_decimal f s u x [] t (subst (λ z. Decimal z [] t) (sym e) d)).1))
+
+  pub plain_rest : (v : Text) (b : Bool) → b ≡ false → (IsTrue b ↔ (v ≡ [])) → DecimalPart u v → IsTrue b ↔ Decimal t [] t
+  plain_rest v b n h p = (λ y. let z : IsTrue false = subst IsTrue n y in cc, λ d. h.1 (part_det p (front_decimal f s u x [] t (subst (λ z. Decimal z [] t) (sym e) d)).1))
+
+  pub plain_whole : (v : Text) (b : Bool) → v ≡ [] → DecimalPart u v → f.radix ≡ TenDigits → b ≡ is_unmarked t → IsTrue b ↔ Decimal t [] t
+  plain_whole v b n p base m = (λ y. to (sym m ∙ y), λ d. m ∙ same_plain t (own_text d refl refl))
+    where
+      to : is_unmarked t ≡ true → Decimal t [] t
+      to h =
+          let part : DecimalPart u [] = subst (DecimalPart u) n p in
+          let d : Decimal s [] (plain s) = front_part f s u x [] s (ap radix_of base) part (sym (append-nil s)) in
+          subst (λ z. Decimal t [] z) (plain_same t h) (subst (λ z. Decimal z [] (plain z)) e d)
+
+-- what `retain` leaves
+scalars_kept : (s : Text) → scalars s ≡ true → scalars (plain s) ≡ true
+scalars_kept [] h = refl
+scalars_kept (c ∷ s) h = let k = and_parts (scalar c) (scalars s) h in go (not (c == 95)) k.0 (scalars_kept s k.1)
+  where
+    go : (b : Bool) → scalar c ≡ true → scalars (plain s) ≡ true → scalars (cond b (c ∷ plain s) (plain s)) ≡ true
+    go true x y = rw (x, y) refl
+    go false x y = y
+
+pub kept_text : (bs out all kept piece : List ℕ) → scalars all ≡ true → encode_utf8_all all ≡ bs → kept ≡ plain all → out ≡ encode_utf8_all kept → chars bs ≡ piece → chars out ≡ plain piece
+kept_text bs out all kept piece s e k o h =
+    let x : chars bs ≡ all = ap chars (sym e) ∙ chars-encodes all s in
+    let y : chars (encode_utf8_all (plain all)) ≡ plain all = chars-encodes (plain all) (scalars_kept all s) in
+    ap chars (o ∙ ap encode_utf8_all k) ∙ y ∙ ap plain (sym x ∙ h)

@@ -40,7 +40,7 @@ part_is t s r v a b f e (part {s = u} {r = w} {point = c} {power = d} g h x y) =
     let q = exponent_det e (subst (λ z. Exponent z w d) (sym p.0) h) in
     record { left = q.0; either = rw (p.1, q.1) x; ends = rw q.0 y }
 
-part_det : {t r s : Text} → DecimalPart t r → DecimalPart t s → r ≡ s
+pub part_det : {t r s : Text} → DecimalPart t r → DecimalPart t s → r ≡ s
 part_det (part {s = u} {r = w} {point = c} {power = d} f e x y) h = (part_is _ u w _ c d f e h).left
 
 point_identifier : is_identifier_char 46 ≡ true

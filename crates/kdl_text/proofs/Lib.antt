@@ -7,3 +7,4 @@ pub mod WholeNumbers
 pub mod NumberReads
 pub mod Decimals
 pub mod DecimalReads
+pub mod Keywords

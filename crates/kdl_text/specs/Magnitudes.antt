@@ -18,6 +18,7 @@ use Rattle.kdl_text.specs.declared.numbers.Number.{Number}
 use Rattle.kdl_text.specs.declared.numbers.Number.TheVariants.{Integer as IntegerNumber, Decimal as DecimalNumber}
 use Rattle.kdl_text.specs.declared.numbers.Front.{Front}
 use Rattle.kdl_text.specs.declared.numbers.Keyword.{Keyword}
+use Rattle.kdl_text.specs.declared.numbers.Keyword.TheVariants.{Infinity, NegativeInfinity, NotANumber}
 
 -- the base as a number
 abbrev pub radix_of : Radix → ℕ
@@ -116,3 +117,10 @@ AteMark false old new = (starts is_exponent_mark old.rest ≡ false) × Stayed 1
 abbrev pub WordOf : Option Keyword → Text → Type 0
 WordOf (Some k) w = keyword_text k ≡ 35 ∷ w
 WordOf None w = (k : Keyword) → keyword_text k ≡ 35 ∷ w → ⊥
+
+-- the keyword is that of a number
+abbrev pub is_of_number : Keyword → Bool
+is_of_number Infinity = true
+is_of_number NegativeInfinity = true
+is_of_number NotANumber = true
+is_of_number _ = false

@@ -3,11 +3,12 @@
 ghost use Rattle.kdl_text.specs.Chars.{starts};
 ghost use Rattle.kdl_text.specs.Chars as class;
 ghost use Rattle.kdl_text.specs.Here.{Stayed};
-ghost use Rattle.kdl_text.specs.Magnitudes.{radix_of, IsBase, LooksMark, Counts, IsDigit, ReadsDigits, ReadsInteger, ReadsWhole, ReadsFront, ReadsFraction, ReadsExponent, ReadsPart, ReadsNumber, ReadsKeyword, AteMark, WordOf};
+ghost use Rattle.kdl_text.specs.Magnitudes.{radix_of, IsBase, LooksMark, Counts, IsDigit, ReadsDigits, ReadsInteger, ReadsWhole, ReadsFront, ReadsFraction, ReadsExponent, ReadsPart, ReadsNumber, ReadsKeyword, AteMark, WordOf, is_of_number};
 ghost use Rattle.kdl_text.specs.Numbers as spec;
 ghost use Rattle.kdl_text.specs.Numbers.{Sign, BaseMark, Decimal, FloatKeyword, FloatText};
 ghost use Rattle.kdl_text.specs.Reading.{Moves, Costs};
-ghost use Rattle.std.specs.Prelude.{◌≡◌, ℕ, ◌+◌, ◌*◌, ◌<◌, ◌≤◌, ◌||◌, not, IfOk, if◌then◌else◌, Bool, ◌↔◌, IsTrue, IfSome, string_bytes, [], length};
+ghost use Rattle.std.specs.Prelude.{◌≡◌, ℕ, ◌+◌, ◌*◌, ◌<◌, ◌≤◌, ◌||◌, not, IfOk, if◌then◌else◌, Bool, ◌↔◌, IsTrue, IfSome, string_bytes, [], length, ◌==◌};
+ghost use Rattle.std.specs.List.{list_all};
 ghost use Rattle.std.specs.Str.{chars};
 
 use crate::chars::{Class, Cursor, Piece, Steps, is_digit, is_identifier_char, is_sign};
@@ -405,7 +406,7 @@ fn decimal_part(cursor: &mut Cursor) -> Result<(), NumberFault>
         Ok(power) => power,
         Err(fault) => return Err(fault),
     };
-    if !(point || power) {
+    if !point && !power {
         return Err(NumberFault::Trailing(Radix::Decimal));
     }
     if !is_end(cursor) {
@@ -505,7 +506,7 @@ pub fn read_keyword(cursor: &mut Cursor) -> Option<Keyword>
 
 /// Whether no `_` stands in the text.
 fn is_unmarked(text: &str) -> bool
-    ensures { IsTrue result ↔ (spec.plain (chars text.now) ≡ chars text.now) }
+    ensures { result ≡ list_all (λ c. not (c == 95)) (chars text.now) }
 {
     text.chars().all(|c| c != '_')
 }
@@ -527,14 +528,21 @@ fn is_plain_decimal(text: &str) -> bool
     cursor.look().is_none() && is_unmarked(text)
 }
 
+/// Whether the keyword is that of a number.
+fn is_of_number(keyword: Keyword) -> bool
+    ensures { result ≡ is_of_number keyword }
+{
+    matches!(keyword, Keyword::Infinity | Keyword::NegativeInfinity | Keyword::NotANumber)
+}
+
 /// Whether the whole text is the keyword of a number: `#inf`, `#-inf` or `#nan`.
 fn is_float_keyword(text: &str) -> bool
     ensures { IsTrue result ↔ FloatKeyword (chars text.now) }
 {
     let mut cursor = Cursor::new(text, Steps::new());
     match read_keyword(&mut cursor) {
-        Some(Keyword::Infinity | Keyword::NegativeInfinity | Keyword::NotANumber) => cursor.look().is_none(),
-        _ => false,
+        Some(keyword) => is_of_number(keyword) && cursor.look().is_none(),
+        None => false,
     }
 }
 
