@@ -1,12 +1,15 @@
 pub mod Bares
 mod Blanks
 mod Blocks
+pub mod DecimalReads
+pub mod Decimals
 pub mod Eats
 pub mod Ends
 mod Escapes
 pub mod Goes
 pub mod Going
 mod Hex
+pub mod Keywords
 pub mod Newlines
 pub mod NumberReads
 mod Quoting

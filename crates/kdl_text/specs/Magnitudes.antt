@@ -1,15 +1,24 @@
 -- How a reader of numbers stands to the text while the number is under way.
 use Rattle.std.specs.Prelude.{◌≡◌, ℕ, ◌<◌, ◌≤◌, ◌^◌, ◌↔◌, ℤ, true, false, Option, Some, None, Result, Ok, Err}
+use Rattle.std.specs.Prelude.{string_bytes, ◌∷◌, Bool}
+use Rattle.std.specs.Str.{chars}
 use Rattle.std.specs.Char.{digit_value}
 use Rattle.std.specs.Str.Parse.{digits_value, digits_value_after}
 use Rattle.kdl_text.specs.Chars.{Text, starts}
-use Rattle.kdl_text.specs.Here.{Here, Stayed}
-use Rattle.kdl_text.specs.Numbers.{is_digit_of, marked, Digits, Integer, WholeNumber}
+use Rattle.kdl_text.specs.Here.{Here, Stayed, Took}
+use Rattle.kdl_text.specs.Numbers.{is_digit_of, marked, Digits, Integer, WholeNumber, Sign, BaseMark, Fraction, Exponent, DecimalPart, NumberValue, whole_value, decimal_text, IsNumber, IsKeyword, keyword_text, is_exponent_mark}
 use Rattle.kdl_text.specs.declared.numbers.Magnitude.{Magnitude}
 use Rattle.kdl_text.specs.declared.numbers.Magnitude.TheVariants.{Small, Large, Huge}
 use Rattle.kdl_text.specs.declared.numbers.Radix.{Radix}
 use Rattle.kdl_text.specs.declared.numbers.Radix.TheVariants.{Binary, Octal, Decimal, Hexadecimal}
 use Rattle.kdl_text.specs.declared.numbers.NumberFault.{NumberFault}
+use Rattle.kdl_text.specs.declared.numbers.NumberFailure.{NumberFailure}
+use Rattle.kdl_text.specs.declared.numbers.NumberFailure.TheVariants.{Fault, Memory}
+use Rattle.kdl_text.specs.declared.numbers.Number.{Number}
+use Rattle.kdl_text.specs.declared.numbers.Number.TheVariants.{Integer as IntegerNumber, Decimal as DecimalNumber}
+use Rattle.kdl_text.specs.declared.numbers.Front.{Front}
+use Rattle.kdl_text.specs.declared.numbers.Keyword.{Keyword}
+use Rattle.kdl_text.specs.declared.numbers.Keyword.TheVariants.{Infinity, NegativeInfinity, NotANumber}
 
 -- the base as a number
 abbrev pub radix_of : Radix → ℕ
@@ -52,3 +61,66 @@ ReadsInteger radix None s rest = starts (is_digit_of radix) s ≡ false
 abbrev pub ReadsWhole : Result ℤ NumberFault → Text → Text → Type 0
 ReadsWhole (Ok n) s rest = (r : Text) (z : ℤ) → WholeNumber s r z ↔ ((r ≡ rest) × (z ≡ n))
 ReadsWhole (Err e) s rest = (r : Text) (z : ℤ) → WholeNumber s r z → ⊥
+
+-- the front of a number, as far as its first integer
+pub record IsFront (f : Front) (t rest : Text) : Type 0 where
+  pub behind_sign : Text
+  pub behind_mark : Text
+  pub digits : Text
+  pub sign : Sign t behind_sign f.minus
+  pub mark : BaseMark behind_sign behind_mark (radix_of f.radix)
+  pub int : Integer (radix_of f.radix) behind_mark rest digits
+  pub counts : Counts f.magnitude (digits_value (radix_of f.radix) digits)
+
+-- the front of a number was read, or no number begins here
+abbrev pub ReadsFront : Result Front NumberFault → Text → Text → Type 0
+ReadsFront (Ok f) s rest = IsFront f s rest
+ReadsFront (Err e) s rest = (r : Text) (v : NumberValue) → IsNumber s r v → ⊥
+
+-- a fraction was read, or seen not to stand here; or its point has no digit behind it
+abbrev pub ReadsFraction : Result Bool NumberFault → Text → Text → Type 0
+ReadsFraction (Ok b) s rest = Fraction s rest b
+ReadsFraction (Err e) s rest = (r : Text) (b : Bool) → Fraction s r b → ⊥
+
+-- an exponent was read, or seen not to stand here; or its mark has no digit behind it
+abbrev pub ReadsExponent : Result Bool NumberFault → Text → Text → Type 0
+ReadsExponent (Ok b) s rest = Exponent s rest b
+ReadsExponent (Err e) s rest = (r : Text) (b : Bool) → Exponent s r b → ⊥
+
+-- the part was read that makes a decimal of an integer, or none stands here
+abbrev pub ReadsPart : {A : Type 0} → Result A NumberFault → Text → Text → Type 0
+ReadsPart (Ok x) s rest = DecimalPart s rest
+ReadsPart (Err e) s rest = (r : Text) → DecimalPart s r → ⊥
+
+-- what the number stands for
+abbrev pub number_value : Number → NumberValue
+number_value (IntegerNumber n) = whole_value n
+number_value (DecimalNumber s) = decimal_text (chars (string_bytes s))
+
+-- a number begins here, and stands for x alone; or none begins here; or memory was refused
+abbrev pub ReadsNumber : Result Number NumberFailure → Text → Text → Type 0
+ReadsNumber (Ok x) s rest = (r : Text) (v : NumberValue) → IsNumber s r v ↔ ((r ≡ rest) × (v ≡ number_value x))
+ReadsNumber (Err (Fault e)) s rest = (r : Text) (v : NumberValue) → IsNumber s r v → ⊥
+ReadsNumber (Err Memory) s rest = Unit {0}
+
+-- a keyword begins here, and it is k alone; or none begins here
+abbrev pub ReadsKeyword : Option Keyword → Text → Text → Type 0
+ReadsKeyword (Some k) s rest = (r : Text) (x : Keyword) → IsKeyword s r x ↔ ((r ≡ rest) × (x ≡ k))
+ReadsKeyword None s rest = (r : Text) (x : Keyword) → IsKeyword s r x → ⊥
+
+-- `e` or `E` was read where it stands, and else the cursor stayed
+abbrev pub AteMark : Bool → Here → Here → Type 0
+AteMark true old new = (c : ℕ) × (is_exponent_mark c ≡ true) × Took (Some c) old new
+AteMark false old new = (starts is_exponent_mark old.rest ≡ false) × Stayed 1 old new
+
+-- the keyword whose word behind `#` this is, or none has it
+abbrev pub WordOf : Option Keyword → Text → Type 0
+WordOf (Some k) w = keyword_text k ≡ 35 ∷ w
+WordOf None w = (k : Keyword) → keyword_text k ≡ 35 ∷ w → ⊥
+
+-- the keyword is that of a number
+abbrev pub is_of_number : Keyword → Bool
+is_of_number Infinity = true
+is_of_number NegativeInfinity = true
+is_of_number NotANumber = true
+is_of_number _ = false
