@@ -1,5 +1,6 @@
 //! Documents: what is read, what is refused, and that a document prints its text.
 
+use crate::reprinted;
 use kdl::{KdlDocument, KdlEntry, KdlNode, ParseFailure, Severity};
 use std::alloc::Global;
 use std::process::Abort;
@@ -8,7 +9,7 @@ use std::test::Fail;
 /// The document of a text, which prints it.
 fn read(rt: &impl Abort, alloc: Global, text: &str) -> Result<KdlDocument, Fail> {
     let document = KdlDocument::parse(alloc, text)?;
-    let printed = document.to_string(alloc)?;
+    let printed = reprinted(alloc, text)?;
     assert_eq!(rt; printed.as_str(), text);
     Ok(document)
 }
@@ -167,7 +168,9 @@ fn refusals(rt: HostRuntime) {
 #[test]
 fn each_newline_ends_a_node(rt: HostRuntime) -> Result<(), Fail> {
     let alloc = rt.alloc();
-    let newlines = ["\r\n", "\r", "\n", "\u{85}", "\u{b}", "\u{c}", "\u{2028}", "\u{2029}"];
+    let newlines = [
+        "\r\n", "\r", "\n", "\u{85}", "\u{b}", "\u{c}", "\u{2028}", "\u{2029}",
+    ];
     for newline in newlines {
         let text = format!(in alloc; "a{newline}b")?;
         let document = read(&rt, alloc, &text)?;

@@ -10,13 +10,25 @@ fn errors_print(rt: HostRuntime) -> Result<(), Fail> {
     let Err(ParseFailure::Syntax(error)) = KdlDocument::parse(alloc, ";") else {
         return Err(Fail::from("not refused"));
     };
-    assert_eq!(rt; error.to_string(alloc)?.as_str(), "Failed to parse KDL document");
+    assert_eq!(rt;
+        error.to_string(alloc)?.as_str(),
+        "Failed to parse KDL document"
+    );
     for diagnostic in &error.diagnostics {
-        assert_eq!(rt; diagnostic.to_string(alloc)?.as_str(), "Expected end of document");
+        assert_eq!(rt;
+            diagnostic.to_string(alloc)?.as_str(),
+            "Expected end of document"
+        );
     }
     let failure = ParseFailure::Syntax(error);
-    assert_eq!(rt; failure.to_string(alloc)?.as_str(), "Failed to parse KDL document");
-    assert_eq!(rt; ParseFailure::Memory.to_string(alloc)?.as_str(), "out of memory");
+    assert_eq!(rt;
+        failure.to_string(alloc)?.as_str(),
+        "Failed to parse KDL document"
+    );
+    assert_eq!(rt;
+        ParseFailure::Memory.to_string(alloc)?.as_str(),
+        "out of memory"
+    );
     Ok(())
 }
 

@@ -1,7 +1,21 @@
 //! Tests of the whole library against worked examples: what no contract says.
 #![tactic(auto)]
 
+ghost use Rattle.std.specs.Prelude.{◌≡◌, IfOk, string_bytes};
+
+use kdl::{KdlDocument, ParseFailure};
+use std::alloc::Global;
+
 #[cfg(test)]
 mod documents;
 #[cfg(test)]
 mod errors;
+
+/// The printed parse of a text, which is the text.
+pub fn reprinted(alloc: Global, text: &str) -> Result<String, ParseFailure>
+    ensures { IfOk result (λ printed. string_bytes printed ≡ text.now) }
+{
+    let document = KdlDocument::parse(alloc, text)?;
+    let printed = document.to_string(alloc)?;
+    Ok(printed)
+}

@@ -1,12 +1,12 @@
 -- The piece between two places.
-use Rattle.std.proofs.Common.{◌≡◌, ℕ, ◌+◌, ◌-◌, List, [], ◌∷◌, ◌++◌, length, take, refl, sym, ap, subst, ◌∙◌, arith, length-append}
+use Rattle.std.proofs.Common.{◌≡◌, ◌-◌, [], ◌++◌, length, take, sym, ap, ◌∙◌, arith, length-append}
 use Rattle.std.proofs.Math.Seq.{take-append_seam}
 use Rattle.std.proofs.lemmas.Str.{chars-nil}
 use Rattle.std.specs.Prelude.{String, string_bytes}
 use Rattle.std.specs.Str.{chars}
 use Rattle.std.specs.declared.alloc.Global.{Global}
 use Rattle.kdl_entry.specs.Tree.{text_of}
-use Rattle.kdl_text.specs.Chars.{Text, Star, Plus, Space, Newline}
+use Rattle.kdl_text.specs.Chars.{Text, Star, Plus, Space}
 use Rattle.kdl_text.proofs.Ends.{End, here, also, then, end_star, end_plus, end_newline, end_space}
 use Rattle.kdl_entry.specs.Places.{Is}
 use Rattle.kdl.specs.Grammar.{Terminator, Gap, no_gap, line_space, LineSpace}

@@ -1,5 +1,5 @@
 -- Runs: one text has one; what a token, a fault and the end do to them.
-use Rattle.std.proofs.Common.{◌≡◌, ◌↔◌, List, [], ◌∷◌, Option, Some, None, refl, sym, ap, subst, ◌∙◌}
+use Rattle.std.proofs.Common.{◌≡◌, ◌↔◌, [], Option, Some, None, refl, subst, ◌∙◌}
 use Rattle.kdl_text.specs.Chars.{Text, Space, Star, none, more, Plus, plus}
 use Rattle.kdl_entry.specs.Tokens.{Token, space, BeginsToken, a_space, Cuts, one, run}
 use Rattle.kdl_entry.proofs.Cutting.{token_det, no_token}

@@ -1,8 +1,8 @@
 -- One more entry, one more node.
-use Rattle.std.proofs.Common.{◌≡◌, List, [], ◌∷◌, ◌++◌, Option, Some, None, map, refl, ap, ◌∙◌, arith}
-use Rattle.kdl_entry.specs.Tree.{Entry, entry_tree}
+use Rattle.std.proofs.Common.{◌≡◌, List, [], ◌∷◌, ◌++◌, Some, map, refl, ap, arith}
+use Rattle.kdl_entry.specs.Tree.{entry_tree}
 use Rattle.kdl_entry.specs.declared.entry.KdlEntry.{KdlEntry}
-use Rattle.kdl.specs.Tree.{Node, Nodes, none, first, join, Document, document, node_tree, nodes_tree}
+use Rattle.kdl.specs.Tree.{none, first, join, document, node_tree, nodes_tree}
 use Rattle.std.specs.Prelude.{length}
 use Rattle.kdl_text.specs.Chars.{Text}
 use Rattle.kdl.specs.Machine.{unplaced, document_of}

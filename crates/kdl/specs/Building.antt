@@ -1,7 +1,7 @@
 -- The machine's state that the builder's fields stand for, and what its steps answer.
-use Rattle.std.specs.Prelude.{ℕ, ◌≡◌, ◌↔◌, [], ◌++◌, map, Option, Some, None, option_map, Result, Ok, Err}
+use Rattle.std.specs.Prelude.{◌≡◌, ◌↔◌, ◌++◌, map, Option, Some, None, option_map, Result, Ok, Err}
 use Rattle.kdl_text.specs.Chars.{Text}
-use Rattle.kdl_text.specs.Here.{Here, Spot, bytes}
+use Rattle.kdl_text.specs.Here.{Here, Spot}
 use Rattle.kdl_text.specs.Spans.{InText}
 use Rattle.kdl_entry.specs.Lexed.{SpansChar}
 use Rattle.kdl_entry.specs.Tree.{identifier_tree, entry_tree, text_of}

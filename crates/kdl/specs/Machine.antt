@@ -1,9 +1,9 @@
 -- The builder as a function on tokens, for the proofs. The token k stands in the text s before r.
 -- Where the place under way began is kept as the text from there on.
-use Rattle.std.specs.Prelude.{◌≡◌, ℕ, ◌-◌, List, [], ◌∷◌, ◌++◌, length, take, Option, Some, None}
+use Rattle.std.specs.Prelude.{◌≡◌, ◌-◌, List, [], ◌∷◌, ◌++◌, length, take, Option, Some, None}
 use Rattle.kdl_text.specs.Chars.{Text}
 use Rattle.kdl_text.specs.declared.span.SourceSpan.{SourceSpan}
-use Rattle.kdl_entry.specs.Data.{Value, text, integer}
+use Rattle.kdl_entry.specs.Data.{Value, text}
 use Rattle.kdl_entry.specs.Tokens.{Token, space, newline, value, semicolon, BeginsToken}
 use Rattle.kdl_entry.specs.Laid.{argument_format}
 use Rattle.kdl_entry.specs.Tree.{Identifier, Entry}

@@ -93,7 +93,12 @@ fn argument_format(alloc: Global, leading: String, value_repr: String) -> KdlEnt
 }
 
 /// The format of a node with no type and no children: the texts before it and around its end.
-fn plain_format(alloc: Global, leading: String, before_terminator: String, terminator: String) -> KdlNodeFormat
+fn plain_format(
+    alloc: Global,
+    leading: String,
+    before_terminator: String,
+    terminator: String,
+) -> KdlNodeFormat
     ensures { node_format_tree result ≡ node_laid.plain_format (text_of leading) (text_of before_terminator) (text_of terminator) }
 {
     KdlNodeFormat {
@@ -114,10 +119,16 @@ fn make_document(alloc: Global, nodes: Vec<KdlNode>, place: String) -> KdlDocume
     ensures { document_tree result ≡ document_of (nodes_tree nodes.items) (text_of place) }
 {
     if nodes.is_empty() {
-        let format = KdlDocumentFormat { leading: place, trailing: empty(alloc) };
+        let format = KdlDocumentFormat {
+            leading: place,
+            trailing: empty(alloc),
+        };
         KdlDocument::parsed(nodes, format, UNPLACED)
     } else {
-        let format = KdlDocumentFormat { leading: empty(alloc), trailing: place };
+        let format = KdlDocumentFormat {
+            leading: empty(alloc),
+            trailing: place,
+        };
         KdlDocument::parsed(nodes, format, UNPLACED)
     }
 }
@@ -187,7 +198,9 @@ impl<'a> Builder<'a> {
         let repr = text_between(alloc, lexer, start, &end)?;
         let format = argument_format(alloc, leading, repr);
         if let Some(under) = &mut self.under {
-            under.entries.push(KdlEntry::parsed(None, None, value, format, UNPLACED))?;
+            under
+                .entries
+                .push(KdlEntry::parsed(None, None, value, format, UNPLACED))?;
         }
         self.from = end;
         self.phase = Phase::Fresh;
@@ -208,11 +221,19 @@ impl<'a> Builder<'a> {
         ensures ended { OnOk result (state_view self.new ≡ machine.ended (state_view self.old) start.now.rest end.entry.rest) }
         ensures stays { Stays lexer.old lexer.new }
     {
-        if let Some(Under { leading, name, entries }) = self.under.take() {
+        if let Some(
+            Under {
+                leading,
+                name,
+                entries,
+            },
+        ) = self.under.take()
+        {
             let before = text_between(alloc, lexer, &self.from, start)?;
             let terminator = text_between(alloc, lexer, start, &end)?;
             let format = plain_format(alloc, leading, before, terminator);
-            self.nodes.push(KdlNode::parsed(name, entries, format, UNPLACED))?;
+            self.nodes
+                .push(KdlNode::parsed(name, entries, format, UNPLACED))?;
         }
         self.from = end;
         self.phase = Phase::Gap;
@@ -235,7 +256,9 @@ impl<'a> Builder<'a> {
     {
         match kind {
             TokenKind::Space | TokenKind::Newline => Ok(()),
-            TokenKind::Value(KdlValue::String(name)) => Ok(self.begin_node(alloc, lexer, name, start, end)?),
+            TokenKind::Value(KdlValue::String(name)) => Ok(self.begin_node(
+                alloc, lexer, name, start, end,
+            )?),
             TokenKind::Value(KdlValue::Integer(_)) | TokenKind::Semicolon => Err(refused(start)),
         }
     }
@@ -259,7 +282,9 @@ impl<'a> Builder<'a> {
                 self.phase = Phase::Spaced;
                 Ok(())
             }
-            TokenKind::Newline | TokenKind::Semicolon => Ok(self.end_node(alloc, lexer, start, end)?),
+            TokenKind::Newline | TokenKind::Semicolon => Ok(self.end_node(
+                alloc, lexer, start, end,
+            )?),
             TokenKind::Value(_) => Err(refused(start)),
         }
     }
@@ -280,14 +305,21 @@ impl<'a> Builder<'a> {
     {
         match kind {
             TokenKind::Space => Ok(()),
-            TokenKind::Newline | TokenKind::Semicolon => Ok(self.end_node(alloc, lexer, start, end)?),
+            TokenKind::Newline | TokenKind::Semicolon => Ok(self.end_node(
+                alloc, lexer, start, end,
+            )?),
             TokenKind::Value(value) => Ok(self.add_argument(alloc, lexer, value, start, end)?),
         }
     }
 
     /// One token.
-    
-    fn take(&mut self, alloc: Global, lexer: &mut Lexer<'a>, token: Token<'a>) -> Result<(), ReadFailure>
+
+    fn take(
+        &mut self,
+        alloc: Global,
+        lexer: &mut Lexer<'a>,
+        token: Token<'a>,
+    ) -> Result<(), ReadFailure>
         requires from { Ahead self.old.from token.start }
         requires token { Ahead token.start token.end }
         ensures did { Did (step (state_view self.old) (kind_view token.entry.kind) token.entry.start.rest token.entry.end.rest) token.entry.start result (state_view self.new) }

@@ -1,9 +1,9 @@
 -- What the first characters of a token tell.
-use Rattle.std.proofs.Common.{◌≡◌, ℕ, List, Bool, true, false, not, [], ◌∷◌, ◌++◌, refl, sym, subst, ap, ◌∙◌, ◌==◌, ◌&&◌, ◌||◌, cond, arith}
-use Rattle.std.proofs.lemmas.Bool.{and_parts, eqb-true, ne_eqb}
+use Rattle.std.proofs.Common.{◌≡◌, ℕ, Bool, true, false, not, [], ◌∷◌, ◌++◌, refl, sym, ap, ◌∙◌, ◌==◌, ◌||◌, arith}
+use Rattle.std.proofs.lemmas.Bool.{and_parts}
 use Rattle.std.proofs.lemmas.Bool.Decides.{nat_tests}
-use Rattle.kdl_text.specs.Chars.{Text, is_space, is_newline_char, is_banned, is_mark, is_identifier_char, is_digit, is_sign, within, starts}
-use Rattle.kdl_text.specs.Bare.{BareString, bare, is_bare, bare_form, after_sign, after_point, is_excluded}
+use Rattle.kdl_text.specs.Chars.{Text, is_space, is_newline_char, is_banned, is_mark, is_identifier_char, is_digit, is_sign, starts}
+use Rattle.kdl_text.specs.Bare.{BareString, bare, is_bare, bare_form, after_sign}
 use Rattle.kdl_text.specs.Numbers.{begins_number}
 
 or_false : (a b : Bool) → not (a || b) ≡ true → (a ≡ false) × (b ≡ false)
@@ -109,6 +109,7 @@ form_no_number c w r h k = go (is_sign c) refl
     unsigned : (b : Bool) → is_sign c ≡ false → (c == 46) ≡ b → is_digit c ≡ false
     unsigned true e f = point_no_digit c f
     unsigned false e f = not_true (is_digit c) (and_parts (not (is_digit c)) _ (rw (e, f) at h)).0
+
     go : (b : Bool) → is_sign c ≡ b → begins_number (c ∷ (w ++ r)) ≡ false
     go true e = rw (sign_no_digit c e, e, sign_behind w r (rw e at h) k) refl
     go false e = rw (unsigned (c == 46) e refl, e) refl

@@ -1,5 +1,5 @@
 -- Tokens, and the cut of a text into tokens.
-use Rattle.std.specs.Prelude.{ℤ, [], ◌∷◌}
+use Rattle.std.specs.Prelude.{ℤ, ◌∷◌}
 use Rattle.kdl_text.specs.Chars.{Text, Space, Newline, Plus}
 use Rattle.kdl_text.specs.Bare.{BareString}
 use Rattle.kdl_text.specs.Strings.{QuotedString}

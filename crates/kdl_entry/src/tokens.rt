@@ -10,7 +10,9 @@ ghost use Rattle.std.specs.Prelude.{◌≡◌, ◌++◌, true, false};
 ghost use Rattle.std.specs.Str.{chars};
 
 use crate::value::KdlValue;
-use kdl_text::chars::{Checkpoint, Class, Cursor, Piece, Steps, is_identifier_char, is_newline_char, is_space, newline};
+use kdl_text::chars::{
+    Checkpoint, Class, Cursor, Piece, Steps, is_identifier_char, is_newline_char, is_space, newline,
+};
 use kdl_text::numbers::{begins_number, whole_number};
 use kdl_text::span::SourceSpan;
 use kdl_text::strings::{StringFailure, bare_string, quoted_string};
@@ -85,7 +87,11 @@ fn number(cursor: &mut Cursor, start: &Checkpoint) -> Result<Option<TokenKind>, 
 
 /// The bare string that begins here.
 #[tactic(auto, using(crate::proofs::Lexing::a_bare_here, crate::proofs::Lexing::no_bare_here))]
-fn bare(cursor: &mut Cursor, alloc: Global, start: &Checkpoint) -> Result<Option<TokenKind>, ReadFailure>
+fn bare(
+    cursor: &mut Cursor,
+    alloc: Global,
+    start: &Checkpoint,
+) -> Result<Option<TokenKind>, ReadFailure>
     requires word { starts is_identifier_char cursor.old.rest ≡ true }
     requires no_number { spec.begins_number cursor.old.rest ≡ false }
     ensures read { ReadsKind cursor.old.rest start.now result cursor.new.rest }
@@ -98,7 +104,11 @@ fn bare(cursor: &mut Cursor, alloc: Global, start: &Checkpoint) -> Result<Option
 }
 
 /// The word that begins here: a number or a bare string.
-fn word(cursor: &mut Cursor, alloc: Global, start: &Checkpoint) -> Result<Option<TokenKind>, ReadFailure>
+fn word(
+    cursor: &mut Cursor,
+    alloc: Global,
+    start: &Checkpoint,
+) -> Result<Option<TokenKind>, ReadFailure>
     requires { starts is_identifier_char cursor.old.rest ≡ true }
     ensures read { ReadsKind cursor.old.rest start.now result cursor.new.rest }
     ensures moves { Moves cursor.old cursor.new }
@@ -112,7 +122,11 @@ fn word(cursor: &mut Cursor, alloc: Global, start: &Checkpoint) -> Result<Option
 
 /// The quoted string that begins here.
 #[tactic(auto, using(crate::proofs::Lexing::a_quoted_here, crate::proofs::Lexing::no_quoted_here))]
-fn quoted(cursor: &mut Cursor, alloc: Global, start: &Checkpoint) -> Result<Option<TokenKind>, ReadFailure>
+fn quoted(
+    cursor: &mut Cursor,
+    alloc: Global,
+    start: &Checkpoint,
+) -> Result<Option<TokenKind>, ReadFailure>
     requires { begins 34 cursor.old.rest ≡ true }
     ensures read { ReadsKind cursor.old.rest start.now result cursor.new.rest }
     ensures moves { Moves cursor.old cursor.new }
@@ -126,7 +140,11 @@ fn quoted(cursor: &mut Cursor, alloc: Global, start: &Checkpoint) -> Result<Opti
 
 /// What token begins here, which the cursor goes past; none at the end of the text.
 #[tactic(auto, using(crate::proofs::Lexing::at_end, crate::proofs::Lexing::a_semicolon_here, crate::proofs::Lexing::spaces_here, crate::proofs::Lexing::a_newline_here, crate::proofs::Lexing::other_here, crate::proofs::Lexing::begins_quote, crate::proofs::Lexing::begins_word, crate::proofs::Lexing::same_place, crate::proofs::Lexing::step_moves, crate::proofs::Lexing::skip_moves))]
-fn kind(cursor: &mut Cursor, alloc: Global, start: &Checkpoint) -> Result<Option<TokenKind>, ReadFailure>
+fn kind(
+    cursor: &mut Cursor,
+    alloc: Global,
+    start: &Checkpoint,
+) -> Result<Option<TokenKind>, ReadFailure>
     ensures read { ReadsKind cursor.old.rest start.now result cursor.new.rest }
     ensures moves { Moves cursor.old cursor.new }
 {
@@ -169,7 +187,9 @@ impl<'a> Lexer<'a> {
     pub fn new(text: &'a str, steps: Steps) -> Self
         ensures { result ≡ record { rest = chars text.now; at = 0; steps = steps } }
     {
-        Lexer { cursor: Cursor::new(text, steps) }
+        Lexer {
+            cursor: Cursor::new(text, steps),
+        }
     }
 
     /// The count of steps, where the lexer is done.
@@ -204,7 +224,11 @@ impl<'a> Lexer<'a> {
     {
         let start = self.cursor.checkpoint();
         match kind(&mut self.cursor, alloc, &start)? {
-            Some(kind) => Ok(Some(Token { kind, start, end: self.cursor.checkpoint() })),
+            Some(kind) => Ok(Some(Token {
+                kind,
+                start,
+                end: self.cursor.checkpoint(),
+            })),
             None => Ok(None),
         }
     }

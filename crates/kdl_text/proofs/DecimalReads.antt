@@ -1,8 +1,6 @@
 -- Readers of numbers that may be decimals, a step at a time.
-use Rattle.std.proofs.Common.{◌≡◌, ℕ, ◌+◌, ◌*◌, ◌<◌, ◌≤◌, List, [], ◌∷◌, ◌++◌, Bool, true, false, not, ◌||◌, ◌==◌, length, refl, ap, sym, ◌∙◌, subst, arith, ℤ, Some, None, ◌↔◌, lit≤, length-append, ◌⊎◌, inl, inr, append-nil, IsTrue, cond, suc, ◌&&◌}
-use Rattle.std.proofs.lemmas.Str.{len_utf8_bounds}
+use Rattle.std.proofs.Common.{◌≡◌, ℕ, ◌<◌, ◌≤◌, List, [], ◌∷◌, ◌++◌, Bool, true, false, not, ◌||◌, ◌==◌, length, refl, ap, sym, ◌∙◌, subst, arith, ℤ, Some, ◌↔◌, lit≤, length-append, ◌⊎◌, inl, inr, append-nil, IsTrue, cond, suc, ◌&&◌}
 use Rattle.std.specs.Prelude.{if◌then◌else◌, Result, Ok, Err, IfOk, Option}
-use Rattle.std.specs.Char.{len_utf8}
 use Rattle.std.specs.Option.{is_some}
 use Rattle.std.specs.List.{list_all}
 use Rattle.std.specs.Str.{encode_utf8_all}
@@ -12,28 +10,27 @@ use Rattle.std.proofs.lemmas.Str.{chars-encodes}
 use Rattle.std.proofs.lemmas.Bool.{and_parts}
 use Rattle.std.specs.Str.Parse.{digits_value}
 use Rattle.std.specs.Str.{chars}
-use Rattle.std.specs.Prelude.{string_bytes}
-use Rattle.kdl_text.specs.Chars.{Text, is_identifier_char, starts, begins}
-use Rattle.kdl_text.specs.Here.{Here, Spot, Took, Stayed, Ate, looked, stepped, sliced, first, first_len, tail, raise, bytes}
+use Rattle.kdl_text.specs.Chars.{Text, is_identifier_char, starts}
+use Rattle.kdl_text.specs.Here.{Here, Stayed, Ate, looked, stepped, sliced, first, bytes}
 use Rattle.kdl_text.specs.Reading.{Moves, Costs}
-use Rattle.kdl_text.specs.Numbers.{is_digit_of, Sign, BaseMark, Integer, WholeNumber, whole, signed, fits, Fraction, Exponent, is_exponent_mark, DecimalPart, part, plain, Decimal, decimal, IsNumber, is_whole, is_decimal, NumberValue, whole_value, decimal_text}
+use Rattle.kdl_text.specs.Numbers.{is_digit_of, Sign, BaseMark, Integer, WholeNumber, whole, signed, fits, Fraction, Exponent, is_exponent_mark, DecimalPart, part, plain, Decimal, decimal, IsNumber, is_whole, is_decimal, NumberValue, decimal_text}
 use Rattle.kdl_text.specs.Numbers.BaseMark.{ten, other}
 use Rattle.kdl_text.specs.Numbers.Fraction.{none as no_fraction, fraction}
 use Rattle.kdl_text.specs.Numbers.Exponent.{none as no_exponent, exponent}
-use Rattle.kdl_text.specs.Magnitudes.{Counts, IsFront, ReadsInteger, ReadsFront, ReadsWhole, ReadsNumber, AteMark, radix_of}
+use Rattle.kdl_text.specs.Magnitudes.{Counts, IsFront, ReadsInteger, ReadsWhole, ReadsNumber, AteMark, radix_of}
 use Rattle.kdl_text.specs.declared.numbers.Magnitude.{Magnitude}
 use Rattle.kdl_text.specs.declared.numbers.Front.{Front}
 use Rattle.kdl_text.specs.declared.numbers.Radix.{Radix}
 use Rattle.kdl_text.specs.declared.numbers.Radix.TheVariants.{Binary, Octal, Decimal as TenDigits, Hexadecimal}
 use Rattle.kdl_text.specs.declared.numbers.Number.{Number}
-use Rattle.kdl_text.specs.declared.numbers.Number.TheVariants.{Integer as IntegerNumber, Decimal as DecimalNumber}
+use Rattle.kdl_text.specs.declared.numbers.Number.TheVariants.{Integer as IntegerNumber}
 use Rattle.kdl_text.specs.declared.numbers.NumberFailure.{NumberFailure}
-use Rattle.kdl_text.specs.declared.numbers.NumberFailure.TheVariants.{Fault, Memory}
+use Rattle.kdl_text.specs.declared.numbers.NumberFailure.TheVariants.{Fault}
 use Rattle.kdl_text.specs.declared.numbers.NumberFault.{NumberFault}
 use Rattle.kdl_text.specs.declared.numbers.NumberFault.TheVariants.{OutOfRange}
-use Rattle.kdl_text.proofs.Going.{stays, moves_then, moves_stayed, moves_one, stayed_looked, took_from, fewer_bytes, bytes-append, shorter, costs_then}
+use Rattle.kdl_text.proofs.Going.{moves_then, moves_stayed, stayed_looked, took_from, bytes-append, shorter, costs_then}
 use Rattle.kdl_text.proofs.Runs.{length-bytes}
-use Rattle.kdl_text.proofs.WholeNumbers.{sign_det, integer_det, integer_digit, whole_is, whole_digit, whole_number_det, shorter_integer}
+use Rattle.kdl_text.proofs.WholeNumbers.{sign_det, integer_digit, whole_is, whole_digit, whole_number_det}
 use Rattle.kdl_text.proofs.Decimals.{part_det, part_is, fraction_det, no_ten, mark_is_ten, part_of, part_begins, number_det}
 use Rattle.kdl_text.proofs.NumberReads.{tight}
 
@@ -63,33 +60,38 @@ module _ (f : Front) (t u : Text) (x : IsFront f t u) where
 
   -- a whole number ends here
   pub front_whole : (rest : Text) (result : Result ℤ NumberFault) → rest ≡ u → true ≡ not (starts is_identifier_char u)
-    → ((q : ℕ) → Counts f.magnitude q → result ≡ (if fits f.minus q then Ok (signed f.minus q) else Err OutOfRange)) → ReadsWhole result t rest
+      → ((q : ℕ) → Counts f.magnitude q → result ≡ (if fits f.minus q then Ok (signed f.minus q) else Err OutOfRange)) → ReadsWhole result t rest
   front_whole rest result r h g = rw (g (digits_value (radix_of f.radix) x.digits) x.counts) (go (fits f.minus (digits_value (radix_of f.radix) x.digits)) refl)
     where
       ends : (b : Bool) → true ≡ not b → b ≡ false
       ends true h = cc
       ends false h = refl
+
       found : fits f.minus (digits_value (radix_of f.radix) x.digits) ≡ true → WholeNumber t rest (signed f.minus (digits_value (radix_of f.radix) x.digits))
       found y = rw r (whole x.sign x.mark x.int (ends _ h) y refl)
+
       go : (b : Bool) → fits f.minus (digits_value (radix_of f.radix) x.digits) ≡ b → ReadsWhole (if b then Ok (signed f.minus (digits_value (radix_of f.radix) x.digits)) else Err OutOfRange) t rest
       go true y = λ v z. (λ w. whole_number_det w (found y), λ (p, q). rw (p, q) (found y))
       go false y = λ v z w. let c = (whole_is t x.behind_sign x.behind_mark u x.digits v f.minus (radix_of f.radix) z x.sign x.mark x.int w).fits in cc
 
   -- a whole number ends here, and so no decimal
   pub front_number : (rest : Text) (result : Result Number NumberFailure) → rest ≡ u → true ≡ not (starts is_identifier_char u)
-    → ((q : ℕ) → Counts f.magnitude q → result ≡ (if fits f.minus q then Ok (IntegerNumber (signed f.minus q)) else Err (Fault OutOfRange))) → ReadsNumber result t rest
+      → ((q : ℕ) → Counts f.magnitude q → result ≡ (if fits f.minus q then Ok (IntegerNumber (signed f.minus q)) else Err (Fault OutOfRange))) → ReadsNumber result t rest
   front_number rest result r h g = rw (g (digits_value (radix_of f.radix) x.digits) x.counts) (go (fits f.minus (digits_value (radix_of f.radix) x.digits)) refl)
     where
       ends : (b : Bool) → true ≡ not b → b ≡ false
       ends true h = cc
       ends false h = refl
+
       found : fits f.minus (digits_value (radix_of f.radix) x.digits) ≡ true → WholeNumber t rest (signed f.minus (digits_value (radix_of f.radix) x.digits))
       found y = rw r (whole x.sign x.mark x.int (ends _ h) y refl)
+
       none : (v : Text) (w : NumberValue) → fits f.minus (digits_value (radix_of f.radix) x.digits) ≡ false → IsNumber t v w → ⊥
       none v w y (is_whole {z = z} i) = let c = (whole_is t x.behind_sign x.behind_mark u x.digits v f.minus (radix_of f.radix) z x.sign x.mark x.int i).fits in cc
       none v w y (is_decimal {w = w'} d) = let c = part_begins (front_decimal v w' d).1 in let e = ends _ h in cc
+
       go : (b : Bool) → fits f.minus (digits_value (radix_of f.radix) x.digits) ≡ b
-        → ReadsNumber (if b then Ok (IntegerNumber (signed f.minus (digits_value (radix_of f.radix) x.digits))) else Err (Fault OutOfRange)) t rest
+          → ReadsNumber (if b then Ok (IntegerNumber (signed f.minus (digits_value (radix_of f.radix) x.digits))) else Err (Fault OutOfRange)) t rest
       go true y = λ v z. (λ w. number_det w (is_whole (found y)), λ (p, q). rw (p, q) (is_whole (found y)))
       go false y = λ v w i. none v w y i
 

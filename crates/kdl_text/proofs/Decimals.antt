@@ -1,16 +1,16 @@
 -- Decimals: a text begins with one at most, and with no whole number beside it.
-use Rattle.std.proofs.Common.{◌≡◌, ℕ, ◌+◌, ◌<◌, ◌≤◌, List, [], ◌∷◌, ◌++◌, Bool, true, false, ◌&&◌, ◌||◌, ◌==◌, length, refl, ap, sym, ◌∙◌, subst, arith, ℤ, Some, None, ◌⊎◌, inl, inr}
+use Rattle.std.proofs.Common.{◌≡◌, ℕ, ◌<◌, ◌≤◌, ◌∷◌, ◌++◌, Bool, true, false, ◌||◌, ◌==◌, length, refl, ap, sym, ◌∙◌, subst, arith, ℤ, Some, None, ◌⊎◌, inl, inr}
 use Rattle.std.proofs.lemmas.Bool.{eqb-true}
 use Rattle.std.specs.Prelude.{if◌then◌else◌}
 use Rattle.std.proofs.lemmas.Bool.Decides.{nat_tests}
 use Rattle.std.proofs.lemmas.List.{append_cancel_right}
-use Rattle.kdl_text.specs.Chars.{Text, is_identifier_char, is_space, is_newline_char, is_banned, is_mark, starts, begins}
-use Rattle.kdl_text.specs.Numbers.{is_digit_of, is_part, Sign, BaseMark, Digits, Integer, WholeNumber, whole, integer, base_of, marked, signed, fits, Fraction, Exponent, is_exponent_mark, DecimalPart, part, plain, Decimal, decimal, IsNumber, is_whole, is_decimal, NumberValue, whole_value, decimal_text, begins_number}
+use Rattle.kdl_text.specs.Chars.{Text, is_identifier_char, is_space, is_newline_char, is_banned, is_mark, starts}
+use Rattle.kdl_text.specs.Numbers.{is_digit_of, Sign, BaseMark, Digits, Integer, WholeNumber, whole, integer, base_of, marked, Fraction, Exponent, is_exponent_mark, DecimalPart, part, plain, Decimal, decimal, IsNumber, is_whole, is_decimal, NumberValue, whole_value, decimal_text, begins_number}
 use Rattle.kdl_text.specs.Numbers.BaseMark.{ten, other}
 use Rattle.kdl_text.specs.Numbers.Digits.{stop, digit, mark}
 use Rattle.kdl_text.specs.Numbers.Fraction.{none as no_fraction, fraction}
 use Rattle.kdl_text.specs.Numbers.Exponent.{none as no_exponent, exponent}
-use Rattle.kdl_text.proofs.WholeNumbers.{sign_det, integer_det, mark_det, whole_is, whole_number_det, whole_number_begins, whole_number_shorter, whole_digit, integer_digit, shorter_integer, shorter_sign, digit_here, sign_begins, or_cases}
+use Rattle.kdl_text.proofs.WholeNumbers.{sign_det, integer_det, whole_number_det, whole_number_begins, whole_number_shorter, shorter_integer, shorter_sign, digit_here, sign_begins, or_cases}
 
 ten_mark : is_digit_of 10 95 ≡ false
 unfolding is_digit_of

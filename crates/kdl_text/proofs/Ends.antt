@@ -1,5 +1,5 @@
 -- What follows a piece is an end of the text.
-use Rattle.std.proofs.Common.{◌≡◌, ℕ, List, [], ◌∷◌, ◌++◌, refl, sym, ap, ◌∙◌, append_assoc}
+use Rattle.std.proofs.Common.{◌≡◌, ℕ, [], ◌∷◌, ◌++◌, refl, sym, ap, ◌∙◌, append_assoc}
 use Rattle.kdl_text.specs.Chars.{Text, Star, none, more, Plus, plus, Newline, crlf, one, Space, space}
 
 -- s is an end of t

@@ -1,5 +1,5 @@
 -- Keywords: a text begins with one at most.
-use Rattle.std.proofs.Common.{◌≡◌, ℕ, ◌+◌, ◌<◌, ◌≤◌, List, [], ◌∷◌, ◌++◌, Bool, true, false, not, ◌&&◌, ◌==◌, length, refl, ap, sym, ◌∙◌, subst, arith, Some, None, ◌↔◌, ◌⊎◌, inl, inr, append-nil, IsTrue, lit<, zero, suc}
+use Rattle.std.proofs.Common.{◌≡◌, ℕ, [], ◌∷◌, ◌++◌, Bool, true, false, ◌==◌, refl, ap, sym, ◌∙◌, subst, arith, Some, None, ◌↔◌, inl, inr, IsTrue, lit<, zero, suc}
 use Rattle.std.proofs.lemmas.Bool.{and_parts}
 use Rattle.std.proofs.lemmas.List.{append_cancel_right}
 use Rattle.std.specs.Prelude.{if◌then◌else◌, Option, codes, nat_lt}
@@ -9,7 +9,7 @@ use Rattle.std.proofs.lemmas.Str.{chars-IsAscii}
 use borrow.Author.Tests.{ltb-true}
 use Rattle.kdl_text.specs.Chars.{Text, is_identifier_char, is_space, is_newline_char, is_banned, is_mark, starts, begins}
 use Rattle.kdl_text.specs.Here.{Here, Took, Ran, sliced, bytes}
-use Rattle.kdl_text.specs.Reading.{Moves, Costs}
+use Rattle.kdl_text.specs.Reading.{Moves}
 use Rattle.kdl_text.specs.Numbers.{IsKeyword, keyword, keyword_text, FloatKeyword}
 use Rattle.kdl_text.specs.Magnitudes.{ReadsKeyword, WordOf, is_of_number}
 use Rattle.kdl_text.specs.declared.numbers.Keyword.{Keyword}
@@ -122,7 +122,7 @@ pub no_word : (p : Text) → ((k : Keyword) → p ≡ chars (word k) → ⊥) �
 no_word p n k e = let h : 35 ∷ word k ≡ 35 ∷ p = sym (text_of k) ∙ e in let g : p ≡ word k = cc in n k (g ∙ sym (chars_word k))
 
 none_of : (p : Text) → (p ≡ chars (word True) → ⊥) → (p ≡ chars (word False) → ⊥) → (p ≡ chars (word Null) → ⊥) → (p ≡ chars (word Infinity) → ⊥) → (p ≡ chars (word NegativeInfinity) → ⊥) → (p ≡ chars (word NotANumber) → ⊥)
-  → (k : Keyword) → p ≡ chars (word k) → ⊥
+    → (k : Keyword) → p ≡ chars (word k) → ⊥
 none_of p a b c d e f True h = a h
 none_of p a b c d e f False h = b h
 none_of p a b c d e f Null h = c h
@@ -134,7 +134,7 @@ never : {P : Type 0} → (P → IsTrue false) → P → ⊥
 never h p = let x = h p in cc
 
 pub no_keyword : (p : Text) → (p ≡ chars (word True) → IsTrue false) → (p ≡ chars (word False) → IsTrue false) → (p ≡ chars (word Null) → IsTrue false) → (p ≡ chars (word Infinity) → IsTrue false)
-  → (p ≡ chars (word NegativeInfinity) → IsTrue false) → (p ≡ chars (word NotANumber) → IsTrue false) → (k : Keyword) → keyword_text k ≡ 35 ∷ p → ⊥
+    → (p ≡ chars (word NegativeInfinity) → IsTrue false) → (p ≡ chars (word NotANumber) → IsTrue false) → (k : Keyword) → keyword_text k ≡ 35 ∷ p → ⊥
 no_keyword p a b c d e f = no_word p (none_of p (never a) (never b) (never c) (never d) (never e) (never f))
 
 -- the word behind a `#`, cut out
@@ -168,11 +168,13 @@ module _ (s t : Text) (q : s ≡ t) where
 
 module _ (b : Bool) (k : Keyword) (rest s t : Text) (q : s ≡ t) (h : (r : Text) (x : Keyword) → IsKeyword s r x ↔ ((r ≡ rest) × (x ≡ k))) where
   pub float_some : is_of_number k ≡ true → (IsTrue b ↔ (rest ≡ [])) → IsTrue b ↔ FloatKeyword t
-  float_some n e =
-      (λ y. subst FloatKeyword q (float_to s k n (subst (λ z. IsKeyword s z k) (e.0 y) ((h rest k).1 (refl, refl)))),
-       λ f. let (x, m, i) = float_from s (rw q f) in e.1 (sym ((h [] x).0 i).0))
+  float_some n e = (
+    λ y. subst FloatKeyword q (float_to s k n (subst (λ z. IsKeyword s z k) (e.0 y) ((h rest k).1 (refl, refl)))),
+    λ f. let (x, m, i) = float_from s (rw q f) in e.1 (sym ((h [] x).0 i).0),
+  )
 
   pub float_other : b ≡ false → b ≡ is_of_number k → IsTrue b ↔ FloatKeyword t
-  float_other n e =
-      (λ y. let z : IsTrue false = subst IsTrue n y in cc,
-       λ f. let (x, m, i) = float_from s (rw q f) in e ∙ ap is_of_number (sym ((h [] x).0 i).1) ∙ m)
+  float_other n e = (
+    λ y. let z : IsTrue false = subst IsTrue n y in cc,
+    λ f. let (x, m, i) = float_from s (rw q f) in e ∙ ap is_of_number (sym ((h [] x).0 i).1) ∙ m,
+  )

@@ -323,7 +323,11 @@ fn read_front(cursor: &mut Cursor) -> Result<Front, NumberFault>
     let minus = sign(cursor);
     let radix = base_mark(cursor);
     match integer(cursor, radix.value()) {
-        Some(magnitude) => Ok(Front { minus, radix, magnitude }),
+        Some(magnitude) => Ok(Front {
+            minus,
+            radix,
+            magnitude,
+        }),
         None => Err(NumberFault::MissingDigits(radix)),
     }
 }
@@ -532,7 +536,10 @@ fn is_plain_decimal(text: &str) -> bool
 fn is_of_number(keyword: Keyword) -> bool
     ensures { result ≡ is_of_number keyword }
 {
-    matches!(keyword, Keyword::Infinity | Keyword::NegativeInfinity | Keyword::NotANumber)
+    matches!(
+        keyword,
+        Keyword::Infinity | Keyword::NegativeInfinity | Keyword::NotANumber
+    )
 }
 
 /// Whether the whole text is the keyword of a number: `#inf`, `#-inf` or `#nan`.
@@ -654,14 +661,38 @@ mod tests {
         assert!(rt; is_decimal(&rt, "00.10 x", "00.10"));
         assert!(rt; is_decimal(&rt, "-1e5", "-1e5"));
         assert!(rt; is_decimal(&rt, "+2.5e-1_0", "+2.5e-10"));
-        assert_eq!(rt; number(&rt, "1."), Err(NumberFailure::Fault(NumberFault::MissingFraction)));
-        assert_eq!(rt; number(&rt, "1.0e"), Err(NumberFailure::Fault(NumberFault::MissingExponent)));
-        assert_eq!(rt; number(&rt, "1e"), Err(NumberFailure::Fault(NumberFault::MissingExponent)));
-        assert_eq!(rt; number(&rt, ".5"), Err(NumberFailure::Fault(NumberFault::MissingDigits(Radix::Decimal))));
-        assert_eq!(rt; number(&rt, "1.0asdf"), Err(NumberFailure::Fault(NumberFault::TrailingDecimal)));
-        assert_eq!(rt; number(&rt, "1.easdf"), Err(NumberFailure::Fault(NumberFault::MissingFraction)));
-        assert_eq!(rt; number(&rt, "1asdf"), Err(NumberFailure::Fault(NumberFault::Trailing(Radix::Decimal))));
-        assert_eq!(rt; number(&rt, "0x1.5"), Err(NumberFailure::Fault(NumberFault::Trailing(Radix::Hexadecimal))));
+        assert_eq!(rt;
+            number(&rt, "1."),
+            Err(NumberFailure::Fault(NumberFault::MissingFraction))
+        );
+        assert_eq!(rt;
+            number(&rt, "1.0e"),
+            Err(NumberFailure::Fault(NumberFault::MissingExponent))
+        );
+        assert_eq!(rt;
+            number(&rt, "1e"),
+            Err(NumberFailure::Fault(NumberFault::MissingExponent))
+        );
+        assert_eq!(rt;
+            number(&rt, ".5"),
+            Err(NumberFailure::Fault(NumberFault::MissingDigits(Radix::Decimal)))
+        );
+        assert_eq!(rt;
+            number(&rt, "1.0asdf"),
+            Err(NumberFailure::Fault(NumberFault::TrailingDecimal))
+        );
+        assert_eq!(rt;
+            number(&rt, "1.easdf"),
+            Err(NumberFailure::Fault(NumberFault::MissingFraction))
+        );
+        assert_eq!(rt;
+            number(&rt, "1asdf"),
+            Err(NumberFailure::Fault(NumberFault::Trailing(Radix::Decimal)))
+        );
+        assert_eq!(rt;
+            number(&rt, "0x1.5"),
+            Err(NumberFailure::Fault(NumberFault::Trailing(Radix::Hexadecimal)))
+        );
         assert_eq!(rt; number(&rt, "0x1e5"), Ok(Number::Integer(485)));
         assert_eq!(rt; number(&rt, "-17;"), Ok(Number::Integer(-17)));
     }
@@ -680,7 +711,19 @@ mod tests {
 
     #[test]
     fn float_texts(rt: HostRuntime) {
-        assert!(rt; is_float_text("1.0") && is_float_text("-1e9") && is_float_text("#inf") && is_float_text("#-inf") && is_float_text("#nan"));
-        assert!(rt; !is_float_text("1") && !is_float_text("1_0.0") && !is_float_text("#true") && !is_float_text("1.0 ") && !is_float_text(""));
+        assert!(rt;
+            is_float_text("1.0")
+                && is_float_text("-1e9")
+                && is_float_text("#inf")
+                && is_float_text("#-inf")
+                && is_float_text("#nan")
+        );
+        assert!(rt;
+            !is_float_text("1")
+                && !is_float_text("1_0.0")
+                && !is_float_text("#true")
+                && !is_float_text("1.0 ")
+                && !is_float_text("")
+        );
     }
 }

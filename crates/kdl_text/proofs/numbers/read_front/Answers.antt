@@ -1,7 +1,7 @@
 use Rattle.kdl_text.proofs.DecimalReads.{no_front}
 use Rattle.kdl_text.proofs.Going.{moves_then, shorter}
 use Rattle.kdl_text.proofs.WholeNumbers.{shorter_integer}
-use Rattle.std.proofs.Common.{arith, ◌<◌}
+use Rattle.std.proofs.Common.{arith}
 use Rattle.kdl_text.proofs.numbers.read_front.Goals as goal
 
 pub returns-in-Some-clause-moves : goal.returns-in-Some-clause-moves

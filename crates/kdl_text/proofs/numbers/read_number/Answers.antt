@@ -19,7 +19,7 @@ returns-in_default c = record {
 }
 
 pub returns-in-Err-decimal_part-clause-reads : goal.returns-in-Err-decimal_part-clause-reads
-returns-in-Err-decimal_part-clause-reads c = 
+returns-in-Err-decimal_part-clause-reads c =
     front_no_part _ _ _ c.in-Ok.ensures.reads (λ r d. c.in-Err-decimal_part.ensures.reads r (subst (λ q. DecimalPart q r) (sym c.is_end.ensures.stayed.rest) d)) c.if-is_end.ensures.result
 
 pub returns-in-Err-decimal_part-clause-moves : goal.returns-in-Err-decimal_part-clause-moves
