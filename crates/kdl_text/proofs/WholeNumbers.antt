@@ -27,7 +27,7 @@ mark_det (ten x) (other y) = cc
 mark_det (other x) (ten y) = cc
 mark_det (other x) (other y) = (refl, cc)
 
-or_cases : (a : Bool) {b : Bool} → (a || b) ≡ true → (a ≡ true) ⊎ (b ≡ true)
+pub or_cases : (a : Bool) {b : Bool} → (a || b) ≡ true → (a ≡ true) ⊎ (b ≡ true)
 or_cases true h = inl refl
 or_cases false h = inr h
 
@@ -95,7 +95,7 @@ whole_is t s u r w v n k z a b d (whole {s = s'} {u = u'} {w = w'} {negative = m
 pub whole_number_det : {t r s : Text} {y z : ℤ} → WholeNumber t r y → WholeNumber t s z → (r ≡ s) × (y ≡ z)
 whole_number_det {t = t} (whole a b d e f g) h = let k = whole_is t _ _ _ _ _ _ _ _ a b d h in (k.left, g ∙ sym k.is)
 
-shorter_sign : {t r : Text} {n : Bool} → Sign t r n → length r ≤ length t
+pub shorter_sign : {t r : Text} {n : Bool} → Sign t r n → length r ≤ length t
 shorter_sign (none x) = omega arith
 shorter_sign plus = omega arith
 shorter_sign minus = omega arith
@@ -120,7 +120,7 @@ decimal_digit : (c : ℕ) → is_digit_of 10 c ≡ true → is_digit c ≡ true
 unfolding is_digit_of
 decimal_digit c h = grind (arith, nat_tests)
 
-digit_here : {t r : Text} {w : Text} → Integer 10 t r w → starts is_digit t ≡ true
+pub digit_here : {t r : Text} {w : Text} → Integer 10 t r w → starts is_digit t ≡ true
 digit_here (integer {c = c} x d) = decimal_digit c x
 
 marked_here : (c d k : ℕ) (s : Text) → marked (c ∷ d ∷ s) ≡ Some k → c ≡ 48
@@ -134,7 +134,7 @@ begins_from : (s : Text) → starts is_digit s ≡ true → begins_number s ≡ 
 begins_from [] h = cc
 begins_from (c ∷ s) h = rw h refl
 
-sign_begins : {t s : Text} {n : Bool} → Sign t s n → starts is_digit s ≡ true → begins_number t ≡ true
+pub sign_begins : {t s : Text} {n : Bool} → Sign t s n → starts is_digit s ≡ true → begins_number t ≡ true
 sign_begins {t = t} (none x) h = begins_from t h
 sign_begins plus h = h
 sign_begins minus h = h
@@ -143,7 +143,7 @@ sign_begins minus h = h
 pub whole_number_begins : {t r : Text} {z : ℤ} → WholeNumber t r z → begins_number t ≡ true
 whole_number_begins (whole a b d e f g) = sign_begins a (mark_digit b d)
 
-integer_digit : {k : ℕ} {t r w : Text} → Integer k t r w → starts (is_digit_of k) t ≡ true
+pub integer_digit : {k : ℕ} {t r w : Text} → Integer k t r w → starts (is_digit_of k) t ≡ true
 integer_digit (integer x d) = x
 
 -- behind the sign and the mark of a whole number stands a digit of the base

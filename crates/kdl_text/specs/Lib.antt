@@ -1,7 +1,7 @@
 pub mod Bare
 pub mod Chars
 pub mod Here
-pub mod Magnitudes
+pub mod NumberReading
 pub mod Numbers
 pub mod Reading
 pub mod Spans

@@ -1,8 +1,10 @@
 -- Numbers (KDL 2.0.0, Number).
-use Rattle.std.specs.Prelude.{◌≡◌, ℕ, ◌^◌, ℤ, pos, neg_ℤ, Bool, true, false, ◌&&◌, ◌||◌, ◌==◌, nat_lt, nat_le, if◌then◌else◌, [], ◌∷◌, Option, Some, None}
+use Rattle.std.specs.Prelude.{◌≡◌, ℕ, ◌^◌, ℤ, pos, neg_ℤ, Bool, true, false, ◌&&◌, ◌||◌, ◌==◌, nat_lt, nat_le, if◌then◌else◌, [], ◌∷◌, Option, Some, None, not, filter, ◌++◌, ◌⊎◌, codes}
 use Rattle.std.specs.Char.{is_digit as is_digit_in}
 use Rattle.std.specs.Str.Parse.{digits_value}
-use Rattle.kdl_text.specs.Chars.{Text, is_digit, is_sign, is_identifier_char, starts}
+use Rattle.kdl_text.specs.Chars.{Text, is_digit, is_sign, is_identifier_char, begins, starts}
+use Rattle.kdl_text.specs.declared.numbers.Keyword.{Keyword}
+use Rattle.kdl_text.specs.declared.numbers.Keyword.TheVariants.{True, False, Null, Infinity, NegativeInfinity, NotANumber}
 
 -- a digit of the base: `0` to `9`, then the letters from `a` or `A` on
 unfoldable pub is_digit_of : ℕ → ℕ → Bool
@@ -59,6 +61,63 @@ fits negative n = if negative then nat_le n (2 ^ 127) else nat_lt n (2 ^ 127)
 pub data WholeNumber : Text → Text → ℤ → Type 0 where
   whole : {t s u r w : Text} {negative : Bool} {radix : ℕ} {z : ℤ} → Sign t s negative → BaseMark s u radix → Integer radix u r w → starts is_identifier_char r ≡ false
       → fits negative (digits_value radix w) ≡ true → z ≡ signed negative (digits_value radix w) → WholeNumber t r z
+
+-- a point and an integer, or neither
+pub data Fraction : Text → Text → Bool → Type 0 where
+  none : {t : Text} → begins 46 t ≡ false → Fraction t t false
+  fraction : {s r w : Text} → Integer 10 s r w → Fraction (46 ∷ s) r true
+
+-- `e` and `E`
+abbrev pub is_exponent_mark : ℕ → Bool
+is_exponent_mark c = c == 101 || c == 69
+
+-- `e` or `E`, a sign and an integer, or nothing of these
+pub data Exponent : Text → Text → Bool → Type 0 where
+  none : {t : Text} → starts is_exponent_mark t ≡ false → Exponent t t false
+  exponent : {c : ℕ} {s t r w : Text} {negative : Bool} → is_exponent_mark c ≡ true → Sign s t negative → Integer 10 t r w → Exponent (c ∷ s) r true
+
+-- what makes a decimal of an integer: a fraction or an exponent or both, and no identifier character behind them
+pub data DecimalPart : Text → Text → Type 0 where
+  part : {t s r : Text} {point power : Bool} → Fraction t s point → Exponent s r power → (point || power) ≡ true → starts is_identifier_char r ≡ false → DecimalPart t r
+
+-- a text without `_`
+abbrev pub plain : Text → Text
+plain p = filter (λ c. not (c == 95)) p
+
+-- a sign, an integer and the part that makes a decimal of it; w is the whole piece without `_`
+pub data Decimal : Text → Text → Text → Type 0 where
+  decimal : {t s u r v w : Text} {negative : Bool} (p : Text) → Sign t s negative → Integer 10 s u v → DecimalPart u r → t ≡ p ++ r → w ≡ plain p → Decimal t r w
+
+-- what a number stands for
+pub data NumberValue : Type 0 where
+  whole_value : ℤ → NumberValue
+  decimal_text : Text → NumberValue
+
+-- a whole number, or a decimal
+pub data IsNumber : Text → Text → NumberValue → Type 0 where
+  is_whole : {t r : Text} {z : ℤ} → WholeNumber t r z → IsNumber t r (whole_value z)
+  is_decimal : {t r w : Text} → Decimal t r w → IsNumber t r (decimal_text w)
+
+-- the text of a keyword
+abbrev pub keyword_text : Keyword → Text
+keyword_text True = codes "#true"
+keyword_text False = codes "#false"
+keyword_text Null = codes "#null"
+keyword_text Infinity = codes "#inf"
+keyword_text NegativeInfinity = codes "#-inf"
+keyword_text NotANumber = codes "#nan"
+
+-- the text of the keyword k, and no identifier character behind it
+pub data IsKeyword : Text → Text → Keyword → Type 0 where
+  keyword : {t r : Text} {k : Keyword} → t ≡ keyword_text k ++ r → starts is_identifier_char r ≡ false → IsKeyword t r k
+
+-- the keyword of a number that no digits write
+abbrev pub FloatKeyword : Text → Type 0
+FloatKeyword s = (s ≡ codes "#inf") ⊎ (s ≡ codes "#-inf") ⊎ (s ≡ codes "#nan")
+
+-- the whole text is a decimal without `_`, or such a keyword
+abbrev pub FloatText : Text → Type 0
+FloatText s = Decimal s [] s ⊎ FloatKeyword s
 
 -- the text begins as a number does: with a digit, or a sign and a digit
 abbrev pub begins_number : Text → Bool

@@ -3,13 +3,16 @@
 ghost use Rattle.kdl_text.specs.Chars.{starts};
 ghost use Rattle.kdl_text.specs.Chars as class;
 ghost use Rattle.kdl_text.specs.Here.{Stayed};
-ghost use Rattle.kdl_text.specs.Magnitudes.{radix_of, IsBase, LooksMark, Counts, IsDigit, ReadsDigits, ReadsInteger, ReadsWhole};
+ghost use Rattle.kdl_text.specs.NumberReading.{radix_of, IsBase, LooksMark, Counts, IsDigit, ReadsDigits, ReadsInteger, ReadsWhole, ReadsFront, IsFault, IsPartFault, IsPowerFault, IsNumberFault, ReadsFraction, ReadsExponent, ReadsPart, ReadsNumber, ReadsKeyword, AteMark, WordOf, is_of_number};
 ghost use Rattle.kdl_text.specs.Numbers as spec;
-ghost use Rattle.kdl_text.specs.Numbers.{Sign, BaseMark};
+ghost use Rattle.kdl_text.specs.Numbers.{Sign, BaseMark, Decimal, FloatKeyword, FloatText};
 ghost use Rattle.kdl_text.specs.Reading.{Moves, Costs};
-ghost use Rattle.std.specs.Prelude.{◌≡◌, ℕ, ◌+◌, ◌*◌, ◌<◌, ◌≤◌, ◌||◌, not, IfOk, if◌then◌else◌, Bool};
+ghost use Rattle.std.specs.Prelude.{◌≡◌, ℕ, ◌+◌, ◌*◌, ◌<◌, ◌≤◌, ◌||◌, not, IfOk, if◌then◌else◌, Bool, ◌↔◌, IsTrue, IfSome, string_bytes, [], length, ◌==◌};
+ghost use Rattle.std.specs.List.{list_all};
+ghost use Rattle.std.specs.Str.{chars};
 
-use crate::chars::{Cursor, is_digit, is_identifier_char, is_sign};
+use crate::chars::{Class, Cursor, Piece, Steps, is_digit, is_identifier_char, is_sign};
+use std::alloc::{AllocError, Global};
 
 /// The base in which a whole number is written.
 #[derive(Clone, Copy, Debug, PartialEq, Eq)]
@@ -68,6 +71,41 @@ pub enum NumberFault {
     MissingExponent,
     /// The whole number is none of `i128`.
     OutOfRange,
+}
+
+/// Why no number was made of a text.
+#[derive(Clone, Copy, Debug, PartialEq, Eq)]
+pub enum NumberFailure {
+    /// No number begins there.
+    Fault(NumberFault),
+    /// A request for memory was refused.
+    Memory,
+}
+
+/// What a number stands for.
+#[derive(Debug, Drop, PartialEq, Eq)]
+pub enum Number {
+    /// A whole number.
+    Integer(i128),
+    /// A decimal, by its text without `_`.
+    Decimal(String),
+}
+
+/// A word behind `#` (KDL 2.0.0, Boolean, Null, Keyword Numbers).
+#[derive(Clone, Copy, Debug, PartialEq, Eq)]
+pub enum Keyword {
+    /// `#true`
+    True,
+    /// `#false`
+    False,
+    /// `#null`
+    Null,
+    /// `#inf`
+    Infinity,
+    /// `#-inf`
+    NegativeInfinity,
+    /// `#nan`
+    NotANumber,
 }
 
 /// A number without its sign, while its digits are read.
@@ -267,34 +305,294 @@ pub fn begins_number(cursor: &mut Cursor) -> bool
     }
 }
 
+/// A number as far as its first integer.
+#[derive(Clone, Copy)]
+struct Front {
+    minus: bool,
+    radix: Radix,
+    magnitude: Magnitude,
+}
+
+/// Goes past the sign, the mark of a base and the integer with which a number begins.
+fn read_front(cursor: &mut Cursor) -> Result<Front, NumberFault>
+    ensures reads { ReadsFront result cursor.old.rest cursor.new.rest }
+    ensures fault { IsFault result cursor.old.rest cursor.new.rest }
+    ensures moves { Moves cursor.old cursor.new }
+    ensures costs { Costs 2 4 cursor.old cursor.new }
+    ensures shorter { IfOk result (λ f. length cursor.new.rest < length cursor.old.rest) }
+{
+    let minus = sign(cursor);
+    let radix = base_mark(cursor);
+    match integer(cursor, radix.value()) {
+        Some(magnitude) => Ok(Front {
+            minus,
+            radix,
+            magnitude,
+        }),
+        None => Err(NumberFault::MissingDigits(radix)),
+    }
+}
+
 /// Goes past a whole number, and gives what it stands for (KDL 2.0.0, Number).
 ///
 /// A fault where no whole number of `i128` begins here, or an identifier character follows it. The cursor then stands
 /// where the fault was seen.
 pub fn whole_number(cursor: &mut Cursor) -> Result<i128, NumberFault>
     ensures reads { ReadsWhole result cursor.old.rest cursor.new.rest }
+    ensures fault { IsFault result cursor.old.rest cursor.new.rest }
     ensures moves { Moves cursor.old cursor.new }
     ensures costs { IfOk result (λ n. Costs 24 0 cursor.old cursor.new) }
 {
-    let minus = sign(cursor);
-    let radix = base_mark(cursor);
-    let Some(magnitude) = integer(cursor, radix.value()) else {
-        return Err(NumberFault::MissingDigits(radix));
+    let number = match read_front(cursor) {
+        Ok(number) => number,
+        Err(fault) => return Err(fault),
     };
     if !is_end(cursor) {
-        return Err(NumberFault::Trailing(radix));
+        return Err(NumberFault::Trailing(number.radix));
     }
-    magnitude.signed(minus)
+    number.magnitude.signed(number.minus)
+}
+
+/// Goes past a point and an integer, if a point stands here. Whether one did.
+fn fraction(cursor: &mut Cursor) -> Result<bool, NumberFault>
+    ensures reads { ReadsFraction result cursor.old.rest cursor.new.rest }
+    ensures fault { IsPartFault result cursor.old.rest cursor.new.rest }
+    ensures moves { Moves cursor.old cursor.new }
+    ensures costs { Costs 2 2 cursor.old cursor.new }
+{
+    if !cursor.eat('.') {
+        return Ok(false);
+    }
+    match integer(cursor, 10) {
+        Some(_) => Ok(true),
+        None => Err(NumberFault::MissingFraction),
+    }
+}
+
+/// Goes past an exponent, if its mark stands here. Whether one did.
+fn exponent(cursor: &mut Cursor) -> Result<bool, NumberFault>
+    ensures reads { ReadsExponent result cursor.old.rest cursor.new.rest }
+    ensures fault { IsPowerFault result cursor.old.rest cursor.new.rest }
+    ensures moves { Moves cursor.old cursor.new }
+    ensures costs { Costs 2 3 cursor.old cursor.new }
+{
+    if !eat_exponent_mark(cursor) {
+        return Ok(false);
+    }
+    let _ = sign(cursor);
+    match integer(cursor, 10) {
+        Some(_) => Ok(true),
+        None => Err(NumberFault::MissingExponent),
+    }
+}
+
+/// Goes past `e` or `E`, if it stands here.
+#[inline]
+fn eat_exponent_mark(cursor: &mut Cursor) -> bool
+    ensures { AteMark result cursor.old cursor.new }
+{
+    match cursor.look() {
+        Some('e' | 'E') => {
+            cursor.step();
+            true
+        }
+        _ => false,
+    }
+}
+
+/// Goes past what makes a decimal of an integer: a fraction, an exponent, or both.
+fn decimal_part(cursor: &mut Cursor) -> Result<(), NumberFault>
+    ensures reads { ReadsPart result cursor.old.rest cursor.new.rest }
+    ensures fault { IsPartFault result cursor.old.rest cursor.new.rest }
+    ensures moves { Moves cursor.old cursor.new }
+    ensures costs { Costs 2 6 cursor.old cursor.new }
+{
+    let point = match fraction(cursor) {
+        Ok(point) => point,
+        Err(fault) => return Err(fault),
+    };
+    let power = match exponent(cursor) {
+        Ok(power) => power,
+        Err(fault) => return Err(fault),
+    };
+    if !point && !power {
+        return Err(NumberFault::Trailing(Radix::Decimal));
+    }
+    if !is_end(cursor) {
+        return Err(NumberFault::TrailingDecimal);
+    }
+    Ok(())
+}
+
+/// Whether no `_` stands in the text.
+fn is_unmarked(text: &str) -> bool
+    ensures { result ≡ list_all (λ c. not (c == 95)) (chars text.now) }
+{
+    text.chars().all(|c| c != '_')
+}
+
+/// A copy of the piece without its `_`.
+fn without_marks(alloc: Global, piece: &Piece) -> Result<String, AllocError>
+    ensures { IfOk result (λ s. chars (string_bytes s) ≡ spec.plain piece.now) }
+{
+    let mut text = match piece.to_string(alloc) {
+        Ok(text) => text,
+        Err(refused) => return Err(refused),
+    };
+    if is_unmarked(text.as_str()) {
+        return Ok(text);
+    }
+    text.retain(|c| c != '_');
+    Ok(text)
+}
+
+/// The number with its sign, where it is one of `i128`.
+fn whole(number: Front) -> Result<Number, NumberFailure>
+    ensures { (n : ℕ) → Counts number.magnitude n → result ≡ (if spec.fits number.minus n then Ok (Number.Integer (spec.signed number.minus n)) else Err (NumberFailure.Fault NumberFault.OutOfRange)) }
+{
+    match number.magnitude.signed(number.minus) {
+        Ok(n) => Ok(Number::Integer(n)),
+        Err(_) => Err(NumberFailure::Fault(NumberFault::OutOfRange)),
+    }
+}
+
+/// Goes past a number, and gives what it stands for (KDL 2.0.0, Number).
+///
+/// A fault where no number begins here: a digit is missing, an identifier character follows, or a whole number is none
+/// of `i128`. The cursor then stands where the fault was seen. A decimal takes memory for its text.
+pub fn read_number(alloc: Global, cursor: &mut Cursor) -> Result<Number, NumberFailure>
+    ensures reads { ReadsNumber result cursor.old.rest cursor.new.rest }
+    ensures fault { IsNumberFault result cursor.old.rest cursor.new.rest }
+    ensures moves { Moves cursor.old cursor.new }
+    ensures costs { IfOk result (λ n. Costs 24 0 cursor.old cursor.new) }
+{
+    let start = cursor.checkpoint();
+    let number = match read_front(cursor) {
+        Ok(number) => number,
+        Err(fault) => return Err(NumberFailure::Fault(fault)),
+    };
+    if is_end(cursor) {
+        return whole(number);
+    }
+    let Radix::Decimal = number.radix else {
+        return Err(NumberFailure::Fault(NumberFault::Trailing(number.radix)));
+    };
+    if let Err(fault) = decimal_part(cursor) {
+        return Err(NumberFailure::Fault(fault));
+    }
+    let piece = cursor.slice(&start);
+    match without_marks(alloc, &piece) {
+        Ok(text) => Ok(Number::Decimal(text)),
+        Err(_) => Err(NumberFailure::Memory),
+    }
+}
+
+/// The keyword behind `#`, by its word.
+fn keyword_of(word: &Piece) -> Option<Keyword>
+    ensures { WordOf result word.now }
+{
+    if word.is("true") {
+        Some(Keyword::True)
+    } else if word.is("false") {
+        Some(Keyword::False)
+    } else if word.is("null") {
+        Some(Keyword::Null)
+    } else if word.is("inf") {
+        Some(Keyword::Infinity)
+    } else if word.is("-inf") {
+        Some(Keyword::NegativeInfinity)
+    } else if word.is("nan") {
+        Some(Keyword::NotANumber)
+    } else {
+        None
+    }
+}
+
+/// Goes past a keyword, and gives it (KDL 2.0.0, Boolean, Null, Keyword Numbers). None where no keyword begins here;
+/// the cursor then stands behind the word.
+pub fn read_keyword(cursor: &mut Cursor) -> Option<Keyword>
+    ensures reads { ReadsKeyword result cursor.old.rest cursor.new.rest }
+    ensures moves { Moves cursor.old cursor.new }
+    ensures costs { IfSome result (λ k. Costs 24 0 cursor.old cursor.new) }
+{
+    if !cursor.eat('#') {
+        return None;
+    }
+    let start = cursor.checkpoint();
+    cursor.skip(Class::Identifier);
+    let word = cursor.slice(&start);
+    keyword_of(&word)
+}
+
+/// Whether the whole text is a decimal without `_`.
+fn is_plain_decimal(text: &str) -> bool
+    ensures { IsTrue result ↔ Decimal (chars text.now) [] (chars text.now) }
+{
+    let mut cursor = Cursor::new(text, Steps::new());
+    let Ok(number) = read_front(&mut cursor) else {
+        return false;
+    };
+    let Radix::Decimal = number.radix else {
+        return false;
+    };
+    let Ok(()) = decimal_part(&mut cursor) else {
+        return false;
+    };
+    cursor.look().is_none() && is_unmarked(text)
+}
+
+/// Whether the keyword is that of a number.
+fn is_of_number(keyword: Keyword) -> bool
+    ensures { result ≡ is_of_number keyword }
+{
+    matches!(
+        keyword,
+        Keyword::Infinity | Keyword::NegativeInfinity | Keyword::NotANumber
+    )
+}
+
+/// Whether the whole text is the keyword of a number: `#inf`, `#-inf` or `#nan`.
+fn is_float_keyword(text: &str) -> bool
+    ensures { IsTrue result ↔ FloatKeyword (chars text.now) }
+{
+    let mut cursor = Cursor::new(text, Steps::new());
+    match read_keyword(&mut cursor) {
+        Some(keyword) => is_of_number(keyword) && cursor.look().is_none(),
+        None => false,
+    }
+}
+
+/// Whether the whole text is a decimal without `_`, or one of `#inf`, `#-inf` and `#nan`.
+pub fn is_float_text(text: &str) -> bool
+    ensures { IsTrue result ↔ FloatText (chars text.now) }
+{
+    is_float_keyword(text) || is_plain_decimal(text)
 }
 
 #[cfg(test)]
 mod tests {
     use super::*;
-    use crate::chars::Steps;
 
     fn whole(text: &str) -> Result<i128, NumberFault> {
         let mut cursor = Cursor::new(text, Steps::new());
         whole_number(&mut cursor)
+    }
+
+    fn number(rt: &HostRuntime, text: &str) -> Result<Number, NumberFailure> {
+        let mut cursor = Cursor::new(text, Steps::new());
+        read_number(rt.alloc(), &mut cursor)
+    }
+
+    fn is_decimal(rt: &HostRuntime, text: &str, spelled: &str) -> bool {
+        match number(rt, text) {
+            Ok(Number::Decimal(found)) => found.as_str() == spelled,
+            _ => false,
+        }
+    }
+
+    fn keyword(text: &str) -> Option<Keyword> {
+        let mut cursor = Cursor::new(text, Steps::new());
+        read_keyword(&mut cursor)
     }
 
     fn begins(text: &str) -> bool {
@@ -364,5 +662,77 @@ mod tests {
     fn fronts(rt: HostRuntime) {
         assert!(rt; begins("0") && begins("-9") && begins("+1"));
         assert!(rt; !begins("_1") && !begins("-") && !begins("+a") && !begins(".5") && !begins(""));
+    }
+
+    #[test]
+    fn decimals(rt: HostRuntime) {
+        assert!(rt; is_decimal(&rt, "1_0.5E+3", "10.5E+3"));
+        assert!(rt; is_decimal(&rt, "00.10 x", "00.10"));
+        assert!(rt; is_decimal(&rt, "-1e5", "-1e5"));
+        assert!(rt; is_decimal(&rt, "+2.5e-1_0", "+2.5e-10"));
+        assert_eq!(rt;
+            number(&rt, "1."),
+            Err(NumberFailure::Fault(NumberFault::MissingFraction))
+        );
+        assert_eq!(rt;
+            number(&rt, "1.0e"),
+            Err(NumberFailure::Fault(NumberFault::MissingExponent))
+        );
+        assert_eq!(rt;
+            number(&rt, "1e"),
+            Err(NumberFailure::Fault(NumberFault::MissingExponent))
+        );
+        assert_eq!(rt;
+            number(&rt, ".5"),
+            Err(NumberFailure::Fault(NumberFault::MissingDigits(Radix::Decimal)))
+        );
+        assert_eq!(rt;
+            number(&rt, "1.0asdf"),
+            Err(NumberFailure::Fault(NumberFault::TrailingDecimal))
+        );
+        assert_eq!(rt;
+            number(&rt, "1.easdf"),
+            Err(NumberFailure::Fault(NumberFault::MissingFraction))
+        );
+        assert_eq!(rt;
+            number(&rt, "1asdf"),
+            Err(NumberFailure::Fault(NumberFault::Trailing(Radix::Decimal)))
+        );
+        assert_eq!(rt;
+            number(&rt, "0x1.5"),
+            Err(NumberFailure::Fault(NumberFault::Trailing(Radix::Hexadecimal)))
+        );
+        assert_eq!(rt; number(&rt, "0x1e5"), Ok(Number::Integer(485)));
+        assert_eq!(rt; number(&rt, "-17;"), Ok(Number::Integer(-17)));
+    }
+
+    #[test]
+    fn keywords(rt: HostRuntime) {
+        assert_eq!(rt; keyword("#true"), Some(Keyword::True));
+        assert_eq!(rt; keyword("#false }"), Some(Keyword::False));
+        assert_eq!(rt; keyword("#null"), Some(Keyword::Null));
+        assert_eq!(rt; keyword("#inf"), Some(Keyword::Infinity));
+        assert_eq!(rt; keyword("#-inf"), Some(Keyword::NegativeInfinity));
+        assert_eq!(rt; keyword("#nan\n"), Some(Keyword::NotANumber));
+        assert_eq!(rt; keyword("#truest"), None);
+        assert_eq!(rt; keyword("true"), None);
+    }
+
+    #[test]
+    fn float_texts(rt: HostRuntime) {
+        assert!(rt;
+            is_float_text("1.0")
+                && is_float_text("-1e9")
+                && is_float_text("#inf")
+                && is_float_text("#-inf")
+                && is_float_text("#nan")
+        );
+        assert!(rt;
+            !is_float_text("1")
+                && !is_float_text("1_0.0")
+                && !is_float_text("#true")
+                && !is_float_text("1.0 ")
+                && !is_float_text("")
+        );
     }
 }

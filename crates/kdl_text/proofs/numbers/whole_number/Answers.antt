@@ -1,31 +1,18 @@
-use Rattle.kdl_text.proofs.Going.{moves_then, moves_stayed}
-use Rattle.kdl_text.proofs.NumberReads.{no_integer, trailing, whole_read, whole_costs}
+use Rattle.kdl_text.proofs.DecimalReads.{front_range, whole_costs, front_whole, front_trailing}
+use Rattle.kdl_text.specs.Numbers.{is_whole}
 use Rattle.kdl_text.proofs.numbers.whole_number.Goals as goal
 
-pub returns-in_default-clause-reads : goal.returns-in_default-clause-reads
-returns-in_default-clause-reads c = no_integer _ _ _ c.integer.new.cursor.rest _ _ _ c.sign-minus.ensures.reads c.base_mark-radix.ensures.reads c.value.ensures.is c.in_default.ensures.reads
-
-pub returns-in_default-clause-moves : goal.returns-in_default-clause-moves
-returns-in_default-clause-moves c = moves_then c.sign-minus.ensures.moves (moves_then c.base_mark-radix.ensures.moves c.integer.ensures.moves)
+pub returns-in-Err-clause-reads : goal.returns-in-Err-clause-reads
+returns-in-Err-clause-reads c = λ r z w. c.in-Err.ensures.reads r _ (is_whole w)
 
 pub returns-then-not-is_end-clause-reads : goal.returns-then-not-is_end-clause-reads
-returns-then-not-is_end-clause-reads c =
-    trailing _ _ _ _ _ _ _ c.sign-minus.ensures.reads c.base_mark-radix.ensures.reads c.value.ensures.is _ c.in-Some.ensures.reads c.if-not-is_end.ensures.result
-
-pub returns-then-not-is_end-clause-moves : goal.returns-then-not-is_end-clause-moves
-returns-then-not-is_end-clause-moves c =
-    moves_then c.sign-minus.ensures.moves (moves_then c.base_mark-radix.ensures.moves (moves_then c.integer.ensures.moves (moves_stayed c.is_end.ensures.stayed)))
+returns-then-not-is_end-clause-reads c = front_trailing _ _ _ c.in-Ok.ensures.reads c.if-not-is_end.ensures.result
 
 pub returns-clause-reads : goal.returns-clause-reads
-returns-clause-reads c =
-    whole_read _ _ _ _ _ _ _ c.sign-minus.ensures.reads c.base_mark-radix.ensures.reads c.value.ensures.is _ c.in-Some.ensures.reads _ _ c.is_end.ensures.stayed.rest c.if-not-is_end.ensures.result
-    c.signed.ensures
-
-pub returns-clause-moves : goal.returns-clause-moves
-returns-clause-moves c =
-    moves_then c.sign-minus.ensures.moves (moves_then c.base_mark-radix.ensures.moves (moves_then c.integer.ensures.moves (moves_stayed c.is_end.ensures.stayed)))
+returns-clause-reads c = front_whole _ _ _ c.in-Ok.ensures.reads _ _ c.is_end.ensures.stayed.rest c.if-not-is_end.ensures.result c.signed.ensures
 
 pub returns-clause-costs : goal.returns-clause-costs
-returns-clause-costs c =
-    whole_costs _ _ _ _ _ _ _ _ c.sign-minus.ensures.moves c.sign-minus.ensures.costs c.base_mark-radix.ensures.moves c.base_mark-radix.ensures.costs c.in-Some.ensures.reads c.integer.ensures.moves
-    c.integer.ensures.costs c.is_end.ensures.stayed
+returns-clause-costs c = whole_costs _ _ _ _ c.read_front.ensures.moves c.read_front.ensures.costs c.in-Ok.ensures.shorter c.is_end.ensures.stayed
+
+pub returns-clause-fault : goal.returns-clause-fault
+returns-clause-fault c = front_range _ _ _ c.in-Ok.ensures.reads _ _ c.is_end.ensures.stayed.rest c.signed.ensures

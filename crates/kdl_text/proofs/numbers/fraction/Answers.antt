@@ -1,0 +1,15 @@
+use Rattle.kdl_text.proofs.DecimalReads.{fraction_none, fraction_some}
+use Rattle.kdl_text.proofs.Going.{moves_then, moves_one}
+use Rattle.kdl_text.proofs.numbers.fraction.Goals as goal
+
+pub returns-then-not-eat-clause-reads : goal.returns-then-not-eat-clause-reads
+returns-then-not-eat-clause-reads c = fraction_none _ _ c.if-not-eat.ensures
+
+pub returns-in-Some-clause-reads : goal.returns-in-Some-clause-reads
+returns-in-Some-clause-reads c = fraction_some _ _ _ c.integer.new.cursor c.if-not-eat.ensures c.in-Some.ensures.reads
+
+pub returns-in-Some-clause-moves : goal.returns-in-Some-clause-moves
+returns-in-Some-clause-moves c = moves_then (moves_one c.if-not-eat.ensures) c.integer.ensures.moves
+
+pub returns-in-None-clause-moves : goal.returns-in-None-clause-moves
+returns-in-None-clause-moves c = moves_then (moves_one c.if-not-eat.ensures) c.integer.ensures.moves

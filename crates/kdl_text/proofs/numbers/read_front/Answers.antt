@@ -1,0 +1,17 @@
+use Rattle.kdl_text.proofs.DecimalReads.{no_front}
+use Rattle.kdl_text.proofs.Going.{moves_then, shorter}
+use Rattle.kdl_text.proofs.WholeNumbers.{shorter_integer}
+use Rattle.std.proofs.Common.{arith}
+use Rattle.kdl_text.proofs.numbers.read_front.Goals as goal
+
+pub returns-in-Some-clause-moves : goal.returns-in-Some-clause-moves
+returns-in-Some-clause-moves c = moves_then c.sign-minus.ensures.moves (moves_then c.base_mark-radix.ensures.moves c.integer.ensures.moves)
+
+pub returns-in-Some-clause-shorter : goal.returns-in-Some-clause-shorter
+returns-in-Some-clause-shorter c = omega (arith, shorter_integer c.in-Some.ensures.reads.1, shorter c.sign-minus.ensures.moves, shorter c.base_mark-radix.ensures.moves)
+
+pub returns-in-None-clause-reads : goal.returns-in-None-clause-reads
+returns-in-None-clause-reads c = no_front _ _ _ _ _ _ c.sign-minus.ensures.reads c.base_mark-radix.ensures.reads c.value.ensures.is c.in-None.ensures.reads.1
+
+pub returns-in-None-clause-moves : goal.returns-in-None-clause-moves
+returns-in-None-clause-moves c = moves_then c.sign-minus.ensures.moves (moves_then c.base_mark-radix.ensures.moves c.integer.ensures.moves)

@@ -1,0 +1,10 @@
+use Rattle.std.proofs.Common.{sym, ◌∙◌}
+use Rattle.kdl_text.proofs.Keywords.{keyword_here, keyword_moves}
+use Rattle.kdl_text.proofs.numbers.read_keyword.Goals as goal
+
+pub returns-clause-reads : goal.returns-clause-reads
+returns-clause-reads c =
+    keyword_here _ _ _ _ _ _ _ c.if-not-eat.ensures c.skip.ensures.1 (sym c.checkpoint-start.ensures.rest ∙ c.slice-word.ensures.result) c.slice-word.ensures.moved c.keyword_of.ensures
+
+pub returns-clause-moves : goal.returns-clause-moves
+returns-clause-moves c = keyword_moves _ _ _ _ _ _ c.if-not-eat.ensures c.skip.ensures.1 c.slice-word.ensures.moved

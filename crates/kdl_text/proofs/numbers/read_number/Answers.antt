@@ -1,0 +1,46 @@
+use Rattle.std.proofs.Common.{◌≡◌, ◌++◌, ◌∙◌, sym, ap, subst}
+use Rattle.kdl_text.specs.Numbers.{DecimalPart}
+use Rattle.kdl_text.specs.NumberReading.{radix_of}
+use Rattle.kdl_text.proofs.DecimalReads.{front_trails, number_range, whole_costs, front_number, front_other, front_no_part, front_part, reads_number, not_ten, part_moves, part_costs}
+use Rattle.kdl_text.proofs.Going.{moves_then, moves_stayed}
+use Rattle.kdl_text.proofs.numbers.read_number.Goals as goal
+
+pub returns-then-is_end-clause-reads : goal.returns-then-is_end-clause-reads
+returns-then-is_end-clause-reads c = front_number _ _ _ c.in-Ok.ensures.reads _ _ c.is_end.ensures.stayed.rest c.if-is_end.ensures.result c.whole.ensures
+
+pub returns-then-is_end-clause-costs : goal.returns-then-is_end-clause-costs
+returns-then-is_end-clause-costs c = whole_costs _ _ _ _ c.read_front.ensures.moves c.read_front.ensures.costs c.in-Ok.ensures.shorter c.is_end.ensures.stayed
+
+pub returns-in_default : goal.returns-in_default
+returns-in_default c = record {
+  reads = front_other _ _ _ c.in-Ok.ensures.reads (not_ten _ c.in_default.not-Decimal) c.if-is_end.ensures.result;
+  fault = front_trails _ _ _ c.in-Ok.ensures.reads _ c.is_end.ensures.stayed.rest c.if-is_end.ensures.result;
+  moves = moves_then c.read_front.ensures.moves (moves_stayed c.is_end.ensures.stayed);
+  costs = tt;
+}
+
+pub returns-in-Err-decimal_part-clause-reads : goal.returns-in-Err-decimal_part-clause-reads
+returns-in-Err-decimal_part-clause-reads c =
+    front_no_part _ _ _ c.in-Ok.ensures.reads (λ r d. c.in-Err-decimal_part.ensures.reads r (subst (λ q. DecimalPart q r) (sym c.is_end.ensures.stayed.rest) d)) c.if-is_end.ensures.result
+
+pub returns-in-Err-decimal_part-clause-moves : goal.returns-in-Err-decimal_part-clause-moves
+returns-in-Err-decimal_part-clause-moves c = moves_then c.read_front.ensures.moves (moves_then (moves_stayed c.is_end.ensures.stayed) c.decimal_part.ensures.moves)
+
+pub slice-piece-requires : goal.slice-piece-requires
+slice-piece-requires c = rw c.checkpoint-start.ensures.rest (part_moves _ _ _ _ c.read_front.ensures.moves c.is_end.ensures.stayed c.decimal_part.ensures.moves).piece
+
+pub returns-in-Ok-without_marks-clause-reads : goal.returns-in-Ok-without_marks-clause-reads
+returns-in-Ok-without_marks-clause-reads c =
+    let p = c.slice-piece.result in
+    let rest : c.slice-piece.new.self.rest ≡ c.decimal_part.new.cursor.rest = ap (λ h. h.rest) c.slice-piece.ensures.moved in
+    let text : c.args.cursor.now.rest ≡ p ++ c.decimal_part.new.cursor.rest = sym c.checkpoint-start.ensures.rest ∙ c.slice-piece.ensures.result in
+    let part : DecimalPart c.read_front.new.cursor.rest c.decimal_part.new.cursor.rest = subst (λ q. DecimalPart q c.decimal_part.new.cursor.rest) c.is_end.ensures.stayed.rest c.in_default-decimal_part.ensures.reads in
+    reads_number _ _ p _ c.in-Ok-without_marks.ensures (rw rest (front_part _ _ _ c.in-Ok.ensures.reads _ p (ap radix_of c.in-Decimal.is) part text))
+
+pub returns-in-Ok-without_marks-clause-costs : goal.returns-in-Ok-without_marks-clause-costs
+returns-in-Ok-without_marks-clause-costs c =
+    part_costs _ _ _ _ _ _ c.read_front.ensures.moves c.read_front.ensures.costs c.in-Ok.ensures.shorter c.is_end.ensures.stayed c.decimal_part.ensures.moves c.decimal_part.ensures.costs
+    (sym c.checkpoint-start.ensures.rest ∙ c.slice-piece.ensures.result) c.slice-piece.ensures.moved
+
+pub returns-then-is_end-clause-fault : goal.returns-then-is_end-clause-fault
+returns-then-is_end-clause-fault c = number_range _ _ _ c.in-Ok.ensures.reads _ _ c.is_end.ensures.stayed.rest c.whole.ensures
