@@ -14,7 +14,7 @@ use Rattle.kdl_text.specs.Chars.Space.{space as space_char}
 use Rattle.kdl_text.specs.Chars.Newline.{one as newline_char}
 use Rattle.kdl_text.specs.Bare.{BareString}
 use Rattle.kdl_text.specs.Here.{Here, Spot, Skips, first, tail, looked, stepped}
-use Rattle.kdl_text.specs.Magnitudes.{ReadsWhole}
+use Rattle.kdl_text.specs.NumberReading.{ReadsWhole}
 use Rattle.kdl_text.specs.Numbers.{WholeNumber, whole, begins_number, fits, signed}
 use Rattle.kdl_text.specs.Reading.{Moves, ReadsNewline}
 use Rattle.kdl_text.specs.Strings.{QuotedString}

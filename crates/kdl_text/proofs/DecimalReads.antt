@@ -17,7 +17,7 @@ use Rattle.kdl_text.specs.Numbers.{is_digit_of, Sign, BaseMark, Integer, WholeNu
 use Rattle.kdl_text.specs.Numbers.BaseMark.{ten, other}
 use Rattle.kdl_text.specs.Numbers.Fraction.{none as no_fraction, fraction}
 use Rattle.kdl_text.specs.Numbers.Exponent.{none as no_exponent, exponent}
-use Rattle.kdl_text.specs.Magnitudes.{Counts, IsFront, ReadsInteger, ReadsWhole, ReadsNumber, AteMark, radix_of}
+use Rattle.kdl_text.specs.NumberReading.{Begun, FaultAt, IsFault, IsNumberFault, Counts, IsFront, ReadsInteger, ReadsWhole, ReadsNumber, AteMark, radix_of}
 use Rattle.kdl_text.specs.declared.numbers.Magnitude.{Magnitude}
 use Rattle.kdl_text.specs.declared.numbers.Front.{Front}
 use Rattle.kdl_text.specs.declared.numbers.Radix.{Radix}
@@ -27,7 +27,7 @@ use Rattle.kdl_text.specs.declared.numbers.Number.TheVariants.{Integer as Intege
 use Rattle.kdl_text.specs.declared.numbers.NumberFailure.{NumberFailure}
 use Rattle.kdl_text.specs.declared.numbers.NumberFailure.TheVariants.{Fault}
 use Rattle.kdl_text.specs.declared.numbers.NumberFault.{NumberFault}
-use Rattle.kdl_text.specs.declared.numbers.NumberFault.TheVariants.{OutOfRange}
+use Rattle.kdl_text.specs.declared.numbers.NumberFault.TheVariants.{OutOfRange, Trailing}
 use Rattle.kdl_text.proofs.Going.{moves_then, moves_stayed, stayed_looked, took_from, bytes-append, shorter, costs_then}
 use Rattle.kdl_text.proofs.Runs.{length-bytes}
 use Rattle.kdl_text.proofs.WholeNumbers.{sign_det, integer_digit, whole_is, whole_digit, whole_number_det}
@@ -304,3 +304,33 @@ kept_text bs out all kept piece s e k o h =
     let x : chars bs ≡ all = ap chars (sym e) ∙ chars-encodes all s in
     let y : chars (encode_utf8_all (plain all)) ≡ plain all = chars-encodes (plain all) (scalars_kept all s) in
     ap chars (o ∙ ap encode_utf8_all k) ∙ y ∙ ap plain (sym x ∙ h)
+
+-- which fault is answered
+module _ (f : Front) (t u : Text) (x : IsFront f t u) where
+  begun : (rest : Text) → rest ≡ u → Begun f.radix t rest
+  begun rest e =
+      rw e (record { behind_sign = x.behind_sign; behind_mark = x.behind_mark; digits = x.digits; negative = f.minus; sign = x.sign; mark = x.mark; int = x.int })
+
+  range : (rest : Text) → rest ≡ u → fits f.minus (digits_value (radix_of f.radix) x.digits) ≡ false → FaultAt OutOfRange t rest
+  range rest e h = rw e (f.radix, record { behind_sign = x.behind_sign; behind_mark = x.behind_mark; digits = x.digits; negative = f.minus; sign = x.sign; mark = x.mark; int = x.int }, h)
+
+  pub front_range : (rest : Text) (result : Result ℤ NumberFault) → rest ≡ u → ((q : ℕ) → Counts f.magnitude q → result ≡ (if fits f.minus q then Ok (signed f.minus q) else Err OutOfRange)) → IsFault result t rest
+  front_range rest result e g = rw (g (digits_value (radix_of f.radix) x.digits) x.counts) (go (fits f.minus (digits_value (radix_of f.radix) x.digits)) refl)
+    where
+      go : (b : Bool) → fits f.minus (digits_value (radix_of f.radix) x.digits) ≡ b → IsFault {A = ℤ} (if b then Ok (signed f.minus (digits_value (radix_of f.radix) x.digits)) else Err OutOfRange) t rest
+      go true h = tt
+      go false h = range rest e h
+
+  pub number_range : (rest : Text) (result : Result Number NumberFailure) → rest ≡ u → ((q : ℕ) → Counts f.magnitude q → result ≡ (if fits f.minus q then Ok (IntegerNumber (signed f.minus q)) else Err (Fault OutOfRange))) → IsNumberFault result t rest
+  number_range rest result e g = rw (g (digits_value (radix_of f.radix) x.digits) x.counts) (go (fits f.minus (digits_value (radix_of f.radix) x.digits)) refl)
+    where
+      go : (b : Bool) → fits f.minus (digits_value (radix_of f.radix) x.digits) ≡ b → IsNumberFault {A = Number} (if b then Ok (IntegerNumber (signed f.minus (digits_value (radix_of f.radix) x.digits))) else Err (Fault OutOfRange)) t rest
+      go true h = tt
+      go false h = range rest e h
+
+  pub front_trails : (rest : Text) → rest ≡ u → false ≡ not (starts is_identifier_char u) → FaultAt (Trailing f.radix) t rest
+  front_trails rest e h = (begun rest e, rw e (starts_so (starts is_identifier_char u) h))
+    where
+      starts_so : (b : Bool) → false ≡ not b → b ≡ true
+      starts_so true h = refl
+      starts_so false h = cc

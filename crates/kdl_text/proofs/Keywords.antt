@@ -1,5 +1,5 @@
 -- Keywords: a text begins with one at most.
-use Rattle.std.proofs.Common.{◌≡◌, ℕ, [], ◌∷◌, ◌++◌, Bool, true, false, ◌==◌, refl, ap, sym, ◌∙◌, subst, arith, Some, None, ◌↔◌, inl, inr, IsTrue, lit<, zero, suc}
+use Rattle.std.proofs.Common.{◌≡◌, ℕ, ◌<◌, [], ◌∷◌, ◌++◌, Bool, true, false, ◌==◌, length, refl, ap, sym, ◌∙◌, subst, arith, Some, None, ◌↔◌, inl, inr, IsTrue, lit<, zero, suc, length-append}
 use Rattle.std.proofs.lemmas.Bool.{and_parts}
 use Rattle.std.proofs.lemmas.List.{append_cancel_right}
 use Rattle.std.specs.Prelude.{if◌then◌else◌, Option, codes, nat_lt}
@@ -11,7 +11,7 @@ use Rattle.kdl_text.specs.Chars.{Text, is_identifier_char, is_space, is_newline_
 use Rattle.kdl_text.specs.Here.{Here, Took, Ran, sliced, bytes}
 use Rattle.kdl_text.specs.Reading.{Moves}
 use Rattle.kdl_text.specs.Numbers.{IsKeyword, keyword, keyword_text, FloatKeyword}
-use Rattle.kdl_text.specs.Magnitudes.{ReadsKeyword, WordOf, is_of_number}
+use Rattle.kdl_text.specs.NumberReading.{ReadsKeyword, WordOf, is_of_number}
 use Rattle.kdl_text.specs.declared.numbers.Keyword.{Keyword}
 use Rattle.kdl_text.specs.declared.numbers.Keyword.TheVariants.{True, False, Null, Infinity, NegativeInfinity, NotANumber}
 use Rattle.kdl_text.proofs.Going.{bytes-append, moves_then, moves_one}
@@ -88,6 +88,28 @@ pub keyword_det : {t r s : Text} {x y : Keyword} → IsKeyword t r x → IsKeywo
 keyword_det {t = t} {r = r} {s = s} {x = x} {y = y} i (keyword f m) =
     let e = keyword_is t (word y) s r x (f ∙ ap (λ z. z ++ s) (text_of y)) (word_all y) m i in
     (e.1, same_word x y e.0)
+
+-- a keyword is `#` and an identifier character, and more
+word_starts : (k : Keyword) → (c : ℕ) × (w : Text) × (word k ≡ c ∷ w) × (is_identifier_char c ≡ true)
+unfolding is_identifier_char is_space is_newline_char is_banned is_mark
+word_starts True = (_, _, refl, refl)
+word_starts False = (_, _, refl, refl)
+word_starts Null = (_, _, refl, refl)
+word_starts Infinity = (_, _, refl, refl)
+word_starts NegativeInfinity = (_, _, refl, refl)
+word_starts NotANumber = (_, _, refl, refl)
+
+pub keyword_begins : {t r : Text} {k : Keyword} → IsKeyword t r k → (c : ℕ) × (s : Text) × (t ≡ 35 ∷ c ∷ s) × (is_identifier_char c ≡ true)
+keyword_begins {r = r} {k = k} (keyword f m) =
+    let (c, w, e, i) = word_starts k in
+    (c, w ++ r, f ∙ ap (λ z. z ++ r) (text_of k ∙ ap (λ z. 35 ∷ z) e), i)
+
+pub keyword_shorter : {t r : Text} {k : Keyword} → IsKeyword t r k → length r < length t
+keyword_shorter {r = r} {k = k} (keyword f m) = omega (arith, ap length (f ∙ ap (λ z. z ++ r) (text_of k)), length-append (word k) r)
+
+-- no identifier character stands behind a keyword
+pub keyword_ends : {t r : Text} {k : Keyword} → IsKeyword t r k → starts is_identifier_char r ≡ false
+keyword_ends (keyword f m) = m
 
 pub keyword_read : (o : Option Keyword) (t p rest : Text) → t ≡ 35 ∷ (p ++ rest) → list_all is_identifier_char p ≡ true → starts is_identifier_char rest ≡ false → WordOf o p → ReadsKeyword o t rest
 keyword_read (Some k) t p rest e a n w =

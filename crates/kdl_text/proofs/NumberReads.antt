@@ -11,7 +11,7 @@ use Rattle.kdl_text.specs.Numbers.{is_digit_of, is_part, Sign, BaseMark, Digits,
 use Rattle.kdl_text.specs.Numbers.Sign.{none, plus, minus}
 use Rattle.kdl_text.specs.Numbers.BaseMark.{ten, other}
 use Rattle.kdl_text.specs.Numbers.Digits.{stop, digit, mark}
-use Rattle.kdl_text.specs.Magnitudes.{Counts, IsDigit, ReadsDigits, ReadsInteger, ReadsWhole}
+use Rattle.kdl_text.specs.NumberReading.{Counts, IsDigit, ReadsDigits, ReadsInteger, ReadsWhole}
 use Rattle.kdl_text.specs.declared.numbers.Magnitude.{Magnitude}
 use Rattle.kdl_text.specs.declared.numbers.Magnitude.TheVariants.{Small}
 use Rattle.kdl_text.specs.declared.numbers.NumberFault.{NumberFault}

@@ -2,7 +2,7 @@ pub mod Bare
 pub mod Chars
 pub mod Failures
 pub mod Here
-pub mod Magnitudes
+pub mod NumberReading
 pub mod Numbers
 pub mod Reading
 pub mod Spans

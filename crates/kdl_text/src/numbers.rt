@@ -3,7 +3,7 @@
 ghost use Rattle.kdl_text.specs.Chars.{starts};
 ghost use Rattle.kdl_text.specs.Chars as class;
 ghost use Rattle.kdl_text.specs.Here.{Stayed};
-ghost use Rattle.kdl_text.specs.Magnitudes.{radix_of, IsBase, LooksMark, Counts, IsDigit, ReadsDigits, ReadsInteger, ReadsWhole, ReadsFront, ReadsFraction, ReadsExponent, ReadsPart, ReadsNumber, ReadsKeyword, AteMark, WordOf, is_of_number};
+ghost use Rattle.kdl_text.specs.NumberReading.{radix_of, IsBase, LooksMark, Counts, IsDigit, ReadsDigits, ReadsInteger, ReadsWhole, ReadsFront, IsFault, IsPartFault, IsPowerFault, IsNumberFault, ReadsFraction, ReadsExponent, ReadsPart, ReadsNumber, ReadsKeyword, AteMark, WordOf, is_of_number};
 ghost use Rattle.kdl_text.specs.Numbers as spec;
 ghost use Rattle.kdl_text.specs.Numbers.{Sign, BaseMark, Decimal, FloatKeyword, FloatText};
 ghost use Rattle.kdl_text.specs.Reading.{Moves, Costs};
@@ -316,6 +316,7 @@ struct Front {
 /// Goes past the sign, the mark of a base and the integer with which a number begins.
 fn read_front(cursor: &mut Cursor) -> Result<Front, NumberFault>
     ensures reads { ReadsFront result cursor.old.rest cursor.new.rest }
+    ensures fault { IsFault result cursor.old.rest cursor.new.rest }
     ensures moves { Moves cursor.old cursor.new }
     ensures costs { Costs 2 4 cursor.old cursor.new }
     ensures shorter { IfOk result (λ f. length cursor.new.rest < length cursor.old.rest) }
@@ -338,6 +339,7 @@ fn read_front(cursor: &mut Cursor) -> Result<Front, NumberFault>
 /// where the fault was seen.
 pub fn whole_number(cursor: &mut Cursor) -> Result<i128, NumberFault>
     ensures reads { ReadsWhole result cursor.old.rest cursor.new.rest }
+    ensures fault { IsFault result cursor.old.rest cursor.new.rest }
     ensures moves { Moves cursor.old cursor.new }
     ensures costs { IfOk result (λ n. Costs 24 0 cursor.old cursor.new) }
 {
@@ -354,6 +356,7 @@ pub fn whole_number(cursor: &mut Cursor) -> Result<i128, NumberFault>
 /// Goes past a point and an integer, if a point stands here. Whether one did.
 fn fraction(cursor: &mut Cursor) -> Result<bool, NumberFault>
     ensures reads { ReadsFraction result cursor.old.rest cursor.new.rest }
+    ensures fault { IsPartFault result cursor.old.rest cursor.new.rest }
     ensures moves { Moves cursor.old cursor.new }
     ensures costs { Costs 2 2 cursor.old cursor.new }
 {
@@ -369,6 +372,7 @@ fn fraction(cursor: &mut Cursor) -> Result<bool, NumberFault>
 /// Goes past an exponent, if its mark stands here. Whether one did.
 fn exponent(cursor: &mut Cursor) -> Result<bool, NumberFault>
     ensures reads { ReadsExponent result cursor.old.rest cursor.new.rest }
+    ensures fault { IsPowerFault result cursor.old.rest cursor.new.rest }
     ensures moves { Moves cursor.old cursor.new }
     ensures costs { Costs 2 3 cursor.old cursor.new }
 {
@@ -399,6 +403,7 @@ fn eat_exponent_mark(cursor: &mut Cursor) -> bool
 /// Goes past what makes a decimal of an integer: a fraction, an exponent, or both.
 fn decimal_part(cursor: &mut Cursor) -> Result<(), NumberFault>
     ensures reads { ReadsPart result cursor.old.rest cursor.new.rest }
+    ensures fault { IsPartFault result cursor.old.rest cursor.new.rest }
     ensures moves { Moves cursor.old cursor.new }
     ensures costs { Costs 2 6 cursor.old cursor.new }
 {
@@ -419,6 +424,13 @@ fn decimal_part(cursor: &mut Cursor) -> Result<(), NumberFault>
     Ok(())
 }
 
+/// Whether no `_` stands in the text.
+fn is_unmarked(text: &str) -> bool
+    ensures { result ≡ list_all (λ c. not (c == 95)) (chars text.now) }
+{
+    text.chars().all(|c| c != '_')
+}
+
 /// A copy of the piece without its `_`.
 fn without_marks(alloc: Global, piece: &Piece) -> Result<String, AllocError>
     ensures { IfOk result (λ s. chars (string_bytes s) ≡ spec.plain piece.now) }
@@ -427,6 +439,9 @@ fn without_marks(alloc: Global, piece: &Piece) -> Result<String, AllocError>
         Ok(text) => text,
         Err(refused) => return Err(refused),
     };
+    if is_unmarked(text.as_str()) {
+        return Ok(text);
+    }
     text.retain(|c| c != '_');
     Ok(text)
 }
@@ -447,6 +462,7 @@ fn whole(number: Front) -> Result<Number, NumberFailure>
 /// of `i128`. The cursor then stands where the fault was seen. A decimal takes memory for its text.
 pub fn read_number(alloc: Global, cursor: &mut Cursor) -> Result<Number, NumberFailure>
     ensures reads { ReadsNumber result cursor.old.rest cursor.new.rest }
+    ensures fault { IsNumberFault result cursor.old.rest cursor.new.rest }
     ensures moves { Moves cursor.old cursor.new }
     ensures costs { IfOk result (λ n. Costs 24 0 cursor.old cursor.new) }
 {
@@ -506,13 +522,6 @@ pub fn read_keyword(cursor: &mut Cursor) -> Option<Keyword>
     cursor.skip(Class::Identifier);
     let word = cursor.slice(&start);
     keyword_of(&word)
-}
-
-/// Whether no `_` stands in the text.
-fn is_unmarked(text: &str) -> bool
-    ensures { result ≡ list_all (λ c. not (c == 95)) (chars text.now) }
-{
-    text.chars().all(|c| c != '_')
 }
 
 /// Whether the whole text is a decimal without `_`.

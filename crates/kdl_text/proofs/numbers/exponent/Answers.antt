@@ -12,7 +12,7 @@ pub returns-in-Some-clause-moves : goal.returns-in-Some-clause-moves
 returns-in-Some-clause-moves c = moves_then (moves_one c.if-not-eat_exponent_mark.ensures.2) (moves_then c.sign.ensures.moves c.integer.ensures.moves)
 
 pub returns-in-None-clause-reads : goal.returns-in-None-clause-reads
-returns-in-None-clause-reads c = exponent_broken _ _ _ c.sign.new.cursor c.if-not-eat_exponent_mark.ensures c.sign.ensures.reads c.in-None.ensures.reads
+returns-in-None-clause-reads c = exponent_broken _ _ _ c.sign.new.cursor c.if-not-eat_exponent_mark.ensures c.sign.ensures.reads c.in-None.ensures.reads.1
 
 pub returns-in-None-clause-moves : goal.returns-in-None-clause-moves
 returns-in-None-clause-moves c = moves_then (moves_one c.if-not-eat_exponent_mark.ensures.2) (moves_then c.sign.ensures.moves c.integer.ensures.moves)

@@ -1,5 +1,5 @@
 use Rattle.std.proofs.Common.{subst}
-use Rattle.kdl_text.specs.Magnitudes.{ReadsDigits}
+use Rattle.kdl_text.specs.NumberReading.{ReadsDigits}
 use Rattle.kdl_text.specs.declared.numbers.Magnitude.TheVariants.{Small}
 use Rattle.kdl_text.proofs.Going.{took_from, moves_one, moves_then}
 use Rattle.kdl_text.proofs.NumberReads.{integer_read}

@@ -11,7 +11,7 @@ pub returns-in-Some-clause-shorter : goal.returns-in-Some-clause-shorter
 returns-in-Some-clause-shorter c = omega (arith, shorter_integer c.in-Some.ensures.reads.1, shorter c.sign-minus.ensures.moves, shorter c.base_mark-radix.ensures.moves)
 
 pub returns-in-None-clause-reads : goal.returns-in-None-clause-reads
-returns-in-None-clause-reads c = no_front _ _ _ _ _ _ c.sign-minus.ensures.reads c.base_mark-radix.ensures.reads c.value.ensures.is c.in-None.ensures.reads
+returns-in-None-clause-reads c = no_front _ _ _ _ _ _ c.sign-minus.ensures.reads c.base_mark-radix.ensures.reads c.value.ensures.is c.in-None.ensures.reads.1
 
 pub returns-in-None-clause-moves : goal.returns-in-None-clause-moves
 returns-in-None-clause-moves c = moves_then c.sign-minus.ensures.moves (moves_then c.base_mark-radix.ensures.moves c.integer.ensures.moves)

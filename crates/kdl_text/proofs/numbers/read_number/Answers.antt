@@ -1,7 +1,7 @@
 use Rattle.std.proofs.Common.{◌≡◌, ◌++◌, ◌∙◌, sym, ap, subst}
 use Rattle.kdl_text.specs.Numbers.{DecimalPart}
-use Rattle.kdl_text.specs.Magnitudes.{radix_of}
-use Rattle.kdl_text.proofs.DecimalReads.{whole_costs, front_number, front_other, front_no_part, front_part, reads_number, not_ten, part_moves, part_costs}
+use Rattle.kdl_text.specs.NumberReading.{radix_of}
+use Rattle.kdl_text.proofs.DecimalReads.{front_trails, number_range, whole_costs, front_number, front_other, front_no_part, front_part, reads_number, not_ten, part_moves, part_costs}
 use Rattle.kdl_text.proofs.Going.{moves_then, moves_stayed}
 use Rattle.kdl_text.proofs.numbers.read_number.Goals as goal
 
@@ -14,6 +14,7 @@ returns-then-is_end-clause-costs c = whole_costs _ _ _ _ c.read_front.ensures.mo
 pub returns-in_default : goal.returns-in_default
 returns-in_default c = record {
   reads = front_other _ _ _ c.in-Ok.ensures.reads (not_ten _ c.in_default.not-Decimal) c.if-is_end.ensures.result;
+  fault = front_trails _ _ _ c.in-Ok.ensures.reads _ c.is_end.ensures.stayed.rest c.if-is_end.ensures.result;
   moves = moves_then c.read_front.ensures.moves (moves_stayed c.is_end.ensures.stayed);
   costs = tt;
 }
@@ -40,3 +41,6 @@ pub returns-in-Ok-without_marks-clause-costs : goal.returns-in-Ok-without_marks-
 returns-in-Ok-without_marks-clause-costs c =
     part_costs _ _ _ _ _ _ c.read_front.ensures.moves c.read_front.ensures.costs c.in-Ok.ensures.shorter c.is_end.ensures.stayed c.decimal_part.ensures.moves c.decimal_part.ensures.costs
     (sym c.checkpoint-start.ensures.rest ∙ c.slice-piece.ensures.result) c.slice-piece.ensures.moved
+
+pub returns-then-is_end-clause-fault : goal.returns-then-is_end-clause-fault
+returns-then-is_end-clause-fault c = number_range _ _ _ c.in-Ok.ensures.reads _ _ c.is_end.ensures.stayed.rest c.whole.ensures

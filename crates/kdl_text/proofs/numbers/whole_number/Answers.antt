@@ -1,4 +1,4 @@
-use Rattle.kdl_text.proofs.DecimalReads.{whole_costs, front_whole, front_trailing}
+use Rattle.kdl_text.proofs.DecimalReads.{front_range, whole_costs, front_whole, front_trailing}
 use Rattle.kdl_text.specs.Numbers.{is_whole}
 use Rattle.kdl_text.proofs.numbers.whole_number.Goals as goal
 
@@ -13,3 +13,6 @@ returns-clause-reads c = front_whole _ _ _ c.in-Ok.ensures.reads _ _ c.is_end.en
 
 pub returns-clause-costs : goal.returns-clause-costs
 returns-clause-costs c = whole_costs _ _ _ _ c.read_front.ensures.moves c.read_front.ensures.costs c.in-Ok.ensures.shorter c.is_end.ensures.stayed
+
+pub returns-clause-fault : goal.returns-clause-fault
+returns-clause-fault c = front_range _ _ _ c.in-Ok.ensures.reads _ _ c.is_end.ensures.stayed.rest c.signed.ensures

@@ -4,14 +4,15 @@ use Rattle.std.specs.Prelude.{string_bytes, ◌∷◌, Bool}
 use Rattle.std.specs.Str.{chars}
 use Rattle.std.specs.Char.{digit_value}
 use Rattle.std.specs.Str.Parse.{digits_value, digits_value_after}
-use Rattle.kdl_text.specs.Chars.{Text, starts}
+use Rattle.kdl_text.specs.Chars.{Text, starts, is_identifier_char}
 use Rattle.kdl_text.specs.Here.{Here, Stayed, Took}
-use Rattle.kdl_text.specs.Numbers.{is_digit_of, marked, Digits, Integer, WholeNumber, Sign, BaseMark, Fraction, Exponent, DecimalPart, NumberValue, whole_value, decimal_text, IsNumber, IsKeyword, keyword_text, is_exponent_mark}
+use Rattle.kdl_text.specs.Numbers.{is_digit_of, fits, marked, Digits, Integer, WholeNumber, Sign, BaseMark, Fraction, Exponent, DecimalPart, NumberValue, whole_value, decimal_text, IsNumber, IsKeyword, keyword_text, is_exponent_mark}
 use Rattle.kdl_text.specs.declared.numbers.Magnitude.{Magnitude}
 use Rattle.kdl_text.specs.declared.numbers.Magnitude.TheVariants.{Small, Large, Huge}
 use Rattle.kdl_text.specs.declared.numbers.Radix.{Radix}
 use Rattle.kdl_text.specs.declared.numbers.Radix.TheVariants.{Binary, Octal, Decimal, Hexadecimal}
 use Rattle.kdl_text.specs.declared.numbers.NumberFault.{NumberFault}
+use Rattle.kdl_text.specs.declared.numbers.NumberFault.TheVariants.{Trailing, TrailingDecimal, MissingDigits, MissingFraction, MissingExponent, OutOfRange}
 use Rattle.kdl_text.specs.declared.numbers.NumberFailure.{NumberFailure}
 use Rattle.kdl_text.specs.declared.numbers.NumberFailure.TheVariants.{Fault, Memory}
 use Rattle.kdl_text.specs.declared.numbers.Number.{Number}
@@ -55,7 +56,7 @@ ReadsDigits radix before after s rest = (w : Text) × Digits radix s rest w × (
 -- an integer was read, or no digit of the base stands here
 abbrev pub ReadsInteger : ℕ → Option Magnitude → Text → Text → Type 0
 ReadsInteger radix (Some m) s rest = (w : Text) × Integer radix s rest w × Counts m (digits_value radix w)
-ReadsInteger radix None s rest = starts (is_digit_of radix) s ≡ false
+ReadsInteger radix None s rest = (rest ≡ s) × (starts (is_digit_of radix) s ≡ false)
 
 -- a whole number begins here, and stands for n alone; or none begins here
 abbrev pub ReadsWhole : Result ℤ NumberFault → Text → Text → Type 0
@@ -71,6 +72,61 @@ pub record IsFront (f : Front) (t rest : Text) : Type 0 where
   pub mark : BaseMark behind_sign behind_mark (radix_of f.radix)
   pub int : Integer (radix_of f.radix) behind_mark rest digits
   pub counts : Counts f.magnitude (digits_value (radix_of f.radix) digits)
+
+-- a sign, the mark of the base and an integer of it begin the text and leave u
+pub record Begun (b : Radix) (t u : Text) : Type 0 where
+  pub behind_sign : Text
+  pub behind_mark : Text
+  pub digits : Text
+  pub negative : Bool
+  pub sign : Sign t behind_sign negative
+  pub mark : BaseMark behind_sign behind_mark (radix_of b)
+  pub int : Integer (radix_of b) behind_mark u digits
+
+-- a point, and no digit where the text is left
+abbrev pub PointFault : Text → Text → Type 0
+PointFault s rest = (s ≡ 46 ∷ rest) × (starts (is_digit_of 10) rest ≡ false)
+
+-- `e` or `E` and a sign, and no digit where the text is left
+abbrev pub PowerFault : Text → Text → Type 0
+PowerFault s rest = (c : ℕ) × (t : Text) × (n : Bool) × (s ≡ c ∷ t) × (is_exponent_mark c ≡ true) × Sign t rest n × (starts (is_digit_of 10) rest ≡ false)
+
+-- what is wrong behind the first integer of a decimal, where the text is left
+abbrev pub PartFault : NumberFault → Text → Text → Type 0
+PartFault MissingFraction s rest = PointFault s rest
+PartFault MissingExponent s rest = (t : Text) × (point : Bool) × Fraction s t point × PowerFault t rest
+PartFault TrailingDecimal s rest = (t : Text) × (point power : Bool) × Fraction s t point × Exponent t rest power × (starts is_identifier_char rest ≡ true)
+PartFault (Trailing b) s rest = (b ≡ Decimal) × (rest ≡ s)
+PartFault _ s rest = ⊥
+
+-- what is wrong with the number that begins the text, where the text is left
+abbrev pub FaultAt : NumberFault → Text → Text → Type 0
+FaultAt (MissingDigits b) t rest = (s : Text) × (n : Bool) × Sign t s n × BaseMark s rest (radix_of b) × (starts (is_digit_of (radix_of b)) rest ≡ false)
+FaultAt (Trailing b) t rest = Begun b t rest × (starts is_identifier_char rest ≡ true)
+FaultAt OutOfRange t rest = (b : Radix) × (x : Begun b t rest) × (fits x.negative (digits_value (radix_of b) x.digits) ≡ false)
+FaultAt MissingFraction t rest = (u : Text) × Begun Decimal t u × PartFault MissingFraction u rest
+FaultAt MissingExponent t rest = (u : Text) × Begun Decimal t u × PartFault MissingExponent u rest
+FaultAt TrailingDecimal t rest = (u : Text) × Begun Decimal t u × PartFault TrailingDecimal u rest
+
+-- where a fault is answered, it is the one that is there
+abbrev pub IsFault : {A : Type 0} → Result A NumberFault → Text → Text → Type 0
+IsFault (Ok x) t rest = Unit {0}
+IsFault (Err e) t rest = FaultAt e t rest
+
+-- likewise behind an integer
+abbrev pub IsPartFault : {A : Type 0} → Result A NumberFault → Text → Text → Type 0
+IsPartFault (Ok x) t rest = Unit {0}
+IsPartFault (Err e) t rest = PartFault e t rest
+
+-- likewise of an exponent
+abbrev pub IsPowerFault : {A : Type 0} → Result A NumberFault → Text → Text → Type 0
+IsPowerFault (Ok x) t rest = Unit {0}
+IsPowerFault (Err e) t rest = (e ≡ MissingExponent) × PowerFault t rest
+
+-- likewise where memory may be refused
+abbrev pub IsNumberFault : {A : Type 0} → Result A NumberFailure → Text → Text → Type 0
+IsNumberFault (Err (Fault e)) t rest = FaultAt e t rest
+IsNumberFault _ t rest = Unit {0}
 
 -- the front of a number was read, or no number begins here
 abbrev pub ReadsFront : Result Front NumberFault → Text → Text → Type 0
