@@ -2,6 +2,7 @@ pub mod Building
 pub mod Data
 pub mod Grammar
 pub mod Laid
+pub mod Laws
 pub mod Machine
 pub mod Print
 pub mod Same

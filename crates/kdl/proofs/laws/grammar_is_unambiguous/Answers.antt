@@ -1,0 +1,5 @@
+use Rattle.kdl.proofs.Complete.{one_reading}
+use Rattle.kdl.proofs.laws.grammar_is_unambiguous.Goals as goal
+
+pub returns : goal.returns
+returns c = one_reading
