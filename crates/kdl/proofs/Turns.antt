@@ -8,15 +8,15 @@ use Rattle.kdl_text.specs.declared.span.SourceSpan.{SourceSpan}
 use Rattle.kdl_text.proofs.Going.{bytes-append}
 use Rattle.kdl_entry.specs.Data.{Value, text, integer}
 use Rattle.kdl_entry.specs.Lexed.{NoToken, SpansChar, kind_view, HandsOut, Lexed}
-use Rattle.kdl_entry.specs.Tokens.{Token, space, newline, value, semicolon, Cuts, one, run}
+use Rattle.kdl_entry.specs.FirstTokens.{Token, space, newline, value, semicolon, Cuts, one, run}
 use Rattle.kdl_entry.specs.declared.tokens.Token.{Token as CodeToken}
 use Rattle.kdl_entry.specs.declared.tokens.ReadFailure.{ReadFailure}
 use Rattle.kdl_entry.specs.declared.tokens.ReadFailure.TheVariants.{Fault, Memory}
-use Rattle.kdl_entry.proofs.Cutting.{cut_shorter}
+use Rattle.kdl_entry.proofs.FirstCutting.{cut_shorter}
 use Rattle.kdl.specs.Building.{Answers, Did, Same, Stays, EndsIn}
 use Rattle.kdl.specs.Data.{Nodes}
-use Rattle.kdl.specs.Grammar.{IsDocument}
-use Rattle.kdl.specs.Machine.{Phase, gap, fresh, spaced, State, move, step, finish, initial, Runs}
+use Rattle.kdl.specs.FirstGrammar.{IsDocument}
+use Rattle.kdl.specs.FirstMachine.{Phase, gap, fresh, spaced, State, move, step, finish, initial, Runs}
 use Rattle.kdl.specs.Tree as tree
 use Rattle.kdl.specs.Tree.{document_tree}
 use Rattle.kdl.specs.declared.document.KdlDocument.{KdlDocument}
@@ -45,7 +45,7 @@ step_from : (p : Phase) (st st' : State) (k : Token) (s r : Text) → move p st 
 step_from gap st st' space s r e a b = let x : st ≡ st' = cc in subst (λ (z : State). EndsIn z.from r) x (then_ends a b)
 step_from gap st st' newline s r e a b = let x : st ≡ st' = cc in subst (λ (z : State). EndsIn z.from r) x (then_ends a b)
 step_from gap st st' (value (text v)) s r e a b = let x : st'.from ≡ r = cc in ([], x)
-step_from gap st st' (value (integer z)) s r e a b = absurd cc
+step_from gap st st' (value _) s r e a b = absurd cc
 step_from gap st st' semicolon s r e a b = absurd cc
 step_from fresh st st' space s r e a b = let x : st.from ≡ st'.from = cc in subst (λ (z : Text). EndsIn z r) x (then_ends a b)
 step_from fresh st st' newline s r e a b = let x : st'.from ≡ r = cc in ([], x)

@@ -1,8 +1,8 @@
 pub mod Building
 pub mod Data
-pub mod Grammar
-pub mod Laid
-pub mod Machine
+pub mod FirstGrammar
+pub mod FirstLaid
+pub mod FirstMachine
 pub mod Print
 pub mod Same
 pub mod Tree

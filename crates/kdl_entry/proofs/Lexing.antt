@@ -30,7 +30,7 @@ use Rattle.kdl_text.proofs.Units.{quoted_begins}
 use Rattle.kdl_text.proofs.WholeNumbers.{whole_number_begins, number_not_bare}
 use Rattle.kdl_entry.specs.Data.{Value, text, integer}
 use Rattle.kdl_entry.specs.Lexed.{ReadsKind, IsFaultAt, NoToken, SpansChar}
-use Rattle.kdl_entry.specs.Tokens.{Token, space, newline, value, semicolon, BeginsToken, a_space, a_newline, a_bare, a_quoted, a_number, a_semicolon, Cuts, one, run}
+use Rattle.kdl_entry.specs.FirstTokens.{Token, space, newline, value, semicolon, BeginsToken, a_space, a_newline, a_bare, a_quoted, a_number, a_semicolon, Cuts, one, run}
 use Rattle.kdl_entry.specs.declared.tokens.ReadFailure.{ReadFailure}
 use Rattle.kdl_entry.specs.declared.tokens.ReadFailure.TheVariants.{Fault, Memory}
 use Rattle.kdl_entry.specs.declared.tokens.TokenKind.{TokenKind}

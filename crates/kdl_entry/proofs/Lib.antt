@@ -1,4 +1,4 @@
-pub mod Cutting
+pub mod FirstCutting
 pub mod Equality
 pub mod Escapes
 pub mod Fronts

@@ -1,9 +1,9 @@
 pub mod Data
-pub mod Entries
-pub mod Laid
+pub mod FirstEntries
+pub mod FirstLaid
 pub mod Lexed
 pub mod Places
 pub mod Print
 pub mod Spelled
-pub mod Tokens
+pub mod FirstTokens
 pub mod Tree

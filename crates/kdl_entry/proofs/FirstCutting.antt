@@ -13,7 +13,7 @@ use Rattle.kdl_text.proofs.Newlines.{newline_det}
 use Rattle.kdl_text.proofs.Units.{quoted_det, quoted_begins, quoted_shorter}
 use Rattle.kdl_text.proofs.WholeNumbers.{whole_number_det, whole_number_begins, whole_number_shorter, number_not_bare}
 use Rattle.kdl_entry.specs.Data.{Value, text, integer}
-use Rattle.kdl_entry.specs.Tokens.{Token, space, newline, value, semicolon, BeginsToken, a_space, a_newline, a_bare, a_quoted, a_number, a_semicolon, Cuts, one, run}
+use Rattle.kdl_entry.specs.FirstTokens.{Token, space, newline, value, semicolon, BeginsToken, a_space, a_newline, a_bare, a_quoted, a_number, a_semicolon, Cuts, one, run}
 use Rattle.kdl_entry.proofs.Fronts.{Plain, plain, no_quote, no_semicolon, space_34, space_59, newline_34, newline_59, newline_no_space, number_identifier, bare_front, no_bare_at_end}
 
 -- the kinds of tokens, as their first characters tell them
