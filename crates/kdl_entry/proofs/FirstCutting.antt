@@ -5,15 +5,16 @@ use Rattle.kdl_text.specs.Chars.{Text, Space, Newline, crlf, Plus, plus, Star, i
 use Rattle.kdl_text.specs.Chars.Space.{space as space_char}
 use Rattle.kdl_text.specs.Chars.Newline.{one as newline_char}
 use Rattle.kdl_text.specs.Bare.{BareString, bare}
-use Rattle.kdl_text.specs.Numbers.{Sign, BaseMark, Digits, Integer, WholeNumber, whole, begins_number}
-use Rattle.kdl_text.specs.Strings.{StringUnit, IsUnit, one_literal, one_letter, one_number, one_gap, AreUnits, body, QuotedString, quoted}
+use Rattle.kdl_text.specs.Numbers.{WholeNumber, begins_number}
+use Rattle.kdl_text.specs.Strings.{QuotedString}
 use Rattle.kdl_text.proofs.Bares.{bare_det, bare_begins, bare_shorter}
-use Rattle.kdl_text.proofs.Ends.{End, here, also, then, past, end_newline, end_space}
+use Rattle.kdl_text.proofs.Ends.{End, here, also, end_newline, end_space}
 use Rattle.kdl_text.proofs.Newlines.{newline_det}
 use Rattle.kdl_text.proofs.Units.{quoted_det, quoted_begins, quoted_shorter}
 use Rattle.kdl_text.proofs.WholeNumbers.{whole_number_det, whole_number_begins, whole_number_shorter, number_not_bare}
 use Rattle.kdl_entry.specs.Data.{Value, text, integer}
 use Rattle.kdl_entry.specs.FirstTokens.{Token, space, newline, value, semicolon, BeginsToken, a_space, a_newline, a_bare, a_quoted, a_number, a_semicolon, Cuts, one, run}
+use Rattle.kdl_entry.proofs.LeafEnds.{quoted_end, number_end}
 use Rattle.kdl_entry.proofs.Fronts.{Plain, plain, no_quote, no_semicolon, space_34, space_59, newline_34, newline_59, newline_no_space, number_identifier, bare_front, no_bare_at_end}
 
 -- the kinds of tokens, as their first characters tell them
@@ -110,39 +111,6 @@ token_shorter a_semicolon = omega arith
 
 pub no_token : {r : Text} {k : Token} → BeginsToken [] k r → ⊥
 no_token t = omega (arith, token_shorter t)
-
-unit_end : {s r : Text} {u : StringUnit} → IsUnit s r u → End s r
-unit_end (one_literal {c = c} x) = also c here
-unit_end (one_letter {e = e} x) = also 92 (also e here)
-unit_end (one_number h) = also 92 (also 117 (also 123 (past (record { piece = h.digits; text = h.text }))))
-unit_end (one_gap {e = e} x gap) = also 92 (also e (record { piece = gap.run; text = gap.text }))
-
-units_end : {s r : Text} {us : List StringUnit} → AreUnits s r us → End s r
-units_end AreUnits.none = here
-units_end (AreUnits.more u us) = then (unit_end u) (units_end us)
-
-quoted_end : {s r v : Text} → QuotedString s r v → End s r
-quoted_end (quoted (body us e)) = also 34 (past (units_end us))
-
-digits_end : {k : ℕ} {s r w : Text} → Digits k s r w → End s r
-digits_end (Digits.stop x) = here
-digits_end (Digits.digit {c = c} x d) = also c (digits_end d)
-digits_end (Digits.mark d) = also 95 (digits_end d)
-
-integer_end : {k : ℕ} {s r w : Text} → Integer k s r w → End s r
-integer_end (Integer.integer {c = c} x d) = also c (digits_end d)
-
-mark_end : {s r : Text} {k : ℕ} → BaseMark s r k → End s r
-mark_end (BaseMark.ten x) = here
-mark_end (BaseMark.other {c = c} {d = d} x) = also c (also d here)
-
-sign_end : {s r : Text} {b : Bool} → Sign s r b → End s r
-sign_end (Sign.none x) = here
-sign_end Sign.plus = also 43 here
-sign_end Sign.minus = also 45 here
-
-number_end : {s r : Text} {z : ℤ} → WholeNumber s r z → End s r
-number_end (whole g m i x y e) = then (sign_end g) (then (mark_end m) (integer_end i))
 
 pub token_end : {s r : Text} {k : Token} → BeginsToken s k r → End s r
 token_end (a_space x) = end_space x

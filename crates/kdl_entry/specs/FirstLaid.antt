@@ -15,18 +15,18 @@ pub data LaidIdentifier : Identifier → Text → Text → Type 0 where
 -- an entry's format where it has no key and no type: what stands before it, and the spelling of its value
 abbrev pub argument_format : Text → Text → EntryFormat
 argument_format leading repr = record {
-    value_repr = repr;
-    leading = leading;
-    trailing = [];
-    after_ty = [];
-    before_ty_name = [];
-    after_ty_name = [];
-    after_key = [];
-    after_eq = [];
-    autoformat_keep = false;
-  }
+  value_repr = repr;
+  leading = leading;
+  trailing = [];
+  after_ty = [];
+  before_ty_name = [];
+  after_ty_name = [];
+  after_key = [];
+  after_eq = [];
+  autoformat_keep = false;
+}
 
 -- spaces, and the spelling of its value
 pub data LaidEntry : Entry → Text → Text → Type 0 where
   argument : {leading repr s t r : Text} {v : Value} {at : SourceSpan} → Is (Plus Space) leading s t → Is (λ s r. IsValue s r v) repr t r
-    → LaidEntry (record { ty = None; value = v; name = None; format = Some (argument_format leading repr); span = at }) s r
+      → LaidEntry (record { ty = None; value = v; name = None; format = Some (argument_format leading repr); span = at }) s r

@@ -1,9 +1,13 @@
 pub mod Data
+pub mod Entries
 pub mod FirstEntries
 pub mod FirstLaid
+pub mod FirstTokens
+pub mod Laid
+pub mod Laws
 pub mod Lexed
 pub mod Places
 pub mod Print
 pub mod Spelled
-pub mod FirstTokens
+pub mod Tokens
 pub mod Tree
