@@ -1,16 +1,22 @@
 -- What the machine's answer says of the grammar.
-use Rattle.std.proofs.Common.{◌≡◌}
+use Rattle.std.proofs.Common.{◌≡◌, Result, Ok, Err, IfOk, refl, sym, ap, subst, ◌∙◌}
 use Rattle.kdl_text.specs.Chars.{Text}
+use Rattle.kdl_text.specs.Spans.{InText}
+use Rattle.kdl_text.specs.declared.span.SourceSpan.{SourceSpan}
+use Rattle.kdl_entry.specs.declared.tokens.ReadFailure.{ReadFailure}
+use Rattle.kdl_entry.specs.declared.tokens.ReadFailure.TheVariants.{Fault, Memory}
+use Rattle.kdl.specs.Building.{Answers}
 use Rattle.kdl.specs.Data.{Nodes}
-use Rattle.kdl.specs.Grammar.{IsDocument}
-use Rattle.kdl.specs.Laid.{LaidDocument}
-use Rattle.kdl.specs.Machine.{Runs, initial}
+use Rattle.kdl.specs.FirstGrammar.{IsDocument}
+use Rattle.kdl.specs.FirstLaid.{LaidDocument}
+use Rattle.kdl.specs.FirstMachine.{Runs, initial}
 use Rattle.kdl.specs.Print.{print_document}
 use Rattle.kdl.specs.Tree.{document_tree, document_data}
 use Rattle.kdl.specs.Tree as tree
-use Rattle.kdl.proofs.Complete.{one_reading}
+use Rattle.kdl.specs.declared.document.KdlDocument.{KdlDocument}
+use Rattle.kdl.proofs.FirstComplete.{one_reading}
 use Rattle.kdl.proofs.Printed.{printed}
-use Rattle.kdl.proofs.Sound.{reading, complete}
+use Rattle.kdl.proofs.FirstSound.{reading, complete}
 
 pub found : (t : Text) (d : tree.Document) → Runs d (initial t) t → IsDocument t (document_data d)
 found t d a = (reading t d a).derived

@@ -1,12 +1,12 @@
 pub mod Answering
-pub mod Complete
-pub mod Places
+pub mod FirstComplete
+pub mod FirstPlaces
+pub mod FirstSound
 pub mod Printed
 pub mod Printing
 pub mod Refusals
 pub mod RunsLemmas
 pub mod Same
-pub mod Sound
 pub mod Trees
 pub mod Turns
 pub mod Views

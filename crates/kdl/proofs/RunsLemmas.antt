@@ -1,10 +1,10 @@
 -- Runs: one text has one; what a token, a fault and the end do to them.
 use Rattle.std.proofs.Common.{◌≡◌, ◌↔◌, [], Option, Some, None, refl, subst, ◌∙◌}
 use Rattle.kdl_text.specs.Chars.{Text, Space, Star, none, more, Plus, plus}
-use Rattle.kdl_entry.specs.Tokens.{Token, space, BeginsToken, a_space, Cuts, one, run}
-use Rattle.kdl_entry.proofs.Cutting.{token_det, no_token}
+use Rattle.kdl_entry.specs.FirstTokens.{Token, space, BeginsToken, a_space, Cuts, one, run}
+use Rattle.kdl_entry.proofs.FirstCutting.{token_det, no_token}
 use Rattle.kdl.specs.Tree.{Document}
-use Rattle.kdl.specs.Machine.{State, gap, fresh, spaced, Phase, Under, move, step, finish, Runs, stops, reads}
+use Rattle.kdl.specs.FirstMachine.{State, gap, fresh, spaced, Phase, Under, move, step, finish, Runs, stops, reads}
 
 -- a run at a text that begins with a token goes on behind it
 pub goes_on : {d : Document} {st : State} {s r : Text} {k : Token} → BeginsToken s k r → Runs d st s → (st' : State) × (step st k s r ≡ Some st') × Runs d st' r

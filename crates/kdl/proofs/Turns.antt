@@ -1,24 +1,26 @@
 -- The turns of the loop over tokens, and what its answer says of the grammar.
-use Rattle.std.proofs.Common.{◌≡◌, ℕ, ◌+◌, ◌<◌, length, [], ◌∷◌, ◌++◌, Some, None, Ok, Err, refl, sym, ap, subst, ◌∙◌, arith, append_assoc, append-nil}
+use Rattle.std.proofs.Common.{◌≡◌, ◌↔◌, ℕ, ◌+◌, ◌<◌, ◌≤◌, length, List, [], ◌∷◌, ◌++◌, Option, Some, None, Result, Ok, Err, IfOk, refl, sym, ap, subst, ◌∙◌, arith, append_assoc, append-nil, length-append}
 use Rattle.kdl_text.specs.Chars.{Text}
-use Rattle.kdl_text.specs.Here.{Here, Spot, bytes, first_len}
+use Rattle.kdl_text.specs.Here.{Here, Spot, bytes, first_len, Ahead}
 use Rattle.kdl_text.specs.Reading.{Moves}
 use Rattle.kdl_text.specs.Spans.{InText}
 use Rattle.kdl_text.specs.declared.span.SourceSpan.{SourceSpan}
 use Rattle.kdl_text.proofs.Going.{bytes-append}
-use Rattle.kdl_entry.specs.Data.{text, integer}
+use Rattle.kdl_entry.specs.Data.{Value, text, integer}
 use Rattle.kdl_entry.specs.Lexed.{NoToken, SpansChar, kind_view, HandsOut, Lexed}
-use Rattle.kdl_entry.specs.Tokens.{Token, space, newline, value, semicolon}
+use Rattle.kdl_entry.specs.FirstTokens.{Token, space, newline, value, semicolon, Cuts, one, run}
 use Rattle.kdl_entry.specs.declared.tokens.Token.{Token as CodeToken}
 use Rattle.kdl_entry.specs.declared.tokens.ReadFailure.{ReadFailure}
 use Rattle.kdl_entry.specs.declared.tokens.ReadFailure.TheVariants.{Fault, Memory}
-use Rattle.kdl_entry.proofs.Cutting.{cut_shorter}
+use Rattle.kdl_entry.proofs.FirstCutting.{cut_shorter}
 use Rattle.kdl.specs.Building.{Answers, Did, Same, Stays, EndsIn}
-use Rattle.kdl.specs.Machine.{Phase, gap, fresh, spaced, State, move, step, finish, initial, Runs}
+use Rattle.kdl.specs.Data.{Nodes}
+use Rattle.kdl.specs.FirstGrammar.{IsDocument}
+use Rattle.kdl.specs.FirstMachine.{Phase, gap, fresh, spaced, State, move, step, finish, initial, Runs}
 use Rattle.kdl.specs.Tree as tree
 use Rattle.kdl.specs.Tree.{document_tree}
 use Rattle.kdl.specs.declared.document.KdlDocument.{KdlDocument}
-use Rattle.kdl.proofs.RunsLemmas.{read_cut, refuses, faults, at_stop}
+use Rattle.kdl.proofs.RunsLemmas.{read_cut, refuses, faults, at_stop, runs_det}
 
 -- the lexer stands in the text, and the machine goes on from here as from the start
 pub record Going (st : State) (here : Here) (t : Text) : Type 0 where
@@ -29,11 +31,11 @@ pub record Going (st : State) (here : Here) (t : Text) : Type 0 where
 
 pub starts_going : (t : Text) (here : Here) → here.rest ≡ t → here.at ≡ 0 → Going (initial t) here t
 starts_going t here e f = record {
-  same = λ d. rw e (λ a. a, λ a. a);
-  from = ([], sym e);
-  text = ([], sym e);
-  at = omega (arith, ap bytes e);
-}
+    same = λ d. rw e (λ a. a, λ a. a);
+    from = ([], sym e);
+    text = ([], sym e);
+    at = omega (arith, ap bytes e);
+  }
 
 then_ends : {t s r : Text} → EndsIn t s → EndsIn s r → EndsIn t r
 then_ends {r = r} a b = (a.0 ++ b.0, a.1 ∙ ap (λ (z : Text). a.0 ++ z) b.1 ∙ sym (append_assoc a.0 b.0 r))
@@ -43,7 +45,7 @@ step_from : (p : Phase) (st st' : State) (k : Token) (s r : Text) → move p st 
 step_from gap st st' space s r e a b = let x : st ≡ st' = cc in subst (λ (z : State). EndsIn z.from r) x (then_ends a b)
 step_from gap st st' newline s r e a b = let x : st ≡ st' = cc in subst (λ (z : State). EndsIn z.from r) x (then_ends a b)
 step_from gap st st' (value (text v)) s r e a b = let x : st'.from ≡ r = cc in ([], x)
-step_from gap st st' (value (integer z)) s r e a b = absurd cc
+step_from gap st st' (value _) s r e a b = absurd cc
 step_from gap st st' semicolon s r e a b = absurd cc
 step_from fresh st st' space s r e a b = let x : st.from ≡ st'.from = cc in subst (λ (z : Text). EndsIn z r) x (then_ends a b)
 step_from fresh st st' newline s r e a b = let x : st'.from ≡ r = cc in ([], x)
@@ -60,11 +62,11 @@ goes_on st st' old mid new t k g h m e y =
     let e' : step st (kind_view k.kind) old.rest mid.rest ≡ Some st' = rw (h.start_rest, h.end_rest) at e in
     let piece : EndsIn old.rest mid.rest = m.piece in
     let went : Going st' mid t = record {
-      same = λ d. let a = read_cut d st st' old.rest mid.rest (kind_view k.kind) h.cuts e' in let b = g.same d in (λ x. b.0 (a.0 x), λ x. a.1 (b.1 x));
-      from = step_from st.phase st st' (kind_view k.kind) old.rest mid.rest e' g.from piece;
-      text = then_ends g.text piece;
-      at = m.at ∙ g.at;
-    } in
+        same = λ d. let a = read_cut d st st' old.rest mid.rest (kind_view k.kind) h.cuts e' in let b = g.same d in (λ x. b.0 (a.0 x), λ x. a.1 (b.1 x));
+        from = step_from st.phase st st' (kind_view k.kind) old.rest mid.rest e' g.from piece;
+        text = then_ends g.text piece;
+        at = m.at ∙ g.at;
+      } in
     record {
       same = rw y.rest went.same;
       from = rw y.rest went.from;

@@ -5,7 +5,7 @@ use Rattle.kdl_entry.specs.declared.entry.KdlEntry.{KdlEntry}
 use Rattle.kdl.specs.Tree.{none, first, join, document, node_tree, nodes_tree}
 use Rattle.std.specs.Prelude.{length}
 use Rattle.kdl_text.specs.Chars.{Text}
-use Rattle.kdl.specs.Machine.{unplaced, document_of}
+use Rattle.kdl.specs.FirstMachine.{unplaced, document_of}
 use Rattle.kdl.specs.declared.node.KdlNode.{KdlNode}
 
 pub entry_pushed : (es : List KdlEntry) (e : KdlEntry) → map entry_tree (es ++ (e ∷ [])) ≡ map entry_tree es ++ (entry_tree e ∷ [])

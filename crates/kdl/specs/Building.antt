@@ -7,8 +7,8 @@ use Rattle.kdl_entry.specs.Lexed.{SpansChar}
 use Rattle.kdl_entry.specs.Tree.{identifier_tree, entry_tree, text_of}
 use Rattle.kdl_entry.specs.declared.tokens.ReadFailure.{ReadFailure}
 use Rattle.kdl_entry.specs.declared.tokens.ReadFailure.TheVariants.{Fault, Memory}
-use Rattle.kdl.specs.Machine as machine
-use Rattle.kdl.specs.Machine.{State, Runs, initial}
+use Rattle.kdl.specs.FirstMachine as machine
+use Rattle.kdl.specs.FirstMachine.{State, Runs, initial}
 use Rattle.kdl.specs.Tree.{nodes_tree, document_tree}
 use Rattle.kdl.specs.Tree as tree
 use Rattle.kdl.specs.declared.document.KdlDocument.{KdlDocument}

@@ -2,7 +2,7 @@
 use Rattle.std.specs.Prelude.{◌≡◌}
 use Rattle.kdl_text.specs.Chars.{Text}
 use Rattle.kdl.specs.Data.{Nodes}
-use Rattle.kdl.specs.Grammar.{IsDocument}
+use Rattle.kdl.specs.FirstGrammar.{IsDocument}
 
 -- no text has two readings
 abbrev pub IsUnambiguous : Type 0

@@ -1,9 +1,9 @@
 pub mod Building
 pub mod Data
-pub mod Grammar
-pub mod Laid
+pub mod FirstGrammar
+pub mod FirstLaid
+pub mod FirstMachine
 pub mod Laws
-pub mod Machine
 pub mod Print
 pub mod Same
 pub mod Tree

@@ -1,11 +1,11 @@
 //! Documents, built from the tokens of a text one by one.
 
 ghost use Rattle.kdl.specs.Building.{state_view, under_view, Did, Answers, Stays, EndsIn};
-ghost use Rattle.kdl.specs.Laid as node_laid;
-ghost use Rattle.kdl.specs.Machine as machine;
-ghost use Rattle.kdl.specs.Machine.{between, step, finish, initial, document_of};
+ghost use Rattle.kdl.specs.FirstLaid as node_laid;
+ghost use Rattle.kdl.specs.FirstMachine as machine;
+ghost use Rattle.kdl.specs.FirstMachine.{between, step, finish, initial, document_of};
 ghost use Rattle.kdl.specs.Tree.{document_tree, document_format_tree, node_format_tree, nodes_tree};
-ghost use Rattle.kdl_entry.specs.Laid as laid;
+ghost use Rattle.kdl_entry.specs.FirstLaid as laid;
 ghost use Rattle.kdl_entry.specs.Lexed.{kind_view, IsFaultAt};
 ghost use Rattle.kdl_entry.specs.Tree.{entry_tree, entry_format_tree, identifier_tree, value_tree, text_of};
 ghost use Rattle.kdl_text.specs.Failures.{Tells, TellsOf};
@@ -53,7 +53,7 @@ struct Builder<'a> {
 }
 
 /// An empty text, which takes no memory.
-#[tactic(auto, using(crate::proofs::Places::empty_text))]
+#[tactic(auto, using(crate::proofs::FirstPlaces::empty_text))]
 fn empty(alloc: Global) -> String
     ensures { text_of result ≡ [] }
 {
@@ -61,7 +61,7 @@ fn empty(alloc: Global) -> String
 }
 
 /// The text between two places.
-#[tactic(auto, using(crate::proofs::Places::is_between))]
+#[tactic(auto, using(crate::proofs::FirstPlaces::is_between))]
 fn text_between<'a>(
     alloc: Global,
     lexer: &mut Lexer<'a>,
@@ -407,8 +407,8 @@ fn failure(alloc: Global, text: &str, span: SourceSpan) -> ParseFailure
 
 impl KdlDocument {
     ghost use Rattle.kdl.specs.Data.{Nodes};
-    ghost use Rattle.kdl.specs.Grammar.{IsDocument};
-    ghost use Rattle.kdl.specs.Laid.{LaidDocument};
+    ghost use Rattle.kdl.specs.FirstGrammar.{IsDocument};
+    ghost use Rattle.kdl.specs.FirstLaid.{LaidDocument};
     ghost use Rattle.kdl.specs.Print.{print_document};
     ghost use Rattle.kdl.specs.Tree.{document_data};
     ghost use Rattle.kdl_text.specs.Failures.{IsSyntax, TellsOnSyntax};

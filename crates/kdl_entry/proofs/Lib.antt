@@ -1,7 +1,11 @@
 pub mod Cutting
 pub mod Equality
 pub mod Escapes
+pub mod FirstCutting
 pub mod Fronts
+pub mod LeafEnds
 pub mod Lexing
 pub mod Printing
 pub mod Spellings
+pub mod StringPieces
+pub mod WholeTexts

@@ -1,28 +1,79 @@
--- Strings, values and entries as they are written (KDL 2.0.0, String, Value, Argument).
-use Rattle.std.specs.Prelude.{ℤ, [], ◌∷◌, None}
-use Rattle.kdl_text.specs.Chars.{Text, Space, Newline}
+-- Strings, types, values and entries as they are written (KDL 2.0.0, String, Value, Type Annotation, Argument, Property).
+-- `X wide s r x`: an X begins the text s, leaves r, and stands for x. Where `wide` holds, a slashdash ends a value.
+use Rattle.std.specs.Prelude.{◌≡◌, Bool, true, false, [], ◌∷◌, Option, Some, None}
+use Rattle.kdl_text.specs.Chars.{Text, Star, Plus}
 use Rattle.kdl_text.specs.Bare.{BareString}
+use Rattle.kdl_text.specs.Numbers.{NumberValue, whole_value, decimal_text, IsNumber, IsKeyword, keyword_text}
 use Rattle.kdl_text.specs.Strings.{QuotedString}
-use Rattle.kdl_text.specs.Numbers.{WholeNumber}
-use Rattle.kdl_entry.specs.Data.{Value, text, integer, Entry}
+use Rattle.kdl_text.specs.Trivia.{NodeSpace, LineSpace, Slashdash, ValueEnd}
+use Rattle.kdl_text.specs.declared.numbers.Keyword.{Keyword}
+use Rattle.kdl_text.specs.declared.numbers.Keyword.TheVariants.{True, False, Null, Infinity, NegativeInfinity, NotANumber}
+use Rattle.kdl_entry.specs.Data.{Value, text, integer, float, truth, null, Entry}
 
--- what may follow a value: nothing, `;`, a space or a newline
-pub data ValueEnd : Text → Type 0 where
-  nothing : ValueEnd []
-  semicolon : {s : Text} → ValueEnd (59 ∷ s)
-  space : {s t : Text} → Space s t → ValueEnd s
-  newline : {s t : Text} → Newline s t → ValueEnd s
+-- one of the spellings of a string
+pub data StringPiece : Text → Text → Text → Type 0 where
+  bare : {s r v : Text} → BareString s r v → StringPiece s r v
+  quoted : {s r v : Text} → QuotedString s r v → StringPiece s r v
 
--- a bare or a quoted string, and a value end behind it
-pub data IsString : Text → Text → Text → Type 0 where
-  bare : {s r v : Text} → BareString s r v → ValueEnd r → IsString s r v
-  quoted : {s r v : Text} → QuotedString s r v → ValueEnd r → IsString s r v
+-- a string, and a value end behind it
+pub data IsString (wide : Bool) : Text → Text → Text → Type 0 where
+  string : {s r v : Text} → StringPiece s r v → ValueEnd wide r → IsString wide s r v
 
--- a string or a whole number
-pub data IsValue : Text → Text → Value → Type 0 where
-  string : {s r v : Text} → IsString s r v → IsValue s r (text v)
-  number : {s r : Text} {z : ℤ} → WholeNumber s r z → ValueEnd r → IsValue s r (integer z)
+-- the value of a number
+abbrev pub number_value : NumberValue → Value
+number_value (whole_value z) = integer z
+number_value (decimal_text w) = float w
 
--- an argument
-pub data IsEntry : Text → Text → Entry → Type 0 where
-  argument : {s r : Text} {v : Value} → IsValue s r v → IsEntry s r (record { key = None; ty = None; value = v })
+-- the value of a keyword
+abbrev pub keyword_value : Keyword → Value
+keyword_value True = truth true
+keyword_value False = truth false
+keyword_value Null = null
+keyword_value Infinity = float (keyword_text Infinity)
+keyword_value NegativeInfinity = float (keyword_text NegativeInfinity)
+keyword_value NotANumber = float (keyword_text NotANumber)
+
+-- a number, or a keyword
+pub data PlainPiece : Text → Text → Value → Type 0 where
+  number : {s r : Text} {n : NumberValue} {v : Value} → IsNumber s r n → v ≡ number_value n → PlainPiece s r v
+  keyword : {s r : Text} {k : Keyword} {v : Value} → IsKeyword s r k → v ≡ keyword_value k → PlainPiece s r v
+
+-- a string, a number or a keyword, and a value end behind it
+pub data IsPlainValue (wide : Bool) : Text → Text → Value → Type 0 where
+  a_string : {s r v : Text} → IsString wide s r v → IsPlainValue wide s r (text v)
+  a_plain : {s r : Text} {v : Value} → PlainPiece s r v → ValueEnd wide r → IsPlainValue wide s r v
+
+-- `(`, a string between node-spaces, `)`
+pub data IsType (wide : Bool) : Text → Text → Text → Type 0 where
+  parens : {s t u r v : Text} → Star NodeSpace s t → IsString wide t u v → Star NodeSpace u (41 ∷ r) → IsType wide (40 ∷ s) r v
+
+-- no type, or a type and node-spaces
+pub data MaybeType (wide : Bool) : Text → Text → Option Text → Type 0 where
+  untyped : {s : Text} → MaybeType wide s s None
+  typed : {s t r v : Text} → IsType wide s t v → Star NodeSpace t r → MaybeType wide s r (Some v)
+
+-- a value with its type
+pub data IsValue (wide : Bool) : Text → Text → Option Text → Value → Type 0 where
+  value : {s t r : Text} {y : Option Text} {v : Value} → MaybeType wide s t y → IsPlainValue wide t r v → IsValue wide s r y v
+
+-- a key, `=` between node-spaces, and a value; or a value alone
+pub data IsEntry (wide : Bool) : Text → Text → Entry → Type 0 where
+  property : {s t u w r k : Text} {y : Option Text} {v : Value} → IsString wide s t k → Star NodeSpace t (61 ∷ u) → Star NodeSpace u w → IsValue wide w r y v
+      → IsEntry wide s r (record { key = Some k; ty = y; value = v })
+  argument : {s r : Text} {y : Option Text} {v : Value} → IsValue wide s r y v → IsEntry wide s r (record { key = None; ty = y; value = v })
+
+-- the whole text is one string
+abbrev pub IsIdentifierText : Bool → Text → Text → Type 0
+IsIdentifierText wide t v = IsString wide t [] v
+
+-- an entry that counts for nothing, behind a slashdash and before node-spaces
+pub data DroppedFirst (wide : Bool) : Text → Text → Type 0 where
+  dropped_first : {s t u r : Text} {e : Entry} → Slashdash s t → IsEntry wide t u e → Plus NodeSpace u r → DroppedFirst wide s r
+
+-- line-spaces, and such entries
+pub data BeforeEntry (wide : Bool) : Text → Text → Type 0 where
+  before_entry : {s t r : Text} → Star LineSpace s t → Star (DroppedFirst wide) t r → BeforeEntry wide s r
+
+-- the whole text is one entry: these before it, and line-spaces behind it
+pub data IsEntryText (wide : Bool) : Text → Entry → Type 0 where
+  entry_text : {t u r : Text} {e : Entry} → BeforeEntry wide t u → IsEntry wide u r e → Star LineSpace r [] → IsEntryText wide t e

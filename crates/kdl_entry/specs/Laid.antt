@@ -1,31 +1,63 @@
--- Identifiers and entries laid in a text: their spellings and places, in order, are the text, and each is what it has to be.
-use Rattle.std.specs.Prelude.{[], false, Some, None}
-use Rattle.kdl_text.specs.Chars.{Text, Space, Plus}
+-- Identifiers and entries laid in a text: their spellings and places, in the order of printing, are the text, and each is what it has to be.
+-- Where `exact` holds, each span is that of its piece in the text `whole`.
+use Rattle.std.specs.Prelude.{Bool, true, false, [], ◌∷◌, Option, Some, None}
+use Rattle.kdl_text.specs.Chars.{Text, Star}
+use Rattle.kdl_text.specs.Trivia.{NodeSpace, LineSpace}
 use Rattle.kdl_text.specs.declared.span.SourceSpan.{SourceSpan}
 use Rattle.kdl_entry.specs.Data.{Value}
-use Rattle.kdl_entry.specs.Entries.{IsString, IsValue}
-use Rattle.kdl_entry.specs.Places.{Is}
+use Rattle.kdl_entry.specs.Entries.{IsString, IsPlainValue, BeforeEntry}
+use Rattle.kdl_entry.specs.Places.{Is, EntryLeading, Spanned, span_of}
 use Rattle.kdl_entry.specs.Tree.{Identifier, EntryFormat, Entry}
 
--- its spelling stands in s before r, for its value
-pub data LaidIdentifier : Identifier → Text → Text → Type 0 where
-  spelled : {v p s r : Text} {at : SourceSpan} → Is (λ s r. IsString s r v) p s r → LaidIdentifier (record { value = v; repr = Some p; span = at }) s r
+-- a string and its spelling
+pub data LaidIdentifier (exact : Bool) (whole : Text) : Identifier → Text → Text → Type 0 where
+  spelled : {v p s r : Text} {at : SourceSpan} → Is (λ s r. IsString true s r v) p s r → Spanned exact at (span_of whole s r)
+      → LaidIdentifier exact whole (record { value = v; repr = Some p; span = at }) s r
 
--- an entry's format where it has no key and no type: what stands before it, and the spelling of its value
-abbrev pub argument_format : Text → Text → EntryFormat
-argument_format leading repr = record {
-  value_repr = repr;
-  leading = leading;
-  trailing = [];
-  after_ty = [];
-  before_ty_name = [];
-  after_ty_name = [];
-  after_key = [];
-  after_eq = [];
-  autoformat_keep = false;
-}
+-- a type with the texts before its name, behind it, and behind the `)`; these are empty where there is none
+pub data LaidType (exact : Bool) (whole : Text) : Option Identifier → Text → Text → Text → Text → Text → Type 0 where
+  no_type : {s : Text} → LaidType exact whole None [] [] [] s s
+  a_type : {before after behind s t u v r : Text} {i : Identifier} → Is (Star NodeSpace) before s t → LaidIdentifier exact whole i t u → Is (Star NodeSpace) after u (41 ∷ v)
+      → Is (Star NodeSpace) behind v r → LaidType exact whole (Some i) before after behind (40 ∷ s) r
 
--- spaces, and the spelling of its value
-pub data LaidEntry : Entry → Text → Text → Type 0 where
-  argument : {leading repr s t r : Text} {v : Value} {at : SourceSpan} → Is (Plus Space) leading s t → Is (λ s r. IsValue s r v) repr t r
-      → LaidEntry (record { ty = None; value = v; name = None; format = Some (argument_format leading repr); span = at }) s r
+-- a key, `=`, and the texts before and behind the `=`; these are empty where there is none
+pub data LaidKey (exact : Bool) (whole : Text) : Option Identifier → Text → Text → Text → Text → Type 0 where
+  no_key : {s : Text} → LaidKey exact whole None [] [] s s
+  a_key : {before behind s t u r : Text} {i : Identifier} → LaidIdentifier exact whole i s t → Is (Star NodeSpace) before t (61 ∷ u) → Is (Star NodeSpace) behind u r
+      → LaidKey exact whole (Some i) before behind s r
+
+-- an entry without what stands before and behind it: key, type, and the spelling of its value
+pub data LaidItem (exact : Bool) (whole leading trailing : Text) (at : SourceSpan) : Entry → Text → Text → Type 0 where
+  item : {after_key after_eq before after behind repr s t u r : Text} {key ty : Option Identifier} {v : Value}
+      → LaidKey exact whole key after_key after_eq s t → LaidType exact whole ty before after behind t u → Is (λ s r. IsPlainValue true s r v) repr u r
+      → LaidItem exact whole leading trailing at (record {
+        ty = ty;
+        value = v;
+        name = key;
+        format = Some (record {
+          value_repr = repr;
+          leading = leading;
+          trailing = trailing;
+          after_ty = behind;
+          before_ty_name = before;
+          after_ty_name = after;
+          after_key = after_key;
+          after_eq = after_eq;
+          autoformat_keep = false;
+        });
+        span = at;
+      }) s r
+
+-- an entry in a node; its span is its text but for what stands before it
+pub data LaidEntry (exact : Bool) (whole : Text) : Entry → Text → Text → Type 0 where
+  laid_entry : {leading s t r : Text} {at : SourceSpan} {e : Entry} → Is EntryLeading leading s t → LaidItem exact whole leading [] at e t r → Spanned exact at (span_of whole t r)
+      → LaidEntry exact whole e s r
+
+-- an identifier that is the whole text
+abbrev pub LaidIdentifierText : Bool → Identifier → Text → Type 0
+LaidIdentifierText exact i t = LaidIdentifier exact t i t []
+
+-- an entry that is the whole text, which is its span
+pub data LaidEntryText (exact : Bool) (whole : Text) : Entry → Type 0 where
+  laid_entry_text : {leading trailing t r : Text} {at : SourceSpan} {e : Entry} → Is (BeforeEntry true) leading whole t → LaidItem exact whole leading trailing at e t r
+      → Is (Star LineSpace) trailing r [] → Spanned exact at (span_of whole whole []) → LaidEntryText exact whole e

@@ -4,8 +4,8 @@ use Rattle.kdl_text.specs.Chars.{Text}
 use Rattle.kdl_text.specs.Here.{Here, Spot, first_len}
 use Rattle.kdl_text.specs.declared.span.SourceSpan.{SourceSpan}
 use Rattle.kdl_entry.specs.Tree.{value_tree}
-use Rattle.kdl_entry.specs.Tokens as tokens
-use Rattle.kdl_entry.specs.Tokens.{BeginsToken, Cuts}
+use Rattle.kdl_entry.specs.FirstTokens as tokens
+use Rattle.kdl_entry.specs.FirstTokens.{BeginsToken, Cuts}
 use Rattle.kdl_entry.specs.declared.tokens.TokenKind.{TokenKind}
 use Rattle.kdl_entry.specs.declared.tokens.TokenKind.TheVariants.{Space, Newline, Value, Semicolon}
 use Rattle.kdl_entry.specs.declared.tokens.Token.{Token}

@@ -1,6 +1,10 @@
 pub mod Data
 pub mod Entries
+pub mod FirstEntries
+pub mod FirstLaid
+pub mod FirstTokens
 pub mod Laid
+pub mod Laws
 pub mod Lexed
 pub mod Places
 pub mod Print

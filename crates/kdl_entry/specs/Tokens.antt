@@ -1,28 +1,41 @@
 -- Tokens, and the cut of a text into tokens.
-use Rattle.std.specs.Prelude.{ℤ, ◌∷◌}
-use Rattle.kdl_text.specs.Chars.{Text, Space, Newline, Plus}
-use Rattle.kdl_text.specs.Bare.{BareString}
-use Rattle.kdl_text.specs.Strings.{QuotedString}
-use Rattle.kdl_text.specs.Numbers.{WholeNumber}
-use Rattle.kdl_entry.specs.Data.{Value, text, integer}
+use Rattle.std.specs.Prelude.{List, [], ◌∷◌}
+use Rattle.kdl_text.specs.Chars.{Text}
+use Rattle.kdl_text.specs.Trivia.{NodeSpace, Break}
+use Rattle.kdl_entry.specs.Data.{Value}
+use Rattle.kdl_entry.specs.Entries.{StringPiece, PlainPiece}
 
--- a space, a newline, a value, `;`
+-- a node-space, a break, `/-`, a string, a number or keyword, `( ) { } = ;`, and U+FEFF
 pub data Token : Type 0 where
   space : Token
   newline : Token
+  slashdash : Token
+  string : Text → Token
   value : Value → Token
+  left : Token
+  right : Token
+  opening : Token
+  closing : Token
+  equals : Token
   semicolon : Token
+  mark : Token
 
 -- the token k begins the text, and leaves the second text
 pub data BeginsToken : Text → Token → Text → Type 0 where
-  a_space : {s r : Text} → Space s r → BeginsToken s space r
-  a_newline : {s r : Text} → Newline s r → BeginsToken s newline r
-  a_bare : {s r v : Text} → BareString s r v → BeginsToken s (value (text v)) r
-  a_quoted : {s r v : Text} → QuotedString s r v → BeginsToken s (value (text v)) r
-  a_number : {s r : Text} {z : ℤ} → WholeNumber s r z → BeginsToken s (value (integer z)) r
-  a_semicolon : {r : Text} → BeginsToken (59 ∷ r) semicolon r
+  t_space : {s r : Text} → NodeSpace s r → BeginsToken s space r
+  t_newline : {s r : Text} → Break s r → BeginsToken s newline r
+  t_slashdash : {r : Text} → BeginsToken (47 ∷ 45 ∷ r) slashdash r
+  t_string : {s r v : Text} → StringPiece s r v → BeginsToken s (string v) r
+  t_value : {s r : Text} {v : Value} → PlainPiece s r v → BeginsToken s (value v) r
+  t_left : {r : Text} → BeginsToken (40 ∷ r) left r
+  t_right : {r : Text} → BeginsToken (41 ∷ r) right r
+  t_opening : {r : Text} → BeginsToken (123 ∷ r) opening r
+  t_closing : {r : Text} → BeginsToken (125 ∷ r) closing r
+  t_equals : {r : Text} → BeginsToken (61 ∷ r) equals r
+  t_semicolon : {r : Text} → BeginsToken (59 ∷ r) semicolon r
+  t_mark : {r : Text} → BeginsToken (0xFEFF ∷ r) mark r
 
--- a token, or a run of spaces, which is read as one
-pub data Cuts : Text → Token → Text → Type 0 where
-  one : {s r : Text} {k : Token} → BeginsToken s k r → Cuts s k r
-  run : {s r : Text} → Plus Space s r → Cuts s space r
+-- the text is cut into the tokens, with nothing left
+pub data Lexes : Text → List Token → Type 0 where
+  done : Lexes [] []
+  next : {s r : Text} {k : Token} {ks : List Token} → BeginsToken s k r → Lexes r ks → Lexes s (k ∷ ks)

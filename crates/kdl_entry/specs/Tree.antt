@@ -74,12 +74,12 @@ without_spans e = record e { ty = option_map without_span e.ty; name = option_ma
 -- the text of a string
 abbrev pub text_value : Value → Option Text
 text_value (text s) = Some s
-text_value (integer z) = None
+text_value _ = None
 
 -- the whole number of a value
 abbrev pub integer_value : Value → Option ℤ
-integer_value (text s) = None
 integer_value (integer z) = Some z
+integer_value _ = None
 
 -- the characters of a text in memory
 abbrev pub text_of : String Global → Text

@@ -1,5 +1,6 @@
-//! What `==` means.
+//! What `==` means, and the laws of the written grammar.
 
+ghost use Rattle.kdl_entry.specs.Laws.{OneIdentifier, OneEntry};
 ghost use Rattle.kdl_entry.specs.Tree.{identifier_tree, entry_tree, value_tree, entry_format_tree, without_span, without_spans};
 ghost use Rattle.std.specs.Prelude.{◌≡◌, IsTrue, ◌↔◌};
 
@@ -34,3 +35,15 @@ pub fn equal_entries(a: &KdlEntry, b: &KdlEntry) -> bool
 {
     a == b
 }
+
+/// No text can be read as two identifiers.
+#[tactic(auto, using(crate::proofs::WholeTexts::one_identifier))]
+pub fn unambiguous_identifier()
+    ensures { OneIdentifier }
+{}
+
+/// No text can be read as two entries.
+#[tactic(auto, using(crate::proofs::WholeTexts::one_entry))]
+pub fn unambiguous_entry()
+    ensures { OneEntry }
+{}

@@ -2,7 +2,7 @@
 use Rattle.std.specs.Prelude.{◌≡◌, ℕ, Bool, IsTrue, List, [], ◌∷◌, take, Option, IsUtf8, chars, codes}
 use Rattle.std.specs.Io.KnownBytes.{Appends, Consumes, IsAtEnd}
 use Rattle.kdl.specs.Data.{Nodes}
-use Rattle.kdl.specs.Grammar.{IsDocument}
+use Rattle.kdl.specs.FirstGrammar.{IsDocument}
 use Rattle.kdl_tool.specs.declared.tool.Outcome.{Outcome}
 use Rattle.kdl_tool.specs.declared.tool.Outcome.TheVariants.{Done, Refused, NotUtf8, NoValue, Usage, ReadFailed, WriteFailed, Memory}
 

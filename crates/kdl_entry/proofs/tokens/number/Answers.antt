@@ -1,6 +1,6 @@
 use Rattle.std.proofs.Common.{◌∙◌, refl, sym, subst, ap}
 use Rattle.kdl_entry.specs.Data.{Value, integer}
-use Rattle.kdl_entry.specs.Tokens.{value, Cuts}
+use Rattle.kdl_entry.specs.FirstTokens.{value, Cuts}
 use Rattle.kdl_entry.proofs.Lexing.{a_number_here, no_number_here, number_fits}
 use Rattle.kdl_entry.proofs.tokens.number.Goals as goal
 

@@ -9,8 +9,8 @@ use Rattle.kdl_entry.specs.Tree.{text_of}
 use Rattle.kdl_text.specs.Chars.{Text, Star, Plus, Space}
 use Rattle.kdl_text.proofs.Ends.{End, here, also, then, end_star, end_plus, end_newline, end_space}
 use Rattle.kdl_entry.specs.Places.{Is}
-use Rattle.kdl.specs.Grammar.{Terminator, Gap, no_gap, line_space, LineSpace}
-use Rattle.kdl.specs.Machine.{between}
+use Rattle.kdl.specs.FirstGrammar.{Terminator, Gap, no_gap, line_space, LineSpace}
+use Rattle.kdl.specs.FirstMachine.{between}
 
 pub between_is : (p s : Text) → between (p ++ s) s ≡ p
 unfolding between

@@ -1,19 +1,21 @@
 -- What the grammar derives, the machine reads, and the document that it builds is laid in the text.
-use Rattle.std.proofs.Common.{◌≡◌, List, [], ◌∷◌, ◌++◌, Option, Some, None, map, refl, sym, ap, subst, ◌∙◌, append_assoc, append-nil}
-use Rattle.kdl_text.specs.Chars.{Text, Star, none as no_star, more, Plus, plus, Space}
+use Rattle.std.proofs.Common.{◌≡◌, ℕ, List, [], ◌∷◌, ◌++◌, Option, Some, None, map, refl, sym, ap, subst, ◌∙◌, append_assoc, append-nil}
+use Rattle.kdl_text.specs.Chars.{Text, Star, none as no_star, more, Plus, plus, Space, Newline}
+use Rattle.kdl_text.proofs.Ends.{End, here}
 use Rattle.kdl_entry.specs.Data as entry_data'
 use Rattle.kdl_entry.specs.Data.{Value, text, integer}
-use Rattle.kdl_entry.specs.Entries.{IsString, IsValue, string, number, IsEntry, argument}
-use Rattle.kdl_entry.specs.Tokens.{space, value, BeginsToken, a_space, a_newline, a_bare, a_quoted, a_number, a_semicolon}
-use Rattle.kdl_entry.proofs.Cutting.{no_token, token_end}
-use Rattle.kdl_entry.specs.Laid.{spelled, LaidEntry, argument as laid_argument}
-use Rattle.kdl_entry.specs.Tree.{Entry, entry_data}
+use Rattle.kdl_entry.specs.FirstEntries.{IsString, IsValue, string, number, IsEntry, argument}
+use Rattle.kdl_entry.specs.FirstTokens.{Token, space, newline, value, semicolon, BeginsToken, a_space, a_newline, a_bare, a_quoted, a_number, a_semicolon}
+use Rattle.kdl_entry.proofs.FirstCutting.{no_token, token_end}
+use Rattle.kdl_entry.specs.Places.{Is}
+use Rattle.kdl_entry.specs.FirstLaid.{LaidIdentifier, spelled, LaidEntry, argument as laid_argument}
+use Rattle.kdl_entry.specs.Tree.{Identifier, Entry, entry_data}
 use Rattle.kdl.specs.Data as data'
-use Rattle.kdl.specs.Tree.{Node, Document, Nodes, none, first, join, node_data, nodes_data, document_data}
-use Rattle.kdl.specs.Grammar.{Terminator, AfterName, entry, last, IsNode, named as a_name, LineSpace, Gap, no_gap, line_space, AreNodes, last_gap, node_then, IsDocument}
-use Rattle.kdl.specs.Laid.{LaidEntries, no_entry, an_entry, LaidNode, plain, LaidNodes, no_node, a_node, LaidDocument, without_nodes, with_nodes}
-use Rattle.kdl.specs.Machine.{between, Phase, gap, fresh, spaced, Under, State, begun, argument_tree, with_entry, node_tree_of, with_node, step, document_of, finish, initial, Runs, stops, reads}
-use Rattle.kdl.proofs.Places.{between_is, place, end_spaces, end_some_spaces, end_terminator, end_gap}
+use Rattle.kdl.specs.Tree.{Node, node, Document, document, Nodes, none, first, join, node_data, nodes_data, document_data}
+use Rattle.kdl.specs.FirstGrammar.{Terminator, AfterName, entry, last, IsNode, named as a_name, LineSpace, Gap, no_gap, line_space, AreNodes, last_gap, node_then, IsDocument}
+use Rattle.kdl.specs.FirstLaid.{LaidEntries, no_entry, an_entry, LaidNode, plain, LaidNodes, no_node, a_node, LaidDocument, without_nodes, with_nodes}
+use Rattle.kdl.specs.FirstMachine.{between, unplaced, Phase, gap, fresh, spaced, Under, State, begun, argument_tree, with_entry, node_tree_of, with_node, named, argued, ended, step, document_of, finish, initial, Runs, stops, reads}
+use Rattle.kdl.proofs.FirstPlaces.{between_is, cut, place, end_spaces, end_some_spaces, end_terminator, end_gap}
 use Rattle.kdl.proofs.RunsLemmas.{runs_det}
 
 abbrev pub at : Phase → Option Under → Nodes → Text → State
@@ -81,11 +83,11 @@ pub record ReadEntry (s t r : Text) (e : entry_data'.Entry) : Type 0 where
 
 read_entry : {s t r : Text} {e : entry_data'.Entry} → Plus Space s t → IsEntry t r e → ReadEntry s t r e
 read_entry {s = s} {t = t} {r = r} ss (argument {v = v} x) = record {
-  made = argument_tree (between s t) (between t r) v;
-  laid = laid_argument (place ss (end_some_spaces ss)) (place x (token_end (value_token x)));
-  same = refl;
-  runs = λ d u l a. reads (value_token x) refl a;
-}
+    made = argument_tree (between s t) (between t r) v;
+    laid = laid_argument (place ss (end_some_spaces ss)) (place x (token_end (value_token x)));
+    same = refl;
+    runs = λ d u l a. reads (value_token x) refl a;
+  }
 
 pub record ReadName (s r : Text) (es : List entry_data'.Entry) : Type 0 where
   pub made : List Entry
@@ -97,13 +99,13 @@ pub record ReadName (s r : Text) (es : List entry_data'.Entry) : Type 0 where
 
 read_name : {s r : Text} {es : List entry_data'.Entry} → AfterName s r es → ReadName s r es
 read_name {s = s} {r = r} (last ss) = record {
-  made = [];
-  from = s;
-  laid = no_entry;
-  spaces = ss;
-  same = refl;
-  runs = λ d u l f. spaces_in d (Some u) l s ss (λ p i. subst (λ (z : List Entry). Runs d (at p (Some (record u { entries = z })) l s) r) (append-nil u.entries) (f p i));
-}
+    made = [];
+    from = s;
+    laid = no_entry;
+    spaces = ss;
+    same = refl;
+    runs = λ d u l f. spaces_in d (Some u) l s ss (λ p i. subst (λ (z : List Entry). Runs d (at p (Some (record u { entries = z })) l s) r) (append-nil u.entries) (f p i));
+  }
 read_name {s = s} {r = r} (entry {t = t} {u = m} {e = e} (plus n ns) x rest) =
     let E = read_entry (plus n ns) x in
     let N = read_name rest in
@@ -114,8 +116,8 @@ read_name {s = s} {r = r} (entry {t = t} {u = m} {e = e} (plus n ns) x rest) =
       spaces = N.spaces;
       same = ap (λ z. z ∷ map entry_data N.made) E.same ∙ ap (λ z. e ∷ z) N.same;
       runs = λ d u l f. reads (a_space n) refl (stay d (at spaced (Some u) l s) (λ s r. refl) ns (E.runs d (Some u) l
-          (N.runs d (record u { entries = u.entries ++ (E.made ∷ []) }) l
-          (λ p i. subst (λ (z : List Entry). Runs d (at p (Some (record u { entries = z })) l N.from) r) (sym (append_assoc u.entries (E.made ∷ []) N.made)) (f p i)))));
+        (N.runs d (record u { entries = u.entries ++ (E.made ∷ []) }) l
+        (λ p i. subst (λ (z : List Entry). Runs d (at p (Some (record u { entries = z })) l N.from) r) (sym (append_assoc u.entries (E.made ∷ []) N.made)) (f p i)))));
     }
 
 -- a node behind a gap, with its terminator
@@ -146,13 +148,13 @@ pub record ReadNodes (s r : Text) (xs : data'.Nodes) : Type 0 where
 
 read_nodes : {s r : Text} {xs : data'.Nodes} → AreNodes s r xs → ReadNodes s r xs
 read_nodes {s = s} {r = r} (last_gap g) = record {
-  made = none;
-  from = s;
-  laid = no_node;
-  gap' = g;
-  same = refl;
-  runs = λ d l a. read_gap d l s g (subst (λ (z : Nodes). Runs d (at gap None z s) r) (join_none l) a);
-}
+    made = none;
+    from = s;
+    laid = no_node;
+    gap' = g;
+    same = refl;
+    runs = λ d l a. read_gap d l s g (subst (λ (z : Nodes). Runs d (at gap None z s) r) (join_none l) a);
+  }
 read_nodes {s = s} {r = r} (node_then {x = y} g x e rest) =
     let X = read_node g x e in
     let N = read_nodes rest in

@@ -1,8 +1,9 @@
+-- The part of the language that is read today.
 -- The written grammar (KDL 2.0.0, Document, Node). `X s r x` says: an X begins the text s, leaves r, and stands for x.
 use Rattle.std.specs.Prelude.{List, [], ◌∷◌, None}
 use Rattle.kdl_text.specs.Chars.{Text, Star, Plus, Space, Newline}
 use Rattle.kdl_entry.specs.Data.{Entry}
-use Rattle.kdl_entry.specs.Entries.{IsString, IsEntry}
+use Rattle.kdl_entry.specs.FirstEntries.{IsString, IsEntry}
 use Rattle.kdl.specs.Data.{Node, node, no_children, Nodes, none, first}
 
 -- what ends a node: `;`, a newline, or the end of the text
