@@ -1,10 +1,10 @@
 -- A text begins with one token at most, and a value end is a test of the next token.
 use Rattle.std.proofs.Common.{◌≡◌, ℕ, ◌<◌, List, Bool, true, false, [], ◌∷◌, length, cond, refl, sym, subst, ap, ◌∙◌, ◌==◌, ◌||◌, arith}
 use Rattle.std.proofs.lemmas.Bool.Decides.{nat_tests}
-use Rattle.kdl_text.specs.Chars.{Text, crlf, is_space, is_newline_char, is_banned, is_mark, is_identifier_char, starts}
+use Rattle.kdl_text.specs.Chars.{Text, crlf, is_space, is_newline_char, is_banned, is_mark, is_identifier_char, begins, starts}
 use Rattle.kdl_text.specs.Chars.Newline.{one as newline_char}
 use Rattle.kdl_text.specs.Chars.Space.{space as space_char}
-use Rattle.kdl_text.specs.Trivia.{NodeSpace, Break, ends_value, ValueEnd}
+use Rattle.kdl_text.specs.Trivia.{NodeSpace, Break, BlockComment, LineComment, Escline, ends_value, ValueEnd}
 use Rattle.kdl_text.specs.Trivia.BlockComment.{block}
 use Rattle.kdl_text.specs.Trivia.LineComment.{line}
 use Rattle.kdl_text.specs.Trivia.Ws.{space as ws_space, comment as ws_comment}
@@ -197,3 +197,95 @@ value_end (next t_opening l) e = ValueEnd.mark (closes 123 refl)
 value_end (next t_closing l) e = ValueEnd.mark (closes 125 refl)
 value_end (next t_equals l) e = ValueEnd.mark (closes 61 refl)
 value_end (next t_semicolon l) e = ValueEnd.mark (closes 59 refl)
+
+-- where no string, number or keyword begins with a character of theirs, no token begins
+piece_alone : {c : ℕ} {s r : Text} {k : Token} → begins_piece c ≡ true → ((r v : Text) → StringPiece (c ∷ s) r v → ⊥) → ((r : Text) (v : Value) → PlainPiece (c ∷ s) r v → ⊥) → BeginsToken (c ∷ s) k r → kind_of k ≡ k_piece → ⊥
+unfolding kind_of
+piece_alone h f g (t_string p) e = f _ _ p
+piece_alone h f g (t_value p) e = g _ _ p
+piece_alone h f g (t_space x) e = cc
+piece_alone h f g (t_newline x) e = cc
+piece_alone h f g t_slashdash e = cc
+piece_alone h f g t_left e = cc
+piece_alone h f g t_right e = cc
+piece_alone h f g t_opening e = cc
+piece_alone h f g t_closing e = cc
+piece_alone h f g t_equals e = cc
+piece_alone h f g t_semicolon e = cc
+piece_alone h f g t_mark e = cc
+
+pub no_piece : (c : ℕ) (s : Text) → begins_piece c ≡ true → ((r v : Text) → StringPiece (c ∷ s) r v → ⊥) → ((r : Text) (v : Value) → PlainPiece (c ∷ s) r v → ⊥) → (r : Text) (k : Token) → BeginsToken (c ∷ s) k r → ⊥
+no_piece c s h f g r k t = piece_alone h f g t (sym (kind_is t) ∙ piece_kind (c ∷ s) h)
+
+slash_space : is_space 47 ≡ false
+unfolding is_space
+slash_space = refl
+
+slash_newline : is_newline_char 47 ≡ false
+unfolding is_newline_char
+slash_newline = refl
+
+slash_piece : begins_piece 47 ≡ false
+unfolding is_identifier_char is_space is_newline_char is_banned is_mark
+slash_piece = refl
+
+-- where no comment and no slashdash begins with a slash, no token does
+pub no_slash : (s : Text) → ((r : Text) → BlockComment (47 ∷ s) r → ⊥) → ((r : Text) → LineComment (47 ∷ s) r → ⊥) → begins 45 s ≡ false → (r : Text) (k : Token) → BeginsToken (47 ∷ s) k r → ⊥
+no_slash s f g h r k (t_space (ws (ws_space (space_char x)))) = let y = slash_space in cc
+no_slash s f g h r k (t_space (ws (ws_comment b))) = f r b
+no_slash s f g h r k (t_space (node_escline e)) = elim e [ ]
+no_slash s f g h r k (t_newline (break_newline (newline_char x y))) = let z = slash_newline in cc
+no_slash s f g h r k (t_newline (break_comment l)) = g r l
+no_slash s f g h r k t_slashdash = cc
+no_slash s f g h r k (t_string p) = let x = string_begins p in let y = slash_piece in cc
+no_slash s f g h r k (t_value p) = let x = plain_begins p in let y = slash_piece in cc
+
+back_space : is_space 92 ≡ false
+unfolding is_space
+back_space = refl
+
+back_newline : is_newline_char 92 ≡ false
+unfolding is_newline_char
+back_newline = refl
+
+back_piece : begins_piece 92 ≡ false
+unfolding is_identifier_char is_space is_newline_char is_banned is_mark
+back_piece = refl
+
+-- where no escline begins with a backslash, no token does
+pub no_backslash : (s : Text) → ((r : Text) → Escline (92 ∷ s) r → ⊥) → (r : Text) (k : Token) → BeginsToken (92 ∷ s) k r → ⊥
+no_backslash s f r k (t_space (ws (ws_space (space_char x)))) = let y = back_space in cc
+no_backslash s f r k (t_space (node_escline e)) = f r e
+no_backslash s f r k (t_space (ws (ws_comment b))) = elim b [ ]
+no_backslash s f r k (t_newline (break_comment l)) = elim l [ ]
+no_backslash s f r k (t_newline (break_newline (newline_char x y))) = let z = back_newline in cc
+no_backslash s f r k (t_string p) = let x = string_begins p in let y = back_piece in cc
+no_backslash s f r k (t_value p) = let x = plain_begins p in let y = back_piece in cc
+
+-- a character with which no token begins
+pub record Alien (c : ℕ) : Type 0 where
+  pub space : is_space c ≡ false
+  pub newline : is_newline_char c ≡ false
+  pub piece : begins_piece c ≡ false
+  pub marks : (((c == 47) || (c == 92)) || ((c == 40) || (c == 41))) || (((c == 123) || (c == 125)) || (((c == 61) || (c == 59)) || (c == 0xFEFF))) ≡ false
+
+alien_other : {c : ℕ} {s r : Text} {k : Token} → Alien c → BeginsToken (c ∷ s) k r → ⊥
+alien_other a (t_space (ws (ws_space (space_char x)))) = let y = a.space in cc
+alien_other a (t_space (ws (ws_comment (block p)))) = let y = a.marks in cc
+alien_other a (t_space (node_escline (escline st e))) = let y = a.marks in cc
+alien_other a (t_newline (break_newline crlf)) = let y = a.newline in let z = lf in cc
+alien_other a (t_newline (break_newline (newline_char x y))) = let z = a.newline in cc
+alien_other a (t_newline (break_comment (line l))) = let y = a.marks in cc
+alien_other a t_slashdash = let y = a.marks in cc
+alien_other a (t_string p) = let x = string_begins p in let y = a.piece in cc
+alien_other a (t_value p) = let x = plain_begins p in let y = a.piece in cc
+alien_other a t_left = let y = a.marks in cc
+alien_other a t_right = let y = a.marks in cc
+alien_other a t_opening = let y = a.marks in cc
+alien_other a t_closing = let y = a.marks in cc
+alien_other a t_equals = let y = a.marks in cc
+alien_other a t_semicolon = let y = a.marks in cc
+alien_other a t_mark = let y = a.marks in cc
+
+pub no_alien : (c : ℕ) (s : Text) → Alien c → (r : Text) (k : Token) → BeginsToken (c ∷ s) k r → ⊥
+no_alien c s a r k t = alien_other a t
