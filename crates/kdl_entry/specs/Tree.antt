@@ -1,5 +1,5 @@
 -- Identifiers and entries with every text and span, and nothing of how memory holds them.
-use Rattle.std.specs.Prelude.{ℤ, [], Bool, true, false, Option, Some, None, option_map, String, string_bytes}
+use Rattle.std.specs.Prelude.{ℤ, [], Bool, true, false, if◌then◌else◌, Option, Some, None, option_map, String, string_bytes}
 use Rattle.std.specs.Str.{chars}
 use Rattle.std.specs.declared.alloc.Global.{Global}
 use Rattle.kdl_text.specs.Chars.{Text}
@@ -71,6 +71,35 @@ without_span i = record i { span = no_span }
 -- an entry, wherever it and its identifiers stood
 abbrev pub without_spans : Entry → Entry
 without_spans e = record e { ty = option_map without_span e.ty; name = option_map without_span e.name; span = no_span }
+
+-- an identifier without its spelling
+abbrev pub unspelled : Identifier → Identifier
+unspelled i = record i { repr = None }
+
+-- an entry whose type and key are not spelled
+abbrev pub unspelled_names : Entry → Entry
+unspelled_names e = record e { ty = option_map unspelled e.ty; name = option_map unspelled e.name }
+
+-- an entry without its format and without spellings
+abbrev pub cleared : Entry → Entry
+cleared e = record (unspelled_names e) { format = None }
+
+-- a format that autoformat shall keep
+abbrev pub marked : EntryFormat → EntryFormat
+marked f = record f { autoformat_keep = true }
+
+-- what autoformat keeps of a format: the spelling of the value and the text before the entry, without the mark
+abbrev pub kept : EntryFormat → EntryFormat
+kept f = record empty_format { value_repr = f.value_repr; leading = f.leading }
+
+-- a format as autoformat leaves it: what it keeps of a marked one, and none of any other
+abbrev pub autoformatted_format : Option EntryFormat → Option EntryFormat
+autoformatted_format None = None
+autoformatted_format (Some f) = if f.autoformat_keep then Some (kept f) else None
+
+-- an entry as autoformat leaves it
+abbrev pub autoformatted : Entry → Entry
+autoformatted e = record (unspelled_names e) { format = autoformatted_format e.format }
 
 -- the text of a string
 abbrev pub text_value : Value → Option Text
