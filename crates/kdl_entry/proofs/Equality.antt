@@ -8,7 +8,8 @@ use Rattle.std.specs.Option.{option_eq}
 use Rattle.std.specs.Str.{chars, encode_utf8_all}
 use Rattle.std.specs.String.{string_eq}
 use Rattle.std.proofs.lemmas.Bool.Decides.{Decides-and, Decides-like, Decides-int_eq}
-use Rattle.kdl_entry.specs.Tree.{Identifier, text_of, value_tree, identifier_tree, entry_tree, entry_format_tree, without_span, without_spans}
+use Rattle.kdl_entry.specs.Tree.{Identifier, text_of, float_text_of, value_tree, identifier_tree, entry_tree, entry_format_tree, without_span, without_spans}
+use Rattle.kdl_entry.specs.declared.float.KdlFloat.{KdlFloat}
 use Rattle.kdl_entry.specs.declared.value.KdlValue.{KdlValue}
 use Rattle.kdl_entry.specs.declared.value.KdlValue.TheVariants.{String as StringValue, Integer, Float as FloatValue, Bool as BoolValue, Null}
 use Rattle.kdl_entry.specs.declared.identifier.KdlIdentifier.{KdlIdentifier}
@@ -16,6 +17,7 @@ use Rattle.kdl_entry.specs.declared.entry.KdlEntry.{KdlEntry}
 use Rattle.kdl_entry.specs.declared.entry.KdlEntryFormat.{KdlEntryFormat}
 use Rattle.kdl_entry.specs.contracts.entry.KdlEntryPartialEq.TheImpl as entry_impl
 use Rattle.kdl_entry.specs.contracts.entry.KdlEntryFormatPartialEq.TheImpl as format_impl
+use Rattle.kdl_entry.specs.contracts.float.KdlFloatPartialEq.TheImpl as float_impl
 use Rattle.kdl_entry.specs.contracts.value.KdlValuePartialEq.TheImpl as value_impl
 use Rattle.kdl_entry.specs.contracts.identifier.KdlIdentifierPartialEq.TheImpl as identifier_impl
 
@@ -36,6 +38,10 @@ option_decides eq f d None (Some y) = (λ e. cc, λ e. cc)
 option_decides eq f d (Some x) None = (λ e. cc, λ e. cc)
 option_decides eq f d (Some x) (Some y) = (λ e. ap (λ z. Some z) ((d x y).0 e), λ e. (d x y).1 (cc))
 
+-- floats are equal exactly where their texts are
+pub float_decides : (f g : KdlFloat) → Decides (float_impl.ghosts.eq f g) (float_text_of f ≡ float_text_of g)
+float_decides f g = text_decides f.text g.text
+
 -- truth values and marks
 truth_decides : (a b : Bool) → Decides (beq a b) (a ≡ b)
 truth_decides true true = (λ e. refl, λ e. refl)
@@ -47,7 +53,7 @@ truth_decides false false = (λ e. refl, λ e. refl)
 pub value_decides : (v w : KdlValue) → Decides (value_impl.ghosts.eq v w) (value_tree v ≡ value_tree w)
 value_decides (StringValue s) (StringValue t) = Decides-like _ (λ e. cc) (λ e. cc) (text_decides s t)
 value_decides (Integer y) (Integer z) = Decides-like _ (λ e. cc) (λ e. cc) (Decides-int_eq y z)
-value_decides (FloatValue f) (FloatValue g) = Decides-like _ (λ e. cc) (λ e. cc) (text_decides f.text g.text)
+value_decides (FloatValue f) (FloatValue g) = Decides-like _ (λ e. cc) (λ e. cc) (float_decides f g)
 value_decides (BoolValue a) (BoolValue b) = Decides-like _ (λ e. cc) (λ e. cc) (truth_decides a b)
 value_decides Null Null = (λ e. refl, λ e. refl)
 value_decides _ _ = (λ e. cc, λ e. cc)

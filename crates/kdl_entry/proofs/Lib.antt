@@ -1,7 +1,9 @@
+pub mod Comparing
 pub mod Cutting
 pub mod Equality
 pub mod Escapes
 pub mod Fronts
 pub mod Lexing
 pub mod Printing
+pub mod ReadsBack
 pub mod Spellings

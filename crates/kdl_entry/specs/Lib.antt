@@ -2,6 +2,7 @@ pub mod Data
 pub mod Entries
 pub mod Laid
 pub mod Lexed
+pub mod Order
 pub mod Places
 pub mod Print
 pub mod Spelled
