@@ -5,3 +5,5 @@
 mod documents;
 #[cfg(test)]
 mod errors;
+#[cfg(test)]
+mod values;
