@@ -10,6 +10,8 @@ use std::alloc::Global;
 mod documents;
 #[cfg(test)]
 mod errors;
+#[cfg(test)]
+mod values;
 
 /// The printed parse of a text, which is the text.
 pub fn reprinted(alloc: Global, text: &str) -> Result<String, ParseFailure>

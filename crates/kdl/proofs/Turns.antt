@@ -6,7 +6,7 @@ use Rattle.kdl_text.specs.Reading.{Moves}
 use Rattle.kdl_text.specs.Spans.{InText}
 use Rattle.kdl_text.specs.declared.span.SourceSpan.{SourceSpan}
 use Rattle.kdl_text.proofs.Going.{bytes-append}
-use Rattle.kdl_entry.specs.Data.{Value, text, integer}
+use Rattle.kdl_entry.specs.Data.{Value, text}
 use Rattle.kdl_entry.specs.Lexed.{NoToken, SpansChar, kind_view, HandsOut, Lexed}
 use Rattle.kdl_entry.specs.FirstTokens.{Token, space, newline, value, semicolon, Cuts, one, run}
 use Rattle.kdl_entry.specs.declared.tokens.Token.{Token as CodeToken}
@@ -45,7 +45,7 @@ step_from : (p : Phase) (st st' : State) (k : Token) (s r : Text) → move p st 
 step_from gap st st' space s r e a b = let x : st ≡ st' = cc in subst (λ (z : State). EndsIn z.from r) x (then_ends a b)
 step_from gap st st' newline s r e a b = let x : st ≡ st' = cc in subst (λ (z : State). EndsIn z.from r) x (then_ends a b)
 step_from gap st st' (value (text v)) s r e a b = let x : st'.from ≡ r = cc in ([], x)
-step_from gap st st' (value _) s r e a b = absurd cc
+step_from gap st st' (value v) s r e a b = absurd cc
 step_from gap st st' semicolon s r e a b = absurd cc
 step_from fresh st st' space s r e a b = let x : st.from ≡ st'.from = cc in subst (λ (z : Text). EndsIn z r) x (then_ends a b)
 step_from fresh st st' newline s r e a b = let x : st'.from ≡ r = cc in ([], x)

@@ -8,14 +8,16 @@ use Rattle.std.specs.Option.{option_eq}
 use Rattle.std.specs.Str.{chars, encode_utf8_all}
 use Rattle.std.specs.String.{string_eq}
 use Rattle.std.proofs.lemmas.Bool.Decides.{Decides-and, Decides-like, Decides-int_eq}
-use Rattle.kdl_entry.specs.Tree.{Identifier, text_of, value_tree, identifier_tree, entry_tree, entry_format_tree, without_span, without_spans}
+use Rattle.kdl_entry.specs.Tree.{Identifier, text_of, float_text_of, value_tree, identifier_tree, entry_tree, entry_format_tree, without_span, without_spans}
+use Rattle.kdl_entry.specs.declared.float.KdlFloat.{KdlFloat}
 use Rattle.kdl_entry.specs.declared.value.KdlValue.{KdlValue}
-use Rattle.kdl_entry.specs.declared.value.KdlValue.TheVariants.{String as StringValue, Integer}
+use Rattle.kdl_entry.specs.declared.value.KdlValue.TheVariants.{String as StringValue, Integer, Float as FloatValue, Bool as BoolValue, Null}
 use Rattle.kdl_entry.specs.declared.identifier.KdlIdentifier.{KdlIdentifier}
 use Rattle.kdl_entry.specs.declared.entry.KdlEntry.{KdlEntry}
 use Rattle.kdl_entry.specs.declared.entry.KdlEntryFormat.{KdlEntryFormat}
 use Rattle.kdl_entry.specs.contracts.entry.KdlEntryPartialEq.TheImpl as entry_impl
 use Rattle.kdl_entry.specs.contracts.entry.KdlEntryFormatPartialEq.TheImpl as format_impl
+use Rattle.kdl_entry.specs.contracts.float.KdlFloatPartialEq.TheImpl as float_impl
 use Rattle.kdl_entry.specs.contracts.value.KdlValuePartialEq.TheImpl as value_impl
 use Rattle.kdl_entry.specs.contracts.identifier.KdlIdentifierPartialEq.TheImpl as identifier_impl
 
@@ -36,12 +38,25 @@ option_decides eq f d None (Some y) = (λ e. cc, λ e. cc)
 option_decides eq f d (Some x) None = (λ e. cc, λ e. cc)
 option_decides eq f d (Some x) (Some y) = (λ e. ap (λ z. Some z) ((d x y).0 e), λ e. (d x y).1 (cc))
 
+-- floats are equal exactly where their texts are
+pub float_decides : (f g : KdlFloat) → Decides (float_impl.ghosts.eq f g) (float_text_of f ≡ float_text_of g)
+float_decides f g = text_decides f.text g.text
+
+-- truth values and marks
+truth_decides : (a b : Bool) → Decides (beq a b) (a ≡ b)
+truth_decides true true = (λ e. refl, λ e. refl)
+truth_decides true false = (λ e. cc, λ e. cc)
+truth_decides false true = (λ e. cc, λ e. cc)
+truth_decides false false = (λ e. refl, λ e. refl)
+
 -- values are equal exactly where they are of one kind and say the same
 pub value_decides : (v w : KdlValue) → Decides (value_impl.ghosts.eq v w) (value_tree v ≡ value_tree w)
 value_decides (StringValue s) (StringValue t) = Decides-like _ (λ e. cc) (λ e. cc) (text_decides s t)
-value_decides (StringValue s) (Integer z) = (λ e. cc, λ e. cc)
-value_decides (Integer y) (StringValue t) = (λ e. cc, λ e. cc)
 value_decides (Integer y) (Integer z) = Decides-like _ (λ e. cc) (λ e. cc) (Decides-int_eq y z)
+value_decides (FloatValue f) (FloatValue g) = Decides-like _ (λ e. cc) (λ e. cc) (float_decides f g)
+value_decides (BoolValue a) (BoolValue b) = Decides-like _ (λ e. cc) (λ e. cc) (truth_decides a b)
+value_decides Null Null = (λ e. refl, λ e. refl)
+value_decides _ _ = (λ e. cc, λ e. cc)
 
 -- identifiers are equal exactly where all but their spans is
 pub identifier_decides : (i j : KdlIdentifier) → Decides (identifier_impl.ghosts.eq i j) (without_span (identifier_tree i) ≡ without_span (identifier_tree j))
@@ -49,16 +64,10 @@ identifier_decides i j =
     Decides-like _ (λ e. cc) (λ e. (ap (λ x. x.value) e, ap (λ x. x.repr) e))
     (Decides-and _ _ (text_decides i.value j.value) (option_decides string_eq text_of text_decides i.repr j.repr))
 
-mark_decides : (a b : Bool) → Decides (beq a b) (a ≡ b)
-mark_decides true true = (λ e. refl, λ e. refl)
-mark_decides true false = (λ e. cc, λ e. cc)
-mark_decides false true = (λ e. cc, λ e. cc)
-mark_decides false false = (λ e. refl, λ e. refl)
-
 -- formats are equal exactly where all their texts and marks are
 pub format_decides : (f g : KdlEntryFormat) → Decides (format_impl.ghosts.eq f g) (entry_format_tree f ≡ entry_format_tree g)
 format_decides f g =
-    let last = Decides-and _ _ (text_decides f.after_eq g.after_eq) (mark_decides f.autoformat_keep g.autoformat_keep) in
+    let last = Decides-and _ _ (text_decides f.after_eq g.after_eq) (truth_decides f.autoformat_keep g.autoformat_keep) in
     let keys = Decides-and _ _ (text_decides f.after_key g.after_key) last in
     let types = Decides-and _ _ (text_decides f.before_ty_name g.before_ty_name) (Decides-and _ _ (text_decides f.after_ty_name g.after_ty_name) keys) in
     let ends = Decides-and _ _ (text_decides f.trailing g.trailing) (Decides-and _ _ (text_decides f.after_ty g.after_ty) types) in

@@ -1,3 +1,4 @@
+pub mod Comparing
 pub mod Cutting
 pub mod Equality
 pub mod Escapes
@@ -6,6 +7,7 @@ pub mod Fronts
 pub mod LeafEnds
 pub mod Lexing
 pub mod Printing
+pub mod ReadsBack
 pub mod Spellings
 pub mod StringPieces
 pub mod WholeTexts

@@ -1,8 +1,12 @@
 -- Printed texts: what is written, as the characters that it encodes.
-use Rattle.std.proofs.Common.{◌≡◌, ℕ, zero, suc, ◌<◌, ◌^◌, ◌++◌, List, [], ◌∷◌, ℤ, pos, negsuc, arith, sym, append-nil, encode_utf8}
+use Rattle.std.proofs.Common.{◌≡◌, ℕ, zero, suc, ◌<◌, ◌≤◌, ◌^◌, ◌++◌, ◌==◌, ◌↔◌, Bool, IsTrue, List, [], ◌∷◌, ℤ, pos, negsuc, arith, sym, ap, ◌∙◌, length, append-nil, encode_utf8, String, string_bytes, string_len, Global}
+use Rattle.kdl_text.proofs.Texts.{bytes-encodes}
+use Rattle.kdl_text.specs.Here.{bytes}
+use Rattle.std.proofs.lemmas.Bool.Decides.{Decides-at, Decides-like, Decides-eqb}
+use Rattle.std.proofs.lemmas.List.{nil_from_length}
 use Rattle.std.proofs.Output.{has_written_append, has_written_of_eq}
 use Rattle.std.proofs.lemmas.Fmt.{IsAscii-decimal_wide}
-use Rattle.std.proofs.lemmas.Str.{encodes-append, encodes-IsAscii, chars-nil}
+use Rattle.std.proofs.lemmas.Str.{encodes-append, encodes-IsAscii, chars-nil, length-le-encodes}
 use Rattle.std.specs.Fmt.{signed_decimal, HasWritten}
 use Rattle.std.specs.declared.fmt.Formatter.{Formatter}
 use Rattle.std.specs.Int.Signed.{mag}
@@ -27,6 +31,19 @@ signed_bytes z h = sym (encodes-IsAscii (signed_decimal z) (signed_ascii z h))
 -- a character alone
 pub char_bytes : (c : ℕ) → encode_utf8 c ≡ encode_utf8_all (c ∷ [])
 char_bytes c = sym (append-nil (encode_utf8 c))
+
+-- the length of a printed text
+pub printed_len : (s : String Global) (t : List ℕ) → string_bytes s ≡ encode_utf8_all t → string_len s ≡ bytes t
+printed_len s t e = s.bytes.ok.0 ∙ ap length e ∙ sym (bytes-encodes t)
+
+-- a printed text is empty exactly where its length is 0
+pub printed_empty : (s : String Global) (t : List ℕ) (b : Bool) → string_bytes s ≡ encode_utf8_all t → b ≡ (string_len s == 0) → IsTrue b ↔ (t ≡ [])
+printed_empty s t b e is =
+    let long : length t ≤ length (string_bytes s) = omega (arith, ap length e, length-le-encodes t) in
+    let count : string_len s ≡ length (string_bytes s) = s.bytes.ok.0 in
+    let nothing : string_len s ≡ 0 → t ≡ [] = λ h. nil_from_length t (omega arith) in
+    let some : t ≡ [] → string_len s ≡ 0 = λ h. count ∙ ap length (e ∙ ap encode_utf8_all h) in
+    Decides-at _ _ is (Decides-like _ nothing some (Decides-eqb (string_len s) 0))
 
 -- two writes in a row
 module _ {W : Type 0} (took : W → List ℕ → W → Type 0) where

@@ -14,7 +14,7 @@ use Rattle.std.specs.Char.{is_ascii}
 use Rattle.kdl_text.specs.Chars.{is_banned, is_newline_char}
 use Rattle.kdl_entry.specs.Spelled.{escape_letter, char_text, escaped, prints_bare, spelled}
 
-IsAscii-from_test : (bs : List ℕ) → list_all is_ascii bs ≡ true → IsAscii bs
+pub IsAscii-from_test : (bs : List ℕ) → list_all is_ascii bs ≡ true → IsAscii bs
 IsAscii-from_test [] h i = omega arith
 IsAscii-from_test (b ∷ bs) h zero = let (here, more) = and_parts (is_ascii b) _ h in grind (arith, nat_tests)
 IsAscii-from_test (b ∷ bs) h (suc i) = IsAscii-from_test bs (and_parts (is_ascii b) _ h).1 i

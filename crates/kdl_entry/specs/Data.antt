@@ -2,7 +2,7 @@
 use Rattle.std.specs.Prelude.{ℤ, Bool, Option}
 use Rattle.kdl_text.specs.Chars.{Text}
 
--- a string, a whole number, the text of a float, a truth value, or null
+-- a string, a whole number, a float by its text, a truth value, or null
 pub data Value : Type 0 where
   text : Text → Value
   integer : ℤ → Value

@@ -6,6 +6,7 @@ pub mod FirstTokens
 pub mod Laid
 pub mod Laws
 pub mod Lexed
+pub mod Order
 pub mod Places
 pub mod Print
 pub mod Spelled

@@ -1,13 +1,14 @@
 -- Identifiers and entries with every text and span, and nothing of how memory holds them.
-use Rattle.std.specs.Prelude.{ℤ, [], Bool, false, Option, Some, None, option_map, String, string_bytes}
+use Rattle.std.specs.Prelude.{ℤ, [], Bool, true, false, if◌then◌else◌, Option, Some, None, option_map, String, string_bytes}
 use Rattle.std.specs.Str.{chars}
 use Rattle.std.specs.declared.alloc.Global.{Global}
 use Rattle.kdl_text.specs.Chars.{Text}
 use Rattle.kdl_text.specs.declared.span.SourceSpan.{SourceSpan}
 use Rattle.kdl_entry.specs.Data as data'
-use Rattle.kdl_entry.specs.Data.{Value, text, integer}
+use Rattle.kdl_entry.specs.Data.{Value, text, integer, float, truth, null}
+use Rattle.kdl_entry.specs.declared.float.KdlFloat.{KdlFloat}
 use Rattle.kdl_entry.specs.declared.value.KdlValue.{KdlValue}
-use Rattle.kdl_entry.specs.declared.value.KdlValue.TheVariants.{String as StringValue, Integer}
+use Rattle.kdl_entry.specs.declared.value.KdlValue.TheVariants.{String as StringValue, Integer, Float as FloatValue, Bool as BoolValue, Null}
 use Rattle.kdl_entry.specs.declared.identifier.KdlIdentifier.{KdlIdentifier}
 use Rattle.kdl_entry.specs.declared.entry.KdlEntry.{KdlEntry}
 use Rattle.kdl_entry.specs.declared.entry.KdlEntryFormat.{KdlEntryFormat}
@@ -71,6 +72,35 @@ without_span i = record i { span = no_span }
 abbrev pub without_spans : Entry → Entry
 without_spans e = record e { ty = option_map without_span e.ty; name = option_map without_span e.name; span = no_span }
 
+-- an identifier without its spelling
+abbrev pub unspelled : Identifier → Identifier
+unspelled i = record i { repr = None }
+
+-- an entry whose type and key are not spelled
+abbrev pub unspelled_names : Entry → Entry
+unspelled_names e = record e { ty = option_map unspelled e.ty; name = option_map unspelled e.name }
+
+-- an entry without its format and without spellings
+abbrev pub cleared : Entry → Entry
+cleared e = record (unspelled_names e) { format = None }
+
+-- a format that autoformat shall keep
+abbrev pub marked : EntryFormat → EntryFormat
+marked f = record f { autoformat_keep = true }
+
+-- what autoformat keeps of a format: the spelling of the value and the text before the entry, without the mark
+abbrev pub kept : EntryFormat → EntryFormat
+kept f = record empty_format { value_repr = f.value_repr; leading = f.leading }
+
+-- a format as autoformat leaves it: what it keeps of a marked one, and none of any other
+abbrev pub autoformatted_format : Option EntryFormat → Option EntryFormat
+autoformatted_format None = None
+autoformatted_format (Some f) = if f.autoformat_keep then Some (kept f) else None
+
+-- an entry as autoformat leaves it
+abbrev pub autoformatted : Entry → Entry
+autoformatted e = record (unspelled_names e) { format = autoformatted_format e.format }
+
 -- the text of a string
 abbrev pub text_value : Value → Option Text
 text_value (text s) = Some s
@@ -81,13 +111,39 @@ abbrev pub integer_value : Value → Option ℤ
 integer_value (integer z) = Some z
 integer_value _ = None
 
+-- the text of a float
+abbrev pub float_value : Value → Option Text
+float_value (float s) = Some s
+float_value _ = None
+
+-- the truth value
+abbrev pub truth_value : Value → Option Bool
+truth_value (truth b) = Some b
+truth_value _ = None
+
+-- whether the value is null
+abbrev pub is_null : Value → Bool
+is_null null = true
+is_null _ = false
+
+-- the value that an option stands for: null where there is none
+abbrev pub or_null : Option Value → Value
+or_null None = null
+or_null (Some v) = v
+
 -- the characters of a text in memory
 abbrev pub text_of : String Global → Text
 text_of s = chars (string_bytes s)
 
+abbrev pub float_text_of : KdlFloat → Text
+float_text_of f = text_of f.text
+
 abbrev pub value_tree : KdlValue → Value
 value_tree (StringValue s) = text (text_of s)
 value_tree (Integer z) = integer z
+value_tree (FloatValue f) = float (float_text_of f)
+value_tree (BoolValue b) = truth b
+value_tree Null = null
 
 abbrev pub identifier_tree : KdlIdentifier → Identifier
 identifier_tree i = record { value = text_of i.value; repr = option_map text_of i.repr; span = i.span }

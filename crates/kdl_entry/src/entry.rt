@@ -1,8 +1,9 @@
 //! Entries: the arguments and properties of nodes.
 
 ghost use Rattle.kdl_entry.specs.Print.{print_entry};
-ghost use Rattle.kdl_entry.specs.Tree.{entry_tree, entry_format_tree, identifier_tree, value_tree, empty_format, plain_entry};
-ghost use Rattle.std.specs.Prelude.{◌≡◌, None, Some, option_map};
+ghost use Rattle.kdl_entry.specs.Tree.{entry_tree, entry_format_tree, identifier_tree, value_tree, empty_format, plain_entry, unspelled, cleared, marked, kept, autoformatted_format, autoformatted};
+ghost use Rattle.kdl_text.specs.Here.{bytes};
+ghost use Rattle.std.specs.Prelude.{◌≡◌, ◌↔◌, IsTrue, IfOk, [], None, Some, option_map};
 ghost use Rattle.std.specs.Str.{encode_utf8_all};
 
 use crate::identifier::KdlIdentifier;
@@ -53,6 +54,38 @@ impl KdlEntryFormat {
             autoformat_keep: false,
         }
     }
+
+    /// Leaves the spelling of the value and the leading text alone, and takes the mark away.
+    fn keep_value(&mut self)
+        ensures { entry_format_tree self.new ≡ kept (entry_format_tree self.old) }
+    {
+        self.trailing.clear();
+        self.after_ty.clear();
+        self.before_ty_name.clear();
+        self.after_ty_name.clear();
+        self.after_key.clear();
+        self.after_eq.clear();
+        self.autoformat_keep = false;
+    }
+}
+
+/// Drops the spelling, where there is an identifier.
+fn clear_spelling(identifier: &mut Option<KdlIdentifier>)
+    ensures { option_map identifier_tree identifier.new ≡ option_map unspelled (option_map identifier_tree identifier.old) }
+{
+    if let Some(identifier) = identifier {
+        identifier.clear_format();
+    }
+}
+
+/// Keeps what autoformat keeps of a marked format, and drops any other.
+fn autoformat_format(format: &mut Option<KdlEntryFormat>)
+    ensures { option_map entry_format_tree format.new ≡ autoformatted_format (option_map entry_format_tree format.old) }
+{
+    match format {
+        Some(marked) if marked.autoformat_keep => marked.keep_value(),
+        _ => *format = None,
+    }
 }
 
 impl Clone for KdlEntryFormat {
@@ -92,8 +125,10 @@ pub struct KdlEntry {
 
 impl KdlEntry {
     ghost use Rattle.kdl_entry.specs.contracts.entry.KdlEntry.{the_row};
+    ghost use Rattle.kdl_entry.specs.contracts.entry.KdlEntryFormat.{the_row as format_row};
+    ghost use Rattle.kdl_entry.specs.contracts.identifier.KdlIdentifier.{the_row as identifier_row};
     ghost use Rattle.kdl_entry.specs.contracts.value.KdlValue.{the_row as value_row};
-    ghost use Rattle.std.specs.Borrow.{Lends, sem};
+    ghost use Rattle.std.specs.Borrow.{Lends, LendsIf, sem};
 
     /// An argument without a type and a format, with the span 0 of length 0.
     pub fn new(value: KdlValue) -> KdlEntry
@@ -119,6 +154,14 @@ impl KdlEntry {
         ensures { option_map (λ i. identifier_tree i.now) result ≡ (entry_tree self.now).name }
     {
         self.name.as_ref()
+    }
+
+    /// The key, to be changed in place, where the entry is a property.
+    pub fn name_mut(&mut self) -> Option<&mut KdlIdentifier>
+        ensures* writes_back { sem 𝓛 (LendsIf the_row identifier_row self.entry result (λ i. record self.old { name = Some i }) self.old) }
+        ensures value { option_map (λ i. i.now) result ≡ self.old.name }
+    {
+        self.name.as_mut()
     }
 
     /// Sets the key: a property with one, an argument with none.
@@ -171,6 +214,14 @@ impl KdlEntry {
         self.ty.as_ref()
     }
 
+    /// The type, to be changed in place, where the entry has one.
+    pub fn ty_mut(&mut self) -> Option<&mut KdlIdentifier>
+        ensures* writes_back { sem 𝓛 (LendsIf the_row identifier_row self.entry result (λ i. record self.old { ty = Some i }) self.old) }
+        ensures value { option_map (λ i. i.now) result ≡ self.old.ty }
+    {
+        self.ty.as_mut()
+    }
+
     /// Sets the type.
     pub fn set_ty(&mut self, ty: KdlIdentifier)
         ensures { entry_tree self.new ≡ record (entry_tree self.old) { ty = Some (identifier_tree ty) } }
@@ -185,11 +236,62 @@ impl KdlEntry {
         self.format.as_ref()
     }
 
+    /// The format, to be changed in place, where the entry has one.
+    pub fn format_mut(&mut self) -> Option<&mut KdlEntryFormat>
+        ensures* writes_back { sem 𝓛 (LendsIf the_row format_row self.entry result (λ f. record self.old { format = Some f }) self.old) }
+        ensures value { option_map (λ f. f.now) result ≡ self.old.format }
+    {
+        self.format.as_mut()
+    }
+
     /// Sets the format.
     pub fn set_format(&mut self, format: KdlEntryFormat)
         ensures { entry_tree self.new ≡ record (entry_tree self.old) { format = Some (entry_format_tree format) } }
     {
         self.format = Some(format);
+    }
+
+    /// Drops the format, and the spellings of the type and the key.
+    pub fn clear_format(&mut self)
+        ensures { entry_tree self.new ≡ cleared (entry_tree self.old) }
+    {
+        self.format = None;
+        clear_spelling(&mut self.ty);
+        clear_spelling(&mut self.name);
+    }
+
+    /// Marks the format, where the entry has one: the next autoformat keeps the spelling of the value and the leading
+    /// text.
+    pub fn keep_format(&mut self)
+        ensures { entry_tree self.new ≡ record (entry_tree self.old) { format = option_map marked (entry_tree self.old).format } }
+    {
+        if let Some(format) = &mut self.format {
+            format.autoformat_keep = true;
+        }
+    }
+
+    /// Drops the format and the spellings of the type and the key. Of a marked format the spelling of the value and
+    /// the leading text stay; the other texts become empty, and the mark is taken away.
+    pub fn autoformat(&mut self)
+        ensures { entry_tree self.new ≡ autoformatted (entry_tree self.old) }
+    {
+        autoformat_format(&mut self.format);
+        clear_spelling(&mut self.ty);
+        clear_spelling(&mut self.name);
+    }
+
+    /// The length of the printed text, in bytes. It prints the entry: it fails where memory is wanting.
+    pub fn len(&self, alloc: Global) -> Result<usize, AllocError>
+        ensures { IfOk result (λ n. n ≡ bytes (print_entry (entry_tree self.now))) }
+    {
+        Ok(self.to_string(alloc)?.len())
+    }
+
+    /// Whether the printed text is empty. It prints the entry: it fails where memory is wanting.
+    pub fn is_empty(&self, alloc: Global) -> Result<bool, AllocError>
+        ensures { IfOk result (λ b. IsTrue b ↔ (print_entry (entry_tree self.now) ≡ [])) }
+    {
+        Ok(self.to_string(alloc)?.is_empty())
     }
 
     /// An entry as it was read: its key and type or none, its value, the texts around them and where it stood.

@@ -1,8 +1,9 @@
 //! Identifiers: the names of nodes and properties, and types.
 
 ghost use Rattle.kdl_entry.specs.Print.{print_identifier};
-ghost use Rattle.kdl_entry.specs.Tree.{identifier_tree, plain_identifier, text_of};
-ghost use Rattle.std.specs.Prelude.{◌≡◌, IfOk, None, Some, option_map};
+ghost use Rattle.kdl_entry.specs.Tree.{identifier_tree, plain_identifier, text_of, unspelled};
+ghost use Rattle.kdl_text.specs.Here.{bytes};
+ghost use Rattle.std.specs.Prelude.{◌≡◌, ◌↔◌, IsTrue, IfOk, [], Some, option_map};
 ghost use Rattle.std.specs.Str.{chars, encode_utf8_all};
 
 use crate::print::write_text;
@@ -71,9 +72,30 @@ impl KdlIdentifier {
 
     /// Drops the spelling.
     pub fn clear_format(&mut self)
-        ensures { identifier_tree self.new ≡ record (identifier_tree self.old) { repr = None } }
+        ensures { identifier_tree self.new ≡ unspelled (identifier_tree self.old) }
     {
         self.repr = None;
+    }
+
+    /// Drops the spelling.
+    pub fn autoformat(&mut self)
+        ensures { identifier_tree self.new ≡ unspelled (identifier_tree self.old) }
+    {
+        self.clear_format();
+    }
+
+    /// The length of the printed text, in bytes. It prints the identifier: it fails where memory is wanting.
+    pub fn len(&self, alloc: Global) -> Result<usize, AllocError>
+        ensures { IfOk result (λ n. n ≡ bytes (print_identifier (identifier_tree self.now))) }
+    {
+        Ok(self.to_string(alloc)?.len())
+    }
+
+    /// Whether the printed text is empty. It prints the identifier: it fails where memory is wanting.
+    pub fn is_empty(&self, alloc: Global) -> Result<bool, AllocError>
+        ensures { IfOk result (λ b. IsTrue b ↔ (print_identifier (identifier_tree self.now) ≡ [])) }
+    {
+        Ok(self.to_string(alloc)?.is_empty())
     }
 
     /// An identifier with a copy of the text as its string, without a spelling and with the span 0 of length 0.

@@ -1,12 +1,33 @@
-//! What `==` means, and the laws of the written grammar.
+//! What `==`, the order and hashes mean, that printed strings read back, and the laws of the written grammar.
 
 ghost use Rattle.kdl_entry.specs.Laws.{OneIdentifier, OneEntry};
-ghost use Rattle.kdl_entry.specs.Tree.{identifier_tree, entry_tree, value_tree, entry_format_tree, without_span, without_spans};
+ghost use Rattle.kdl_entry.specs.Order.{text_order, value_order};
+ghost use Rattle.kdl_entry.specs.Spelled.{SpelledReadsBack, SpelledReadsBackBefore};
+ghost use Rattle.kdl_entry.specs.Tree.{identifier_tree, entry_tree, value_tree, float_text_of, entry_format_tree, without_span, without_spans};
+ghost use Rattle.std.specs.Cmp.{IsTotalOrder};
 ghost use Rattle.std.specs.Prelude.{◌≡◌, IsTrue, ◌↔◌};
 
 use crate::entry::{KdlEntry, KdlEntryFormat};
+use crate::float::KdlFloat;
 use crate::identifier::KdlIdentifier;
 use crate::value::KdlValue;
+use std::cmp::Ordering;
+use std::hash::{Hash, Hasher};
+
+/// Every printed string is one string, bare or between quotes, that stands for what was printed: alone, and before any
+/// text that no identifier character begins.
+pub fn spelled_reads_back()
+    ensures alone { SpelledReadsBack }
+    ensures before { SpelledReadsBackBefore }
+{
+}
+
+/// Two floats are equal exactly where their texts are.
+pub fn equal_floats(a: &KdlFloat, b: &KdlFloat) -> bool
+    ensures { IsTrue result ↔ (float_text_of a.now ≡ float_text_of b.now) }
+{
+    a == b
+}
 
 /// Two values are equal exactly where they are of one kind and say the same.
 pub fn equal_values(a: &KdlValue, b: &KdlValue) -> bool
@@ -47,3 +68,69 @@ pub fn unambiguous_identifier()
 pub fn unambiguous_entry()
     ensures { OneEntry }
 {}
+/// Floats are ordered by their texts.
+pub fn compare_floats(a: &KdlFloat, b: &KdlFloat) -> Ordering
+    ensures order { result ≡ text_order (float_text_of a.now) (float_text_of b.now) }
+    ensures equal { (result ≡ Ordering.Equal) ↔ (float_text_of a.now ≡ float_text_of b.now) }
+{
+    a.cmp(b)
+}
+
+/// Values are ordered by their kinds, and within a kind by what they hold; equal ones are those that `==` finds equal.
+pub fn compare_values(a: &KdlValue, b: &KdlValue) -> Ordering
+    ensures order { result ≡ value_order (value_tree a.now) (value_tree b.now) }
+    ensures equal { (result ≡ Ordering.Equal) ↔ (value_tree a.now ≡ value_tree b.now) }
+{
+    a.cmp(b)
+}
+
+/// The order of values is total.
+pub fn values_are_ordered()
+    ensures { IsTotalOrder ⟦<KdlValue as Ord>⟧.cmp }
+{
+}
+
+/// Equal floats leave equal hashers equal.
+pub fn hash_floats<H: Hasher>(a: &KdlFloat, b: &KdlFloat, one: &mut H, other: &mut H)
+    requires { float_text_of a.now ≡ float_text_of b.now }
+    ensures { one.old ≡ other.old → one.new ≡ other.new }
+{
+    a.hash(one);
+    b.hash(other);
+}
+
+/// Equal values leave equal hashers equal.
+pub fn hash_values<H: Hasher>(a: &KdlValue, b: &KdlValue, one: &mut H, other: &mut H)
+    requires { value_tree a.now ≡ value_tree b.now }
+    ensures { one.old ≡ other.old → one.new ≡ other.new }
+{
+    a.hash(one);
+    b.hash(other);
+}
+
+/// Equal formats leave equal hashers equal.
+pub fn hash_formats<H: Hasher>(a: &KdlEntryFormat, b: &KdlEntryFormat, one: &mut H, other: &mut H)
+    requires { entry_format_tree a.now ≡ entry_format_tree b.now }
+    ensures { one.old ≡ other.old → one.new ≡ other.new }
+{
+    a.hash(one);
+    b.hash(other);
+}
+
+/// Equal identifiers, wherever they stood, leave equal hashers equal.
+pub fn hash_identifiers<H: Hasher>(a: &KdlIdentifier, b: &KdlIdentifier, one: &mut H, other: &mut H)
+    requires { without_span (identifier_tree a.now) ≡ without_span (identifier_tree b.now) }
+    ensures { one.old ≡ other.old → one.new ≡ other.new }
+{
+    a.hash(one);
+    b.hash(other);
+}
+
+/// Equal entries, wherever they stood, leave equal hashers equal.
+pub fn hash_entries<H: Hasher>(a: &KdlEntry, b: &KdlEntry, one: &mut H, other: &mut H)
+    requires { without_spans (entry_tree a.now) ≡ without_spans (entry_tree b.now) }
+    ensures { one.old ≡ other.old → one.new ≡ other.new }
+{
+    a.hash(one);
+    b.hash(other);
+}

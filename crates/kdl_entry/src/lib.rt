@@ -2,6 +2,7 @@
 #![tactic(auto)]
 
 mod entry;
+mod float;
 mod identifier;
 pub mod laws;
 mod print;
@@ -10,6 +11,7 @@ pub mod tokens;
 mod value;
 
 pub use entry::{KdlEntry, KdlEntryFormat};
+pub use float::{FloatFailure, KdlFloat};
 pub use identifier::KdlIdentifier;
 pub use print::{write_char, write_text, write_type};
 pub use value::KdlValue;

@@ -2,8 +2,10 @@
 
 ghost use Rattle.kdl_entry.specs.Print.{print_type, print_key};
 ghost use Rattle.kdl_entry.specs.Tree.{identifier_tree};
+ghost use Rattle.std.specs.Char.{is_ascii};
 ghost use Rattle.std.specs.Fmt.{WritesOnOk, signed_decimal};
-ghost use Rattle.std.specs.Prelude.{◌∷◌, [], option_map};
+ghost use Rattle.std.specs.List.{list_all};
+ghost use Rattle.std.specs.Prelude.{◌≡◌, ◌∷◌, [], true, option_map};
 ghost use Rattle.std.specs.Str.{chars, encode_utf8_all};
 
 use crate::identifier::KdlIdentifier;
@@ -16,6 +18,15 @@ pub fn write_text<W: Write>(text: &str, f: &mut Formatter<W>) -> fmt::Result
     ensures { WritesOnOk W.write_str_gives f.old result (encode_utf8_all (chars text.now)) f.new }
 {
     f.write_str(text)
+}
+
+/// Writes a word, which is ASCII.
+#[inline]
+pub(crate) fn write_word<W: Write>(word: &str, f: &mut Formatter<W>) -> fmt::Result
+    requires { list_all is_ascii word.now ≡ true }
+    ensures { WritesOnOk W.write_str_gives f.old result (encode_utf8_all word.now) f.new }
+{
+    f.write_str(word)
 }
 
 /// Writes a character.
