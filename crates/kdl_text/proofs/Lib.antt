@@ -5,8 +5,18 @@ mod Blanks
 pub mod Going
 pub mod Goes
 mod Escapes
+pub mod Dedents
 mod Hex
 mod Quoting
+pub mod MultiLines
+mod Contents
+pub mod Closings
+pub mod Raws
+mod RawLines
+mod RawLine
+mod Bodies
+mod RawBodies
+mod Opened
 pub mod Runs
 pub mod Newlines
 pub mod Slices

@@ -1,6 +1,9 @@
 pub mod Bare
 pub mod Chars
+pub mod Dedent
 pub mod Here
+pub mod MultiLine
+pub mod Raw
 pub mod Reading
 pub mod Spans
 pub mod Strings
