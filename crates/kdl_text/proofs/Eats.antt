@@ -15,7 +15,7 @@ eats a b old mid m e h k x y =
     let u : mid.rest ≡ a ∷ b ∷ tail (tail old.rest) = k.rest ∙ t in
     let v : m.rest ≡ b ∷ tail (tail old.rest) = ap (λ z. z.rest) x ∙ ap tail u in
     record {
-    rest = t ∙ ap (λ z. a ∷ b ∷ z) (sym (ap (λ z. z.rest) y ∙ ap tail v));
-    at = ap (λ z. z.at) y ∙ ap (λ z. m.at + first_len z) v ∙ ap (λ z. z + len_utf8 b) (ap (λ z. z.at) x ∙ ap (λ z. mid.at + first_len z) u ∙ ap (λ z. z + len_utf8 a) k.at);
-    steps = ap (λ z. z.steps) y ∙ ap (λ z. z.steps) x ∙ k.steps;
-  }
+      rest = t ∙ ap (λ z. a ∷ b ∷ z) (sym (ap (λ z. z.rest) y ∙ ap tail v));
+      at = ap (λ z. z.at) y ∙ ap (λ z. m.at + first_len z) v ∙ ap (λ z. z + len_utf8 b) (ap (λ z. z.at) x ∙ ap (λ z. mid.at + first_len z) u ∙ ap (λ z. z + len_utf8 a) k.at);
+      steps = ap (λ z. z.steps) y ∙ ap (λ z. z.steps) x ∙ k.steps;
+    }

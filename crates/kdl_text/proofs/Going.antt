@@ -45,11 +45,10 @@ first_is (d ∷ s) c h = cc
 pub took_from : (c : ℕ) (a b e : Here) → Some c ≡ first a.rest → b ≡ looked a → e ≡ stepped b → Took (Some c) a e
 took_from c a b e h x y =
     let r = first_is a.rest c h in
-    let u : b.rest ≡ c ∷ tail a.rest = ap (λ z. z.rest) x ∙ r in
-    (
+    let u : b.rest ≡ c ∷ tail a.rest = ap (λ z. z.rest) x ∙ r in (
       r ∙ ap (λ z. c ∷ z) (sym (ap (λ z. z.rest) y ∙ ap tail u)),
       ap (λ z. z.at) y ∙ ap (λ z. b.at + first_len z) u ∙ ap (λ z. z + len_utf8 c) (ap (λ z. z.at) x),
-      ap (λ z. z.steps) y ∙ ap (λ z. z.steps) x
+      ap (λ z. z.steps) y ∙ ap (λ z. z.steps) x,
     )
 
 pub bytes-append : (p q : List ℕ) → bytes (p ++ q) ≡ bytes p + bytes q

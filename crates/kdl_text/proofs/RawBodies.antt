@@ -45,6 +45,7 @@ looks_many (suc n) e r [] some (content none h) single = apart 34 35 refl refl (
   where
     second : {c d : ℕ} {x y : Text} → 34 ∷ c ∷ x ≡ 34 ∷ d ∷ y → c ≡ d
     second k = cc
+
     apart : (a b : ℕ) → a ≡ 34 → b ≡ 35 → a ≡ b → ⊥
     apart a b h k same = omega arith
 looks_many (suc n) e r (c ∷ []) some (content (more (char a b) none) h) single = false≢true single

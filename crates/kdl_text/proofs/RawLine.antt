@@ -136,6 +136,7 @@ module _ (n c : ℕ) (f m b : Here) (i : InLine n 1 f m) (t : Took (Some c) m b)
     where
       bad : is_raw c ≡ false
       bad = not_raw c ne (sym (ap (starts is_unquoted) t.0) ∙ stops)
+
       stuck : (v : List LineUnit) → literals w ≡ literals i.read ++ v → RawContent (closing 1 n) (c ∷ b.rest) r v → ⊥
       stuck v e (content none h) = ne cc
       stuck v e (content (more (char a g) js) h) = false≢true (sym bad ∙ g)

@@ -29,7 +29,7 @@ module _ (n k j : ℕ) (a b d : Text) (some : 0 < n) (t : a ≡ times k 34 ++ b)
   closed h e =
       let m : k ≡ suc (suc (k - 2)) = omega arith in
       let text : 34 ∷ a ≡ times (k - 2) 34 ++ (closing 3 n ++ d) =
-          ap (λ z. 34 ∷ z) (t ∙ ap (λ i. times i 34 ++ b) m) ∙ ap (λ z. 34 ∷ 34 ∷ 34 ∷ (times (k - 2) 34 ++ z)) (u ∙ ap (λ i. times i 35 ++ d) e) ∙ three_front (k - 2) (times n 35 ++ d) in
+      ap (λ z. 34 ∷ z) (t ∙ ap (λ i. times i 34 ++ b) m) ∙ ap (λ z. 34 ∷ 34 ∷ 34 ∷ (times (k - 2) 34 ++ z)) (u ∙ ap (λ i. times i 35 ++ d) e) ∙ three_front (k - 2) (times n 35 ++ d) in
       content (subst (λ z. RawUnits (closing 3 n) z (closing 3 n ++ d) (literals (times (k - 2) 34))) (sym text) (quotes_before n (k - 2) d some)) refl
 
   pub open_still : (2 ≤ k → j ≡ n → ⊥) → RawUnits (closing 3 n) (34 ∷ a) d (Literal 34 ∷ (literals (times k 34) ++ literals (times j 35)))

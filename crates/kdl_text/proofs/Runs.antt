@@ -23,12 +23,12 @@ run_begins p s = record { run = []; text = refl; all = refl; len = omega arith; 
 
 pub run_turn : (p : ℕ → Bool) (old s r : List ℕ) (c n : ℕ) → SoFar p old s n → chars s ≡ c ∷ chars r → length s ≡ len_utf8 c + length r → p c ≡ true → SoFar p old r (n + 1)
 run_turn p old s r c n i e l h = record {
-    run = i.run ++ c ∷ [];
-    text = i.text ∙ ap (λ z. i.run ++ z) e ∙ sym (append_assoc i.run (c ∷ []) (chars r));
-    all = rw (list_all-append p i.run (c ∷ []), i.all, h) refl;
-    len = omega (arith, i.len, l, bytes-append i.run (c ∷ []));
-    count_is = omega (arith, i.count_is, length-snoc i.run);
-  }
+  run = i.run ++ c ∷ [];
+  text = i.text ∙ ap (λ z. i.run ++ z) e ∙ sym (append_assoc i.run (c ∷ []) (chars r));
+  all = rw (list_all-append p i.run (c ∷ []), i.all, h) refl;
+  len = omega (arith, i.len, l, bytes-append i.run (c ∷ []));
+  count_is = omega (arith, i.count_is, length-snoc i.run);
+}
   where
     length-snoc : (xs : List ℕ) → length (xs ++ c ∷ []) ≡ length xs + 1
     length-snoc [] = refl

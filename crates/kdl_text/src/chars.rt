@@ -19,7 +19,13 @@ use std::marker::Model;
 pub fn is_space(c: char) -> bool
     ensures { result ≡ class.is_space c }
 {
-    matches!(c, '\t' | ' ' | '\u{a0}' | '\u{1680}' | '\u{2000}'..='\u{200a}' | '\u{202f}' | '\u{205f}' | '\u{3000}')
+    matches!(
+        c,
+        '\t' | ' ' | '\u{a0}' | '\u{1680}' | '\u{2000}'..='\u{200a}'
+            | '\u{202f}'
+            | '\u{205f}'
+            | '\u{3000}'
+    )
 }
 
 /// Whether the character is part of a newline (KDL 2.0.0, Newline).
@@ -62,7 +68,10 @@ pub fn is_sign(c: char) -> bool
 fn is_mark(c: char) -> bool
     ensures { result ≡ class.is_mark c }
 {
-    matches!(c, '\\' | '/' | '(' | ')' | '{' | '}' | '[' | ']' | ';' | '"' | '#' | '=')
+    matches!(
+        c,
+        '\\' | '/' | '(' | ')' | '{' | '}' | '[' | ']' | ';' | '"' | '#' | '='
+    )
 }
 
 /// Whether the character may stand in a bare string (KDL 2.0.0, Identifier String).
@@ -363,7 +372,11 @@ impl<'a> Cursor<'a> {
         ensures { result ≡ record { rest = chars text.now; at = 0; steps = steps } }
     {
         let _len = text.len();
-        Cursor { rest: text, at: 0, steps }
+        Cursor {
+            rest: text,
+            at: 0,
+            steps,
+        }
     }
 
     /// The count of steps, where the cursor is done.
@@ -387,7 +400,10 @@ impl<'a> Cursor<'a> {
         ensures rest { result.rest ≡ self.now.rest }
         ensures at { result.at ≡ self.now.at }
     {
-        Checkpoint { rest: self.rest, at: self.at }
+        Checkpoint {
+            rest: self.rest,
+            at: self.at,
+        }
     }
 
     /// The character here; none at the end of the text. A step.

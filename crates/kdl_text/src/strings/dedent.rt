@@ -108,7 +108,11 @@ fn push_line(out: &mut String, prefix: &[LineUnit], line: &[LineUnit]) -> Result
 }
 
 /// Appends the values of the lines, joined by line feeds.
-fn push_lines(out: &mut String, prefix: &[LineUnit], units: &[LineUnit]) -> Result<(), StringFailure>
+fn push_lines(
+    out: &mut String,
+    prefix: &[LineUnit],
+    units: &[LineUnit],
+) -> Result<(), StringFailure>
     requires { string_bytes out.old ≡ [] }
     ensures found { OnOk result (Lines prefix.now units.now (chars (string_bytes out.new))) }
     ensures only { (v : List ℕ) → Lines prefix.now units.now v → MatchResult result (λ _. v ≡ chars (string_bytes out.new)) (λ e. e ≡ Memory) }

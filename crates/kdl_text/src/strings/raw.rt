@@ -111,7 +111,11 @@ fn raw_unit(c: char, cursor: &mut Cursor, signs: usize) -> Result<LineUnit, Stri
 
 /// Behind a quote: goes past the quotes and number signs that follow, and appends those that stand before the closing.
 /// Gives whether this was read.
-fn read_quotes(cursor: &mut Cursor, signs: usize, units: &mut Vec<LineUnit>) -> Result<bool, AllocError>
+fn read_quotes(
+    cursor: &mut Cursor,
+    signs: usize,
+    units: &mut Vec<LineUnit>,
+) -> Result<bool, AllocError>
     requires { 0 < signs }
     ensures found { IfOk result (λ closed. (us : List LineUnit) × (units.new.items ≡ units.old.items ++ us)
         × RawPart (closing 3 signs) closed (34 ∷ cursor.old.rest) cursor.new.rest us) }
@@ -131,7 +135,11 @@ fn read_quotes(cursor: &mut Cursor, signs: usize, units: &mut Vec<LineUnit>) -> 
 }
 
 /// The lines up to the first three quotes with so many number signs behind them; the cursor goes past these.
-fn lines_content(alloc: Global, cursor: &mut Cursor, signs: usize) -> Result<Vec<LineUnit>, StringFailure>
+fn lines_content(
+    alloc: Global,
+    cursor: &mut Cursor,
+    signs: usize,
+) -> Result<Vec<LineUnit>, StringFailure>
     requires { 0 < signs }
     ensures found { IfOk result (λ us. RawContent (closing 3 signs) cursor.old.rest cursor.new.rest us.items) }
     ensures only { (r : Text) (us : List LineUnit) → RawContent (closing 3 signs) cursor.old.rest r us →

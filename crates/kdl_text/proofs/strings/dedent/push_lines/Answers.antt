@@ -12,7 +12,7 @@ lines-init c = rw (c.requires, chars-nil) (joins_start _ _)
 pub returns-in-Err-clause-only : goal.returns-in-Err-clause-only
 returns-in-Err-clause-only c v b =
     memory_if c.in-Err.e (λ other.
-      joins_stuck c.args.prefix.now c.args.units.now _ c.lines.rest.now _ c.line_len-len.ensures.len (λ x k. c.in-Err.ensures.failed other x (rw c.split_at.ensures.front k)) c.lines.invariant v b)
+    joins_stuck c.args.prefix.now c.args.units.now _ c.lines.rest.now _ c.line_len-len.ensures.len (λ x k. c.in-Err.ensures.failed other x (rw c.split_at.ensures.front k)) c.lines.invariant v b)
 
 pub returns-in_default-clause-found : goal.returns-in_default-clause-found
 returns-in_default-clause-found c =
@@ -37,5 +37,5 @@ lines-preserved c =
     let bytes = c.in_ok-push.ensures.bytes in
     let pushed = char_pushed (string_bytes c.push_line.new.out) (string_bytes c.push.new.self) 10 (IsUtf8-string_bytes c.push_line.new.out) (IsUtf8-string_bytes c.push.new.self) bytes in
     rw (pushed, out)
-      (joins_more c.args.prefix.now c.args.units.now (chars (string_bytes c.lines.out)) (take n ts) c.in-Some.next.now x (run_inside ts n c.line_len-len.ensures.len) (rw c.split_at.ensures.front at line)
-        (subst (Joins c.args.prefix.now c.args.units.now (chars (string_bytes c.lines.out))) shape c.lines.invariant))
+    (joins_more c.args.prefix.now c.args.units.now (chars (string_bytes c.lines.out)) (take n ts) c.in-Some.next.now x (run_inside ts n c.line_len-len.ensures.len) (rw c.split_at.ensures.front at line)
+    (subst (Joins c.args.prefix.now c.args.units.now (chars (string_bytes c.lines.out))) shape c.lines.invariant))

@@ -86,4 +86,3 @@ returns-then-eat_signs-signs-clause-costs c =
     let whole = sym c.checkpoint-start.ensures.rest ∙ cut.result ∙ ap (λ z. c.slice_between.result ++ z) c.checkpoint-end.ensures.rest in
     let text = did.text ∙ ap (λ k. times k 35 ++ c.eat_signs.new.cursor.rest) c.if-eat_signs-signs.true in
     (line_ends _ _ _ _ _ _ past c.in-Some-eq34.ensures.took c.slice_between.result _ c.in-Some-eq34.field-0-test text did.moves did.costs whole cut.moved).3
-

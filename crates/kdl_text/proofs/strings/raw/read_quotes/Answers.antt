@@ -16,8 +16,7 @@ pub returns-clause-found : goal.returns-clause-found
 returns-clause-found c =
     let q = c.count_quotes-more.ensures in
     let s = c.eat_signs-count.ensures in
-    let still = λ (le : 2 ≤ c.count_quotes-more.result) (e : c.eat_signs-count.result ≡ c.args.signs). elim c.else-more-ge2.either as (λ _. ⊥) [ inl w ↦ w.1 e | inr few ↦ omega arith ] in
-    (
+    let still = λ (le : 2 ≤ c.count_quotes-more.result) (e : c.eat_signs-count.result ≡ c.args.signs). elim c.else-more-ge2.either as (λ _. ⊥) [ inl w ↦ w.1 e | inr few ↦ omega arith ] in (
       _,
       appended c.args.units.now.items c.push_unit.new.units.items c.push_times-2.new.units.items c.push_times-3.new.units.items (literals (times c.count_quotes-more.result 34)) (literals (times c.eat_signs-count.result 35)) (Literal 34) c.in_ok-push_unit.ensures c.in_ok-push_times-2.ensures c.in_ok-push_times-3.ensures,
       open_still c.args.signs c.count_quotes-more.result c.eat_signs-count.result _ _ _ c.requires q.text q.stops s.text s.few s.stops still,
