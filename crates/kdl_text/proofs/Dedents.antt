@@ -251,3 +251,21 @@ dedents_blank ts (suc s) v h newline d =
     let shape : ts ≡ take (suc s - 1) ts ++ (LineEnd ∷ drop (suc s) ts) = sym (take-append-drop (suc s) ts) ∙ ap (λ z. z ++ drop (suc s) ts) (newline (omega arith)) ∙ append_assoc (take (suc s - 1) ts) (LineEnd ∷ []) (drop (suc s) ts) in
     let P : List LineUnit → Type 0 = λ z. Dedents z v in
     (dedents_from (take (suc s - 1) ts) (drop (suc s) ts) v h (subst P shape d)).0
+
+values_same : (p : List LineUnit) (ls : List (List LineUnit)) (vs ws : List Text) → LineValues p ls vs → LineValues p ls ws → vs ≡ ws
+values_same p [] [] [] none none = refl
+values_same p [] [] (w ∷ ws) a b = elim b [ ]
+values_same p [] (v ∷ vs) ws a b = elim a [ ]
+values_same p (l ∷ ls) [] ws a b = elim a [ ]
+values_same p (l ∷ ls) (v ∷ vs) [] a b = elim b [ ]
+values_same p (l ∷ ls) (v ∷ vs) (w ∷ ws) (more a xs) (more b ys) =
+    let here = line_same p l v w a b in
+    let rest = values_same p ls vs ws xs ys in
+    cc
+
+-- lines stand for one text at most
+pub dedents_det : {us : List LineUnit} {v w : Text} → Dedents us v → Dedents us w → v ≡ w
+dedents_det d e =
+    let (same, last) = snoc_same d.lines e.lines d.prefix e.prefix (sym d.text ∙ e.text) in
+    let values : LineValues e.prefix e.lines d.each = rw (← last, ← same) d.values in
+    d.value ∙ ap joined (values_same e.prefix e.lines d.each e.each values e.values) ∙ sym e.value

@@ -39,7 +39,7 @@ unquoted j s d r w e h k (on_one_line q) = no_signs j q.signs d _ h k (sym e ∙
 unquoted j s d r w e h k (on_many_lines q) = no_signs j q.signs d _ h k (sym e ∙ q.text)
 
 -- a line that begins with two quotes
-looks_many : (n : ℕ) (e r w : Text) → 0 < n → RawContent (closing 1 n) (34 ∷ 34 ∷ e) r (literals w) → is_single w ≡ true → ⊥
+pub looks_many : (n : ℕ) (e r w : Text) → 0 < n → RawContent (closing 1 n) (34 ∷ 34 ∷ e) r (literals w) → is_single w ≡ true → ⊥
 looks_many zero e r w some x single = omega arith
 looks_many (suc n) e r [] some (content none h) single = apart 34 35 refl refl (second h)
   where

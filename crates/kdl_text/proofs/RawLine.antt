@@ -39,7 +39,7 @@ unquoted_pass q (c ∷ run) t h =
     let (ne, raw) = unquoted_parts c here in
     more (char (rw ne refl) raw) (unquoted_pass q run t tail)
 
-literals_same : (v w : Text) → literals v ≡ literals w → v ≡ w
+pub literals_same : (v w : Text) → literals v ≡ literals w → v ≡ w
 literals_same [] [] e = refl
 literals_same [] (c ∷ w) e = absurd cc
 literals_same (c ∷ v) [] e = absurd cc
