@@ -6,7 +6,7 @@ use Rattle.std.proofs.lemmas.Str.{IsUtf8-drop, IsCharBoundary-from_take, chars-a
 use Rattle.std.specs.Prelude.{Option, Some, None, IfSome, IfNone}
 use Rattle.std.specs.Str.{chars, IsUtf8}
 use Rattle.kdl_text.specs.Chars.{Text, begins}
-use Rattle.kdl_text.specs.Strings.{StringUnit, escape, spaces, unit_value, is_blank, letter_escape, HexNumber, Run, IsUnit, one_literal, one_letter, one_number, one_gap}
+use Rattle.kdl_text.specs.Strings.{StringUnit, escape, spaces, escaped, unit_value, is_blank, letter_escape, HexNumber, Run, IsUnit, one_literal, one_letter, one_number, one_gap}
 use Rattle.kdl_text.proofs.Units.{backslash, blank_u}
 
 unit_number : {t r : Text} {u : StringUnit} → IsUnit (92 ∷ 117 ∷ 123 ∷ t) r u → (c : ℕ) × HexNumber t r c
@@ -73,6 +73,9 @@ blank_found e s m r h b run = rw h (one_gap b run)
 pub char_none : (e : ℕ) (s m r : Text) (u : StringUnit) → s ≡ e ∷ m → ((r : Text) (u : StringUnit) → IsUnit (92 ∷ e ∷ m) r u → ⊥) → IsUnit (92 ∷ s) r u → ⊥
 char_none e s m r u h none i = none r u (subst (λ z. IsUnit (92 ∷ z) r u) h i)
 
-pub char_found : (e c : ℕ) (s m r bs : Text) {ns : Text} → s ≡ e ∷ m → IsUnit (92 ∷ e ∷ m) r (escape c) → IsUtf8 bs → IsUtf8 ns → ns ≡ bs ++ encode_utf8 c
+pub unit_at : (e : ℕ) (s m r : Text) (u : StringUnit) → s ≡ e ∷ m → IsUnit (92 ∷ e ∷ m) r u → IsUnit (92 ∷ s) r u
+unit_at e s m r u h i = subst (λ z. IsUnit (92 ∷ z) r u) (sym h) i
+
+pub unit_pushed : (o : Option ℕ) (c : ℕ) (s r bs : Text) {ns : Text} → o ≡ Some c → IsUnit (92 ∷ s) r (escaped o) → IsUtf8 bs → IsUtf8 ns → ns ≡ bs ++ encode_utf8 c
     → (u : StringUnit) × IsUnit (92 ∷ s) r u × (chars ns ≡ chars bs ++ unit_value u)
-char_found e c s m r bs {ns} h i text more x = (escape c, subst (λ z. IsUnit (92 ∷ z) r (escape c)) (sym h) i, char_pushed bs ns c text more x)
+unit_pushed o c s r bs {ns} is i text more x = (escape c, subst (λ z. IsUnit (92 ∷ s) r (escaped z)) is i, char_pushed bs ns c text more x)

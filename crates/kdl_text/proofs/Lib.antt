@@ -1,8 +1,13 @@
 pub mod Bares
 mod Blanks
 mod Blocks
+mod Bodies
+pub mod Closings
+mod Contents
 pub mod DecimalReads
 pub mod Decimals
+pub mod Dedents
+pub mod Determined
 pub mod Eats
 pub mod Ends
 mod Escapes
@@ -10,12 +15,19 @@ pub mod Goes
 pub mod Going
 mod Hex
 pub mod Keywords
+pub mod MultiLines
 pub mod Newlines
 pub mod NumberReads
+mod Opened
 mod Quoting
+mod RawBodies
+mod RawLine
+mod RawLines
+pub mod Raws
 pub mod Runs
 pub mod Slices
 pub mod Stars
+pub mod StringEnds
 pub mod Texts
 pub mod TriviaDet
 pub mod TriviaPieces

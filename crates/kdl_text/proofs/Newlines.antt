@@ -40,6 +40,14 @@ lf_is : is_newline_char 10 ≡ true
 unfolding is_newline_char
 lf_is = refl
 
+-- a newline that begins with a carriage return, behind which a line feed is gone past, or with another character
+pub end_lf : (r : Bool) (c : ℕ) (a b : Here) → c ≡ 13 → Ate 10 r a b → Newline (c ∷ a.rest) b.rest
+end_lf true c a b e t = rw (e, t.0) crlf
+end_lf false c a b e (n, l) = rw (e, (stayed_looked a b l).rest) (one cr_is n)
+
+pub end_one : (c : ℕ) (s : Text) → is_newline_char c ≡ true → (c ≡ 13 → ⊥) → Newline (c ∷ s) s
+end_one c s h ne = one h (and_left (c == 13) _ (ne_eqb c 13 ne))
+
 -- what begins with no newline character begins with no newline
 pub no_newline : {c : ℕ} {s t : Text} → is_newline_char c ≡ false → Newline (c ∷ s) t → ⊥
 no_newline x crlf = let y = cr_is in cc

@@ -104,21 +104,3 @@ failed_early f a m k = let l = fewer_bytes m in record { most = omega (arith, k.
 pub failed : {T E : Type 0} (r : Result T E) (A : T → Type 0) (x y : E) → IsErrAnd r (λ e. e ≡ x) → x ≡ y → MatchResult r A (λ e. e ≡ y)
 failed (Ok v) A x y h k = absurd h
 failed (Err e) A x y h k = h ∙ k
-
--- the whole string, with its first quote
-pub quoted_found : {T E : Type 0} (o : Result T E) (f : T → Text) (s m r : Text) → s ≡ 34 ∷ m → IfOk o (λ v. QuotedBody m r (f v)) → IfOk o (λ v. QuotedString s r (f v))
-quoted_found (Ok v) f s m r h q = rw h (quoted q)
-quoted_found (Err e) f s m r h q = tt
-
-inside : {m r w : Text} → QuotedString (34 ∷ m) r w → QuotedBody m r w
-inside (quoted q) = q
-
-pub unquoted : (s m r w : Text) → s ≡ 34 ∷ m → QuotedString s r w → QuotedBody m r w
-unquoted s m r w h q = inside (subst (λ z. QuotedString z r w) h q)
-
-pub quoted_cost : {T E : Type 0} (o : Result T E) (a b e : Here) → Took (Some 34) a b → Moves b e → Costs 3 2 b e → IfOk o (λ _. Costs 24 0 a e)
-quoted_cost o a b e took m k = each o (let x = fewer_bytes m in record { most = omega (arith, k.most, ap bytes took.0, took.2, (len_utf8_bounds 34).0); least = omega (arith, k.least, ap length took.0, took.2) })
-  where
-    each : {T E : Type 0} (o : Result T E) {P : Type 0} → P → IfOk o (λ _. P)
-    each (Ok v) p = p
-    each (Err e) p = tt

@@ -1,6 +1,6 @@
 -- Texts and classes of characters (KDL 2.0.0: Unicode scalar values, spaces, newlines, disallowed code points).
 -- A relation `X t r` says: an X begins the text t and leaves r. So `X (p ++ r) r` says that p is an X before the rest r.
-use Rattle.std.specs.Prelude.{◌≡◌, ℕ, Bool, true, false, not, ◌&&◌, ◌||◌, ◌==◌, nat_le, nat_lt, List, [], ◌∷◌}
+use Rattle.std.specs.Prelude.{◌≡◌, ℕ, zero, suc, Bool, true, false, not, ◌&&◌, ◌||◌, ◌==◌, nat_le, nat_lt, List, [], ◌∷◌}
 
 -- a text is its characters, Unicode scalar values
 abbrev pub Text : Type 0
@@ -44,6 +44,22 @@ is_mark c =
 unfoldable pub is_identifier_char : ℕ → Bool
 is_identifier_char c = not (((is_space c || is_newline_char c) || is_banned c) || is_mark c)
 
+-- a character of a raw string's lines
+unfoldable pub is_raw : ℕ → Bool
+is_raw c = not (is_newline_char c || is_banned c)
+
+-- a character of a raw string's lines that is no quote
+unfoldable pub is_unquoted : ℕ → Bool
+is_unquoted c = not ((c == 34 || is_newline_char c) || is_banned c)
+
+-- a number sign
+abbrev pub is_number_sign : ℕ → Bool
+is_number_sign c = c == 35
+
+-- a quote
+abbrev pub is_quote : ℕ → Bool
+is_quote c = c == 34
+
 -- a character that stands for itself in a quoted string
 unfoldable pub is_literal : ℕ → Bool
 is_literal c = not (((c == 92 || c == 34) || is_newline_char c) || is_banned c)
@@ -57,6 +73,17 @@ begins c (d ∷ s) = d == c
 abbrev pub begins_two : ℕ → ℕ → Text → Bool
 begins_two a b [] = false
 begins_two a b (c ∷ s) = (c == a) && begins b s
+
+-- the text begins with p
+abbrev pub begins_with : Text → Text → Bool
+begins_with [] s = true
+begins_with (c ∷ p) [] = false
+begins_with (c ∷ p) (d ∷ s) = (d == c) && begins_with p s
+
+-- n times the character c
+abbrev pub times : ℕ → ℕ → Text
+times zero c = []
+times (suc n) c = c ∷ times n c
 
 -- the text begins with a character of the class
 abbrev pub starts : (ℕ → Bool) → Text → Bool

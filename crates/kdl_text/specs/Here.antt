@@ -3,9 +3,9 @@ use Rattle.std.specs.Prelude.{◌≡◌, ℕ, ◌+◌, ◌-◌, ◌^◌, min, Li
 use Rattle.std.specs.List.{list_all}
 use Rattle.std.specs.Char.{len_utf8}
 use Rattle.std.specs.Str.{chars}
-use Rattle.kdl_text.specs.Chars.{Text, begins, begins_two, starts, is_space, is_identifier_char, is_literal, is_newline_char}
+use Rattle.kdl_text.specs.Chars.{Text, begins, begins_two, starts, is_space, is_identifier_char, is_literal, is_newline_char, is_unquoted, is_number_sign, is_quote}
 use Rattle.kdl_text.specs.declared.chars.Class.{Class}
-use Rattle.kdl_text.specs.declared.chars.Class.TheVariants.{Space, Identifier, Literal, Line}
+use Rattle.kdl_text.specs.declared.chars.Class.TheVariants.{Space, Identifier, Literal, Line, Unquoted, NumberSign, Quote}
 
 -- what a cursor has before it: the characters to come, where it stands in bytes, and the steps so far
 pub record Here : Type 0 where
@@ -95,6 +95,9 @@ in_class Space c = is_space c
 in_class Identifier c = is_identifier_char c
 in_class Literal c = is_literal c
 in_class Line c = not (is_newline_char c)
+in_class Unquoted c = is_unquoted c
+in_class NumberSign c = is_number_sign c
+in_class Quote c = is_quote c
 
 -- past the longest run of characters of a class, each looked at once, and the one behind it
 pub record Ran (p : ℕ → Bool) (run : Text) (old new : Here) : Type 0 where

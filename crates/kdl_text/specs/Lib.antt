@@ -1,9 +1,12 @@
 pub mod Bare
 pub mod Chars
+pub mod Dedent
 pub mod Failures
 pub mod Here
+pub mod MultiLine
 pub mod NumberReading
 pub mod Numbers
+pub mod Raw
 pub mod Reading
 pub mod Spans
 pub mod Strings

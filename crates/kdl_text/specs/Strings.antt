@@ -11,6 +11,11 @@ pub data StringUnit : Type 0 where
   escape : ℕ → StringUnit
   spaces : StringUnit
 
+-- an escape with its character, or without one an escape of spaces and newlines
+abbrev pub escaped : Option ℕ → StringUnit
+escaped None = spaces
+escaped (Some c) = escape c
+
 -- what a unit stands for
 abbrev pub unit_value : StringUnit → Text
 unit_value (literal c) = c ∷ []

@@ -93,6 +93,23 @@ pub fn is_literal(c: char) -> bool
     !(c == '\\' || c == '"' || is_newline_char(c) || is_banned(c))
 }
 
+/// Whether the character may stand in a line of a raw string (KDL 2.0.0, Raw String).
+#[inline]
+#[tactic(auto, unfolding(crate::specs::Chars::is_raw))]
+pub fn is_raw(c: char) -> bool
+    ensures { result ≡ class.is_raw c }
+{
+    !(is_newline_char(c) || is_banned(c))
+}
+
+#[inline]
+#[tactic(auto, unfolding(crate::specs::Chars::is_unquoted))]
+fn is_unquoted(c: char) -> bool
+    ensures { result ≡ class.is_unquoted c }
+{
+    !(c == '"' || is_newline_char(c) || is_banned(c))
+}
+
 /// A class of characters of which a cursor reads a run by one call.
 #[derive(Clone, Copy, Debug, PartialEq, Eq)]
 pub enum Class {
@@ -104,6 +121,12 @@ pub enum Class {
     Literal,
     /// All but the characters of newlines.
     Line,
+    /// All that may stand in a line of a raw string, but quotes.
+    Unquoted,
+    /// Number signs.
+    NumberSign,
+    /// Quotes.
+    Quote,
 }
 
 impl Class {
@@ -117,6 +140,9 @@ impl Class {
             Class::Identifier => is_identifier_char(c),
             Class::Literal => is_literal(c),
             Class::Line => !is_newline_char(c),
+            Class::Unquoted => is_unquoted(c),
+            Class::NumberSign => c == '#',
+            Class::Quote => c == '"',
         }
     }
 }

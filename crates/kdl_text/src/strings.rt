@@ -6,23 +6,31 @@ ghost use Rattle.kdl_text.specs.Bare as bare;
 ghost use Rattle.kdl_text.specs.Bare.{BareString};
 ghost use Rattle.kdl_text.specs.Chars.{Text, is_digit, is_identifier_char, is_literal, is_newline_char, is_sign, starts, within};
 ghost use Rattle.kdl_text.specs.Here.{looked};
+ghost use Rattle.kdl_text.specs.MultiLine.{IsQuoted};
 ghost use Rattle.kdl_text.specs.Reading.{Moves, Costs};
 ghost use Rattle.kdl_text.specs.Strings as spec;
-ghost use Rattle.kdl_text.specs.Strings.{QuotedBody, QuotedString, StringUnit, IsUnit, HexNumber, Run, unit_value};
+ghost use Rattle.kdl_text.specs.Strings.{QuotedBody, StringUnit, IsUnit, HexNumber, Run, unit_value};
 ghost use Rattle.kdl_text.specs.declared.chars.Class.TheVariants.{Literal};
 ghost use Rattle.kdl_text.specs.declared.strings.StringFault.TheVariants.{Newline, Banned};
-ghost use Rattle.kdl_text.specs.declared.strings.StringFailure.TheVariants.{Memory};
+ghost use Rattle.kdl_text.specs.declared.strings.StringFailure.TheVariants.{Memory, Fault};
 ghost use Rattle.std.specs.Prelude.{◌≡◌, ◌&&◌, ◌||◌, [], not, ℕ, true, false, IsTrue, ◌∷◌, ◌++◌, MatchOption, MatchResult, IfSome, IfNone, IfOk, IfErr, string_bytes};
 ghost use Rattle.std.specs.List.{list_all};
 ghost use Rattle.std.specs.Str.{chars, bytes_eq};
 
+use self::multiline::many_lines;
 use crate::chars::{Class, Cursor, Piece, is_digit, is_newline_char, is_space};
 use std::alloc::{AllocError, Global};
+
+mod dedent;
+mod multiline;
+mod raw;
+
+pub use raw::raw_string;
 
 /// Why a text is no string.
 #[derive(Clone, Copy, Debug, Drop, PartialEq, Eq)]
 pub enum StringFault {
-    /// No quote begins it.
+    /// No quote begins it; of a raw string, no number signs and then a quote.
     Unopened,
     /// The text ends before the closing quote.
     Unclosed,
@@ -32,6 +40,14 @@ pub enum StringFault {
     Newline,
     /// A character that may not stand in a document.
     Banned,
+    /// No newline behind the three quotes that begin a string of many lines.
+    NoNewline,
+    /// The last line of a string of many lines is not spaces alone.
+    BadLastLine,
+    /// A line of a string of many lines that has not the last line's spaces at its front, and is not spaces alone.
+    NoPrefix,
+    /// A raw string of a single line that is one quote or begins with two.
+    LooksMultiLine,
 }
 
 /// Why a string was not read.
@@ -48,6 +64,14 @@ impl From<AllocError> for StringFailure {
 
     fn from(_: AllocError) -> Self {
         StringFailure::Memory
+    }
+}
+
+impl From<StringFault> for StringFailure {
+    ghost from_gives = { λ f e. e ≡ Fault f };
+
+    fn from(fault: StringFault) -> Self {
+        StringFailure::Fault(fault)
     }
 }
 
@@ -203,6 +227,26 @@ fn escaped_char(letter: char, cursor: &mut Cursor) -> Option<char>
     hex_number(cursor)
 }
 
+/// Reads what stands behind a backslash: the character of an escape, or none of spaces and newlines.
+fn escaped_unit(cursor: &mut Cursor) -> Result<Option<char>, StringFault>
+    ensures found { IfOk result (λ o. IsUnit (92 ∷ cursor.old.rest) cursor.new.rest (spec.escaped o)) }
+    ensures only { (r : Text) (u : StringUnit) → IsUnit (92 ∷ cursor.old.rest) r u → IfErr result (λ _. ⊥) }
+    ensures moves { Moves cursor.old cursor.new }
+    ensures costs { Costs 1 1 cursor.old cursor.new }
+{
+    let Some(letter) = cursor.take() else {
+        return Err(StringFault::Unclosed);
+    };
+    if is_blank(letter) {
+        skip_blanks(cursor);
+        return Ok(None);
+    }
+    let Some(c) = escaped_char(letter, cursor) else {
+        return Err(StringFault::BadEscape);
+    };
+    Ok(Some(c))
+}
+
 /// Reads what stands behind a backslash, and appends its character, or nothing for spaces and newlines.
 fn escape(cursor: &mut Cursor, out: &mut String) -> Result<(), StringFailure>
     ensures found { IfOk result (λ _. (u : StringUnit) × IsUnit (92 ∷ cursor.old.rest) cursor.new.rest u
@@ -211,18 +255,13 @@ fn escape(cursor: &mut Cursor, out: &mut String) -> Result<(), StringFailure>
     ensures moves { Moves cursor.old cursor.new }
     ensures costs { Costs 1 1 cursor.old cursor.new }
 {
-    let Some(letter) = cursor.take() else {
-        return Err(StringFailure::Fault(StringFault::Unclosed));
-    };
-    if is_blank(letter) {
-        skip_blanks(cursor);
-        return Ok(());
+    match escaped_unit(cursor)? {
+        Some(c) => {
+            out.push(c)?;
+            Ok(())
+        }
+        None => Ok(()),
     }
-    let Some(c) = escaped_char(letter, cursor) else {
-        return Err(StringFailure::Fault(StringFault::BadEscape));
-    };
-    out.push(c)?;
-    Ok(())
 }
 
 /// The characters from here on that stand for themselves.
@@ -269,20 +308,25 @@ fn quoted_body(alloc: Global, cursor: &mut Cursor) -> Result<String, StringFailu
     }
 }
 
-/// Reads a quoted string of one line (KDL 2.0.0, Quoted String): its value, and the cursor goes behind the closing quote.
+/// Reads a quoted string, of one line or of many (KDL 2.0.0, Quoted String and Multi-line String): its value,
+/// and the cursor goes behind the closing quotes.
 /// A fault: no quoted string begins here. `Memory`: the memory for the value is missing.
 pub fn quoted_string(alloc: Global, cursor: &mut Cursor) -> Result<String, StringFailure>
-    ensures found { IfOk result (λ v. QuotedString cursor.old.rest cursor.new.rest (chars (string_bytes v))) }
-    ensures only { (r w : Text) → QuotedString cursor.old.rest r w →
+    ensures found { IfOk result (λ v. IsQuoted cursor.old.rest cursor.new.rest (chars (string_bytes v))) }
+    ensures only { (r w : Text) → IsQuoted cursor.old.rest r w →
         MatchResult result (λ v. (r ≡ cursor.new.rest) × (w ≡ chars (string_bytes v))) (λ e. e ≡ Memory) }
     ensures moves { Moves cursor.old cursor.new }
-    ensures costs { Costs 3 1 cursor.old cursor.new }
+    ensures costs { Costs 3 5 cursor.old cursor.new }
     ensures cost { IfOk result (λ _. Costs 24 0 cursor.old cursor.new) }
 {
     if !cursor.eat('"') {
         return Err(StringFailure::Fault(StringFault::Unopened));
     }
-    quoted_body(alloc, cursor)
+    if cursor.eat_two('"', '"') {
+        many_lines(alloc, cursor)
+    } else {
+        quoted_body(alloc, cursor)
+    }
 }
 
 #[cfg(test)]
