@@ -6,15 +6,16 @@ use Rattle.kdl_text.specs.Chars.Space.{space as space_char}
 use Rattle.kdl_text.specs.Chars.Newline.{one as newline_char}
 use Rattle.kdl_text.specs.Bare.{BareString, bare}
 use Rattle.kdl_text.specs.Numbers.{WholeNumber, begins_number}
-use Rattle.kdl_text.specs.Strings.{QuotedString}
+use Rattle.kdl_text.specs.MultiLine.{IsQuoted}
 use Rattle.kdl_text.proofs.Bares.{bare_det, bare_begins, bare_shorter}
 use Rattle.kdl_text.proofs.Ends.{End, here, also, end_newline, end_space}
 use Rattle.kdl_text.proofs.Newlines.{newline_det}
-use Rattle.kdl_text.proofs.Units.{quoted_det, quoted_begins, quoted_shorter}
+use Rattle.kdl_text.proofs.Determined.{is_quoted_det, is_quoted_begins, is_quoted_shorter}
 use Rattle.kdl_text.proofs.WholeNumbers.{whole_number_det, whole_number_begins, whole_number_shorter, number_not_bare}
 use Rattle.kdl_entry.specs.Data.{Value, text, integer}
 use Rattle.kdl_entry.specs.FirstTokens.{Token, space, newline, value, semicolon, BeginsToken, a_space, a_newline, a_bare, a_quoted, a_number, a_semicolon, Cuts, one, run}
-use Rattle.kdl_entry.proofs.LeafEnds.{quoted_end, number_end}
+use Rattle.kdl_entry.proofs.LeafEnds.{number_end}
+use Rattle.kdl_text.proofs.StringEnds.{is_quoted_end}
 use Rattle.kdl_entry.proofs.Fronts.{Plain, plain, no_quote, no_semicolon, space_34, space_59, newline_34, newline_59, newline_no_space, number_identifier, bare_front, no_bare_at_end}
 
 -- the kinds of tokens, as their first characters tell them
@@ -80,7 +81,7 @@ kind_is (a_space (space_char x)) = rw x refl
 kind_is (a_newline (crlf {r = r})) = at_newline 13 (10 ∷ r) lf
 kind_is (a_newline (newline_char {c = c} {r = r} x y)) = at_newline c r x
 kind_is (a_bare b) = bare_kind b
-kind_is (a_quoted q) = quote_kind _ (quoted_begins q)
+kind_is (a_quoted q) = quote_kind _ (is_quoted_begins q)
 kind_is (a_number n) = number_kind _ (whole_number_begins n)
 kind_is a_semicolon = rw (space_59, newline_59) refl
 
@@ -92,7 +93,7 @@ unfolding rank
 same (a_space x) (a_space y) e = (space_det x y, refl)
 same (a_newline x) (a_newline y) e = (newline_det x y, refl)
 same (a_bare x) (a_bare y) e = let d = bare_det x y in (d.0, ap (λ v. value (text v)) d.1)
-same (a_quoted x) (a_quoted y) e = let d = quoted_det x y in (d.0, ap (λ v. value (text v)) d.1)
+same (a_quoted x) (a_quoted y) e = let d = is_quoted_det x y in (d.0, ap (λ v. value (text v)) d.1)
 same (a_number x) (a_number y) e = let d = whole_number_det x y in (d.0, ap (λ z. value (integer z)) d.1)
 same a_semicolon a_semicolon e = (refl, refl)
 same _ _ e = absurd cc
@@ -105,7 +106,7 @@ token_shorter (a_space (space_char x)) = omega arith
 token_shorter (a_newline crlf) = omega arith
 token_shorter (a_newline (newline_char x y)) = omega arith
 token_shorter (a_bare b) = bare_shorter b
-token_shorter (a_quoted q) = quoted_shorter q
+token_shorter (a_quoted q) = is_quoted_shorter q
 token_shorter (a_number n) = whole_number_shorter n
 token_shorter a_semicolon = omega arith
 
@@ -116,7 +117,7 @@ pub token_end : {s r : Text} {k : Token} → BeginsToken s k r → End s r
 token_end (a_space x) = end_space x
 token_end (a_newline x) = end_newline x
 token_end (a_bare (bare {w = w} e x y)) = record { piece = w; text = e }
-token_end (a_quoted q) = quoted_end q
+token_end (a_quoted q) = is_quoted_end q
 token_end (a_number n) = number_end n
 token_end a_semicolon = also 59 here
 

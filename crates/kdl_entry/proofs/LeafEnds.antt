@@ -1,23 +1,9 @@
--- What follows a string or a number is an end of the text.
+-- What follows a number or a keyword is an end of the text.
 use Rattle.std.proofs.Common.{◌≡◌, ℕ, ℤ, List, Bool, [], ◌∷◌, ◌++◌, refl}
 use Rattle.kdl_text.specs.Chars.{Text}
 use Rattle.kdl_text.specs.Numbers.{Sign, BaseMark, Digits, Integer, WholeNumber, whole, Decimal, decimal, IsNumber, is_whole, is_decimal, NumberValue, IsKeyword, keyword, keyword_text}
-use Rattle.kdl_text.specs.Strings.{StringUnit, IsUnit, one_literal, one_letter, one_number, one_gap, AreUnits, body, QuotedString, quoted}
 use Rattle.kdl_text.specs.declared.numbers.Keyword.{Keyword}
 use Rattle.kdl_text.proofs.Ends.{End, here, also, then, past}
-
-pub unit_end : {s r : Text} {u : StringUnit} → IsUnit s r u → End s r
-unit_end (one_literal {c = c} x) = also c here
-unit_end (one_letter {e = e} x) = also 92 (also e here)
-unit_end (one_number h) = also 92 (also 117 (also 123 (past (record { piece = h.digits; text = h.text }))))
-unit_end (one_gap {e = e} x gap) = also 92 (also e (record { piece = gap.run; text = gap.text }))
-
-pub units_end : {s r : Text} {us : List StringUnit} → AreUnits s r us → End s r
-units_end AreUnits.none = here
-units_end (AreUnits.more u us) = then (unit_end u) (units_end us)
-
-pub quoted_end : {s r v : Text} → QuotedString s r v → End s r
-quoted_end (quoted (body us e)) = also 34 (past (units_end us))
 
 pub digits_end : {k : ℕ} {s r w : Text} → Digits k s r w → End s r
 digits_end (Digits.stop x) = here

@@ -17,7 +17,7 @@ use Rattle.kdl_text.specs.Here.{Here, Spot, Skips, Ran, first, tail, looked, ste
 use Rattle.kdl_text.specs.NumberReading.{ReadsWhole}
 use Rattle.kdl_text.specs.Numbers.{WholeNumber, whole, begins_number, fits, signed}
 use Rattle.kdl_text.specs.Reading.{Moves, ReadsNewline}
-use Rattle.kdl_text.specs.Strings.{QuotedString}
+use Rattle.kdl_text.specs.MultiLine.{IsQuoted}
 use Rattle.kdl_text.specs.declared.numbers.NumberFault.{NumberFault}
 use Rattle.kdl_text.specs.declared.strings.StringFault.{StringFault}
 use Rattle.kdl_text.specs.declared.strings.StringFailure.{StringFailure}
@@ -26,7 +26,7 @@ use Rattle.kdl_text.proofs.Bares.{bare_begins}
 use Rattle.kdl_text.proofs.Going.{moves_one, moves_then, moves_stayed, stayed_looked, took_from}
 use Rattle.kdl_text.proofs.Slices.{moves_ran}
 use Rattle.kdl_text.proofs.Newlines.{newline_there}
-use Rattle.kdl_text.proofs.Units.{quoted_begins}
+use Rattle.kdl_text.proofs.Determined.{is_quoted_begins}
 use Rattle.kdl_text.proofs.WholeNumbers.{whole_number_begins, number_not_bare}
 use Rattle.kdl_entry.specs.Data.{Value, text, integer}
 use Rattle.kdl_entry.specs.Lexed.{ReadsKind, IsFaultAt, NoToken, SpansChar}
@@ -63,7 +63,7 @@ record Others (c : ℕ) (s : Text) : Type 0 where
   newlines : is_newline_char c ≡ false
   semicolons : c ≡ 59 → ⊥
   bares : (r v : Text) → BareString (c ∷ s) r v → ⊥
-  quotes : (r v : Text) → QuotedString (c ∷ s) r v → ⊥
+  quotes : (r v : Text) → IsQuoted (c ∷ s) r v → ⊥
   numbers : (r : Text) (z : ℤ) → WholeNumber (c ∷ s) r z → ⊥
 
 no_other : {u r : Text} {k : Token} (c : ℕ) (s : Text) → Others c s → BeginsToken u k r → u ≡ c ∷ s → ⊥
@@ -71,15 +71,15 @@ no_other c s o (a_space (space_char {c = d} x)) e = let f : d ≡ c = cc in clas
 no_other c s o (a_newline (crlf {r = r})) e = let f : 13 ≡ c = cc in clash (is_newline_char 13) lf_cr (ap is_newline_char f ∙ o.newlines)
 no_other c s o (a_newline (newline_char {c = d} x y)) e = let f : d ≡ c = cc in clash (is_newline_char d) x (ap is_newline_char f ∙ o.newlines)
 no_other {r = r} c s o (a_bare {v = v} b) e = o.bares r v (subst (λ (z : Text). BareString z r v) e b)
-no_other {r = r} c s o (a_quoted {v = v} q) e = o.quotes r v (subst (λ (z : Text). QuotedString z r v) e q)
+no_other {r = r} c s o (a_quoted {v = v} q) e = o.quotes r v (subst (λ (z : Text). IsQuoted z r v) e q)
 no_other {r = r} c s o (a_number {z = z} m) e = o.numbers r z (subst (λ (y : Text). WholeNumber y r z) e m)
 no_other c s o a_semicolon e = o.semicolons cc
 
 alone : (c : ℕ) (s : Text) → Others c s → NoToken (c ∷ s)
 alone c s o = record { begun = λ e. cc; none = λ r k t. no_other c s o t refl }
 
-no_quoted : (c : ℕ) (s r v : Text) → (c ≡ 34 → ⊥) → QuotedString (c ∷ s) r v → ⊥
-no_quoted c s r v n q = n (eqb-true c 34 (quoted_begins q))
+no_quoted : (c : ℕ) (s r v : Text) → (c ≡ 34 → ⊥) → IsQuoted (c ∷ s) r v → ⊥
+no_quoted c s r v n q = n (eqb-true c 34 (is_quoted_begins q))
 
 no_number : (s r : Text) (z : ℤ) → begins_number s ≡ false → WholeNumber s r z → ⊥
 no_number s r z h m = clash (begins_number s) (whole_number_begins m) h
@@ -124,10 +124,10 @@ pub no_bare_here : (s r : Text) (place : Spot) (e : ReadFailure) → starts is_i
 no_bare_here s r place e h k n x = fault_here s r place e (bare_alone s h k n) x
 
 -- a quoted string, or none
-pub a_quoted_here : (s r v : Text) → QuotedString s r v → Cuts s (value (text v)) r
+pub a_quoted_here : (s r v : Text) → IsQuoted s r v → Cuts s (value (text v)) r
 a_quoted_here s r v q = one (a_quoted q)
 
-quoted_alone : (s : Text) → begins 34 s ≡ true → ((r v : Text) → QuotedString s r v → ⊥) → NoToken s
+quoted_alone : (s : Text) → begins 34 s ≡ true → ((r v : Text) → IsQuoted s r v → ⊥) → NoToken s
 quoted_alone [] h n = absurd cc
 quoted_alone (c ∷ s) h n = let e : c ≡ 34 = eqb-true c 34 h in
     alone c s (record {
@@ -139,7 +139,7 @@ quoted_alone (c ∷ s) h n = let e : c ≡ 34 = eqb-true c 34 h in
       numbers = λ r z m. no_quote c (number_identifier c s (whole_number_begins m)) e;
     })
 
-pub no_quoted_here : (s r : Text) (place : Spot) (f : StringFault) (e : ReadFailure) → begins 34 s ≡ true → ((r w : Text) → QuotedString s r w → StringFaulty f ≡ StringMemory) → IsFaultAt place e → ReadsKind s place (Err e) r
+pub no_quoted_here : (s r : Text) (place : Spot) (f : StringFault) (e : ReadFailure) → begins 34 s ≡ true → ((r w : Text) → IsQuoted s r w → StringFaulty f ≡ StringMemory) → IsFaultAt place e → ReadsKind s place (Err e) r
 no_quoted_here s r place f e h n x = fault_here s r place e (quoted_alone s h (λ r v q. let z = n r v q in absurd cc)) x
 
 -- the end of the text, and tokens of one character

@@ -1,7 +1,8 @@
 -- Strings in any spelling, numbers and keywords: a text begins with one at most, and what each begins with.
-use Rattle.std.proofs.Common.{◌≡◌, ℕ, ◌<◌, ◌≤◌, Bool, true, false, ◌||◌, ◌==◌, [], ◌∷◌, ◌++◌, length, refl, sym, subst, ap, ◌∙◌, arith, length-append}
+use Rattle.std.proofs.Common.{◌≡◌, ℕ, zero, suc, ◌<◌, ◌≤◌, Bool, true, false, ◌||◌, ◌==◌, [], ◌∷◌, ◌++◌, length, refl, sym, subst, ap, ◌∙◌, arith, length-append}
 use Rattle.std.proofs.lemmas.Bool.{eqb-true}
-use Rattle.kdl_text.specs.Chars.{Text, is_identifier_char, starts}
+use Rattle.kdl_text.specs.Chars.{Text, is_identifier_char, starts, times}
+use Rattle.kdl_text.specs.Raw.{IsRaw, RawString, MultiLineRawString}
 use Rattle.kdl_text.specs.Bare.{BareString, bare as bare_text}
 use Rattle.kdl_text.specs.Numbers.{IsNumber, NumberValue, IsKeyword, keyword as a_keyword, keyword_text, begins_number}
 use Rattle.kdl_text.specs.declared.numbers.Keyword.{Keyword}
@@ -9,13 +10,14 @@ use Rattle.kdl_text.specs.declared.numbers.Keyword.TheVariants.{True, False, Nul
 use Rattle.kdl_text.proofs.Bares.{bare_det, bare_begins, bare_shorter}
 use Rattle.kdl_text.proofs.Decimals.{number_det, number_shorter, number_begins}
 use Rattle.kdl_text.proofs.Ends.{End}
-use Rattle.kdl_text.proofs.Keywords.{keyword_det}
-use Rattle.kdl_text.proofs.Units.{quoted_det, quoted_begins, quoted_shorter}
+use Rattle.kdl_text.proofs.Keywords.{keyword_det, keyword_begins}
+use Rattle.kdl_text.proofs.Determined.{is_quoted_det, is_quoted_begins, is_quoted_shorter, is_raw_det, is_raw_begins, is_raw_shorter}
 use Rattle.kdl_text.proofs.WholeNumbers.{number_not_bare}
 use Rattle.kdl_entry.specs.Data.{Value}
-use Rattle.kdl_entry.specs.Entries.{StringPiece, bare, quoted, PlainPiece, number, keyword, number_value, keyword_value}
+use Rattle.kdl_entry.specs.Entries.{StringPiece, bare, quoted, raw, PlainPiece, number, keyword, number_value, keyword_value}
 use Rattle.kdl_entry.proofs.Fronts.{plain, no_quote, number_identifier}
-use Rattle.kdl_entry.proofs.LeafEnds.{quoted_end, any_number_end, keyword_end}
+use Rattle.kdl_entry.proofs.LeafEnds.{any_number_end, keyword_end}
+use Rattle.kdl_text.proofs.StringEnds.{is_quoted_end, is_raw_end}
 
 -- an identifier character, a quote or a number sign
 abbrev pub begins_piece : ℕ → Bool
@@ -61,6 +63,10 @@ sign_mark : is_identifier_char 35 ≡ false
 unfolding is_identifier_char Rattle.kdl_text.specs.Chars.is_space Rattle.kdl_text.specs.Chars.is_newline_char Rattle.kdl_text.specs.Chars.is_banned Rattle.kdl_text.specs.Chars.is_mark
 sign_mark = refl
 
+quote_no_identifier : is_identifier_char 34 ≡ false
+unfolding is_identifier_char Rattle.kdl_text.specs.Chars.is_space Rattle.kdl_text.specs.Chars.is_newline_char Rattle.kdl_text.specs.Chars.is_banned Rattle.kdl_text.specs.Chars.is_mark
+quote_no_identifier = refl
+
 sign_identifier : (s : Text) → starts (λ c. c == 35) s ≡ true → starts is_identifier_char s ≡ true → ⊥
 sign_identifier [] h k = cc
 sign_identifier (c ∷ s) h k = let e : is_identifier_char c ≡ is_identifier_char 35 = ap is_identifier_char (eqb-true c 35 h) in let m = sign_mark in cc
@@ -72,30 +78,53 @@ quote_sign (c ∷ s) h k = let a : c ≡ 34 = eqb-true c 34 h in let b : c ≡ 3
 -- a text begins with one string at most
 pub string_det : {s r t v w : Text} → StringPiece s r v → StringPiece s t w → (r ≡ t) × (v ≡ w)
 string_det (bare x) (bare y) = bare_det x y
-string_det (quoted x) (quoted y) = quoted_det x y
-string_det (bare x) (quoted y) = absurd (quote_identifier _ (quoted_begins y) (bare_begins x))
-string_det (quoted x) (bare y) = absurd (quote_identifier _ (quoted_begins x) (bare_begins y))
+string_det (quoted x) (quoted y) = is_quoted_det x y
+string_det (bare x) (quoted y) = absurd (quote_identifier _ (is_quoted_begins y) (bare_begins x))
+string_det (raw x) (raw y) = is_raw_det x y
+string_det (bare x) (raw y) = absurd (sign_identifier _ (is_raw_begins y) (bare_begins x))
+string_det (raw x) (bare y) = absurd (sign_identifier _ (is_raw_begins x) (bare_begins y))
+string_det {s = s} (quoted x) (raw y) = absurd (quote_sign s (is_quoted_begins x) (is_raw_begins y))
+string_det {s = s} (raw x) (quoted y) = absurd (quote_sign s (is_quoted_begins y) (is_raw_begins x))
+string_det (quoted x) (bare y) = absurd (quote_identifier _ (is_quoted_begins x) (bare_begins y))
 
 pub string_begins : {s r v : Text} → StringPiece s r v → starts begins_piece s ≡ true
 string_begins (bare x) = at_identifier _ (bare_begins x)
-string_begins (quoted x) = at_quote _ (quoted_begins x)
+string_begins (quoted x) = at_quote _ (is_quoted_begins x)
+string_begins (raw x) = at_sign _ (is_raw_begins x)
 
 pub string_end : {s r v : Text} → StringPiece s r v → End s r
 string_end (bare (bare_text {w = w} e x y)) = record { piece = w; text = e }
-string_end (quoted x) = quoted_end x
+string_end (quoted x) = is_quoted_end x
+string_end (raw x) = is_raw_end x
 
 pub string_shorter : {s r v : Text} → StringPiece s r v → length r < length s
 string_shorter (bare x) = bare_shorter x
-string_shorter (quoted x) = quoted_shorter x
+string_shorter (quoted x) = is_quoted_shorter x
+string_shorter (raw x) = is_raw_shorter x
 
 -- no text begins with a string and a number, or with a string and a keyword
 string_number : {s r t v : Text} {n : NumberValue} → StringPiece s r v → IsNumber s t n → ⊥
 string_number (bare x) n = number_not_bare (number_begins n) x
-string_number {s = s} (quoted x) n = quote_identifier s (quoted_begins x) (number_front s (number_begins n))
+string_number {s = s} (raw x) n = sign_identifier s (is_raw_begins x) (number_front s (number_begins n))
+string_number {s = s} (quoted x) n = quote_identifier s (is_quoted_begins x) (number_front s (number_begins n))
+
+-- behind the first number sign of a raw string stands another one, or a quote
+raw_second : (n : ℕ) (b : Text) → 0 < n → (c : ℕ) (t : Text) → times n 35 ++ 34 ∷ b ≡ 35 ∷ c ∷ t → is_identifier_char c ≡ false
+raw_second zero b h c t e = absurd (omega arith)
+raw_second (suc zero) b h c t e = let d : 34 ≡ c = cc in ap is_identifier_char (sym d) ∙ quote_no_identifier
+raw_second (suc (suc n)) b h c t e = let d : 35 ≡ c = cc in ap is_identifier_char (sym d) ∙ sign_mark
+
+raw_keyword : {s r t v : Text} {k : Keyword} → IsRaw s r v → IsKeyword s t k → ⊥
+raw_keyword x k = go x (keyword_begins k)
+  where
+    go : {s r v : Text} → IsRaw s r v → (c : ℕ) × (u : Text) × (s ≡ 35 ∷ c ∷ u) × (is_identifier_char c ≡ true) → ⊥
+    go (IsRaw.on_one_line x) (c, u, e, h) = let z = raw_second x.signs x.body x.some c u (sym x.text ∙ e) in cc
+    go (IsRaw.on_many_lines x) (c, u, e, h) = let z = raw_second x.signs (34 ∷ 34 ∷ x.body) x.some c u (sym x.text ∙ e) in cc
 
 string_keyword : {s r t v : Text} {k : Keyword} → StringPiece s r v → IsKeyword s t k → ⊥
 string_keyword {s = s} (bare x) k = sign_identifier s (keyword_front k) (bare_begins x)
-string_keyword {s = s} (quoted x) k = quote_sign s (quoted_begins x) (keyword_front k)
+string_keyword (raw x) k = raw_keyword x k
+string_keyword {s = s} (quoted x) k = quote_sign s (is_quoted_begins x) (keyword_front k)
 
 pub string_or_plain : {s r t v : Text} {w : Value} → StringPiece s r v → PlainPiece s t w → ⊥
 string_or_plain p (number n e) = string_number p n

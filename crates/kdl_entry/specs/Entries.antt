@@ -4,16 +4,18 @@ use Rattle.std.specs.Prelude.{◌≡◌, Bool, true, false, [], ◌∷◌, Optio
 use Rattle.kdl_text.specs.Chars.{Text, Star, Plus}
 use Rattle.kdl_text.specs.Bare.{BareString}
 use Rattle.kdl_text.specs.Numbers.{NumberValue, whole_value, decimal_text, IsNumber, IsKeyword, keyword_text}
-use Rattle.kdl_text.specs.Strings.{QuotedString}
+use Rattle.kdl_text.specs.MultiLine.{IsQuoted}
+use Rattle.kdl_text.specs.Raw.{IsRaw}
 use Rattle.kdl_text.specs.Trivia.{NodeSpace, LineSpace, Slashdash, ValueEnd}
 use Rattle.kdl_text.specs.declared.numbers.Keyword.{Keyword}
 use Rattle.kdl_text.specs.declared.numbers.Keyword.TheVariants.{True, False, Null, Infinity, NegativeInfinity, NotANumber}
 use Rattle.kdl_entry.specs.Data.{Value, text, integer, float, truth, null, Entry}
 
--- one of the spellings of a string
+-- one of the spellings of a string: bare, quoted or raw, on one line or many
 pub data StringPiece : Text → Text → Text → Type 0 where
   bare : {s r v : Text} → BareString s r v → StringPiece s r v
-  quoted : {s r v : Text} → QuotedString s r v → StringPiece s r v
+  quoted : {s r v : Text} → IsQuoted s r v → StringPiece s r v
+  raw : {s r v : Text} → IsRaw s r v → StringPiece s r v
 
 -- a string, and a value end behind it
 pub data IsString (wide : Bool) : Text → Text → Text → Type 0 where

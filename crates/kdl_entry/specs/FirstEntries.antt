@@ -3,7 +3,7 @@
 use Rattle.std.specs.Prelude.{◌≡◌, ℤ, [], ◌∷◌, Option, None}
 use Rattle.kdl_text.specs.Chars.{Text, Space, Newline}
 use Rattle.kdl_text.specs.Bare.{BareString}
-use Rattle.kdl_text.specs.Strings.{QuotedString}
+use Rattle.kdl_text.specs.MultiLine.{IsQuoted}
 use Rattle.kdl_text.specs.Numbers.{WholeNumber}
 use Rattle.kdl_entry.specs.Data.{Value, text, integer, Entry}
 
@@ -17,7 +17,7 @@ pub data ValueEnd : Text → Type 0 where
 -- a bare or a quoted string, and a value end behind it
 pub data IsString : Text → Text → Text → Type 0 where
   bare : {s r v : Text} → BareString s r v → ValueEnd r → IsString s r v
-  quoted : {s r v : Text} → QuotedString s r v → ValueEnd r → IsString s r v
+  quoted : {s r v : Text} → IsQuoted s r v → ValueEnd r → IsString s r v
 
 -- a string or a whole number
 pub data IsValue : Text → Text → Value → Type 0 where

@@ -3,7 +3,7 @@
 use Rattle.std.specs.Prelude.{ℤ, [], ◌∷◌}
 use Rattle.kdl_text.specs.Chars.{Text, Space, Newline, Plus}
 use Rattle.kdl_text.specs.Bare.{BareString}
-use Rattle.kdl_text.specs.Strings.{QuotedString}
+use Rattle.kdl_text.specs.MultiLine.{IsQuoted}
 use Rattle.kdl_text.specs.Numbers.{WholeNumber}
 use Rattle.kdl_entry.specs.Data.{Value, text, integer}
 
@@ -19,7 +19,7 @@ pub data BeginsToken : Text → Token → Text → Type 0 where
   a_space : {s r : Text} → Space s r → BeginsToken s space r
   a_newline : {s r : Text} → Newline s r → BeginsToken s newline r
   a_bare : {s r v : Text} → BareString s r v → BeginsToken s (value (text v)) r
-  a_quoted : {s r v : Text} → QuotedString s r v → BeginsToken s (value (text v)) r
+  a_quoted : {s r v : Text} → IsQuoted s r v → BeginsToken s (value (text v)) r
   a_number : {s r : Text} {z : ℤ} → WholeNumber s r z → BeginsToken s (value (integer z)) r
   a_semicolon : {r : Text} → BeginsToken (59 ∷ r) semicolon r
 
