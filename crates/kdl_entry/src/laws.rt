@@ -19,8 +19,7 @@ use std::hash::{Hash, Hasher};
 pub fn spelled_reads_back()
     ensures alone { SpelledReadsBack }
     ensures before { SpelledReadsBackBefore }
-{
-}
+{}
 
 /// Two floats are equal exactly where their texts are.
 pub fn equal_floats(a: &KdlFloat, b: &KdlFloat) -> bool
@@ -87,8 +86,7 @@ pub fn compare_values(a: &KdlValue, b: &KdlValue) -> Ordering
 /// The order of values is total.
 pub fn values_are_ordered()
     ensures { IsTotalOrder ⟦<KdlValue as Ord>⟧.cmp }
-{
-}
+{}
 
 /// Equal floats leave equal hashers equal.
 pub fn hash_floats<H: Hasher>(a: &KdlFloat, b: &KdlFloat, one: &mut H, other: &mut H)
