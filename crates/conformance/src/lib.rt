@@ -11,6 +11,8 @@ mod documents;
 #[cfg(test)]
 mod errors;
 #[cfg(test)]
+mod text;
+#[cfg(test)]
 mod values;
 
 /// The printed parse of a text, which is the text.

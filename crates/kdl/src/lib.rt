@@ -8,7 +8,7 @@ mod parser;
 mod print;
 
 pub use document::{KdlDocument, KdlDocumentFormat};
-pub use kdl_entry::{FloatFailure, KdlEntry, KdlEntryFormat, KdlFloat, KdlIdentifier, KdlValue};
-pub use kdl_text::error::{KdlDiagnostic, KdlError, ParseFailure};
+pub use kdl_entry::{KdlEntry, KdlEntryFormat, KdlFloat, KdlIdentifier, KdlValue};
+pub use kdl_text::error::{FloatFailure, KdlDiagnostic, KdlError, ParseFailure};
 pub use kdl_text::span::{Severity, SourceSpan};
 pub use node::{KdlNode, KdlNodeFormat};

@@ -11,7 +11,7 @@ pub mod tokens;
 mod value;
 
 pub use entry::{KdlEntry, KdlEntryFormat};
-pub use float::{FloatFailure, KdlFloat};
+pub use float::KdlFloat;
 pub use identifier::KdlIdentifier;
 pub use print::{write_char, write_text, write_type};
 pub use value::KdlValue;
