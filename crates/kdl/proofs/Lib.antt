@@ -1,12 +1,15 @@
 pub mod Answering
+pub mod Complete
+pub mod Control
+pub mod Ends
 pub mod FirstComplete
 pub mod FirstPlaces
+pub mod FirstSound
 pub mod Printed
 pub mod Printing
 pub mod Refusals
 pub mod RunsLemmas
 pub mod Same
-pub mod FirstSound
 pub mod Trees
 pub mod Turns
 pub mod Views

@@ -1,4 +1,5 @@
 pub mod Cutting
+pub mod EntryEnds
 pub mod Equality
 pub mod Escapes
 pub mod FirstCutting
