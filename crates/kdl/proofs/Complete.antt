@@ -20,7 +20,7 @@ use Rattle.kdl.specs.Grammar.{Terminator, IsNode, named, AfterName, kept_entry, 
 use Rattle.kdl.specs.Laid.{LaidEntries, no_entry, an_entry, LaidNode, laid_node, LaidChildren, no_block as laid_no_block, a_block, LaidNodes, no_node, a_node, LaidContent, without_nodes, with_nodes, LaidDocument, with_mark, content_span}
 use Rattle.kdl.specs.Places.{DroppedBlock, AfterChildren, after as after_children, BeforeChildren, before as before_children}
 use Rattle.kdl.specs.Tree.{Node, node, Children, no_children, children, Document, document, Nodes, none, first, join, node_data, children_data, document_data, nodes_data}
-use Rattle.kdl.specs.Machine.{between, TypeParts, KeyParts, Under, Kept, Slot, no_name, for_name, no_value, for_value, Pending, pending, Spot, fresh, spaced, later, Phase, gap, marked, type_open, type_name, type_done, in_node, property, entry_mark, block_mark, kept, kept_mark, Frame, in_block, in_dropped, in_later, State, at, origin, moved, name_slot, entry_slot, keyed, takes_value, type_of, before_name, after_name, behind_type, key_of, identifier_at, entry_at, with_entry, filled, node_at, closed, closed_kept, ended, inside, content_at, with_block, popped, spaced_of, mark_of, from_spaced, where_value, given, worded, typed, step, finish, initial, Runs, stops, reads, Answers}
+use Rattle.kdl.specs.Machine.{between, TypeParts, KeyParts, Under, Kept, Slot, no_name, for_name, no_value, for_value, Pending, pending, Spot, fresh, spaced, later, Phase, gap, marked, type_open, type_name, type_done, in_node, property, entry_mark, block_mark, kept, kept_mark, Frame, in_block, in_dropped, in_later, State, at, origin, moved, name_slot, entry_slot, keyed, type_of, before_name, after_name, behind_type, key_of, identifier_at, entry_at, with_entry, filled, node_at, closed, closed_kept, ended, inside, content_at, with_block, popped, spaced_of, mark_of, from_spaced, where_value, given, worded, typed, step, finish, initial, Runs, stops, reads, Answers}
 use Rattle.kdl.proofs.Ends.{cut, end_terminator, end_gap, end_dropped_block, place}
 
 pub runs_det : {whole : Text} {x y : Document} {st : State} {s : Text} → Runs whole x st s → Runs whole y st s → x ≡ y
@@ -75,21 +75,11 @@ abbrev slot_of : Slot → Option KeyParts → Slot
 slot_of c None = c
 slot_of c (Some k) = keyed c k
 
-keyed_takes : (c : Slot) (k : KeyParts) → takes_value c ≡ true → takes_value (keyed c k) ≡ true
-keyed_takes no_name k e = e
-keyed_takes (for_name q a) k e = e
-keyed_takes (no_value u) k e = e
-keyed_takes (for_value u q a k') k e = e
-
 moved_twice : (c : Slot) (k : KeyParts) (from a r : Text) → moved (keyed c k) from r ≡ moved (keyed c k) (moved c from a) r
 moved_twice no_name k from a r = refl
 moved_twice (for_name q s) k from a r = refl
 moved_twice (no_value u) k from a r = refl
 moved_twice (for_value u q s k') k from a r = refl
-
-entry_takes : (u : Option Under) (q a : Text) → takes_value (entry_slot u q a) ≡ true
-entry_takes None q a = refl
-entry_takes (Some u) q a = refl
 
 slot_between : (u : Option Under) (from p s : Text) → entry_slot u (between p s) s ≡ entry_slot u (between (origin u from p) s) s
 slot_between None from p s = refl
@@ -141,21 +131,20 @@ module _ (whole : Text) where
   read_string out (a_string' p e) f a = reads (t_string p) f a
 
   -- a state that takes a string here, or a type first, and a value where one may stand
-  record Takes (st : State) (s : Text) (c : Slot) (l : Option Nodes) (fs : List Frame) (from : Text) : Type 0 where
+  record Takes (b : Bool) (st : State) (s : Text) (c : Slot) (l : Option Nodes) (fs : List Frame) (from : Text) : Type 0 where
     to_string : (v r : Text) → (o : Option Pending) × (step whole st (string v) s r ≡ Some (given whole c None (text v) o l fs from s r))
-    to_value : takes_value c ≡ true → (v : Value) (r : Text) → step whole st (value v) s r ≡ Some (given whole c None v None l fs from s r)
-    to_left : (r : Text) → step whole st left s r ≡ Some (at (type_open c r) l fs from)
+    to_value : b ≡ true → (v : Value) (r : Text) → step whole st (value v) s r ≡ Some (given whole c None v None l fs from s r)
+    to_left : (r : Text) → step whole st left s r ≡ Some (at (type_open b c r) l fs from)
 
-  read_fill : (out : Document) → {b : Bool} {s r : Text} {v : Value} → Fills b s r v → (st : State) (c : Slot) (l : Option Nodes) (fs : List Frame) (from : Text) → (b ≡ true → takes_value c ≡ true) → Takes st s c l fs from
+  read_fill : (out : Document) → {b : Bool} {s r : Text} {v : Value} → Fills b s r v → (st : State) (c : Slot) (l : Option Nodes) (fs : List Frame) (from : Text) → Takes b st s c l fs from
       → ((o : Option Pending) → Runs whole out (given whole c None v o l fs from s r) r) → Runs whole out st s
-  read_fill out {r = r} (by_string {v = v} d) st c l fs from h k a = let q = k.to_string v r in read_string out d q.1 (a q.0)
-  read_fill out {r = r} (by_plain {v = v} p e) st c l fs from h k a = reads (t_value p) (k.to_value (h refl) v r) (a None)
+  read_fill out {r = r} (by_string {v = v} d) st c l fs from k a = let q = k.to_string v r in read_string out d q.1 (a q.0)
+  read_fill out {r = r} (by_plain {v = v} p e) st c l fs from k a = reads (t_value p) (k.to_value refl v r) (a None)
 
-  read_done : (out : Document) → {b' : Bool} {s r : Text} {v : Value} → Fills b' s r v → (c : Slot) (b : Text) (i : Identifier) (d a : Text) (l : Option Nodes) (fs : List Frame) (from : Text) → (b' ≡ true → takes_value c ≡ true)
-      → Runs whole out (given whole c (typed b i d a s) v None l fs from s r) r → Runs whole out (at (type_done c b i d a) l fs from) s
-  read_done out (by_string d') c b i d a l fs from h x = read_string out d' refl x
-  read_done out {s = s} {r = r} (by_plain {v = v} p e) c b i d a l fs from h x =
-      reads (t_value p) (ap (λ (z : Bool). where_value z (given whole c (typed b i d a s) v None l fs from s r)) (h refl)) x
+  read_done : (out : Document) → {b : Bool} {s r : Text} {v : Value} → Fills b s r v → (c : Slot) (q : Text) (i : Identifier) (d a : Text) (l : Option Nodes) (fs : List Frame) (from : Text)
+      → Runs whole out (given whole c (typed q i d a s) v None l fs from s r) r → Runs whole out (at (type_done b c q i d a) l fs from) s
+  read_done out (by_string d') c q i d a l fs from x = read_string out d' refl x
+  read_done out (by_plain p e) c q i d a l fs from x = reads (t_value p) refl x
 
   spelled_at : {s r v : Text} → IsString true s r v → LaidIdentifier true whole (identifier_at whole v s r) s r
   spelled_at d = spelled (place d (end_string d)) refl
@@ -164,21 +153,21 @@ module _ (whole : Text) where
     type : Option TypeParts
     laid : LaidType true whole (type_of type) (before_name type) (after_name type) (behind_type type) s t
     same : option_map (λ (i : Identifier). i.value) (type_of type) ≡ y
-    runs : (out : Document) → (st : State) (c : Slot) (l : Option Nodes) (fs : List Frame) (from : Text) → (b ≡ true → takes_value c ≡ true) → Takes st s c l fs from
+    runs : (out : Document) → (st : State) (c : Slot) (l : Option Nodes) (fs : List Frame) (from : Text) → Takes b st s c l fs from
       → ((o : Option Pending) → Runs whole out (given whole c type v o l fs from t r) r) → Runs whole out st s
 
   read_filled : {b : Bool} {s t r : Text} {y : Option Text} {v : Value} → MaybeType true s t y → Fills b t r v → ReadFilled b s t r y v
-  read_filled untyped d = record { type = None; laid = no_type; same = refl; runs = λ out st c l fs from h k a. read_fill out d st c l fs from h k a }
-  read_filled {t = t} (a_typed {v = y} (parens {s = s1} {t = s2} {u = s3} {r = s4} ss u us) vs) d =
+  read_filled untyped d = record { type = None; laid = no_type; same = refl; runs = λ out st c l fs from k a. read_fill out d st c l fs from k a }
+  read_filled {b = b} {t = t} (a_typed {v = y} (parens {s = s1} {t = s2} {u = s3} {r = s4} ss u us) vs) d =
       let i = identifier_at whole y s2 s3 in
       record {
         type = typed (between s1 s2) i (between s3 (41 ∷ s4)) s4 t;
         laid = a_type (place ss (end_spaces ss)) (spelled_at u) (place us (end_spaces us)) (place vs (end_spaces vs));
         same = refl;
-        runs = λ out st c l fs from h k a.
-          reads t_left (k.to_left s1) (stay out (at (type_open c s1) l fs from) (λ s r. refl) ss (read_string out u refl
-          (stay out (at (type_name c (between s1 s2) i s3) l fs from) (λ s r. refl) us (reads t_right refl
-          (stay out (at (type_done c (between s1 s2) i (between s3 (41 ∷ s4)) s4) l fs from) (λ s r. refl) vs (read_done out d c (between s1 s2) i (between s3 (41 ∷ s4)) s4 l fs from h (a None)))))))
+        runs = λ out st c l fs from k a.
+          reads t_left (k.to_left s1) (stay out (at (type_open b c s1) l fs from) (λ s r. refl) ss (read_string out u refl
+          (stay out (at (type_name b c (between s1 s2) i s3) l fs from) (λ s r. refl) us (reads t_right refl
+          (stay out (at (type_done b c (between s1 s2) i (between s3 (41 ∷ s4)) s4) l fs from) (λ s r. refl) vs (read_done out d c (between s1 s2) i (between s3 (41 ∷ s4)) s4 l fs from (a None)))))))
       }
 
   record ReadItem (s r : Text) (e : entry_data'.Entry) : Type 0 where
@@ -188,8 +177,8 @@ module _ (whole : Text) where
     here : Text
     laid : (leading : Text) (span : SourceSpan) → LaidItem true whole leading [] span (entry_at span leading key type val (between here r)) s r
     same : record { key = option_map (λ (i : Identifier). i.value) (key_of key); ty = option_map (λ (i : Identifier). i.value) (type_of type); value = val } ≡ e
-    runs : (out : Document) → (st : State) (c : Slot) (l : Option Nodes) (fs : List Frame) (from : Text) → takes_value c ≡ true → ((v r : Text) → step whole st (string v) s r ≡ Some (worded whole c v l fs from s r))
-      → ((v : Value) (r : Text) → step whole st (value v) s r ≡ Some (given whole c None v None l fs from s r)) → ((r : Text) → step whole st left s r ≡ Some (at (type_open c r) l fs from))
+    runs : (out : Document) → (st : State) (c : Slot) (l : Option Nodes) (fs : List Frame) (from : Text) → ((v r : Text) → step whole st (string v) s r ≡ Some (worded whole c v l fs from s r))
+      → ((v : Value) (r : Text) → step whole st (value v) s r ≡ Some (given whole c None v None l fs from s r)) → ((r : Text) → step whole st left s r ≡ Some (at (type_open true c r) l fs from))
       → ((o : Option Pending) → Runs whole out (given whole (slot_of c key) type val o l fs from here r) r) → Runs whole out st s
 
   read_equals : (out : Document) → {s u : Text} {h : Option Under} {c : Slot} {k : Identifier} {a : Text} {l : Option Nodes} {fs : List Frame} {from : Text} → Star NodeSpace s (61 ∷ u) → Runs whole out (at (property c k (between a (61 ∷ u)) u) l fs from) u → Runs whole out (at (in_node h (fresh (Some (pending c k a)))) l fs from) s
@@ -203,7 +192,7 @@ module _ (whole : Text) where
         key = None; type = X.type; val = v; here = t;
         laid = λ leading span. item no_key X.laid (place d (end_plain d));
         same = ap (λ (z : Option Text). record { key = None; ty = z; value = v }) X.same;
-        runs = λ out st c l fs from h to_string to_value to_left a. X.runs out st c l fs from (λ e. h) (record { to_string = λ v r. (Some (pending c (identifier_at whole v s r) r), to_string v r); to_value = λ e. to_value; to_left = to_left }) a
+        runs = λ out st c l fs from to_string to_value to_left a. X.runs out st c l fs from (record { to_string = λ v r. (Some (pending c (identifier_at whole v s r) r), to_string v r); to_value = λ e. to_value; to_left = to_left }) a
       }
   read_item {s = s} {r = r} (a_property {t = t} {u = u} {w = w} {k = k} {v = v} d ss us (a_value {t = p} y z)) =
       let X = read_filled y (value_fills z) in
@@ -213,11 +202,11 @@ module _ (whole : Text) where
         key = Some k'; type = X.type; val = v; here = p;
         laid = λ leading span. item (a_key (spelled_at d) (place ss (end_spaces ss)) (place us (end_spaces us))) X.laid (place z (end_plain z));
         same = ap (λ (z : Option Text). record { key = Some k; ty = z; value = v }) X.same;
-        runs = λ out st c l fs from h to_string to_value to_left a.
+        runs = λ out st c l fs from to_string to_value to_left a.
           let f = moved c from t in
           let st' = at (property c i (between t (61 ∷ u)) u) l fs f in
           read_string out d (to_string k t) (read_equals out ss (stay out st' (λ s r. refl) us
-          (X.runs out st' (keyed c k') l fs f (λ e. keyed_takes c k' h) (record { to_string = λ v r. (None, refl); to_value = λ e v r. refl; to_left = λ r. refl })
+          (X.runs out st' (keyed c k') l fs f (record { to_string = λ v r. (None, refl); to_value = λ e v r. refl; to_left = λ r. refl })
           (λ o. subst (λ (z : Text). Runs whole out (at (in_node (filled whole (keyed c k') X.type v p r) (fresh o)) l fs z) r) (moved_twice c k' from t r) (a o)))))
       }
 
@@ -331,22 +320,22 @@ module _ (whole : Text) where
   entry_runs out p {t = t} {u = u} I h l fs from o a =
       let q = between p t in
       let c = entry_slot h q t in
-      I.runs out (at (in_node h (spaced o)) l fs (origin h from p)) c l fs (origin h from p) (entry_takes h q t)
+      I.runs out (at (in_node h (spaced o)) l fs (origin h from p)) c l fs (origin h from p)
       (λ v r. ap (λ (c' : Slot). Some (worded whole c' v l fs (origin h from p) t r)) (sym (slot_between h from p t)))
       (λ v r. ap (λ (c' : Slot). Some (given whole c' None v None l fs (origin h from p) t r)) (sym (slot_between h from p t)))
-      (λ r. ap (λ (c' : Slot). Some (at (type_open c' r) l fs (origin h from p))) (sym (slot_between h from p t)))
+      (λ r. ap (λ (c' : Slot). Some (at (type_open true c' r) l fs (origin h from p))) (sym (slot_between h from p t)))
       (λ o'. subst (λ (st : State). Runs whole out st u) (ap (λ (z : Text). at (in_node (add h (entry_of q I)) (fresh o')) l fs z) (origin_add h (entry_of q I) from u) ∙ after_value h I.key I.type I.val o' l fs q t from p I.here u) (a o'))
 
   node_runs : (out : Document) → {t m w r v q : Text} {n : Text} {y : Option Text} {es : List entry_data'.Entry} {k : data'.Children} {xs : data'.Nodes} (X : ReadFilled false t m w y (text n)) (Y : ReadName w w r v es k) (D : ReadNodes v q xs) (l : Option Nodes) (fs : List Frame) (from s : Text)
       → Runs whole out (at gap (extended l (first (node_at whole (record { leading = between s t; start = t; ty = X.type; name = identifier_at whole n m w; entries = Y.entries }) Y.tail.k Y.tail.before Y.tail.place Y.tail.end r) D.tree)) fs (origin l from D.last)) q
       → Runs whole out (at gap l fs (origin l from s)) t
   node_runs out {t = t} {m = m} {r = r} {v = v} {q = q} X Y D None fs from s a =
-      X.runs out (at gap None fs from) no_name None fs from (λ e. cc) (record { to_string = λ v r. (None, refl); to_value = λ e v r. cc; to_left = λ r. refl })
+      X.runs out (at gap None fs from) no_name None fs from (record { to_string = λ v r. (None, refl); to_value = λ e v r. cc; to_left = λ r. refl })
       (Y.runs out None None fs from (subst (λ (x : Option Node). Runs whole out (at gap (ended x None) fs from) v) (sym (made_none Y.entries Y.tail r)) (D.runs out None fs from a)))
   node_runs out {t = t} {m = m} {w = w} {r = r} {v = v} {q = q} {n = n} X Y D (Some ys) fs from s a =
       let u : Under = record { leading = between s t; start = t; ty = X.type; name = identifier_at whole n m w; entries = [] } in
       let x = node_at whole (record u { entries = Y.entries }) Y.tail.k Y.tail.before Y.tail.place Y.tail.end r in
-      X.runs out (at gap (Some ys) fs s) (for_name (between s t) t) (Some ys) fs s (λ e. cc) (record { to_string = λ v r. (None, refl); to_value = λ e v r. cc; to_left = λ r. refl })
+      X.runs out (at gap (Some ys) fs s) (for_name (between s t) t) (Some ys) fs s (record { to_string = λ v r. (None, refl); to_value = λ e v r. cc; to_left = λ r. refl })
       (Y.runs out (Some u) (Some ys) fs from (subst (λ (x : Option Node). Runs whole out (at gap (ended x (Some ys)) fs v) v) (sym (made_some u Y.entries Y.tail r))
       (D.runs out (Some (join ys (first x none))) fs from (subst (λ (z : Nodes). Runs whole out (at gap (Some z) fs D.last) q) (sym (join_join ys (first x none) D.tree)) a))))
 
@@ -359,7 +348,7 @@ module _ (whole : Text) where
         let X = read_filled {b = false} y (by_string z) in
         let Y = read_name d e u no_star in
         reads t_slashdash refl (lines out (at marked l fs from) (λ s r. refl) (λ s r. refl) ls
-        (X.runs out (at marked l fs from) no_name l fs from (λ e. cc) (record { to_string = λ v r. (None, refl); to_value = λ e v r. cc; to_left = λ r. refl })
+        (X.runs out (at marked l fs from) no_name l fs from (record { to_string = λ v r. (None, refl); to_value = λ e v r. cc; to_left = λ r. refl })
         (Y.runs out None l fs from (subst (λ (x : Option Node). Runs whole out (at gap (ended x l) fs from) v) (sym (made_none Y.entries Y.tail w)) (read_gap out g l fs from a)))))
 
     read_name : {s r : Text} {es : List entry_data'.Entry} {k : data'.Children} → AfterName true s r es k → {v : Text} → Terminator r v → (p : Text) → Star DroppedEntry p s → ReadName p s r v es k
@@ -383,7 +372,7 @@ module _ (whole : Text) where
           entries = X.entries; tail = X.tail; middle = X.middle; laid_entries = X.laid_entries; laid_tail = X.laid_tail; laid_end = X.laid_end;
           same_entries = X.same_entries; same_tail = X.same_tail;
           runs = λ out h l fs from a o. read_mark out h o l fs (origin h from p) ss m
-            (I.runs out (at (entry_mark h) l fs (origin h from p)) (no_value h) l fs (origin h from p) refl (λ v r. refl) (λ v r. refl) (λ r. refl)
+            (I.runs out (at (entry_mark h) l fs (origin h from p)) (no_value h) l fs (origin h from p) (λ v r. refl) (λ v r. refl) (λ r. refl)
             (λ o'. subst (λ (st : State). Runs whole out st t) (after_dropped h I.key I.type I.val o' l fs (origin h from p) I.here t) (X.runs out h l fs from a o')))
         }
     read_name (AfterName.blocks d) e p ds =

@@ -2,6 +2,7 @@ pub mod Answering
 pub mod Complete
 pub mod Control
 pub mod Ends
+pub mod Erased
 pub mod FirstComplete
 pub mod FirstPlaces
 pub mod FirstSound
@@ -10,6 +11,7 @@ pub mod Printing
 pub mod Refusals
 pub mod RunsLemmas
 pub mod Same
+pub mod Sound
 pub mod Trees
 pub mod Turns
 pub mod Views

@@ -59,12 +59,13 @@ pub data Spot : Type 0 where
   spaced : Option Pending → Spot
   later : Spot
 
+-- a type is for a name, or for a value
 pub data Phase : Type 0 where
   gap : Phase
   marked : Phase
-  type_open : Slot → Text → Phase
-  type_name : Slot → Text → Identifier → Text → Phase
-  type_done : Slot → Text → Identifier → Text → Text → Phase
+  type_open : Bool → Slot → Text → Phase
+  type_name : Bool → Slot → Text → Identifier → Text → Phase
+  type_done : Bool → Slot → Text → Identifier → Text → Text → Phase
   in_node : Option Under → Spot → Phase
   property : Slot → Identifier → Text → Text → Phase
   entry_mark : Option Under → Phase
@@ -102,13 +103,6 @@ entry_slot (Some u) leading start = for_value u leading start None
 abbrev pub keyed : Slot → KeyParts → Slot
 keyed (for_value u leading start k') k = for_value u leading start (Some k)
 keyed c k = c
-
--- a value may stand here
-abbrev pub takes_value : Slot → Bool
-takes_value no_name = false
-takes_value (for_name leading start) = false
-takes_value (no_value u) = true
-takes_value (for_value u leading start k) = true
 
 abbrev pub type_of : Option TypeParts → Option Identifier
 type_of None = None
@@ -261,23 +255,23 @@ step whole (at gap l fs from) space s r = Some (at gap l fs from)
 step whole (at gap l fs from) newline s r = Some (at gap l fs from)
 step whole (at gap l fs from) slashdash s r = Some (at marked l fs from)
 step whole (at gap l fs from) (string v) s r = Some (given whole (name_slot l (between from s) s) None (text v) None l fs from s r)
-step whole (at gap l fs from) left s r = Some (at (type_open (name_slot l (between from s) s) r) l fs from)
+step whole (at gap l fs from) left s r = Some (at (type_open false (name_slot l (between from s) s) r) l fs from)
 step whole (at gap l fs from) closing s r = popped whole l fs from s r
 step whole (at marked l fs from) space s r = Some (at marked l fs from)
 step whole (at marked l fs from) newline s r = Some (at marked l fs from)
 step whole (at marked l fs from) (string v) s r = Some (given whole no_name None (text v) None l fs from s r)
-step whole (at marked l fs from) left s r = Some (at (type_open no_name r) l fs from)
-step whole (at (type_open c a) l fs from) space s r = Some (at (type_open c a) l fs from)
-step whole (at (type_open c a) l fs from) (string v) s r = Some (at (type_name c (between a s) (identifier_at whole v s r) r) l fs from)
-step whole (at (type_name c b i a) l fs from) space s r = Some (at (type_name c b i a) l fs from)
-step whole (at (type_name c b i a) l fs from) right s r = Some (at (type_done c b i (between a s) r) l fs from)
-step whole (at (type_done c b i d a) l fs from) space s r = Some (at (type_done c b i d a) l fs from)
-step whole (at (type_done c b i d a) l fs from) (string v) s r = Some (given whole c (typed b i d a s) (text v) None l fs from s r)
-step whole (at (type_done c b i d a) l fs from) (value v) s r = where_value (takes_value c) (given whole c (typed b i d a s) v None l fs from s r)
+step whole (at marked l fs from) left s r = Some (at (type_open false no_name r) l fs from)
+step whole (at (type_open b c a) l fs from) space s r = Some (at (type_open b c a) l fs from)
+step whole (at (type_open b c a) l fs from) (string v) s r = Some (at (type_name b c (between a s) (identifier_at whole v s r) r) l fs from)
+step whole (at (type_name b c q i a) l fs from) space s r = Some (at (type_name b c q i a) l fs from)
+step whole (at (type_name b c q i a) l fs from) right s r = Some (at (type_done b c q i (between a s) r) l fs from)
+step whole (at (type_done b c q i d a) l fs from) space s r = Some (at (type_done b c q i d a) l fs from)
+step whole (at (type_done b c q i d a) l fs from) (string v) s r = Some (given whole c (typed q i d a s) (text v) None l fs from s r)
+step whole (at (type_done b c q i d a) l fs from) (value v) s r = where_value b (given whole c (typed q i d a s) v None l fs from s r)
 step whole (at (property c k b a) l fs from) space s r = Some (at (property c k b a) l fs from)
 step whole (at (property c k b a) l fs from) (string v) s r = Some (given whole (keyed c (record { name = k; before = b; behind = between a s })) None (text v) None l fs from s r)
 step whole (at (property c k b a) l fs from) (value v) s r = Some (given whole (keyed c (record { name = k; before = b; behind = between a s })) None v None l fs from s r)
-step whole (at (property c k b a) l fs from) left s r = Some (at (type_open (keyed c (record { name = k; before = b; behind = between a s })) r) l fs from)
+step whole (at (property c k b a) l fs from) left s r = Some (at (type_open true (keyed c (record { name = k; before = b; behind = between a s })) r) l fs from)
 step whole (at (in_node u p) l fs from) space s r = Some (at (in_node u (spaced_of p)) l fs from)
 step whole (at (in_node u p) l fs from) newline s r = Some (at gap (ended (closed whole u no_children [] (between from s) (between s r) s) l) fs (origin u from r))
 step whole (at (in_node u p) l fs from) semicolon s r = Some (at gap (ended (closed whole u no_children [] (between from s) (between s r) s) l) fs (origin u from r))
@@ -286,13 +280,13 @@ step whole (at (in_node u p) l fs from) opening s r = Some (at gap (inside u) (i
 step whole (at (in_node u p) l fs from) slashdash s r = Some (at (mark_of u p) l fs from)
 step whole (at (in_node u p) l fs from) (string v) s r = from_spaced p (worded whole (entry_slot u (between from s) s) v l fs from s r)
 step whole (at (in_node u p) l fs from) (value v) s r = from_spaced p (given whole (entry_slot u (between from s) s) None v None l fs from s r)
-step whole (at (in_node u p) l fs from) left s r = from_spaced p (at (type_open (entry_slot u (between from s) s) r) l fs from)
+step whole (at (in_node u p) l fs from) left s r = from_spaced p (at (type_open true (entry_slot u (between from s) s) r) l fs from)
 step whole (at (in_node u p) l fs from) equals s r = stay l fs from (value_from p s r)
 step whole (at (entry_mark u) l fs from) space s r = Some (at (entry_mark u) l fs from)
 step whole (at (entry_mark u) l fs from) newline s r = Some (at (entry_mark u) l fs from)
 step whole (at (entry_mark u) l fs from) (string v) s r = Some (worded whole (no_value u) v l fs from s r)
 step whole (at (entry_mark u) l fs from) (value v) s r = Some (given whole (no_value u) None v None l fs from s r)
-step whole (at (entry_mark u) l fs from) left s r = Some (at (type_open (no_value u) r) l fs from)
+step whole (at (entry_mark u) l fs from) left s r = Some (at (type_open true (no_value u) r) l fs from)
 step whole (at (entry_mark u) l fs from) opening s r = Some (at gap None (in_dropped u l ∷ fs) from)
 step whole (at (block_mark u) l fs from) space s r = Some (at (block_mark u) l fs from)
 step whole (at (block_mark u) l fs from) newline s r = Some (at (block_mark u) l fs from)
