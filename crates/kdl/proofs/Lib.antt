@@ -1,6 +1,7 @@
 pub mod Answering
 pub mod Complete
 pub mod Control
+pub mod Derivation
 pub mod Ends
 pub mod Erased
 pub mod FirstComplete
@@ -15,4 +16,5 @@ pub mod Sound
 pub mod Trees
 pub mod Turns
 pub mod Views
+pub mod Widening
 pub mod Writing

@@ -1,4 +1,5 @@
 pub mod Cutting
+pub mod Derivation
 pub mod EntryEnds
 pub mod Equality
 pub mod Escapes
