@@ -4,9 +4,12 @@ pub mod Control
 pub mod Derivation
 pub mod Ends
 pub mod Erased
+pub mod Examples
 pub mod FirstComplete
 pub mod FirstPlaces
 pub mod FirstSound
+pub mod LaidPrinted
+pub mod LawProofs
 pub mod Printed
 pub mod Printing
 pub mod Refusals

@@ -6,6 +6,7 @@ pub mod FirstMachine
 pub mod Former
 pub mod Grammar
 pub mod Laid
+pub mod Laws
 pub mod Machine
 pub mod Places
 pub mod Print

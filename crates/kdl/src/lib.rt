@@ -2,6 +2,7 @@
 #![tactic(auto)]
 
 mod document;
+pub mod laws;
 mod node;
 mod parser;
 mod print;

@@ -5,6 +5,7 @@ pub mod Equality
 pub mod Escapes
 pub mod FirstCutting
 pub mod Fronts
+pub mod LaidPrinted
 pub mod LeafEnds
 pub mod Lexing
 pub mod Printing
