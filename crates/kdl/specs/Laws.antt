@@ -1,9 +1,52 @@
--- Laws of the grammar.
-use Rattle.std.specs.Prelude.{◌≡◌}
+-- What is proved of the written grammar of documents and nodes.
+use Rattle.std.specs.Prelude.{◌≡◌, ◌↔◌, Bool, true, List}
 use Rattle.kdl_text.specs.Chars.{Text}
-use Rattle.kdl.specs.Data.{Nodes}
-use Rattle.kdl.specs.FirstGrammar.{IsDocument}
+use Rattle.kdl_entry.specs.Tokens.{Token, Lexes}
+use Rattle.kdl.specs.Data as data'
+use Rattle.kdl.specs.FirstGrammar as first
+use Rattle.kdl.specs.Former.{IsFormerDocument, IsFormerNodeText}
+use Rattle.kdl.specs.Grammar.{IsDocument, IsNodeText}
+use Rattle.kdl.specs.Laid.{LaidDocument, LaidNodeText}
+use Rattle.kdl.specs.Machine.{Answers}
+use Rattle.kdl.specs.Print.{print_document, print_node}
+use Rattle.kdl.specs.Tree.{Document, Node, document_data, node_data}
 
--- no text has two readings
-abbrev pub IsUnambiguous : Type 0
-IsUnambiguous = (t : Text) (x y : Nodes) → IsDocument t x → IsDocument t y → x ≡ y
+-- a text is one document at most
+abbrev pub OneDocument : Type 0
+OneDocument = (wide : Bool) (t : Text) (x y : data'.Nodes) → IsDocument wide t x → IsDocument wide t y → x ≡ y
+
+-- a text is one node at most
+abbrev pub OneNode : Type 0
+OneNode = (wide : Bool) (t : Text) (x y : data'.Node) → IsNodeText wide t x → IsNodeText wide t y → x ≡ y
+
+-- a document is cut into tokens, with nothing left
+abbrev pub IsLexed : Type 0
+IsLexed = (wide : Bool) (t : Text) (x : data'.Nodes) → IsDocument wide t x → (ks : List Token) × Lexes t ks
+
+-- the machine has one answer at most
+abbrev pub OneAnswer : Type 0
+OneAnswer = (t : Text) (d e : Document) → Answers t d → Answers t e → d ≡ e
+
+-- the machine answers exactly where the text is a document, with its data
+abbrev pub AnswersDocuments : Type 0
+AnswersDocuments = (t : Text) (x : data'.Nodes) → IsDocument true t x ↔ ((d : Document) × Answers t d × (document_data d ≡ x))
+
+-- what the machine answers is laid in the text, with its spans
+abbrev pub AnswersAreLaid : Type 0
+AnswersAreLaid = (t : Text) (d : Document) → Answers t d → LaidDocument true d t
+
+-- where a document is laid, the text is a document with its data, and it is what is printed
+abbrev pub LaidIsDerived : Type 0
+LaidIsDerived = (exact : Bool) (t : Text) (d : Document) → LaidDocument exact d t → IsDocument true t (document_data d) × (print_document d 0 ≡ t)
+
+-- the same for a node that is the whole text
+abbrev pub LaidNodeIsDerived : Type 0
+LaidNodeIsDerived = (exact : Bool) (t : Text) (x : Node) → LaidNodeText exact t x → IsNodeText true t (node_data x) × (print_node x 0 ≡ t)
+
+-- what the former language derives, the present one derives with the same data
+abbrev pub FormerIsKept : Type 0
+FormerIsKept = ((t : Text) (x : data'.Nodes) → IsFormerDocument t x → IsDocument true t x) × ((t : Text) (x : data'.Node) → IsFormerNodeText t x → IsNodeText true t x)
+
+-- a text is one document of the first path at most
+abbrev pub OneFirstDocument : Type 0
+OneFirstDocument = (t : Text) (x y : data'.Nodes) → first.IsDocument t x → first.IsDocument t y → x ≡ y

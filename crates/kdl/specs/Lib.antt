@@ -3,7 +3,12 @@ pub mod Data
 pub mod FirstGrammar
 pub mod FirstLaid
 pub mod FirstMachine
+pub mod Former
+pub mod Grammar
+pub mod Laid
 pub mod Laws
+pub mod Machine
+pub mod Places
 pub mod Print
 pub mod Same
 pub mod Tree

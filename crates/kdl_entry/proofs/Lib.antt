@@ -1,9 +1,12 @@
 pub mod Comparing
 pub mod Cutting
+pub mod Derivation
+pub mod EntryEnds
 pub mod Equality
 pub mod Escapes
 pub mod FirstCutting
 pub mod Fronts
+pub mod LaidPrinted
 pub mod LeafEnds
 pub mod Lexing
 pub mod Printing
