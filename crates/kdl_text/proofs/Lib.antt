@@ -17,6 +17,7 @@ mod RawLine
 mod Bodies
 mod RawBodies
 mod Opened
+mod Counts
 pub mod Determined
 pub mod Runs
 pub mod Newlines
