@@ -1,7 +1,7 @@
 -- How many units the lines of a string have, and what their dedent costs.
-use Rattle.std.proofs.Common.{◌≡◌, ℕ, ◌+◌, ◌<◌, ◌≤◌, List, [], ◌∷◌, ◌++◌, length, ap, arith, length-append}
+use Rattle.std.proofs.Common.{◌≡◌, ℕ, ◌+◌, ◌<◌, ◌≤◌, List, length, ap, arith, length-append}
 use Rattle.kdl_text.specs.Chars.{Text}
-use Rattle.kdl_text.specs.Here.{Here, counted, bytes, raise}
+use Rattle.kdl_text.specs.Here.{Here, counted, bytes}
 use Rattle.kdl_text.specs.Reading.{Moves, Costs}
 use Rattle.kdl_text.specs.Strings.{StringUnit, literal, escape, spaces}
 use Rattle.kdl_text.specs.MultiLine.{kept, ContentUnit, quote, line, unit, Content, close, more}

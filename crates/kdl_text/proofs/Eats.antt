@@ -1,8 +1,8 @@
-use Rattle.std.proofs.Common.{◌≡◌, ℕ, ◌+◌, List, [], ◌∷◌, Bool, true, false, ◌&&◌, ◌==◌, refl, ap, sym, ◌∙◌, arith}
+use Rattle.std.proofs.Common.{◌≡◌, ℕ, ◌+◌, List, [], ◌∷◌, true, false, ◌==◌, ap, sym, ◌∙◌}
 use Rattle.std.proofs.lemmas.Bool.{eqb-true, and_parts}
 use Rattle.std.specs.Char.{len_utf8}
 use Rattle.kdl_text.specs.Chars.{begins_two}
-use Rattle.kdl_text.specs.Here.{Here, TookTwo, Stayed, stepped, raise, tail, first_len}
+use Rattle.kdl_text.specs.Here.{Here, TookTwo, Stayed, stepped, tail, first_len}
 
 two : (s : List ℕ) (a b : ℕ) → begins_two a b s ≡ true → s ≡ a ∷ b ∷ tail (tail s)
 two [] a b h = cc

@@ -2,7 +2,7 @@
 use Rattle.std.proofs.Common.{◌≡◌, ℕ, ◌+◌, ◌≤◌, List, [], ◌∷◌, ◌++◌, length, refl, ap, sym, ◌∙◌, append_assoc, length-append, arith}
 use Rattle.std.specs.Char.{len_utf8}
 use Rattle.std.specs.Prelude.{Some}
-use Rattle.kdl_text.specs.Here.{Here, Took, TookTwo, Stayed, looked, stepped, first, tail, first_len, bytes, raise}
+use Rattle.kdl_text.specs.Here.{Here, Took, TookTwo, Stayed, looked, stepped, first, tail, first_len, bytes}
 use Rattle.kdl_text.specs.Reading.{Moves, Costs}
 
 pub stays : (a : Here) → Moves a a

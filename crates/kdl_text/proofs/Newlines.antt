@@ -1,11 +1,11 @@
 -- Newlines: a text begins with one at most.
-use Rattle.std.proofs.Common.{◌≡◌, ℕ, ◌+◌, ◌<◌, ◌≤◌, List, [], ◌∷◌, ◌++◌, Bool, true, false, ◌&&◌, ◌==◌, length, refl, ap, sym, ◌∙◌, subst, arith}
+use Rattle.std.proofs.Common.{◌≡◌, ℕ, ◌<◌, [], ◌∷◌, Bool, true, false, ◌&&◌, ◌==◌, length, refl, ap, sym, ◌∙◌, subst, arith}
 use Rattle.std.proofs.lemmas.Bool.{and_parts, and_left, ne_eqb, eqb-true}
-use Rattle.std.specs.Prelude.{Some, None}
+use Rattle.std.specs.Prelude.{Some}
 use Rattle.kdl_text.specs.Chars.{Text, is_newline_char, begins, Newline, crlf, one}
-use Rattle.kdl_text.specs.Here.{Here, Took, Stayed, Ate, looked, stepped, first, raise, bytes}
-use Rattle.kdl_text.specs.Reading.{Moves, ReadsNewline}
-use Rattle.kdl_text.proofs.Going.{stays, moves_then, moves_stayed, moves_one, stayed_looked, took_from}
+use Rattle.kdl_text.specs.Here.{Here, Took, Ate, looked, stepped, first}
+use Rattle.kdl_text.specs.Reading.{Moves}
+use Rattle.kdl_text.proofs.Going.{moves_then, moves_stayed, moves_one, stayed_looked, took_from}
 
 pub newline_det : {s r t : Text} → Newline s r → Newline s t → r ≡ t
 newline_det crlf crlf = refl

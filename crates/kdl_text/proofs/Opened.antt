@@ -1,11 +1,10 @@
 -- What whole strings cost.
-use Rattle.std.proofs.Common.{◌≡◌, ℕ, ◌+◌, ◌≤◌, ◌<◌, true, false, ◌∷◌, ◌++◌, length, sym, ap, ◌∙◌, arith, length-append}
+use Rattle.std.proofs.Common.{◌≡◌, ℕ, length, ap, arith}
 use Rattle.std.proofs.lemmas.Str.{len_utf8_bounds}
 use Rattle.std.specs.Prelude.{Some, Result, Ok, Err, IfOk}
-use Rattle.kdl_text.specs.Chars.{Text, times}
-use Rattle.kdl_text.specs.Here.{Here, Took, TookTwo, Ate, AteTwo, Stayed, looked, bytes}
+use Rattle.kdl_text.specs.Here.{Here, Took, TookTwo, Stayed, looked, bytes}
 use Rattle.kdl_text.specs.Reading.{Moves, Costs}
-use Rattle.kdl_text.proofs.Going.{moves_then, moves_one, moves_two, moves_stayed, stayed_looked, fewer_bytes, shorter}
+use Rattle.kdl_text.proofs.Going.{moves_then, moves_one, moves_two, moves_stayed, stayed_looked, fewer_bytes}
 
 pub each : {T E : Type 0} (o : Result T E) {P : Type 0} → P → IfOk o (λ _. P)
 each (Ok v) p = p

@@ -1,5 +1,5 @@
 -- Spans: places in a text, in bytes.
-use Rattle.std.specs.Prelude.{◌≡◌, ℕ, ◌-◌, ◌++◌}
+use Rattle.std.specs.Prelude.{◌≡◌, ◌-◌, ◌++◌}
 use Rattle.kdl_text.specs.Chars.{Text}
 use Rattle.kdl_text.specs.Here.{bytes}
 use Rattle.kdl_text.specs.declared.span.SourceSpan.{SourceSpan}

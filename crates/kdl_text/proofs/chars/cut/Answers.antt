@@ -1,5 +1,5 @@
-use Rattle.std.proofs.Common.{◌≡◌, ◌++◌, length, sym, ap, ◌∙◌}
-use Rattle.std.proofs.lemmas.Str.{chars-append, encodes-chars}
+use Rattle.std.proofs.Common.{◌++◌, sym, ap, ◌∙◌}
+use Rattle.std.proofs.lemmas.Str.{chars-append}
 use Rattle.std.specs.Str.{chars}
 use Rattle.kdl_text.proofs.Texts.{boundary, front, rest_shorter, range_is, bytes-chars}
 use Rattle.kdl_text.proofs.chars.cut.Goals as goal

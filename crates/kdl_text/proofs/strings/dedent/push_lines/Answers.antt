@@ -1,6 +1,5 @@
-use Rattle.std.proofs.Common.{◌≡◌, ◌+◌, ◌≤◌, ◌++◌, ◌∷◌, length-append, [], length, take, drop, sym, ap, ◌∙◌, refl, subst, append-nil, string_bytes, rules, arith}
-use Rattle.std.specs.Str.{chars, IsUtf8}
-use Rattle.std.specs.Char.{encode_utf8}
+use Rattle.std.proofs.Common.{◌+◌, ◌≤◌, ◌∷◌, length-append, length, take, sym, ap, ◌∙◌, subst, string_bytes, arith}
+use Rattle.std.specs.Str.{chars}
 use Rattle.std.proofs.lemmas.Str.{IsUtf8-string_bytes, chars-nil}
 use Rattle.kdl_text.proofs.Escapes.{char_pushed}
 use Rattle.std.proofs.lemmas.List.{length-take-le}
@@ -39,7 +38,7 @@ lines-preserved c =
     let bytes = c.in_ok-push.ensures.bytes in
     let pushed = char_pushed (string_bytes c.push_line.new.out) (string_bytes c.push.new.self) 10 (IsUtf8-string_bytes c.push_line.new.out) (IsUtf8-string_bytes c.push.new.self) bytes in
     let on =
-        joins_more c.args.prefix.now c.args.units.now (chars (string_bytes c.lines.out)) (take n ts) c.in-Some.next.now x (run_inside ts n c.line_len-len.ensures.len) (rw c.split_at.ensures.front at line)
-        (subst (Joins c.args.prefix.now c.args.units.now (chars (string_bytes c.lines.out))) shape c.lines.invariant.0) in
+    joins_more c.args.prefix.now c.args.units.now (chars (string_bytes c.lines.out)) (take n ts) c.in-Some.next.now x (run_inside ts n c.line_len-len.ensures.len) (rw c.split_at.ensures.front at line)
+    (subst (Joins c.args.prefix.now c.args.units.now (chars (string_bytes c.lines.out))) shape c.lines.invariant.0) in
     let shorter : n + 1 + length c.in-Some.next.now ≤ length ts = omega (arith, ap length shape, length-append (take n ts) (LineEnd ∷ c.in-Some.next.now), length-take-le n ts c.line_len-len.ensures.within) in
     (rw (pushed, out) on, omega (arith, c.lines.invariant.1, c.raise.ensures, c.raise-in-lines.ensures))
