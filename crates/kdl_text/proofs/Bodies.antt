@@ -1,11 +1,11 @@
 -- Whole strings: from their quotes, their lines and their dedent.
-use Rattle.std.proofs.Common.{◌≡◌, ℕ, zero, suc, ◌<◌, Bool, true, false, not, ◌&&◌, ◌==◌, List, [], ◌∷◌, ◌++◌, length, refl, sym, ap, ◌∙◌, subst, arith, length-append}
-use Rattle.std.proofs.lemmas.Bool.{false≢true, true≢false}
-use Rattle.std.specs.Prelude.{Some, Result, Ok, Err, IfOk, MatchResult}
-use Rattle.kdl_text.specs.Chars.{Text, Newline, begins, begins_two, begins_with, times}
+use Rattle.std.proofs.Common.{◌≡◌, Bool, true, false, ◌&&◌, ◌==◌, List, [], ◌∷◌, refl, sym, ap, ◌∙◌, subst}
+use Rattle.std.proofs.lemmas.Bool.{true≢false}
+use Rattle.std.specs.Prelude.{Result, Ok, Err, IfOk, MatchResult}
+use Rattle.kdl_text.specs.Chars.{Text, Newline, begins_two, begins_with}
 use Rattle.kdl_text.specs.Dedent.{Dedents}
-use Rattle.kdl_text.specs.Strings.{QuotedBody, QuotedString, quoted}
-use Rattle.kdl_text.specs.MultiLine.{Content, MultiLineBody, lines, MultiLineString, multi_line, IsQuoted, on_one_line, on_many_lines}
+use Rattle.kdl_text.specs.Strings.{QuotedBody, quoted}
+use Rattle.kdl_text.specs.MultiLine.{Content, MultiLineBody, lines, multi_line, IsQuoted, on_one_line, on_many_lines}
 use Rattle.kdl_text.specs.declared.strings.StringFailure.{StringFailure}
 use Rattle.kdl_text.specs.declared.strings.StringFailure.TheVariants.{Memory}
 use Rattle.kdl_text.specs.declared.strings.dedent.LineUnit.{LineUnit}

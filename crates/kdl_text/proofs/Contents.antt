@@ -1,9 +1,9 @@
 -- The loop over the units of a multi-line string.
-use Rattle.std.proofs.Common.{◌≡◌, ℕ, true, false, List, [], ◌∷◌, ◌++◌, length, refl, sym, ap, ◌∙◌, subst, arith, append-nil}
+use Rattle.std.proofs.Common.{◌≡◌, ℕ, true, false, List, [], ◌∷◌, ◌++◌, length, sym, ap, ◌∙◌, subst, arith}
 use Rattle.std.proofs.lemmas.Str.{len_utf8_bounds}
-use Rattle.std.specs.Prelude.{Option, Some, None, option_to_list}
-use Rattle.kdl_text.specs.Chars.{Text, begins_two}
-use Rattle.kdl_text.specs.Here.{Here, Took, TookTwo, Stayed, AteTwo, bytes}
+use Rattle.std.specs.Prelude.{Some, None}
+use Rattle.kdl_text.specs.Chars.{Text}
+use Rattle.kdl_text.specs.Here.{Here, Took, AteTwo, bytes}
 use Rattle.kdl_text.specs.Reading.{Moves, Costs}
 use Rattle.kdl_text.specs.MultiLine.{ContentUnit, quote, Content, close}
 use Rattle.kdl_text.specs.declared.strings.dedent.LineUnit.{LineUnit}

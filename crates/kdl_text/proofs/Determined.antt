@@ -1,7 +1,7 @@
 -- A text begins with one quoted string at most, over both forms, and with one raw string.
-use Rattle.std.proofs.Common.{◌≡◌, ℕ, zero, suc, ◌+◌, ◌<◌, ◌≤◌, true, false, ◌==◌, List, [], ◌∷◌, ◌++◌, length, refl, sym, ap, ◌∙◌, subst, arith, length-append}
+use Rattle.std.proofs.Common.{◌≡◌, ℕ, zero, suc, ◌<◌, ◌≤◌, true, false, ◌==◌, List, [], ◌∷◌, ◌++◌, length, refl, sym, ap, ◌∙◌, subst, arith, length-append}
 use Rattle.std.proofs.lemmas.Bool.{true≢false}
-use Rattle.kdl_text.specs.Chars.{Text, Newline, crlf, one, begins_with, times, starts}
+use Rattle.kdl_text.specs.Chars.{Text, begins_with, times, starts}
 use Rattle.kdl_text.specs.Dedent.{Dedents}
 use Rattle.kdl_text.specs.MultiLine.{ContentUnit, quote, line, unit, Content, close, more, MultiLineBody, lines, MultiLineString, multi_line, IsQuoted, on_one_line, on_many_lines}
 use Rattle.kdl_text.specs.Raw as raw
@@ -10,7 +10,7 @@ use Rattle.kdl_text.specs.declared.strings.dedent.LineUnit.{LineUnit}
 use Rattle.kdl_text.proofs.Closings.{signs_same}
 use Rattle.kdl_text.proofs.Dedents.{dedents_det}
 use Rattle.kdl_text.proofs.MultiLines.{content_det}
-use Rattle.kdl_text.proofs.Newlines.{newline_det}
+use Rattle.kdl_text.proofs.Newlines.{newline_det, newline_shorter}
 use Rattle.kdl_text.proofs.RawBodies.{looks_many}
 use Rattle.kdl_text.proofs.RawLine.{literals_same}
 use Rattle.kdl_text.proofs.Raws.{raw_det}
@@ -41,10 +41,6 @@ lines_begin (multi_line b) = refl
 pub is_quoted_begins : {t r v : Text} → IsQuoted t r v → starts (λ c. c == 34) t ≡ true
 is_quoted_begins (on_one_line h a) = quoted_begins a
 is_quoted_begins (on_many_lines b) = lines_begin b
-
-newline_shorter : {t r : Text} → Newline t r → length r < length t
-newline_shorter crlf = omega arith
-newline_shorter (one h k) = omega arith
 
 content_unit_shorter : {t r : Text} {us : List LineUnit} → ContentUnit t r us → length r < length t
 content_unit_shorter (quote h) = omega arith

@@ -4,6 +4,7 @@ mod Blocks
 mod Bodies
 pub mod Closings
 mod Contents
+mod Counts
 pub mod DecimalReads
 pub mod Decimals
 pub mod Dedents

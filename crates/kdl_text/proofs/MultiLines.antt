@@ -1,12 +1,12 @@
 -- The lines of multi-line strings: a text begins with those of one at most.
-use Rattle.std.proofs.Common.{◌≡◌, ℕ, Bool, true, false, not, ◌||◌, List, [], ◌∷◌, ◌++◌, refl, sym, ap, ◌∙◌, subst, arith, append-nil}
+use Rattle.std.proofs.Common.{◌≡◌, ℕ, true, false, List, [], ◌∷◌, ◌++◌, refl, sym, ap, ◌∙◌, subst, arith}
 use Rattle.std.proofs.lemmas.Bool.{false≢true}
-use Rattle.std.specs.Prelude.{Option, Some, None, option_to_list}
-use Rattle.kdl_text.specs.Chars.{Text, Newline, crlf, one, is_newline_char, is_literal, is_banned, begins_two}
+use Rattle.std.specs.Prelude.{Option}
+use Rattle.kdl_text.specs.Chars.{Text, Newline, crlf, one, is_newline_char, is_literal}
 use Rattle.kdl_text.specs.Strings.{StringUnit, IsUnit, escaped, one_literal}
 use Rattle.kdl_text.specs.MultiLine.{kept, ContentUnit, quote, line, unit, Content, close, more}
 use Rattle.kdl_text.specs.declared.strings.dedent.LineUnit.{LineUnit}
-use Rattle.kdl_text.specs.declared.strings.dedent.LineUnit.TheVariants.{Literal, Escape, LineEnd}
+use Rattle.kdl_text.specs.declared.strings.dedent.LineUnit.TheVariants.{Literal}
 use Rattle.kdl_text.proofs.Newlines.{newline_det, no_newline}
 use Rattle.kdl_text.proofs.Goes.{Goes}
 use Rattle.kdl_text.proofs.Raws.{quote_no_newline}

@@ -1,5 +1,5 @@
 -- Newlines: a text begins with one at most.
-use Rattle.std.proofs.Common.{◌≡◌, ℕ, [], ◌∷◌, Bool, true, false, ◌&&◌, ◌==◌, refl, ap, sym, ◌∙◌, subst}
+use Rattle.std.proofs.Common.{◌≡◌, ℕ, ◌<◌, [], ◌∷◌, Bool, true, false, ◌&&◌, ◌==◌, length, refl, ap, sym, ◌∙◌, subst, arith}
 use Rattle.std.proofs.lemmas.Bool.{and_parts, and_left, ne_eqb, eqb-true}
 use Rattle.std.specs.Prelude.{Some}
 use Rattle.kdl_text.specs.Chars.{Text, is_newline_char, begins, Newline, crlf, one}
@@ -64,3 +64,7 @@ reads_cr c r a b d e h is x y u = ate_cr r a b d e (took_from 13 a b d (ap Some 
 
 pub reads_one : (c : ℕ) (a b e : Here) → Some c ≡ first a.rest → (c ≡ 13 → ⊥) → true ≡ is_newline_char c → b ≡ looked a → e ≡ stepped b → Newline a.rest e.rest × Moves a e
 reads_one c a b e h no13 x y z = let t = took_from c a b e h y z in (rw t.0 (one (sym x) (and_left (c == 13) _ (ne_eqb c 13 no13))), moves_one t)
+
+pub newline_shorter : {t r : Text} → Newline t r → length r < length t
+newline_shorter crlf = omega arith
+newline_shorter (one h k) = omega arith

@@ -1,11 +1,10 @@
 -- What whole strings cost.
-use Rattle.std.proofs.Common.{◌≡◌, ℕ, ◌+◌, ◌≤◌, ◌<◌, true, false, ◌∷◌, ◌++◌, length, sym, ap, ◌∙◌, arith, length-append}
+use Rattle.std.proofs.Common.{◌≡◌, ℕ, length, ap, arith}
 use Rattle.std.proofs.lemmas.Str.{len_utf8_bounds}
 use Rattle.std.specs.Prelude.{Some, Result, Ok, Err, IfOk}
-use Rattle.kdl_text.specs.Chars.{Text, times}
-use Rattle.kdl_text.specs.Here.{Here, Took, TookTwo, Ate, AteTwo, Stayed, looked, bytes}
+use Rattle.kdl_text.specs.Here.{Here, Took, TookTwo, Stayed, looked, bytes}
 use Rattle.kdl_text.specs.Reading.{Moves, Costs}
-use Rattle.kdl_text.proofs.Going.{moves_then, moves_one, moves_two, moves_stayed, stayed_looked, fewer_bytes, shorter}
+use Rattle.kdl_text.proofs.Going.{moves_then, moves_one, moves_two, moves_stayed, stayed_looked, fewer_bytes}
 
 pub each : {T E : Type 0} (o : Result T E) {P : Type 0} → P → IfOk o (λ _. P)
 each (Ok v) p = p
@@ -18,7 +17,7 @@ pub record Opened (k c : ℕ) (a e : Here) : Type 0 where
   pub all : Costs 24 0 a e
 
 -- three quotes and what follows them
-pub opened_many : (a b d e : Here) → Took (Some 34) a b → TookTwo 34 34 b d → Moves d e → Costs 3 2 d e → Opened 3 5 a e
+pub opened_many : (a b d e : Here) → Took (Some 34) a b → TookTwo 34 34 b d → Moves d e → Costs 4 4 d e → Opened 4 7 a e
 opened_many a b d e t u m k = let x = fewer_bytes m in let y = len_utf8_bounds 34 in record {
   moves = moves_then (moves_one t) (moves_then (moves_two u) m);
   costs = record { most = omega (arith, ap bytes t.0, t.2, ap bytes u.rest, u.steps, y.0, k.most); least = omega (arith, ap length t.0, t.2, ap length u.rest, u.steps, k.least) };
@@ -26,7 +25,7 @@ opened_many a b d e t u m k = let x = fewer_bytes m in let y = len_utf8_bounds 3
 }
 
 -- one quote and what follows it
-pub opened_one : (a b d e : Here) → Took (Some 34) a b → Stayed 2 b d → Moves d e → Costs 3 2 d e → Opened 3 5 a e
+pub opened_one : (a b d e : Here) → Took (Some 34) a b → Stayed 2 b d → Moves d e → Costs 3 2 d e → Opened 4 7 a e
 opened_one a b d e t u m k = let x = fewer_bytes m in let y = len_utf8_bounds 34 in record {
   moves = moves_then (moves_one t) (moves_then (moves_stayed u) m);
   costs = record { most = omega (arith, ap bytes t.0, t.2, ap bytes u.rest, u.steps, y.0, k.most); least = omega (arith, ap length t.0, t.2, ap length u.rest, u.steps, k.least) };
@@ -34,19 +33,19 @@ opened_one a b d e t u m k = let x = fewer_bytes m in let y = len_utf8_bounds 34
 }
 
 -- number signs and a quote before it
-pub signed_many : (a s b d e : Here) → Moves a s → Costs 1 1 a s → Took (Some 34) s b → TookTwo 34 34 b d → Moves d e → Costs 3 3 d e → Opened 4 7 a e
+pub signed_many : (a s b d e : Here) → Moves a s → Costs 1 1 a s → Took (Some 34) s b → TookTwo 34 34 b d → Moves d e → Costs 4 5 d e → Opened 4 9 a e
 signed_many a s b d e n l t u m k = let w = fewer_bytes n in let x = fewer_bytes m in let y = len_utf8_bounds 34 in record {
   moves = moves_then n (moves_then (moves_one t) (moves_then (moves_two u) m));
   costs = record { most = omega (arith, l.most, ap bytes t.0, t.2, ap bytes u.rest, u.steps, y.0, k.most); least = omega (arith, l.least, ap length t.0, t.2, ap length u.rest, u.steps, k.least) };
   all = record { most = omega (arith, l.most, ap bytes t.0, t.2, ap bytes u.rest, u.steps, y.0, k.most); least = omega (arith, l.least, ap length t.0, t.2, ap length u.rest, u.steps, k.least) };
 }
 
-pub signed_one : (a s b d e : Here) → Moves a s → Costs 1 1 a s → Took (Some 34) s b → Stayed 2 b d → Moves d e → Costs 4 2 d e → Opened 4 7 a e
+pub signed_one : (a s b d e : Here) → Moves a s → Costs 1 1 a s → Took (Some 34) s b → Stayed 2 b d → Moves d e → Costs 4 2 d e → Opened 4 9 a e
 signed_one a s b d e n l t u m k = let w = fewer_bytes n in let x = fewer_bytes m in let y = len_utf8_bounds 34 in record {
   moves = moves_then n (moves_then (moves_one t) (moves_then (moves_stayed u) m));
   costs = record { most = omega (arith, l.most, ap bytes t.0, t.2, ap bytes u.rest, u.steps, y.0, k.most); least = omega (arith, l.least, ap length t.0, t.2, ap length u.rest, u.steps, k.least) };
   all = record { most = omega (arith, l.most, ap bytes t.0, t.2, ap bytes u.rest, u.steps, y.0, k.most); least = omega (arith, l.least, ap length t.0, t.2, ap length u.rest, u.steps, k.least) };
 }
 
-pub unopened : (a s b : Here) → Moves a s → Costs 1 1 a s → b ≡ looked s → Costs 4 7 a b
+pub unopened : (a s b : Here) → Moves a s → Costs 1 1 a s → b ≡ looked s → Costs 4 9 a b
 unopened a s b n l e = let w = fewer_bytes n in let u = stayed_looked s b e in record { most = omega (arith, l.most, ap bytes u.rest, u.steps); least = omega (arith, l.least, ap length u.rest, u.steps) }

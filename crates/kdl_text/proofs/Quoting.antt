@@ -1,13 +1,13 @@
 -- The loop over the units of a quoted string.
-use Rattle.std.proofs.Common.{◌≡◌, ℕ, false, ◌∷◌, ◌++◌, length, sym, ap, ◌∙◌, subst, arith}
+use Rattle.std.proofs.Common.{◌≡◌, ℕ, false, ◌∷◌, ◌++◌, sym, ap, ◌∙◌, subst, arith}
 use Rattle.std.proofs.lemmas.Str.{len_utf8_bounds}
 use Rattle.std.proofs.lemmas.List.{append_cancel_right}
-use Rattle.std.specs.Prelude.{Some, None, Result, Ok, Err, IfOk, MatchResult}
+use Rattle.std.specs.Prelude.{Some, None, Result, Ok, Err, MatchResult}
 use Rattle.std.specs.Result.{IsErrAnd}
 use Rattle.kdl_text.specs.Chars.{Text, is_literal, starts}
 use Rattle.kdl_text.specs.Here.{Here, Took, bytes}
 use Rattle.kdl_text.specs.Reading.{Moves, Costs}
-use Rattle.kdl_text.specs.Strings.{StringUnit, unit_value, Run, IsUnit, QuotedBody, QuotedString, quoted}
+use Rattle.kdl_text.specs.Strings.{StringUnit, unit_value, Run, IsUnit, QuotedBody}
 use Rattle.kdl_text.proofs.Going.{moves_then, moves_one, fewer_bytes}
 use Rattle.kdl_text.proofs.Goes.{Goes, goes_then, goes_end, goes_none}
 use Rattle.kdl_text.proofs.Slices.{costs_took}

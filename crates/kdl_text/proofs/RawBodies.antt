@@ -4,11 +4,10 @@ use Rattle.std.proofs.lemmas.Bool.{false≢true, true≢false}
 use Rattle.std.specs.Prelude.{Result, Ok, Err, IfOk, MatchResult}
 use Rattle.kdl_text.specs.Chars.{Text, Newline, begins, begins_two, times}
 use Rattle.kdl_text.specs.Dedent.{Dedents}
-use Rattle.kdl_text.specs.Raw.{closing, literals, is_single, RawUnit, char, line, RawUnits, none, more, RawContent, content, RawString, MultiLineRawBody, lines, MultiLineRawString, IsRaw, on_one_line, on_many_lines}
+use Rattle.kdl_text.specs.Raw.{closing, literals, is_single, char, RawUnits, none, more, RawContent, content, MultiLineRawBody, lines, IsRaw, on_one_line, on_many_lines}
 use Rattle.kdl_text.specs.declared.strings.StringFailure.{StringFailure}
 use Rattle.kdl_text.specs.declared.strings.StringFailure.TheVariants.{Memory}
 use Rattle.kdl_text.specs.declared.strings.dedent.LineUnit.{LineUnit}
-use Rattle.kdl_text.specs.declared.strings.dedent.LineUnit.TheVariants.{Literal, LineEnd}
 use Rattle.kdl_text.proofs.Newlines.{newline_det}
 use Rattle.kdl_text.proofs.Closings.{signs_same, no_signs}
 use Rattle.kdl_text.proofs.Bodies.{dedent_only}

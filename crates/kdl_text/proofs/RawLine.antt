@@ -1,5 +1,5 @@
 -- The loop over a raw string of one line.
-use Rattle.std.proofs.Common.{◌≡◌, ℕ, ◌+◌, ◌*◌, ◌<◌, ◌≤◌, Bool, true, false, not, ◌||◌, ◌==◌, List, [], ◌∷◌, ◌++◌, length, refl, sym, ap, ◌∙◌, subst, arith, append_assoc, length-append}
+use Rattle.std.proofs.Common.{◌≡◌, ℕ, ◌<◌, Bool, true, false, not, ◌||◌, ◌==◌, List, [], ◌∷◌, ◌++◌, length, refl, sym, ap, ◌∙◌, subst, arith, append_assoc}
 use Rattle.std.proofs.lemmas.Bool.{and_parts, false≢true, ne_eqb}
 use Rattle.std.proofs.lemmas.List.{append_cancel_right}
 use Rattle.std.proofs.lemmas.Str.{len_utf8_bounds}
@@ -8,13 +8,13 @@ use Rattle.std.specs.Prelude.{Some, None}
 use Rattle.kdl_text.specs.Chars.{Text, begins, starts, times, is_raw, is_unquoted, is_newline_char, is_banned}
 use Rattle.kdl_text.specs.Here.{Here, Took, Skips, sliced, bytes}
 use Rattle.kdl_text.specs.Reading.{Moves, Costs}
-use Rattle.kdl_text.specs.Raw.{closing, literals, RawUnit, char, line, RawUnits, none, more, RawContent, content}
+use Rattle.kdl_text.specs.Raw.{closing, literals, char, line, RawUnits, none, more, RawContent, content}
 use Rattle.kdl_text.specs.declared.strings.dedent.LineUnit.{LineUnit}
-use Rattle.kdl_text.specs.declared.strings.dedent.LineUnit.TheVariants.{Literal, LineEnd}
+use Rattle.kdl_text.specs.declared.strings.dedent.LineUnit.TheVariants.{LineEnd}
 use Rattle.kdl_text.proofs.Going.{stays, moves_then, moves_one, fewer_bytes, bytes-append}
 use Rattle.kdl_text.proofs.Slices.{moves_ran, costs_ran, ended, moves_sliced}
 use Rattle.kdl_text.proofs.Closings.{short_closing, signs_pass, units_then, literals-append, quote_raw}
-use Rattle.kdl_text.proofs.Raws.{goes_raw, raw_ends, raw_over, raw_content_unit}
+use Rattle.kdl_text.proofs.Raws.{goes_raw, raw_ends, raw_over}
 
 either : (x n b : Bool) → not ((x || n) || b) ≡ true → (x ≡ false) × (not (n || b) ≡ true)
 either true n b h = absurd (false≢true h)

@@ -1,11 +1,11 @@
 -- Raw strings: a text begins with one at most.
-use Rattle.std.proofs.Common.{◌≡◌, ℕ, ◌<◌, true, false, List, [], ◌∷◌, ◌++◌, ◌==◌, length, refl, sym, ap, ◌∙◌, subst, arith, length-append}
+use Rattle.std.proofs.Common.{◌≡◌, ℕ, true, false, List, [], ◌∷◌, ◌++◌, ◌==◌, refl, sym, ap, ◌∙◌, subst, arith}
 use Rattle.std.proofs.lemmas.Bool.{false≢true, and_left, ne_eqb}
 use Rattle.std.proofs.lemmas.List.{append_cancel_left}
-use Rattle.kdl_text.specs.Chars.{Text, Newline, is_raw, is_newline_char, is_banned, begins_with, times}
-use Rattle.kdl_text.specs.Raw.{closing, literals, RawUnit, char, line, RawUnits, none, more, RawContent, content}
+use Rattle.kdl_text.specs.Chars.{Text, Newline, is_raw, is_newline_char, begins_with}
+use Rattle.kdl_text.specs.Raw.{RawUnit, char, line, RawUnits, none, more, RawContent, content}
 use Rattle.kdl_text.specs.declared.strings.dedent.LineUnit.{LineUnit}
-use Rattle.kdl_text.specs.declared.strings.dedent.LineUnit.TheVariants.{Literal, LineEnd}
+use Rattle.kdl_text.specs.declared.strings.dedent.LineUnit.TheVariants.{Literal}
 use Rattle.kdl_text.proofs.Newlines.{newline_det, no_newline}
 use Rattle.kdl_text.proofs.Goes.{Goes, goes_end, goes_none}
 use Rattle.kdl_text.proofs.Closings.{begins_own, units_then}

@@ -1,5 +1,5 @@
 -- Dedent (KDL 2.0.0, Multi-line Strings): what lines stand for, the last of which is spaces alone.
-use Rattle.std.specs.Prelude.{◌≡◌, ℕ, Bool, true, false, List, [], ◌∷◌, ◌++◌}
+use Rattle.std.specs.Prelude.{◌≡◌, Bool, true, false, List, [], ◌∷◌, ◌++◌}
 use Rattle.std.specs.List.{list_all}
 use Rattle.kdl_text.specs.Chars.{Text, is_space}
 use Rattle.kdl_text.specs.declared.strings.dedent.LineUnit.{LineUnit}

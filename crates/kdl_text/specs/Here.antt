@@ -46,6 +46,10 @@ bytes (c ∷ s) = len_utf8 c + bytes s
 abbrev pub looked : Here → Here
 looked h = record h { steps = raise h.steps 1 }
 
+-- after so many steps more
+abbrev pub counted : ℕ → Here → Here
+counted k h = record h { steps = raise h.steps k }
+
 -- past one character, if there is one
 abbrev pub stepped : Here → Here
 stepped h = record { rest = tail h.rest; at = h.at + first_len h.rest; steps = h.steps }

@@ -1,5 +1,5 @@
 -- Quoted strings in either form (KDL 2.0.0, Quoted String and Multi-line String).
-use Rattle.std.specs.Prelude.{◌≡◌, ℕ, false, List, [], ◌∷◌, ◌++◌}
+use Rattle.std.specs.Prelude.{◌≡◌, false, List, [], ◌∷◌, ◌++◌}
 use Rattle.kdl_text.specs.Chars.{Text, Newline, begins_two, begins_with}
 use Rattle.kdl_text.specs.Strings.{StringUnit, literal, escape, spaces, IsUnit, QuotedString}
 use Rattle.kdl_text.specs.Dedent.{Dedents}

@@ -4,7 +4,7 @@
 
 ghost use Rattle.kdl_text.specs.Chars as class;
 ghost use Rattle.kdl_text.specs.Chars.{Text, Newline};
-ghost use Rattle.kdl_text.specs.Here.{Here, Ahead, Behind, Skips, Took, Ate, AteTwo, Stayed, first, first_len, tail, looked, stepped, sliced, bytes, raise, in_class, RunOf};
+ghost use Rattle.kdl_text.specs.Here.{Here, Ahead, Behind, Skips, Took, Ate, AteTwo, Stayed, first, first_len, tail, looked, stepped, sliced, counted, bytes, raise, in_class, RunOf};
 ghost use Rattle.kdl_text.specs.Reading.{Moves, Costs, ReadsNewline};
 ghost use Rattle.std.specs.Char.{len_utf8};
 ghost use Rattle.std.specs.Prelude.{◌≡◌, ℕ, ◌+◌, ◌-◌, ◌<◌, ◌≤◌, ◌^◌, ◌++◌, ◌∷◌, [], length, MatchOption, IfSome, IfOk, IsTrue, ◌↔◌, string_bytes};
@@ -408,6 +408,13 @@ impl<'a> Cursor<'a> {
         ensures { result ≡ self.now.at }
     {
         self.at
+    }
+
+    /// Counts so many steps more, for what was read beside the text.
+    pub fn raise(&mut self, by: u64)
+        ensures { self.new ≡ counted by self.old }
+    {
+        self.steps.raise(by);
     }
 
     /// Where the cursor stands, to slice from there.

@@ -316,7 +316,7 @@ pub fn quoted_string(alloc: Global, cursor: &mut Cursor) -> Result<String, Strin
     ensures only { (r w : Text) → IsQuoted cursor.old.rest r w →
         MatchResult result (λ v. (r ≡ cursor.new.rest) × (w ≡ chars (string_bytes v))) (λ e. e ≡ Memory) }
     ensures moves { Moves cursor.old cursor.new }
-    ensures costs { Costs 3 5 cursor.old cursor.new }
+    ensures costs { Costs 4 7 cursor.old cursor.new }
     ensures cost { IfOk result (λ _. Costs 24 0 cursor.old cursor.new) }
 {
     if !cursor.eat('"') {

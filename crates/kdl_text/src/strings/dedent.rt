@@ -5,10 +5,10 @@ ghost use Rattle.kdl_text.specs.Dedent.{Dedents, Lines, LineValue};
 ghost use Rattle.kdl_text.specs.declared.strings.StringFailure.TheVariants.{Memory};
 ghost use Rattle.kdl_text.specs.declared.strings.dedent.LineUnit.TheVariants.{LineEnd};
 ghost use Rattle.std.specs.List.{list_all, prefix_len};
-ghost use Rattle.std.specs.Prelude.{◌≡◌, ◌++◌, ◌∷◌, [], ◌-◌, ◌<◌, ◌≤◌, ◌↔◌, List, ℕ, length, take, drop, true, not, string_bytes, option_to_list, IsTrue, IfOk, IfErr, OnOk, MatchResult};
+ghost use Rattle.std.specs.Prelude.{◌≡◌, ◌++◌, ◌∷◌, [], ◌+◌, ◌-◌, ◌<◌, ◌≤◌, ◌↔◌, List, ℕ, length, take, drop, true, not, string_bytes, option_to_list, IsTrue, IfOk, IfErr, OnOk, MatchResult};
 ghost use Rattle.std.specs.Str.{chars};
 
-use crate::chars::is_space;
+use crate::chars::{Steps, is_space};
 use crate::strings::{StringFailure, StringFault};
 use std::alloc::{AllocError, Global};
 
@@ -107,19 +107,23 @@ fn push_line(out: &mut String, prefix: &[LineUnit], line: &[LineUnit]) -> Result
     Ok(())
 }
 
-/// Appends the values of the lines, joined by line feeds.
+/// Appends the values of the lines, joined by line feeds. A step for each unit, and one for each line.
 fn push_lines(
     out: &mut String,
     prefix: &[LineUnit],
     units: &[LineUnit],
+    steps: &mut Steps,
 ) -> Result<(), StringFailure>
     requires { string_bytes out.old ≡ [] }
     ensures found { OnOk result (Lines prefix.now units.now (chars (string_bytes out.new))) }
     ensures only { (v : List ℕ) → Lines prefix.now units.now v → MatchResult result (λ _. v ≡ chars (string_bytes out.new)) (λ e. e ≡ Memory) }
+    ensures cost { steps.new ≤ steps.old + length units.now + 1 }
 {
     let mut rest = units;
     'lines: loop {
         let len = line_len(rest);
+        steps.raise(len as u64);
+        steps.raise(1);
         let (line, after) = rest.split_at(len);
         match push_line(out, prefix, line) {
             Ok(()) => {}
@@ -151,13 +155,16 @@ fn last_line(units: &[LineUnit]) -> usize
 
 /// The value of the lines, without the last, whose spaces are taken from the front of the others
 /// (KDL 2.0.0, Multi-line String).
-/// A fault: the last line is not spaces alone, or another has not these spaces at its front and is not spaces alone.
-pub fn dedent(alloc: Global, units: &[LineUnit]) -> Result<String, StringFailure>
+/// A step for each unit, and one for each line. A fault: the last line is not spaces alone, or another has not these spaces at its front and is not spaces alone.
+pub fn dedent(alloc: Global, units: &[LineUnit], steps: &mut Steps) -> Result<String, StringFailure>
     ensures found { IfOk result (λ s. Dedents units.now (chars (string_bytes s))) }
     ensures only { (v : List ℕ) → Dedents units.now v → MatchResult result (λ s. v ≡ chars (string_bytes s)) (λ e. e ≡ Memory) }
+    ensures cost { steps.new ≤ steps.old + length units.now + 2 }
 {
     let start = last_line(units);
     let (front, prefix) = units.split_at(start);
+    steps.raise(prefix.len() as u64);
+    steps.raise(1);
     if !is_blank_line(prefix) {
         return Err(StringFailure::Fault(StringFault::BadLastLine));
     }
@@ -165,7 +172,7 @@ pub fn dedent(alloc: Global, units: &[LineUnit]) -> Result<String, StringFailure
     let Some((_, lines)) = front.split_last() else {
         return Ok(out);
     };
-    match push_lines(&mut out, prefix, lines) {
+    match push_lines(&mut out, prefix, lines, steps) {
         Ok(()) => Ok(out),
         Err(e) => Err(e),
     }

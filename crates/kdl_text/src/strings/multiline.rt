@@ -8,7 +8,7 @@ ghost use Rattle.kdl_text.specs.declared.strings.dedent.LineUnit.{LineUnit};
 ghost use Rattle.std.specs.Prelude.{◌≡◌, ◌∷◌, List, ℕ, true, option_to_list, string_bytes, IfOk, IfErr, MatchResult};
 ghost use Rattle.std.specs.Str.{chars};
 
-use crate::chars::{Cursor, is_literal, is_newline_char, newline};
+use crate::chars::{Cursor, Steps, is_literal, is_newline_char, newline};
 use crate::strings::dedent::{LineUnit, dedent, push_unit};
 use crate::strings::{StringFailure, StringFault, escaped_unit};
 use std::alloc::Global;
@@ -80,11 +80,14 @@ pub fn many_lines(alloc: Global, cursor: &mut Cursor) -> Result<String, StringFa
     ensures only { (r w : List ℕ) → MultiLineBody cursor.old.rest r w →
         MatchResult result (λ v. (r ≡ cursor.new.rest) × (w ≡ chars (string_bytes v))) (λ e. e ≡ Memory) }
     ensures moves { Moves cursor.old cursor.new }
-    ensures costs { Costs 3 2 cursor.old cursor.new }
+    ensures costs { Costs 4 4 cursor.old cursor.new }
 {
     if !newline(cursor) {
         return Err(StringFailure::Fault(StringFault::NoNewline));
     }
     let units = content(alloc, cursor)?;
-    dedent(alloc, &units)
+    let mut steps = Steps::new();
+    let value = dedent(alloc, &units, &mut steps);
+    cursor.raise(steps.count());
+    value
 }

@@ -8,7 +8,7 @@ ghost use Rattle.kdl_text.specs.declared.strings.dedent.LineUnit.{LineUnit};
 ghost use Rattle.std.specs.Prelude.{◌≡◌, ◌<◌, ◌≤◌, ◌++◌, ◌∷◌, List, ℕ, false, string_bytes, IfOk, IfErr, MatchResult};
 ghost use Rattle.std.specs.Str.{chars};
 
-use crate::chars::{Class, Cursor, Piece, is_newline_char, is_raw, newline};
+use crate::chars::{Class, Cursor, Piece, Steps, is_newline_char, is_raw, newline};
 use crate::strings::dedent::{LineUnit, dedent, push_unit};
 use crate::strings::multiline::end_newline;
 use crate::strings::{StringFailure, StringFault, fault_at};
@@ -165,13 +165,16 @@ fn raw_lines(alloc: Global, cursor: &mut Cursor, signs: usize) -> Result<String,
     ensures only { (r w : Text) → MultiLineRawBody signs cursor.old.rest r w →
         MatchResult result (λ v. (r ≡ cursor.new.rest) × (w ≡ chars (string_bytes v))) (λ e. e ≡ Memory) }
     ensures moves { Moves cursor.old cursor.new }
-    ensures costs { Costs 3 3 cursor.old cursor.new }
+    ensures costs { Costs 4 5 cursor.old cursor.new }
 {
     if !newline(cursor) {
         return Err(StringFailure::Fault(StringFault::LooksMultiLine));
     }
     let units = lines_content(alloc, cursor, signs)?;
-    dedent(alloc, &units)
+    let mut steps = Steps::new();
+    let value = dedent(alloc, &units, &mut steps);
+    cursor.raise(steps.count());
+    value
 }
 
 /// Reads a raw string, of one line or of many (KDL 2.0.0, Raw String): its value, and the cursor goes behind the
@@ -182,7 +185,7 @@ pub fn raw_string(alloc: Global, cursor: &mut Cursor) -> Result<String, StringFa
     ensures only { (r w : Text) → IsRaw cursor.old.rest r w →
         MatchResult result (λ v. (r ≡ cursor.new.rest) × (w ≡ chars (string_bytes v))) (λ e. e ≡ Memory) }
     ensures moves { Moves cursor.old cursor.new }
-    ensures costs { Costs 4 7 cursor.old cursor.new }
+    ensures costs { Costs 4 9 cursor.old cursor.new }
     ensures cost { IfOk result (λ _. Costs 24 0 cursor.old cursor.new) }
 {
     let signs = count_signs(cursor);

@@ -1,11 +1,9 @@
-use Rattle.std.proofs.Common.{List, ◌≡◌, ◌++◌, ◌∷◌, [], ◌-◌, length, take, drop, true, false, sym, ap, ◌∙◌, refl, subst, append-nil, string_bytes, rules, arith}
+use Rattle.std.proofs.Common.{List, length, drop, sym, ap, ◌∙◌, subst, string_bytes}
 use Rattle.std.specs.Str.{chars}
 use Rattle.std.proofs.lemmas.Str.{chars-nil}
-use Rattle.std.proofs.lemmas.List.{take-append-drop}
 use Rattle.std.proofs.lemmas.Bool.{false≢true}
 use Rattle.kdl_text.specs.Dedent.{Dedents}
 use Rattle.kdl_text.specs.declared.strings.dedent.LineUnit.{LineUnit}
-use Rattle.kdl_text.specs.declared.strings.dedent.LineUnit.TheVariants.{LineEnd}
 use Rattle.kdl_text.proofs.Dedents.{dedents_to, dedents_from, dedents_none, dedents_one, dedents_blank, split_last_line, only_line}
 use Rattle.kdl_text.proofs.strings.dedent.dedent.Goals as goal
 

@@ -1,10 +1,9 @@
-use Rattle.std.proofs.Common.{◌≡◌, ◌++◌, ◌∷◌, [], sym, ap, ◌∙◌, refl, append-nil, append_assoc, string_bytes, get_or}
-use Rattle.std.specs.Str.{chars, IsUtf8}
-use Rattle.std.specs.Char.{encode_utf8}
+use Rattle.std.proofs.Common.{◌≡◌, ◌∷◌, [], sym, ap, ◌∙◌, refl, append-nil, string_bytes, get_or}
+use Rattle.std.specs.Str.{chars}
 use Rattle.std.specs.Option.{option_to_list}
 use Rattle.std.proofs.lemmas.Str.{IsUtf8-string_bytes}
 use Rattle.kdl_text.specs.Dedent.{unit_text, line_text}
-use Rattle.kdl_text.specs.declared.strings.dedent.LineUnit.TheVariants.{Literal, Escape, LineEnd}
+use Rattle.kdl_text.specs.declared.strings.dedent.LineUnit.TheVariants.{Literal}
 use Rattle.kdl_text.proofs.Escapes.{char_pushed}
 use Rattle.kdl_text.proofs.Dedents.{text_more, regroup}
 use Rattle.std.proofs.Common.{take}

@@ -1,7 +1,7 @@
-use Rattle.std.proofs.Common.{◌∷◌, [], arith, sym, ap, ◌∙◌, append-nil, subst, refl}
-use Rattle.std.specs.Prelude.{Some, None, option_to_list}
+use Rattle.std.proofs.Common.{◌∷◌, sym, append-nil, subst, refl}
+use Rattle.std.specs.Prelude.{option_to_list}
 use Rattle.kdl_text.specs.MultiLine.{ContentUnit}
-use Rattle.kdl_text.proofs.Contents.{turned, costs_less, content_begins, content_turn, content_quote, content_ends, content_over, content_unit_there, failed_at}
+use Rattle.kdl_text.proofs.Contents.{turned, costs_less, content_turn, content_quote, content_ends, content_over, content_unit_there, failed_at}
 use Rattle.kdl_text.proofs.strings.multiline.content.Goals as goal
 
 pub units-preserved-in-Continue-branch-3 : goal.units-preserved-in-Continue-branch-3

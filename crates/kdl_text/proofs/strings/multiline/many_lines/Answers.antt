@@ -1,8 +1,9 @@
-use Rattle.std.proofs.Common.{String, Global}
+use Rattle.std.proofs.Common.{length, ap, arith, String, Global}
 use Rattle.std.specs.Prelude.{string_bytes}
 use Rattle.std.specs.Str.{chars}
 use Rattle.kdl_text.specs.declared.strings.StringFailure.{StringFailure}
 use Rattle.kdl_text.proofs.Bodies.{body_found, body_only, body_content}
+use Rattle.kdl_text.proofs.Counts.{content_count, lines_cost, lines_fail, dedent_moves}
 use Rattle.kdl_text.proofs.Going.{moves_then}
 use Rattle.kdl_text.proofs.Quoting.{failed}
 use Rattle.kdl_text.proofs.strings.multiline.many_lines.Goals as goal
@@ -16,11 +17,17 @@ returns-in_err-units-clause-only c r w b =
 pub returns-in_err-units-clause-moves : goal.returns-in_err-units-clause-moves
 returns-in_err-units-clause-moves c = moves_then c.newline.ensures.moves c.content.ensures.moves
 
+pub returns-in_err-units-clause-costs : goal.returns-in_err-units-clause-costs
+returns-in_err-units-clause-costs c = lines_fail _ _ _ c.newline.ensures.moves c.newline.ensures.costs c.content.ensures.moves c.content.ensures.costs
+
 pub returns-clause-found : goal.returns-clause-found
-returns-clause-found c = body_found c.dedent.result (λ v. chars (string_bytes v)) _ _ _ _ _ c.if-not-newline.ensures.reads c.in_ok-units.ensures.found c.deref.ensures.value c.dedent.ensures.found
+returns-clause-found c = rw (ap (λ z. z.rest) c.raise.ensures) (body_found c.dedent-value.result (λ v. chars (string_bytes v)) _ _ _ _ _ c.if-not-newline.ensures.reads c.in_ok-units.ensures.found c.deref.ensures.value c.dedent-value.ensures.found)
 
 pub returns-clause-only : goal.returns-clause-only
-returns-clause-only c = body_only c.dedent.result (λ v. chars (string_bytes v)) _ _ _ _ _ c.if-not-newline.ensures.reads c.in_ok-units.ensures.only c.deref.ensures.value c.dedent.ensures.only
+returns-clause-only c = rw (ap (λ z. z.rest) c.raise.ensures) (body_only c.dedent-value.result (λ v. chars (string_bytes v)) _ _ _ _ _ c.if-not-newline.ensures.reads c.in_ok-units.ensures.only c.deref.ensures.value c.dedent-value.ensures.only)
 
 pub returns-clause-moves : goal.returns-clause-moves
-returns-clause-moves c = moves_then c.newline.ensures.moves c.content.ensures.moves
+returns-clause-moves c = dedent_moves _ _ _ _ _ c.newline.ensures.moves c.content.ensures.moves c.raise.ensures
+
+pub returns-clause-costs : goal.returns-clause-costs
+returns-clause-costs c = lines_cost _ _ _ _ c.count.result (length c.in_ok-units.units.items) c.newline.ensures.moves c.newline.ensures.costs c.content.ensures.moves c.content.ensures.costs (content_count c.in_ok-units.ensures.found) (omega (arith, c.count.ensures, c.dedent-value.ensures.cost, c.new-steps.ensures, ap length c.deref.ensures.value)) c.raise.ensures

@@ -1,4 +1,4 @@
-use Rattle.std.proofs.Common.{◌∷◌, arith}
+use Rattle.std.proofs.Common.{◌∷◌}
 use Rattle.kdl_text.specs.Raw.{closing}
 use Rattle.kdl_text.proofs.RawLines.{raw_begins, raw_turn, raw_quotes, raw_closes, raw_runs_out, raw_unit_there, part_true, part_false}
 use Rattle.kdl_text.proofs.Contents.{turned, costs_less, costs_at}
