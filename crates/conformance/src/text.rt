@@ -8,11 +8,14 @@ use std::alloc::Global;
 use std::test::Fail;
 
 const SPACES: [&str; 18] = [
-    "\u{9}", "\u{20}", "\u{a0}", "\u{1680}", "\u{2000}", "\u{2001}", "\u{2002}", "\u{2003}", "\u{2004}", "\u{2005}",
-    "\u{2006}", "\u{2007}", "\u{2008}", "\u{2009}", "\u{200a}", "\u{202f}", "\u{205f}", "\u{3000}",
+    "\u{9}", "\u{20}", "\u{a0}", "\u{1680}", "\u{2000}", "\u{2001}", "\u{2002}", "\u{2003}",
+    "\u{2004}", "\u{2005}", "\u{2006}", "\u{2007}", "\u{2008}", "\u{2009}", "\u{200a}", "\u{202f}",
+    "\u{205f}", "\u{3000}",
 ];
 
-const NEWLINES: [&str; 8] = ["\r\n", "\r", "\n", "\u{85}", "\u{b}", "\u{c}", "\u{2028}", "\u{2029}"];
+const NEWLINES: [&str; 8] = [
+    "\r\n", "\r", "\n", "\u{85}", "\u{b}", "\u{c}", "\u{2028}", "\u{2029}",
+];
 
 /// The characters that stand in comments alone.
 const BANNED: [(u32, u32); 7] = [
@@ -118,14 +121,29 @@ fn each_banned_character(rt: HostRuntime) -> Result<(), Fail> {
     for (low, high) in BANNED {
         for code in low..=high {
             let c = char::from_u32(code).ok_or("no scalar value")?;
-            assert!(rt; quoted(alloc, &format!(in alloc; "\"{c}\"")?).is_none(), "{code:x}");
-            assert!(rt; raw(alloc, &format!(in alloc; "#\"{c}\"#")?).is_none(), "{code:x}");
-            assert!(rt; quoted(alloc, &format!(in alloc; "\"\"\"\n{c}\n\"\"\"")?).is_none(), "{code:x}");
-            assert!(rt; raw(alloc, &format!(in alloc; "#\"\"\"\n{c}\n\"\"\"#")?).is_none(), "{code:x}");
+            assert!(rt;
+                quoted(alloc, &format!(in alloc; "\"{c}\"")?).is_none(),
+                "{code:x}"
+            );
+            assert!(rt;
+                raw(alloc, &format!(in alloc; "#\"{c}\"#")?).is_none(),
+                "{code:x}"
+            );
+            assert!(rt;
+                quoted(alloc, &format!(in alloc; "\"\"\"\n{c}\n\"\"\"")?).is_none(),
+                "{code:x}"
+            );
+            assert!(rt;
+                raw(alloc, &format!(in alloc; "#\"\"\"\n{c}\n\"\"\"#")?).is_none(),
+                "{code:x}"
+            );
             assert!(rt; !is_bare(&format!(in alloc; "a{c}")?), "{code:x}");
             let comment = format!(in alloc; "/*{c}*/")?;
             let mut cursor = Cursor::new(&comment, Steps::new());
-            assert!(rt; cursor.looks_two('/', '*') && block_comment(&mut cursor), "{code:x}");
+            assert!(rt;
+                cursor.looks_two('/', '*') && block_comment(&mut cursor),
+                "{code:x}"
+            );
             assert!(rt; cursor.look().is_none(), "{code:x}");
         }
     }
@@ -145,7 +163,15 @@ fn escapes_at_their_limits(rt: HostRuntime) -> Result<(), Fail> {
     for (text, value) in values {
         assert_eq!(rt; quoted(alloc, text).ok_or("refused")?.as_str(), value);
     }
-    let refused = ["\"\\u{d800}\"", "\"\\u{dfff}\"", "\"\\u{110000}\"", "\"\\u{}\"", "\"\\u{1234567}\"", "\"a\\q\"", "\"\\/\""];
+    let refused = [
+        "\"\\u{d800}\"",
+        "\"\\u{dfff}\"",
+        "\"\\u{110000}\"",
+        "\"\\u{}\"",
+        "\"\\u{1234567}\"",
+        "\"a\\q\"",
+        "\"\\/\"",
+    ];
     for text in refused {
         assert!(rt; quoted(alloc, text).is_none(), "{text}");
     }
@@ -183,7 +209,12 @@ fn numbers_at_their_limits(rt: HostRuntime) -> Result<(), Fail> {
 #[test]
 fn decimals(rt: HostRuntime) -> Result<(), Fail> {
     let alloc = rt.alloc();
-    let texts = [("1.0", "1.0"), ("1_0.5E+3", "10.5E+3"), ("00.10", "00.10"), ("-1e-5", "-1e-5")];
+    let texts = [
+        ("1.0", "1.0"),
+        ("1_0.5E+3", "10.5E+3"),
+        ("00.10", "00.10"),
+        ("-1e-5", "-1e-5"),
+    ];
     for (text, digits) in texts {
         assert_eq!(rt; decimal(alloc, text).ok_or("refused")?.as_str(), digits);
     }

@@ -154,7 +154,7 @@ module _ (whole : Text) where
     laid : LaidType true whole (type_of type) (before_name type) (after_name type) (behind_type type) s t
     same : option_map (λ (i : Identifier). i.value) (type_of type) ≡ y
     runs : (out : Document) → (st : State) (c : Slot) (l : Option Nodes) (fs : List Frame) (from : Text) → Takes b st s c l fs from
-      → ((o : Option Pending) → Runs whole out (given whole c type v o l fs from t r) r) → Runs whole out st s
+        → ((o : Option Pending) → Runs whole out (given whole c type v o l fs from t r) r) → Runs whole out st s
 
   read_filled : {b : Bool} {s t r : Text} {y : Option Text} {v : Value} → MaybeType true s t y → Fills b t r v → ReadFilled b s t r y v
   read_filled untyped d = record { type = None; laid = no_type; same = refl; runs = λ out st c l fs from k a. read_fill out d st c l fs from k a }
@@ -165,9 +165,9 @@ module _ (whole : Text) where
         laid = a_type (place ss (end_spaces ss)) (spelled_at u) (place us (end_spaces us)) (place vs (end_spaces vs));
         same = refl;
         runs = λ out st c l fs from k a.
-          reads t_left (k.to_left s1) (stay out (at (type_open b c s1) l fs from) (λ s r. refl) ss (read_string out u refl
-          (stay out (at (type_name b c (between s1 s2) i s3) l fs from) (λ s r. refl) us (reads t_right refl
-          (stay out (at (type_done b c (between s1 s2) i (between s3 (41 ∷ s4)) s4) l fs from) (λ s r. refl) vs (read_done out d c (between s1 s2) i (between s3 (41 ∷ s4)) s4 l fs from (a None)))))))
+            reads t_left (k.to_left s1) (stay out (at (type_open b c s1) l fs from) (λ s r. refl) ss (read_string out u refl
+            (stay out (at (type_name b c (between s1 s2) i s3) l fs from) (λ s r. refl) us (reads t_right refl
+            (stay out (at (type_done b c (between s1 s2) i (between s3 (41 ∷ s4)) s4) l fs from) (λ s r. refl) vs (read_done out d c (between s1 s2) i (between s3 (41 ∷ s4)) s4 l fs from (a None)))))));
       }
 
   record ReadItem (s r : Text) (e : entry_data'.Entry) : Type 0 where
@@ -178,8 +178,8 @@ module _ (whole : Text) where
     laid : (leading : Text) (span : SourceSpan) → LaidItem true whole leading [] span (entry_at span leading key type val (between here r)) s r
     same : record { key = option_map (λ (i : Identifier). i.value) (key_of key); ty = option_map (λ (i : Identifier). i.value) (type_of type); value = val } ≡ e
     runs : (out : Document) → (st : State) (c : Slot) (l : Option Nodes) (fs : List Frame) (from : Text) → ((v r : Text) → step whole st (string v) s r ≡ Some (worded whole c v l fs from s r))
-      → ((v : Value) (r : Text) → step whole st (value v) s r ≡ Some (given whole c None v None l fs from s r)) → ((r : Text) → step whole st left s r ≡ Some (at (type_open true c r) l fs from))
-      → ((o : Option Pending) → Runs whole out (given whole (slot_of c key) type val o l fs from here r) r) → Runs whole out st s
+        → ((v : Value) (r : Text) → step whole st (value v) s r ≡ Some (given whole c None v None l fs from s r)) → ((r : Text) → step whole st left s r ≡ Some (at (type_open true c r) l fs from))
+        → ((o : Option Pending) → Runs whole out (given whole (slot_of c key) type val o l fs from here r) r) → Runs whole out st s
 
   read_equals : (out : Document) → {s u : Text} {h : Option Under} {c : Slot} {k : Identifier} {a : Text} {l : Option Nodes} {fs : List Frame} {from : Text} → Star NodeSpace s (61 ∷ u) → Runs whole out (at (property c k (between a (61 ∷ u)) u) l fs from) u → Runs whole out (at (in_node h (fresh (Some (pending c k a)))) l fs from) s
   read_equals out no_star b = reads t_equals refl b
@@ -189,25 +189,31 @@ module _ (whole : Text) where
   read_item {s = s} {r = r} (argument {v = v} (a_value {t = t} y d)) =
       let X = read_filled y (value_fills d) in
       record {
-        key = None; type = X.type; val = v; here = t;
+        key = None;
+        type = X.type;
+        val = v;
+        here = t;
         laid = λ leading span. item no_key X.laid (place d (end_plain d));
         same = ap (λ (z : Option Text). record { key = None; ty = z; value = v }) X.same;
-        runs = λ out st c l fs from to_string to_value to_left a. X.runs out st c l fs from (record { to_string = λ v r. (Some (pending c (identifier_at whole v s r) r), to_string v r); to_value = λ e. to_value; to_left = to_left }) a
+        runs = λ out st c l fs from to_string to_value to_left a. X.runs out st c l fs from (record { to_string = λ v r. (Some (pending c (identifier_at whole v s r) r), to_string v r); to_value = λ e. to_value; to_left = to_left }) a;
       }
   read_item {s = s} {r = r} (a_property {t = t} {u = u} {w = w} {k = k} {v = v} d ss us (a_value {t = p} y z)) =
       let X = read_filled y (value_fills z) in
       let i = identifier_at whole k s t in
       let k' : KeyParts = record { name = i; before = between t (61 ∷ u); behind = between u w } in
       record {
-        key = Some k'; type = X.type; val = v; here = p;
+        key = Some k';
+        type = X.type;
+        val = v;
+        here = p;
         laid = λ leading span. item (a_key (spelled_at d) (place ss (end_spaces ss)) (place us (end_spaces us))) X.laid (place z (end_plain z));
         same = ap (λ (z : Option Text). record { key = Some k; ty = z; value = v }) X.same;
         runs = λ out st c l fs from to_string to_value to_left a.
-          let f = moved c from t in
-          let st' = at (property c i (between t (61 ∷ u)) u) l fs f in
-          read_string out d (to_string k t) (read_equals out ss (stay out st' (λ s r. refl) us
-          (X.runs out st' (keyed c k') l fs f (record { to_string = λ v r. (None, refl); to_value = λ e v r. refl; to_left = λ r. refl })
-          (λ o. subst (λ (z : Text). Runs whole out (at (in_node (filled whole (keyed c k') X.type v p r) (fresh o)) l fs z) r) (moved_twice c k' from t r) (a o)))))
+            let f = moved c from t in
+            let st' = at (property c i (between t (61 ∷ u)) u) l fs f in
+            read_string out d (to_string k t) (read_equals out ss (stay out st' (λ s r. refl) us
+            (X.runs out st' (keyed c k') l fs f (record { to_string = λ v r. (None, refl); to_value = λ e v r. refl; to_left = λ r. refl })
+            (λ o. subst (λ (z : Text). Runs whole out (at (in_node (filled whole (keyed c k') X.type v p r) (fresh o)) l fs z) r) (moved_twice c k' from t r) (a o)))));
       }
 
   read_mark : (out : Document) → {s t u : Text} (h : Option Under) (o : Option Pending) (l : Option Nodes) (fs : List Frame) (from : Text) → Star NodeSpace s t → Slashdash t u → Runs whole out (at (entry_mark h) l fs from) u → Runs whole out (at (in_node h (fresh o)) l fs from) s
@@ -358,29 +364,45 @@ module _ (whole : Text) where
         let class = an_entry_leading ds (plus n ss) in
         let x = entry_of (between p t) I in
         record {
-          entries = x ∷ X.entries; tail = X.tail; middle = X.middle;
+          entries = x ∷ X.entries;
+          tail = X.tail;
+          middle = X.middle;
           laid_entries = an_entry (laid_entry (place class (then (end_star (λ s r x. end_dropped x) ds) (end_some (plus n ss)))) (I.laid (between p t) (span_of whole t u)) refl) X.laid_entries;
-          laid_tail = X.laid_tail; laid_end = X.laid_end;
-          same_entries = (let a = I.same in let b = X.same_entries in cc); same_tail = X.same_tail;
+          laid_tail = X.laid_tail;
+          laid_end = X.laid_end;
+          same_entries = (let a = I.same in let b = X.same_entries in cc);
+          same_tail = X.same_tail;
           runs = λ out h l fs from a o. reads (t_space n) refl (stay out (at (in_node h (spaced o)) l fs (origin h from p)) (λ s r. refl) ss
-            (entry_runs out p I h l fs from o (X.runs out (add h x) l fs from (subst (λ (z : Text). Runs whole out (at gap (ended (made (add h x) X.entries X.tail r) l) fs z) v) (sym (origin_add h x from v)) a))))
+              (entry_runs out p I h l fs from o (X.runs out (add h x) l fs from (subst (λ (z : Text). Runs whole out (at gap (ended (made (add h x) X.entries X.tail r) l) fs z) v) (sym (origin_add h x from v)) a))));
         }
     read_name (dropped_entry {u = u} {v = t} ss m i d) e p ds =
         let I = read_item i in
         let X = read_name d e p (snoc ds (DroppedEntry.dropped ss m i)) in
         record {
-          entries = X.entries; tail = X.tail; middle = X.middle; laid_entries = X.laid_entries; laid_tail = X.laid_tail; laid_end = X.laid_end;
-          same_entries = X.same_entries; same_tail = X.same_tail;
+          entries = X.entries;
+          tail = X.tail;
+          middle = X.middle;
+          laid_entries = X.laid_entries;
+          laid_tail = X.laid_tail;
+          laid_end = X.laid_end;
+          same_entries = X.same_entries;
+          same_tail = X.same_tail;
           runs = λ out h l fs from a o. read_mark out h o l fs (origin h from p) ss m
-            (I.runs out (at (entry_mark h) l fs (origin h from p)) (no_value h) l fs (origin h from p) (λ v r. refl) (λ v r. refl) (λ r. refl)
-            (λ o'. subst (λ (st : State). Runs whole out st t) (after_dropped h I.key I.type I.val o' l fs (origin h from p) I.here t) (X.runs out h l fs from a o')))
+              (I.runs out (at (entry_mark h) l fs (origin h from p)) (no_value h) l fs (origin h from p) (λ v r. refl) (λ v r. refl) (λ r. refl)
+              (λ o'. subst (λ (st : State). Runs whole out st t) (after_dropped h I.key I.type I.val o' l fs (origin h from p) I.here t) (X.runs out h l fs from a o')));
         }
     read_name (AfterName.blocks d) e p ds =
         let X = read_blocks d e p ds no_star in
         record {
-          entries = []; tail = X.tail; middle = p; laid_entries = no_entry; laid_tail = X.laid_tail; laid_end = X.laid_end;
-          same_entries = refl; same_tail = X.same_tail;
-          runs = λ out h l fs from a o. X.runs out h l fs from a (fresh o)
+          entries = [];
+          tail = X.tail;
+          middle = p;
+          laid_entries = no_entry;
+          laid_tail = X.laid_tail;
+          laid_end = X.laid_end;
+          same_entries = refl;
+          same_tail = X.same_tail;
+          runs = λ out h l fs from a o. X.runs out h l fs from a (fresh o);
         }
 
     read_blocks : {b : Bool} {s r : Text} {k : data'.Children} → Blocks true b s r k → {v : Text} → Terminator r v → (p : Text) {m : Text} → Star DroppedEntry p m → Star DroppedBlock m s → ReadBlocks p s r v k
@@ -388,9 +410,12 @@ module _ (whole : Text) where
         let N = read_nodes ns' in
         let X = read_blocks d e p ds (snoc bs (DroppedBlock.dropped ss (slashdash ls) (braces ns'))) in
         record {
-          tail = X.tail; laid_tail = X.laid_tail; laid_end = X.laid_end; same_tail = X.same_tail;
+          tail = X.tail;
+          laid_tail = X.laid_tail;
+          laid_end = X.laid_end;
+          same_tail = X.same_tail;
           runs = λ out h l fs from a q. spaces_in out h l fs (origin h from p) ss q (λ q'. reads t_slashdash refl (open_mark out h l fs (origin h from p) ls
-            (N.runs out None (in_dropped h l ∷ fs) (origin h from p) (reads t_closing refl (X.runs out h l fs from a later))) q'))
+              (N.runs out None (in_dropped h l ∷ fs) (origin h from p) (reads t_closing refl (X.runs out h l fs from a later))) q'));
         }
     read_blocks (block {u = u} ss (braces {s = t} ns') d) e p ds bs =
         let N = read_nodes ns' in
@@ -401,7 +426,7 @@ module _ (whole : Text) where
           laid_tail = a_block (place (before_children ds (after_children bs ss)) (then (end_star (λ s r x. end_dropped x) ds) (then (end_star (λ s r x. end_dropped_block x) bs) (end_spaces ss)))) (content_laid N.laid N.gap') L.laid_behind;
           laid_end = L.laid_end;
           same_tail = ap data'.children (content_data N.tree (between N.last (125 ∷ u)) (125 ∷ u) ∙ N.same);
-          runs = λ out h l fs from a q. spaces_in out h l fs (origin h from p) ss q (λ q'. reads t_opening refl (block_runs out p N L h l fs from a))
+          runs = λ out h l fs from a q. spaces_in out h l fs (origin h from p) ss q (λ q'. reads t_opening refl (block_runs out p N L h l fs from a));
         }
     read_blocks (no_block {r = r} ss) e p ds bs =
         let E = read_end e in
@@ -410,7 +435,7 @@ module _ (whole : Text) where
           laid_tail = laid_no_block (place (before_children ds (after_children bs ss)) (then (end_star (λ s r x. end_dropped x) ds) (then (end_star (λ s r x. end_dropped_block x) bs) (end_spaces ss))));
           laid_end = E.laid;
           same_tail = refl;
-          runs = λ out h l fs from a q. spaces_in out h l fs (origin h from p) ss q (λ q'. plain_runs out p E h l fs from a q')
+          runs = λ out h l fs from a q. spaces_in out h l fs (origin h from p) ss q (λ q'. plain_runs out p E h l fs from a q');
         }
 
     read_later : {s r : Text} → AfterBlock true s r → {v : Text} → Terminator r v → (p : Text) → Star DroppedBlock p s → ReadLater p s r v
@@ -418,34 +443,44 @@ module _ (whole : Text) where
         let N = read_nodes ns' in
         let X = read_later d e p (snoc bs (DroppedBlock.dropped ss (slashdash ls) (braces ns'))) in
         record {
-          behind = X.behind; end = X.end; laid_behind = X.laid_behind; laid_end = X.laid_end;
+          behind = X.behind;
+          end = X.end;
+          laid_behind = X.laid_behind;
+          laid_end = X.laid_end;
           runs = λ out x l fs from a. stay out (at (kept x) l fs (origin x from p)) (λ s r. refl) ss (reads t_slashdash refl (lines out (at (kept_mark x) l fs (origin x from p)) (λ s r. refl) (λ s r. refl) ls (reads t_opening refl
-            (N.runs out None (in_later x l ∷ fs) (origin x from p) (reads t_closing refl (X.runs out x l fs from a))))))
+              (N.runs out None (in_later x l ∷ fs) (origin x from p) (reads t_closing refl (X.runs out x l fs from a))))));
         }
     read_later (no_more {r = r} ss) e p bs =
         let E = read_end e in
         record {
-          behind = between p r; end = E.end;
-          laid_behind = place (after_children bs ss) (then (end_star (λ s r x. end_dropped_block x) bs) (end_spaces ss)); laid_end = E.laid;
-          runs = λ out x l fs from a. stay out (at (kept x) l fs (origin x from p)) (λ s r. refl) ss (later_runs out p E x l fs from a)
+          behind = between p r;
+          end = E.end;
+          laid_behind = place (after_children bs ss) (then (end_star (λ s r x. end_dropped_block x) bs) (end_spaces ss));
+          laid_end = E.laid;
+          runs = λ out x l fs from a. stay out (at (kept x) l fs (origin x from p)) (λ s r. refl) ss (later_runs out p E x l fs from a);
         }
 
     read_nodes : {s r : Text} {xs : data'.Nodes} → AreNodes true s r xs → ReadNodes s r xs
     read_nodes (last_gap {s = s} {r = r} g) = record {
-        tree = none; last = s; laid = no_node; gap' = g; same = refl;
-        runs = λ out l fs from a. read_gap out g l fs (origin l from s) (subst (λ (l' : Option Nodes). Runs whole out (at gap l' fs (origin l from s)) r) (extended_none l) a)
-      }
+      tree = none;
+      last = s;
+      laid = no_node;
+      gap' = g;
+      same = refl;
+      runs = λ out l fs from a. read_gap out g l fs (origin l from s) (subst (λ (l' : Option Nodes). Runs whole out (at gap l' fs (origin l from s)) r) (extended_none l) a);
+    }
     read_nodes (node_then {s = s} {t = t} {u = r} g (named {t = m} {u = w} {n = n} y z d) e ds) =
         let X = read_filled {b = false} y (by_string z) in
         let Y = read_name d e w no_star in
         let D = read_nodes ds in
         let u : Under = record { leading = between s t; start = t; ty = X.type; name = identifier_at whole n m w; entries = Y.entries } in
         record {
-          tree = first (node_at whole u Y.tail.k Y.tail.before Y.tail.place Y.tail.end r) D.tree; last = D.last;
+          tree = first (node_at whole u Y.tail.k Y.tail.before Y.tail.place Y.tail.end r) D.tree;
+          last = D.last;
           laid = a_node (place g (end_gap g)) (laid_node X.laid (spelled_at z) Y.laid_entries Y.laid_tail) Y.laid_end refl D.laid;
           gap' = D.gap';
           same = (let a = X.same in let b = Y.same_entries in let c = Y.same_tail in let f = D.same in cc);
-          runs = λ out l fs from a. read_gap out g l fs (origin l from s) (node_runs out X Y D l fs from s a)
+          runs = λ out l fs from a. read_gap out g l fs (origin l from s) (node_runs out X Y D l fs from s a);
         }
 
   pub record Placed (s : Text) (xs : data'.Nodes) : Type 0 where

@@ -401,5 +401,3 @@ strings_joined x i = refused (letter 97 refl refl (blank (empty refl (letter 98 
 type_alone : (x : Nodes) → IsDocument true (40 ∷ 116 ∷ 41 ∷ []) x → ⊥
 unfolding is_bare is_identifier_char is_space is_newline_char is_banned is_mark is_digit_of
 type_alone x i = refused (open_paren (letter 116 refl refl (close_paren end))) refl refl x i
-
-

@@ -83,11 +83,11 @@ pub record ReadEntry (s t r : Text) (e : entry_data'.Entry) : Type 0 where
 
 read_entry : {s t r : Text} {e : entry_data'.Entry} → Plus Space s t → IsEntry t r e → ReadEntry s t r e
 read_entry {s = s} {t = t} {r = r} ss (argument {v = v} x) = record {
-    made = argument_tree (between s t) (between t r) v;
-    laid = laid_argument (place ss (end_some_spaces ss)) (place x (token_end (value_token x)));
-    same = refl;
-    runs = λ d u l a. reads (value_token x) refl a;
-  }
+  made = argument_tree (between s t) (between t r) v;
+  laid = laid_argument (place ss (end_some_spaces ss)) (place x (token_end (value_token x)));
+  same = refl;
+  runs = λ d u l a. reads (value_token x) refl a;
+}
 
 pub record ReadName (s r : Text) (es : List entry_data'.Entry) : Type 0 where
   pub made : List Entry
@@ -99,13 +99,13 @@ pub record ReadName (s r : Text) (es : List entry_data'.Entry) : Type 0 where
 
 read_name : {s r : Text} {es : List entry_data'.Entry} → AfterName s r es → ReadName s r es
 read_name {s = s} {r = r} (last ss) = record {
-    made = [];
-    from = s;
-    laid = no_entry;
-    spaces = ss;
-    same = refl;
-    runs = λ d u l f. spaces_in d (Some u) l s ss (λ p i. subst (λ (z : List Entry). Runs d (at p (Some (record u { entries = z })) l s) r) (append-nil u.entries) (f p i));
-  }
+  made = [];
+  from = s;
+  laid = no_entry;
+  spaces = ss;
+  same = refl;
+  runs = λ d u l f. spaces_in d (Some u) l s ss (λ p i. subst (λ (z : List Entry). Runs d (at p (Some (record u { entries = z })) l s) r) (append-nil u.entries) (f p i));
+}
 read_name {s = s} {r = r} (entry {t = t} {u = m} {e = e} (plus n ns) x rest) =
     let E = read_entry (plus n ns) x in
     let N = read_name rest in
@@ -116,8 +116,8 @@ read_name {s = s} {r = r} (entry {t = t} {u = m} {e = e} (plus n ns) x rest) =
       spaces = N.spaces;
       same = ap (λ z. z ∷ map entry_data N.made) E.same ∙ ap (λ z. e ∷ z) N.same;
       runs = λ d u l f. reads (a_space n) refl (stay d (at spaced (Some u) l s) (λ s r. refl) ns (E.runs d (Some u) l
-        (N.runs d (record u { entries = u.entries ++ (E.made ∷ []) }) l
-        (λ p i. subst (λ (z : List Entry). Runs d (at p (Some (record u { entries = z })) l N.from) r) (sym (append_assoc u.entries (E.made ∷ []) N.made)) (f p i)))));
+          (N.runs d (record u { entries = u.entries ++ (E.made ∷ []) }) l
+          (λ p i. subst (λ (z : List Entry). Runs d (at p (Some (record u { entries = z })) l N.from) r) (sym (append_assoc u.entries (E.made ∷ []) N.made)) (f p i)))));
     }
 
 -- a node behind a gap, with its terminator
@@ -148,13 +148,13 @@ pub record ReadNodes (s r : Text) (xs : data'.Nodes) : Type 0 where
 
 read_nodes : {s r : Text} {xs : data'.Nodes} → AreNodes s r xs → ReadNodes s r xs
 read_nodes {s = s} {r = r} (last_gap g) = record {
-    made = none;
-    from = s;
-    laid = no_node;
-    gap' = g;
-    same = refl;
-    runs = λ d l a. read_gap d l s g (subst (λ (z : Nodes). Runs d (at gap None z s) r) (join_none l) a);
-  }
+  made = none;
+  from = s;
+  laid = no_node;
+  gap' = g;
+  same = refl;
+  runs = λ d l a. read_gap d l s g (subst (λ (z : Nodes). Runs d (at gap None z s) r) (join_none l) a);
+}
 read_nodes {s = s} {r = r} (node_then {x = y} g x e rest) =
     let X = read_node g x e in
     let N = read_nodes rest in

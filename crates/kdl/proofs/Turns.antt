@@ -31,11 +31,11 @@ pub record Going (st : State) (here : Here) (t : Text) : Type 0 where
 
 pub starts_going : (t : Text) (here : Here) → here.rest ≡ t → here.at ≡ 0 → Going (initial t) here t
 starts_going t here e f = record {
-    same = λ d. rw e (λ a. a, λ a. a);
-    from = ([], sym e);
-    text = ([], sym e);
-    at = omega (arith, ap bytes e);
-  }
+  same = λ d. rw e (λ a. a, λ a. a);
+  from = ([], sym e);
+  text = ([], sym e);
+  at = omega (arith, ap bytes e);
+}
 
 then_ends : {t s r : Text} → EndsIn t s → EndsIn s r → EndsIn t r
 then_ends {r = r} a b = (a.0 ++ b.0, a.1 ∙ ap (λ (z : Text). a.0 ++ z) b.1 ∙ sym (append_assoc a.0 b.0 r))
@@ -62,11 +62,11 @@ goes_on st st' old mid new t k g h m e y =
     let e' : step st (kind_view k.kind) old.rest mid.rest ≡ Some st' = rw (h.start_rest, h.end_rest) at e in
     let piece : EndsIn old.rest mid.rest = m.piece in
     let went : Going st' mid t = record {
-        same = λ d. let a = read_cut d st st' old.rest mid.rest (kind_view k.kind) h.cuts e' in let b = g.same d in (λ x. b.0 (a.0 x), λ x. a.1 (b.1 x));
-        from = step_from st.phase st st' (kind_view k.kind) old.rest mid.rest e' g.from piece;
-        text = then_ends g.text piece;
-        at = m.at ∙ g.at;
-      } in
+      same = λ d. let a = read_cut d st st' old.rest mid.rest (kind_view k.kind) h.cuts e' in let b = g.same d in (λ x. b.0 (a.0 x), λ x. a.1 (b.1 x));
+      from = step_from st.phase st st' (kind_view k.kind) old.rest mid.rest e' g.from piece;
+      text = then_ends g.text piece;
+      at = m.at ∙ g.at;
+    } in
     record {
       same = rw y.rest went.same;
       from = rw y.rest went.from;

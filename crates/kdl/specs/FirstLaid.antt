@@ -16,21 +16,21 @@ pub data LaidEntries : List Entry → Text → Text → Type 0 where
 -- the format of a node without type and children: what stands before it, before its terminator, and the terminator
 abbrev pub plain_format : Text → Text → Text → NodeFormat
 plain_format leading before end = record {
-    leading = leading;
-    before_ty_name = [];
-    after_ty_name = [];
-    after_ty = [];
-    before_children = [];
-    before_terminator = before;
-    terminator = end;
-    trailing = [];
-  }
+  leading = leading;
+  before_ty_name = [];
+  after_ty_name = [];
+  after_ty = [];
+  before_children = [];
+  before_terminator = before;
+  terminator = end;
+  trailing = [];
+}
 
 -- a gap, the name, the entries, spaces, a terminator
 pub data LaidNode : Node → Text → Text → Type 0 where
   plain : {leading before end s t u v w r : Text} {name : Identifier} {es : List Entry} {at : SourceSpan}
-    → Is Gap leading s t → LaidIdentifier name t u → LaidEntries es u v → Is (Star Space) before v w → Is Terminator end w r
-    → LaidNode (node (record { ty = None; name = name; entries = es; format = Some (plain_format leading before end); span = at }) no_children) s r
+      → Is Gap leading s t → LaidIdentifier name t u → LaidEntries es u v → Is (Star Space) before v w → Is Terminator end w r
+      → LaidNode (node (record { ty = None; name = name; entries = es; format = Some (plain_format leading before end); span = at }) no_children) s r
 
 pub data LaidNodes : Nodes → Text → Text → Type 0 where
   no_node : {s : Text} → LaidNodes none s s
@@ -40,4 +40,4 @@ pub data LaidNodes : Nodes → Text → Text → Type 0 where
 pub data LaidDocument : Document → Text → Type 0 where
   without_nodes : {leading s : Text} {at : SourceSpan} → Is Gap leading s [] → LaidDocument (document (Some (record { leading = leading; trailing = [] })) at none) s
   with_nodes : {trailing s t : Text} {x : Node} {xs : Nodes} {at : SourceSpan} → LaidNodes (first x xs) s t → Is Gap trailing t []
-    → LaidDocument (document (Some (record { leading = []; trailing = trailing })) at (first x xs)) s
+      → LaidDocument (document (Some (record { leading = []; trailing = trailing })) at (first x xs)) s

@@ -24,20 +24,20 @@ mutual
   -- a type or none, a name, and what follows it
   pub data IsNode (wide : Bool) : Text → Text → Node → Type 0 where
     named : {s t u r n : Text} {y : Option Text} {es : List Entry} {k : Children} → MaybeType wide s t y → IsString wide t u n → AfterName wide u r es k
-      → IsNode wide s r (node y n es k)
+        → IsNode wide s r (node y n es k)
 
   -- behind a name or an entry: entries, and those that count for nothing, and then blocks
   pub data AfterName (wide : Bool) : Text → Text → List Entry → Children → Type 0 where
     kept_entry : {s t u r : Text} {e : Entry} {es : List Entry} {k : Children} → Plus NodeSpace s t → IsEntry wide t u e → AfterName wide u r es k
-      → AfterName wide s r (e ∷ es) k
+        → AfterName wide s r (e ∷ es) k
     dropped_entry : {s t u v r : Text} {e : Entry} {es : List Entry} {k : Children} → Spaces wide s t → Slashdash t u → IsEntry wide u v e → AfterName wide v r es k
-      → AfterName wide s r es k
+        → AfterName wide s r es k
     blocks : {s r : Text} {k : Children} → Blocks wide false s r k → AfterName wide s r [] k
 
   -- blocks that count for nothing, a block or none, and what follows it; braced: a `}` stands directly before
   pub data Blocks (wide : Bool) : Bool → Text → Text → Children → Type 0 where
     dropped_block : {braced : Bool} {s t u v r : Text} {xs : Nodes} {k : Children} → Spaces (wide || braced) s t → Slashdash t u → IsBlock wide u v xs
-      → Blocks wide true v r k → Blocks wide braced s r k
+        → Blocks wide true v r k → Blocks wide braced s r k
     block : {braced : Bool} {s t u r : Text} {xs : Nodes} → Star NodeSpace s t → IsBlock wide t u xs → AfterBlock wide u r → Blocks wide braced s r (children xs)
     no_block : {braced : Bool} {s r : Text} → Star NodeSpace s r → Blocks wide braced s r no_children
 

@@ -14,15 +14,15 @@ use Rattle.kdl.specs.Tree.{NodeFormat, DocumentFormat, Head, Node, node, Childre
 -- a format of a node, by its texts in order
 abbrev pub node_format : Text → Text → Text → Text → Text → Text → Text → Text → NodeFormat
 node_format leading before after behind before_children before_terminator terminator trailing = record {
-    leading = leading;
-    before_ty_name = before;
-    after_ty_name = after;
-    after_ty = behind;
-    before_children = before_children;
-    before_terminator = before_terminator;
-    terminator = terminator;
-    trailing = trailing;
-  }
+  leading = leading;
+  before_ty_name = before;
+  after_ty_name = after;
+  after_ty = behind;
+  before_children = before_children;
+  before_terminator = before_terminator;
+  terminator = terminator;
+  trailing = trailing;
+}
 
 abbrev pub node_span : Node → SourceSpan
 node_span (node h k) = h.span
@@ -45,9 +45,9 @@ mutual
   -- a node from its type or name to its terminator; the texts before it, its terminator and the text behind it, and its span stand beside
   pub data LaidNode (exact : Bool) (whole : Text) : Text → Text → Text → SourceSpan → Node → Text → Text → Type 0 where
     laid_node : {leading end trailing before after behind before_children before_terminator s t u v r : Text} {at : SourceSpan} {ty : Option Identifier} {name : Identifier} {es : List Entry} {k : Children}
-      → LaidType exact whole ty before after behind s t → LaidIdentifier exact whole name t u → LaidEntries exact whole es u v
-      → LaidChildren exact whole k before_children before_terminator v r
-      → LaidNode exact whole leading end trailing at (node (record {
+        → LaidType exact whole ty before after behind s t → LaidIdentifier exact whole name t u → LaidEntries exact whole es u v
+        → LaidChildren exact whole k before_children before_terminator v r
+        → LaidNode exact whole leading end trailing at (node (record {
           ty = ty;
           name = name;
           entries = es;
@@ -59,20 +59,20 @@ mutual
   pub data LaidChildren (exact : Bool) (whole : Text) : Children → Text → Text → Text → Text → Type 0 where
     no_block : {before s r : Text} → Is BeforeChildren before s r → LaidChildren exact whole no_children [] before s r
     a_block : {before later s t u r : Text} {d : Document} → Is BeforeChildren before s (123 ∷ t) → LaidContent exact whole d t (125 ∷ u) → Is AfterChildren later u r
-      → LaidChildren exact whole (children d) before later s r
+        → LaidChildren exact whole (children d) before later s r
 
   -- nodes in a document or a block, each behind a gap and with its terminator
   pub data LaidNodes (exact : Bool) (whole : Text) : Nodes → Text → Text → Type 0 where
     no_node : {s : Text} → LaidNodes exact whole none s s
     a_node : {leading end s t u v r : Text} {at : SourceSpan} {x : Node} {xs : Nodes} → Is (Gap true) leading s t → LaidNode exact whole leading end [] at x t u → Is Terminator end u v
-      → Spanned exact at (span_of whole t u) → LaidNodes exact whole xs v r → LaidNodes exact whole (first x xs) s r
+        → Spanned exact at (span_of whole t u) → LaidNodes exact whole xs v r → LaidNodes exact whole (first x xs) s r
 
   -- nodes and a gap behind them; without nodes the gap stands before them
   pub data LaidContent (exact : Bool) (whole : Text) : Document → Text → Text → Type 0 where
     without_nodes : {leading s r : Text} {at : SourceSpan} → Is (Gap true) leading s r → Spanned exact at (span_of whole r r)
-      → LaidContent exact whole (document (Some (record { leading = leading; trailing = [] })) at none) s r
+        → LaidContent exact whole (document (Some (record { leading = leading; trailing = [] })) at none) s r
     with_nodes : {trailing s t r : Text} {at : SourceSpan} {x : Node} {xs : Nodes} → LaidNodes exact whole (first x xs) s t → Is (Gap true) trailing t r
-      → Spanned exact at (content_span (span_of whole r r) (first x xs)) → LaidContent exact whole (document (Some (record { leading = []; trailing = trailing })) at (first x xs)) s r
+        → Spanned exact at (content_span (span_of whole r r) (first x xs)) → LaidContent exact whole (document (Some (record { leading = []; trailing = trailing })) at (first x xs)) s r
 
 -- U+FEFF before all
 abbrev pub with_mark : Document → Document
@@ -87,4 +87,4 @@ pub data LaidDocument (exact : Bool) : Document → Text → Type 0 where
 -- a node that is the whole text, which is its span, and line-spaces behind it
 pub data LaidNodeText (exact : Bool) (whole : Text) : Node → Type 0 where
   laid_node_text : {leading end trailing t u v : Text} {at : SourceSpan} {x : Node} → Is (Gap true) leading whole t → LaidNode exact whole leading end trailing at x t u
-    → Is Terminator end u v → Is (Star LineSpace) trailing v [] → Spanned exact at (span_of whole whole []) → LaidNodeText exact whole x
+      → Is Terminator end u v → Is (Star LineSpace) trailing v [] → Spanned exact at (span_of whole whole []) → LaidNodeText exact whole x

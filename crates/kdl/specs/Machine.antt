@@ -138,22 +138,22 @@ identifier_at whole v s r = record { value = v; repr = Some (between s r); span 
 
 abbrev pub entry_at : SourceSpan → Text → Option KeyParts → Option TypeParts → Value → Text → Entry
 entry_at span leading k y v repr = record {
-    ty = type_of y;
-    value = v;
-    name = key_of k;
-    format = Some (record {
-      value_repr = repr;
-      leading = leading;
-      trailing = [];
-      after_ty = behind_type y;
-      before_ty_name = before_name y;
-      after_ty_name = after_name y;
-      after_key = before_equals k;
-      after_eq = behind_equals k;
-      autoformat_keep = false;
-    });
-    span = span;
-  }
+  ty = type_of y;
+  value = v;
+  name = key_of k;
+  format = Some (record {
+    value_repr = repr;
+    leading = leading;
+    trailing = [];
+    after_ty = behind_type y;
+    before_ty_name = before_name y;
+    after_ty_name = after_name y;
+    after_key = before_equals k;
+    after_eq = behind_equals k;
+    autoformat_keep = false;
+  });
+  span = span;
+}
 
 abbrev pub with_entry : Under → Entry → Under
 with_entry u e = record u { entries = u.entries ++ (e ∷ []) }
@@ -169,12 +169,12 @@ filled whole (for_value u leading start k) y v s r = Some (with_entry u (entry_a
 -- a node that ends where s begins
 abbrev pub node_at : Text → Under → Children → Text → Text → Text → Text → Node
 node_at whole u k before_children before_terminator end s = node (record {
-    ty = type_of u.ty;
-    name = u.name;
-    entries = u.entries;
-    format = Some (node_format u.leading (before_name u.ty) (after_name u.ty) (behind_type u.ty) before_children before_terminator end []);
-    span = span_of whole u.start s;
-  }) k
+  ty = type_of u.ty;
+  name = u.name;
+  entries = u.entries;
+  format = Some (node_format u.leading (before_name u.ty) (after_name u.ty) (behind_type u.ty) before_children before_terminator end []);
+  span = span_of whole u.start s;
+}) k
 
 abbrev pub closed : Text → Option Under → Children → Text → Text → Text → Text → Option Node
 closed whole None k before place end s = None

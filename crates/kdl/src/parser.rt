@@ -256,7 +256,9 @@ impl<'a> Builder<'a> {
     {
         match kind {
             TokenKind::Space | TokenKind::Newline => Ok(()),
-            TokenKind::Value(KdlValue::String(name)) => Ok(self.begin_node(alloc, lexer, name, start, end)?),
+            TokenKind::Value(KdlValue::String(name)) => Ok(self.begin_node(
+                alloc, lexer, name, start, end,
+            )?),
             TokenKind::Value(_) | TokenKind::Semicolon => Err(refused(start)),
         }
     }
