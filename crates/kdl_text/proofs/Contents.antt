@@ -74,5 +74,5 @@ module _ (f a : Here) (out : List LineUnit) (i : InContent f a out) where
   -- where a unit was not read
   pub content_unit_there : (c : ℕ) (b : Here) → Took (Some c) a b → (c ≡ 34 → ⊥) → (r : Text) (w : List LineUnit) → Content f.rest r w → (m : Text) × (us : List LineUnit) × ContentUnit (c ∷ b.rest) m us
   content_unit_there c b t ne r w x =
-      let (v, e, more) = i.goes.back r w x in
-      content_unit ne (subst (λ z. Content z r v) t.0 more)
+      let (v, e, rest) = i.goes.back r w x in
+      content_unit ne (subst (λ z. Content z r v) t.0 rest)

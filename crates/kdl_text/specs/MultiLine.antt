@@ -1,4 +1,5 @@
 -- Quoted strings in either form (KDL 2.0.0, Quoted String and Multi-line String).
+-- `X t r us`: an X begins the text t, leaves r, and has the units us.
 use Rattle.std.specs.Prelude.{◌≡◌, false, List, [], ◌∷◌, ◌++◌}
 use Rattle.kdl_text.specs.Chars.{Text, Newline, begins_two, begins_with}
 use Rattle.kdl_text.specs.Strings.{StringUnit, literal, escape, spaces, IsUnit, QuotedString}

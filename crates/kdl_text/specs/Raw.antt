@@ -1,4 +1,5 @@
 -- Raw strings in either form (KDL 2.0.0, Raw String).
+-- `X t r us`: an X begins the text t, leaves r, and has the units us.
 use Rattle.std.specs.Prelude.{◌≡◌, ℕ, ◌<◌, Bool, true, false, not, ◌&&◌, ◌==◌, List, [], ◌∷◌, ◌++◌}
 use Rattle.kdl_text.specs.Chars.{Text, Newline, begins_with, times, is_raw}
 use Rattle.kdl_text.specs.Dedent.{Dedents}

@@ -155,7 +155,8 @@ fn last_line(units: &[LineUnit]) -> usize
 
 /// The value of the lines, without the last, whose spaces are taken from the front of the others
 /// (KDL 2.0.0, Multi-line String).
-/// A step for each unit, and one for each line. A fault: the last line is not spaces alone, or another has not these spaces at its front and is not spaces alone.
+/// A step for each unit, and one for each line. A fault: the last line is not spaces alone, or another has not these
+/// spaces at its front and is not spaces alone.
 pub fn dedent(alloc: Global, units: &[LineUnit], steps: &mut Steps) -> Result<String, StringFailure>
     ensures found { IfOk result (λ s. Dedents units.now (chars (string_bytes s))) }
     ensures only { (v : List ℕ) → Dedents units.now v → MatchResult result (λ s. v ≡ chars (string_bytes s)) (λ e. e ≡ Memory) }
