@@ -2,6 +2,7 @@ pub mod Comparing
 pub mod Cutting
 pub mod Equality
 pub mod Escapes
+pub mod FloatTexts
 pub mod Fronts
 pub mod Lexing
 pub mod Printing

@@ -1,5 +1,6 @@
 pub mod Data
 pub mod Entries
+pub mod Floats
 pub mod Laid
 pub mod Lexed
 pub mod Order
