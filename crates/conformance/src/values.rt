@@ -31,7 +31,12 @@ fn printed_values(rt: HostRuntime) -> Result<(), Fail> {
     let alloc = rt.alloc();
     prints(&rt, alloc, &string(alloc, "foo")?, "foo")?;
     prints(&rt, alloc, &KdlValue::from(-17), "-17")?;
-    prints(&rt, alloc, &KdlValue::from(i128::MIN), "-170141183460469231731687303715884105728")?;
+    prints(
+        &rt,
+        alloc,
+        &KdlValue::from(i128::MIN),
+        "-170141183460469231731687303715884105728",
+    )?;
     prints(&rt, alloc, &float(alloc, "-0.5E-3")?, "-0.5E-3")?;
     prints(&rt, alloc, &float(alloc, "#-inf")?, "#-inf")?;
     prints(&rt, alloc, &KdlValue::from(true), "#true")?;
@@ -79,7 +84,10 @@ fn ordered_values(rt: HostRuntime) -> Result<(), Fail> {
             assert_eq!(rt; a == b, i == j);
         }
     }
-    assert_eq!(rt; string(alloc, "b")?.cmp(&string(alloc, "ab")?), Ordering::Greater);
+    assert_eq!(rt;
+        string(alloc, "b")?.cmp(&string(alloc, "ab")?),
+        Ordering::Greater
+    );
     Ok(())
 }
 
@@ -123,7 +131,9 @@ fn float_texts(rt: HostRuntime) {
     for text in &["1.0", "+1e5", "-0.5E-3", "00.10", "#nan", "#inf", "#-inf"] {
         assert!(rt; is_float(&rt, alloc, text), "{text} is no float");
     }
-    for text in &["", "1", "1_0.5", ".5", "1.", "1e", "inf", "0x1.0", "#true", " 1.0", "1.0 "] {
+    for text in &[
+        "", "1", "1_0.5", ".5", "1.", "1e", "inf", "0x1.0", "#true", " 1.0", "1.0 ",
+    ] {
         assert!(rt; !is_float(&rt, alloc, text), "{text} is a float");
     }
 }
@@ -131,8 +141,14 @@ fn float_texts(rt: HostRuntime) {
 #[test]
 fn float_failures(rt: HostRuntime) -> Result<(), Fail> {
     let alloc = rt.alloc();
-    assert_eq!(rt; FloatFailure::NotAFloat.to_string(alloc)?.as_str(), "not a KDL float");
-    assert_eq!(rt; FloatFailure::Memory.to_string(alloc)?.as_str(), "out of memory");
+    assert_eq!(rt;
+        FloatFailure::NotAFloat.to_string(alloc)?.as_str(),
+        "not a KDL float"
+    );
+    assert_eq!(rt;
+        FloatFailure::Memory.to_string(alloc)?.as_str(),
+        "out of memory"
+    );
     Ok(())
 }
 

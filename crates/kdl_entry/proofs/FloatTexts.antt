@@ -96,9 +96,9 @@ plain_exponent (exponent {c = c} {r = r} h g i) =
       piece = c ∷ (x.piece ++ y.piece);
       text = ap (λ z. c ∷ z) (x.text ∙ ap (λ z. x.piece ++ z) y.text ∙ sym (append_assoc x.piece y.piece r));
       reads = λ s k.
-        let here = y.reads s (ends_bare s k).digits in
-        rw (kept c (x.piece ++ y.piece) (power_kept c h), filter-append (λ d. not (d == 95)) x.piece y.piece, append_assoc (plain x.piece) (plain y.piece) s)
-        (record { power = exponent h (x.reads (plain y.piece ++ s) (integer_signless here)) here; digits = power_no_part c h; point = power_pointless c h });
+          let here = y.reads s (ends_bare s k).digits in
+          rw (kept c (x.piece ++ y.piece) (power_kept c h), filter-append (λ d. not (d == 95)) x.piece y.piece, append_assoc (plain x.piece) (plain y.piece) s)
+          (record { power = exponent h (x.reads (plain y.piece ++ s) (integer_signless here)) here; digits = power_no_part c h; point = power_pointless c h });
     }
 
 point_no_part : is_part 10 46 ≡ false

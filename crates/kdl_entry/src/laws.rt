@@ -125,5 +125,4 @@ pub fn hash_entries<H: Hasher>(a: &KdlEntry, b: &KdlEntry, one: &mut H, other: &
 /// What a decimal in a text stands for is a float's text.
 pub fn decimals_are_floats()
     ensures { DecimalsAreFloats }
-{
-}
+{}
