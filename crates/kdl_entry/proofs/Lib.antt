@@ -5,6 +5,7 @@ pub mod EntryEnds
 pub mod Equality
 pub mod Escapes
 pub mod FirstCutting
+pub mod FloatTexts
 pub mod Fronts
 pub mod LaidPrinted
 pub mod LeafEnds

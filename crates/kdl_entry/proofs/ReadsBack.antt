@@ -1,17 +1,16 @@
 -- The printed spelling stands for the string.
-use Rattle.std.proofs.Common.{◌≡◌, ℕ, zero, suc, ◌+◌, ◌<◌, ◌≤◌, ◌/◌, ◌%◌, ◌^◌, Bool, true, false, not, ◌&&◌, ◌||◌, ◌==◌, List, [], ◌∷◌, ◌++◌, length, refl, sym, ap, subst, ◌∙◌, inl, inr, arith, append_assoc, append-nil, eq-eqb, ne_eqb}
+use Rattle.std.proofs.Common.{◌≡◌, ℕ, zero, suc, ◌+◌, ◌<◌, ◌≤◌, ◌/◌, ◌%◌, ◌^◌, true, false, ◌||◌, ◌==◌, List, [], ◌∷◌, ◌++◌, length, refl, sym, subst, inl, inr, arith, append_assoc, append-nil, eq-eqb, ne_eqb}
 use Rattle.std.specs.Prelude.{Some}
 use Rattle.std.proofs.lemmas.Bool.{cases_Bool, cases_eq, and_parts}
 use Rattle.std.proofs.lemmas.Bool.Decides.{nat_tests}
 use Rattle.std.specs.List.{list_all}
 use Rattle.std.specs.Fmt.{digits, digits_onto, digit_glyph}
 use Rattle.std.proofs.Math.Nat.{pow-succ'}
-use Rattle.std.specs.Char.{is_digit}
 use Rattle.std.specs.Str.Parse.{AllDigits}
 use Rattle.std.proofs.lemmas.Fmt.{digits_is_IsNumeral}
-use Rattle.kdl_text.specs.Chars.{Text, is_banned, is_newline_char, is_literal, is_scalar, is_identifier_char, starts}
-use Rattle.kdl_text.specs.Strings.{StringUnit, literal, escape, unit_value, values, letter_escape, is_hex, HexNumber, IsUnit, one_literal, one_letter, one_number, AreUnits, none, more, QuotedBody, body, QuotedString, quoted}
-use Rattle.kdl_text.specs.Bare.{BareString, bare, is_bare}
+use Rattle.kdl_text.specs.Chars.{Text, is_banned, is_newline_char, is_literal, is_scalar}
+use Rattle.kdl_text.specs.Strings.{StringUnit, literal, escape, unit_value, values, letter_escape, is_hex, HexNumber, IsUnit, one_literal, one_letter, one_number, AreUnits, none, more, body, quoted}
+use Rattle.kdl_text.specs.Bare.{bare, is_bare}
 use Rattle.kdl_entry.specs.Spelled.{escape_letter, char_text, escaped, prints_bare, spelled, StandsFor, SpelledReadsBack, SpelledReadsBackBefore}
 
 -- the unit that is written for a character

@@ -20,10 +20,10 @@ pub struct KdlFloat {
 }
 
 impl KdlFloat {
-    ghost use Rattle.kdl_entry.specs.Tree.{float_text_of};
+    ghost use Rattle.kdl_entry.specs.Tree.{float_text_of, text_of};
 
     /// A float with a copy of the text: a decimal without `_`, or one of `#inf`, `#-inf` and `#nan`.
-    /// Any other text is `NotAFloat`.
+    /// Any other text is `NotAFloat`; `Memory` where a request for memory was refused.
     pub fn new(alloc: Global, text: &str) -> Result<KdlFloat, FloatFailure>
         ensures kept { IfOk result (λ f. float_text_of f ≡ chars text.now) }
         ensures float { IfOk result (λ f. FloatText (chars text.now)) }
@@ -36,6 +36,14 @@ impl KdlFloat {
             Ok(text) => Ok(KdlFloat { text }),
             Err(_) => Err(FloatFailure::Memory),
         }
+    }
+
+    /// A float as it was read: its text, which is a float's.
+    pub fn parsed(text: String) -> KdlFloat
+        requires { FloatText (text_of text) }
+        ensures { float_text_of result ≡ text_of text }
+    {
+        KdlFloat { text }
     }
 
     /// The text.

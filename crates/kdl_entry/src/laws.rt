@@ -2,6 +2,7 @@
 
 ghost use Rattle.kdl_entry.specs.Laws.{OneIdentifier, OneEntry};
 ghost use Rattle.kdl_entry.specs.Order.{text_order, value_order};
+ghost use Rattle.kdl_entry.specs.Floats.{DecimalsAreFloats};
 ghost use Rattle.kdl_entry.specs.Spelled.{SpelledReadsBack, SpelledReadsBackBefore};
 ghost use Rattle.kdl_entry.specs.Tree.{identifier_tree, entry_tree, value_tree, float_text_of, entry_format_tree, without_span, without_spans};
 ghost use Rattle.std.specs.Cmp.{IsTotalOrder};
@@ -132,3 +133,8 @@ pub fn hash_entries<H: Hasher>(a: &KdlEntry, b: &KdlEntry, one: &mut H, other: &
     a.hash(one);
     b.hash(other);
 }
+
+/// What a decimal in a text stands for is a float's text.
+pub fn decimals_are_floats()
+    ensures { DecimalsAreFloats }
+{}

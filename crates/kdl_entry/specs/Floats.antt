@@ -1,0 +1,7 @@
+-- The texts of floats.
+use Rattle.kdl_text.specs.Chars.{Text}
+use Rattle.kdl_text.specs.Numbers.{Decimal, FloatText}
+
+-- what a decimal stands for is a float's text
+abbrev pub DecimalsAreFloats : Type 0
+DecimalsAreFloats = (t r w : Text) → Decimal t r w → FloatText w
