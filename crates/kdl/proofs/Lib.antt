@@ -5,6 +5,7 @@ pub mod Derivation
 pub mod Ends
 pub mod Erased
 pub mod Examples
+pub mod Faults
 pub mod FirstComplete
 pub mod FirstPlaces
 pub mod FirstSound

@@ -1,6 +1,7 @@
 pub mod Cutting
 pub mod Derivation
 pub mod EntryEnds
+pub mod EntryMoves
 pub mod Equality
 pub mod Escapes
 pub mod FirstCutting
@@ -8,7 +9,9 @@ pub mod Fronts
 pub mod LaidPrinted
 pub mod LeafEnds
 pub mod Lexing
+pub mod PieceMoves
 pub mod Printing
+pub mod Puts
 pub mod Spellings
 pub mod StringPieces
 pub mod WholeTexts
