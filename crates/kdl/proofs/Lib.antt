@@ -11,6 +11,7 @@ pub mod FirstPlaces
 pub mod FirstSound
 pub mod LaidPrinted
 pub mod LawProofs
+pub mod Moving
 pub mod Printed
 pub mod Printing
 pub mod Refusals
