@@ -15,6 +15,7 @@ pub mod Moving
 pub mod Printed
 pub mod Printing
 pub mod Refusals
+pub mod Relaid
 pub mod RunsLemmas
 pub mod Same
 pub mod Sound

@@ -1,8 +1,9 @@
 -- What is proved of the written grammar of documents and nodes.
-use Rattle.std.specs.Prelude.{◌≡◌, ◌↔◌, Bool, true, List}
+use Rattle.std.specs.Prelude.{◌≡◌, ◌↔◌, Bool, true, false, List}
 use Rattle.kdl_text.specs.Chars.{Text}
 use Rattle.kdl_entry.specs.Tokens.{Token, Lexes}
 use Rattle.kdl.specs.Data as data'
+use Rattle.kdl.specs.Edited.{EditedDocument}
 use Rattle.kdl.specs.Former.{IsFormerDocument, IsFormerNodeText}
 use Rattle.kdl.specs.Grammar.{IsDocument, IsNodeText}
 use Rattle.kdl.specs.Laid.{LaidDocument, LaidNodeText}
@@ -45,3 +46,7 @@ LaidNodeIsDerived = (exact : Bool) (t : Text) (x : Node) → LaidNodeText exact 
 -- what the former language derives, the present one derives with the same data
 abbrev pub FormerIsKept : Type 0
 FormerIsKept = ((t : Text) (x : data'.Nodes) → IsFormerDocument t x → IsDocument true t x) × ((t : Text) (x : data'.Node) → IsFormerNodeText t x → IsNodeText true t x)
+
+-- what is laid is laid again, in the text that it prints, when the entries of its nodes are chosen anew among them and among those that can stand anywhere
+abbrev pub EditedIsLaid : Type 0
+EditedIsLaid = (exact : Bool) (t : Text) (d e : Document) → LaidDocument exact d t → EditedDocument d e → LaidDocument false e (print_document e 0)

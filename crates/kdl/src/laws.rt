@@ -1,6 +1,6 @@
 //! What is proved of the written grammar of documents and nodes.
 
-ghost use Rattle.kdl.specs.Laws.{OneDocument, OneNode, IsLexed, OneAnswer, AnswersDocuments, AnswersAreLaid, LaidIsDerived, LaidNodeIsDerived, FormerIsKept};
+ghost use Rattle.kdl.specs.Laws.{OneDocument, OneNode, IsLexed, OneAnswer, AnswersDocuments, AnswersAreLaid, LaidIsDerived, LaidNodeIsDerived, FormerIsKept, EditedIsLaid};
 
 /// No text can be read as two documents.
 #[tactic(auto, using(crate::proofs::LawProofs::one_document))]
@@ -62,5 +62,13 @@ pub fn laid_node_is_derived()
 #[tactic(auto, using(crate::proofs::LawProofs::former_is_kept))]
 pub fn former_is_kept()
     ensures { FormerIsKept }
+{
+}
+
+/// Where a document is laid, each document that differs in its nodes' entries alone, each of them one of that node's own
+/// or one that can stand anywhere, is laid in the text that it prints; and so that text is read with its data.
+#[tactic(auto, using(crate::proofs::Relaid::relaid))]
+pub fn edited_is_laid()
+    ensures { EditedIsLaid }
 {
 }

@@ -12,6 +12,8 @@ pub mod Lexing
 pub mod PieceMoves
 pub mod Printing
 pub mod Puts
+pub mod Respanned
 pub mod Spellings
+pub mod Standing
 pub mod StringPieces
 pub mod WholeTexts
