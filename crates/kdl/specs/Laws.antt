@@ -43,6 +43,10 @@ LaidIsDerived = (exact : Bool) (t : Text) (d : Document) → LaidDocument exact 
 abbrev pub LaidNodeIsDerived : Type 0
 LaidNodeIsDerived = (exact : Bool) (t : Text) (x : Node) → LaidNodeText exact t x → IsNodeText true t (node_data x) × (print_node x 0 ≡ t)
 
+-- each text that is a node has one laid in it, with its data
+abbrev pub NodesAreLaid : Type 0
+NodesAreLaid = (t : Text) (x : data'.Node) → IsNodeText true t x → (n : Node) × LaidNodeText true t n × (node_data n ≡ x)
+
 -- what the former language derives, the present one derives with the same data
 abbrev pub FormerIsKept : Type 0
 FormerIsKept = ((t : Text) (x : data'.Nodes) → IsFormerDocument t x → IsDocument true t x) × ((t : Text) (x : data'.Node) → IsFormerNodeText t x → IsNodeText true t x)

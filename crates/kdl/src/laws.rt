@@ -1,6 +1,6 @@
 //! What is proved of the written grammar of documents and nodes.
 
-ghost use Rattle.kdl.specs.Laws.{OneDocument, OneNode, IsLexed, OneAnswer, AnswersDocuments, AnswersAreLaid, LaidIsDerived, LaidNodeIsDerived, FormerIsKept, EditedIsLaid};
+ghost use Rattle.kdl.specs.Laws.{OneDocument, OneNode, IsLexed, OneAnswer, AnswersDocuments, AnswersAreLaid, LaidIsDerived, LaidNodeIsDerived, NodesAreLaid, FormerIsKept, EditedIsLaid};
 
 /// No text can be read as two documents.
 #[tactic(auto, using(crate::proofs::LawProofs::one_document))]
@@ -55,6 +55,13 @@ pub fn laid_is_derived()
 #[tactic(auto, using(crate::proofs::LawProofs::laid_node_is_derived))]
 pub fn laid_node_is_derived()
     ensures { LaidNodeIsDerived }
+{
+}
+
+/// In each text that is a node, a node with its data is laid.
+#[tactic(auto, using(crate::proofs::LawProofs::nodes_are_laid))]
+pub fn nodes_are_laid()
+    ensures { NodesAreLaid }
 {
 }
 
