@@ -1,3 +1,4 @@
+pub mod Built
 pub mod Cutting
 pub mod Derivation
 pub mod EntryEnds
@@ -16,4 +17,5 @@ pub mod Respanned
 pub mod Spellings
 pub mod Standing
 pub mod StringPieces
+pub mod TextLaws
 pub mod WholeTexts

@@ -1,6 +1,6 @@
 //! What `==` means, and the laws of the written grammar.
 
-ghost use Rattle.kdl_entry.specs.Laws.{OneIdentifier, OneEntry};
+ghost use Rattle.kdl_entry.specs.Laws.{OneIdentifier, OneEntry, LaidIdentifierIsDerived, LaidEntryIsDerived, TextsAreLaid};
 ghost use Rattle.kdl_entry.specs.Tree.{identifier_tree, entry_tree, value_tree, entry_format_tree, without_span, without_spans};
 ghost use Rattle.std.specs.Prelude.{◌≡◌, IsTrue, ◌↔◌};
 
@@ -47,3 +47,24 @@ pub fn unambiguous_identifier()
 pub fn unambiguous_entry()
     ensures { OneEntry }
 {}
+
+/// Where an identifier is laid as a whole text, the text is one with its value, and it is what the identifier prints.
+#[tactic(auto, using(crate::proofs::TextLaws::laid_identifier_is_derived))]
+pub fn laid_identifier_is_derived()
+    ensures { LaidIdentifierIsDerived }
+{
+}
+
+/// Where an entry is laid as a whole text, the text is one with its data, and it is what the entry prints.
+#[tactic(auto, using(crate::proofs::TextLaws::laid_entry_is_derived))]
+pub fn laid_entry_is_derived()
+    ensures { LaidEntryIsDerived }
+{
+}
+
+/// In each text that is an identifier or an entry, one is laid with its data.
+#[tactic(auto, using(crate::proofs::TextLaws::texts_are_laid))]
+pub fn texts_are_laid()
+    ensures { TextsAreLaid }
+{
+}
