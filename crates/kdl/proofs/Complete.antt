@@ -14,10 +14,10 @@ use Rattle.kdl_entry.specs.Places.{Is, DroppedEntry, EntryLeading, leading as an
 use Rattle.kdl_entry.specs.Tokens.{Token, space, newline, slashdash as dash, string, value, left, right, opening, closing, equals, semicolon, mark, BeginsToken, t_space, t_newline, t_slashdash, t_string, t_value, t_left, t_right, t_opening, t_closing, t_equals, t_semicolon, t_mark}
 use Rattle.kdl_entry.specs.Tree.{Identifier, Entry, entry_data}
 use Rattle.kdl_entry.proofs.Cutting.{token_det, no_token}
-use Rattle.kdl_entry.proofs.EntryEnds.{end_spaces, end_some, end_string, end_plain, end_dropped}
+use Rattle.kdl_entry.proofs.EntryEnds.{end_spaces, end_lines, end_some, end_string, end_plain, end_dropped}
 use Rattle.kdl.specs.Data as data'
-use Rattle.kdl.specs.Grammar.{Terminator, IsNode, named, AfterName, kept_entry, dropped_entry, Blocks, dropped_block, block, no_block, AfterBlock, dropped_later, no_more, Gap, no_gap, line_space, dropped_node, AreNodes, last_gap, node_then, IsBlock, braces, IsDocument}
-use Rattle.kdl.specs.Laid.{LaidEntries, no_entry, an_entry, LaidNode, laid_node, LaidChildren, no_block as laid_no_block, a_block, LaidNodes, no_node, a_node, LaidContent, without_nodes, with_nodes, LaidDocument, with_mark, content_span}
+use Rattle.kdl.specs.Grammar.{Terminator, IsNode, named, AfterName, kept_entry, dropped_entry, Blocks, dropped_block, block, no_block, AfterBlock, dropped_later, no_more, Gap, no_gap, line_space, dropped_node, AreNodes, last_gap, node_then, IsBlock, braces, IsDocument, IsNodeText, node_text}
+use Rattle.kdl.specs.Laid.{LaidEntries, no_entry, an_entry, LaidNode, laid_node, LaidChildren, no_block as laid_no_block, a_block, LaidNodes, no_node, a_node, LaidContent, without_nodes, with_nodes, LaidDocument, with_mark, content_span, node_format, LaidNodeText, laid_node_text}
 use Rattle.kdl.specs.Places.{DroppedBlock, AfterChildren, after as after_children, BeforeChildren, before as before_children}
 use Rattle.kdl.specs.Tree.{Node, node, Children, no_children, children, Document, document, Nodes, none, first, join, node_data, children_data, document_data, nodes_data}
 use Rattle.kdl.specs.Machine.{between, TypeParts, KeyParts, Under, Kept, Slot, no_name, for_name, no_value, for_value, Pending, pending, Spot, fresh, spaced, later, Phase, gap, marked, type_open, type_name, type_done, in_node, property, entry_mark, block_mark, kept, kept_mark, Frame, in_block, in_dropped, in_later, State, at, origin, moved, name_slot, entry_slot, keyed, type_of, before_name, after_name, behind_type, key_of, identifier_at, entry_at, with_entry, filled, node_at, closed, closed_kept, ended, inside, content_at, with_block, popped, spaced_of, mark_of, from_spaced, where_value, given, worded, typed, step, finish, initial, Runs, stops, reads, Answers}
@@ -515,3 +515,25 @@ built (IsDocument.unmarked {t = t} d) = let p = placed t d in record { tree = p.
 built (IsDocument.marked {t = t} d) =
     let p = placed (0xFEFF ∷ t) d in
     record { tree = with_mark p.tree; laid = LaidDocument.marked p.laid; same = mark_data p.tree ∙ p.same; answers = Answers.marked p.runs }
+
+-- a node that is the whole text
+pub record BuiltNode (t : Text) (x : data'.Node) : Type 0 where
+  pub tree : Node
+  pub laid : LaidNodeText true t tree
+  pub same : node_data tree ≡ x
+
+pub built_node : {t : Text} {x : data'.Node} → IsNodeText true t x → BuiltNode t x
+built_node {t = t} (node_text {u = s} {v = v} {r = r} g (named {t = m} {u = w} {n = n} y z d) e ls) =
+    let X = read_filled t {b = false} y (by_string z) in
+    let Y = read_name t d e w no_star in
+    record {
+      tree = node (record {
+        ty = type_of X.type;
+        name = identifier_at t n m w;
+        entries = Y.entries;
+        format = Some (node_format (between t s) (before_name X.type) (after_name X.type) (behind_type X.type) Y.tail.before Y.tail.place Y.tail.end (between r []));
+        span = span_of t t [];
+      }) Y.tail.k;
+      laid = laid_node_text (place g (end_gap g)) (laid_node X.laid (spelled_at t z) Y.laid_entries Y.laid_tail) Y.laid_end (place ls (end_lines ls)) refl;
+      same = (let a = X.same in let b = Y.same_entries in let c = Y.same_tail in cc);
+    }

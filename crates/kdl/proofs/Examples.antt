@@ -11,6 +11,8 @@ use Rattle.kdl_entry.specs.Data.{Value, text, integer, truth}
 use Rattle.kdl_entry.specs.Entries.{StringPiece, PlainPiece}
 use Rattle.kdl_entry.specs.Tokens.{Token, space, newline, slashdash, string, value, left, right, opening, closing, equals, semicolon, mark, BeginsToken, t_space, t_newline, t_slashdash, t_string, t_value, t_left, t_right, t_opening, t_closing, t_equals, t_semicolon, t_mark}
 use Rattle.kdl_entry.proofs.Cutting.{token_det, no_token}
+use Rattle.kdl_entry.proofs.StringPieces.{string_begins, plain_begins}
+use Rattle.kdl.proofs.Faults.{here, then, faulty}
 use Rattle.kdl.specs.Data.{Node, node, Children, no_children, children, Nodes, none, first}
 use Rattle.kdl.specs.Grammar.{IsDocument}
 use Rattle.kdl.specs.Machine.{State, step, finish, initial, Runs, stops, reads, Answers}
@@ -401,3 +403,18 @@ strings_joined x i = refused (letter 97 refl refl (blank (empty refl (letter 98 
 type_alone : (x : Nodes) → IsDocument true (40 ∷ 116 ∷ 41 ∷ []) x → ⊥
 unfolding is_bare is_identifier_char is_space is_newline_char is_banned is_mark is_digit_of
 type_alone x i = refused (open_paren (letter 116 refl refl (close_paren end))) refl refl x i
+
+no_token_at_slash : {s r : Text} {k : Token} → BeginsToken (47 ∷ 32 ∷ s) k r → ⊥
+unfolding is_space is_newline_char is_identifier_char is_banned is_mark
+no_token_at_slash (t_space (NodeSpace.ws (Rattle.kdl_text.specs.Trivia.Ws.space (Rattle.kdl_text.specs.Chars.Space.space x)))) = cc
+no_token_at_slash (t_space (NodeSpace.ws (Rattle.kdl_text.specs.Trivia.Ws.comment p))) = elim p [ ]
+no_token_at_slash (t_space (NodeSpace.escline p)) = elim p [ ]
+no_token_at_slash (t_newline (Break.newline (Rattle.kdl_text.specs.Chars.Newline.one x y))) = cc
+no_token_at_slash (t_newline (Break.comment p)) = elim p [ ]
+no_token_at_slash (t_string p) = let x = string_begins p in cc
+no_token_at_slash (t_value p) = let x = plain_begins p in cc
+
+-- not `a/ -b`
+slash_alone : (x : Nodes) → IsDocument true (97 ∷ 47 ∷ 32 ∷ 45 ∷ 98 ∷ []) x → ⊥
+unfolding is_bare is_identifier_char is_space is_newline_char is_banned is_mark
+slash_alone x i = faulty (then (t_string (StringPiece.bare (Rattle.kdl_text.specs.Bare.bare {w = 97 ∷ []} refl refl refl))) here) (λ e. cc) (λ k t b. no_token_at_slash b) x i

@@ -5,7 +5,8 @@ use Rattle.kdl_text.specs.Chars.Star.{none as no_star, more}
 use Rattle.kdl_text.specs.Trivia.{LineSpace}
 use Rattle.kdl.specs.Data as data'
 use Rattle.kdl.specs.Grammar.{Gap, no_gap, line_space, last_gap, node_then, IsDocument, IsNodeText, node_text}
-use Rattle.kdl.specs.Laws.{OneDocument, OneNode, IsLexed, OneAnswer, AnswersDocuments, AnswersAreLaid, LaidIsDerived, LaidNodeIsDerived, FormerIsKept}
+use Rattle.kdl.specs.Laws.{OneDocument, OneNode, IsLexed, OneAnswer, AnswersDocuments, AnswersAreLaid, LaidIsDerived, LaidNodeIsDerived, NodesAreLaid, FormerIsKept}
+use Rattle.kdl.proofs.Complete.{built_node}
 use Rattle.kdl.proofs.Derivation.{document_of, node_text_of}
 use Rattle.kdl.proofs.Erased as erased
 use Rattle.kdl.proofs.LaidPrinted.{printed, node_text_printed}
@@ -42,6 +43,9 @@ laid_is_derived exact t d l = (document_of exact d t l, printed exact d t l)
 
 pub laid_node_is_derived : LaidNodeIsDerived
 laid_node_is_derived exact t x l = (node_text_of exact x t l, node_text_printed exact x t l)
+
+pub nodes_are_laid : NodesAreLaid
+nodes_are_laid t x i = let b = built_node i in (b.tree, b.laid, b.same)
 
 pub former_is_kept : FormerIsKept
 former_is_kept = (λ t x i. wider false i, λ t x i. wider_node false i)

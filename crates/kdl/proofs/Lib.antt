@@ -5,14 +5,17 @@ pub mod Derivation
 pub mod Ends
 pub mod Erased
 pub mod Examples
+pub mod Faults
 pub mod FirstComplete
 pub mod FirstPlaces
 pub mod FirstSound
 pub mod LaidPrinted
 pub mod LawProofs
+pub mod Moving
 pub mod Printed
 pub mod Printing
 pub mod Refusals
+pub mod Relaid
 pub mod RunsLemmas
 pub mod Same
 pub mod Sound

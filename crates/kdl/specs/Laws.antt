@@ -1,9 +1,10 @@
 -- What is proved of the written grammar of documents and nodes.
-use Rattle.std.specs.Prelude.{◌≡◌, ◌↔◌, Bool, true, List}
+use Rattle.std.specs.Prelude.{◌≡◌, ◌↔◌, Bool, true, false, List}
 use Rattle.kdl_text.specs.Chars.{Text}
 use Rattle.kdl_entry.specs.Tokens.{Token, Lexes}
 use Rattle.kdl.specs.Data as data'
 use Rattle.kdl.specs.FirstGrammar as first
+use Rattle.kdl.specs.Edited.{EditedDocument}
 use Rattle.kdl.specs.Former.{IsFormerDocument, IsFormerNodeText}
 use Rattle.kdl.specs.Grammar.{IsDocument, IsNodeText}
 use Rattle.kdl.specs.Laid.{LaidDocument, LaidNodeText}
@@ -43,6 +44,10 @@ LaidIsDerived = (exact : Bool) (t : Text) (d : Document) → LaidDocument exact 
 abbrev pub LaidNodeIsDerived : Type 0
 LaidNodeIsDerived = (exact : Bool) (t : Text) (x : Node) → LaidNodeText exact t x → IsNodeText true t (node_data x) × (print_node x 0 ≡ t)
 
+-- each text that is a node has one laid in it, with its data
+abbrev pub NodesAreLaid : Type 0
+NodesAreLaid = (t : Text) (x : data'.Node) → IsNodeText true t x → (n : Node) × LaidNodeText true t n × (node_data n ≡ x)
+
 -- what the former language derives, the present one derives with the same data
 abbrev pub FormerIsKept : Type 0
 FormerIsKept = ((t : Text) (x : data'.Nodes) → IsFormerDocument t x → IsDocument true t x) × ((t : Text) (x : data'.Node) → IsFormerNodeText t x → IsNodeText true t x)
@@ -50,3 +55,7 @@ FormerIsKept = ((t : Text) (x : data'.Nodes) → IsFormerDocument t x → IsDocu
 -- a text is one document of the first path at most
 abbrev pub OneFirstDocument : Type 0
 OneFirstDocument = (t : Text) (x y : data'.Nodes) → first.IsDocument t x → first.IsDocument t y → x ≡ y
+
+-- what is laid is laid again, in the text that it prints, when the entries of its nodes are chosen anew among them and among those that can stand anywhere
+abbrev pub EditedIsLaid : Type 0
+EditedIsLaid = (exact : Bool) (t : Text) (d e : Document) → LaidDocument exact d t → EditedDocument d e → LaidDocument false e (print_document e 0)

@@ -1,5 +1,6 @@
 pub mod Building
 pub mod Data
+pub mod Edited
 pub mod FirstGrammar
 pub mod FirstLaid
 pub mod FirstMachine

@@ -1,6 +1,6 @@
 //! What is proved of the written grammar of documents and nodes.
 
-ghost use Rattle.kdl.specs.Laws.{OneDocument, OneNode, IsLexed, OneAnswer, AnswersDocuments, AnswersAreLaid, LaidIsDerived, LaidNodeIsDerived, FormerIsKept, OneFirstDocument};
+ghost use Rattle.kdl.specs.Laws.{OneDocument, OneNode, IsLexed, OneAnswer, AnswersDocuments, AnswersAreLaid, LaidIsDerived, LaidNodeIsDerived, NodesAreLaid, FormerIsKept, EditedIsLaid, OneFirstDocument};
 
 /// No text can be read as two documents.
 #[tactic(auto, using(crate::proofs::LawProofs::one_document))]
@@ -50,6 +50,12 @@ pub fn laid_node_is_derived()
     ensures { LaidNodeIsDerived }
 {}
 
+/// In each text that is a node, a node with its data is laid.
+#[tactic(auto, using(crate::proofs::LawProofs::nodes_are_laid))]
+pub fn nodes_are_laid()
+    ensures { NodesAreLaid }
+{}
+
 /// What the former language reads, in which spaces stood before each slashdash, the present one reads with the same data.
 #[tactic(auto, using(crate::proofs::LawProofs::former_is_kept))]
 pub fn former_is_kept()
@@ -60,4 +66,11 @@ pub fn former_is_kept()
 #[tactic(auto, using(crate::proofs::FirstComplete::one_reading))]
 pub fn first_is_unambiguous()
     ensures { OneFirstDocument }
+{}
+
+/// Where a document is laid, each document that differs in its nodes' entries alone, each of them one of that node's own
+/// or one that can stand anywhere, is laid in the text that it prints; and so that text is read with its data.
+#[tactic(auto, using(crate::proofs::Relaid::relaid))]
+pub fn edited_is_laid()
+    ensures { EditedIsLaid }
 {}

@@ -1,7 +1,9 @@
+pub mod Built
 pub mod Comparing
 pub mod Cutting
 pub mod Derivation
 pub mod EntryEnds
+pub mod EntryMoves
 pub mod Equality
 pub mod Escapes
 pub mod FirstCutting
@@ -10,8 +12,14 @@ pub mod Fronts
 pub mod LaidPrinted
 pub mod LeafEnds
 pub mod Lexing
+pub mod PieceMoves
 pub mod Printing
+pub mod Puts
 pub mod ReadsBack
+pub mod Respanned
 pub mod Spellings
+pub mod Standing
+pub mod StringMoves
 pub mod StringPieces
+pub mod TextLaws
 pub mod WholeTexts

@@ -1,8 +1,11 @@
 -- What is proved of the written grammar of identifiers and entries.
-use Rattle.std.specs.Prelude.{◌≡◌, Bool}
+use Rattle.std.specs.Prelude.{◌≡◌, Bool, true}
 use Rattle.kdl_text.specs.Chars.{Text}
-use Rattle.kdl_entry.specs.Data.{Entry}
+use Rattle.kdl_entry.specs.Data as data'
 use Rattle.kdl_entry.specs.Entries.{IsIdentifierText, IsEntryText}
+use Rattle.kdl_entry.specs.Laid.{LaidIdentifierText, LaidEntryText}
+use Rattle.kdl_entry.specs.Print.{print_identifier, print_entry}
+use Rattle.kdl_entry.specs.Tree.{Identifier, Entry, entry_data}
 
 -- a text is one identifier at most
 abbrev pub OneIdentifier : Type 0
@@ -10,4 +13,16 @@ OneIdentifier = (wide : Bool) (t x y : Text) → IsIdentifierText wide t x → I
 
 -- a text is one entry at most
 abbrev pub OneEntry : Type 0
-OneEntry = (wide : Bool) (t : Text) (x y : Entry) → IsEntryText wide t x → IsEntryText wide t y → x ≡ y
+OneEntry = (wide : Bool) (t : Text) (x y : data'.Entry) → IsEntryText wide t x → IsEntryText wide t y → x ≡ y
+
+-- where an identifier is laid as a whole text, the text is one with its value, and it is what is printed
+abbrev pub LaidIdentifierIsDerived : Type 0
+LaidIdentifierIsDerived = (exact : Bool) (t : Text) (i : Identifier) → LaidIdentifierText exact i t → IsIdentifierText true t i.value × (print_identifier i ≡ t)
+
+-- the same for entries
+abbrev pub LaidEntryIsDerived : Type 0
+LaidEntryIsDerived = (exact : Bool) (t : Text) (e : Entry) → LaidEntryText exact t e → IsEntryText true t (entry_data e) × (print_entry e ≡ t)
+
+-- in each text that is an identifier one is laid with its value, and so for entries
+abbrev pub TextsAreLaid : Type 0
+TextsAreLaid = ((t v : Text) → IsIdentifierText true t v → (i : Identifier) × LaidIdentifierText true i t × (i.value ≡ v)) × ((t : Text) (x : data'.Entry) → IsEntryText true t x → (e : Entry) × LaidEntryText true t e × (entry_data e ≡ x))

@@ -1,6 +1,6 @@
 //! What `==`, the order and hashes mean, that printed strings read back, and the laws of the written grammar.
 
-ghost use Rattle.kdl_entry.specs.Laws.{OneIdentifier, OneEntry};
+ghost use Rattle.kdl_entry.specs.Laws.{OneIdentifier, OneEntry, LaidIdentifierIsDerived, LaidEntryIsDerived, TextsAreLaid};
 ghost use Rattle.kdl_entry.specs.Order.{text_order, value_order};
 ghost use Rattle.kdl_entry.specs.Floats.{DecimalsAreFloats};
 ghost use Rattle.kdl_entry.specs.Spelled.{SpelledReadsBack, SpelledReadsBackBefore};
@@ -137,4 +137,22 @@ pub fn hash_entries<H: Hasher>(a: &KdlEntry, b: &KdlEntry, one: &mut H, other: &
 /// What a decimal in a text stands for is a float's text.
 pub fn decimals_are_floats()
     ensures { DecimalsAreFloats }
+{}
+
+/// Where an identifier is laid as a whole text, the text is one with its value, and it is what the identifier prints.
+#[tactic(auto, using(crate::proofs::TextLaws::laid_identifier_is_derived))]
+pub fn laid_identifier_is_derived()
+    ensures { LaidIdentifierIsDerived }
+{}
+
+/// Where an entry is laid as a whole text, the text is one with its data, and it is what the entry prints.
+#[tactic(auto, using(crate::proofs::TextLaws::laid_entry_is_derived))]
+pub fn laid_entry_is_derived()
+    ensures { LaidEntryIsDerived }
+{}
+
+/// In each text that is an identifier or an entry, one is laid with its data.
+#[tactic(auto, using(crate::proofs::TextLaws::texts_are_laid))]
+pub fn texts_are_laid()
+    ensures { TextsAreLaid }
 {}
