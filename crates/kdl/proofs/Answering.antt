@@ -1,11 +1,6 @@
 -- What the machine's answer says of the grammar.
-use Rattle.std.proofs.Common.{◌≡◌, Result, Ok, Err, IfOk, refl, sym, ap, subst, ◌∙◌}
+use Rattle.std.proofs.Common.{◌≡◌}
 use Rattle.kdl_text.specs.Chars.{Text}
-use Rattle.kdl_text.specs.Spans.{InText}
-use Rattle.kdl_text.specs.declared.span.SourceSpan.{SourceSpan}
-use Rattle.kdl_entry.specs.declared.tokens.ReadFailure.{ReadFailure}
-use Rattle.kdl_entry.specs.declared.tokens.ReadFailure.TheVariants.{Fault, Memory}
-use Rattle.kdl.specs.Building.{Answers}
 use Rattle.kdl.specs.Data.{Nodes}
 use Rattle.kdl.specs.FirstGrammar.{IsDocument}
 use Rattle.kdl.specs.FirstLaid.{LaidDocument}
@@ -13,7 +8,6 @@ use Rattle.kdl.specs.FirstMachine.{Runs, initial}
 use Rattle.kdl.specs.Print.{print_document}
 use Rattle.kdl.specs.Tree.{document_tree, document_data}
 use Rattle.kdl.specs.Tree as tree
-use Rattle.kdl.specs.declared.document.KdlDocument.{KdlDocument}
 use Rattle.kdl.proofs.FirstComplete.{one_reading}
 use Rattle.kdl.proofs.Printed.{printed}
 use Rattle.kdl.proofs.FirstSound.{reading, complete}

@@ -1,27 +1,27 @@
 -- What the grammar derives, the machine reads, and the tree that it builds is laid.
-use Rattle.std.proofs.Common.{◌≡◌, ℕ, Bool, true, false, List, [], ◌∷◌, ◌++◌, Option, Some, None, option_map, map, refl, sym, ap, subst, ◌∙◌, append_assoc, append-nil}
-use Rattle.kdl_text.specs.Chars.{Text, Star, Plus, plus}
+use Rattle.std.proofs.Common.{◌≡◌, Bool, true, false, List, [], ◌∷◌, ◌++◌, Option, Some, None, option_map, map, refl, sym, ap, subst, ◌∙◌, append_assoc, append-nil}
+use Rattle.kdl_text.specs.Chars.{Text, Star, plus}
 use Rattle.kdl_text.specs.Chars.Star.{none as no_star, more}
 use Rattle.kdl_text.specs.Trivia.{NodeSpace, Break, LineSpace, Slashdash, slashdash, ValueEnd}
 use Rattle.kdl_text.specs.declared.span.SourceSpan.{SourceSpan}
-use Rattle.kdl_text.proofs.Ends.{End, then, end_star}
+use Rattle.kdl_text.proofs.Ends.{then, end_star}
 use Rattle.kdl_text.proofs.Stars.{snoc}
 use Rattle.kdl_entry.specs.Data as entry_data'
 use Rattle.kdl_entry.specs.Data.{Value, text}
-use Rattle.kdl_entry.specs.Entries.{IsString, string as a_string', PlainPiece, IsPlainValue, a_string, a_plain, IsType, parens, MaybeType, untyped, typed as a_typed, IsValue, value as a_value, IsEntry, property as a_property, argument}
-use Rattle.kdl_entry.specs.Laid.{LaidIdentifier, spelled, LaidType, no_type, a_type, LaidKey, no_key, a_key, LaidItem, item, LaidEntry, laid_entry}
-use Rattle.kdl_entry.specs.Places.{Is, DroppedEntry, EntryLeading, leading as an_entry_leading, span_of}
-use Rattle.kdl_entry.specs.Tokens.{Token, space, newline, slashdash as dash, string, value, left, right, opening, closing, equals, semicolon, mark, BeginsToken, t_space, t_newline, t_slashdash, t_string, t_value, t_left, t_right, t_opening, t_closing, t_equals, t_semicolon, t_mark}
+use Rattle.kdl_entry.specs.Entries.{IsString, string as a_string', PlainPiece, IsPlainValue, a_string, a_plain, parens, MaybeType, untyped, typed as a_typed, value as a_value, IsEntry, property as a_property, argument}
+use Rattle.kdl_entry.specs.Laid.{LaidIdentifier, spelled, LaidType, no_type, a_type, no_key, a_key, LaidItem, item, laid_entry}
+use Rattle.kdl_entry.specs.Places.{Is, DroppedEntry, leading as an_entry_leading, span_of}
+use Rattle.kdl_entry.specs.Tokens.{Token, space, newline, string, value, left, closing, semicolon, t_space, t_newline, t_slashdash, t_string, t_value, t_left, t_right, t_opening, t_closing, t_equals, t_semicolon}
 use Rattle.kdl_entry.specs.Tree.{Identifier, Entry, entry_data}
 use Rattle.kdl_entry.proofs.Cutting.{token_det, no_token}
 use Rattle.kdl_entry.proofs.EntryEnds.{end_spaces, end_lines, end_some, end_string, end_plain, end_dropped}
 use Rattle.kdl.specs.Data as data'
-use Rattle.kdl.specs.Grammar.{Terminator, IsNode, named, AfterName, kept_entry, dropped_entry, Blocks, dropped_block, block, no_block, AfterBlock, dropped_later, no_more, Gap, no_gap, line_space, dropped_node, AreNodes, last_gap, node_then, IsBlock, braces, IsDocument, IsNodeText, node_text}
-use Rattle.kdl.specs.Laid.{LaidEntries, no_entry, an_entry, LaidNode, laid_node, LaidChildren, no_block as laid_no_block, a_block, LaidNodes, no_node, a_node, LaidContent, without_nodes, with_nodes, LaidDocument, with_mark, content_span, node_format, LaidNodeText, laid_node_text}
-use Rattle.kdl.specs.Places.{DroppedBlock, AfterChildren, after as after_children, BeforeChildren, before as before_children}
+use Rattle.kdl.specs.Grammar.{Terminator, named, AfterName, kept_entry, dropped_entry, Blocks, dropped_block, block, no_block, AfterBlock, dropped_later, no_more, Gap, no_gap, line_space, dropped_node, AreNodes, last_gap, node_then, braces, IsDocument, IsNodeText, node_text}
+use Rattle.kdl.specs.Laid.{LaidEntries, no_entry, an_entry, laid_node, LaidChildren, no_block as laid_no_block, a_block, LaidNodes, no_node, a_node, LaidContent, without_nodes, with_nodes, LaidDocument, with_mark, node_format, LaidNodeText, laid_node_text}
+use Rattle.kdl.specs.Places.{DroppedBlock, AfterChildren, after as after_children, before as before_children}
 use Rattle.kdl.specs.Tree.{Node, node, Children, no_children, children, Document, document, Nodes, none, first, join, node_data, children_data, document_data, nodes_data}
-use Rattle.kdl.specs.Machine.{between, TypeParts, KeyParts, Under, Kept, Slot, no_name, for_name, no_value, for_value, Pending, pending, Spot, fresh, spaced, later, Phase, gap, marked, type_open, type_name, type_done, in_node, property, entry_mark, block_mark, kept, kept_mark, Frame, in_block, in_dropped, in_later, State, at, origin, moved, name_slot, entry_slot, keyed, type_of, before_name, after_name, behind_type, key_of, identifier_at, entry_at, with_entry, filled, node_at, closed, closed_kept, ended, inside, content_at, with_block, popped, spaced_of, mark_of, from_spaced, where_value, given, worded, typed, step, finish, initial, Runs, stops, reads, Answers}
-use Rattle.kdl.proofs.Ends.{cut, end_terminator, end_gap, end_dropped_block, place}
+use Rattle.kdl.specs.Machine.{between, TypeParts, KeyParts, Under, Kept, Slot, no_name, for_name, no_value, for_value, Pending, pending, Spot, fresh, spaced, later, gap, marked, type_open, type_name, type_done, in_node, property, entry_mark, block_mark, kept, kept_mark, Frame, in_block, in_dropped, in_later, State, at, origin, moved, entry_slot, keyed, type_of, before_name, after_name, behind_type, key_of, identifier_at, entry_at, with_entry, filled, node_at, closed, closed_kept, ended, inside, content_at, spaced_of, mark_of, given, worded, typed, step, finish, initial, Runs, stops, reads, Answers}
+use Rattle.kdl.proofs.Ends.{end_terminator, end_gap, end_dropped_block, place}
 
 pub runs_det : {whole : Text} {x y : Document} {st : State} {s : Text} → Runs whole x st s → Runs whole y st s → x ≡ y
 runs_det (stops e) (stops f) = cc

@@ -1,17 +1,17 @@
 -- A text in which a tree is laid is derived, with the tree's data.
-use Rattle.std.proofs.Common.{◌≡◌, Bool, true, List, [], ◌∷◌, Option, Some, None, map, refl, sym, subst}
-use Rattle.kdl_text.specs.Chars.{Text, Star, Plus, plus}
+use Rattle.std.proofs.Common.{Bool, true, List, [], ◌∷◌, map, sym, subst}
+use Rattle.kdl_text.specs.Chars.{Text, Star}
 use Rattle.kdl_text.specs.Chars.Star.{none as no_star, more}
 use Rattle.kdl_text.specs.Trivia.{NodeSpace}
 use Rattle.kdl_text.specs.declared.span.SourceSpan.{SourceSpan}
 use Rattle.kdl_entry.specs.Data as entry_data'
 use Rattle.kdl_entry.specs.Entries.{IsEntry}
-use Rattle.kdl_entry.specs.Laid.{LaidEntry, laid_entry}
-use Rattle.kdl_entry.specs.Places.{Is, DroppedEntry, dropped as dropped_e, EntryLeading, leading}
+use Rattle.kdl_entry.specs.Laid.{laid_entry}
+use Rattle.kdl_entry.specs.Places.{DroppedEntry, dropped as dropped_e, EntryLeading, leading}
 use Rattle.kdl_entry.specs.Tree.{Entry, entry_data}
 use Rattle.kdl_entry.proofs.Derivation.{string_of, type_of, item_of}
 use Rattle.kdl.specs.Data as data'
-use Rattle.kdl.specs.Grammar.{Terminator, IsNode, named, AfterName, kept_entry, dropped_entry, Blocks, dropped_block, block, no_block, AfterBlock, dropped_later, no_more, Gap, no_gap, line_space, dropped_node, AreNodes, last_gap, node_then, IsBlock, braces, IsDocument, IsNodeText, node_text}
+use Rattle.kdl.specs.Grammar.{IsNode, named, AfterName, kept_entry, dropped_entry, Blocks, dropped_block, block, no_block, AfterBlock, dropped_later, no_more, Gap, AreNodes, last_gap, node_then, IsBlock, braces, IsDocument, IsNodeText, node_text}
 use Rattle.kdl.specs.Laid.{LaidEntries, no_entry, an_entry, LaidNode, laid_node, LaidChildren, no_block as laid_no_block, a_block, LaidNodes, no_node, a_node, LaidContent, without_nodes, with_nodes, LaidDocument, LaidNodeText, laid_node_text}
 use Rattle.kdl.specs.Places.{DroppedBlock, AfterChildren, after, BeforeChildren, before}
 use Rattle.kdl.specs.Tree.{Node, Children, Document, Nodes, node_data, children_data, document_data, nodes_data}

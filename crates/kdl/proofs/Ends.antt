@@ -1,5 +1,5 @@
 -- What follows a piece of a document is an end of the text, and the machine's places are the pieces.
-use Rattle.std.proofs.Common.{◌≡◌, ℕ, ◌-◌, Bool, true, List, [], ◌∷◌, ◌++◌, length, take, refl, sym, ap, ◌∙◌, arith, length-append}
+use Rattle.std.proofs.Common.{◌≡◌, ◌-◌, Bool, true, List, ◌++◌, length, take, sym, ap, ◌∙◌, arith, length-append}
 use Rattle.std.proofs.Math.Seq.{take-append_seam}
 use Rattle.kdl_text.specs.Chars.{Text}
 use Rattle.kdl_text.proofs.Ends.{End, here, also, then, past, end_newline}
@@ -9,7 +9,7 @@ use Rattle.kdl_entry.specs.Places.{Is}
 use Rattle.kdl_entry.proofs.Cutting.{end_of}
 use Rattle.kdl_entry.proofs.EntryEnds.{end_line_space, end_spaces, end_some, end_slashdash, end_string, end_type, end_entry}
 use Rattle.kdl.specs.Data.{Children, Nodes}
-use Rattle.kdl.specs.Grammar.{Terminator, IsNode, named, AfterName, kept_entry, dropped_entry, Blocks, dropped_block, block, no_block, AfterBlock, dropped_later, no_more, Gap, no_gap, line_space, dropped_node, AreNodes, last_gap, node_then, IsBlock, braces}
+use Rattle.kdl.specs.Grammar.{Terminator, named, AfterName, kept_entry, dropped_entry, Blocks, dropped_block, block, no_block, AfterBlock, dropped_later, no_more, Gap, no_gap, line_space, dropped_node, AreNodes, last_gap, node_then, IsBlock, braces}
 use Rattle.kdl.specs.Places.{DroppedBlock}
 use Rattle.kdl.specs.Machine.{between}
 

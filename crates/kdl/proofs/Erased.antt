@@ -1,15 +1,15 @@
 -- Without data and places the machine is the one that says which tokens may come; so what it answers is derived.
-use Rattle.std.proofs.Common.{◌≡◌, ◌↔◌, Bool, true, false, List, [], ◌∷◌, Option, Some, None, option_map, refl, sym, ap, subst, ◌∙◌}
+use Rattle.std.proofs.Common.{◌≡◌, Bool, true, false, List, [], ◌∷◌, Option, Some, None, option_map, refl, sym, ap, subst, ◌∙◌}
 use Rattle.kdl_text.specs.Chars.{Text}
-use Rattle.kdl_entry.specs.Tokens.{Token, space, newline, slashdash, string, value, left, right, opening, closing, equals, semicolon, mark, BeginsToken, t_mark, Lexes, done, next}
+use Rattle.kdl_entry.specs.Tokens.{Token, value, closing, mark, t_mark, Lexes, done, next}
 use Rattle.kdl_entry.proofs.Cutting.{token_det}
 use Rattle.kdl.specs.Data as data'
 use Rattle.kdl.specs.Grammar.{AreNodes, IsDocument}
 use Rattle.kdl.specs.Laid.{LaidDocument, LaidContent, with_mark}
 use Rattle.kdl.specs.Tree.{Document, Nodes, document_data}
-use Rattle.kdl.specs.Machine.{Under, Kept, Slot, Pending, pending, Spot, fresh, spaced, later, Phase, gap, marked, type_open, type_name, type_done, in_node, property, entry_mark, block_mark, kept, kept_mark, Frame, in_block, in_dropped, in_later, State, at, popped, step, finish, initial, Runs, stops, reads, Answers}
+use Rattle.kdl.specs.Machine.{Pending, pending, Spot, fresh, spaced, later, Phase, gap, marked, type_open, type_name, type_done, in_node, property, entry_mark, block_mark, kept, kept_mark, Frame, in_block, in_dropped, in_later, State, at, popped, step, finish, initial, Runs, stops, reads, Answers}
 use Rattle.kdl.proofs.Control as c
-use Rattle.kdl.proofs.Complete.{runs_det, Placed, placed, Built, built, mark_data}
+use Rattle.kdl.proofs.Complete.{runs_det, placed, built, mark_data}
 use Rattle.kdl.proofs.Sound.{derives}
 
 abbrev is_there : Option Pending → Bool

@@ -1,5 +1,5 @@
 -- Small texts that are documents, and small texts that are none.
-use Rattle.std.proofs.Common.{◌≡◌, ℕ, ℤ, Bool, true, false, List, [], ◌∷◌, ◌++◌, Option, Some, None, option_map, option_and_then, refl, sym, ap, subst, ◌∙◌}
+use Rattle.std.proofs.Common.{◌≡◌, ℕ, true, false, List, [], ◌∷◌, Option, Some, None, option_map, option_and_then, refl, sym, ap, subst, ◌∙◌}
 use Rattle.std.specs.Prelude.{pos}
 use Rattle.std.specs.Str.Parse.{digits_value}
 use Rattle.kdl_text.specs.Chars.{Text, starts, begins, begins_with, is_identifier_char, is_space, is_newline_char, is_banned, is_mark, is_sign}
@@ -13,7 +13,7 @@ use Rattle.kdl_entry.specs.Tokens.{Token, space, newline, slashdash, string, val
 use Rattle.kdl_entry.proofs.Cutting.{token_det, no_token}
 use Rattle.kdl_entry.proofs.StringPieces.{string_begins, plain_begins}
 use Rattle.kdl.proofs.Faults.{here, then, faulty}
-use Rattle.kdl.specs.Data.{Node, node, Children, no_children, children, Nodes, none, first}
+use Rattle.kdl.specs.Data.{Node, node, no_children, children, Nodes, none, first}
 use Rattle.kdl.specs.Grammar.{IsDocument}
 use Rattle.kdl.specs.Machine.{State, step, finish, initial, Runs, stops, reads, Answers}
 use Rattle.kdl.specs.Tree.{Document, document_data}

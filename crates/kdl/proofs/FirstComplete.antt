@@ -1,21 +1,19 @@
 -- What the grammar derives, the machine reads, and the document that it builds is laid in the text.
-use Rattle.std.proofs.Common.{◌≡◌, ℕ, List, [], ◌∷◌, ◌++◌, Option, Some, None, map, refl, sym, ap, subst, ◌∙◌, append_assoc, append-nil}
-use Rattle.kdl_text.specs.Chars.{Text, Star, none as no_star, more, Plus, plus, Space, Newline}
-use Rattle.kdl_text.proofs.Ends.{End, here}
+use Rattle.std.proofs.Common.{◌≡◌, List, [], ◌∷◌, ◌++◌, Option, Some, None, map, refl, sym, ap, subst, ◌∙◌, append_assoc, append-nil}
+use Rattle.kdl_text.specs.Chars.{Text, Star, none as no_star, more, Plus, plus, Space}
 use Rattle.kdl_entry.specs.Data as entry_data'
 use Rattle.kdl_entry.specs.Data.{Value, text, integer}
 use Rattle.kdl_entry.specs.FirstEntries.{IsString, IsValue, string, number, IsEntry, argument}
-use Rattle.kdl_entry.specs.FirstTokens.{Token, space, newline, value, semicolon, BeginsToken, a_space, a_newline, a_bare, a_quoted, a_number, a_semicolon}
+use Rattle.kdl_entry.specs.FirstTokens.{space, value, BeginsToken, a_space, a_newline, a_bare, a_quoted, a_number, a_semicolon}
 use Rattle.kdl_entry.proofs.FirstCutting.{no_token, token_end}
-use Rattle.kdl_entry.specs.Places.{Is}
-use Rattle.kdl_entry.specs.FirstLaid.{LaidIdentifier, spelled, LaidEntry, argument as laid_argument}
-use Rattle.kdl_entry.specs.Tree.{Identifier, Entry, entry_data}
+use Rattle.kdl_entry.specs.FirstLaid.{spelled, LaidEntry, argument as laid_argument}
+use Rattle.kdl_entry.specs.Tree.{Entry, entry_data}
 use Rattle.kdl.specs.Data as data'
-use Rattle.kdl.specs.Tree.{Node, node, Document, document, Nodes, none, first, join, node_data, nodes_data, document_data}
+use Rattle.kdl.specs.Tree.{Node, Document, Nodes, none, first, join, node_data, nodes_data, document_data}
 use Rattle.kdl.specs.FirstGrammar.{Terminator, AfterName, entry, last, IsNode, named as a_name, LineSpace, Gap, no_gap, line_space, AreNodes, last_gap, node_then, IsDocument}
 use Rattle.kdl.specs.FirstLaid.{LaidEntries, no_entry, an_entry, LaidNode, plain, LaidNodes, no_node, a_node, LaidDocument, without_nodes, with_nodes}
-use Rattle.kdl.specs.FirstMachine.{between, unplaced, Phase, gap, fresh, spaced, Under, State, begun, argument_tree, with_entry, node_tree_of, with_node, named, argued, ended, step, document_of, finish, initial, Runs, stops, reads}
-use Rattle.kdl.proofs.FirstPlaces.{between_is, cut, place, end_spaces, end_some_spaces, end_terminator, end_gap}
+use Rattle.kdl.specs.FirstMachine.{between, Phase, gap, fresh, spaced, Under, State, begun, argument_tree, with_entry, node_tree_of, with_node, step, document_of, finish, initial, Runs, stops, reads}
+use Rattle.kdl.proofs.FirstPlaces.{between_is, place, end_spaces, end_some_spaces, end_terminator, end_gap}
 use Rattle.kdl.proofs.RunsLemmas.{runs_det}
 
 abbrev pub at : Phase → Option Under → Nodes → Text → State

@@ -1,17 +1,17 @@
 -- What the machine answers, the grammar derives.
-use Rattle.std.proofs.Common.{◌≡◌, ◌↔◌, ◌⊎◌, inl, inr, List, [], ◌∷◌, Option, Some, None, option_and_then, refl, sym, ap, subst, ◌∙◌}
-use Rattle.kdl_text.specs.Chars.{Text, Star, none as no_star, more, Plus, plus, Space, Newline}
+use Rattle.std.proofs.Common.{◌≡◌, ◌⊎◌, inl, inr, List, [], ◌∷◌, Option, Some, None, option_and_then, sym, ap, subst, ◌∙◌}
+use Rattle.kdl_text.specs.Chars.{Text, none as no_star, more, plus, Space}
 use Rattle.kdl_entry.specs.Data as entry_data'
 use Rattle.kdl_entry.specs.Data.{Value, text, integer}
-use Rattle.kdl_entry.specs.FirstEntries.{ValueEnd, IsString, IsValue, string, number, IsEntry, argument}
-use Rattle.kdl_entry.specs.FirstTokens.{Token, space, newline, value, semicolon, BeginsToken, a_space, a_newline, a_bare, a_quoted, a_number, a_semicolon}
+use Rattle.kdl_entry.specs.FirstEntries.{ValueEnd, IsString, IsValue, string, number, argument}
+use Rattle.kdl_entry.specs.FirstTokens.{Token, value, BeginsToken, a_space, a_newline, a_bare, a_quoted, a_number, a_semicolon}
 use Rattle.kdl.specs.Data as data'
-use Rattle.kdl.specs.Tree.{Document, document, Nodes, document_data}
-use Rattle.kdl.specs.FirstGrammar.{Terminator, AfterName, entry, last, IsNode, named as a_name, LineSpace, Gap, no_gap, line_space, AreNodes, last_gap, node_then, IsDocument}
+use Rattle.kdl.specs.Tree.{Document, Nodes, document_data}
+use Rattle.kdl.specs.FirstGrammar.{Terminator, AfterName, entry, last, named as a_name, LineSpace, no_gap, line_space, AreNodes, last_gap, node_then, IsDocument}
 use Rattle.kdl.specs.FirstLaid.{LaidDocument}
 use Rattle.kdl.specs.FirstMachine.{Phase, gap, fresh, spaced, Under, State, step, finish, initial, Runs, stops, reads}
 use Rattle.kdl.proofs.RunsLemmas.{runs_det}
-use Rattle.kdl.proofs.FirstComplete.{at, Built, build}
+use Rattle.kdl.proofs.FirstComplete.{at, build}
 
 -- the tokens of a text, each with what follows it
 pub data Cut : Text → List (Token × Text) → Type 0 where

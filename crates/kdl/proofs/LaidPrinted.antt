@@ -1,14 +1,14 @@
 -- What is laid in a text prints it.
-use Rattle.std.proofs.Common.{◌≡◌, ℕ, ◌+◌, Bool, true, List, [], ◌∷◌, ◌++◌, Option, Some, None, refl, sym, ap, ◌∙◌, append_assoc, append-nil}
+use Rattle.std.proofs.Common.{◌≡◌, ℕ, ◌+◌, Bool, List, [], ◌∷◌, ◌++◌, refl, sym, ap, ◌∙◌, append_assoc, append-nil}
 use Rattle.kdl_text.specs.Chars.{Text}
 use Rattle.kdl_text.specs.declared.span.SourceSpan.{SourceSpan}
 use Rattle.kdl_entry.specs.Laid.{LaidEntry, laid_entry}
-use Rattle.kdl_entry.specs.Print.{print_identifier, print_type, print_entry}
+use Rattle.kdl_entry.specs.Print.{print_identifier, print_type}
 use Rattle.kdl_entry.specs.Tree.{Entry}
 use Rattle.kdl_entry.proofs.LaidPrinted.{identifier_printed, type_printed, entry_printed}
-use Rattle.kdl.specs.Laid.{LaidEntries, no_entry, an_entry, LaidNode, laid_node, LaidChildren, no_block, a_block, LaidNodes, no_node, a_node, LaidContent, without_nodes, with_nodes, LaidDocument, with_mark, LaidNodeText, laid_node_text}
+use Rattle.kdl.specs.Laid.{LaidEntries, no_entry, an_entry, LaidNode, laid_node, no_block, a_block, LaidNodes, no_node, a_node, LaidContent, without_nodes, with_nodes, LaidDocument, with_mark, LaidNodeText, laid_node_text}
 use Rattle.kdl.specs.Print.{after_brace, before_brace, format_of, print_piece, print_pieces, print_node, print_nodes, print_document, print_block}
-use Rattle.kdl.specs.Tree.{Node, Children, Document, document, Nodes, first}
+use Rattle.kdl.specs.Tree.{Node, Document, Nodes, first}
 
 node_text : (q y h n p t r : Text) → q ++ (y ++ (h ++ (n ++ (p ++ (t ++ r))))) ≡ ((q ++ y ++ h ++ n) ++ p ++ t) ++ r
 node_text q y h n p t r = simp append_assoc

@@ -1,13 +1,13 @@
 -- Gaps, nodes and blocks stand before another rest too.
-use Rattle.std.proofs.Common.{◌≡◌, ℕ, Bool, true, false, List, [], ◌∷◌, Option, Some, None, refl, sym, ap, subst, ◌∙◌}
-use Rattle.kdl_text.specs.Chars.{Text, Star, none, more, Plus, plus, Newline}
+use Rattle.std.proofs.Common.{◌≡◌, ℕ, Bool, true, false, List, [], ◌∷◌, Option, Some, refl, sym, subst}
+use Rattle.kdl_text.specs.Chars.{Text, Star, none, more, Plus, plus}
 use Rattle.kdl_text.specs.Here.{first}
-use Rattle.kdl_text.specs.Trivia.{LineComment, NodeSpace, Break, LineSpace, Slashdash, slashdash, ValueEnd}
+use Rattle.kdl_text.specs.Trivia.{NodeSpace, Break, Slashdash, ValueEnd}
 use Rattle.kdl_entry.specs.Data.{Entry}
 use Rattle.kdl_entry.specs.Entries.{IsString, MaybeType, IsEntry}
 use Rattle.kdl_entry.specs.Places.{DroppedEntry, dropped as dropped_e}
 use Rattle.kdl_entry.proofs.StringMoves.{move_newline}
-use Rattle.kdl_entry.proofs.EntryMoves.{MoveValue, move_comment, move_spaces, move_plus, move_slashdash, move_line_space, move_string, move_maybe, move_entry, marks, spaces_end, spaces_dash}
+use Rattle.kdl_entry.proofs.EntryMoves.{move_comment, move_spaces, move_plus, move_slashdash, move_line_space, move_string, move_maybe, move_entry, marks, spaces_end, spaces_dash}
 use Rattle.kdl_entry.proofs.Puts.{Put, stands, also, joined, same, nothing, Move}
 use Rattle.kdl.specs.Data as data'
 use Rattle.kdl.specs.Data.{Node, Children, Nodes}

@@ -1,11 +1,10 @@
 -- What is laid in a text prints the text.
-use Rattle.std.proofs.Common.{◌≡◌, ℕ, List, [], ◌∷◌, ◌++◌, Option, Some, None, refl, sym, ap, ◌∙◌, append_assoc, append-nil}
+use Rattle.std.proofs.Common.{◌≡◌, ℕ, List, ◌++◌, refl, sym, ap, ◌∙◌, append_assoc, append-nil}
 use Rattle.kdl_text.specs.Chars.{Text}
-use Rattle.kdl_entry.specs.Places.{Is}
 use Rattle.kdl_entry.specs.FirstLaid.{LaidIdentifier, spelled, LaidEntry, argument}
 use Rattle.kdl_entry.specs.Tree.{Identifier, Entry}
 use Rattle.kdl_entry.specs.Print.{print_identifier}
-use Rattle.kdl.specs.Tree.{Node, Document, document, Nodes, none, first}
+use Rattle.kdl.specs.Tree.{Node, Document, Nodes, first}
 use Rattle.kdl.specs.FirstLaid.{LaidEntries, no_entry, an_entry, LaidNode, plain, LaidNodes, no_node, a_node, LaidDocument, without_nodes, with_nodes}
 use Rattle.kdl.specs.Print.{print_piece, print_pieces, print_node, print_nodes, print_document}
 

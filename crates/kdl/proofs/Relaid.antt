@@ -1,22 +1,20 @@
 -- A document whose entries are chosen anew is laid again, in the text that it prints.
-use Rattle.std.proofs.Common.{◌≡◌, Bool, true, false, List, [], ◌∷◌, ◌++◌, Option, Some, None, refl, sym, ap, subst, ◌∙◌}
+use Rattle.std.proofs.Common.{◌≡◌, Bool, true, false, List, [], ◌∷◌, ◌++◌, refl, sym, subst}
 use Rattle.kdl_text.specs.Chars.{Text}
 use Rattle.kdl_text.specs.Here.{first as first_char}
 use Rattle.kdl_text.specs.Trivia.{ValueEnd}
 use Rattle.kdl_text.specs.declared.span.SourceSpan.{SourceSpan}
-use Rattle.kdl_entry.specs.Laid.{LaidEntry}
 use Rattle.kdl_entry.specs.Places.{Is}
 use Rattle.kdl_entry.specs.Print.{print_entry}
 use Rattle.kdl_entry.specs.Tree.{Entry}
 use Rattle.kdl_entry.proofs.EntryMoves.{move_identifier, move_laid_type, marks}
-use Rattle.kdl_entry.proofs.Puts.{Put, same, same_piece, is_move}
+use Rattle.kdl_entry.proofs.Puts.{same, same_piece, is_move}
 use Rattle.kdl_entry.proofs.Respanned.{free_identifier, free_type, free_entry}
 use Rattle.kdl_entry.proofs.Standing.{can_stand, entry_end}
 use Rattle.kdl.specs.Edited.{Among, here, further, CanStand, Chosen, own, new, EditedNode, edited, EditedChildren, EditedDocument, edited_document, EditedNodes}
 use Rattle.kdl.specs.Laid.{LaidEntries, no_entry, an_entry, LaidNode, laid_node, LaidChildren, no_block, a_block, LaidNodes, no_node, a_node, LaidContent, without_nodes, with_nodes, LaidDocument, with_mark}
-use Rattle.kdl.specs.Places.{BeforeChildren}
 use Rattle.kdl.specs.Print.{print_document}
-use Rattle.kdl.specs.Tree.{Node, Children, Document, document, Nodes, none, first}
+use Rattle.kdl.specs.Tree.{Node, Children, Document, Nodes}
 use Rattle.kdl.proofs.LaidPrinted.{printed}
 use Rattle.kdl.proofs.Moving.{MoveEnd, move_before, before_end, move_after, move_gap, move_terminator, terminator_end}
 

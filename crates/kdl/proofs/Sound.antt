@@ -1,15 +1,15 @@
 -- What the machine without data accepts, the grammar derives.
-use Rattle.std.proofs.Common.{◌≡◌, ◌⊎◌, inl, inr, ℕ, Bool, true, false, List, [], ◌∷◌, Option, Some, None, refl, sym, ap, subst, ◌∙◌}
-use Rattle.kdl_text.specs.Chars.{Text, Star, Plus, plus}
+use Rattle.std.proofs.Common.{◌≡◌, ◌⊎◌, inl, inr, Bool, true, false, List, [], ◌∷◌, Option, refl, subst}
+use Rattle.kdl_text.specs.Chars.{Text, Star, plus}
 use Rattle.kdl_text.specs.Chars.Star.{none as no_star, more}
-use Rattle.kdl_text.specs.Trivia.{NodeSpace, Break, newline as b_newline, comment as b_comment, LineSpace, Slashdash, slashdash, ValueEnd}
+use Rattle.kdl_text.specs.Trivia.{NodeSpace, Break, newline as b_newline, comment as b_comment, LineSpace, slashdash, ValueEnd}
 use Rattle.kdl_entry.specs.Data.{Value, text, Entry}
-use Rattle.kdl_entry.specs.Entries.{StringPiece, IsString, string as a_string', PlainPiece, IsPlainValue, a_string, a_plain, parens, MaybeType, untyped, typed, IsValue, value as a_value, IsEntry, property as a_property, argument}
-use Rattle.kdl_entry.specs.Tokens.{Token, space, newline, slashdash as dash, string, value, left, right, opening, closing, equals, semicolon, mark, BeginsToken, t_space, t_newline, t_slashdash, t_string, t_value, t_left, t_right, t_opening, t_closing, t_equals, t_semicolon, t_mark, Lexes, done, next}
+use Rattle.kdl_entry.specs.Entries.{StringPiece, IsString, string as a_string', PlainPiece, IsPlainValue, a_string, a_plain, parens, untyped, typed, IsValue, value as a_value, IsEntry, property as a_property, argument}
+use Rattle.kdl_entry.specs.Tokens.{Token, string, value, left, mark, t_space, t_newline, t_slashdash, t_string, t_value, t_left, t_right, t_opening, t_closing, t_equals, t_semicolon, t_mark, Lexes, done, next}
 use Rattle.kdl_entry.proofs.Cutting.{may_end, value_end}
 use Rattle.kdl.specs.Data.{Node, Children, Nodes}
-use Rattle.kdl.specs.Grammar.{Terminator, IsNode, named, AfterName, kept_entry, dropped_entry, blocks, Blocks, dropped_block, block, no_block, AfterBlock, dropped_later, no_more, Gap, no_gap, line_space, dropped_node, AreNodes, last_gap, node_then, IsBlock, braces}
-use Rattle.kdl.proofs.Control.{Spot, fresh, spaced, later, Phase, gap, marked, type_open, type_name, type_done, in_node, property, entry_mark, block_mark, kept, kept_mark, Frame, in_block, in_dropped, in_later, Control, at, spaced_of, mark_of, popped, step, finish, held, accepts}
+use Rattle.kdl.specs.Grammar.{Terminator, IsNode, named, AfterName, kept_entry, dropped_entry, blocks, Blocks, dropped_block, block, no_block, AfterBlock, dropped_later, no_more, no_gap, line_space, dropped_node, AreNodes, last_gap, node_then, IsBlock, braces}
+use Rattle.kdl.proofs.Control.{Spot, fresh, spaced, later, Phase, gap, marked, type_open, type_name, type_done, in_node, property, entry_mark, block_mark, kept, kept_mark, Frame, in_block, in_dropped, in_later, at, spaced_of, mark_of, popped, finish, held, accepts}
 
 -- What is left of the text, by what is under way. `after` says it of the text behind the nodes.
 abbrev Left : Type 1

@@ -1,26 +1,24 @@
 -- The turns of the loop over tokens, and what its answer says of the grammar.
-use Rattle.std.proofs.Common.{◌≡◌, ◌↔◌, ℕ, ◌+◌, ◌<◌, ◌≤◌, length, List, [], ◌∷◌, ◌++◌, Option, Some, None, Result, Ok, Err, IfOk, refl, sym, ap, subst, ◌∙◌, arith, append_assoc, append-nil, length-append}
+use Rattle.std.proofs.Common.{◌≡◌, ℕ, ◌+◌, ◌<◌, length, [], ◌∷◌, ◌++◌, Some, None, Ok, Err, refl, sym, ap, subst, ◌∙◌, arith, append_assoc, append-nil}
 use Rattle.kdl_text.specs.Chars.{Text}
-use Rattle.kdl_text.specs.Here.{Here, Spot, bytes, first_len, Ahead}
+use Rattle.kdl_text.specs.Here.{Here, Spot, bytes, first_len}
 use Rattle.kdl_text.specs.Reading.{Moves}
 use Rattle.kdl_text.specs.Spans.{InText}
 use Rattle.kdl_text.specs.declared.span.SourceSpan.{SourceSpan}
 use Rattle.kdl_text.proofs.Going.{bytes-append}
-use Rattle.kdl_entry.specs.Data.{Value, text}
+use Rattle.kdl_entry.specs.Data.{text}
 use Rattle.kdl_entry.specs.Lexed.{NoToken, SpansChar, kind_view, HandsOut, Lexed}
-use Rattle.kdl_entry.specs.FirstTokens.{Token, space, newline, value, semicolon, Cuts, one, run}
+use Rattle.kdl_entry.specs.FirstTokens.{Token, space, newline, value, semicolon}
 use Rattle.kdl_entry.specs.declared.tokens.Token.{Token as CodeToken}
 use Rattle.kdl_entry.specs.declared.tokens.ReadFailure.{ReadFailure}
 use Rattle.kdl_entry.specs.declared.tokens.ReadFailure.TheVariants.{Fault, Memory}
 use Rattle.kdl_entry.proofs.FirstCutting.{cut_shorter}
 use Rattle.kdl.specs.Building.{Answers, Did, Same, Stays, EndsIn}
-use Rattle.kdl.specs.Data.{Nodes}
-use Rattle.kdl.specs.FirstGrammar.{IsDocument}
 use Rattle.kdl.specs.FirstMachine.{Phase, gap, fresh, spaced, State, move, step, finish, initial, Runs}
 use Rattle.kdl.specs.Tree as tree
 use Rattle.kdl.specs.Tree.{document_tree}
 use Rattle.kdl.specs.declared.document.KdlDocument.{KdlDocument}
-use Rattle.kdl.proofs.RunsLemmas.{read_cut, refuses, faults, at_stop, runs_det}
+use Rattle.kdl.proofs.RunsLemmas.{read_cut, refuses, faults, at_stop}
 
 -- the lexer stands in the text, and the machine goes on from here as from the start
 pub record Going (st : State) (here : Here) (t : Text) : Type 0 where

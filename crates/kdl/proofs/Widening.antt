@@ -1,9 +1,8 @@
 -- What the former language derives, the present one derives, with the same data.
-use Rattle.std.proofs.Common.{◌≡◌, Bool, true, false, ◌||◌, List, Option, refl}
-use Rattle.kdl_text.specs.Chars.{Text, Star, Plus, plus}
-use Rattle.kdl_text.specs.Chars.Star.{none as no_star, more}
+use Rattle.std.proofs.Common.{Bool, true, false, ◌||◌, List, Option, refl}
+use Rattle.kdl_text.specs.Chars.{Text, Star, plus}
+use Rattle.kdl_text.specs.Chars.Star.{more}
 use Rattle.kdl_text.specs.Trivia.{NodeSpace, ValueEnd}
-use Rattle.kdl_text.proofs.Stars.{star_map}
 use Rattle.kdl_entry.specs.Data.{Value, Entry}
 use Rattle.kdl_entry.specs.Entries.{IsString, string, IsPlainValue, a_string, a_plain, parens, MaybeType, untyped, typed, IsValue, value, IsEntry, property, argument}
 use Rattle.kdl.specs.Data.{Node, Children, Nodes}

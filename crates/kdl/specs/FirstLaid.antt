@@ -1,12 +1,12 @@
 -- The part of the language that is read today.
 -- Nodes and documents laid in a text: their places and items, in the order of printing, are the text, and each place is what it has to be.
-use Rattle.std.specs.Prelude.{List, [], ◌∷◌, Option, Some, None}
+use Rattle.std.specs.Prelude.{List, [], ◌∷◌, Some, None}
 use Rattle.kdl_text.specs.Chars.{Text, Space, Star}
 use Rattle.kdl_text.specs.declared.span.SourceSpan.{SourceSpan}
 use Rattle.kdl_entry.specs.Places.{Is}
 use Rattle.kdl_entry.specs.FirstLaid.{LaidIdentifier, LaidEntry}
 use Rattle.kdl_entry.specs.Tree.{Identifier, Entry}
-use Rattle.kdl.specs.Tree.{NodeFormat, DocumentFormat, Head, Node, node, no_children, Document, document, Nodes, none, first}
+use Rattle.kdl.specs.Tree.{NodeFormat, Node, node, no_children, Document, document, Nodes, none, first}
 use Rattle.kdl.specs.FirstGrammar.{Terminator, Gap}
 
 pub data LaidEntries : List Entry → Text → Text → Type 0 where

@@ -1,10 +1,10 @@
 -- The part of the language that is read today.
 -- The builder as a function on tokens, for the proofs. The token k stands in the text s before r.
 -- Where the place under way began is kept as the text from there on.
-use Rattle.std.specs.Prelude.{◌≡◌, ℕ, ◌-◌, List, [], ◌∷◌, ◌++◌, length, take, Option, Some, None}
+use Rattle.std.specs.Prelude.{◌≡◌, ◌-◌, List, [], ◌∷◌, ◌++◌, length, take, Option, Some, None}
 use Rattle.kdl_text.specs.Chars.{Text}
 use Rattle.kdl_text.specs.declared.span.SourceSpan.{SourceSpan}
-use Rattle.kdl_entry.specs.Data.{Value, text, integer}
+use Rattle.kdl_entry.specs.Data.{Value, text}
 use Rattle.kdl_entry.specs.FirstTokens.{Token, space, newline, value, semicolon, BeginsToken}
 use Rattle.kdl_entry.specs.FirstLaid.{argument_format}
 use Rattle.kdl_entry.specs.Tree.{Identifier, Entry}

@@ -1,6 +1,6 @@
 -- Nodes and documents laid in a text: their places and items, in the order of printing, are the text, and each place is what it has to be.
 -- Where `exact` holds, each span is that of its piece in the text `whole`.
-use Rattle.std.specs.Prelude.{◌≡◌, ℕ, ◌+◌, ◌-◌, Bool, true, false, List, [], ◌∷◌, Option, Some, None}
+use Rattle.std.specs.Prelude.{ℕ, ◌+◌, ◌-◌, Bool, true, List, [], ◌∷◌, Option, Some, None}
 use Rattle.kdl_text.specs.Chars.{Text, Star}
 use Rattle.kdl_text.specs.Trivia.{LineSpace}
 use Rattle.kdl_text.specs.declared.span.SourceSpan.{SourceSpan}
@@ -9,7 +9,7 @@ use Rattle.kdl_entry.specs.Laid.{LaidIdentifier, LaidType, LaidEntry}
 use Rattle.kdl_entry.specs.Tree.{Identifier, Entry}
 use Rattle.kdl.specs.Grammar.{Terminator, Gap}
 use Rattle.kdl.specs.Places.{BeforeChildren, AfterChildren}
-use Rattle.kdl.specs.Tree.{NodeFormat, DocumentFormat, Head, Node, node, Children, no_children, children, Document, document, Nodes, none, first}
+use Rattle.kdl.specs.Tree.{NodeFormat, Node, node, Children, no_children, children, Document, document, Nodes, none, first}
 
 -- a format of a node, by its texts in order
 abbrev pub node_format : Text → Text → Text → Text → Text → Text → Text → Text → NodeFormat

@@ -1,11 +1,11 @@
 -- The machine that builds the tree: it goes over the tokens of a text once, with a stack of open blocks.
 -- The token k stands in the text s before r. Where a place or an item began is kept as the text from there on.
 -- A `None` in the place of a node or of nodes is inside what counts for nothing, of which nothing is built.
-use Rattle.std.specs.Prelude.{◌≡◌, ℕ, ◌-◌, Bool, true, false, List, [], ◌∷◌, ◌++◌, length, take, Option, Some, None, option_map}
+use Rattle.std.specs.Prelude.{◌≡◌, ◌-◌, Bool, true, false, List, [], ◌∷◌, ◌++◌, length, take, Option, Some, None}
 use Rattle.kdl_text.specs.Chars.{Text}
 use Rattle.kdl_text.specs.declared.span.SourceSpan.{SourceSpan}
 use Rattle.kdl_entry.specs.Data.{Value, text}
-use Rattle.kdl_entry.specs.Tokens.{Token, space, newline, slashdash, string, value, left, right, opening, closing, equals, semicolon, mark, BeginsToken}
+use Rattle.kdl_entry.specs.Tokens.{Token, space, newline, slashdash, string, value, left, right, opening, closing, equals, semicolon, BeginsToken}
 use Rattle.kdl_entry.specs.Places.{span_of}
 use Rattle.kdl_entry.specs.Tree.{Identifier, Entry}
 use Rattle.kdl.specs.Laid.{node_format, content_span, with_mark}

@@ -1,12 +1,11 @@
 -- In each text that is an identifier or an entry, one is laid with its data.
-use Rattle.std.proofs.Common.{◌≡◌, Bool, true, false, List, [], ◌∷◌, Option, Some, None, option_map, refl, sym, ap, subst, ◌∙◌}
-use Rattle.kdl_text.specs.Chars.{Text, Star}
-use Rattle.kdl_text.specs.Trivia.{NodeSpace, Slashdash}
+use Rattle.std.proofs.Common.{◌≡◌, true, false, [], Option, Some, None, option_map, refl, ap}
+use Rattle.kdl_text.specs.Chars.{Text}
 use Rattle.kdl_text.specs.declared.span.SourceSpan.{SourceSpan}
 use Rattle.kdl_text.proofs.Ends.{End, then, end_star}
 use Rattle.kdl_entry.specs.Data as data'
-use Rattle.kdl_entry.specs.Entries.{IsString, IsType, parens, MaybeType, untyped, typed, IsValue, value, IsEntry, property, argument, DroppedFirst, dropped_first, BeforeEntry, before_entry, IsEntryText, entry_text, IsIdentifierText}
-use Rattle.kdl_entry.specs.Laid.{LaidIdentifier, spelled, LaidType, no_type, a_type, LaidKey, no_key, a_key, LaidItem, item, LaidEntryText, laid_entry_text}
+use Rattle.kdl_entry.specs.Entries.{IsString, parens, MaybeType, untyped, typed, value, IsEntry, property, argument, DroppedFirst, dropped_first, BeforeEntry, before_entry, IsEntryText, entry_text, IsIdentifierText}
+use Rattle.kdl_entry.specs.Laid.{LaidIdentifier, spelled, LaidType, no_type, a_type, no_key, a_key, LaidItem, item, LaidEntryText, laid_entry_text}
 use Rattle.kdl_entry.specs.Places.{Is, span_of}
 use Rattle.kdl_entry.specs.Tree.{Identifier, Entry, entry_data}
 use Rattle.kdl_entry.proofs.EntryEnds.{end_spaces, end_lines, end_some, end_slashdash, end_string, end_plain, end_entry}

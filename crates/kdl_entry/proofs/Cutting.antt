@@ -4,7 +4,7 @@ use Rattle.std.proofs.lemmas.Bool.Decides.{nat_tests}
 use Rattle.kdl_text.specs.Chars.{Text, crlf, is_space, is_newline_char, is_banned, is_mark, is_identifier_char, begins, starts}
 use Rattle.kdl_text.specs.Chars.Newline.{one as newline_char}
 use Rattle.kdl_text.specs.Chars.Space.{space as space_char}
-use Rattle.kdl_text.specs.Trivia.{NodeSpace, Break, BlockComment, LineComment, Escline, ends_value, ValueEnd}
+use Rattle.kdl_text.specs.Trivia.{BlockComment, LineComment, Escline, ends_value, ValueEnd}
 use Rattle.kdl_text.specs.Trivia.BlockComment.{block}
 use Rattle.kdl_text.specs.Trivia.LineComment.{line}
 use Rattle.kdl_text.specs.Trivia.Ws.{space as ws_space, comment as ws_comment}
@@ -14,7 +14,6 @@ use Rattle.kdl_text.specs.Trivia.Break.{newline as break_newline, comment as bre
 use Rattle.kdl_text.proofs.Ends.{End, here, also}
 use Rattle.kdl_text.proofs.TriviaDet.{node_space_det, break_det, newline_no_space}
 use Rattle.kdl_text.proofs.TriviaPieces.{EndOf, node_space_end, break_end, node_space_shorter, break_shorter}
-use Rattle.kdl_text.proofs.ValueEnds.{ends_value_mark, mark_no_identifier, value_end_no_identifier}
 use Rattle.kdl_entry.specs.Data.{Value}
 use Rattle.kdl_entry.specs.Entries.{StringPiece, PlainPiece}
 use Rattle.kdl_entry.specs.Tokens.{Token, space, newline, slashdash, string, value, left, right, opening, closing, equals, semicolon, mark, BeginsToken, t_space, t_newline, t_slashdash, t_string, t_value, t_left, t_right, t_opening, t_closing, t_equals, t_semicolon, t_mark, Lexes, done, next}

@@ -1,10 +1,9 @@
 -- A text in which an entry or an identifier is laid is derived, with its data.
-use Rattle.std.proofs.Common.{◌≡◌, Bool, true, [], ◌∷◌, Option, Some, None, option_map, refl}
+use Rattle.std.proofs.Common.{Bool, true, Option, option_map}
 use Rattle.kdl_text.specs.Chars.{Text}
 use Rattle.kdl_text.specs.declared.span.SourceSpan.{SourceSpan}
-use Rattle.kdl_entry.specs.Data as data'
-use Rattle.kdl_entry.specs.Entries.{IsString, parens, MaybeType, untyped, typed, value, IsEntry, property, argument, IsIdentifierText, IsEntryText, entry_text}
-use Rattle.kdl_entry.specs.Laid.{LaidIdentifier, spelled, LaidType, no_type, a_type, LaidKey, no_key, a_key, LaidItem, item, LaidEntryText, laid_entry_text}
+use Rattle.kdl_entry.specs.Entries.{IsString, parens, MaybeType, untyped, typed, value, IsEntry, property, argument, IsEntryText, entry_text}
+use Rattle.kdl_entry.specs.Laid.{LaidIdentifier, spelled, LaidType, no_type, a_type, no_key, a_key, LaidItem, item, LaidEntryText, laid_entry_text}
 use Rattle.kdl_entry.specs.Tree.{Identifier, Entry, entry_data}
 
 module _ (exact : Bool) (whole : Text) where

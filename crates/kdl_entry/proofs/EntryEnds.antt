@@ -1,5 +1,5 @@
 -- What follows a piece of an entry is an end of the text.
-use Rattle.std.proofs.Common.{◌≡◌, Bool, true, Option}
+use Rattle.std.proofs.Common.{Bool, Option}
 use Rattle.kdl_text.specs.Chars.{Text, Star, Plus, plus}
 use Rattle.kdl_text.specs.Trivia.{NodeSpace, LineSpace, Slashdash}
 use Rattle.kdl_text.proofs.Ends.{End, here, also, then, past, end_star}

@@ -1,15 +1,15 @@
 -- Spaces, comments and entries stand before another rest too.
-use Rattle.std.proofs.Common.{◌≡◌, ℕ, Bool, true, false, ◌&&◌, ◌||◌, ◌==◌, arith, List, [], ◌∷◌, ◌++◌, Option, Some, None, refl, sym, ap, subst, ◌∙◌}
+use Rattle.std.proofs.Common.{◌≡◌, ℕ, true, false, ◌&&◌, ◌||◌, ◌==◌, arith, ◌∷◌, Option, refl, sym, ap, subst, ◌∙◌}
 use Rattle.std.proofs.lemmas.Bool.Decides.{nat_tests}
-use Rattle.kdl_text.specs.Chars.{Text, begins, begins_two, Star, none, more, Plus, plus, Newline, crlf, one, Space, space as a_space}
+use Rattle.kdl_text.specs.Chars.{Text, begins_two, Star, none, more, Plus, plus, space as a_space}
 use Rattle.kdl_text.specs.Here.{first}
-use Rattle.kdl_text.specs.Trivia.{Parts, close, nested, BlockComment, block, Line, LineComment, line, Ws, EscEnd, Escline, escline, NodeSpace, Break, LineSpace, Slashdash, slashdash, ends_value, ValueEnd}
+use Rattle.kdl_text.specs.Trivia.{Parts, close, nested, block, Line, LineComment, line, Ws, EscEnd, escline, NodeSpace, Break, LineSpace, Slashdash, slashdash, ends_value, ValueEnd}
 use Rattle.kdl_text.specs.declared.span.SourceSpan.{SourceSpan}
 use Rattle.kdl_text.proofs.ValueEnds.{value_end_no_identifier}
 use Rattle.kdl_entry.specs.Data as data'
 use Rattle.kdl_entry.specs.Data.{Value}
 use Rattle.kdl_entry.specs.Entries.{IsString, string, IsPlainValue, a_string, a_plain, IsType, parens, MaybeType, untyped, typed, IsValue, value, IsEntry, property, argument}
-use Rattle.kdl_entry.specs.Laid.{LaidIdentifier, spelled, LaidType, no_type, a_type, LaidKey, no_key, a_key, LaidItem, item}
+use Rattle.kdl_entry.specs.Laid.{LaidIdentifier, spelled, LaidType, no_type, a_type, no_key, a_key, LaidItem, item}
 use Rattle.kdl_entry.specs.Places.{Is, DroppedEntry, dropped, EntryLeading, leading}
 use Rattle.kdl_entry.specs.Tree.{Identifier, Entry}
 use Rattle.kdl_entry.proofs.PieceMoves.{move_plain_piece}

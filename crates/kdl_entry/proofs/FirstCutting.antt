@@ -1,22 +1,21 @@
 -- A text begins with one token at most.
-use Rattle.std.proofs.Common.{◌≡◌, ℕ, ℤ, ◌<◌, List, Bool, true, false, [], ◌∷◌, ◌++◌, length, cond, ◌≤◌, refl, sym, subst, ap, ◌∙◌, ◌==◌, arith, length-append}
+use Rattle.std.proofs.Common.{◌≡◌, ℕ, ◌<◌, Bool, true, false, [], ◌∷◌, length, cond, ◌≤◌, refl, sym, ap, ◌∙◌, ◌==◌, arith}
 use Rattle.std.proofs.lemmas.Bool.{eqb-true}
-use Rattle.kdl_text.specs.Chars.{Text, Space, Newline, crlf, Plus, plus, Star, is_space, is_newline_char, is_identifier_char, starts}
+use Rattle.kdl_text.specs.Chars.{Text, Space, crlf, plus, Star, is_space, is_newline_char, is_identifier_char, starts}
 use Rattle.kdl_text.specs.Chars.Space.{space as space_char}
 use Rattle.kdl_text.specs.Chars.Newline.{one as newline_char}
 use Rattle.kdl_text.specs.Bare.{BareString, bare}
-use Rattle.kdl_text.specs.Numbers.{WholeNumber, begins_number}
-use Rattle.kdl_text.specs.MultiLine.{IsQuoted}
-use Rattle.kdl_text.proofs.Bares.{bare_det, bare_begins, bare_shorter}
+use Rattle.kdl_text.specs.Numbers.{begins_number}
+use Rattle.kdl_text.proofs.Bares.{bare_det, bare_shorter}
 use Rattle.kdl_text.proofs.Ends.{End, here, also, end_newline, end_space}
 use Rattle.kdl_text.proofs.Newlines.{newline_det}
 use Rattle.kdl_text.proofs.Determined.{is_quoted_det, is_quoted_begins, is_quoted_shorter}
-use Rattle.kdl_text.proofs.WholeNumbers.{whole_number_det, whole_number_begins, whole_number_shorter, number_not_bare}
-use Rattle.kdl_entry.specs.Data.{Value, text, integer}
-use Rattle.kdl_entry.specs.FirstTokens.{Token, space, newline, value, semicolon, BeginsToken, a_space, a_newline, a_bare, a_quoted, a_number, a_semicolon, Cuts, one, run}
+use Rattle.kdl_text.proofs.WholeNumbers.{whole_number_det, whole_number_begins, whole_number_shorter}
+use Rattle.kdl_entry.specs.Data.{text, integer}
+use Rattle.kdl_entry.specs.FirstTokens.{Token, value, BeginsToken, a_space, a_newline, a_bare, a_quoted, a_number, a_semicolon, Cuts, one, run}
 use Rattle.kdl_entry.proofs.LeafEnds.{number_end}
 use Rattle.kdl_text.proofs.StringEnds.{is_quoted_end}
-use Rattle.kdl_entry.proofs.Fronts.{Plain, plain, no_quote, no_semicolon, space_34, space_59, newline_34, newline_59, newline_no_space, number_identifier, bare_front, no_bare_at_end}
+use Rattle.kdl_entry.proofs.Fronts.{plain, no_quote, no_semicolon, space_34, space_59, newline_34, newline_59, newline_no_space, number_identifier, bare_front, no_bare_at_end}
 
 -- the kinds of tokens, as their first characters tell them
 data Kind : Type 0 where

@@ -1,9 +1,9 @@
 -- What follows a number or a keyword is an end of the text.
-use Rattle.std.proofs.Common.{◌≡◌, ℕ, ℤ, List, Bool, [], ◌∷◌, ◌++◌, refl}
+use Rattle.std.proofs.Common.{ℕ, ℤ, Bool}
 use Rattle.kdl_text.specs.Chars.{Text}
-use Rattle.kdl_text.specs.Numbers.{Sign, BaseMark, Digits, Integer, WholeNumber, whole, Decimal, decimal, IsNumber, is_whole, is_decimal, NumberValue, IsKeyword, keyword, keyword_text}
+use Rattle.kdl_text.specs.Numbers.{Sign, BaseMark, Digits, Integer, WholeNumber, whole, decimal, IsNumber, is_whole, is_decimal, NumberValue, IsKeyword, keyword, keyword_text}
 use Rattle.kdl_text.specs.declared.numbers.Keyword.{Keyword}
-use Rattle.kdl_text.proofs.Ends.{End, here, also, then, past}
+use Rattle.kdl_text.proofs.Ends.{End, here, also, then}
 
 pub digits_end : {k : ℕ} {s r w : Text} → Digits k s r w → End s r
 digits_end (Digits.stop x) = here

@@ -1,6 +1,6 @@
 -- From what the readers answer to tokens.
-use Rattle.std.proofs.Common.{◌≡◌, ℕ, ℤ, List, Bool, true, false, [], ◌∷◌, ◌++◌, refl, sym, subst, ap, ◌∙◌, ◌==◌, ◌&&◌, arith}
-use Rattle.std.proofs.Common.{zero, suc, lit<, of_z, to_z, ◌<◌, ◌^◌}
+use Rattle.std.proofs.Common.{◌≡◌, ℕ, ℤ, Bool, true, false, [], ◌∷◌, ◌++◌, refl, sym, subst, ap, ◌∙◌, arith}
+use Rattle.std.proofs.Common.{zero, suc, lit<, of_z, to_z}
 use Rattle.std.specs.Int.{w128}
 use Rattle.std.proofs.Math.Facts.{to_z-of_z}
 use Rattle.std.proofs.lemmas.Bool.Decides.{nat_tests}
@@ -13,28 +13,26 @@ use Rattle.kdl_text.specs.Chars.{Text, Space, Newline, crlf, Star, none, more, P
 use Rattle.kdl_text.specs.Chars.Space.{space as space_char}
 use Rattle.kdl_text.specs.Chars.Newline.{one as newline_char}
 use Rattle.kdl_text.specs.Bare.{BareString}
-use Rattle.kdl_text.specs.Here.{Here, Spot, Skips, Ran, first, tail, looked, stepped}
+use Rattle.kdl_text.specs.Here.{Here, Spot, Skips, first, tail, looked, stepped}
 use Rattle.kdl_text.specs.NumberReading.{ReadsWhole}
 use Rattle.kdl_text.specs.Numbers.{WholeNumber, whole, begins_number, fits, signed}
 use Rattle.kdl_text.specs.Reading.{Moves, ReadsNewline}
 use Rattle.kdl_text.specs.MultiLine.{IsQuoted}
 use Rattle.kdl_text.specs.declared.numbers.NumberFault.{NumberFault}
 use Rattle.kdl_text.specs.declared.strings.StringFault.{StringFault}
-use Rattle.kdl_text.specs.declared.strings.StringFailure.{StringFailure}
 use Rattle.kdl_text.specs.declared.strings.StringFailure.TheVariants.{Fault as StringFaulty, Memory as StringMemory}
-use Rattle.kdl_text.proofs.Bares.{bare_begins}
 use Rattle.kdl_text.proofs.Going.{moves_one, moves_then, moves_stayed, stayed_looked, took_from}
 use Rattle.kdl_text.proofs.Slices.{moves_ran}
 use Rattle.kdl_text.proofs.Newlines.{newline_there}
 use Rattle.kdl_text.proofs.Determined.{is_quoted_begins}
 use Rattle.kdl_text.proofs.WholeNumbers.{whole_number_begins, number_not_bare}
-use Rattle.kdl_entry.specs.Data.{Value, text, integer}
-use Rattle.kdl_entry.specs.Lexed.{ReadsKind, IsFaultAt, NoToken, SpansChar}
+use Rattle.kdl_entry.specs.Data.{text, integer}
+use Rattle.kdl_entry.specs.Lexed.{ReadsKind, IsFaultAt, NoToken}
 use Rattle.kdl_entry.specs.FirstTokens.{Token, space, newline, value, semicolon, BeginsToken, a_space, a_newline, a_bare, a_quoted, a_number, a_semicolon, Cuts, one, run}
 use Rattle.kdl_entry.specs.declared.tokens.ReadFailure.{ReadFailure}
 use Rattle.kdl_entry.specs.declared.tokens.ReadFailure.TheVariants.{Fault, Memory}
 use Rattle.kdl_entry.specs.declared.tokens.TokenKind.{TokenKind}
-use Rattle.kdl_entry.proofs.Fronts.{Plain, plain, no_quote, no_semicolon, space_34, newline_34, number_identifier, bare_front}
+use Rattle.kdl_entry.proofs.Fronts.{plain, no_quote, no_semicolon, space_34, newline_34, number_identifier, bare_front}
 
 -- a fault where no token begins
 fault_here : (s r : Text) (place : Spot) (e : ReadFailure) → NoToken s → IsFaultAt place e → ReadsKind s place (Err e) r

@@ -1,18 +1,16 @@
 -- Numbers and keywords stand before each rest that begins with no identifier character.
-use Rattle.std.proofs.Common.{◌≡◌, ℕ, ℤ, Bool, true, false, ◌&&◌, ◌||◌, ◌==◌, List, [], ◌∷◌, ◌++◌, Option, Some, None, refl, sym, ap, subst, ◌∙◌, append_assoc, arith}
+use Rattle.std.proofs.Common.{◌≡◌, ℕ, ℤ, Bool, true, false, ◌||◌, ◌==◌, [], ◌∷◌, ◌++◌, Option, Some, None, refl, sym, ap, ◌∙◌, arith}
 use Rattle.std.proofs.lemmas.Bool.{eqb-true}
 use Rattle.std.proofs.lemmas.Bool.Decides.{nat_tests}
 use Rattle.std.specs.Prelude.{if◌then◌else◌}
-use Rattle.std.specs.List.{list_all}
-use Rattle.std.specs.Str.Parse.{digits_value}
-use Rattle.kdl_text.specs.Chars.{Text, within, begins, starts, is_identifier_char, is_space, is_newline_char, is_banned, is_mark, is_sign}
+use Rattle.kdl_text.specs.Chars.{Text, within, starts, is_identifier_char, is_space, is_newline_char, is_banned, is_mark, is_sign}
 use Rattle.kdl_text.specs.Here.{first}
 use Rattle.kdl_text.specs.Numbers.{is_digit_of, is_part, Sign, BaseMark, base_of, marked, Digits, Integer, integer, WholeNumber, whole, Fraction, Exponent, is_exponent_mark, DecimalPart, part, Decimal, decimal, IsNumber, is_whole, is_decimal, NumberValue, IsKeyword, keyword as a_keyword, keyword_text}
 use Rattle.kdl_text.specs.declared.numbers.Keyword.{Keyword}
 use Rattle.kdl_text.specs.declared.numbers.Keyword.TheVariants.{True, False, Null, Infinity, NegativeInfinity, NotANumber}
 use Rattle.kdl_entry.specs.Data.{Value}
 use Rattle.kdl_entry.specs.Entries.{PlainPiece, number, keyword}
-use Rattle.kdl_entry.proofs.Puts.{Put, stands, also, joined, before, same, same_piece, starts_first, Alike, both_end, alike_put, Move, MoveAlike, MovePiece}
+use Rattle.kdl_entry.proofs.Puts.{stands, also, joined, before, same, same_piece, starts_first, Alike, both_end, alike_put, MoveAlike, MovePiece}
 
 -- classes of identifier characters
 sign_class : (c : ℕ) → is_sign c ≡ true → is_identifier_char c ≡ true

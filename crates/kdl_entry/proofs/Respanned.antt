@@ -1,5 +1,5 @@
 -- What is laid is laid, whatever its spans, in whatever whole.
-use Rattle.std.proofs.Common.{◌≡◌, Bool, false, Option}
+use Rattle.std.proofs.Common.{Bool, false, Option}
 use Rattle.kdl_text.specs.Chars.{Text}
 use Rattle.kdl_text.specs.declared.span.SourceSpan.{SourceSpan}
 use Rattle.kdl_entry.specs.Laid.{LaidIdentifier, spelled, LaidType, no_type, a_type, LaidKey, no_key, a_key, LaidItem, item, LaidEntry, laid_entry}

@@ -1,5 +1,5 @@
 -- An entry that is laid in a node can stand before every text with a value end.
-use Rattle.std.proofs.Common.{◌≡◌, Bool, true, false, [], ◌++◌, refl, sym, subst}
+use Rattle.std.proofs.Common.{Bool, true, false, ◌++◌, subst}
 use Rattle.kdl_text.specs.Chars.{Text}
 use Rattle.kdl_text.specs.Trivia.{ValueEnd}
 use Rattle.kdl_entry.specs.Laid.{LaidEntry, laid_entry}

@@ -1,13 +1,13 @@
 -- Strings in each spelling stand before each rest that begins with no identifier character and no quote.
-use Rattle.std.proofs.Common.{◌≡◌, ℕ, ◌≤◌, Bool, true, false, ◌&&◌, ◌||◌, ◌==◌, List, [], ◌∷◌, ◌++◌, length, refl, sym, ap, ◌∙◌, append_assoc, length-append, arith}
+use Rattle.std.proofs.Common.{◌≡◌, ℕ, ◌≤◌, Bool, true, false, ◌&&◌, ◌==◌, List, [], ◌∷◌, ◌++◌, length, refl, sym, ap, ◌∙◌, append_assoc, length-append, arith}
 use Rattle.std.proofs.lemmas.Bool.Decides.{nat_tests}
-use Rattle.kdl_text.specs.Chars.{Text, begins, begins_two, begins_with, times, starts, is_identifier_char, is_space, is_newline_char, is_banned, is_mark, Newline, crlf, one}
+use Rattle.kdl_text.specs.Chars.{Text, begins, begins_two, begins_with, times, starts, is_identifier_char, is_space, is_newline_char, Newline, crlf, one}
 use Rattle.kdl_text.specs.Chars.Space.{space as a_space}
 use Rattle.kdl_text.specs.Bare.{BareString, bare as bare_text, is_bare}
 use Rattle.kdl_text.specs.Here.{first}
-use Rattle.kdl_text.specs.MultiLine.{kept, ContentUnit, Content, MultiLineBody, MultiLineString, multi_line, IsQuoted}
+use Rattle.kdl_text.specs.MultiLine.{ContentUnit, Content, MultiLineBody, MultiLineString, multi_line, IsQuoted}
 use Rattle.kdl_text.specs.Raw.{closing, RawUnit, RawUnits, RawContent, content, RawString, MultiLineRawBody, MultiLineRawString, IsRaw}
-use Rattle.kdl_text.specs.Strings.{StringUnit, IsUnit, one_literal, one_letter, one_number, one_gap, AreUnits, body, QuotedString, quoted as quoted_text, Run, HexNumber, is_blank}
+use Rattle.kdl_text.specs.Strings.{StringUnit, IsUnit, one_literal, one_letter, one_number, one_gap, AreUnits, body, QuotedString, quoted as quoted_text, HexNumber, is_blank}
 use Rattle.kdl_text.specs.Trivia.{Ws, NodeSpace, Break, ends_value, ValueEnd, block, line, escline}
 use Rattle.kdl_text.specs.declared.strings.dedent.LineUnit.{LineUnit}
 use Rattle.kdl_entry.specs.Entries.{StringPiece, bare, quoted, raw}

@@ -1,9 +1,9 @@
 -- Strings in any spelling, numbers and keywords: a text begins with one at most, and what each begins with.
-use Rattle.std.proofs.Common.{◌≡◌, ℕ, zero, suc, ◌<◌, ◌≤◌, Bool, true, false, ◌||◌, ◌==◌, [], ◌∷◌, ◌++◌, length, refl, sym, subst, ap, ◌∙◌, arith, length-append}
+use Rattle.std.proofs.Common.{◌≡◌, ℕ, zero, suc, ◌<◌, Bool, true, false, ◌||◌, ◌==◌, [], ◌∷◌, ◌++◌, length, refl, sym, ap, ◌∙◌, arith}
 use Rattle.std.proofs.lemmas.Bool.{eqb-true}
 use Rattle.kdl_text.specs.Chars.{Text, is_identifier_char, starts, times}
-use Rattle.kdl_text.specs.Raw.{IsRaw, RawString, MultiLineRawString}
-use Rattle.kdl_text.specs.Bare.{BareString, bare as bare_text}
+use Rattle.kdl_text.specs.Raw.{IsRaw}
+use Rattle.kdl_text.specs.Bare.{bare as bare_text}
 use Rattle.kdl_text.specs.Numbers.{IsNumber, NumberValue, IsKeyword, keyword as a_keyword, keyword_text, begins_number}
 use Rattle.kdl_text.specs.declared.numbers.Keyword.{Keyword}
 use Rattle.kdl_text.specs.declared.numbers.Keyword.TheVariants.{True, False, Null, Infinity, NegativeInfinity, NotANumber}
@@ -15,7 +15,7 @@ use Rattle.kdl_text.proofs.Determined.{is_quoted_det, is_quoted_begins, is_quote
 use Rattle.kdl_text.proofs.WholeNumbers.{number_not_bare}
 use Rattle.kdl_entry.specs.Data.{Value}
 use Rattle.kdl_entry.specs.Entries.{StringPiece, bare, quoted, raw, PlainPiece, number, keyword, number_value, keyword_value}
-use Rattle.kdl_entry.proofs.Fronts.{plain, no_quote, number_identifier}
+use Rattle.kdl_entry.proofs.Fronts.{no_quote, number_identifier}
 use Rattle.kdl_entry.proofs.LeafEnds.{any_number_end, keyword_end}
 use Rattle.kdl_text.proofs.StringEnds.{is_quoted_end, is_raw_end}
 

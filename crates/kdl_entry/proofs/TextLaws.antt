@@ -1,6 +1,5 @@
 -- The laws of what is laid, put together.
-use Rattle.std.proofs.Common.{◌≡◌, Bool, [], ◌++◌, sym, ◌∙◌, append-nil}
-use Rattle.kdl_text.specs.Chars.{Text}
+use Rattle.std.proofs.Common.{sym, ◌∙◌, append-nil}
 use Rattle.kdl_entry.specs.Laws.{LaidIdentifierIsDerived, LaidEntryIsDerived, TextsAreLaid}
 use Rattle.kdl_entry.specs.Print.{print_identifier}
 use Rattle.kdl_entry.proofs.Built.{built_entry, built_identifier}

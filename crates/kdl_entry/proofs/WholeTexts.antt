@@ -1,14 +1,13 @@
 -- A text is one identifier at most, and one entry at most.
-use Rattle.std.proofs.Common.{◌≡◌, ℕ, Bool, true, false, List, [], ◌∷◌, Option, Some, None, refl, sym, subst, ap, ◌∙◌, ◌==◌, ◌||◌, arith}
-use Rattle.std.proofs.lemmas.Bool.Decides.{nat_tests}
-use Rattle.kdl_text.specs.Chars.{Text, Star, Plus, plus, starts, is_space, is_newline_char, is_identifier_char, is_banned, is_mark, crlf}
+use Rattle.std.proofs.Common.{◌≡◌, Bool, true, false, [], ◌∷◌, Option, Some, refl, sym, subst, ap}
+use Rattle.kdl_text.specs.Chars.{Text, Star, Plus, plus}
 use Rattle.kdl_text.specs.Chars.Star.{none, more}
-use Rattle.kdl_text.specs.Trivia.{NodeSpace, Break, LineSpace, Slashdash, slashdash}
-use Rattle.kdl_text.proofs.Stars.{Det, meets, stops, star_map, longest_det}
-use Rattle.kdl_text.proofs.TriviaDet.{node_space_det, node_space_dets, line_space_dets}
+use Rattle.kdl_text.specs.Trivia.{NodeSpace, LineSpace, Slashdash, slashdash}
+use Rattle.kdl_text.proofs.Stars.{star_map, longest_det}
+use Rattle.kdl_text.proofs.TriviaDet.{node_space_dets, line_space_dets}
 use Rattle.kdl_entry.specs.Data.{Value, text, Entry}
-use Rattle.kdl_entry.specs.Entries.{StringPiece, IsString, string, IsPlainValue, a_string, a_plain, IsType, parens, MaybeType, untyped, typed, IsValue, value, IsEntry, property, argument, IsIdentifierText, DroppedFirst, dropped_first, BeforeEntry, before_entry, IsEntryText, entry_text}
-use Rattle.kdl_entry.specs.Tokens.{Token, space, newline, slashdash as dash, string as string_token, value as value_token, left, right, equals, BeginsToken, t_space, t_newline, t_slashdash, t_string, t_value, t_left, t_right, t_equals}
+use Rattle.kdl_entry.specs.Entries.{IsString, string, IsPlainValue, a_string, a_plain, IsType, parens, untyped, typed, IsValue, value, IsEntry, property, argument, IsIdentifierText, DroppedFirst, dropped_first, before_entry, IsEntryText, entry_text}
+use Rattle.kdl_entry.specs.Tokens.{Token, space, newline, string as string_token, value as value_token, left, BeginsToken, t_space, t_newline, t_slashdash, t_string, t_value, t_left, t_right, t_equals}
 use Rattle.kdl_entry.proofs.Cutting.{token_det, no_token}
 use Rattle.kdl_entry.proofs.StringPieces.{string_det, plain_det, string_or_plain}
 

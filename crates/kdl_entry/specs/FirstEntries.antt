@@ -1,6 +1,6 @@
 -- The part of the language that is read today.
 -- Strings, values and entries as they are written (KDL 2.0.0, String, Value, Argument).
-use Rattle.std.specs.Prelude.{◌≡◌, ℤ, [], ◌∷◌, Option, None}
+use Rattle.std.specs.Prelude.{ℤ, [], ◌∷◌, None}
 use Rattle.kdl_text.specs.Chars.{Text, Space, Newline}
 use Rattle.kdl_text.specs.Bare.{BareString}
 use Rattle.kdl_text.specs.MultiLine.{IsQuoted}

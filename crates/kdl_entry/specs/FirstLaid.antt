@@ -1,6 +1,6 @@
 -- The part of the language that is read today.
 -- Identifiers and entries laid in a text: their spellings and places, in order, are the text, and each is what it has to be.
-use Rattle.std.specs.Prelude.{[], false, Option, Some, None}
+use Rattle.std.specs.Prelude.{[], false, Some, None}
 use Rattle.kdl_text.specs.Chars.{Text, Space, Plus}
 use Rattle.kdl_text.specs.declared.span.SourceSpan.{SourceSpan}
 use Rattle.kdl_entry.specs.Data.{Value}

@@ -1,6 +1,6 @@
 -- The part of the language that is read today.
 -- Tokens, and the cut of a text into tokens.
-use Rattle.std.specs.Prelude.{ℤ, [], ◌∷◌}
+use Rattle.std.specs.Prelude.{ℤ, ◌∷◌}
 use Rattle.kdl_text.specs.Chars.{Text, Space, Newline, Plus}
 use Rattle.kdl_text.specs.Bare.{BareString}
 use Rattle.kdl_text.specs.MultiLine.{IsQuoted}

@@ -7,7 +7,7 @@ use Rattle.kdl_text.specs.declared.span.SourceSpan.{SourceSpan}
 use Rattle.kdl_entry.specs.Data.{Value}
 use Rattle.kdl_entry.specs.Entries.{IsString, IsPlainValue, BeforeEntry}
 use Rattle.kdl_entry.specs.Places.{Is, EntryLeading, Spanned, span_of}
-use Rattle.kdl_entry.specs.Tree.{Identifier, EntryFormat, Entry}
+use Rattle.kdl_entry.specs.Tree.{Identifier, Entry}
 
 -- a string and its spelling
 pub data LaidIdentifier (exact : Bool) (whole : Text) : Identifier → Text → Text → Type 0 where

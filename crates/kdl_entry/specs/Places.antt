@@ -1,5 +1,5 @@
 -- Places: the texts between the parts of an item, and what may stand in them.
-use Rattle.std.specs.Prelude.{◌≡◌, ℕ, ◌-◌, Bool, true, false, ◌++◌, length, take}
+use Rattle.std.specs.Prelude.{◌≡◌, Bool, true, false, ◌++◌}
 use Rattle.kdl_text.specs.Chars.{Text, Star, Plus}
 use Rattle.kdl_text.specs.Trivia.{NodeSpace, Slashdash}
 use Rattle.kdl_text.specs.Spans.{span_between}

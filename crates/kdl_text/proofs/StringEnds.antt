@@ -1,9 +1,9 @@
 -- What follows a string is an end of the text.
-use Rattle.std.proofs.Common.{◌≡◌, ℕ, List, [], ◌∷◌, ◌++◌, refl, sym, ap, ◌∙◌, append_assoc}
+use Rattle.std.proofs.Common.{ℕ, List}
 use Rattle.kdl_text.specs.Chars.{Text, times}
 use Rattle.kdl_text.specs.Strings.{StringUnit, IsUnit, one_literal, one_letter, one_number, one_gap, AreUnits, body, QuotedString, quoted}
 use Rattle.kdl_text.specs.MultiLine.{ContentUnit, Content, MultiLineBody, MultiLineString, multi_line, IsQuoted}
-use Rattle.kdl_text.specs.Raw.{RawUnit, RawUnits, RawContent, closing, RawString, MultiLineRawBody, MultiLineRawString, IsRaw}
+use Rattle.kdl_text.specs.Raw.{RawUnit, RawUnits, RawContent, RawString, MultiLineRawBody, MultiLineRawString, IsRaw}
 use Rattle.kdl_text.specs.declared.strings.dedent.LineUnit.{LineUnit}
 use Rattle.kdl_text.proofs.Ends.{End, here, also, then, past, end_newline}
 
