@@ -4,8 +4,10 @@ pub mod Equality
 pub mod Escapes
 pub mod FirstCutting
 pub mod Fronts
+pub mod Handing
 pub mod LeafEnds
 pub mod Lexing
+pub mod PlainDecimals
 pub mod Printing
 pub mod ReadsBack
 pub mod Spellings

@@ -3,6 +3,7 @@ pub mod Entries
 pub mod FirstEntries
 pub mod FirstLaid
 pub mod FirstTokens
+pub mod Handed
 pub mod Laid
 pub mod Laws
 pub mod Lexed

@@ -49,6 +49,14 @@ impl KdlFloat {
         }
     }
 
+    /// A float of this text, which is a decimal without `_` or one of `#inf`, `#-inf` and `#nan`.
+    pub(crate) fn from_string(text: String) -> KdlFloat
+        requires { FloatText (chars (string_bytes text)) }
+        ensures { float_text_of result ≡ chars (string_bytes text) }
+    {
+        KdlFloat { text }
+    }
+
     /// The text.
     pub fn as_str(&self) -> &str
         ensures { chars result.now ≡ float_text_of self.now }
