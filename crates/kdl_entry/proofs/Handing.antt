@@ -1,23 +1,23 @@
 -- From what the readers answer to the tokens of the whole language.
-use Rattle.std.proofs.Common.{◌≡◌, ℕ, zero, suc, ◌+◌, ◌*◌, ◌≤◌, ◌<◌, List, Bool, true, false, [], ◌∷◌, ◌++◌, length, refl, sym, subst, ap, ◌∙◌, ◌==◌, ◌||◌, arith, length-append, ℤ, of_z, to_z, lit≤, lit<, inl, inr, IsTrue, ◌↔◌}
+use Rattle.std.proofs.Common.{◌≡◌, ℕ, zero, suc, ◌≤◌, ◌<◌, Bool, true, false, [], ◌∷◌, ◌++◌, length, refl, sym, subst, ap, ◌∙◌, ◌==◌, ◌||◌, arith, length-append, ℤ, of_z, to_z, lit<, inl, inr}
 use Rattle.std.proofs.lemmas.Bool.{and_parts, eqb-true}
 use Rattle.std.proofs.lemmas.Bool.Decides.{nat_tests}
 use Rattle.std.proofs.lemmas.Str.{len_utf8_bounds, chars-IsAscii}
 use borrow.Author.Tests.{ltb-true}
 use Rattle.std.specs.Int.{w128}
-use Rattle.std.specs.Prelude.{Some, None, Option, Result, Ok, Err, IfOk, IfSome, MatchOption, MatchResult, string_bytes, String, codes, nat_lt}
+use Rattle.std.specs.Prelude.{Some, None, Option, Result, Ok, Err, IfOk, string_bytes, String, codes, nat_lt}
 use Rattle.std.specs.List.{list_all}
 use Rattle.std.specs.Str.{chars, IsAscii}
 use Rattle.std.specs.declared.alloc.Global.{Global}
-use Rattle.kdl_text.specs.Chars.{Text, Space, Newline, Star, Plus, is_space, is_newline_char, is_identifier_char, is_banned, is_mark, is_digit, begins, begins_two, starts, times}
+use Rattle.kdl_text.specs.Chars.{Text, Newline, Star, Plus, is_space, is_newline_char, is_identifier_char, is_banned, is_mark, begins, begins_two, starts, times, is_digit, is_sign}
 use Rattle.kdl_text.specs.Chars.Star.{none, more}
 use Rattle.kdl_text.specs.Chars.Plus.{plus}
 use Rattle.kdl_text.specs.Chars.Space.{space as space_char}
 use Rattle.kdl_text.specs.Bare.{BareString}
-use Rattle.kdl_text.specs.Here.{Here, Spot, Skips, Ran, Stayed, first, tail, looked, stepped, bytes, Took}
+use Rattle.kdl_text.specs.Here.{Here, Spot, Skips, Stayed, first, tail, looked, bytes, Took}
 use Rattle.kdl_text.specs.MultiLine.{IsQuoted}
 use Rattle.kdl_text.specs.NumberReading.{ReadsNumber, ReadsKeyword, number_value}
-use Rattle.kdl_text.specs.Numbers.{IsNumber, is_whole, is_decimal, NumberValue, whole_value, decimal_text, IsKeyword, begins_number, Decimal, FloatText, keyword_text}
+use Rattle.kdl_text.specs.Numbers.{IsNumber, is_whole, is_decimal, NumberValue, whole_value, decimal_text, IsKeyword, begins_number, Decimal, FloatText}
 use Rattle.kdl_text.specs.Raw.{IsRaw}
 use Rattle.kdl_text.specs.Reading.{Moves, Costs, Reads, ReadsNewline}
 use Rattle.kdl_text.specs.Trivia.{NodeSpace, BlockComment, LineComment, Escline}
@@ -27,12 +27,11 @@ use Rattle.kdl_text.specs.Trivia.NodeSpace.{ws, escline as node_escline}
 use Rattle.kdl_text.specs.Trivia.Break.{newline as break_newline, comment as break_comment}
 use Rattle.kdl_text.specs.TriviaReading.{PieceCosts, Opens}
 use Rattle.kdl_text.specs.declared.numbers.Keyword.{Keyword}
-use Rattle.kdl_text.specs.declared.numbers.Keyword.TheVariants.{True, False, Null, Infinity, NegativeInfinity, NotANumber}
 use Rattle.kdl_text.specs.declared.numbers.Number.{Number}
 use Rattle.kdl_text.specs.declared.numbers.Number.TheVariants.{Integer as IntegerNumber, Decimal as DecimalNumber}
 use Rattle.kdl_text.specs.declared.strings.StringFailure.{StringFailure}
 use Rattle.kdl_text.specs.declared.strings.StringFailure.TheVariants.{Fault as StringFaulty, Memory as StringMemory}
-use Rattle.kdl_text.proofs.Going.{moves_one, moves_then, moves_stayed, took_from, stayed_looked, bytes-append, fewer_bytes}
+use Rattle.kdl_text.proofs.Going.{moves_one, stayed_looked, bytes-append}
 use Rattle.kdl_text.proofs.Keywords.{keyword_begins}
 use Rattle.kdl_text.proofs.Bares.{bare_begins, bare_shorter}
 use Rattle.kdl_text.proofs.Determined.{is_quoted_begins, is_quoted_shorter, is_raw_begins, is_raw_shorter}
@@ -48,16 +47,16 @@ use Rattle.kdl_entry.specs.declared.value.KdlValue.{KdlValue}
 use Rattle.kdl_entry.specs.Entries.{StringPiece, bare, quoted, raw, PlainPiece, number, keyword, keyword_value}
 use Rattle.kdl_entry.specs.Entries as entries
 use Rattle.kdl_entry.specs.Handed.{Cuts, one, spaces, NoToken, ReadsKind, Passes, IsFaultAt, IsMark, is_single, kind_view}
-use Rattle.kdl_entry.specs.Tokens.{Token, space, newline, slashdash, string, value, BeginsToken, t_space, t_newline, t_slashdash, t_string, t_value}
+use Rattle.kdl_entry.specs.Tokens.{space, newline, slashdash, string, value, t_space, t_newline, t_slashdash, t_string, t_value}
 use Rattle.kdl_entry.specs.declared.items.lexer.Fault.{Fault}
 use Rattle.kdl_entry.specs.declared.items.lexer.LexFailure.{LexFailure}
 use Rattle.kdl_entry.specs.declared.items.lexer.LexFailure.TheVariants.{Faulty, Memory}
 use Rattle.kdl_entry.specs.declared.items.lexer.TokenKind.{TokenKind}
-use Rattle.kdl_entry.proofs.Cutting.{no_piece, no_slash, no_backslash, no_alien, Alien, token_shorter}
-use Rattle.kdl_entry.proofs.Fronts.{plain, no_quote, number_identifier}
+use Rattle.kdl_entry.proofs.Cutting.{no_piece, no_slash, no_backslash, no_alien, Alien}
+use Rattle.kdl_entry.proofs.Fronts.{no_quote, number_identifier}
 use Rattle.kdl_entry.proofs.Lexing.{number_fits}
 use Rattle.kdl_entry.proofs.PlainDecimals.{own_decimal}
-use Rattle.kdl_entry.proofs.StringPieces.{begins_piece, keyword_front, string_shorter, plain_shorter}
+use Rattle.kdl_entry.proofs.StringPieces.{begins_piece, keyword_front, plain_shorter}
 
 first_is : (s : Text) (c : ℕ) → first s ≡ Some c → s ≡ c ∷ tail s
 first_is [] c h = cc
@@ -324,6 +323,16 @@ begins_back s h = rw (first_is s 92 h) refl
 -- words, spaces, newlines and tokens of one character
 pub word_here : (c : ℕ) (s : Text) → first s ≡ Some c → is_identifier_char c ≡ true → starts is_identifier_char s ≡ true
 word_here c s h k = rw (first_is s c h) k
+
+pub digit_here : (c : ℕ) (s : Text) → first s ≡ Some c → is_digit c ≡ true → begins_number s ≡ true
+digit_here c s h k = rw (first_is s c h) (rw k refl)
+
+pub no_digit_here : (c : ℕ) (s : Text) → first s ≡ Some c → is_digit c ≡ false → is_sign c ≡ false → begins_number s ≡ false
+no_digit_here c s h k m = rw (first_is s c h) (rw (k, m) refl)
+
+pub few_costs : {A E : Type 0} (r : Result A E) (a b : Here) → IfOk r (λ _. PieceCosts 20 a b) → IfOk r (λ _. PieceCosts 22 a b)
+few_costs (Ok x) a b p = record { fewer = p.fewer; costs = record { most = omega (arith, p.costs.most, p.fewer); least = p.costs.least } }
+few_costs (Err x) a b p = tt
 
 spaces_of : (p r : Text) → list_all is_space p ≡ true → Star NodeSpace (p ++ r) r
 spaces_of [] r h = none

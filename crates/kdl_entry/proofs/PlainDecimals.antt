@@ -1,5 +1,5 @@
 -- A decimal's text without `_` is a decimal, which stands for itself.
-use Rattle.std.proofs.Common.{◌≡◌, ℕ, Bool, true, false, not, ◌||◌, ◌==◌, [], ◌∷◌, ◌++◌, refl, sym, subst, ap, ◌∙◌, cond, append_assoc, append-nil, ◌⊎◌, inl, inr}
+use Rattle.std.proofs.Common.{◌≡◌, ℕ, Bool, true, false, not, ◌==◌, [], ◌∷◌, ◌++◌, refl, sym, subst, ap, ◌∙◌, cond, append_assoc, append-nil, ◌⊎◌, inl, inr}
 use Rattle.std.proofs.lemmas.Bool.{eqb-true}
 use Rattle.std.proofs.lemmas.List.{append_cancel_right}
 use Rattle.std.proofs.lemmas.List.Elements.{filter-append}
@@ -158,9 +158,9 @@ own_decimal {r = r} (decimal p g i (part f e x y) k l) =
     let behind = plain b.piece ++ plain d.piece in
     let w' = plain a.piece ++ (plain o.piece ++ behind) in
     let same : plain p ≡ w' =
-        ap plain (sym (append_cancel_right q p r text)) ∙ plain_append a.piece (o.piece ++ (b.piece ++ d.piece))
-        ∙ ap (λ z. plain a.piece ++ z) (plain_append o.piece (b.piece ++ d.piece) ∙ ap (λ z. plain o.piece ++ z) (plain_append b.piece d.piece)) in
+    ap plain (sym (append_cancel_right q p r text)) ∙ plain_append a.piece (o.piece ++ (b.piece ++ d.piece))
+    ∙ ap (λ z. plain a.piece ++ z) (plain_append o.piece (b.piece ++ d.piece) ∙ ap (λ z. plain o.piece ++ z) (plain_append b.piece d.piece)) in
     let made : Decimal w' [] w' =
-        decimal w' (a.own (plain o.piece ++ behind) (o.unsigned behind)) (o.own behind (b.part (plain d.piece) d.part)) (part (b.own (plain d.piece) d.point d.part) d.own x refl) (sym (append-nil w'))
-        (sym same ∙ sym (plain_plain p) ∙ ap plain same) in
+    decimal w' (a.own (plain o.piece ++ behind) (o.unsigned behind)) (o.own behind (b.part (plain d.piece) d.part)) (part (b.own (plain d.piece) d.point d.part) d.own x refl) (sym (append-nil w'))
+    (sym same ∙ sym (plain_plain p) ∙ ap plain same) in
     subst (λ z. Decimal z [] z) (sym (l ∙ same)) made

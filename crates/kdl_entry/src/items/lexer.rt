@@ -19,7 +19,8 @@ ghost use Rattle.std.specs.Str.{chars};
 use crate::float::KdlFloat;
 use crate::value::KdlValue;
 use kdl_text::chars::{
-    Checkpoint, Class, Cursor, Piece, Steps, is_identifier_char, is_newline_char, is_space, newline,
+    Checkpoint, Class, Cursor, Piece, Steps, is_digit, is_identifier_char, is_newline_char,
+    is_sign, is_space, newline,
 };
 use kdl_text::numbers::{
     Keyword, Number, NumberFailure, NumberFault, begins_number, read_keyword, read_number,
@@ -138,9 +139,10 @@ fn string_failure(place: &Checkpoint, failure: StringFailure) -> LexFailure
     ensures { Passes place.now failure result }
 {
     match failure {
-        StringFailure::Fault(fault) => LexFailure::Faulty(
-            fault_at(place, FaultKind::String(fault)),
-        ),
+        StringFailure::Fault(fault) => LexFailure::Faulty(fault_at(
+            place,
+            FaultKind::String(fault),
+        )),
         StringFailure::Memory => LexFailure::Memory,
     }
 }
@@ -280,17 +282,20 @@ fn number_token(
 {
     match read_number(alloc, cursor) {
         Ok(Number::Integer(n)) => Ok(TokenKind::Value(KdlValue::Integer(n))),
-        Ok(Number::Decimal(text)) => Ok(TokenKind::Value(KdlValue::Float(KdlFloat::from_string(text)))),
-        Err(NumberFailure::Fault(fault)) => Err(
-            LexFailure::Faulty(fault_at(start, FaultKind::Number(fault))),
-        ),
+        Ok(Number::Decimal(text)) => Ok(TokenKind::Value(KdlValue::Float(KdlFloat::from_string(
+            text,
+        )))),
+        Err(NumberFailure::Fault(fault)) => Err(LexFailure::Faulty(fault_at(
+            start,
+            FaultKind::Number(fault),
+        ))),
         Err(NumberFailure::Memory) => Err(LexFailure::Memory),
     }
 }
 
-/// The number or the bare string that begins with the identifier character here.
+/// The number or the bare string that begins with the sign here.
 #[tactic(auto, using(crate::proofs::Handing::two_looks))]
-fn word_token(
+fn signed_token(
     cursor: &mut Cursor,
     alloc: Global,
     start: &Checkpoint,
@@ -302,6 +307,29 @@ fn word_token(
 {
     if begins_number(cursor) {
         number_token(cursor, alloc, start)
+    } else {
+        bare_token(cursor, alloc, start)
+    }
+}
+
+/// The number or the bare string that begins with the identifier character c here.
+#[tactic(auto, using(crate::proofs::Handing::word_here, crate::proofs::Handing::digit_here, crate::proofs::Handing::no_digit_here, crate::proofs::Handing::few_costs))]
+fn word_token(
+    c: char,
+    cursor: &mut Cursor,
+    alloc: Global,
+    start: &Checkpoint,
+) -> Result<TokenKind, LexFailure>
+    requires first { first cursor.old.rest ≡ Some c }
+    requires word { is_identifier_char c ≡ true }
+    ensures read { ReadsKind cursor.old.rest start.now result cursor.new.rest }
+    ensures moves { Moves cursor.old cursor.new }
+    ensures costs { IfOk result (λ _. PieceCosts 22 cursor.old cursor.new) }
+{
+    if is_digit(c) {
+        number_token(cursor, alloc, start)
+    } else if is_sign(c) {
+        signed_token(cursor, alloc, start)
     } else {
         bare_token(cursor, alloc, start)
     }
@@ -377,7 +405,7 @@ fn plain_token(
     ensures costs { IfOk result (λ _. PieceCosts 22 cursor.old cursor.new) }
 {
     if is_identifier_char(c) {
-        return word_token(cursor, alloc, start);
+        return word_token(c, cursor, alloc, start);
     }
     if is_space(c) {
         cursor.skip(Class::Space);

@@ -3,7 +3,7 @@
 use super::*;
 use std::test::Fail;
 
-/// A letter for each kind of token, and `e` for a value that is no integer.
+/// A letter for each kind of token.
 fn letter(kind: &TokenKind) -> char {
     match kind {
         TokenKind::Space => '_',
@@ -52,11 +52,23 @@ fn fault_of(rt: &HostRuntime, text: &str) -> Option<FaultKind> {
 
 #[test]
 fn kinds(rt: HostRuntime) -> Result<(), Fail> {
-    assert_eq!(rt; cut(&rt, "a/-b \"x\" #true 1.5 (t)k={};\n")?.as_str(), "s-s_s_b_f_(s)s={};n");
-    assert_eq!(rt; cut(&rt, "\u{feff}n +1 -.a +a -0x1F #null")?.as_str(), "ms_i_s_s_i_v");
-    assert_eq!(rt; cut(&rt, "/* a /* b */ */ \t\\ // c\n x")?.as_str(), "____s");
+    assert_eq!(rt;
+        cut(&rt, "a/-b \"x\" #true 1.5 (t)k={};\n")?.as_str(),
+        "s-s_s_b_f_(s)s={};n"
+    );
+    assert_eq!(rt;
+        cut(&rt, "\u{feff}n +1 -.a +a -0x1F #null")?.as_str(),
+        "ms_i_s_s_i_v"
+    );
+    assert_eq!(rt;
+        cut(&rt, "/* a /* b */ */ \t\\ // c\n x")?.as_str(),
+        "____s"
+    );
     assert_eq!(rt; cut(&rt, "a // b\r\nc\r\n")?.as_str(), "s_nsn");
-    assert_eq!(rt; cut(&rt, "#\"a\"# ##\"b\"## #inf \"\"\"\n a\n \"\"\"")?.as_str(), "s_s_f_s");
+    assert_eq!(rt;
+        cut(&rt, "#\"a\"# ##\"b\"## #inf \"\"\"\n a\n \"\"\"")?.as_str(),
+        "s_s_f_s"
+    );
     assert_eq!(rt; cut(&rt, "")?.as_str(), "");
     Ok(())
 }
@@ -72,6 +84,12 @@ fn faults(rt: HostRuntime) {
     assert_eq!(rt; fault_of(&rt, "#"), Some(FaultKind::Keyword));
     assert_eq!(rt; fault_of(&rt, "true"), Some(FaultKind::Word));
     assert_eq!(rt; fault_of(&rt, ".5"), Some(FaultKind::Word));
-    assert_eq!(rt; fault_of(&rt, "\"a"), Some(FaultKind::String(StringFault::Unclosed)));
-    assert_eq!(rt; fault_of(&rt, "1."), Some(FaultKind::Number(NumberFault::MissingFraction)));
+    assert_eq!(rt;
+        fault_of(&rt, "\"a"),
+        Some(FaultKind::String(StringFault::Unclosed))
+    );
+    assert_eq!(rt;
+        fault_of(&rt, "1."),
+        Some(FaultKind::Number(NumberFault::MissingFraction))
+    );
 }
