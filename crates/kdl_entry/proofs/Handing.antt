@@ -9,12 +9,12 @@ use Rattle.std.specs.Prelude.{Some, None, Option, Result, Ok, Err, IfOk, string_
 use Rattle.std.specs.List.{list_all}
 use Rattle.std.specs.Str.{chars, IsAscii}
 use Rattle.std.specs.declared.alloc.Global.{Global}
-use Rattle.kdl_text.specs.Chars.{Text, Newline, Star, Plus, is_space, is_newline_char, is_identifier_char, is_banned, is_mark, begins, begins_two, starts, times, is_digit, is_sign}
+use Rattle.kdl_text.specs.Chars.{Text, Newline, Star, Plus, is_space, is_newline_char, is_identifier_char, is_banned, is_mark, begins_two, starts, times, is_digit, is_sign}
 use Rattle.kdl_text.specs.Chars.Star.{none, more}
 use Rattle.kdl_text.specs.Chars.Plus.{plus}
 use Rattle.kdl_text.specs.Chars.Space.{space as space_char}
 use Rattle.kdl_text.specs.Bare.{BareString}
-use Rattle.kdl_text.specs.Here.{Here, Spot, Skips, Stayed, first, tail, looked, bytes, Took}
+use Rattle.kdl_text.specs.Here.{Here, Spot, Skips, Stayed, first, tail, bytes, Took}
 use Rattle.kdl_text.specs.MultiLine.{IsQuoted}
 use Rattle.kdl_text.specs.NumberReading.{ReadsNumber, ReadsKeyword, number_value}
 use Rattle.kdl_text.specs.Numbers.{IsNumber, is_whole, is_decimal, NumberValue, whole_value, decimal_text, IsKeyword, begins_number, Decimal, FloatText}
@@ -31,7 +31,7 @@ use Rattle.kdl_text.specs.declared.numbers.Number.{Number}
 use Rattle.kdl_text.specs.declared.numbers.Number.TheVariants.{Integer as IntegerNumber, Decimal as DecimalNumber}
 use Rattle.kdl_text.specs.declared.strings.StringFailure.{StringFailure}
 use Rattle.kdl_text.specs.declared.strings.StringFailure.TheVariants.{Fault as StringFaulty, Memory as StringMemory}
-use Rattle.kdl_text.proofs.Going.{moves_one, stayed_looked, bytes-append}
+use Rattle.kdl_text.proofs.Going.{moves_one, bytes-append}
 use Rattle.kdl_text.proofs.Keywords.{keyword_begins}
 use Rattle.kdl_text.proofs.Bares.{bare_begins, bare_shorter}
 use Rattle.kdl_text.proofs.Determined.{is_quoted_begins, is_quoted_shorter, is_raw_begins, is_raw_shorter}
@@ -84,23 +84,10 @@ plain_costs a b v p m c = record { fewer = fewer m (plain_shorter p); costs = c 
 pub more_costs : (a b : Here) → PieceCosts 20 a b → PieceCosts 21 a b
 more_costs a b p = record { fewer = p.fewer; costs = record { most = omega (arith, p.costs.most, p.fewer); least = p.costs.least } }
 
-pub nine_costs : (a b : Here) → PieceCosts 9 a b → PieceCosts 22 a b
-nine_costs a b p = record { fewer = p.fewer; costs = record { most = omega (arith, p.costs.most, p.fewer); least = p.costs.least } }
-
-pub eight_costs : (a b : Here) → PieceCosts 8 a b → PieceCosts 22 a b
-eight_costs a b p = record { fewer = p.fewer; costs = record { most = omega (arith, p.costs.most, p.fewer); least = p.costs.least } }
-
--- with a look before it, or two
-pub one_look : {A E : Type 0} (r : Result A E) (a b e : Here) → Stayed 1 a b → IfOk r (λ _. PieceCosts 21 b e) → IfOk r (λ _. PieceCosts 22 a e)
-one_look (Ok x) a b e s p = let q = ap bytes s.rest in record { fewer = omega (arith, q, p.fewer); costs = record { most = omega (arith, s.steps, q, p.costs.most, p.fewer); least = omega (arith, s.steps, ap length s.rest, p.costs.least) } }
-one_look (Err x) a b e s p = tt
-
+-- with looks before it
 pub two_looks : {A E : Type 0} (k : ℕ) (r : Result A E) (a b e : Here) → k ≤ 2 → Stayed k a b → IfOk r (λ _. PieceCosts 20 b e) → IfOk r (λ _. PieceCosts 22 a e)
 two_looks k (Ok x) a b e few s p = let q = ap bytes s.rest in record { fewer = omega (arith, q, p.fewer); costs = record { most = omega (arith, s.steps, q, p.costs.most, p.fewer, few); least = omega (arith, s.steps, ap length s.rest, p.costs.least) } }
 two_looks k (Err x) a b e few s p = tt
-
-pub after_look : {k : ℕ} (o : Result TokenKind LexFailure) (a b : Here) (place : Spot) (r : Text) → Stayed k a b → ReadsKind b.rest place o r → ReadsKind a.rest place o r
-after_look o a b place r s h = rw s.rest at h
 
 -- no token, where no string, number or keyword begins with a character of theirs
 alone : (s : Text) → starts begins_piece s ≡ true → ((r v : Text) → StringPiece s r v → ⊥) → ((r : Text) (v : Value) → PlainPiece s r v → ⊥) → NoToken s
@@ -122,10 +109,6 @@ quote_identifier (c ∷ s) h k = no_quote c k (eqb-true c 34 h)
 sign_mark : is_identifier_char 35 ≡ false
 unfolding is_identifier_char is_space is_newline_char is_banned is_mark
 sign_mark = refl
-
-quote_mark : is_identifier_char 34 ≡ false
-unfolding is_identifier_char is_space is_newline_char is_banned is_mark
-quote_mark = refl
 
 sign_identifier : (s : Text) → starts (λ c. c == 35) s ≡ true → starts is_identifier_char s ≡ true → ⊥
 sign_identifier [] h k = cc
@@ -316,10 +299,6 @@ an_escline_here s r h = one (t_space (node_escline ((h r).1 refl)))
 pub no_escline_here : (s t r : Text) (place : Spot) (e : Fault) → first s ≡ Some 92 → Reads Escline false s t → IsFaultAt place e → ReadsKind s place (Err (Faulty e)) r
 no_escline_here s t r place e h n x = (rw (first_is s 92 h) (record { begun = λ y. cc; none = no_backslash (tail s) (subst (λ (z : Text). (r : Text) → Escline z r → ⊥) (first_is s 92 h) n) }), x)
 
--- the text begins with a slash, or a backslash
-pub begins_back : (s : Text) → first s ≡ Some 92 → begins 92 s ≡ true
-begins_back s h = rw (first_is s 92 h) refl
-
 -- words, spaces, newlines and tokens of one character
 pub word_here : (c : ℕ) (s : Text) → first s ≡ Some c → is_identifier_char c ≡ true → starts is_identifier_char s ≡ true
 word_here c s h k = rw (first_is s c h) k
@@ -423,7 +402,3 @@ not_a_number_float = inr (inr (inr not_a_number_text))
 pub float_same : {E : Type 0} (o : Result KdlValue E) (t u : Text) → t ≡ u → IfOk o (λ v. value_tree v ≡ float t) → IfOk o (λ v. value_tree v ≡ float u)
 float_same (Ok v) t u e h = h ∙ ap float e
 float_same (Err x) t u e h = tt
-
--- a token that was handed out
-pub look_costs : (a b e : Here) → b ≡ looked a → PieceCosts 22 b e → Costs 24 0 a e
-look_costs a b e x p = let s = stayed_looked a b x in record { most = omega (arith, s.steps, ap bytes s.rest, p.costs.most, p.fewer); least = omega (arith, s.steps, ap length s.rest, p.costs.least) }

@@ -1,6 +1,6 @@
 //! The lexer: the tokens of a text, one at a time.
 //!
-//! A token is read by its first character, and each character of it once; a run of spaces is one token.
+//! A token is told by its first character, and at most the one behind it. A run of spaces is one token.
 
 ghost use Rattle.kdl_entry.specs.Data as data';
 ghost use Rattle.kdl_entry.specs.Entries as spec;
