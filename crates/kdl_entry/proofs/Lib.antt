@@ -9,6 +9,7 @@ pub mod Escapes
 pub mod FirstCutting
 pub mod FloatTexts
 pub mod Fronts
+pub mod Handing
 pub mod LaidPrinted
 pub mod LeafEnds
 pub mod Lexing

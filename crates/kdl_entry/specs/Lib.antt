@@ -4,6 +4,7 @@ pub mod FirstEntries
 pub mod FirstLaid
 pub mod FirstTokens
 pub mod Floats
+pub mod Handed
 pub mod Laid
 pub mod Laws
 pub mod Lexed

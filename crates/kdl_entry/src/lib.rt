@@ -4,6 +4,7 @@
 mod entry;
 mod float;
 mod identifier;
+pub mod items;
 pub mod laws;
 mod print;
 mod spelled;

@@ -199,7 +199,7 @@ whole_err false e z h = refl
 pub slice_moves : (p : Text) (a b : Here) → b ≡ sliced p a → Moves a b
 slice_moves p a b e = rw e (record { piece = ([], refl); at = refl })
 
-pub slice_costs : (c : ℕ) (p : Text) (a b e : Here) → a.rest ≡ p ++ b.rest → Costs 2 c a b → e ≡ sliced p b → c ≤ 21 → length b.rest < length a.rest → Costs 24 0 a e
+pub slice_costs : (c : ℕ) (p : Text) (a b e : Here) → a.rest ≡ p ++ b.rest → Costs 2 c a b → e ≡ sliced p b → c ≤ 17 → length b.rest < length a.rest → Costs 20 0 a e
 slice_costs c p a b e h k x le less =
     let more : 1 ≤ bytes p = omega (arith, ap length h, length-append p b.rest, less, length-bytes p) in
     record {
@@ -215,15 +215,15 @@ always (Ok n) P h = h
 always (Err x) P h = tt
 
 -- what a whole number costs: its front, and a look behind it
-pub whole_costs : {A E : Type 0} (r : Result A E) (f a b : Here) → Moves f a → Costs 2 4 f a → length a.rest < length f.rest → Stayed 1 a b → IfOk r (λ n. Costs 24 0 f b)
+pub whole_costs : {A E : Type 0} (r : Result A E) (f a b : Here) → Moves f a → Costs 2 4 f a → length a.rest < length f.rest → Stayed 1 a b → IfOk r (λ n. Costs 20 0 f b)
 whole_costs r f a b m c less s =
-    always r (Costs 24 0 f b) (tight 5 f b (lit≤ tt) (moves_then m (moves_stayed s)) (omega (arith, less, ap length s.rest)) (costs_then 2 4 1 f a b c (costs_stayed a b s)))
+    always r (Costs 20 0 f b) (tight 5 f b (lit≤ tt) (moves_then m (moves_stayed s)) (omega (arith, less, ap length s.rest)) (costs_then 2 4 1 f a b c (costs_stayed a b s)))
 
 -- the front, a look, and the part behind it
 pub part_moves : (f a b d : Here) → Moves f a → Stayed 1 a b → Moves b d → Moves f d
 part_moves f a b d m s n = moves_then m (moves_then (moves_stayed s) n)
 
-pub part_costs : (p : Text) (f a b d e : Here) → Moves f a → Costs 2 4 f a → length a.rest < length f.rest → Stayed 1 a b → Moves b d → Costs 2 6 b d → f.rest ≡ p ++ d.rest → e ≡ sliced p d → Costs 24 0 f e
+pub part_costs : (p : Text) (f a b d e : Here) → Moves f a → Costs 2 4 f a → length a.rest < length f.rest → Stayed 1 a b → Moves b d → Costs 2 6 b d → f.rest ≡ p ++ d.rest → e ≡ sliced p d → Costs 20 0 f e
 part_costs p f a b d e m c less s n k h x =
     slice_costs 11 p f d e h (costs_then 2 4 7 f a d c (costs_then 2 1 6 a b d (costs_stayed a b s) k)) x (lit≤ tt) (omega (arith, less, ap length s.rest, shorter n))
 

@@ -164,7 +164,7 @@ module _ (t s u v : Text) (n : Bool) (k j : ℕ) (a : Sign t s n) (b : BaseMark 
         go false x = λ y z w. let c = (whole_is t s u v i.0 y n k z a b int w).fits in cc
 
 -- where at least one character was read, a constant cost is one for each byte
-pub tight : (c : ℕ) (a b : Here) → c ≤ 22 → Moves a b → length b.rest < length a.rest → Costs 2 c a b → Costs 24 0 a b
+pub tight : (c : ℕ) (a b : Here) → c ≤ 18 → Moves a b → length b.rest < length a.rest → Costs 2 c a b → Costs 20 0 a b
 tight c a b le m h k =
     let p = m.piece.0 in
     let more : 1 ≤ bytes p = omega (arith, ap length m.piece.1, length-append p b.rest, h, length-bytes p) in
@@ -175,12 +175,12 @@ costs_stayed a b s = record { most = omega (arith, ap bytes s.rest, s.steps); le
 
 -- what a whole number costs: its sign, mark and integer, and a look behind them
 pub whole_costs : (j : ℕ) (m : Magnitude) (r : Result ℤ NumberFault) (f a b d e : Here) → Moves f a → Costs 2 1 f a → Moves a b → Costs 2 2 a b → ReadsInteger j (Some m) b.rest d.rest → Moves b d → Costs 2 1 b d → Stayed 1 d e
-    → IfOk r (λ n. Costs 24 0 f e)
+    → IfOk r (λ n. Costs 20 0 f e)
 whole_costs j m r f a b d e m1 c1 m2 c2 i m3 c3 s =
     let less : length e.rest < length f.rest = omega (arith, shorter_integer i.1, shorter m1, shorter m2, ap length s.rest) in
     let most = costs_then 2 1 4 f a e c1 (costs_then 2 2 2 a b e c2 (costs_then 2 1 1 b d e c3 (costs_stayed d e s))) in
     always r (tight 5 f e (lit≤ tt) (moves_then m1 (moves_then m2 (moves_then m3 (moves_stayed s)))) less most)
   where
-    always : (r : Result ℤ NumberFault) → Costs 24 0 f e → IfOk r (λ n. Costs 24 0 f e)
+    always : (r : Result ℤ NumberFault) → Costs 20 0 f e → IfOk r (λ n. Costs 20 0 f e)
     always (Ok n) h = h
     always (Err x) h = tt

@@ -341,7 +341,7 @@ pub fn whole_number(cursor: &mut Cursor) -> Result<i128, NumberFault>
     ensures reads { ReadsWhole result cursor.old.rest cursor.new.rest }
     ensures fault { IsFault result cursor.old.rest cursor.new.rest }
     ensures moves { Moves cursor.old cursor.new }
-    ensures costs { IfOk result (λ n. Costs 24 0 cursor.old cursor.new) }
+    ensures costs { IfOk result (λ n. Costs 20 0 cursor.old cursor.new) }
 {
     let number = match read_front(cursor) {
         Ok(number) => number,
@@ -464,7 +464,7 @@ pub fn read_number(alloc: Global, cursor: &mut Cursor) -> Result<Number, NumberF
     ensures reads { ReadsNumber result cursor.old.rest cursor.new.rest }
     ensures fault { IsNumberFault result cursor.old.rest cursor.new.rest }
     ensures moves { Moves cursor.old cursor.new }
-    ensures costs { IfOk result (λ n. Costs 24 0 cursor.old cursor.new) }
+    ensures costs { IfOk result (λ n. Costs 20 0 cursor.old cursor.new) }
 {
     let start = cursor.checkpoint();
     let number = match read_front(cursor) {
@@ -513,7 +513,7 @@ fn keyword_of(word: &Piece) -> Option<Keyword>
 pub fn read_keyword(cursor: &mut Cursor) -> Option<Keyword>
     ensures reads { ReadsKeyword result cursor.old.rest cursor.new.rest }
     ensures moves { Moves cursor.old cursor.new }
-    ensures costs { IfSome result (λ k. Costs 24 0 cursor.old cursor.new) }
+    ensures costs { IfSome result (λ k. Costs 20 0 cursor.old cursor.new) }
 {
     if !cursor.eat('#') {
         return None;
