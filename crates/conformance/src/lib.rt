@@ -7,13 +7,35 @@ use kdl::{KdlDocument, ParseFailure};
 use std::alloc::Global;
 
 #[cfg(test)]
+mod blocks;
+#[cfg(test)]
+mod copies;
+#[cfg(test)]
 mod documents;
+#[cfg(test)]
+mod entries;
+#[cfg(test)]
+mod equality;
 #[cfg(test)]
 mod errors;
 #[cfg(test)]
+mod newline_rows;
+#[cfg(test)]
+mod reading;
+#[cfg(test)]
+mod spellings;
+#[cfg(test)]
 mod text;
 #[cfg(test)]
+mod trivia_rows;
+#[cfg(test)]
+mod truncated;
+#[cfg(test)]
+mod value_rows;
+#[cfg(test)]
 mod values;
+#[cfg(test)]
+mod worked;
 
 /// The printed parse of a text, which is the text.
 pub fn reprinted(alloc: Global, text: &str) -> Result<String, ParseFailure>

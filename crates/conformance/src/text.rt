@@ -1,8 +1,8 @@
 //! The text layer: each space, newline and banned character once, escapes at their limits, numbers at theirs.
 
 use kdl_text::chars::{Cursor, Steps};
-use kdl_text::numbers::{Number, read_number};
-use kdl_text::strings::{bare_string, quoted_string, raw_string};
+use kdl_text::numbers::{Number, NumberFailure, read_number};
+use kdl_text::strings::{StringFailure, bare_string, quoted_string, raw_string};
 use kdl_text::trivia::{block_comment, escline, line_comment, spaces};
 use std::alloc::Global;
 use std::test::Fail;
@@ -28,21 +28,23 @@ const BANNED: [(u32, u32); 7] = [
     (0xfeff, 0xfeff),
 ];
 
-/// The value of a quoted string that is the whole text.
-fn quoted(alloc: Global, text: &str) -> Option<String> {
+/// The value of a quoted string that is the whole text, or that there is none.
+fn quoted(alloc: Global, text: &str) -> Result<Option<String>, Fail> {
     let mut cursor = Cursor::new(text, Steps::new());
     match quoted_string(alloc, &mut cursor) {
-        Ok(value) if cursor.look().is_none() => Some(value),
-        _ => None,
+        Ok(value) if cursor.look().is_none() => Ok(Some(value)),
+        Err(StringFailure::Memory) => Err(Fail::from("out of memory")),
+        _ => Ok(None),
     }
 }
 
-/// The value of a raw string that is the whole text.
-fn raw(alloc: Global, text: &str) -> Option<String> {
+/// The value of a raw string that is the whole text, or that there is none.
+fn raw(alloc: Global, text: &str) -> Result<Option<String>, Fail> {
     let mut cursor = Cursor::new(text, Steps::new());
     match raw_string(alloc, &mut cursor) {
-        Ok(value) if cursor.look().is_none() => Some(value),
-        _ => None,
+        Ok(value) if cursor.look().is_none() => Ok(Some(value)),
+        Err(StringFailure::Memory) => Err(Fail::from("out of memory")),
+        _ => Ok(None),
     }
 }
 
@@ -52,21 +54,23 @@ fn is_bare(text: &str) -> bool {
     bare_string(&mut cursor).is_some() && cursor.look().is_none()
 }
 
-/// The whole number that is the whole text.
-fn whole(alloc: Global, text: &str) -> Option<i128> {
+/// The whole number that is the whole text, or that there is none.
+pub fn whole(alloc: Global, text: &str) -> Result<Option<i128>, Fail> {
     let mut cursor = Cursor::new(text, Steps::new());
     match read_number(alloc, &mut cursor) {
-        Ok(Number::Integer(n)) if cursor.look().is_none() => Some(n),
-        _ => None,
+        Ok(Number::Integer(n)) if cursor.look().is_none() => Ok(Some(n)),
+        Err(NumberFailure::Memory) => Err(Fail::from("out of memory")),
+        _ => Ok(None),
     }
 }
 
-/// The text of the decimal that is the whole text.
-fn decimal(alloc: Global, text: &str) -> Option<String> {
+/// The text of the decimal that is the whole text, or that there is none.
+pub fn decimal(alloc: Global, text: &str) -> Result<Option<String>, Fail> {
     let mut cursor = Cursor::new(text, Steps::new());
     match read_number(alloc, &mut cursor) {
-        Ok(Number::Decimal(digits)) if cursor.look().is_none() => Some(digits),
-        _ => None,
+        Ok(Number::Decimal(digits)) if cursor.look().is_none() => Ok(Some(digits)),
+        Err(NumberFailure::Memory) => Err(Fail::from("out of memory")),
+        _ => Ok(None),
     }
 }
 
@@ -79,7 +83,7 @@ fn each_space(rt: HostRuntime) -> Result<(), Fail> {
         assert!(rt; cursor.look().is_none(), "{space:?}");
         assert!(rt; !is_bare(&format!(in alloc; "a{space}")?), "{space:?}");
         let lines = format!(in alloc; "\"\"\"\n{space}x\n{space}\n{space}\"\"\"")?;
-        assert_eq!(rt; quoted(alloc, &lines).ok_or("refused")?.as_str(), "x\n");
+        assert_eq!(rt; quoted(alloc, &lines)?.ok_or("refused")?.as_str(), "x\n");
     }
     Ok(())
 }
@@ -101,15 +105,15 @@ fn each_newline(rt: HostRuntime) -> Result<(), Fail> {
         }
         assert!(rt; cursor.look().is_none(), "{newline:?}");
         let escape = format!(in alloc; "\"a\\{newline}b\"")?;
-        assert_eq!(rt; quoted(alloc, &escape).ok_or("refused")?.as_str(), "ab");
+        assert_eq!(rt; quoted(alloc, &escape)?.ok_or("refused")?.as_str(), "ab");
         let one_line = format!(in alloc; "\"a{newline}b\"")?;
-        assert!(rt; quoted(alloc, &one_line).is_none(), "{newline:?}");
+        assert!(rt; quoted(alloc, &one_line)?.is_none(), "{newline:?}");
         let lines = format!(in alloc; "\"\"\"{newline}x{newline}y{newline}\"\"\"")?;
-        assert_eq!(rt; quoted(alloc, &lines).ok_or("refused")?.as_str(), "x\ny");
+        assert_eq!(rt; quoted(alloc, &lines)?.ok_or("refused")?.as_str(), "x\ny");
         let raw_line = format!(in alloc; "#\"a{newline}b\"#")?;
-        assert!(rt; raw(alloc, &raw_line).is_none(), "{newline:?}");
+        assert!(rt; raw(alloc, &raw_line)?.is_none(), "{newline:?}");
         let raw_lines = format!(in alloc; "#\"\"\"{newline}x{newline}y{newline}\"\"\"#")?;
-        assert_eq!(rt; raw(alloc, &raw_lines).ok_or("refused")?.as_str(), "x\ny");
+        assert_eq!(rt; raw(alloc, &raw_lines)?.ok_or("refused")?.as_str(), "x\ny");
         assert!(rt; !is_bare(&format!(in alloc; "a{newline}")?), "{newline:?}");
     }
     Ok(())
@@ -122,19 +126,19 @@ fn each_banned_character(rt: HostRuntime) -> Result<(), Fail> {
         for code in low..=high {
             let c = char::from_u32(code).ok_or("no scalar value")?;
             assert!(rt;
-                quoted(alloc, &format!(in alloc; "\"{c}\"")?).is_none(),
+                quoted(alloc, &format!(in alloc; "\"{c}\"")?)?.is_none(),
                 "{code:x}"
             );
             assert!(rt;
-                raw(alloc, &format!(in alloc; "#\"{c}\"#")?).is_none(),
+                raw(alloc, &format!(in alloc; "#\"{c}\"#")?)?.is_none(),
                 "{code:x}"
             );
             assert!(rt;
-                quoted(alloc, &format!(in alloc; "\"\"\"\n{c}\n\"\"\"")?).is_none(),
+                quoted(alloc, &format!(in alloc; "\"\"\"\n{c}\n\"\"\"")?)?.is_none(),
                 "{code:x}"
             );
             assert!(rt;
-                raw(alloc, &format!(in alloc; "#\"\"\"\n{c}\n\"\"\"#")?).is_none(),
+                raw(alloc, &format!(in alloc; "#\"\"\"\n{c}\n\"\"\"#")?)?.is_none(),
                 "{code:x}"
             );
             assert!(rt; !is_bare(&format!(in alloc; "a{c}")?), "{code:x}");
@@ -161,7 +165,7 @@ fn escapes_at_their_limits(rt: HostRuntime) -> Result<(), Fail> {
         ("\"\\b\\f\\n\\r\\t\\s\\\\\\\"\"", "\u{8}\u{c}\n\r\t \\\""),
     ];
     for (text, value) in values {
-        assert_eq!(rt; quoted(alloc, text).ok_or("refused")?.as_str(), value);
+        assert_eq!(rt; quoted(alloc, text)?.ok_or("refused")?.as_str(), value);
     }
     let refused = [
         "\"\\u{d800}\"",
@@ -173,7 +177,7 @@ fn escapes_at_their_limits(rt: HostRuntime) -> Result<(), Fail> {
         "\"\\/\"",
     ];
     for text in refused {
-        assert!(rt; quoted(alloc, text).is_none(), "{text}");
+        assert!(rt; quoted(alloc, text)?.is_none(), "{text}");
     }
     Ok(())
 }
@@ -194,14 +198,14 @@ fn numbers_at_their_limits(rt: HostRuntime) -> Result<(), Fail> {
         "0b10000000000000000000000000000000000000000000000000000000000000000000000000000000000000000000000000000000000000000000000000000000",
     ];
     for text in most {
-        assert_eq!(rt; whole(alloc, text), Some(i128::MAX), "{text}");
+        assert_eq!(rt; whole(alloc, text)?, Some(i128::MAX), "{text}");
         let negative = format!(in alloc; "-{text}")?;
-        assert_eq!(rt; whole(alloc, &negative), Some(-i128::MAX), "{negative}");
+        assert_eq!(rt; whole(alloc, &negative)?, Some(-i128::MAX), "{negative}");
     }
     for text in past {
-        assert_eq!(rt; whole(alloc, text), None, "{text}");
+        assert_eq!(rt; whole(alloc, text)?, None, "{text}");
         let negative = format!(in alloc; "-{text}")?;
-        assert_eq!(rt; whole(alloc, &negative), Some(i128::MIN), "{negative}");
+        assert_eq!(rt; whole(alloc, &negative)?, Some(i128::MIN), "{negative}");
     }
     Ok(())
 }
@@ -216,10 +220,10 @@ fn decimals(rt: HostRuntime) -> Result<(), Fail> {
         ("-1e-5", "-1e-5"),
     ];
     for (text, digits) in texts {
-        assert_eq!(rt; decimal(alloc, text).ok_or("refused")?.as_str(), digits);
+        assert_eq!(rt; decimal(alloc, text)?.ok_or("refused")?.as_str(), digits);
     }
     for text in ["1.", "1e", ".5", "1.e5", "1._0", "1", "0x1.0"] {
-        assert!(rt; decimal(alloc, text).is_none(), "{text}");
+        assert!(rt; decimal(alloc, text)?.is_none(), "{text}");
     }
     Ok(())
 }

@@ -20,7 +20,8 @@ use Rattle.kdl.specs.Grammar.{Terminator, named, AfterName, kept_entry, dropped_
 use Rattle.kdl.specs.Laid.{LaidEntries, no_entry, an_entry, laid_node, LaidChildren, no_block as laid_no_block, a_block, LaidNodes, no_node, a_node, LaidContent, without_nodes, with_nodes, LaidDocument, with_mark, node_format, LaidNodeText, laid_node_text}
 use Rattle.kdl.specs.Places.{DroppedBlock, AfterChildren, after as after_children, before as before_children}
 use Rattle.kdl.specs.Tree.{Node, node, Children, no_children, children, Document, document, Nodes, none, first, join, node_data, children_data, document_data, nodes_data}
-use Rattle.kdl.specs.Machine.{between, TypeParts, KeyParts, Under, Kept, Slot, no_name, for_name, no_value, for_value, Pending, pending, Spot, fresh, spaced, later, gap, marked, type_open, type_name, type_done, in_node, property, entry_mark, block_mark, kept, kept_mark, Frame, in_block, in_dropped, in_later, State, at, origin, moved, entry_slot, keyed, type_of, before_name, after_name, behind_type, key_of, identifier_at, entry_at, with_entry, filled, node_at, closed, closed_kept, ended, inside, content_at, spaced_of, mark_of, given, worded, typed, step, finish, initial, Runs, stops, reads, Answers}
+use Rattle.kdl_entry.specs.Items.{between, TypeParts, KeyParts, type_of, before_name, after_name, behind_type, key_of, identifier_at, entry_at}
+use Rattle.kdl.specs.Machine.{Under, Kept, Slot, no_name, for_name, no_value, for_value, Pending, pending, Spot, fresh, spaced, later, gap, marked, type_open, type_name, type_done, in_node, property, entry_mark, block_mark, kept, kept_mark, Frame, in_block, in_dropped, in_later, State, at, origin, moved, entry_slot, keyed, with_entry, filled, node_at, closed, closed_kept, ended, inside, content_at, spaced_of, mark_of, given, worded, typed, step, finish, initial, Runs, stops, reads, Answers}
 use Rattle.kdl.proofs.Ends.{end_terminator, end_gap, end_dropped_block, place}
 
 pub runs_det : {whole : Text} {x y : Document} {st : State} {s : Text} → Runs whole x st s → Runs whole y st s → x ≡ y

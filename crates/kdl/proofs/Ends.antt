@@ -11,7 +11,7 @@ use Rattle.kdl_entry.proofs.EntryEnds.{end_line_space, end_spaces, end_some, end
 use Rattle.kdl.specs.Data.{Children, Nodes}
 use Rattle.kdl.specs.Grammar.{Terminator, named, AfterName, kept_entry, dropped_entry, Blocks, dropped_block, block, no_block, AfterBlock, dropped_later, no_more, Gap, no_gap, line_space, dropped_node, AreNodes, last_gap, node_then, IsBlock, braces}
 use Rattle.kdl.specs.Places.{DroppedBlock}
-use Rattle.kdl.specs.Machine.{between}
+use Rattle.kdl_entry.specs.Items.{between}
 
 pub cut : {t s : Text} → End t s → t ≡ between t s ++ s
 unfolding between

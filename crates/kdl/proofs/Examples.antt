@@ -21,11 +21,11 @@ use Rattle.kdl.proofs.Complete.{built}
 use Rattle.kdl.proofs.Erased.{sound, sound_runs}
 
 -- the tokens of a text, each with what follows it
-data Cut : Text → List (Token × Text) → Type 0 where
+pub data Cut : Text → List (Token × Text) → Type 0 where
   end : Cut [] []
   next : {s r : Text} {k : Token} {ks : List (Token × Text)} → BeginsToken s k r → Cut r ks → Cut s ((k, r) ∷ ks)
 
-abbrev run : Text → State → Text → List (Token × Text) → Option Document
+abbrev pub run : Text → State → Text → List (Token × Text) → Option Document
 run whole st s [] = finish whole st
 run whole st s ((k, r) ∷ ks) = option_and_then (λ st'. run whole st' r ks) (step whole st k s r)
 
@@ -51,7 +51,7 @@ some_document None x e = cc
 some_document (Some d) x e = (d, refl, cc)
 
 -- where the machine answers over its tokens, the text is a document with that data
-derived : {t : Text} {ks : List (Token × Text)} → Cut t ks → (x : Nodes) → option_map document_data (run t (initial t) t ks) ≡ Some x → IsDocument true t x
+pub derived : {t : Text} {ks : List (Token × Text)} → Cut t ks → (x : Nodes) → option_map document_data (run t (initial t) t ks) ≡ Some x → IsDocument true t x
 derived {t = t} {ks = ks} l x e =
     let d = some_document (run t (initial t) t ks) x e in
     subst (λ (z : Nodes). IsDocument true t z) d.2 (sound t d.0 (Answers.unmarked (runs_of l (initial t) d.0 d.1))).1
@@ -68,11 +68,11 @@ refused_answer l b e (Answers.unmarked a) = let x = of_runs l a in cc
 refused_answer l b e (Answers.marked a) = cc
 
 -- where the machine refuses them, it is none
-refused : {t : Text} {ks : List (Token × Text)} → Cut t ks → begins 0xFEFF t ≡ false → run t (initial t) t ks ≡ None → (x : Nodes) → IsDocument true t x → ⊥
+pub refused : {t : Text} {ks : List (Token × Text)} → Cut t ks → begins 0xFEFF t ≡ false → run t (initial t) t ks ≡ None → (x : Nodes) → IsDocument true t x → ⊥
 refused l b e x i = refused_answer l b e (built i).answers
 
 -- tokens of one form each
-blank : {r : Text} {ks : List (Token × Text)} → Cut r ks → Cut (32 ∷ r) ((space, r) ∷ ks)
+pub blank : {r : Text} {ks : List (Token × Text)} → Cut r ks → Cut (32 ∷ r) ((space, r) ∷ ks)
 unfolding is_space
 blank l = next (t_space (NodeSpace.ws (Rattle.kdl_text.specs.Trivia.Ws.space (Rattle.kdl_text.specs.Chars.Space.space refl)))) l
 
@@ -106,7 +106,7 @@ open_brace l = next t_opening l
 close_brace : {r : Text} {ks : List (Token × Text)} → Cut r ks → Cut (125 ∷ r) ((closing, r) ∷ ks)
 close_brace l = next t_closing l
 
-equals_sign : {r : Text} {ks : List (Token × Text)} → Cut r ks → Cut (61 ∷ r) ((equals, r) ∷ ks)
+pub equals_sign : {r : Text} {ks : List (Token × Text)} → Cut r ks → Cut (61 ∷ r) ((equals, r) ∷ ks)
 equals_sign l = next t_equals l
 
 semi : {r : Text} {ks : List (Token × Text)} → Cut r ks → Cut (59 ∷ r) ((semicolon, r) ∷ ks)
@@ -121,7 +121,7 @@ empty e l = next (t_string (StringPiece.quoted (Rattle.kdl_text.specs.MultiLine.
 keyword_true : {r : Text} {ks : List (Token × Text)} → starts is_identifier_char r ≡ false → Cut r ks → Cut (35 ∷ 116 ∷ 114 ∷ 117 ∷ 101 ∷ r) ((value (truth true), r) ∷ ks)
 keyword_true e l = next (t_value (PlainPiece.keyword {k = Rattle.kdl_text.specs.declared.numbers.Keyword.TheVariants.True} (Rattle.kdl_text.specs.Numbers.keyword refl e) refl)) l
 
-letter : (c : ℕ) {r : Text} {ks : List (Token × Text)} → is_bare (c ∷ []) ≡ true → starts is_identifier_char r ≡ false → Cut r ks → Cut (c ∷ r) ((string (c ∷ []), r) ∷ ks)
+pub letter : (c : ℕ) {r : Text} {ks : List (Token × Text)} → is_bare (c ∷ []) ≡ true → starts is_identifier_char r ≡ false → Cut r ks → Cut (c ∷ r) ((string (c ∷ []), r) ∷ ks)
 letter c h e l = next (t_string (StringPiece.bare (Rattle.kdl_text.specs.Bare.bare refl h e))) l
 
 digit : (c : ℕ) {r : Text} {ks : List (Token × Text)} → is_sign c ≡ false → base_marked (c ∷ r) ≡ None → is_digit_of 10 c ≡ true → starts (is_part 10) r ≡ false → starts is_identifier_char r ≡ false
@@ -129,19 +129,19 @@ digit : (c : ℕ) {r : Text} {ks : List (Token × Text)} → is_sign c ≡ false
 digit c a b d e f g l = next (t_value (PlainPiece.number (Rattle.kdl_text.specs.Numbers.is_whole (Rattle.kdl_text.specs.Numbers.whole (Rattle.kdl_text.specs.Numbers.Sign.none a) (Rattle.kdl_text.specs.Numbers.BaseMark.ten b) (Rattle.kdl_text.specs.Numbers.integer d (Rattle.kdl_text.specs.Numbers.Digits.stop e)) f g refl)) refl)) l
 
 -- short names for data
-abbrev argument : Value → entry_data'.Entry
+abbrev pub argument : Value → entry_data'.Entry
 argument v = record { key = None; ty = None; value = v }
 
-abbrev keyed : ℕ → Value → entry_data'.Entry
+abbrev pub keyed : ℕ → Value → entry_data'.Entry
 keyed c v = record { key = Some (c ∷ []); ty = None; value = v }
 
-abbrev name : ℕ → List entry_data'.Entry → Node
+abbrev pub name : ℕ → List entry_data'.Entry → Node
 name c es = node None (c ∷ []) es no_children
 
 abbrev with : ℕ → List entry_data'.Entry → Nodes → Node
 with c es xs = node None (c ∷ []) es (children xs)
 
-abbrev just : Node → Nodes
+abbrev pub just : Node → Nodes
 just x = first x none
 
 -- ``

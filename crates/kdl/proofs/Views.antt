@@ -1,11 +1,11 @@
 -- One more entry, one more node.
-use Rattle.std.proofs.Common.{◌≡◌, List, [], ◌∷◌, ◌++◌, Some, map, refl, ap, arith}
+use Rattle.std.proofs.Common.{◌≡◌, List, [], ◌∷◌, ◌++◌, map, refl, ap}
 use Rattle.kdl_entry.specs.Tree.{entry_tree}
 use Rattle.kdl_entry.specs.declared.entry.KdlEntry.{KdlEntry}
-use Rattle.kdl.specs.Tree.{none, first, join, document, node_tree, nodes_tree}
-use Rattle.std.specs.Prelude.{length}
-use Rattle.kdl_text.specs.Chars.{Text}
-use Rattle.kdl.specs.FirstMachine.{unplaced, document_of}
+use Rattle.kdl.specs.Tree.{none, first, join, node_tree, nodes_tree}
+use Rattle.kdl.specs.Machine as machine
+use Rattle.kdl.specs.Building.{frame_view, stacked}
+use Rattle.kdl.specs.declared.builder.Frame.{Frame}
 use Rattle.kdl.specs.declared.node.KdlNode.{KdlNode}
 
 pub entry_pushed : (es : List KdlEntry) (e : KdlEntry) → map entry_tree (es ++ (e ∷ [])) ≡ map entry_tree es ++ (entry_tree e ∷ [])
@@ -16,10 +16,10 @@ pub node_pushed : (ns : List KdlNode) (n : KdlNode) → nodes_tree (ns ++ (n ∷
 node_pushed [] n = refl
 node_pushed (x ∷ xs) n = ap (first (node_tree x)) (node_pushed xs n)
 
-pub no_nodes : (ns : List KdlNode) (place : Text) → length ns ≡ 0 → document_of (nodes_tree ns) place ≡ document (Some (record { leading = place; trailing = [] })) unplaced (nodes_tree ns)
-no_nodes [] place e = refl
-no_nodes (n ∷ ns) place e = absurd (omega arith)
+-- one more open block is on top
+stacked_pushed : (acc : List machine.Frame) (fs : List Frame) (f : Frame) → stacked acc (fs ++ (f ∷ [])) ≡ frame_view f ∷ stacked acc fs
+stacked_pushed acc [] f = refl
+stacked_pushed acc (g ∷ gs) f = stacked_pushed (frame_view g ∷ acc) gs f
 
-pub some_nodes : (ns : List KdlNode) (place : Text) → (length ns ≡ 0 → ⊥) → document_of (nodes_tree ns) place ≡ document (Some (record { leading = []; trailing = place })) unplaced (nodes_tree ns)
-some_nodes [] place e = absurd (e refl)
-some_nodes (n ∷ ns) place e = refl
+pub frame_pushed : (fs : List Frame) (f : Frame) → stacked [] (fs ++ (f ∷ [])) ≡ frame_view f ∷ stacked [] fs
+frame_pushed fs f = stacked_pushed [] fs f

@@ -1,41 +1,34 @@
--- Documents that differ in the entries of their nodes alone.
-use Rattle.std.specs.Prelude.{Option, true, false, List, [], ◌∷◌, ◌++◌}
-use Rattle.kdl_text.specs.Chars.{Text}
-use Rattle.kdl_text.specs.Trivia.{ValueEnd}
+-- Documents whose nodes differ in entries or spellings alone.
+use Rattle.std.specs.Prelude.{◌≡◌, ◌⊎◌, Option, option_map, map}
+use Rattle.std.specs.List.{All, Contains}
 use Rattle.kdl_text.specs.declared.span.SourceSpan.{SourceSpan}
-use Rattle.kdl_entry.specs.Laid.{LaidEntry}
-use Rattle.kdl_entry.specs.Print.{print_entry}
-use Rattle.kdl_entry.specs.Tree.{Entry}
+use Rattle.kdl_entry.specs.Formless.{IsFormless, formed_identifier, formed}
+use Rattle.kdl_entry.specs.Tree.{without_span, without_spans}
 use Rattle.kdl.specs.Tree.{DocumentFormat, Head, Node, node, Children, no_children, children, Document, document, Nodes, none, first}
 
--- e is one of the entries
-pub data Among (e : Entry) : List Entry → Type 0 where
-  here : {es : List Entry} → Among e (e ∷ es)
-  further : {x : Entry} {es : List Entry} → Among e es → Among e (x ∷ es)
+-- spans aside, they differ in entries alone: each of the second is one of the first, or has neither a format nor a spelling
+pub record IsEdited (h h' : Head) : Type 0 where
+  pub ty : option_map without_span h.ty ≡ option_map without_span h'.ty
+  pub name : without_span h.name ≡ without_span h'.name
+  pub format : h.format ≡ h'.format
+  pub entries : All (λ e. Contains (map without_spans h.entries) (without_spans e) ⊎ IsFormless e) h'.entries
 
--- the entry as it prints is laid before every text with a value end
-abbrev pub CanStand : Entry → Type 0
-CanStand e = (whole u : Text) → ValueEnd true u → LaidEntry false whole e (print_entry e ++ u) u
-
--- entries of the old ones, and others that can stand anywhere, in any order
-pub data Chosen (old : List Entry) : List Entry → Type 0 where
-  no_entry : Chosen old []
-  own : {e : Entry} {es : List Entry} → Among e old → Chosen old es → Chosen old (e ∷ es)
-  new : {e : Entry} {es : List Entry} → CanStand e → Chosen old es → Chosen old (e ∷ es)
+-- the second is the first with the spellings and the forms that it prints
+abbrev pub IsFormed : Head → Head → Type 0
+IsFormed h h' = h' ≡ record h { ty = option_map formed_identifier h.ty; name = formed_identifier h.name; entries = map formed h.entries }
 
 mutual
-  -- the entries of the node, and of the nodes in it, are chosen anew; spans may be any
-  pub data EditedNode : Node → Node → Type 0 where
-    edited : {h : Head} {k k' : Children} {es : List Entry} {at : SourceSpan} → Chosen h.entries es → EditedChildren k k'
-        → EditedNode (node h k) (node (record h { entries = es; span = at }) k')
+  -- at every depth the nodes but for their children stand in the relation R; spans of documents may be any, and all else is the same
+  pub data EachNode (R : Head → Head → Type 0) : Node → Node → Type 0 where
+    each_node : {h h' : Head} {k k' : Children} → R h h' → EachChildren R k k' → EachNode R (node h k) (node h' k')
 
-  pub data EditedChildren : Children → Children → Type 0 where
-    without_block : EditedChildren no_children no_children
-    with_block : {d d' : Document} → EditedDocument d d' → EditedChildren (children d) (children d')
+  pub data EachChildren (R : Head → Head → Type 0) : Children → Children → Type 0 where
+    without_block : EachChildren R no_children no_children
+    with_block : {d d' : Document} → EachDocument R d d' → EachChildren R (children d) (children d')
 
-  pub data EditedDocument : Document → Document → Type 0 where
-    edited_document : {f : Option DocumentFormat} {at at' : SourceSpan} {ns ns' : Nodes} → EditedNodes ns ns' → EditedDocument (document f at ns) (document f at' ns')
+  pub data EachDocument (R : Head → Head → Type 0) : Document → Document → Type 0 where
+    each_document : {f : Option DocumentFormat} {at at' : SourceSpan} {ns ns' : Nodes} → EachNodes R ns ns' → EachDocument R (document f at ns) (document f at' ns')
 
-  pub data EditedNodes : Nodes → Nodes → Type 0 where
-    last : EditedNodes none none
-    next : {n n' : Node} {ns ns' : Nodes} → EditedNode n n' → EditedNodes ns ns' → EditedNodes (first n ns) (first n' ns')
+  pub data EachNodes (R : Head → Head → Type 0) : Nodes → Nodes → Type 0 where
+    last : EachNodes R none none
+    next : {n n' : Node} {ns ns' : Nodes} → EachNode R n n' → EachNodes R ns ns' → EachNodes R (first n ns) (first n' ns')

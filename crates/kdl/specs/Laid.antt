@@ -1,6 +1,6 @@
 -- Nodes and documents laid in a text: their places and items, in the order of printing, are the text, and each place is what it has to be.
 -- Where `exact` holds, each span is that of its piece in the text `whole`.
-use Rattle.std.specs.Prelude.{ℕ, ◌+◌, ◌-◌, Bool, true, List, [], ◌∷◌, Option, Some, None}
+use Rattle.std.specs.Prelude.{ℕ, ◌+◌, ◌-◌, ◌^◌, min, Bool, true, List, [], ◌∷◌, Option, Some, None}
 use Rattle.kdl_text.specs.Chars.{Text, Star}
 use Rattle.kdl_text.specs.Trivia.{LineSpace}
 use Rattle.kdl_text.specs.declared.span.SourceSpan.{SourceSpan}
@@ -9,7 +9,7 @@ use Rattle.kdl_entry.specs.Laid.{LaidIdentifier, LaidType, LaidEntry}
 use Rattle.kdl_entry.specs.Tree.{Identifier, Entry}
 use Rattle.kdl.specs.Grammar.{Terminator, Gap}
 use Rattle.kdl.specs.Places.{BeforeChildren, AfterChildren}
-use Rattle.kdl.specs.Tree.{NodeFormat, Node, node, Children, no_children, children, Document, document, Nodes, none, first}
+use Rattle.kdl.specs.Tree.{NodeFormat, DocumentFormat, Node, node, Children, no_children, children, Document, document, Nodes, none, first}
 
 -- a format of a node, by its texts in order
 abbrev pub node_format : Text → Text → Text → Text → Text → Text → Text → Text → NodeFormat
@@ -27,9 +27,9 @@ node_format leading before after behind before_children before_terminator termin
 abbrev pub node_span : Node → SourceSpan
 node_span (node h k) = h.span
 
--- where the last of these nodes ends
+-- where the last of these nodes ends, as a number of 64 bits
 abbrev pub last_end : Node → Nodes → ℕ
-last_end n none = (node_span n).offset + (node_span n).len
+last_end n none = min ((node_span n).offset + (node_span n).len) (2 ^ 64 - 1)
 last_end n (first m ns) = last_end m ns
 
 -- from where the first node begins to where the last one ends; without nodes the span given
@@ -75,9 +75,12 @@ mutual
         → Spanned exact at (content_span (span_of whole r r) (first x xs)) → LaidContent exact whole (document (Some (record { leading = []; trailing = trailing })) at (first x xs)) s r
 
 -- U+FEFF before all
+abbrev pub marked_format : Option DocumentFormat → DocumentFormat
+marked_format None = record { leading = 0xFEFF ∷ []; trailing = [] }
+marked_format (Some f) = record f { leading = 0xFEFF ∷ f.leading }
+
 abbrev pub with_mark : Document → Document
-with_mark (document None at ns) = document (Some (record { leading = 0xFEFF ∷ []; trailing = [] })) at ns
-with_mark (document (Some f) at ns) = document (Some (record f { leading = 0xFEFF ∷ f.leading })) at ns
+with_mark (document f at ns) = document (Some (marked_format f)) at ns
 
 -- a document that is the whole text: its content, and before it U+FEFF or nothing
 pub data LaidDocument (exact : Bool) : Document → Text → Type 0 where

@@ -3,8 +3,7 @@ use Rattle.std.specs.Prelude.{◌≡◌, ◌↔◌, Bool, true, false, List}
 use Rattle.kdl_text.specs.Chars.{Text}
 use Rattle.kdl_entry.specs.Tokens.{Token, Lexes}
 use Rattle.kdl.specs.Data as data'
-use Rattle.kdl.specs.FirstGrammar as first
-use Rattle.kdl.specs.Edited.{EditedDocument}
+use Rattle.kdl.specs.Edited.{IsEdited, IsFormed, EachDocument}
 use Rattle.kdl.specs.Former.{IsFormerDocument, IsFormerNodeText}
 use Rattle.kdl.specs.Grammar.{IsDocument, IsNodeText}
 use Rattle.kdl.specs.Laid.{LaidDocument, LaidNodeText}
@@ -52,10 +51,11 @@ NodesAreLaid = (t : Text) (x : data'.Node) → IsNodeText true t x → (n : Node
 abbrev pub FormerIsKept : Type 0
 FormerIsKept = ((t : Text) (x : data'.Nodes) → IsFormerDocument t x → IsDocument true t x) × ((t : Text) (x : data'.Node) → IsFormerNodeText t x → IsNodeText true t x)
 
--- a text is one document of the first path at most
-abbrev pub OneFirstDocument : Type 0
-OneFirstDocument = (t : Text) (x y : data'.Nodes) → first.IsDocument t x → first.IsDocument t y → x ≡ y
+-- a document that is laid in its own printed text with the spellings and forms that it prints reads back: the text is a document with its data
+abbrev pub ReadsBack : Type 0
+ReadsBack = (d f : Document) → EachDocument IsFormed d f → LaidDocument false f (print_document d 0) → IsDocument true (print_document d 0) (document_data d)
 
--- what is laid is laid again, in the text that it prints, when the entries of its nodes are chosen anew among them and among those that can stand anywhere
+-- so does what differs, spans aside, from a laid one in its nodes' entries alone, at each node some of its own and ones without form; it is so laid
 abbrev pub EditedIsLaid : Type 0
-EditedIsLaid = (exact : Bool) (t : Text) (d e : Document) → LaidDocument exact d t → EditedDocument d e → LaidDocument false e (print_document e 0)
+EditedIsLaid = (exact : Bool) (t : Text) (d e : Document) → LaidDocument exact d t → EachDocument IsEdited d e
+    → IsDocument true (print_document e 0) (document_data e) × ((f : Document) → EachDocument IsFormed e f → LaidDocument false f (print_document e 0))

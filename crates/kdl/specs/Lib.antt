@@ -1,9 +1,7 @@
+pub mod Answered
 pub mod Building
 pub mod Data
 pub mod Edited
-pub mod FirstGrammar
-pub mod FirstLaid
-pub mod FirstMachine
 pub mod Former
 pub mod Grammar
 pub mod Laid

@@ -1,32 +1,15 @@
 -- The machine that builds the tree: it goes over the tokens of a text once, with a stack of open blocks.
 -- The token k stands in the text s before r. Where a place or an item began is kept as the text from there on.
 -- A `None` in the place of a node or of nodes is inside what counts for nothing, of which nothing is built.
-use Rattle.std.specs.Prelude.{◌≡◌, ◌-◌, Bool, true, false, List, [], ◌∷◌, ◌++◌, length, take, Option, Some, None}
+use Rattle.std.specs.Prelude.{◌≡◌, Bool, true, false, List, [], ◌∷◌, ◌++◌, Option, Some, None}
 use Rattle.kdl_text.specs.Chars.{Text}
-use Rattle.kdl_text.specs.declared.span.SourceSpan.{SourceSpan}
 use Rattle.kdl_entry.specs.Data.{Value, text}
 use Rattle.kdl_entry.specs.Tokens.{Token, space, newline, slashdash, string, value, left, right, opening, closing, equals, semicolon, BeginsToken}
+use Rattle.kdl_entry.specs.Items.{between, TypeParts, KeyParts, type_of, before_name, after_name, behind_type, identifier_at, entry_at}
 use Rattle.kdl_entry.specs.Places.{span_of}
 use Rattle.kdl_entry.specs.Tree.{Identifier, Entry}
 use Rattle.kdl.specs.Laid.{node_format, content_span, with_mark}
 use Rattle.kdl.specs.Tree.{Node, node, Children, no_children, children, Document, document, Nodes, none, first, join}
-
--- the text between two places
-unfoldable pub between : Text → Text → Text
-between t s = take (length t - length s) t
-
--- a type, and the texts before its name, behind it, and behind the `)`
-pub record TypeParts : Type 0 where
-  pub name : Identifier
-  pub before : Text
-  pub after : Text
-  pub behind : Text
-
--- a key, and the texts before and behind its `=`
-pub record KeyParts : Type 0 where
-  pub name : Identifier
-  pub before : Text
-  pub behind : Text
 
 -- a node under way
 pub record Under : Type 0 where
@@ -103,57 +86,6 @@ entry_slot (Some u) leading start = for_value u leading start None
 abbrev pub keyed : Slot → KeyParts → Slot
 keyed (for_value u leading start k') k = for_value u leading start (Some k)
 keyed c k = c
-
-abbrev pub type_of : Option TypeParts → Option Identifier
-type_of None = None
-type_of (Some y) = Some y.name
-
-abbrev pub before_name : Option TypeParts → Text
-before_name None = []
-before_name (Some y) = y.before
-
-abbrev pub after_name : Option TypeParts → Text
-after_name None = []
-after_name (Some y) = y.after
-
-abbrev pub behind_type : Option TypeParts → Text
-behind_type None = []
-behind_type (Some y) = y.behind
-
-abbrev pub key_of : Option KeyParts → Option Identifier
-key_of None = None
-key_of (Some k) = Some k.name
-
-abbrev pub before_equals : Option KeyParts → Text
-before_equals None = []
-before_equals (Some k) = k.before
-
-abbrev pub behind_equals : Option KeyParts → Text
-behind_equals None = []
-behind_equals (Some k) = k.behind
-
--- the string that stands in s before r
-abbrev pub identifier_at : Text → Text → Text → Text → Identifier
-identifier_at whole v s r = record { value = v; repr = Some (between s r); span = span_of whole s r }
-
-abbrev pub entry_at : SourceSpan → Text → Option KeyParts → Option TypeParts → Value → Text → Entry
-entry_at span leading k y v repr = record {
-  ty = type_of y;
-  value = v;
-  name = key_of k;
-  format = Some (record {
-    value_repr = repr;
-    leading = leading;
-    trailing = [];
-    after_ty = behind_type y;
-    before_ty_name = before_name y;
-    after_ty_name = after_name y;
-    after_key = before_equals k;
-    after_eq = behind_equals k;
-    autoformat_keep = false;
-  });
-  span = span;
-}
 
 abbrev pub with_entry : Under → Entry → Under
 with_entry u e = record u { entries = u.entries ++ (e ∷ []) }

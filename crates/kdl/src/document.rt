@@ -1,12 +1,14 @@
 //! Documents.
 
 ghost use Rattle.kdl.specs.Tree.{document, none, nodes_tree, document_tree, document_format_tree};
+ghost use Rattle.kdl.specs.Laid.{with_mark, marked_format};
+ghost use Rattle.kdl_entry.specs.Tree.{text_of};
 ghost use Rattle.kdl.specs.Print.{print_document, print_block, leading_text, trailing_text, after_brace, before_brace};
 ghost use Rattle.kdl.specs.Same.{same_document};
 ghost use Rattle.kdl.specs.declared.document.KdlDocument.{out-KdlDocument};
 ghost use Rattle.std.specs.Fmt.{WritesOnOk};
 ghost use Rattle.std.specs.Prelude.{◌≡◌, ◌++◌, [], ◌∷◌, IfOk, None, Some, option_map, true};
-ghost use Rattle.std.specs.Str.{encode_utf8_all};
+ghost use Rattle.std.specs.Str.{chars, encode_utf8_all};
 
 use crate::node::KdlNode;
 use crate::print::write_spaces;
@@ -85,6 +87,14 @@ impl KdlDocument {
             format: Some(format),
             span,
         }
+    }
+
+    /// The document behind a U+FEFF, with which its leading text begins then.
+    pub(crate) fn marked(mut self, alloc: Global) -> Result<KdlDocument, AllocError>
+        ensures { IfOk result (λ d. document_tree d ≡ with_mark (document_tree self)) }
+    {
+        self.format = Some(behind_mark(alloc, self.format.take())?);
+        Ok(self)
     }
 
     /// The nodes, in order.
@@ -188,6 +198,42 @@ impl Clone for KdlDocument {
     fn clone(&self) -> Result<KdlDocument, AllocError> {
         self.copy()
     }
+}
+
+/// U+FEFF as a text.
+fn mark_text(alloc: Global) -> Result<String, AllocError>
+    ensures { IfOk result (λ s. text_of s ≡ 0xFEFF ∷ []) }
+{
+    let mut mark = String::new(alloc);
+    mark.push('\u{feff}')?;
+    Ok(mark)
+}
+
+/// The text behind another.
+fn push_text(text: &mut String, more: &str) -> Result<(), AllocError>
+    ensures { IfOk result (λ _. text_of text.new ≡ text_of text.old ++ chars more.now) }
+{
+    text.push_str(more)
+}
+
+/// The format with U+FEFF before its leading text.
+fn behind_mark(
+    alloc: Global,
+    format: Option<KdlDocumentFormat>,
+) -> Result<KdlDocumentFormat, AllocError>
+    ensures { IfOk result (λ f. document_format_tree f ≡ marked_format (option_map document_format_tree format)) }
+{
+    let mut leading = mark_text(alloc)?;
+    let Some(format) = format else {
+        let mut marked = KdlDocumentFormat::new(alloc);
+        marked.leading = leading;
+        return Ok(marked);
+    };
+    push_text(&mut leading, &format.leading)?;
+    Ok(KdlDocumentFormat {
+        leading,
+        trailing: format.trailing,
+    })
 }
 
 /// Writes what stands before the first node.

@@ -1,6 +1,6 @@
 //! What is proved of the written grammar of documents and nodes.
 
-ghost use Rattle.kdl.specs.Laws.{OneDocument, OneNode, IsLexed, OneAnswer, AnswersDocuments, AnswersAreLaid, LaidIsDerived, LaidNodeIsDerived, NodesAreLaid, FormerIsKept, EditedIsLaid, OneFirstDocument};
+ghost use Rattle.kdl.specs.Laws.{OneDocument, OneNode, IsLexed, OneAnswer, AnswersDocuments, AnswersAreLaid, LaidIsDerived, LaidNodeIsDerived, NodesAreLaid, FormerIsKept, ReadsBack, EditedIsLaid};
 
 /// No text can be read as two documents.
 #[tactic(auto, using(crate::proofs::LawProofs::one_document))]
@@ -62,15 +62,17 @@ pub fn former_is_kept()
     ensures { FormerIsKept }
 {}
 
-/// No text can be read as two documents of the part of the language that is read today.
-#[tactic(auto, using(crate::proofs::FirstComplete::one_reading))]
-pub fn first_is_unambiguous()
-    ensures { OneFirstDocument }
+/// A document that is laid in its own printed text, with the spellings and the forms that it prints, reads back: the text
+/// is a document with its data.
+#[tactic(auto, using(crate::proofs::Formed::reads_back))]
+pub fn reads_back()
+    ensures { ReadsBack }
 {}
 
-/// Where a document is laid, each document that differs in its nodes' entries alone, each of them one of that node's own
-/// or one that can stand anywhere, is laid in the text that it prints; and so that text is read with its data.
-#[tactic(auto, using(crate::proofs::Relaid::relaid))]
+/// Where a document is laid, each document that differs from it, spans aside, in its nodes' entries alone, at each node
+/// some of its own entries and entries without format and spelling in any order, reads back from the text that it prints,
+/// and is laid there with the spellings and the forms that it prints.
+#[tactic(auto, using(crate::proofs::Formed::edited_is_laid))]
 pub fn edited_is_laid()
     ensures { EditedIsLaid }
 {}

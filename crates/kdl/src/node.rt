@@ -98,20 +98,22 @@ pub struct KdlNode {
 }
 
 impl KdlNode {
-    /// A node as it was read, with no type and no children.
+    /// A node as it was read.
     pub(crate) fn parsed(
+        ty: Option<KdlIdentifier>,
         name: KdlIdentifier,
         entries: Vec<KdlEntry>,
+        children: Option<KdlDocument>,
         format: KdlNodeFormat,
         span: SourceSpan,
     ) -> KdlNode
-        ensures { node_tree result ≡ node (record { ty = None; name = identifier_tree name; entries = map entry_tree entries.items; format = Some (node_format_tree format); span = span }) no_children }
+        ensures { node_tree result ≡ node (record { ty = option_map identifier_tree ty; name = identifier_tree name; entries = map entry_tree entries.items; format = Some (node_format_tree format); span = span }) (children_of (option_map document_tree children)) }
     {
         KdlNode {
-            ty: None,
+            ty,
             name,
             entries,
-            children: None,
+            children,
             format: Some(format),
             span,
         }

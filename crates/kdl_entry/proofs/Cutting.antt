@@ -181,21 +181,25 @@ closes : (c : ℕ) → ((c == 41 || c == 123) || (c == 125 || (c == 61 || c == 5
 unfolding ends_value
 closes c h = grind (arith, nat_tests)
 
+-- before a token that may stand behind a value, the value ends
+pub end_behind : {s r : Text} {k : Token} → BeginsToken s k r → is_end k ≡ true → ValueEnd true s
+end_behind (t_space n) e = ValueEnd.space n
+end_behind (t_newline n) e = ValueEnd.«break» n
+end_behind t_slashdash e = ValueEnd.slashdash refl
+end_behind (t_string p) e = cc
+end_behind (t_value p) e = cc
+end_behind t_left e = cc
+end_behind t_mark e = cc
+end_behind t_right e = ValueEnd.mark (closes 41 refl)
+end_behind t_opening e = ValueEnd.mark (closes 123 refl)
+end_behind t_closing e = ValueEnd.mark (closes 125 refl)
+end_behind t_equals e = ValueEnd.mark (closes 61 refl)
+end_behind t_semicolon e = ValueEnd.mark (closes 59 refl)
+
 -- where the next token may stand behind a value, the value ends
 pub value_end : {s : Text} {ks : List Token} → Lexes s ks → may_end ks ≡ true → ValueEnd true s
 value_end done e = ValueEnd.nothing
-value_end (next (t_space n) l) e = ValueEnd.space n
-value_end (next (t_newline n) l) e = ValueEnd.«break» n
-value_end (next t_slashdash l) e = ValueEnd.slashdash refl
-value_end (next (t_string p) l) e = cc
-value_end (next (t_value p) l) e = cc
-value_end (next t_left l) e = cc
-value_end (next t_mark l) e = cc
-value_end (next t_right l) e = ValueEnd.mark (closes 41 refl)
-value_end (next t_opening l) e = ValueEnd.mark (closes 123 refl)
-value_end (next t_closing l) e = ValueEnd.mark (closes 125 refl)
-value_end (next t_equals l) e = ValueEnd.mark (closes 61 refl)
-value_end (next t_semicolon l) e = ValueEnd.mark (closes 59 refl)
+value_end (next t l) e = end_behind t e
 
 -- where no string, number or keyword begins with a character of theirs, no token begins
 piece_alone : {c : ℕ} {s r : Text} {k : Token} → begins_piece c ≡ true → ((r v : Text) → StringPiece (c ∷ s) r v → ⊥) → ((r : Text) (v : Value) → PlainPiece (c ∷ s) r v → ⊥) → BeginsToken (c ∷ s) k r → kind_of k ≡ k_piece → ⊥

@@ -54,7 +54,7 @@ use Rattle.kdl_entry.specs.declared.items.lexer.LexFailure.TheVariants.{Faulty, 
 use Rattle.kdl_entry.specs.declared.items.lexer.TokenKind.{TokenKind}
 use Rattle.kdl_entry.proofs.Cutting.{no_piece, no_slash, no_backslash, no_alien, Alien}
 use Rattle.kdl_entry.proofs.Fronts.{no_quote, number_identifier}
-use Rattle.kdl_entry.proofs.Lexing.{number_fits}
+use Rattle.kdl_entry.proofs.Fitting.{number_fits}
 use Rattle.kdl_entry.proofs.FloatTexts.{decimal_float as read_float}
 use Rattle.kdl_entry.proofs.StringPieces.{begins_piece, keyword_front, plain_shorter}
 

@@ -1,12 +1,14 @@
 //! What `==`, the order and hashes mean, that printed strings read back, and the laws of the written grammar.
 
-ghost use Rattle.kdl_entry.specs.Laws.{OneIdentifier, OneEntry, LaidIdentifierIsDerived, LaidEntryIsDerived, TextsAreLaid};
+ghost use Rattle.kdl_entry.specs.Laws.{OneIdentifier, OneEntry, LaidIdentifierIsDerived, LaidEntryIsDerived, TextsAreLaid, OneEntryAnswer, EntryAnswers};
 ghost use Rattle.kdl_entry.specs.Order.{text_order, value_order};
 ghost use Rattle.kdl_entry.specs.Floats.{DecimalsAreFloats};
+ghost use Rattle.kdl_entry.specs.Formless.{IsFormless, IsWellFormed, FormlessReadsBack};
 ghost use Rattle.kdl_entry.specs.Spelled.{SpelledReadsBack, SpelledReadsBackBefore};
-ghost use Rattle.kdl_entry.specs.Tree.{identifier_tree, entry_tree, value_tree, float_text_of, entry_format_tree, without_span, without_spans};
+ghost use Rattle.kdl_entry.specs.Tree.{identifier_tree, entry_tree, value_tree, float_text_of, entry_format_tree, cleared, without_span, without_spans};
 ghost use Rattle.std.specs.Cmp.{IsTotalOrder};
-ghost use Rattle.std.specs.Prelude.{◌≡◌, IsTrue, ◌↔◌};
+ghost use Rattle.std.specs.Int.{w128};
+ghost use Rattle.std.specs.Prelude.{◌≡◌, IsTrue, ◌↔◌, FitsSigned, fold};
 
 use crate::entry::{KdlEntry, KdlEntryFormat};
 use crate::float::KdlFloat;
@@ -21,6 +23,36 @@ pub fn spelled_reads_back()
     ensures alone { SpelledReadsBack }
     ensures before { SpelledReadsBackBefore }
 {}
+
+/// A printed string is an identifier with that string, and what an entry without format and spelling prints is an entry
+/// with its data.
+#[tactic(auto, using(crate::proofs::FormlessEntries::formless_reads_back))]
+pub fn formless_reads_back()
+    ensures { FormlessReadsBack }
+{}
+
+// A number has 128 bits with a sign.
+fn number_fits(number: i128)
+    ensures { FitsSigned w128 number }
+{}
+
+/// Every value in memory is well formed: its text is of Unicode scalar values, its whole number has 128 bits with a sign,
+/// its float's text is a float's.
+pub fn values_are_well_formed(value: &KdlValue)
+    ensures { IsWellFormed (value_tree value.now) }
+{
+    if let KdlValue::Integer(number) = value {
+        number_fits(*number);
+    }
+}
+
+/// An entry in memory that has neither a format nor a spelling is one without form, with well-formed data.
+pub fn cleared_is_formless(entry: &KdlEntry)
+    requires { cleared (entry_tree entry.now) ≡ entry_tree entry.now }
+    ensures { IsFormless (entry_tree entry.now) }
+{
+    values_are_well_formed(entry.value());
+}
 
 /// Two floats are equal exactly where their texts are.
 pub fn equal_floats(a: &KdlFloat, b: &KdlFloat) -> bool
@@ -89,46 +121,56 @@ pub fn values_are_ordered()
     ensures { IsTotalOrder ⟦<KdlValue as Ord>⟧.cmp }
 {}
 
-/// Equal floats leave equal hashers equal.
+/// Equal floats leave equal hashers equal: into both goes what the hash of the first writes.
 pub fn hash_floats<H: Hasher>(a: &KdlFloat, b: &KdlFloat, one: &mut H, other: &mut H)
     requires { float_text_of a.now ≡ float_text_of b.now }
-    ensures { one.old ≡ other.old → one.new ≡ other.new }
+    ensures first { one.new ≡ fold H.write one.old (⟦<KdlFloat as Hash>⟧.hash_input a.now) }
+    ensures second { other.new ≡ fold H.write other.old (⟦<KdlFloat as Hash>⟧.hash_input a.now) }
+    ensures equal { one.old ≡ other.old → one.new ≡ other.new }
 {
     a.hash(one);
     b.hash(other);
 }
 
-/// Equal values leave equal hashers equal.
+/// Equal values leave equal hashers equal: into both goes what the hash of the first writes.
 pub fn hash_values<H: Hasher>(a: &KdlValue, b: &KdlValue, one: &mut H, other: &mut H)
     requires { value_tree a.now ≡ value_tree b.now }
-    ensures { one.old ≡ other.old → one.new ≡ other.new }
+    ensures first { one.new ≡ fold H.write one.old (⟦<KdlValue as Hash>⟧.hash_input a.now) }
+    ensures second { other.new ≡ fold H.write other.old (⟦<KdlValue as Hash>⟧.hash_input a.now) }
+    ensures equal { one.old ≡ other.old → one.new ≡ other.new }
 {
     a.hash(one);
     b.hash(other);
 }
 
-/// Equal formats leave equal hashers equal.
+/// Equal formats leave equal hashers equal: into both goes what the hash of the first writes.
 pub fn hash_formats<H: Hasher>(a: &KdlEntryFormat, b: &KdlEntryFormat, one: &mut H, other: &mut H)
     requires { entry_format_tree a.now ≡ entry_format_tree b.now }
-    ensures { one.old ≡ other.old → one.new ≡ other.new }
+    ensures first { one.new ≡ fold H.write one.old (⟦<KdlEntryFormat as Hash>⟧.hash_input a.now) }
+    ensures second { other.new ≡ fold H.write other.old (⟦<KdlEntryFormat as Hash>⟧.hash_input a.now) }
+    ensures equal { one.old ≡ other.old → one.new ≡ other.new }
 {
     a.hash(one);
     b.hash(other);
 }
 
-/// Equal identifiers, wherever they stood, leave equal hashers equal.
+/// Equal identifiers, wherever they stood, leave equal hashers equal: into both goes what the hash of the first writes.
 pub fn hash_identifiers<H: Hasher>(a: &KdlIdentifier, b: &KdlIdentifier, one: &mut H, other: &mut H)
     requires { without_span (identifier_tree a.now) ≡ without_span (identifier_tree b.now) }
-    ensures { one.old ≡ other.old → one.new ≡ other.new }
+    ensures first { one.new ≡ fold H.write one.old (⟦<KdlIdentifier as Hash>⟧.hash_input a.now) }
+    ensures second { other.new ≡ fold H.write other.old (⟦<KdlIdentifier as Hash>⟧.hash_input a.now) }
+    ensures equal { one.old ≡ other.old → one.new ≡ other.new }
 {
     a.hash(one);
     b.hash(other);
 }
 
-/// Equal entries, wherever they stood, leave equal hashers equal.
+/// Equal entries, wherever they stood, leave equal hashers equal: into both goes what the hash of the first writes.
 pub fn hash_entries<H: Hasher>(a: &KdlEntry, b: &KdlEntry, one: &mut H, other: &mut H)
     requires { without_spans (entry_tree a.now) ≡ without_spans (entry_tree b.now) }
-    ensures { one.old ≡ other.old → one.new ≡ other.new }
+    ensures first { one.new ≡ fold H.write one.old (⟦<KdlEntry as Hash>⟧.hash_input a.now) }
+    ensures second { other.new ≡ fold H.write other.old (⟦<KdlEntry as Hash>⟧.hash_input a.now) }
+    ensures equal { one.old ≡ other.old → one.new ≡ other.new }
 {
     a.hash(one);
     b.hash(other);
@@ -155,4 +197,17 @@ pub fn laid_entry_is_derived()
 #[tactic(auto, using(crate::proofs::TextLaws::texts_are_laid))]
 pub fn texts_are_laid()
     ensures { TextsAreLaid }
+{}
+
+/// The machine that reads entry texts has one answer at most on each text.
+#[tactic(auto, using(crate::proofs::EntryLaws::one_entry_answer))]
+pub fn one_entry_answer()
+    ensures { OneEntryAnswer }
+{}
+
+/// That machine answers exactly where the text is an entry, with the entry's data, and what it answers is laid in the
+/// text, with its spans.
+#[tactic(auto, using(crate::proofs::EntryLaws::entry_answers))]
+pub fn entry_answers()
+    ensures { EntryAnswers }
 {}

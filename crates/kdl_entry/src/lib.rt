@@ -8,7 +8,6 @@ pub mod items;
 pub mod laws;
 mod print;
 mod spelled;
-pub mod tokens;
 mod value;
 
 pub use entry::{KdlEntry, KdlEntryFormat};

@@ -38,3 +38,6 @@ bytes-encodes (c ∷ cs) = omega (arith, length-append (encode c) (encodes cs), 
 
 pub bytes-chars : (bs : List ℕ) → IsUtf8 bs → bytes (chars bs) ≡ length bs
 bytes-chars bs u = bytes-encodes (chars bs) ∙ ap length (encodes-chars bs u)
+
+pub chars_bytes : (bs : List ℕ) → IsUtf8 bs → bytes (chars bs) ≡ length bs
+chars_bytes = bytes-chars

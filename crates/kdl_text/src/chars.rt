@@ -6,6 +6,7 @@ ghost use Rattle.kdl_text.specs.Chars as class;
 ghost use Rattle.kdl_text.specs.Chars.{Text, Newline};
 ghost use Rattle.kdl_text.specs.Here.{Here, Ahead, Behind, Skips, Took, Ate, AteTwo, Stayed, first, first_len, tail, looked, stepped, sliced, counted, bytes, raise, in_class, RunOf};
 ghost use Rattle.kdl_text.specs.Reading.{Moves, Costs, ReadsNewline};
+ghost use Rattle.kdl_text.specs.Spans as spans;
 ghost use Rattle.std.specs.Char.{len_utf8};
 ghost use Rattle.std.specs.Prelude.{◌≡◌, ℕ, ◌+◌, ◌-◌, ◌<◌, ◌≤◌, ◌^◌, ◌++◌, ◌∷◌, [], length, MatchOption, IfSome, IfOk, IsTrue, ◌↔◌, string_bytes};
 ghost use Rattle.std.specs.Str.{chars, IsUtf8};
@@ -271,6 +272,15 @@ fn same(a: &str, b: &str) -> bool
     same_bytes(a, b)
 }
 
+/// The bytes of the text.
+#[inline]
+#[tactic(auto, using(crate::proofs::Texts::chars_bytes))]
+fn byte_len(text: &str) -> usize
+    ensures { result ≡ bytes (chars text.now) }
+{
+    text.len()
+}
+
 /// A place in a text, to which a slice can go back.
 #[derive(Drop)]
 pub struct Checkpoint<'a> {
@@ -299,6 +309,17 @@ impl<'a> Checkpoint<'a> {
         self.at
     }
 
+    /// The same place once more.
+    #[inline]
+    pub fn copied(&self) -> Checkpoint<'a>
+        ensures { result ≡ self.now }
+    {
+        Checkpoint {
+            rest: self.rest,
+            at: self.at,
+        }
+    }
+
     /// The span of the character at the place, of length 0 at the end of the text.
     pub fn char_span(&self) -> SourceSpan
         ensures offset { result.offset ≡ self.now.at }
@@ -311,6 +332,16 @@ impl<'a> Checkpoint<'a> {
         SourceSpan {
             offset: self.at,
             len,
+        }
+    }
+
+    /// The span of what stands between two places, in the text that begins here, in bytes.
+    pub fn span_between(&self, from: &Checkpoint, to: &Checkpoint) -> SourceSpan
+        ensures { result ≡ spans.span_between self.now.rest from.now.rest to.now.rest }
+    {
+        SourceSpan {
+            offset: byte_len(self.rest).saturating_sub(byte_len(from.rest)),
+            len: byte_len(from.rest).saturating_sub(byte_len(to.rest)),
         }
     }
 }

@@ -1,10 +1,12 @@
 -- What a run of the tool reads, writes and answers.
-use Rattle.std.specs.Prelude.{◌≡◌, ℕ, Bool, IsTrue, List, [], ◌∷◌, take, Option, IsUtf8, chars, codes}
+use Rattle.std.specs.Prelude.{◌≡◌, ℕ, ◌<◌, Bool, true, false, IsTrue, List, [], ◌∷◌, length, take, Option, Result, Err, IsUtf8, chars, codes}
 use Rattle.std.specs.Io.KnownBytes.{Appends, Consumes, IsAtEnd}
 use Rattle.kdl.specs.Data.{Nodes}
-use Rattle.kdl.specs.FirstGrammar.{IsDocument}
+use Rattle.kdl.specs.Grammar.{IsDocument}
 use Rattle.kdl_tool.specs.declared.tool.Outcome.{Outcome}
 use Rattle.kdl_tool.specs.declared.tool.Outcome.TheVariants.{Done, Refused, NotUtf8, NoValue, Usage, ReadFailed, WriteFailed, Memory}
+use Rattle.kdl_tool.specs.declared.tool.Unread.{Unread}
+use Rattle.kdl_tool.specs.declared.tool.Unread.TheVariants.{Failed}
 
 -- the word `cat` alone
 abbrev pub IsCat : List (List ℕ) → Type 0
@@ -14,6 +16,21 @@ IsCat words = words ≡ codes "cat" ∷ []
 abbrev pub IsUsage : Outcome → Type 0
 IsUsage Usage = Unit {0}
 IsUsage _ = ⊥
+
+-- the answer to a read that answered an error
+abbrev pub is_read_failed : Outcome → Bool
+is_read_failed ReadFailed = true
+is_read_failed _ = false
+
+-- the answer to a write that answered an error, or took no byte
+abbrev pub is_write_failed : Outcome → Bool
+is_write_failed WriteFailed = true
+is_write_failed _ = false
+
+-- a read answered an error, so that the input was not read to its end
+abbrev pub is_unread_failed : {X : Type 0} → Result X Unread → Bool
+is_unread_failed (Err Failed) = true
+is_unread_failed _ = false
 
 -- all is done
 abbrev pub IsDone : Outcome → Type 0
@@ -26,16 +43,16 @@ IsInput had left bytes = Consumes had left bytes × IsAtEnd left
 
 -- the bytes are a text that the grammar derives
 abbrev pub AreDocument : List ℕ → Type 0
-AreDocument bytes = IsUtf8 bytes × ((x : Nodes) × IsDocument (chars bytes) x)
+AreDocument bytes = IsUtf8 bytes × ((x : Nodes) × IsDocument true (chars bytes) x)
 
 -- the bytes are a text that the grammar does not derive
 abbrev pub AreNoDocument : List ℕ → Type 0
-AreNoDocument bytes = IsUtf8 bytes × ((x : Nodes) → IsDocument (chars bytes) x → ⊥)
+AreNoDocument bytes = IsUtf8 bytes × ((x : Nodes) → IsDocument true (chars bytes) x → ⊥)
 
 -- what each answer says of the whole input, and of the bytes that the writer held and holds
 abbrev pub Answered : Outcome → List ℕ → Option (List ℕ) → Option (List ℕ) → Type 0
 Answered Done bytes held holds = AreDocument bytes × Appends held holds bytes
-Answered WriteFailed bytes held holds = AreDocument bytes × ((n : ℕ) × Appends held holds (take n bytes))
+Answered WriteFailed bytes held holds = AreDocument bytes × ((n : ℕ) × (n < length bytes) × Appends held holds (take n bytes))
 Answered (Refused e) bytes held holds = AreNoDocument bytes
 Answered NotUtf8 bytes held holds = IsUtf8 bytes → ⊥
 Answered Memory bytes held holds = Unit {0}

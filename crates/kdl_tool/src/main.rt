@@ -28,7 +28,7 @@ fn main(rt: HostRuntime) -> ExitCode {
         Err(error) if error.kind() == ErrorKind::InvalidData => Outcome::Usage,
         Err(_) => Outcome::Memory,
     };
-    let _ = outcome.report(&mut rt.stderr());
+    let _ = outcome.report(&mut Watched::new(rt.stderr()));
     ExitCode::from(outcome.status())
 }
 

@@ -199,10 +199,20 @@ fn each_report(rt: HostRuntime) -> Result<(), Fail> {
     for (outcome, status, text) in table {
         assert_eq!(rt; outcome.status(), status, "{text}");
         let mut sink = Sink::new(alloc, 1, NEVER);
-        assert!(rt; outcome.report(&mut sink), "{text}");
+        let mut writer = Watched::new(&mut sink);
+        assert!(rt; outcome.report(&mut writer), "{text}");
+        assert!(rt; !writer.failed(), "{text}");
         assert_eq!(rt; sink.bytes.as_slice(), text.as_bytes());
-        let mut full = Sink::new(alloc, 0, NEVER);
+        let mut full = Watched::new(Sink::new(alloc, 0, NEVER));
         assert_eq!(rt; outcome.report(&mut full), text.is_empty());
+        assert_eq!(rt; full.failed(), !text.is_empty());
+        if !text.is_empty() {
+            let mut broken = Sink::new(alloc, 1, 3);
+            let mut writer = Watched::new(&mut broken);
+            assert!(rt; !outcome.report(&mut writer), "{text}");
+            assert!(rt; writer.failed(), "{text}");
+            assert_eq!(rt; Some(broken.bytes.as_slice()), text.as_bytes().get(..3));
+        }
     }
     Ok(())
 }

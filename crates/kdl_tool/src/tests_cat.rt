@@ -49,7 +49,7 @@ fn cat_refuses_a_lone_semicolon(rt: HostRuntime) -> Result<(), Fail> {
     assert!(rt; reader.ended());
     assert_eq!(rt; sink.bytes.len(), 0);
     let mut told = Sink::new(alloc, 16, NEVER);
-    assert!(rt; outcome.report(&mut told));
+    assert!(rt; outcome.report(&mut Watched::new(&mut told)));
     let told = str::from_utf8(&told.bytes).ok().ok_or("not UTF-8")?;
     assert!(rt; told.starts_with("0..1 "), "{told}");
     assert!(rt; told.ends_with("\n"), "{told}");
@@ -71,7 +71,7 @@ fn cat_writes_nothing_of_a_refused_text(rt: HostRuntime) -> Result<(), Fail> {
         );
         assert_eq!(rt; sink.bytes.len(), 0, "{text:?}");
         let mut told = Sink::new(alloc, 16, NEVER);
-        assert!(rt; outcome.report(&mut told));
+        assert!(rt; outcome.report(&mut Watched::new(&mut told)));
         assert!(rt; told.bytes.len() > 0, "{text:?}");
     }
     Ok(())

@@ -1,17 +1,20 @@
 //! The tool itself, over any reader and any writer.
-ghost use Rattle.std.specs.Prelude.{◌≡◌, ◌↔◌, ℕ, true, false, IsTrue, IfOk, IfErr, OnOk, map, take, string_bytes};
-ghost use Rattle.std.specs.Io.KnownBytes.{Appends};
+ghost use Rattle.std.specs.Prelude.{◌≡◌, ◌↔◌, ◌||◌, true, IsTrue, IfOk, OnOk, ◌≤◌, length, map, take, flat_map, decimal, string_bytes};
 ghost use Rattle.kdl_text.specs.Failures.{IsSyntax};
-ghost use Rattle.kdl_tool.specs.Runs.{IsCat, IsUsage, IsInput, Ran, WritesNothing, Marked, Answered, AreDocument, AreNoDocument, IsDone};
-ghost use Rattle.kdl_tool.specs.Reports.{status_of, report_of, line, lines_of};
+ghost use Rattle.kdl_tool.specs.Runs.{IsCat, IsUsage, IsInput, Ran, WritesNothing, Marked, Answered, AreDocument, AreNoDocument, IsDone, is_read_failed, is_write_failed, is_unread_failed};
+ghost use Rattle.kdl_tool.specs.Reports.{status_of, report_of, line, diagnostic_line, lines_of};
+ghost use Rattle.kdl_tool.specs.Writing.{Writes};
 
 use crate::watched::Watched;
-use kdl::{KdlDocument, KdlError, ParseFailure};
+use kdl::{KdlDiagnostic, KdlDocument, KdlError, ParseFailure};
 use std::alloc::Global;
 use std::io::{Read, Write};
 
 /// How many bytes are asked for at a time.
 const READ_SIZE: usize = 65536;
+
+/// How many decimal digits a `usize` has at most.
+const MOST_DIGITS: usize = 20;
 
 /// What a run came to.
 #[derive(Debug, Drop)]
@@ -59,6 +62,8 @@ pub fn run<R: Read, W: Write>(
     ensures ran { Ran result (R.remaining reader.old.inner) (R.remaining reader.new.inner)
         (W.contents writer.old.inner) (W.contents writer.new.inner) }
     ensures marked { Marked result reader.new.failed reader.new.ended writer.new.failed }
+    ensures read_failed { reader.new.failed ≡ (is_read_failed result || reader.old.failed) }
+    ensures write_failed { writer.new.failed ≡ (is_write_failed result || writer.old.failed) }
 {
     if !is_cat(words) {
         return Outcome::Usage;
@@ -84,7 +89,7 @@ fn is_cat(words: &[String]) -> bool
 fn read_whole<R: Read>(alloc: Global, reader: &mut Watched<R>) -> Result<Vec<u8>, Unread>
     ensures whole { IfOk result (λ input. IsInput (R.remaining reader.old.inner) (R.remaining reader.new.inner) input.items) }
     ensures ended { OnOk result (reader.new.ended ≡ true) }
-    ensures failed { IfErr result (λ e. e ≡ Unread.Failed → reader.new.failed ≡ true) }
+    ensures failed { reader.new.failed ≡ (is_unread_failed result || reader.old.failed) }
 {
     let mut input = Vec::new(alloc);
     let mut buffer = [0u8; READ_SIZE];
@@ -106,6 +111,7 @@ fn answer<W: Write>(alloc: Global, input: &[u8], writer: &mut Watched<W>) -> Out
     ensures unwritten { WritesNothing result → writer.new ≡ writer.old }
     ensures answered { Answered result input.now (W.contents writer.old.inner) (W.contents writer.new.inner) }
     ensures marked { Marked result true true writer.new.failed }
+    ensures write_failed { writer.new.failed ≡ (is_write_failed result || writer.old.failed) }
 {
     let Ok(text) = str::from_utf8(input) else {
         return Outcome::NotUtf8;
@@ -138,9 +144,7 @@ fn printed(alloc: Global, text: &str) -> Result<String, ParseFailure>
 /// the first write that takes no byte.
 #[tactic(auto, using(crate::proofs::Steps::written_more))]
 fn write_whole<W: Write>(bytes: &[u8], writer: &mut Watched<W>) -> bool
-    ensures all { IsTrue result → Appends (W.contents writer.old.inner) (W.contents writer.new.inner) bytes.now }
-    ensures part { (n : ℕ) × Appends (W.contents writer.old.inner) (W.contents writer.new.inner) (take n bytes.now) }
-    ensures failed { result ≡ false → writer.new.failed ≡ true }
+    ensures { Writes W.contents writer.old writer.new bytes.now result }
 {
     let mut done = 0;
     while done < bytes.len() {
@@ -150,6 +154,33 @@ fn write_whole<W: Write>(bytes: &[u8], writer: &mut Watched<W>) -> bool
         }
     }
     true
+}
+
+/// Writes the pieces one behind another, and answers whether all were written.
+fn write_pieces<W: Write>(pieces: &[&[u8]], writer: &mut Watched<W>) -> bool
+    ensures { Writes W.contents writer.old writer.new (flat_map (λ p. p.now) pieces.now) result }
+{
+    for piece in pieces {
+        if !write_whole(piece, writer) {
+            return false;
+        }
+    }
+    true
+}
+
+/// Puts the decimal digits of the number at the front of the buffer, and answers how many they are.
+fn put_decimal(number: usize, buffer: &mut [u8]) -> usize
+    requires { length (decimal number) ≤ length buffer.old }
+    ensures count { result ≡ length (decimal number) }
+    ensures digits { take result buffer.new ≡ decimal number }
+{
+    if number < 10 {
+        buffer[0] = b'0' + number as u8;
+        return 1;
+    }
+    let count = put_decimal(number / 10, buffer);
+    buffer[count] = b'0' + (number % 10) as u8;
+    count + 1
 }
 
 impl Outcome {
@@ -166,11 +197,13 @@ impl Outcome {
         }
     }
 
-    /// Writes what there is to tell, a line for each fault, and answers whether all was written.
+    /// Writes what there is to tell, a line for each fault, and answers whether all was written:
+    /// where it was not, a write failed. It stops at the first error, an interrupted one too, and
+    /// at the first write that takes no byte.
     ///
     /// A line of a refused input is `offset..end message`, in bytes of the input.
-    pub fn report<W: Write>(&self, writer: &mut W) -> bool
-        ensures all { IsTrue result → Appends (W.contents writer.old) (W.contents writer.new) (report_of self.now) }
+    pub fn report<W: Write>(&self, writer: &mut Watched<W>) -> bool
+        ensures written { Writes W.contents writer.old writer.new (report_of self.now) result }
         ensures done { IsDone self.now → (IsTrue result × writer.new ≡ writer.old) }
     {
         match self {
@@ -187,26 +220,45 @@ impl Outcome {
 }
 
 /// Writes a line, and answers whether all of it was written.
-fn report_line<W: Write>(text: &str, writer: &mut W) -> bool
-    ensures { IsTrue result → Appends (W.contents writer.old) (W.contents writer.new) (line text.now) }
+fn report_line<W: Write>(text: &str, writer: &mut Watched<W>) -> bool
+    ensures { Writes W.contents writer.old writer.new (line text.now) result }
 {
-    writeln!(writer, "{text}").is_ok()
+    write_pieces(&[text.as_bytes(), b"\n"], writer)
 }
 
 /// Writes a line for each diagnostic, and answers whether all were written.
-fn report_error<W: Write>(error: &KdlError, writer: &mut W) -> bool
-    ensures { IsTrue result → Appends (W.contents writer.old) (W.contents writer.new) (lines_of error.now) }
+fn report_error<W: Write>(error: &KdlError, writer: &mut Watched<W>) -> bool
+    ensures { Writes W.contents writer.old writer.new (lines_of error.now) result }
 {
     for diagnostic in &error.diagnostics {
-        let start = diagnostic.span.offset;
-        let end = start.saturating_add(diagnostic.span.len);
-        let message = match &diagnostic.message {
-            Some(message) => message.as_str(),
-            None => "Unexpected error",
-        };
-        if writeln!(writer, "{start}..{end} {message}").is_err() {
+        if !report_diagnostic(diagnostic, writer) {
             return false;
         }
     }
     true
+}
+
+/// Writes the line of a diagnostic, and answers whether all of it was written.
+fn report_diagnostic<W: Write>(diagnostic: &KdlDiagnostic, writer: &mut Watched<W>) -> bool
+    ensures { Writes W.contents writer.old writer.new (diagnostic_line diagnostic.now) result }
+{
+    let start = diagnostic.span.offset;
+    let end = start.saturating_add(diagnostic.span.len);
+    let message = match &diagnostic.message {
+        Some(message) => message.as_str(),
+        None => "Unexpected error",
+    };
+    let mut starts = [0u8; MOST_DIGITS];
+    let starts_len = put_decimal(start, &mut starts);
+    let mut ends = [0u8; MOST_DIGITS];
+    let ends_len = put_decimal(end, &mut ends);
+    let pieces: [&[u8]; 6] = [
+        &starts[..starts_len],
+        b"..",
+        &ends[..ends_len],
+        b" ",
+        message.as_bytes(),
+        b"\n",
+    ];
+    write_pieces(&pieces, writer)
 }

@@ -10,7 +10,7 @@ ghost use Rattle.kdl_entry.specs.declared.items.lexer.LexFailure.TheVariants.{Me
 ghost use Rattle.kdl_text.specs.Chars.{starts, is_identifier_char};
 ghost use Rattle.kdl_text.specs.Numbers as numbers;
 ghost use Rattle.kdl_text.specs.Numbers.{FloatText};
-ghost use Rattle.kdl_text.specs.Here.{Ahead, Stayed, sliced, first, tail};
+ghost use Rattle.kdl_text.specs.Here.{Ahead, Ate, Stayed, sliced, first, tail};
 ghost use Rattle.kdl_text.specs.Reading.{Moves};
 ghost use Rattle.kdl_text.specs.TriviaReading.{PieceCosts};
 ghost use Rattle.std.specs.Prelude.{◌≡◌, ◌++◌, ◌==◌, ◌||◌, true, false, Some, None, IfOk};
@@ -480,6 +480,13 @@ impl<'a> Lexer<'a> {
         ensures at { result.at ≡ self.now.at }
     {
         self.cursor.checkpoint()
+    }
+
+    /// Goes past a U+FEFF, where one stands here, and answers whether it did. A step.
+    pub fn eat_mark(&mut self) -> bool
+        ensures { Ate 0xFEFF result self.old self.new }
+    {
+        self.cursor.eat('\u{feff}')
     }
 
     /// The text from one place to another behind it. A step for each of its bytes.

@@ -1,0 +1,270 @@
+//! Blocks and slashdashes: children, spans, and the places around what is left out.
+
+use crate::reading::{
+    around_block, block, called, ends, key_places, lone_entry, lone_node, margins, nested, places,
+    range, read, refuse,
+};
+use kdl::KdlNode;
+use std::test::Fail;
+
+#[test]
+fn children_in_one_line(rt: HostRuntime) -> Result<(), Fail> {
+    let document = read(&rt, rt.alloc(), "inline { time; \"y;all\" }")?;
+    let node = lone_node(&document)?;
+    assert_eq!(rt; range(node.span()), (0, 24));
+    assert_eq!(rt; around_block(node), (" ", ""));
+    assert_eq!(rt; ends(node), ("", "", ""));
+    let children = block(node)?;
+    assert_eq!(rt; range(children.span()), (9, 23));
+    let [time, all] = children.nodes() else {
+        return Err(Fail::from("not two children"));
+    };
+    assert_eq!(rt; range(time.span()), (9, 13));
+    assert_eq!(rt; ends(time), (" ", "", ";"));
+    assert_eq!(rt; range(all.span()), (15, 23));
+    assert_eq!(rt; ends(all), (" ", " ", ""));
+    assert_eq!(rt; all.name().value(), "y;all");
+    Ok(())
+}
+
+#[test]
+fn slashdashes_around_an_empty_block(rt: HostRuntime) -> Result<(), Fail> {
+    let document = read(&rt, rt.alloc(), "a /-1 /-{ x } { } /-{} \n")?;
+    let node = lone_node(&document)?;
+    assert!(rt; node.entries().is_empty());
+    assert_eq!(rt; around_block(node), (" /-1 /-{ x } ", ""));
+    assert_eq!(rt; ends(node), ("", " /-{} ", "\n"));
+    assert_eq!(rt; range(node.span()), (0, 23));
+    let children = block(node)?;
+    assert!(rt; children.nodes().is_empty());
+    assert_eq!(rt; range(children.span()), (16, 16));
+    assert_eq!(rt; margins(children), (" ", ""));
+    Ok(())
+}
+
+#[test]
+fn an_empty_block_and_a_node_behind_it(rt: HostRuntime) -> Result<(), Fail> {
+    let document = read(&rt, rt.alloc(), "a { } \nb\n")?;
+    assert_eq!(rt; range(document.span()), (0, 8));
+    let [a, b] = document.nodes() else {
+        return Err(Fail::from("not two nodes"));
+    };
+    assert_eq!(rt; around_block(a), (" ", ""));
+    assert_eq!(rt; ends(a), ("", " ", "\n"));
+    assert_eq!(rt; range(a.span()), (0, 6));
+    let children = block(a)?;
+    assert_eq!(rt; margins(children), (" ", ""));
+    assert_eq!(rt; range(children.span()), (4, 4));
+    assert_eq!(rt; range(b.span()), (7, 8));
+    assert_eq!(rt; ends(b), ("", "", "\n"));
+    Ok(())
+}
+
+#[test]
+fn places_around_slashdashed_blocks(rt: HostRuntime) -> Result<(), Fail> {
+    let alloc = rt.alloc();
+    let rows = [
+        ("a{}/-{}/-{}", "", "/-{}/-{}"),
+        ("a /-{}{}", " /-{}", ""),
+        ("a/-{}{ }", "/-{}", ""),
+        ("a/-b/-{c}{}", "/-b/-{c}", ""),
+        ("a{} /-{b;} ", "", " /-{b;} "),
+        ("a /* { */ {}", " /* { */ ", ""),
+        ("a \\\n {}", " \\\n ", ""),
+    ];
+    for (text, before_children, before_terminator) in rows {
+        let document = read(&rt, alloc, text)?;
+        let node = lone_node(&document)?;
+        assert!(rt; node.entries().is_empty(), "{text:?}");
+        assert!(rt; block(node)?.nodes().is_empty(), "{text:?}");
+        assert_eq!(rt; around_block(node), (before_children, ""), "{text:?}");
+        assert_eq!(rt; ends(node), ("", before_terminator, ""), "{text:?}");
+        assert_eq!(rt; range(node.span()), (0, text.len()), "{text:?}");
+    }
+    Ok(())
+}
+
+#[test]
+fn slashdashes_without_a_block(rt: HostRuntime) -> Result<(), Fail> {
+    let alloc = rt.alloc();
+    let rows = [
+        ("a/-b", "/-b"),
+        ("a /-b", " /-b"),
+        ("a/-{}", "/-{}"),
+        ("a /-{ x } /-{} ", " /-{ x } /-{} "),
+        ("a/-k=1/-{b {c}}", "/-k=1/-{b {c}}"),
+        ("a/- \n // c\n 1", "/- \n // c\n 1"),
+        ("a /-(t)k", " /-(t)k"),
+        ("a /-1 /-\"b\" ", " /-1 /-\"b\" "),
+    ];
+    for (text, before_terminator) in rows {
+        let document = read(&rt, alloc, text)?;
+        let node = lone_node(&document)?;
+        assert!(rt; node.entries().is_empty(), "{text:?}");
+        assert!(rt; node.children().is_none(), "{text:?}");
+        assert_eq!(rt; ends(node), ("", before_terminator, ""), "{text:?}");
+        assert_eq!(rt; around_block(node), ("", ""), "{text:?}");
+        assert_eq!(rt; range(node.span()), (0, text.len()), "{text:?}");
+    }
+    Ok(())
+}
+
+#[test]
+fn an_argument_and_slashdashes(rt: HostRuntime) -> Result<(), Fail> {
+    let alloc = rt.alloc();
+    let rows = [
+        ("a 1/-{}", " ", (2, 3), "/-{}"),
+        ("a/-b 1", "/-b ", (5, 6), ""),
+        ("a /-b /-c=2 1 ", " /-b /-c=2 ", (12, 13), " "),
+        ("a 1/-2", " ", (2, 3), "/-2"),
+    ];
+    for (text, leading, span, before_terminator) in rows {
+        let document = read(&rt, alloc, text)?;
+        let node = lone_node(&document)?;
+        let entry = lone_entry(node)?;
+        assert_eq!(rt; entry.value().as_integer(), Some(1), "{text:?}");
+        assert_eq!(rt; places(entry), (leading, "1", ""), "{text:?}");
+        assert_eq!(rt; range(entry.span()), span, "{text:?}");
+        assert!(rt; node.children().is_none(), "{text:?}");
+        assert_eq!(rt; ends(node), ("", before_terminator, ""), "{text:?}");
+        assert_eq!(rt; range(node.span()), (0, text.len()), "{text:?}");
+    }
+    Ok(())
+}
+
+#[test]
+fn a_slashdashed_property_before_a_kept_one(rt: HostRuntime) -> Result<(), Fail> {
+    let document = read(&rt, rt.alloc(), "n /- foo=1 bar = 2")?;
+    let entry = lone_entry(lone_node(&document)?)?;
+    assert_eq!(rt; called(entry.name()), "bar");
+    assert_eq!(rt; entry.value().as_integer(), Some(2));
+    assert_eq!(rt; places(entry), (" /- foo=1 ", "2", ""));
+    assert_eq!(rt; key_places(entry), (" ", " "));
+    assert_eq!(rt; range(entry.span()), (11, 18));
+    Ok(())
+}
+
+#[test]
+fn a_slashdashed_number_between_kept_entries(rt: HostRuntime) -> Result<(), Fail> {
+    let document = read(&rt, rt.alloc(), "n k=1/-2 3")?;
+    let [k, three] = lone_node(&document)?.entries() else {
+        return Err(Fail::from("not two entries"));
+    };
+    assert_eq!(rt; called(k.name()), "k");
+    assert_eq!(rt; k.value().as_integer(), Some(1));
+    assert!(rt; three.name().is_none());
+    assert_eq!(rt; three.value().as_integer(), Some(3));
+    assert_eq!(rt; places(three), ("/-2 ", "3", ""));
+    Ok(())
+}
+
+#[test]
+fn slashdashed_nodes_between_kept_ones(rt: HostRuntime) -> Result<(), Fail> {
+    let text = "/-a {\n b\n}\nc;/-d 1;/-e\nf {/-g\nh;/-i}/-j";
+    refuse(&rt, rt.alloc(), text);
+    let text = "/-a {\n b\n}\nc;/-d 1;/-e\nf {/-g\nh;/-i};/-j";
+    let document = read(&rt, rt.alloc(), text)?;
+    assert_eq!(rt; margins(&document), ("", "/-j"));
+    let [c, f] = document.nodes() else {
+        return Err(Fail::from("not two nodes"));
+    };
+    assert_eq!(rt; ends(c), ("/-a {\n b\n}\n", "", ";"));
+    assert_eq!(rt; ends(f), ("/-d 1;/-e\n", "", ";"));
+    let children = block(f)?;
+    assert_eq!(rt; margins(children), ("", "/-i"));
+    assert_eq!(rt; ends(lone_node(children)?), ("/-g\n", "", ";"));
+    Ok(())
+}
+
+#[test]
+fn blocks_and_slashdashes_in_wrong_places(rt: HostRuntime) {
+    let texts = [
+        "a {} {}",
+        "a {} 1",
+        "a /-{} 1",
+        "/- /-a",
+        "/-/-a",
+        "a /-",
+        "/-",
+        "/-;",
+        "a{}/-b",
+        "a {} /-b",
+        "/-a {} b",
+        "a/-/-b",
+        "a /-/-b c",
+        "a/ -b",
+        "n (t/-x)1",
+        "n k=/-1 2",
+        "n k =/-1",
+        "a {",
+        "a { b",
+        "a }",
+        "}",
+        "{}",
+        "a {\n}} b",
+        "a {}}",
+        "a {} b",
+        "a {}b",
+        "foo { bar; { baz; }; }",
+        "/-{}",
+        "a; /-{}",
+        "a /-{ b",
+        "a { /-b",
+    ];
+    for text in texts {
+        refuse(&rt, rt.alloc(), text);
+    }
+}
+
+/// The node at the bottom of so many blocks, each with one node without entries.
+fn bottom(node: &KdlNode, depth: usize) -> Result<&KdlNode, Fail> {
+    let mut at = node;
+    for _ in 0..depth {
+        if !at.entries().is_empty() {
+            return Err(Fail::from("an entry"));
+        }
+        at = lone_node(block(at)?)?;
+    }
+    Ok(at)
+}
+
+#[test]
+fn blocks_three_hundred_deep(rt: HostRuntime) -> Result<(), Fail> {
+    let alloc = rt.alloc();
+    let text = nested(alloc, "a { ", "a", " }", 300)?;
+    assert_eq!(rt; text.len(), 1801);
+    let document = read(&rt, alloc, &text)?;
+    let node = bottom(lone_node(&document)?, 300)?;
+    assert_eq!(rt; node.name().value(), "a");
+    assert!(rt; node.children().is_none());
+    assert_eq!(rt; range(node.span()), (1200, 1202));
+    Ok(())
+}
+
+#[test]
+fn slashdashed_blocks_three_hundred_deep(rt: HostRuntime) -> Result<(), Fail> {
+    let alloc = rt.alloc();
+    let rows = [("a /-{ ", " }", 2401), ("a/-{", "}", 1501)];
+    for (opening, closing, len) in rows {
+        let text = nested(alloc, opening, "a", closing, 300)?;
+        assert_eq!(rt; text.len(), len);
+        let document = read(&rt, alloc, &text)?;
+        let node = lone_node(&document)?;
+        assert!(rt; node.entries().is_empty());
+        assert!(rt; node.children().is_none());
+        assert_eq!(rt; range(node.span()), (0, len));
+    }
+    Ok(())
+}
+
+#[test]
+fn comments_three_hundred_deep(rt: HostRuntime) -> Result<(), Fail> {
+    let alloc = rt.alloc();
+    let text = nested(alloc, "/*", "", "*/", 300)?;
+    let document = read(&rt, alloc, &text)?;
+    assert!(rt; document.nodes().is_empty());
+    assert_eq!(rt; margins(&document), (text.as_str(), ""));
+    let open = text.get(..1199).ok_or("no front")?;
+    refuse(&rt, alloc, open);
+    Ok(())
+}

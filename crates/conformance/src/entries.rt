@@ -1,0 +1,247 @@
+//! Entries that are a whole text: what is read, what is refused and where, and that an entry prints its text.
+
+use kdl::{KdlEntry, ParseFailure, SourceSpan};
+use std::alloc::Global;
+use std::process::Abort;
+use std::test::Fail;
+
+/// The entry of a text, which prints it, and whose span it is.
+fn read(rt: &impl Abort, alloc: Global, text: &str) -> Result<KdlEntry, Fail> {
+    let entry = KdlEntry::parse(alloc, text)?;
+    let printed = entry.to_string(alloc)?;
+    assert_eq!(rt; printed.as_str(), text);
+    assert_eq!(rt;
+        entry.span(),
+        SourceSpan {
+            offset: 0,
+            len: text.len()
+        }
+    );
+    Ok(entry)
+}
+
+/// The text stands for a whole number.
+fn reads_integer(rt: &impl Abort, alloc: Global, text: &str, value: i128) -> Result<(), Fail> {
+    let entry = read(rt, alloc, text)?;
+    assert_eq!(rt; entry.value().as_integer(), Some(value));
+    assert!(rt; entry.name().is_none() && entry.ty().is_none());
+    Ok(())
+}
+
+/// The text stands for a float of this text.
+fn reads_float(rt: &impl Abort, alloc: Global, text: &str, value: &str) -> Result<(), Fail> {
+    let entry = read(rt, alloc, text)?;
+    assert_eq!(rt; entry.value().as_float().map(|f| f.as_str()), Some(value));
+    Ok(())
+}
+
+/// The text stands for a string.
+fn reads_string(rt: &impl Abort, alloc: Global, text: &str, value: &str) -> Result<(), Fail> {
+    let entry = read(rt, alloc, text)?;
+    assert_eq!(rt; entry.value().as_string(), Some(value));
+    Ok(())
+}
+
+/// The text is refused, and the one diagnostic is at the span.
+fn refused_at(rt: &impl Abort, alloc: Global, text: &str, offset: usize, len: usize) {
+    match KdlEntry::parse(alloc, text) {
+        Ok(_) => assert!(rt; false, "{text:?} is read"),
+        Err(ParseFailure::Memory) => assert!(rt; false, "{text:?} wants memory"),
+        Err(ParseFailure::Syntax(error)) => {
+            assert_eq!(rt; error.input.as_str(), text);
+            assert_eq!(rt; error.diagnostics.len(), 1);
+            for diagnostic in &error.diagnostics {
+                assert_eq!(rt; diagnostic.span, SourceSpan { offset, len });
+                let message = diagnostic.message.as_ref().map_or("", |m| m.as_str());
+                assert_eq!(rt; message, "Expected end of document");
+                let label = diagnostic.label.as_ref().map_or("", |m| m.as_str());
+                assert_eq!(rt; label, "not EOF");
+            }
+        }
+    }
+}
+
+/// The text is refused.
+fn refused(rt: &impl Abort, alloc: Global, text: &str) {
+    match KdlEntry::parse(alloc, text) {
+        Ok(_) => assert!(rt; false, "{text:?} is read"),
+        Err(ParseFailure::Memory) => assert!(rt; false, "{text:?} wants memory"),
+        Err(ParseFailure::Syntax(error)) => assert_eq!(rt; error.input.as_str(), text),
+    }
+}
+
+/// The texts before and behind the entry, and the spelling of its value.
+fn places(entry: &KdlEntry) -> (&str, &str, &str) {
+    match entry.format() {
+        Some(format) => (
+            format.leading.as_str(),
+            format.trailing.as_str(),
+            format.value_repr.as_str(),
+        ),
+        None => ("none", "none", "none"),
+    }
+}
+
+/// The texts around the name of the type, and behind its `)`.
+fn type_places(entry: &KdlEntry) -> (&str, &str, &str) {
+    match entry.format() {
+        Some(format) => (
+            format.before_ty_name.as_str(),
+            format.after_ty_name.as_str(),
+            format.after_ty.as_str(),
+        ),
+        None => ("none", "none", "none"),
+    }
+}
+
+/// The texts around the `=`.
+fn key_places(entry: &KdlEntry) -> (&str, &str) {
+    match entry.format() {
+        Some(format) => (format.after_key.as_str(), format.after_eq.as_str()),
+        None => ("none", "none"),
+    }
+}
+
+#[test]
+fn numbers_and_keywords(rt: HostRuntime) -> Result<(), Fail> {
+    let alloc = rt.alloc();
+    reads_integer(&rt, alloc, "+0x1F", 31)?;
+    reads_integer(&rt, alloc, "-0b101", -5)?;
+    reads_integer(&rt, alloc, "0O17", 15)?;
+    reads_integer(&rt, alloc, "0o12_34", 668)?;
+    reads_integer(&rt, alloc, "0xdead_beef123", 15_302_363_377_955)?;
+    reads_integer(
+        &rt,
+        alloc,
+        "-170141183460469231731687303715884105728",
+        i128::MIN,
+    )?;
+    reads_float(&rt, alloc, "1_0.5E+3", "10.5E+3")?;
+    reads_float(&rt, alloc, "#-inf", "#-inf")?;
+    assert!(rt; read(&rt, alloc, "#null")?.value().is_null());
+    assert_eq!(rt; read(&rt, alloc, "#true")?.value().as_bool(), Some(true));
+    reads_string(&rt, alloc, "-inf", "-inf")?;
+    refused(&rt, alloc, "170141183460469231731687303715884105728");
+    refused(&rt, alloc, "0xABCDEF0123456789abcdef0123456789");
+    refused(&rt, alloc, "0o_12_34");
+    refused(&rt, alloc, "0x");
+    refused(&rt, alloc, "1.");
+    refused(&rt, alloc, "#True");
+    Ok(())
+}
+
+#[test]
+fn strings(rt: HostRuntime) -> Result<(), Fail> {
+    let alloc = rt.alloc();
+    reads_string(&rt, alloc, "\"a\\ \r\n  b\"", "ab")?;
+    reads_string(&rt, alloc, "\"\"\"\n\"\"\"", "")?;
+    reads_string(&rt, alloc, "\"\"\"\n\n\"\"\"", "")?;
+    reads_string(&rt, alloc, "\"\"\"\n\\t\n\"\"\"", "\t")?;
+    reads_string(&rt, alloc, "\"\"\"\n \\sx\n \"\"\"", " x")?;
+    reads_string(&rt, alloc, "\"\"\"\n  a \\\n  b\n  \"\"\"", "a b")?;
+    reads_string(&rt, alloc, "\"\"\"\na\"b\"\"c\n\"\"\"", "a\"b\"\"c")?;
+    reads_string(&rt, alloc, "\"\"\"\na\\\"\"\"\n\"\"\"", "a\"\"\"")?;
+    reads_string(&rt, alloc, "##\"a\"#b\"##", "a\"#b")?;
+    reads_string(&rt, alloc, "##\"\"\"\na\"\"\"#b\n\"\"\"##", "a\"\"\"#b")?;
+    refused(&rt, alloc, "\"\"\"\nx\n\\s\"\"\"");
+    refused(&rt, alloc, "\"\"\"\na\"\"\"");
+    refused(&rt, alloc, "\"\\u{d800}\"");
+    refused(&rt, alloc, "\"\\u{}\"");
+    refused(&rt, alloc, "\"\\u{1234567}\"");
+    refused(&rt, alloc, "\"a\\q\"");
+    Ok(())
+}
+
+#[test]
+fn types_and_properties(rt: HostRuntime) -> Result<(), Fail> {
+    let alloc = rt.alloc();
+    let typed = read(&rt, alloc, "(u8) 1")?;
+    assert_eq!(rt; typed.ty().map(|ty| ty.value()), Some("u8"));
+    assert_eq!(rt; type_places(&typed), ("", "", " "));
+    let both = read(&rt, alloc, "k = ( x )2")?;
+    assert_eq!(rt; both.name().map(|name| name.value()), Some("k"));
+    assert_eq!(rt; both.ty().map(|ty| ty.value()), Some("x"));
+    assert_eq!(rt; key_places(&both), (" ", " "));
+    assert_eq!(rt; type_places(&both), (" ", " ", ""));
+    assert_eq!(rt; places(&both), ("", "", "2"));
+    let comment = read(&rt, alloc, "( /*a*/ t )  n")?;
+    assert_eq!(rt; type_places(&comment), (" /*a*/ ", " ", "  "));
+    refused(&rt, alloc, "(t)k=1");
+    refused(&rt, alloc, "k=");
+    refused(&rt, alloc, "1=2");
+    refused(&rt, alloc, "()1");
+    Ok(())
+}
+
+#[test]
+fn a_property_with_all_its_places(rt: HostRuntime) -> Result<(), Fail> {
+    let alloc = rt.alloc();
+    let entry = read(&rt, alloc, " \\\n \"foo\"=(\"m\\\"eh\")0xDEADbeef\t\\\n")?;
+    let name = entry.name().ok_or("no name")?;
+    assert_eq!(rt; name.value(), "foo");
+    assert_eq!(rt; name.repr(), Some("\"foo\""));
+    assert_eq!(rt; name.span(), SourceSpan { offset: 4, len: 5 });
+    let ty = entry.ty().ok_or("no type")?;
+    assert_eq!(rt; ty.value(), "m\"eh");
+    assert_eq!(rt; ty.span(), SourceSpan { offset: 11, len: 7 });
+    assert_eq!(rt; entry.value().as_integer(), Some(3_735_928_559));
+    assert_eq!(rt; places(&entry), (" \\\n ", "\t\\\n", "0xDEADbeef"));
+    assert_eq!(rt; entry.span(), SourceSpan { offset: 0, len: 32 });
+    Ok(())
+}
+
+#[test]
+fn entries_that_count_for_nothing(rt: HostRuntime) -> Result<(), Fail> {
+    let alloc = rt.alloc();
+    let one = read(&rt, alloc, "/-1 2")?;
+    assert_eq!(rt; one.value().as_integer(), Some(2));
+    assert_eq!(rt; places(&one), ("/-1 ", "", "2"));
+    let two = read(&rt, alloc, "/- a=1 b=2")?;
+    assert_eq!(rt; two.name().map(|name| name.value()), Some("b"));
+    assert_eq!(rt; places(&two), ("/- a=1 ", "", "2"));
+    let spaced = read(&rt, alloc, " /- foo=1 bar = 2")?;
+    assert_eq!(rt; places(&spaced), (" /- foo=1 ", "", "2"));
+    assert_eq!(rt; key_places(&spaced), (" ", " "));
+    let many = read(&rt, alloc, "\n/-\n(t)1 /-a = (u)1 b")?;
+    assert_eq!(rt; many.value().as_string(), Some("b"));
+    assert_eq!(rt; places(&many), ("\n/-\n(t)1 /-a = (u)1 ", "", "b"));
+    Ok(())
+}
+
+#[test]
+fn texts_behind_the_entry(rt: HostRuntime) -> Result<(), Fail> {
+    let alloc = rt.alloc();
+    assert_eq!(rt;
+        places(&read(&rt, alloc, "1 // c\n")?),
+        ("", " // c\n", "1")
+    );
+    assert_eq!(rt; places(&read(&rt, alloc, "a // c")?), ("", " // c", "a"));
+    assert_eq!(rt;
+        places(&read(&rt, alloc, "a/* x */\n\n")?),
+        ("", "/* x */\n\n", "a")
+    );
+    assert_eq!(rt;
+        places(&read(&rt, alloc, "// c\n a=b ")?),
+        ("// c\n ", " ", "b")
+    );
+    Ok(())
+}
+
+#[test]
+fn refused_entries(rt: HostRuntime) {
+    let alloc = rt.alloc();
+    refused_at(&rt, alloc, "", 0, 0);
+    refused_at(&rt, alloc, " // c", 5, 0);
+    refused_at(&rt, alloc, "1 2", 2, 1);
+    refused_at(&rt, alloc, "é é", 3, 2);
+    refused_at(&rt, alloc, "a \"", 2, 1);
+    refused_at(&rt, alloc, "a\n=1", 2, 1);
+    refused_at(&rt, alloc, "a {}", 2, 1);
+    refused_at(&rt, alloc, "k=", 2, 0);
+    refused_at(&rt, alloc, "/-", 2, 0);
+    refused_at(&rt, alloc, "/-1\n2", 3, 1);
+    refused_at(&rt, alloc, "/-a/-b c", 3, 1);
+    refused_at(&rt, alloc, "1 /-2", 2, 1);
+    refused_at(&rt, alloc, "a;", 1, 1);
+    refused_at(&rt, alloc, "\u{feff}a", 0, 3);
+}

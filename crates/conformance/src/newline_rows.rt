@@ -1,0 +1,233 @@
+//! Each newline, each space and each banned character in each role that it has in a document.
+
+use crate::reading::{
+    NEWLINES, SPACES, around_block, block, called, ends, filled, is_read, key_places, lone_entry,
+    lone_node, margins, node_type_places, places, read, refuse, type_places,
+};
+use kdl::KdlDocument;
+use std::alloc::Global;
+use std::process::Abort;
+use std::test::Fail;
+
+/// The characters that stand in comments alone, as first and last of each run.
+const BANNED: [(u32, u32); 7] = [
+    (0x0, 0x8),
+    (0xe, 0x1f),
+    (0x7f, 0x7f),
+    (0x200e, 0x200f),
+    (0x202a, 0x202e),
+    (0x2066, 0x2069),
+    (0xfeff, 0xfeff),
+];
+
+/// The document of the pattern with the text in the place of each `~`, which prints it.
+fn read_filled(
+    rt: &impl Abort,
+    alloc: Global,
+    pattern: &str,
+    text: &str,
+) -> Result<KdlDocument, Fail> {
+    read(rt, alloc, &filled(alloc, pattern, text)?)
+}
+
+#[test]
+fn a_newline_ends_a_line_comment(rt: HostRuntime) -> Result<(), Fail> {
+    let alloc = rt.alloc();
+    for newline in NEWLINES {
+        let document = read_filled(&rt, alloc, "a // c~// d~ b // e", newline)?;
+        let [a, b] = document.nodes() else {
+            return Err(Fail::from("not two nodes"));
+        };
+        let comment = filled(alloc, "// c~", newline)?;
+        assert_eq!(rt; ends(a), ("", " ", comment.as_str()));
+        let leading = filled(alloc, "// d~ ", newline)?;
+        assert_eq!(rt; ends(b), (leading.as_str(), " ", "// e"));
+    }
+    Ok(())
+}
+
+#[test]
+fn a_newline_after_a_backslash(rt: HostRuntime) -> Result<(), Fail> {
+    let alloc = rt.alloc();
+    for newline in NEWLINES {
+        for pattern in [" \\~ ", " \\ /**/~", "\\~", " \\ // c~ ", "\\~\\~"] {
+            let leading = filled(alloc, pattern, newline)?;
+            let document = read(&rt, alloc, &format!(in alloc; "n{leading}1{leading}{{}}")?)?;
+            let node = lone_node(&document)?;
+            assert_eq!(rt; places(lone_entry(node)?), (leading.as_str(), "1", ""));
+            assert_eq!(rt; around_block(node), (leading.as_str(), ""));
+        }
+    }
+    Ok(())
+}
+
+#[test]
+fn a_newline_in_a_string(rt: HostRuntime) -> Result<(), Fail> {
+    let alloc = rt.alloc();
+    let rows = [
+        ("n \"a\\~b\"", "ab"),
+        ("n \"a\\ ~ ~ b\"", "ab"),
+        ("n \"\"\"~  x~~   y~  \"\"\"", "x\n\n y"),
+        ("n \"\"\"~~\"\"\"", ""),
+        ("n \"\"\"~x\\~  y~\"\"\"", "xy"),
+        ("n #\"\"\"~  x~~   y~  \"\"\"#", "x\n\n y"),
+        ("n ##\"\"\"~x\"\"\"#~\"\"\"##", "x\"\"\"#"),
+    ];
+    for newline in NEWLINES {
+        for (pattern, value) in rows {
+            let document = read_filled(&rt, alloc, pattern, newline)?;
+            let entry = lone_entry(lone_node(&document)?)?;
+            assert_eq!(rt;
+                entry.value().as_string(),
+                Some(value),
+                "{pattern} {newline:?}"
+            );
+        }
+    }
+    Ok(())
+}
+
+#[test]
+fn a_newline_behind_a_slashdash(rt: HostRuntime) -> Result<(), Fail> {
+    let alloc = rt.alloc();
+    for newline in NEWLINES {
+        let document = read_filled(&rt, alloc, "/-~n~a /-~1 2/-~{~}", newline)?;
+        let leading = filled(alloc, "/-~n~", newline)?;
+        let node = lone_node(&document)?;
+        let block = filled(alloc, "/-~{~}", newline)?;
+        assert_eq!(rt; ends(node), (leading.as_str(), block.as_str(), ""));
+        let leading = filled(alloc, " /-~1 ", newline)?;
+        assert_eq!(rt; places(lone_entry(node)?), (leading.as_str(), "2", ""));
+    }
+    Ok(())
+}
+
+#[test]
+fn a_newline_in_a_block(rt: HostRuntime) -> Result<(), Fail> {
+    let alloc = rt.alloc();
+    for newline in NEWLINES {
+        let document = read_filled(&rt, alloc, "a {~b~~}~", newline)?;
+        let node = lone_node(&document)?;
+        assert_eq!(rt; ends(node), ("", "", newline));
+        let children = block(node)?;
+        assert_eq!(rt; ends(lone_node(children)?), (newline, "", newline));
+        assert_eq!(rt; margins(children), ("", newline));
+    }
+    Ok(())
+}
+
+#[test]
+fn newlines_in_wrong_places(rt: HostRuntime) -> Result<(), Fail> {
+    let alloc = rt.alloc();
+    let patterns = [
+        "n (~t)1",
+        "n (t~)1",
+        "n (t)~1",
+        "(t)~n",
+        "n k~=1",
+        "n k=~1",
+        "n \"a~b\"",
+        "n #\"a~b\"#",
+        "n \"\"\"a~\"\"\"",
+        "a~{}",
+    ];
+    for newline in NEWLINES {
+        for pattern in patterns {
+            refuse(&rt, alloc, &filled(alloc, pattern, newline)?);
+        }
+    }
+    Ok(())
+}
+
+#[test]
+fn a_space_in_each_place(rt: HostRuntime) -> Result<(), Fail> {
+    let alloc = rt.alloc();
+    for space in SPACES {
+        let pattern = "~(~t~)~n~(~u~)~1~k~=~(~v~)~2~{~m~}~;~";
+        let document = read_filled(&rt, alloc, pattern, space)?;
+        assert_eq!(rt; margins(&document), ("", space));
+        let node = lone_node(&document)?;
+        assert_eq!(rt; ends(node), (space, space, ";"));
+        assert_eq!(rt; called(node.ty()), "t");
+        assert_eq!(rt; node_type_places(node), (space, space, space));
+        assert_eq!(rt; around_block(node), (space, ""));
+        let child = lone_node(block(node)?)?;
+        assert_eq!(rt; ends(child), (space, space, ""));
+        let [one, two] = node.entries() else {
+            return Err(Fail::from("not two entries"));
+        };
+        assert_eq!(rt; places(one), (space, "1", ""));
+        assert_eq!(rt; type_places(one), (space, space, space));
+        assert_eq!(rt; places(two), (space, "2", ""));
+        assert_eq!(rt; type_places(two), (space, space, space));
+        assert_eq!(rt; called(two.name()), "k");
+        assert_eq!(rt; key_places(two), (space, space));
+    }
+    Ok(())
+}
+
+#[test]
+fn a_space_in_strings_and_continued_lines(rt: HostRuntime) -> Result<(), Fail> {
+    let alloc = rt.alloc();
+    let rows = [
+        ("n \"a\\~b\"", "ab"),
+        ("n \"a\\~~\n~b\"", "ab"),
+        ("n \"\"\"\n~x\n~\n~\"\"\"", "x\n"),
+        ("n #\"\"\"\n~x\n~\n~\"\"\"#", "x\n"),
+        ("n \\~\n~b", "b"),
+        ("n /-~1~b", "b"),
+        ("n /-~\n~1~b", "b"),
+    ];
+    for space in SPACES {
+        for (pattern, value) in rows {
+            let document = read_filled(&rt, alloc, pattern, space)?;
+            let entry = lone_entry(lone_node(&document)?)?;
+            assert_eq!(rt;
+                entry.value().as_string(),
+                Some(value),
+                "{pattern} {space:?}"
+            );
+        }
+    }
+    Ok(())
+}
+
+/// The text of a character between `n` and other texts of one node, each refused; in comments it is read.
+fn stands_in_comments_alone(rt: &impl Abort, alloc: Global, banned: &str) -> Result<(), Fail> {
+    let refused = [
+        "a~b",
+        "a~",
+        " ~n",
+        "n ~",
+        "n ~1",
+        "n k=~1",
+        "n (~t)1",
+        "n {~}",
+        "n \"~\"",
+        "n #\"~\"#",
+        "n \"\"\"\n~\n\"\"\"",
+        "n #\"\"\"\n~\n\"\"\"#",
+        "n /-~1",
+        "n \\~\n",
+    ];
+    for pattern in refused {
+        refuse(rt, alloc, &filled(alloc, pattern, banned)?);
+    }
+    for pattern in ["n //~", "n /*~*/ 1", "//~\nn", "n \\/*~*/\n", "n \\//~\n1"] {
+        let text = filled(alloc, pattern, banned)?;
+        assert!(rt; is_read(rt, alloc, &text)?, "{text:?}");
+    }
+    Ok(())
+}
+
+#[test]
+fn banned_characters(rt: HostRuntime) -> Result<(), Fail> {
+    let alloc = rt.alloc();
+    for (first, last) in BANNED {
+        for code in first..=last {
+            let c = char::from_u32(code).ok_or("no character")?;
+            stands_in_comments_alone(&rt, alloc, &format!(in alloc; "{c}")?)?;
+        }
+    }
+    Ok(())
+}

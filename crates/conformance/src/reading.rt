@@ -1,0 +1,206 @@
+//! What the tests of documents share: a text that is read or refused, its nodes, and their places.
+
+use crate::reprinted;
+use kdl::{KdlDocument, KdlEntry, KdlIdentifier, KdlNode, ParseFailure, SourceSpan};
+use std::alloc::{AllocError, Global};
+use std::process::Abort;
+use std::test::Fail;
+
+pub const SPACES: [&str; 18] = [
+    "\u{9}", "\u{20}", "\u{a0}", "\u{1680}", "\u{2000}", "\u{2001}", "\u{2002}", "\u{2003}",
+    "\u{2004}", "\u{2005}", "\u{2006}", "\u{2007}", "\u{2008}", "\u{2009}", "\u{200a}", "\u{202f}",
+    "\u{205f}", "\u{3000}",
+];
+
+pub const NEWLINES: [&str; 8] = [
+    "\r\n", "\r", "\n", "\u{85}", "\u{b}", "\u{c}", "\u{2028}", "\u{2029}",
+];
+
+/// The document of a text, which prints it.
+pub fn read(rt: &impl Abort, alloc: Global, text: &str) -> Result<KdlDocument, Fail> {
+    let document = match KdlDocument::parse(alloc, text) {
+        Ok(document) => document,
+        Err(ParseFailure::Memory) => return Err(Fail::from("out of memory")),
+        Err(ParseFailure::Syntax(_)) => {
+            assert!(rt; false, "{text:?} is refused");
+            return Err(Fail::from("refused"));
+        }
+    };
+    let printed = reprinted(alloc, text)?;
+    assert_eq!(rt; printed.as_str(), text);
+    Ok(document)
+}
+
+/// The text is refused, by a diagnostic at least, each with a span inside on character boundaries.
+pub fn refuse(rt: &impl Abort, alloc: Global, text: &str) {
+    match KdlDocument::parse(alloc, text) {
+        Ok(_) => assert!(rt; false, "{text:?} is read"),
+        Err(ParseFailure::Memory) => assert!(rt; false, "{text:?} wants memory"),
+        Err(ParseFailure::Syntax(error)) => {
+            assert_eq!(rt; error.input.as_str(), text);
+            assert!(rt; !error.diagnostics.is_empty(), "{text:?}");
+            for diagnostic in &error.diagnostics {
+                let (start, end) = range(diagnostic.span);
+                assert!(rt; text.is_char_boundary(start), "{text:?} at {start}");
+                assert!(rt; text.is_char_boundary(end), "{text:?} at {end}");
+            }
+        }
+    }
+}
+
+/// Whether the text is a document. One that is read prints the text; one that is refused tells where.
+pub fn is_read(rt: &impl Abort, alloc: Global, text: &str) -> Result<bool, Fail> {
+    match KdlDocument::parse(alloc, text) {
+        Ok(document) => {
+            let printed = document.to_string(alloc)?;
+            assert_eq!(rt; printed.as_str(), text);
+            Ok(true)
+        }
+        Err(ParseFailure::Memory) => Err(Fail::from("out of memory")),
+        Err(ParseFailure::Syntax(_)) => {
+            refuse(rt, alloc, text);
+            Ok(false)
+        }
+    }
+}
+
+/// The span as its start and its end.
+pub fn range(span: SourceSpan) -> (usize, usize) {
+    (span.offset, span.offset.saturating_add(span.len))
+}
+
+/// The one node of a document.
+pub fn lone_node(document: &KdlDocument) -> Result<&KdlNode, Fail> {
+    let [node] = document.nodes() else {
+        return Err(Fail::from("not one node"));
+    };
+    Ok(node)
+}
+
+/// The one entry of a node.
+pub fn lone_entry(node: &KdlNode) -> Result<&KdlEntry, Fail> {
+    let [entry] = node.entries() else {
+        return Err(Fail::from("not one entry"));
+    };
+    Ok(entry)
+}
+
+/// The child document of a node.
+pub fn block(node: &KdlNode) -> Result<&KdlDocument, Fail> {
+    let Some(children) = node.children() else {
+        return Err(Fail::from("no block"));
+    };
+    Ok(children)
+}
+
+/// The texts before and behind the nodes of a document.
+pub fn margins(document: &KdlDocument) -> (&str, &str) {
+    match document.format() {
+        Some(format) => (format.leading.as_str(), format.trailing.as_str()),
+        None => ("none", "none"),
+    }
+}
+
+/// The texts before a node, before its terminator, and the terminator.
+pub fn ends(node: &KdlNode) -> (&str, &str, &str) {
+    match node.format() {
+        Some(format) => (
+            format.leading.as_str(),
+            format.before_terminator.as_str(),
+            format.terminator.as_str(),
+        ),
+        None => ("none", "none", "none"),
+    }
+}
+
+/// The texts before a node's block, and behind the node.
+pub fn around_block(node: &KdlNode) -> (&str, &str) {
+    match node.format() {
+        Some(format) => (format.before_children.as_str(), format.trailing.as_str()),
+        None => ("none", "none"),
+    }
+}
+
+/// The texts around the name of a node's type, and behind its `)`.
+pub fn node_type_places(node: &KdlNode) -> (&str, &str, &str) {
+    match node.format() {
+        Some(format) => (
+            format.before_ty_name.as_str(),
+            format.after_ty_name.as_str(),
+            format.after_ty.as_str(),
+        ),
+        None => ("none", "none", "none"),
+    }
+}
+
+/// The text in front of an entry, the spelling of its value, and the text behind it.
+pub fn places(entry: &KdlEntry) -> (&str, &str, &str) {
+    match entry.format() {
+        Some(format) => (
+            format.leading.as_str(),
+            format.value_repr.as_str(),
+            format.trailing.as_str(),
+        ),
+        None => ("none", "none", "none"),
+    }
+}
+
+/// The texts around the name of an entry's type, and behind its `)`.
+pub fn type_places(entry: &KdlEntry) -> (&str, &str, &str) {
+    match entry.format() {
+        Some(format) => (
+            format.before_ty_name.as_str(),
+            format.after_ty_name.as_str(),
+            format.after_ty.as_str(),
+        ),
+        None => ("none", "none", "none"),
+    }
+}
+
+/// The texts around the `=` of an entry.
+pub fn key_places(entry: &KdlEntry) -> (&str, &str) {
+    match entry.format() {
+        Some(format) => (format.after_key.as_str(), format.after_eq.as_str()),
+        None => ("none", "none"),
+    }
+}
+
+/// The value of an identifier that may be absent.
+pub fn called(identifier: Option<&KdlIdentifier>) -> &str {
+    match identifier {
+        Some(identifier) => identifier.value(),
+        None => "none",
+    }
+}
+
+/// The pattern with the text in the place of each `~`.
+pub fn filled(alloc: Global, pattern: &str, text: &str) -> Result<String, AllocError> {
+    let mut filled = String::new(alloc);
+    for c in pattern.chars() {
+        if c == '~' {
+            filled.push_str(text)?;
+        } else {
+            filled.push(c)?;
+        }
+    }
+    Ok(filled)
+}
+
+/// The opening so many times, the middle, and the closing so many times.
+pub fn nested(
+    alloc: Global,
+    opening: &str,
+    middle: &str,
+    closing: &str,
+    depth: usize,
+) -> Result<String, AllocError> {
+    let mut text = String::new(alloc);
+    for _ in 0..depth {
+        text.push_str(opening)?;
+    }
+    text.push_str(middle)?;
+    for _ in 0..depth {
+        text.push_str(closing)?;
+    }
+    Ok(text)
+}

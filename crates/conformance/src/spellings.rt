@@ -1,0 +1,213 @@
+//! Strings in their five spellings, and numbers in their four bases.
+
+use crate::text::{decimal, whole};
+use kdl::{KdlDocument, KdlIdentifier, KdlValue, ParseFailure, SourceSpan};
+use std::alloc::Global;
+use std::process::Abort;
+use std::test::Fail;
+
+/// The text is an identifier with this value. It is its spelling and its span, and it is what is printed.
+fn reads(rt: &impl Abort, alloc: Global, text: &str, value: &str) -> Result<(), Fail> {
+    let identifier = KdlIdentifier::parse(alloc, text)?;
+    assert_eq!(rt; identifier.value(), value, "{text}");
+    assert_eq!(rt; identifier.repr(), Some(text));
+    assert_eq!(rt;
+        identifier.span(),
+        SourceSpan {
+            offset: 0,
+            len: text.len()
+        }
+    );
+    assert_eq!(rt; identifier.to_string(alloc)?.as_str(), text);
+    Ok(())
+}
+
+/// The text is no identifier, and the one diagnostic is at the span.
+fn refused_at(rt: &impl Abort, alloc: Global, text: &str, offset: usize, len: usize) {
+    match KdlIdentifier::parse(alloc, text) {
+        Ok(_) => assert!(rt; false, "{text:?} is read"),
+        Err(ParseFailure::Memory) => assert!(rt; false, "{text:?} wants memory"),
+        Err(ParseFailure::Syntax(error)) => {
+            assert_eq!(rt; error.input.as_str(), text);
+            assert_eq!(rt; error.diagnostics.len(), 1);
+            for diagnostic in &error.diagnostics {
+                assert_eq!(rt; diagnostic.span, SourceSpan { offset, len });
+            }
+        }
+    }
+}
+
+/// The value of the one argument of the node `n`, or that the text is refused.
+fn argument(alloc: Global, text: &str) -> Result<Option<KdlValue>, Fail> {
+    let document = match KdlDocument::parse(alloc, &format!(in alloc; "n {text}")?) {
+        Ok(document) => document,
+        Err(ParseFailure::Syntax(_)) => return Ok(None),
+        Err(ParseFailure::Memory) => return Err(Fail::from("out of memory")),
+    };
+    let [node] = document.nodes() else {
+        return Err(Fail::from("not one node"));
+    };
+    let [entry] = node.entries() else {
+        return Err(Fail::from("not one entry"));
+    };
+    Ok(Some(entry.value().clone()?))
+}
+
+#[test]
+fn strings_on_one_line(rt: HostRuntime) -> Result<(), Fail> {
+    let alloc = rt.alloc();
+    let values = [
+        ("\"a\\ \r\n  b\"", "ab"),
+        ("##\"a\"#b\"##", "a\"#b"),
+        ("#\"\"a\"#", "\"a"),
+        ("-inf", "-inf"),
+        ("+.", "+."),
+        ("_1234.56", "_1234.56"),
+        ("_1234", "_1234"),
+    ];
+    for (text, value) in values {
+        reads(&rt, alloc, text, value)?;
+    }
+    let refused = [
+        "\"\\u{d800}\"",
+        "\"\\u{}\"",
+        "\"\\u{1234567}\"",
+        "\"a\\q\"",
+        "#\"\"\"#",
+        "#\"\"\"foo\"#",
+        "123",
+        "   space   ",
+        "\"x",
+    ];
+    for text in refused {
+        refused_at(&rt, alloc, text, 0, 1);
+    }
+    Ok(())
+}
+
+#[test]
+fn strings_on_many_lines(rt: HostRuntime) -> Result<(), Fail> {
+    let alloc = rt.alloc();
+    let values = [
+        ("\"\"\"\n\"\"\"", ""),
+        ("\"\"\"\n\n\"\"\"", ""),
+        ("\"\"\"\n\\t\n\"\"\"", "\t"),
+        ("\"\"\"\n \\sx\n \"\"\"", " x"),
+        ("\"\"\"\n  a \\\n  b\n  \"\"\"", "a b"),
+        ("\"\"\"\na\"b\"\"c\n\"\"\"", "a\"b\"\"c"),
+        ("\"\"\"\na\\\"\"\"\n\"\"\"", "a\"\"\""),
+        ("##\"\"\"\na\"\"\"#b\n\"\"\"##", "a\"\"\"#b"),
+        (
+            "\"\"\"\n  foo\n    bar\n   baz\n  \"\"\"",
+            "foo\n  bar\n baz",
+        ),
+        (
+            "\"\"\"\r\n  foo\r\n    bar\r\n   baz\r\n  \"\"\"",
+            "foo\n  bar\n baz",
+        ),
+        ("\"\"\"\n \t \\\n          \n \t \"\"\"", ""),
+        ("#\"\"\"\n\"\n\"\"\"#", "\""),
+        (
+            "#\"\"\"\n  foo\n    \\nbar\n   baz\n  \"\"\"#",
+            "foo\n  \\nbar\n baz",
+        ),
+    ];
+    for (text, value) in values {
+        reads(&rt, alloc, text, value)?;
+    }
+    let refused = [
+        "\"\"\"\nx\n\\s\"\"\"",
+        "\"\"\"\na\"\"\"",
+        "\"\"\"\nfoo\n  bar\n  baz\n  \"\"\"",
+    ];
+    for text in refused {
+        refused_at(&rt, alloc, text, 0, 1);
+    }
+    Ok(())
+}
+
+#[test]
+fn what_is_no_one_string(rt: HostRuntime) {
+    let alloc = rt.alloc();
+    refused_at(&rt, alloc, "", 0, 0);
+    for text in [
+        "1", "-1.5", "#true", "true", "inf", ".5", " a", "\na", "(t)a", "=", "\u{feff}",
+    ] {
+        refused_at(
+            &rt,
+            alloc,
+            text,
+            0,
+            text.chars().next().map_or(0, |c| c.len_utf8()),
+        );
+    }
+    refused_at(&rt, alloc, "a ", 1, 1);
+    refused_at(&rt, alloc, "a b", 1, 1);
+    refused_at(&rt, alloc, "a=1", 1, 1);
+    refused_at(&rt, alloc, "é\n", 2, 1);
+    refused_at(&rt, alloc, "\"a\"\"b", 3, 1);
+    refused_at(&rt, alloc, "é\u{3000}", 2, 3);
+    refused_at(&rt, alloc, "a// c", 1, 1);
+}
+
+#[test]
+fn a_string_is_an_argument(rt: HostRuntime) -> Result<(), Fail> {
+    let alloc = rt.alloc();
+    let values = [
+        ("-inf", "-inf"),
+        ("\"a\\ \r\n  b\"", "ab"),
+        (
+            "\"\"\"\n  foo\n    bar\n   baz\n  \"\"\"",
+            "foo\n  bar\n baz",
+        ),
+        ("\"\"\"\n \t \\\n          \n \t \"\"\"", ""),
+        ("_1234.56", "_1234.56"),
+    ];
+    for (text, value) in values {
+        let read = argument(alloc, text)?.ok_or("refused")?;
+        assert_eq!(rt; read.as_string(), Some(value), "{text}");
+    }
+    Ok(())
+}
+
+#[test]
+fn whole_numbers_in_four_bases(rt: HostRuntime) -> Result<(), Fail> {
+    let alloc = rt.alloc();
+    let values = [
+        ("+0x1F", 31),
+        ("-0b101", -5),
+        ("0O17", 15),
+        ("0o12_34", 668),
+        ("0xdead_beef123", 15302363377955),
+        ("0xDEADbeef", 3735928559),
+        ("-170141183460469231731687303715884105728", i128::MIN),
+    ];
+    for (text, value) in values {
+        assert_eq!(rt; whole(alloc, text)?, Some(value), "{text}");
+        let read = argument(alloc, text)?.ok_or("refused")?;
+        assert_eq!(rt; read.as_integer(), Some(value), "{text}");
+    }
+    let refused = [
+        "170141183460469231731687303715884105728",
+        "0xABCDEF0123456789abcdef0123456789",
+        "0o_12_34",
+        "0x",
+        "0b12389",
+    ];
+    for text in refused {
+        assert_eq!(rt; whole(alloc, text)?, None, "{text}");
+        assert!(rt; argument(alloc, text)?.is_none(), "{text}");
+    }
+    Ok(())
+}
+
+#[test]
+fn a_decimal_keeps_its_text_without_marks(rt: HostRuntime) -> Result<(), Fail> {
+    let alloc = rt.alloc();
+    let read = decimal(alloc, "1_0.5E+3")?.ok_or("refused")?;
+    assert_eq!(rt; read.as_str(), "10.5E+3");
+    let value = KdlValue::from(kdl::KdlFloat::new(alloc, &read)?);
+    assert_eq!(rt; value.to_string(alloc)?.as_str(), "10.5E+3");
+    assert!(rt; decimal(alloc, "1.")?.is_none());
+    Ok(())
+}

@@ -1,0 +1,131 @@
+//! Texts cut at each character boundary: each front is a document that prints it, or is refused with a place inside it.
+
+use crate::reading::{is_read, nested};
+use std::alloc::Global;
+use std::process::Abort;
+use std::test::Fail;
+
+/// Texts with every form of the language.
+const TEXTS: [&str; 33] = [
+    "\nhello 1 2 3\n\n// Comment\nworld prop=string-value {\n    child 1\n    child 2\n    child #inf\n}\n",
+    "a { } \nb\n",
+    "/-n 1;",
+    "/-a {} b",
+    "a {} /-b",
+    "n \"\"\"\n  foo\n    bar\n   baz\n  \"\"\"",
+    "n \"\"\"\r\n  foo\r\n    bar\r\n   baz\r\n  \"\"\"",
+    "n \"\"\"\n \t \\\n          \n \t \"\"\"",
+    "n #\"\"\"\n\"\n\"\"\"#",
+    "n #\"\"a\"#",
+    "n #\"\"\"\n  foo\n    \\nbar\n   baz\n  \"\"\"#",
+    "n -170141183460469231731687303715884105728",
+    "n 0xABCDEF0123456789abcdef0123456789",
+    "n 0o12_34 0xdead_beef123",
+    "n 1_0.5E+3 1.",
+    "n /- foo=1 bar = 2",
+    "\n\t  (\"ty\")\"node\" 0xDEADbeef;\n",
+    "n \\\n \"foo\"=(\"m\\\"eh\")0xDEADbeef\t\\\n",
+    "\u{feff}é \"ü\"",
+    "n \"\\u{85}\" \"\\u{7f}\" \"-.5\" \"true\" \"\" \"1a\" \"foo\\n\" +. -inf",
+    "a { b { c { }; }; }",
+    "// a comment\na {\n// another comment\n b { c { // another comment\n }; }; }",
+    "a 1 // one\nb /*x*/ 2 /-3 \\ // y\n ;\n",
+    "n  0x10\n",
+    "a { b; }",
+    "a 1 b=2 // c\n",
+    "node {",
+    "node 1asdf 2",
+    "foo { bar; { baz; }; }",
+    "\n  // indented comment\n  \"formatted\" 1 /* comment */ \\\n    2;\n",
+    "a/-1/-{ x } { \u{2028}é\u{85}} /-{} \r\n",
+    "( /*a/*b*/*/ t )  n (u8) 1 k = ( x )2 #true #false #null #nan -0b1_0",
+    "##\"é\"#\"## \\ /**/ // ü\r\n \"a\\ \r\n  b\\u{e9}\"",
+];
+
+/// The lengths of the fronts that are refused. Each other front is a document that prints it.
+fn refused_fronts(rt: &impl Abort, alloc: Global, text: &str) -> Result<Vec<usize>, Fail> {
+    let mut refused = Vec::new(alloc);
+    for (at, _) in text.char_indices() {
+        let front = text.get(..at).ok_or("no front")?;
+        if !is_read(rt, alloc, front)? {
+            refused.push(at)?;
+        }
+    }
+    if !is_read(rt, alloc, text)? {
+        refused.push(text.len())?;
+    }
+    Ok(refused)
+}
+
+#[test]
+fn each_front_is_printed_or_refused(rt: HostRuntime) -> Result<(), Fail> {
+    let alloc = rt.alloc();
+    for text in TEXTS {
+        let refused = refused_fronts(&rt, alloc, text)?;
+        assert!(rt; refused.first() != Some(&0), "{text:?}");
+    }
+    Ok(())
+}
+
+#[test]
+fn fronts_that_are_refused(rt: HostRuntime) -> Result<(), Fail> {
+    let alloc = rt.alloc();
+    let rows: [(&str, &[usize]); 10] = [
+        ("n /- foo=1 bar = 2", &[3, 4, 5, 9, 16, 17]),
+        ("a { } \nb\n", &[3, 4]),
+        ("/-n 1;", &[1, 2]),
+        ("\u{feff}é \"ü\"", &[7, 9]),
+        ("a 1 b=2 // c\n", &[6, 9]),
+        ("a /-{}{}", &[3, 4, 5, 7]),
+        ("n (t)1.5", &[3, 4, 5, 7]),
+        ("n \\ /**/ // x\n 1", &[5, 6, 7, 10]),
+        ("n 0x1 #nan", &[4, 7, 8, 9]),
+        (
+            "n #\"a\"# \"\\u{e9}\"",
+            &[3, 4, 5, 6, 9, 10, 11, 12, 13, 14, 15],
+        ),
+    ];
+    for (text, refused) in rows {
+        let fronts = refused_fronts(&rt, alloc, text)?;
+        assert_eq!(rt; fronts.as_slice(), refused, "{text:?}");
+    }
+    Ok(())
+}
+
+/// The fronts from one length to another are refused, and no others.
+fn refused_between(
+    rt: &impl Abort,
+    alloc: Global,
+    text: &str,
+    from: usize,
+    to: usize,
+) -> Result<(), Fail> {
+    let fronts = refused_fronts(rt, alloc, text)?;
+    assert!(rt; fronts.iter().copied().eq(from..=to), "{text:?} {fronts:?}");
+    Ok(())
+}
+
+#[test]
+fn fronts_of_nested_texts(rt: HostRuntime) -> Result<(), Fail> {
+    let alloc = rt.alloc();
+    let blocks = nested(alloc, "a { ", "a", " }", 50)?;
+    refused_between(&rt, alloc, &blocks, 3, 300)?;
+    let comments = nested(alloc, "/*", "", "*/", 50)?;
+    refused_between(&rt, alloc, &comments, 1, 199)?;
+    let slashdashes = nested(alloc, "a/-{", "a", "}", 50)?;
+    refused_between(&rt, alloc, &slashdashes, 2, 250)
+}
+
+#[test]
+fn fronts_of_deep_texts(rt: HostRuntime) -> Result<(), Fail> {
+    let alloc = rt.alloc();
+    let blocks = nested(alloc, "a { ", "a", " }", 300)?;
+    let slashdashes = nested(alloc, "a /-{ ", "a", " }", 300)?;
+    for step in 1..60 {
+        let front = blocks.get(..30 * step).ok_or("no front")?;
+        assert!(rt; !is_read(&rt, alloc, front)?, "{front:?}");
+        let front = slashdashes.get(..40 * step).ok_or("no front")?;
+        assert!(rt; !is_read(&rt, alloc, front)?, "{front:?}");
+    }
+    Ok(())
+}

@@ -1,0 +1,336 @@
+//! Values as arguments and properties of a node: numbers, keywords and strings, and what is none.
+
+use crate::reading::{called, lone_entry, lone_node, nested, places, read, refuse};
+use kdl::KdlValue;
+use std::alloc::Global;
+use std::process::Abort;
+use std::test::Fail;
+
+#[test]
+fn numbers_and_keywords_behind_one_another(rt: HostRuntime) -> Result<(), Fail> {
+    let document = read(
+        &rt,
+        rt.alloc(),
+        "n +0x1F -0b101 0O17 #-inf #null #true #false",
+    )?;
+    let entries = lone_node(&document)?.entries();
+    let [a, b, c, d, e, f, g] = entries else {
+        return Err(Fail::from("not seven entries"));
+    };
+    assert_eq!(rt; a.value().as_integer(), Some(31));
+    assert_eq!(rt; b.value().as_integer(), Some(-5));
+    assert_eq!(rt; c.value().as_integer(), Some(15));
+    assert_eq!(rt; d.value().as_float().map(|x| x.as_str()), Some("#-inf"));
+    assert!(rt; e.value().is_null());
+    assert_eq!(rt; f.value().as_bool(), Some(true));
+    assert_eq!(rt; g.value().as_bool(), Some(false));
+    assert_eq!(rt; places(a), (" ", "+0x1F", ""));
+    assert_eq!(rt; places(d), (" ", "#-inf", ""));
+    Ok(())
+}
+
+#[test]
+fn whole_numbers(rt: HostRuntime) -> Result<(), Fail> {
+    let alloc = rt.alloc();
+    let rows = [
+        ("-170141183460469231731687303715884105728", i128::MIN),
+        ("170141183460469231731687303715884105727", i128::MAX),
+        ("-0x80000000000000000000000000000000", i128::MIN),
+        ("0x7fffffffffffffffffffffffffffffff", i128::MAX),
+        ("0o12_34", 668),
+        ("0xdead_beef123", 15302363377955),
+        ("0B1_0", 2),
+        ("1__0_", 10),
+        ("+007", 7),
+        ("-0", 0),
+    ];
+    for (text, value) in rows {
+        for pattern in ["n ", "n k=", "n (t)", "n k= (t) "] {
+            let document = read(&rt, alloc, &format!(in alloc; "{pattern}{text}")?)?;
+            let entry = lone_entry(lone_node(&document)?)?;
+            assert_eq!(rt; entry.value().as_integer(), Some(value), "{pattern}{text}");
+            let (_, repr, _) = places(entry);
+            assert_eq!(rt; repr, text);
+        }
+    }
+    Ok(())
+}
+
+/// The one entry of the node, of which the text behind it is the value, is a float.
+fn reads_float(
+    rt: &impl Abort,
+    alloc: Global,
+    node: &str,
+    text: &str,
+    value: &str,
+) -> Result<(), Fail> {
+    let document = read(rt, alloc, &format!(in alloc; "{node}{text}")?)?;
+    let entry = lone_entry(lone_node(&document)?)?;
+    let float = entry.value().as_float().ok_or("no float")?;
+    assert_eq!(rt; float.as_str(), value, "{node}{text}");
+    let (_, repr, _) = places(entry);
+    assert_eq!(rt; repr, text);
+    Ok(())
+}
+
+#[test]
+fn floats(rt: HostRuntime) -> Result<(), Fail> {
+    let alloc = rt.alloc();
+    let rows = [
+        ("1_0.5E+3", "10.5E+3"),
+        ("1.0", "1.0"),
+        ("+1e5", "+1e5"),
+        ("-0.5E-3", "-0.5E-3"),
+        ("00.1_0", "00.10"),
+        ("1_0e-1_0_", "10e-10"),
+        (
+            "170141183460469231731687303715884105728.5",
+            "170141183460469231731687303715884105728.5",
+        ),
+        ("#inf", "#inf"),
+        ("#-inf", "#-inf"),
+        ("#nan", "#nan"),
+    ];
+    for (text, value) in rows {
+        reads_float(&rt, alloc, "n ", text, value)?;
+        reads_float(&rt, alloc, "n k=", text, value)?;
+        reads_float(&rt, alloc, "n (t)", text, value)?;
+    }
+    Ok(())
+}
+
+/// The strings of the table that are written on one line or many, with their values.
+const STRINGS: [(&str, &str); 24] = [
+    ("-inf", "-inf"),
+    ("+.", "+."),
+    ("..5", "..5"),
+    ("_1234", "_1234"),
+    ("-", "-"),
+    ("--flag", "--flag"),
+    ("<>&*|!?,:", "<>&*|!?,:"),
+    ("\"\"", ""),
+    ("\"a\\ \r\n  b\"", "ab"),
+    ("\"\\\\\\\"\\b\\f\\n\\r\\t\\s\"", "\\\"\u{8}\u{c}\n\r\t "),
+    ("\"\\u{10FFFF}\\u{e9}\\u{00000a}\"", "\u{10ffff}é\n"),
+    ("\"/- { } ; // = #\"", "/- { } ; // = #"),
+    ("#\"a\\n\"#", "a\\n"),
+    ("#\"\"#", ""),
+    ("#\"\"a\"#", "\"a"),
+    ("##\"a\"#b\"##", "a\"#b"),
+    ("\"\"\"\n\"\"\"", ""),
+    ("\"\"\"\n \\sx\n \"\"\"", " x"),
+    ("\"\"\"\n  a \\\n  b\n  \"\"\"", "a b"),
+    ("\"\"\"\na\"b\"\"c\n\"\"\"", "a\"b\"\"c"),
+    (
+        "\"\"\"\n  foo\n    bar\n   baz\n  \"\"\"",
+        "foo\n  bar\n baz",
+    ),
+    ("#\"\"\"\n\"\n\"\"\"#", "\""),
+    ("##\"\"\"\na\"\"\"#b\n\"\"\"##", "a\"\"\"#b"),
+    (
+        "#\"\"\"\n  foo\n    \\nbar\n   baz\n  \"\"\"#",
+        "foo\n  \\nbar\n baz",
+    ),
+];
+
+#[test]
+fn strings_are_names_keys_types_and_values(rt: HostRuntime) -> Result<(), Fail> {
+    let alloc = rt.alloc();
+    for (text, value) in STRINGS {
+        let whole = format!(in alloc; "({text}){text} {text}=({text}){text} {{}}")?;
+        let document = read(&rt, alloc, &whole)?;
+        let node = lone_node(&document)?;
+        assert_eq!(rt; node.name().value(), value, "{text}");
+        assert_eq!(rt; node.name().repr(), Some(text));
+        assert_eq!(rt; called(node.ty()), value, "{text}");
+        let entry = lone_entry(node)?;
+        assert_eq!(rt; called(entry.name()), value, "{text}");
+        assert_eq!(rt; called(entry.ty()), value, "{text}");
+        assert_eq!(rt; entry.value().as_string(), Some(value), "{text}");
+        assert_eq!(rt; places(entry), (" ", text, ""));
+    }
+    Ok(())
+}
+
+#[test]
+fn long_strings(rt: HostRuntime) -> Result<(), Fail> {
+    let alloc = rt.alloc();
+    let quotes = nested(alloc, "\"###", "", "", 1000)?;
+    let text = format!(in alloc; "n ####\"{quotes}\"####")?;
+    let document = read(&rt, alloc, &text)?;
+    let value = lone_entry(lone_node(&document)?)?.value();
+    assert_eq!(rt; value.as_string(), Some(quotes.as_str()));
+    let newlines = nested(alloc, "\n", "", "", 999)?;
+    let spaces = nested(alloc, " ", "", "", 20)?;
+    let text = format!(in alloc; "n \"\"\"\n\n{newlines}{spaces}\"\"\"")?;
+    assert_eq!(rt; text.len(), 1029);
+    let document = read(&rt, alloc, &text)?;
+    let value = lone_entry(lone_node(&document)?)?.value();
+    assert_eq!(rt; value.as_string(), Some(newlines.as_str()));
+    Ok(())
+}
+
+/// The value ends before the text behind it.
+fn ends_before(rt: &impl Abort, alloc: Global, value: &str, end: &str) -> Result<(), Fail> {
+    let document = read(rt, alloc, &format!(in alloc; "n {value}{end}")?)?;
+    let (_, repr, _) = places(lone_entry(lone_node(&document)?)?);
+    assert_eq!(rt; repr, value, "{end:?}");
+    Ok(())
+}
+
+#[test]
+fn what_ends_a_value(rt: HostRuntime) -> Result<(), Fail> {
+    let alloc = rt.alloc();
+    for value in ["1", "1.5", "#true", "a", "\"a\"", "#\"a\"#"] {
+        ends_before(&rt, alloc, value, "")?;
+        ends_before(&rt, alloc, value, ";")?;
+        ends_before(&rt, alloc, value, "\n")?;
+        ends_before(&rt, alloc, value, " ")?;
+        ends_before(&rt, alloc, value, "//")?;
+        ends_before(&rt, alloc, value, "/**/")?;
+        ends_before(&rt, alloc, value, "/-b")?;
+        ends_before(&rt, alloc, value, "\\\n")?;
+        ends_before(&rt, alloc, value, "{}")?;
+        ends_before(&rt, alloc, value, "/-{}")?;
+    }
+    Ok(())
+}
+
+#[test]
+fn what_ends_no_value(rt: HostRuntime) -> Result<(), Fail> {
+    let alloc = rt.alloc();
+    for end in ["(", "[", "]", "\"", "#", "/", "\\x", ")", "="] {
+        refuse(&rt, alloc, &format!(in alloc; "n 1{end}")?);
+        refuse(&rt, alloc, &format!(in alloc; "n 1.5{end}")?);
+        refuse(&rt, alloc, &format!(in alloc; "n #true{end}")?);
+        refuse(&rt, alloc, &format!(in alloc; "n a{end}")?);
+        refuse(&rt, alloc, &format!(in alloc; "n \"a\"{end}")?);
+        refuse(&rt, alloc, &format!(in alloc; "n #\"a\"#{end}")?);
+    }
+    Ok(())
+}
+
+#[test]
+fn what_is_no_value(rt: HostRuntime) -> Result<(), Fail> {
+    let alloc = rt.alloc();
+    let texts = [
+        "170141183460469231731687303715884105728",
+        "-170141183460469231731687303715884105729",
+        "0xABCDEF0123456789abcdef0123456789",
+        "0o_12_34",
+        "0x",
+        "0xg",
+        "0b2",
+        "0b12389",
+        "0o8",
+        "1.",
+        "1._5",
+        "1.5.5",
+        "1e",
+        "1e+",
+        "1e_5",
+        ".5",
+        "-.5",
+        "+1a",
+        "1asdf",
+        "#True",
+        "#",
+        "#-nan",
+        "#+inf",
+        "# true",
+        "true",
+        "false",
+        "null",
+        "inf",
+        "nan",
+        "\"a",
+        "\"a\\q\"",
+        "\"\\u{d800}\"",
+        "\"\\u{110000}\"",
+        "\"\\u{}\"",
+        "\"\\u{1234567}\"",
+        "\"\\u0041\"",
+        "\"\"\"a\"\"\"",
+        "\"\"\"\na\"\"\"",
+        "\"\"\"\nx\n\\s\"\"\"",
+        "\"\"\"\nfoo\n  bar\n  \"\"\"",
+        "#\"\"\"#",
+        "#\"\"\"foo\"#",
+        "#\"a\"",
+        "##\"a\"#",
+        "\"a\"b",
+        "(t)",
+        "()1",
+        "(1)2",
+        "(t",
+        "(t)(u)1",
+        "=1",
+        "[",
+        "a[",
+    ];
+    for text in texts {
+        refuse(&rt, alloc, &format!(in alloc; "n {text}")?);
+        refuse(&rt, alloc, &format!(in alloc; "n k={text}")?);
+        refuse(&rt, alloc, &format!(in alloc; "n /-{text}")?);
+        refuse(&rt, alloc, &format!(in alloc; "n {{ m {text}\n}}")?);
+    }
+    Ok(())
+}
+
+#[test]
+fn what_is_no_node(rt: HostRuntime) {
+    let texts = [
+        ";",
+        "a;;",
+        "1",
+        "#true",
+        "true",
+        "-1",
+        "()n",
+        "(t)",
+        "(1)n",
+        "(t)1",
+        "(t)(u)n",
+        "n\"a\"",
+        "\"n\"1",
+        "n (t)k=1",
+        "n k=",
+        "n k=;",
+        "n 1=2",
+        "n #true=1",
+        "n k=a=b",
+        "n #True 1",
+        "n 0x 1",
+        "n 1_0.5E+3 1.",
+        "no/de 1 {\n    1 2 foo\n    bar#\n}",
+        "node 1asdf 2",
+        "node \" 1",
+        "node \"foo\"1",
+        "node \"\nlet's do multiline!\"",
+        "n=1",
+        "n (t)",
+        "[n]",
+    ];
+    for text in texts {
+        refuse(&rt, rt.alloc(), text);
+    }
+}
+
+#[test]
+fn a_value_keeps_its_kind(rt: HostRuntime) -> Result<(), Fail> {
+    let alloc = rt.alloc();
+    let rows = [
+        ("\"1\"", KdlValue::from_text(alloc, "1")?),
+        ("\"true\"", KdlValue::from_text(alloc, "true")?),
+        ("#\"null\"#", KdlValue::from_text(alloc, "null")?),
+        ("#true", KdlValue::from(true)),
+        ("0x10", KdlValue::from(16)),
+        ("#null", KdlValue::Null),
+    ];
+    for (text, value) in &rows {
+        let document = read(&rt, alloc, &format!(in alloc; "n {text}")?)?;
+        let entry = lone_entry(lone_node(&document)?)?;
+        assert!(rt; entry.value() == value, "{text}");
+    }
+    Ok(())
+}

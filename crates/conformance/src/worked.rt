@@ -1,0 +1,70 @@
+//! A whole document with blocks, read into its parts.
+
+use crate::reading::{around_block, block, called, ends, lone_entry, margins, places, range, read};
+use kdl::{KdlDocument, KdlNode, ParseFailure};
+use std::process::Abort;
+use std::test::Fail;
+
+/// Two nodes, the second with a property and three children.
+const TEXT: &str =
+    "\nhello 1 2 3\n\n// Comment\nworld prop=string-value {\n    child 1\n    child 2\n    child #inf\n}\n";
+
+/// The node with a property and three children.
+fn is_world(rt: &impl Abort, world: &KdlNode) -> Result<(), Fail> {
+    assert_eq!(rt; ends(world), ("\n// Comment\n", "", "\n"));
+    assert_eq!(rt; around_block(world), (" ", ""));
+    let prop = lone_entry(world)?;
+    assert_eq!(rt; called(prop.name()), "prop");
+    assert_eq!(rt; prop.value().as_string(), Some("string-value"));
+    let children = block(world)?;
+    assert_eq!(rt; margins(children), ("", ""));
+    let [one, two, three] = children.nodes() else {
+        return Err(Fail::from("not three children"));
+    };
+    assert_eq!(rt; ends(one), ("\n    ", "", "\n"));
+    assert_eq!(rt; ends(three), ("    ", "", "\n"));
+    assert_eq!(rt; lone_entry(one)?.value().as_integer(), Some(1));
+    assert_eq!(rt; lone_entry(two)?.value().as_integer(), Some(2));
+    let float = lone_entry(three)?.value().as_float();
+    assert_eq!(rt; float.map(|f| f.as_str()), Some("#inf"));
+    Ok(())
+}
+
+#[test]
+fn two_nodes_and_three_children(rt: HostRuntime) -> Result<(), Fail> {
+    let document = read(&rt, rt.alloc(), TEXT)?;
+    assert_eq!(rt; margins(&document), ("", ""));
+    let [hello, world] = document.nodes() else {
+        return Err(Fail::from("not two nodes"));
+    };
+    assert_eq!(rt; hello.name().value(), "hello");
+    assert_eq!(rt; ends(hello), ("\n", "", "\n"));
+    assert_eq!(rt; range(hello.span()), (1, 12));
+    let [one, two, three] = hello.entries() else {
+        return Err(Fail::from("not three entries"));
+    };
+    assert_eq!(rt; one.value().as_integer(), Some(1));
+    assert_eq!(rt; two.value().as_integer(), Some(2));
+    assert_eq!(rt; three.value().as_integer(), Some(3));
+    assert_eq!(rt; places(three), (" ", "3", ""));
+    assert_eq!(rt; world.name().value(), "world");
+    is_world(&rt, world)
+}
+
+/// The text of the parsed document, or none for want of memory.
+fn printed(rt: &HostRuntime) -> Result<Option<String>, Fail> {
+    match KdlDocument::parse(rt.alloc(), TEXT) {
+        Ok(document) => Ok(document.to_string(rt.alloc()).ok()),
+        Err(ParseFailure::Memory) => Ok(None),
+        Err(ParseFailure::Syntax(_)) => Err(Fail::from("refused")),
+    }
+}
+
+/// Here alone want of memory is no fault: run with one allocation refused, the answer is that or the text.
+#[test]
+fn want_of_memory_or_the_text(rt: HostRuntime) -> Result<(), Fail> {
+    if let Some(text) = printed(&rt)? {
+        assert_eq!(rt; text.as_str(), TEXT);
+    }
+    Ok(())
+}

@@ -1,0 +1,111 @@
+-- What the answer on a whole text says of the grammar.
+use Rattle.std.proofs.Common.{◌≡◌, ℕ, true, false, [], ◌∷◌, Some, None, Result, Ok, Err, refl, sym, ap, subst, ◌∙◌}
+use Rattle.std.proofs.lemmas.Bool.{eqb-true}
+use Rattle.kdl_text.specs.Chars.{Text, begins, plus}
+use Rattle.kdl_text.specs.Here.{Here, first}
+use Rattle.kdl_entry.specs.Handed.{Cuts, one, spaces, Lexed}
+use Rattle.kdl_entry.specs.Tokens.{Token, mark, BeginsToken, t_space, t_mark}
+use Rattle.kdl_entry.specs.declared.items.lexer.LexFailure.{LexFailure}
+use Rattle.kdl_entry.specs.declared.items.lexer.LexFailure.TheVariants.{Faulty, Memory}
+use Rattle.kdl_entry.proofs.Cutting.{token_det}
+use Rattle.kdl.specs.Answered.{BuildAnswers, ReadAnswers}
+use Rattle.kdl.specs.Data.{Nodes}
+use Rattle.kdl.specs.Former.{IsFormerDocument}
+use Rattle.kdl.specs.Grammar.{IsDocument}
+use Rattle.kdl.specs.Laid.{LaidDocument, with_mark}
+use Rattle.kdl.specs.Machine.{step, initial, Runs, reads, Answers}
+use Rattle.kdl.specs.Print.{print_document}
+use Rattle.kdl.specs.Tree.{Document, document_data, document_tree}
+use Rattle.kdl.specs.declared.document.KdlDocument.{KdlDocument}
+use Rattle.kdl.proofs.Erased.{sound, answered, one_document}
+use Rattle.kdl.proofs.LaidPrinted.{printed}
+use Rattle.kdl.proofs.Widening.{wider}
+
+-- U+FEFF ends what the machine reads
+no_mark : (whole s : Text) (d : Document) → Runs whole d (initial (0xFEFF ∷ s)) (0xFEFF ∷ s) → ⊥
+no_mark whole s d (reads {r = r} t e a) =
+    let k = (token_det t t_mark).1 in
+    let f = ap (λ (j : Token). step whole (initial (0xFEFF ∷ s)) j (0xFEFF ∷ s) r) (sym k) ∙ e in
+    cc
+
+-- a text that does not begin with U+FEFF
+no_unmarked : {t : Text} {d : Document} → Answers t d → ((u : Text) → t ≡ 0xFEFF ∷ u → ⊥) → ((d : Document) → Runs t d (initial t) t → ⊥) → ⊥
+no_unmarked (Answers.unmarked {d = d} a) n f = f d a
+no_unmarked (Answers.marked {t = s} a) n f = n s refl
+
+pub unmarked_answers : (t : Text) (result : Result KdlDocument LexFailure) → ((u : Text) → t ≡ 0xFEFF ∷ u → ⊥) → BuildAnswers t t result → ReadAnswers t result
+unmarked_answers t (Ok d) n a = Answers.unmarked a
+unmarked_answers t (Err (Faulty fault)) n a = (λ d x. no_unmarked x n a.0, a.1)
+unmarked_answers t (Err Memory) n a = tt
+
+pub not_first : (t : Text) → (first t ≡ Some 0xFEFF → ⊥) → (u : Text) → t ≡ 0xFEFF ∷ u → ⊥
+not_first t n u e = n (ap first e)
+
+pub not_begins : (t : Text) → begins 0xFEFF t ≡ false → (u : Text) → t ≡ 0xFEFF ∷ u → ⊥
+not_begins t n u e = let f = ap (begins 0xFEFF) e in cc
+
+-- a text that begins with U+FEFF
+pub begins_first : (t : Text) → first t ≡ Some 0xFEFF → begins 0xFEFF t ≡ true
+begins_first [] e = absurd cc
+begins_first (c ∷ s) e = let f : c ≡ 0xFEFF = cc in ap (λ (z : ℕ). begins 0xFEFF (z ∷ s)) f
+
+begun : (t : Text) → begins 0xFEFF t ≡ true → (s : Text) × (t ≡ 0xFEFF ∷ s)
+begun [] e = absurd cc
+begun (c ∷ s) e = (s, let f : c ≡ 0xFEFF = eqb-true c 0xFEFF e in ap (λ (z : ℕ). z ∷ s) f)
+
+-- the first token is the mark, and what follows it is left
+pub behind_mark : (t u : Text) (k : Token) → begins 0xFEFF t ≡ true → Cuts t k u → t ≡ 0xFEFF ∷ u
+behind_mark t u k b (one x) =
+    let s = begun t b in
+    let y : BeginsToken t mark s.0 = subst (λ (z : Text). BeginsToken z mark s.0) (sym s.1) t_mark in
+    s.1 ∙ ap (λ (z : Text). 0xFEFF ∷ z) (sym (token_det x y).0)
+behind_mark t u k b (spaces (plus n m)) =
+    let s = begun t b in
+    let y : BeginsToken t mark s.0 = subst (λ (z : Text). BeginsToken z mark s.0) (sym s.1) t_mark in
+    let z = (token_det (t_space n) y).1 in
+    absurd cc
+
+pub mark_there : (t : Text) (before after : Here) → before.rest ≡ t → begins 0xFEFF t ≡ true → Lexed before (Ok None) after → ⊥
+mark_there t before after e b x = let s = begun t b in let y : before.rest ≡ [] = x in let z : 0xFEFF ∷ s.0 ≡ [] = sym s.1 ∙ sym e ∙ y in cc
+
+pub mark_read : (t : Text) (before after : Here) (e : LexFailure) → before.rest ≡ t → begins 0xFEFF t ≡ true → Lexed before (Err e) after → ReadAnswers t (Err e)
+mark_read t before after (Faulty fault) f b x =
+    let s = begun t b in
+    absurd (x.0.none s.0 mark (subst (λ (z : Text). BeginsToken z mark s.0) (sym (f ∙ s.1)) t_mark))
+mark_read t before after Memory f b x = tt
+
+no_marked : {t : Text} {d : Document} → Answers t d → (u : Text) → t ≡ 0xFEFF ∷ u → ((d : Document) → Runs t d (initial u) u → ⊥) → ⊥
+no_marked (Answers.unmarked {t = t} {d = d} a) u e f = no_mark t u d (subst (λ (z : Text). Runs t d (initial z) z) e a)
+no_marked (Answers.marked {t = s} {d = d} a) u e f = let g : s ≡ u = cc in f d (subst (λ (z : Text). Runs (0xFEFF ∷ s) d (initial z) z) g a)
+
+pub marked_answer : (t u : Text) (d d' : KdlDocument) → t ≡ 0xFEFF ∷ u → BuildAnswers t u (Ok d) → document_tree d' ≡ with_mark (document_tree d) → ReadAnswers t (Ok d')
+marked_answer t u d d' e a f =
+    let b : Runs (0xFEFF ∷ u) (document_tree d) (initial u) u = subst (λ (z : Text). Runs z (document_tree d) (initial u) u) e a in
+    subst (λ (z : Text). Answers z (document_tree d')) (sym e) (subst (λ (z : Document). Answers (0xFEFF ∷ u) z) (sym f) (Answers.marked b))
+
+pub marked_failure : (t u : Text) (e : LexFailure) → t ≡ 0xFEFF ∷ u → BuildAnswers t u (Err e) → ReadAnswers t (Err e)
+marked_failure t u (Faulty fault) e a = (λ d x. no_marked x u e a.0, a.1)
+marked_failure t u Memory e a = tt
+
+-- what is answered is what the grammar derives, laid in the text, and prints it
+pub found : (t : Text) (d : Document) → Answers t d → IsDocument true t (document_data d)
+found t d a = (sound t d a).1
+
+pub only : (t : Text) (d : Document) → Answers t d → (x : Nodes) → IsDocument true t x → x ≡ document_data d
+only t d a x i = one_document t x (document_data d) i (found t d a)
+
+pub laid : (t : Text) (d : Document) → Answers t d → LaidDocument true d t
+laid t d a = (sound t d a).0
+
+pub prints : (t : Text) (d : Document) → Answers t d → print_document d 0 ≡ t
+prints t d a = printed true d t (laid t d a)
+
+pub refused : (t : Text) → ((d : Document) → Answers t d → ⊥) → (x : Nodes) → IsDocument true t x → ⊥
+refused t n x i = let a = answered t x i in n a.0 a.1
+
+-- the former language
+pub former : (t : Text) (d : Document) → Answers t d → (x : Nodes) → IsFormerDocument t x → document_data d ≡ x
+former t d a x i = sym (only t d a x (wider false i))
+
+pub former_refused : (t : Text) → ((d : Document) → Answers t d → ⊥) → (x : Nodes) → IsFormerDocument t x → ⊥
+former_refused t n x i = refused t n x (wider false i)

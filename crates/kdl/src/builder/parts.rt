@@ -1,0 +1,272 @@
+//! Nodes, blocks and documents by their parts.
+
+ghost use Rattle.kdl.specs.Answered.{Finished};
+ghost use Rattle.kdl.specs.Machine as machine;
+ghost use Rattle.kdl.specs.Machine.{at, initial};
+ghost use Rattle.kdl.specs.Building.{under_view, kept_view, nodes_view, frame_view, stacked, under_now, node_now, frames_view, pending_now, name_slot, entry_slot, valued_at, item_answer, state_view, held, Did, EndsIn, Placed};
+ghost use Rattle.kdl.specs.Laid as laid;
+ghost use Rattle.kdl.specs.Laid.{node_format};
+ghost use Rattle.kdl.specs.Tree.{node, none, no_children, children, children_of, node_tree, nodes_tree, document_tree, node_format_tree, document_format_tree};
+ghost use Rattle.kdl_entry.specs.Building.{type_view, key_view, item_view, Stays};
+ghost use Rattle.kdl_entry.specs.Data.{text};
+ghost use Rattle.kdl_entry.specs.Handed.{kind_view};
+ghost use Rattle.kdl_entry.specs.Items as items;
+ghost use Rattle.kdl_entry.specs.Items.{between, type_of, before_name, after_name, behind_type};
+ghost use Rattle.kdl_entry.specs.Places.{span_of};
+ghost use Rattle.kdl_entry.specs.Tree.{identifier_tree, plain_identifier, entry_tree, value_tree, text_of};
+ghost use Rattle.kdl_text.specs.Here.{Ahead};
+ghost use Rattle.kdl.specs.declared.builder.Phase.{Phase};
+ghost use Rattle.kdl.specs.declared.builder.Waiting.{Waiting};
+ghost use Rattle.std.specs.Prelude.{◌≡◌, if◌then◌else◌, [], ◌∷◌, map, Some, None, true, false, IfOk, OnOk, option_map};
+
+use super::{Frame, Kept, Phase, Under, Waiting, WaitingWord};
+use crate::document::{KdlDocument, KdlDocumentFormat};
+use crate::node::{KdlNode, KdlNodeFormat};
+use kdl_entry::items::item::{
+    Given, Item, KeyParts, Stage, TypeParts, empty, entry_from, identifier_between, misplaced,
+    span_at, text_between,
+};
+use kdl_entry::items::{LexFailure, Lexer, Token, TokenKind};
+use kdl_entry::{KdlEntry, KdlIdentifier, KdlValue};
+use kdl_text::chars::Checkpoint;
+use kdl_text::span::SourceSpan;
+use std::alloc::{AllocError, Global};
+use std::mem;
+
+/// The string that waits becomes an argument of the node under way.
+#[tactic(auto, using(crate::proofs::Views::entry_pushed))]
+pub(super) fn settle<'a>(
+    alloc: Global,
+    whole: &Checkpoint<'a>,
+    from: &Checkpoint<'a>,
+    waiting: Waiting<'a>,
+    under: &mut Option<Under<'a>>,
+) -> Result<(), AllocError>
+    ensures { OnOk result (option_map under_view under.new ≡ under_now whole.now.rest from.now.rest waiting.entry (option_map under_view under.old)) }
+{
+    let Waiting::Word(
+        WaitingWord {
+            leading,
+            start,
+            value,
+            repr,
+        },
+    ) = waiting
+    else {
+        return Ok(());
+    };
+    if let Some(under) = under {
+        let span = span_at(whole, &start, from);
+        let value = KdlValue::String(value);
+        let entry = entry_from(alloc, span, leading, None, None, value, repr);
+        under.entries.push(entry)?;
+    }
+    Ok(())
+}
+
+/// A node by its parts.
+pub(super) fn node_from(
+    alloc: Global,
+    under: Under,
+    block: Option<KdlDocument>,
+    before_children: String,
+    before_terminator: String,
+    terminator: String,
+    span: SourceSpan,
+) -> KdlNode
+    ensures { node_tree result ≡ node (record {
+      ty = type_of (option_map type_view under.entry.ty);
+      name = identifier_tree under.entry.name;
+      entries = map entry_tree under.entry.entries.items;
+      format = Some (node_format (text_of under.entry.leading) (before_name (option_map type_view under.entry.ty)) (after_name (option_map type_view under.entry.ty)) (behind_type (option_map type_view under.entry.ty)) (text_of before_children) (text_of before_terminator) (text_of terminator) []);
+      span = span;
+    }) (children_of (option_map document_tree block)) }
+{
+    let Under {
+        leading,
+        start: _start,
+        ty,
+        name,
+        entries,
+    } = under;
+    let mut format = KdlNodeFormat::new(alloc);
+    format.leading = leading;
+    format.before_children = before_children;
+    format.before_terminator = before_terminator;
+    format.terminator = terminator;
+    let ty = match ty {
+        Some(
+            TypeParts {
+                name,
+                before,
+                after,
+                behind,
+            },
+        ) => {
+            format.before_ty_name = before;
+            format.after_ty_name = after;
+            format.after_ty = behind;
+            Some(name)
+        }
+        None => None,
+    };
+    KdlNode::parsed(ty, name, entries, block, format, span)
+}
+
+/// The node that ends at `start`, with its terminator, where it counts.
+pub(super) fn ended_node<'a>(
+    alloc: Global,
+    lexer: &mut Lexer<'a>,
+    whole: &Checkpoint<'a>,
+    from: &Checkpoint<'a>,
+    under: Option<Under<'a>>,
+    start: &Checkpoint<'a>,
+    end: &Checkpoint<'a>,
+) -> Result<Option<KdlNode>, AllocError>
+    requires from { Ahead from.now start.now }
+    requires token { Ahead start.now end.now }
+    ensures is { IfOk result (λ o. option_map node_tree o ≡ machine.closed whole.now.rest (option_map under_view under.entry) no_children [] (between from.now.rest start.now.rest) (between start.now.rest end.now.rest) start.now.rest) }
+    ensures stays { Stays lexer.old lexer.new }
+{
+    let Some(under) = under else {
+        return Ok(None);
+    };
+    let before = text_between(alloc, lexer, from, start)?;
+    let terminator = text_between(alloc, lexer, start, end)?;
+    let span = span_at(whole, &under.start, start);
+    Ok(Some(node_from(alloc, under, None, empty(alloc), before, terminator, span)))
+}
+
+/// The node with its block that ends at `start`, with its terminator, where it counts.
+pub(super) fn ended_kept<'a>(
+    alloc: Global,
+    lexer: &mut Lexer<'a>,
+    whole: &Checkpoint<'a>,
+    from: &Checkpoint<'a>,
+    kept: Option<Kept<'a>>,
+    start: &Checkpoint<'a>,
+    end: &Checkpoint<'a>,
+) -> Result<Option<KdlNode>, AllocError>
+    requires from { Ahead from.now start.now }
+    requires token { Ahead start.now end.now }
+    ensures is { IfOk result (λ o. option_map node_tree o ≡ machine.closed_kept whole.now.rest (option_map kept_view kept.entry) (between from.now.rest start.now.rest) (between start.now.rest end.now.rest) start.now.rest) }
+    ensures stays { Stays lexer.old lexer.new }
+{
+    let Some(
+        Kept {
+            under,
+            before,
+            block,
+        },
+    ) = kept
+    else {
+        return Ok(None);
+    };
+    let later = text_between(alloc, lexer, from, start)?;
+    let terminator = text_between(alloc, lexer, start, end)?;
+    let span = span_at(whole, &under.start, start);
+    Ok(Some(node_from(alloc, under, Some(block), before, later, terminator, span)))
+}
+
+/// One more node, where it and the nodes count.
+#[tactic(auto, using(crate::proofs::Views::node_pushed))]
+pub(super) fn push_node(
+    nodes: &mut Option<Vec<KdlNode>>,
+    node: Option<KdlNode>,
+) -> Result<(), AllocError>
+    ensures { OnOk result (nodes_view nodes.new ≡ machine.ended (option_map node_tree node) (nodes_view nodes.old)) }
+{
+    if let Some(node) = node {
+        if let Some(nodes) = nodes {
+            nodes.push(node)?;
+        }
+    }
+    Ok(())
+}
+
+/// The span from where the first node begins to where the last one ends; without nodes the span given.
+#[tactic(auto, using(crate::proofs::Contents::spans, crate::proofs::Contents::nothing, crate::proofs::Contents::no_last))]
+pub(super) fn content_span(nodes: &[KdlNode], place: SourceSpan) -> SourceSpan
+    ensures { result ≡ laid.content_span place (nodes_tree nodes.now) }
+{
+    let Some(first) = nodes.first() else {
+        return place;
+    };
+    let Some(last) = nodes.last() else {
+        return place;
+    };
+    let offset = first.span().offset;
+    let end = last.span().offset.saturating_add(last.span().len);
+    SourceSpan {
+        offset,
+        len: end.saturating_sub(offset),
+    }
+}
+
+/// The nodes, and the place behind them, before `end`; without nodes it stands before them.
+#[tactic(auto, using(crate::proofs::Contents::without, crate::proofs::Contents::within))]
+pub(super) fn content(
+    alloc: Global,
+    whole: &Checkpoint,
+    nodes: Vec<KdlNode>,
+    place: String,
+    end: &Checkpoint,
+) -> KdlDocument
+    ensures { document_tree result ≡ machine.content_at whole.now.rest (nodes_tree nodes.items) (text_of place) end.now.rest }
+{
+    let here = span_at(whole, end, &end.copied());
+    let span = content_span(&nodes, here);
+    if nodes.is_empty() {
+        let format = KdlDocumentFormat {
+            leading: place,
+            trailing: empty(alloc),
+        };
+        KdlDocument::parsed(nodes, format, span)
+    } else {
+        let format = KdlDocumentFormat {
+            leading: empty(alloc),
+            trailing: place,
+        };
+        KdlDocument::parsed(nodes, format, span)
+    }
+}
+
+/// The node with the block of these nodes, where they count.
+pub(super) fn with_block<'a>(
+    alloc: Global,
+    lexer: &mut Lexer<'a>,
+    whole: &Checkpoint<'a>,
+    from: &Checkpoint<'a>,
+    under: Option<Under<'a>>,
+    before: String,
+    nodes: Option<Vec<KdlNode>>,
+    start: &Checkpoint<'a>,
+) -> Result<Option<Kept<'a>>, AllocError>
+    requires { Ahead from.now start.now }
+    ensures is { IfOk result (λ o. option_map kept_view o ≡ machine.with_block whole.now.rest (option_map under_view under.entry) (text_of before) (nodes_view nodes) (between from.now.rest start.now.rest) start.now.rest) }
+    ensures stays { Stays lexer.old lexer.new }
+{
+    let Some(under) = under else {
+        return Ok(None);
+    };
+    let Some(nodes) = nodes else {
+        return Ok(None);
+    };
+    let place = text_between(alloc, lexer, from, start)?;
+    let block = content(alloc, whole, nodes, place, start);
+    Ok(Some(Kept {
+        under,
+        before,
+        block,
+    }))
+}
+
+/// Whether the item is an entry, and not the name of a node.
+pub(super) fn is_entry(item: &Item) -> bool
+    ensures { result ≡ valued_at (item_view item.now).stage (item_view item.now).valued }
+{
+    match item.stage {
+        Stage::Keyed => true,
+        Stage::Opened | Stage::Named | Stage::Closed => item.valued,
+    }
+}

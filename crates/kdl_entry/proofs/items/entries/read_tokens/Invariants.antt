@@ -1,0 +1,10 @@
+use Rattle.std.proofs.Common.{length}
+use Rattle.kdl_entry.specs.EntryReading.{state_view}
+use Rattle.kdl_entry.proofs.EntryTurns.{Going}
+use Rattle.kdl_entry.proofs.items.entries.read_tokens.Given as goal
+
+abbrev pub invariant-tokens : goal.invariant-tokens
+invariant-tokens l = Going (state_view l.state) l.lexer l.whole.rest
+
+abbrev pub decreases-tokens : goal.decreases-tokens
+decreases-tokens l = length l.lexer.rest

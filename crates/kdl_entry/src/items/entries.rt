@@ -1,0 +1,495 @@
+//! Entries that are a whole text, read token by token.
+
+ghost use Rattle.kdl_entry.specs.Building.{item_view, Stays};
+ghost use Rattle.kdl_entry.specs.EntryMachine as machine;
+ghost use Rattle.kdl_entry.specs.EntryMachine.{argument_of, came, ended, finish, keyed_item, made, opened_item, step, word_at};
+ghost use Rattle.kdl_entry.specs.EntryReading.{word_view, state_view, Answers, Stands, Stepped, Ended};
+ghost use Rattle.kdl_entry.specs.Handed.{kind_view};
+ghost use Rattle.kdl_entry.specs.Items as items;
+ghost use Rattle.kdl_entry.specs.Items.{between};
+ghost use Rattle.kdl_entry.specs.Tree.{entry_tree, identifier_tree, text_of, value_tree};
+ghost use Rattle.kdl_text.specs.Here.{Ahead};
+ghost use Rattle.std.specs.Prelude.{◌≡◌, [], Some, None, true, false, IfOk};
+ghost use Rattle.std.specs.Str.{chars};
+
+use super::item::{Given, Item, Stage, empty, entry_from, misplaced, text_between};
+use super::lexer::{LexFailure, Lexer, Token, TokenKind};
+use super::refusal::failure;
+use crate::entry::KdlEntry;
+use crate::identifier::KdlIdentifier;
+use crate::value::KdlValue;
+use kdl_text::chars::{Checkpoint, Steps};
+use kdl_text::error::ParseFailure;
+use kdl_text::span::SourceSpan;
+use std::alloc::{AllocError, Global};
+
+/// The span of an entry whose text has not come to its end.
+const UNPLACED: SourceSpan = SourceSpan { offset: 0, len: 0 };
+
+/// A string that may yet be a key.
+#[derive(Drop)]
+struct Word {
+    /// What stands before it.
+    leading: String,
+    value: String,
+    repr: String,
+    span: SourceSpan,
+}
+
+/// What was read of the text so far.
+#[derive(Drop)]
+enum State<'a> {
+    /// Line-spaces alone.
+    Start,
+    /// A slashdash.
+    Marked,
+    /// An entry under way, which has a type or a key.
+    Under(Item<'a>),
+    /// An entry that counts for nothing: whether it is a string, which may yet be a key, and whether spaces follow.
+    Dropped(bool, bool),
+    /// A string that may yet be a key, and where it ended.
+    Pending(Word, Checkpoint<'a>),
+    /// The entry, and where it ended.
+    Done(KdlEntry, Checkpoint<'a>),
+}
+
+/// An entry under way, behind the `(` of its type.
+fn opened<'a>(
+    alloc: Global,
+    whole: &Checkpoint<'a>,
+    kept: bool,
+    leading: String,
+    end: &Checkpoint<'a>,
+) -> Item<'a>
+    ensures { item_view result ≡ opened_item whole.now.rest kept (text_of leading) end.now.rest }
+{
+    Item {
+        kept,
+        valued: true,
+        stage: Stage::Opened,
+        leading,
+        start: whole.copied(),
+        from: end.copied(),
+        key: None,
+        name: KdlIdentifier::from(empty(alloc)),
+        before: empty(alloc),
+        after: empty(alloc),
+    }
+}
+
+/// An entry under way, behind the `=` of its key.
+fn keyed<'a>(
+    alloc: Global,
+    whole: &Checkpoint<'a>,
+    kept: bool,
+    leading: String,
+    name: KdlIdentifier,
+    before: String,
+    end: &Checkpoint<'a>,
+) -> Item<'a>
+    ensures { item_view result ≡ keyed_item whole.now.rest kept (text_of leading) (identifier_tree name) (text_of before) end.now.rest }
+{
+    Item {
+        kept,
+        valued: true,
+        stage: Stage::Keyed,
+        leading,
+        start: whole.copied(),
+        from: end.copied(),
+        key: None,
+        name,
+        before,
+        after: empty(alloc),
+    }
+}
+
+/// The string that stands between two places, and what stands before it.
+#[tactic(auto, unfolding(crate::specs::Places::span_of))]
+fn word_between<'a>(
+    alloc: Global,
+    lexer: &mut Lexer<'a>,
+    whole: &Checkpoint<'a>,
+    value: String,
+    start: &Checkpoint<'a>,
+    end: &Checkpoint<'a>,
+) -> Result<Word, AllocError>
+    requires leading { Ahead whole.now start.now }
+    requires token { Ahead start.now end.now }
+    ensures is { IfOk result (λ w. word_view w ≡ word_at whole.now.rest (text_of value) start.now.rest end.now.rest) }
+    ensures stays { Stays lexer.old lexer.new }
+{
+    let leading = text_between(alloc, lexer, whole, start)?;
+    let repr = text_between(alloc, lexer, start, end)?;
+    Ok(Word {
+        leading,
+        value,
+        repr,
+        span: whole.span_between(start, end),
+    })
+}
+
+/// The value that stands between two places, as an argument, and what stands before it.
+fn argument_between<'a>(
+    alloc: Global,
+    lexer: &mut Lexer<'a>,
+    whole: &Checkpoint<'a>,
+    value: KdlValue,
+    start: &Checkpoint<'a>,
+    end: &Checkpoint<'a>,
+) -> Result<KdlEntry, AllocError>
+    requires leading { Ahead whole.now start.now }
+    requires token { Ahead start.now end.now }
+    ensures is { IfOk result (λ e. entry_tree e ≡ made (between whole.now.rest start.now.rest) None None (value_tree value) (between start.now.rest end.now.rest)) }
+    ensures stays { Stays lexer.old lexer.new }
+{
+    let leading = text_between(alloc, lexer, whole, start)?;
+    let repr = text_between(alloc, lexer, start, end)?;
+    Ok(entry_from(alloc, UNPLACED, leading, None, None, value, repr))
+}
+
+/// The word as an argument.
+fn argument(alloc: Global, word: Word) -> KdlEntry
+    ensures { entry_tree result ≡ argument_of (word_view word) }
+{
+    let Word {
+        leading,
+        value,
+        repr,
+        span: _,
+    } = word;
+    entry_from(
+        alloc,
+        UNPLACED,
+        leading,
+        None,
+        None,
+        KdlValue::String(value),
+        repr,
+    )
+}
+
+/// A token ahead of the entry.
+fn at_start<'a>(
+    alloc: Global,
+    lexer: &mut Lexer<'a>,
+    whole: &Checkpoint<'a>,
+    kind: TokenKind,
+    start: &Checkpoint<'a>,
+    end: &Checkpoint<'a>,
+) -> Result<State<'a>, LexFailure>
+    requires leading { Ahead whole.now start.now }
+    requires token { Ahead start.now end.now }
+    ensures did { Stepped (step whole.now.rest machine.ahead (kind_view kind) start.now.rest end.now.rest) start.now result }
+    ensures stays { Stays lexer.old lexer.new }
+{
+    match kind {
+        TokenKind::Space | TokenKind::Newline => Ok(State::Start),
+        TokenKind::Slashdash => Ok(State::Marked),
+        TokenKind::String(value) => {
+            let word = word_between(alloc, lexer, whole, value, start, end)?;
+            Ok(State::Pending(word, end.copied()))
+        }
+        TokenKind::Value(value) => {
+            let entry = argument_between(alloc, lexer, whole, value, start, end)?;
+            Ok(State::Done(entry, end.copied()))
+        }
+        TokenKind::Left => {
+            let leading = text_between(alloc, lexer, whole, start)?;
+            Ok(State::Under(opened(alloc, whole, true, leading, end)))
+        }
+        _ => Err(LexFailure::Faulty(misplaced(start))),
+    }
+}
+
+/// A token behind a slashdash.
+fn at_marked<'a>(
+    alloc: Global,
+    whole: &Checkpoint<'a>,
+    kind: TokenKind,
+    start: &Checkpoint<'a>,
+    end: &Checkpoint<'a>,
+) -> Result<State<'a>, LexFailure>
+    ensures { Stepped (step whole.now.rest machine.marked (kind_view kind) start.now.rest end.now.rest) start.now result }
+{
+    match kind {
+        TokenKind::Space | TokenKind::Newline => Ok(State::Marked),
+        TokenKind::String(_) => Ok(State::Dropped(true, false)),
+        TokenKind::Value(_) => Ok(State::Dropped(false, false)),
+        TokenKind::Left => Ok(State::Under(opened(alloc, whole, false, empty(alloc), end))),
+        _ => Err(LexFailure::Faulty(misplaced(start))),
+    }
+}
+
+/// A token in an entry under way.
+fn at_under<'a>(
+    mut item: Item<'a>,
+    alloc: Global,
+    lexer: &mut Lexer<'a>,
+    whole: &Checkpoint<'a>,
+    kind: TokenKind,
+    start: &Checkpoint<'a>,
+    end: &Checkpoint<'a>,
+) -> Result<State<'a>, LexFailure>
+    requires from { Ahead item.from start.now }
+    requires token { Ahead start.now end.now }
+    ensures did { Stepped (step whole.now.rest (machine.under (item_view item.entry)) (kind_view kind) start.now.rest end.now.rest) start.now result }
+    ensures stays { Stays lexer.old lexer.new }
+{
+    let Some(Given { key, ty, value }) = item.take(alloc, lexer, whole, kind, start, end)? else {
+        return Ok(State::Under(item));
+    };
+    if !item.kept {
+        return Ok(State::Dropped(false, false));
+    }
+    let repr = text_between(alloc, lexer, start, end)?;
+    let entry = entry_from(alloc, UNPLACED, item.leading, key, ty, value, repr);
+    Ok(State::Done(entry, end.copied()))
+}
+
+/// A token directly behind an entry that counts for nothing, which is a string or not.
+fn at_dropped<'a>(
+    word: bool,
+    alloc: Global,
+    whole: &Checkpoint<'a>,
+    kind: TokenKind,
+    start: &Checkpoint<'a>,
+    end: &Checkpoint<'a>,
+) -> Result<State<'a>, LexFailure>
+    ensures { Stepped (step whole.now.rest (machine.dropped word false) (kind_view kind) start.now.rest end.now.rest) start.now result }
+{
+    match kind {
+        TokenKind::Space => Ok(State::Dropped(word, true)),
+        TokenKind::Equals if word => Ok(State::Under(keyed(
+            alloc,
+            whole,
+            false,
+            empty(alloc),
+            KdlIdentifier::from(empty(alloc)),
+            empty(alloc),
+            end,
+        ))),
+        _ => Err(LexFailure::Faulty(misplaced(start))),
+    }
+}
+
+/// A token behind an entry that counts for nothing and spaces.
+fn at_spaced<'a>(
+    word: bool,
+    alloc: Global,
+    lexer: &mut Lexer<'a>,
+    whole: &Checkpoint<'a>,
+    kind: TokenKind,
+    start: &Checkpoint<'a>,
+    end: &Checkpoint<'a>,
+) -> Result<State<'a>, LexFailure>
+    requires leading { Ahead whole.now start.now }
+    requires token { Ahead start.now end.now }
+    ensures did { Stepped (step whole.now.rest (machine.dropped word true) (kind_view kind) start.now.rest end.now.rest) start.now result }
+    ensures stays { Stays lexer.old lexer.new }
+{
+    match kind {
+        TokenKind::Space | TokenKind::Equals => at_dropped(word, alloc, whole, kind, start, end),
+        TokenKind::Newline => Err(LexFailure::Faulty(misplaced(start))),
+        kind => at_start(alloc, lexer, whole, kind, start, end),
+    }
+}
+
+/// A token behind a string that may yet be a key.
+fn at_pending<'a>(
+    word: Word,
+    from: Checkpoint<'a>,
+    alloc: Global,
+    lexer: &mut Lexer<'a>,
+    whole: &Checkpoint<'a>,
+    kind: TokenKind,
+    start: &Checkpoint<'a>,
+    end: &Checkpoint<'a>,
+) -> Result<State<'a>, LexFailure>
+    requires { Ahead from start.now }
+    ensures did { Stepped (step whole.now.rest (machine.word (word_view word) from.entry.rest) (kind_view kind) start.now.rest end.now.rest) start.now result }
+    ensures stays { Stays lexer.old lexer.new }
+{
+    match kind {
+        TokenKind::Space => Ok(State::Pending(word, from)),
+        TokenKind::Newline => Ok(State::Done(argument(alloc, word), from)),
+        TokenKind::Equals => {
+            let before = text_between(alloc, lexer, &from, start)?;
+            let Word {
+                leading,
+                value,
+                repr,
+                span,
+            } = word;
+            let name = KdlIdentifier::parsed(value, repr, span);
+            Ok(State::Under(keyed(alloc, whole, true, leading, name, before, end)))
+        }
+        _ => Err(LexFailure::Faulty(misplaced(start))),
+    }
+}
+
+/// A token behind the entry.
+fn at_done<'a>(
+    entry: KdlEntry,
+    from: Checkpoint<'a>,
+    whole: &Checkpoint<'a>,
+    kind: TokenKind,
+    start: &Checkpoint<'a>,
+    end: &Checkpoint<'a>,
+) -> Result<State<'a>, LexFailure>
+    ensures { Stepped (step whole.now.rest (machine.done (entry_tree entry) from.entry.rest) (kind_view kind) start.now.rest end.now.rest) start.now result }
+{
+    match kind {
+        TokenKind::Space | TokenKind::Newline => Ok(State::Done(entry, from)),
+        _ => Err(LexFailure::Faulty(misplaced(start))),
+    }
+}
+
+/// The entry, whose span is the whole text, with the text behind it.
+#[tactic(auto, unfolding(crate::specs::Places::span_of))]
+fn ended<'a>(
+    mut entry: KdlEntry,
+    alloc: Global,
+    lexer: &mut Lexer<'a>,
+    whole: &Checkpoint<'a>,
+    from: &Checkpoint<'a>,
+) -> Result<KdlEntry, AllocError>
+    requires end { lexer.old.rest ≡ [] }
+    requires from { Ahead from.now (record { rest = lexer.old.rest; at = lexer.old.at }) }
+    ensures { IfOk result (λ e. entry_tree e ≡ machine.ended whole.now.rest (between from.now.rest []) (entry_tree entry)) }
+{
+    let here = lexer.checkpoint();
+    let trailing = text_between(alloc, lexer, from, &here)?;
+    if let Some(format) = entry.format_mut() {
+        format.trailing = trailing;
+    }
+    let start = whole.copied();
+    entry.set_span(whole.span_between(&start, &here));
+    Ok(entry)
+}
+
+impl<'a> State<'a> {
+    /// One token. A fault where the token may not stand here.
+    fn take(
+        self,
+        alloc: Global,
+        lexer: &mut Lexer<'a>,
+        whole: &Checkpoint<'a>,
+        token: Token<'a>,
+    ) -> Result<State<'a>, LexFailure>
+        requires leading { Ahead whole.now token.start }
+        requires from { Stands (state_view self) token.start.rest }
+        requires token { Ahead token.start token.end }
+        ensures did { Stepped (step whole.now.rest (state_view self.entry) (kind_view token.entry.kind) token.entry.start.rest token.entry.end.rest) token.entry.start result }
+        ensures stays { Stays lexer.old lexer.new }
+    {
+        let Token { kind, start, end } = token;
+        match self {
+            State::Start => at_start(alloc, lexer, whole, kind, &start, &end),
+            State::Marked => at_marked(alloc, whole, kind, &start, &end),
+            State::Under(item) => at_under(item, alloc, lexer, whole, kind, &start, &end),
+            State::Dropped(word, true) => {
+                at_spaced(word, alloc, lexer, whole, kind, &start, &end)
+            }
+            State::Dropped(word, false) => at_dropped(word, alloc, whole, kind, &start, &end),
+            State::Pending(word, from) => {
+                at_pending(word, from, alloc, lexer, whole, kind, &start, &end)
+            }
+            State::Done(entry, from) => at_done(entry, from, whole, kind, &start, &end),
+        }
+    }
+
+    /// The entry, where the text ends; `None` where it has not come.
+    fn finish(
+        self,
+        alloc: Global,
+        lexer: &mut Lexer<'a>,
+        whole: &Checkpoint<'a>,
+    ) -> Result<Option<KdlEntry>, AllocError>
+        requires end { lexer.old.rest ≡ [] }
+        requires from { Stands (state_view self) lexer.old.rest }
+        ensures { IfOk result (λ e. Ended (finish whole.now.rest (state_view self.entry)) e) }
+    {
+        match self {
+            State::Pending(word, from) => Ok(Some(ended(
+                argument(alloc, word),
+                alloc,
+                lexer,
+                whole,
+                &from,
+            )?)),
+            State::Done(entry, from) => Ok(Some(ended(entry, alloc, lexer, whole, &from)?)),
+            _ => Ok(None),
+        }
+    }
+}
+
+/// The entry that the text is, of which the lexer is at the start.
+#[tactic(auto, using(crate::proofs::EntryTurns::starts_going, crate::proofs::EntryTurns::next_going, crate::proofs::EntryTurns::whole_start, crate::proofs::EntryTurns::from_start, crate::proofs::EntryTurns::start_end, crate::proofs::EntryTurns::lexer_told, crate::proofs::EntryTurns::take_told, crate::proofs::EntryTurns::all_read, crate::proofs::EntryTurns::from_end, crate::proofs::EntryTurns::at_the_end, crate::proofs::EntryTurns::no_end, crate::proofs::EntryTurns::nearer))]
+fn read_tokens<'a>(
+    alloc: Global,
+    lexer: &mut Lexer<'a>,
+    whole: &Checkpoint<'a>,
+) -> Result<KdlEntry, LexFailure>
+    requires rest { lexer.old.rest ≡ whole.now.rest }
+    requires at { lexer.old.at ≡ 0 }
+    ensures { Answers whole.now.rest result }
+{
+    let mut state = State::Start;
+    'tokens: loop {
+        match lexer.next(alloc) {
+            Ok(Some(token)) => match state.take(alloc, lexer, whole, token) {
+                Ok(next) => state = next,
+                Err(failure) => return Err(failure),
+            },
+            Ok(None) => break,
+            Err(failure) => return Err(failure),
+        }
+    }
+    let here = lexer.checkpoint();
+    match state.finish(alloc, lexer, whole)? {
+        Some(entry) => Ok(entry),
+        None => Err(LexFailure::Faulty(misplaced(&here))),
+    }
+}
+
+/// The entry that the text is.
+fn read_entry(alloc: Global, text: &str) -> Result<KdlEntry, LexFailure>
+    ensures { Answers (chars text.now) result }
+{
+    let mut lexer = Lexer::new(text, Steps::new());
+    let whole = lexer.checkpoint();
+    read_tokens(alloc, &mut lexer, &whole)
+}
+
+impl KdlEntry {
+    ghost use Rattle.kdl_entry.specs.Data as data';
+    ghost use Rattle.kdl_entry.specs.Entries.{IsEntryText};
+    ghost use Rattle.kdl_entry.specs.Laid.{LaidEntryText};
+    ghost use Rattle.kdl_entry.specs.Print.{print_entry};
+    ghost use Rattle.kdl_entry.specs.Tree.{entry_data};
+    ghost use Rattle.kdl_text.specs.Failures.{IsSyntax, TellsOnSyntax};
+
+    /// The entry that the text is, with every byte of its form: line-spaces and entries that count for nothing before
+    /// it, and line-spaces behind it (KDL 2.0.0, Argument, Property). Its span is the whole text. `Syntax`: the text is
+    /// none. Its error has one diagnostic, at the first character that fits nothing. `Memory`: a request for memory
+    /// was refused. Nothing is made then.
+    #[tactic(auto, using(crate::proofs::EntryAnswering::found, crate::proofs::EntryAnswering::only, crate::proofs::EntryAnswering::laid, crate::proofs::EntryAnswering::prints, crate::proofs::EntryAnswering::refused))]
+    pub fn parse(alloc: Global, text: &str) -> Result<KdlEntry, ParseFailure>
+        // What is answered is what the grammar derives,
+        ensures found { IfOk result (λ e. IsEntryText true (chars text.now) (entry_data (entry_tree e))) }
+        // and it derives nothing else.
+        ensures only { IfOk result (λ e. (x : data'.Entry) → IsEntryText true (chars text.now) x → x ≡ entry_data (entry_tree e)) }
+        // The entry lies in the text, each place in its class and each span where its piece stands, and prints it.
+        ensures laid { IfOk result (λ e. LaidEntryText true (chars text.now) (entry_tree e)) }
+        ensures prints { IfOk result (λ e. print_entry (entry_tree e) ≡ chars text.now) }
+        // What is refused is not derived, and an error tells where.
+        ensures refused { IsSyntax result → (x : data'.Entry) → IsEntryText true (chars text.now) x → ⊥ }
+        ensures told { TellsOnSyntax text.now result }
+    {
+        match read_entry(alloc, text) {
+            Ok(entry) => Ok(entry),
+            Err(LexFailure::Faulty(fault)) => Err(failure(alloc, text, fault.span)),
+            Err(LexFailure::Memory) => Err(ParseFailure::Memory),
+        }
+    }
+}

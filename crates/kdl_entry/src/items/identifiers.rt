@@ -1,0 +1,89 @@
+//! Identifiers that are a whole text.
+
+ghost use Rattle.kdl_entry.specs.IdentifierReading.{Answers};
+ghost use Rattle.std.specs.Prelude.{◌≡◌, ◌↔◌, IsTrue, []};
+ghost use Rattle.std.specs.Str.{chars};
+
+use super::item::{identifier_between, misplaced};
+use super::lexer::{LexFailure, Lexer, Token, TokenKind};
+use super::refusal::failure;
+use crate::identifier::KdlIdentifier;
+use kdl_text::chars::{Checkpoint, Steps};
+use kdl_text::error::ParseFailure;
+use std::alloc::Global;
+
+/// Whether the text ends at the place.
+#[tactic(auto)]
+fn is_end(place: &Checkpoint) -> bool
+    ensures { IsTrue result ↔ (place.now.rest ≡ []) }
+{
+    place.char_span().len == 0
+}
+
+/// The identifier that the text is, of which the lexer is at the start.
+#[tactic(auto)]
+fn read_token<'a>(
+    alloc: Global,
+    lexer: &mut Lexer<'a>,
+    whole: &Checkpoint<'a>,
+) -> Result<KdlIdentifier, LexFailure>
+    requires rest { lexer.old.rest ≡ whole.now.rest }
+    requires at { lexer.old.at ≡ 0 }
+    requires start { whole.now.at ≡ 0 }
+    ensures { Answers whole.now.rest result }
+{
+    let Token { kind, start, end } = match lexer.next(alloc) {
+        Ok(Some(token)) => token,
+        Ok(None) => return Err(LexFailure::Faulty(misplaced(whole))),
+        Err(failure) => return Err(failure),
+    };
+    let TokenKind::String(value) = kind else {
+        return Err(LexFailure::Faulty(misplaced(&start)));
+    };
+    if !is_end(&end) {
+        return Err(LexFailure::Faulty(misplaced(&end)));
+    }
+    Ok(identifier_between(alloc, lexer, whole, value, &start, &end)?)
+}
+
+/// The identifier that the text is.
+fn read_identifier(alloc: Global, text: &str) -> Result<KdlIdentifier, LexFailure>
+    ensures { Answers (chars text.now) result }
+{
+    let mut lexer = Lexer::new(text, Steps::new());
+    let whole = lexer.checkpoint();
+    read_token(alloc, &mut lexer, &whole)
+}
+
+impl KdlIdentifier {
+    ghost use Rattle.kdl_entry.specs.Entries.{IsIdentifierText};
+    ghost use Rattle.kdl_entry.specs.Laid.{LaidIdentifierText};
+    ghost use Rattle.kdl_entry.specs.Print.{print_identifier};
+    ghost use Rattle.kdl_entry.specs.Tree.{identifier_tree};
+    ghost use Rattle.kdl_text.specs.Chars.{Text};
+    ghost use Rattle.kdl_text.specs.Failures.{IsSyntax, TellsOnSyntax};
+    ghost use Rattle.std.specs.Prelude.{true, IfOk};
+
+    /// The identifier that the text is: one string in any spelling (KDL 2.0.0, String), with nothing before and behind
+    /// it. Its spelling and its span are the whole text. `Syntax`: the text is none. Its error has one diagnostic, at
+    /// the first character that fits nothing. `Memory`: a request for memory was refused. Nothing is made then.
+    #[tactic(auto, using(crate::proofs::IdentifierAnswering::found, crate::proofs::IdentifierAnswering::only, crate::proofs::IdentifierAnswering::prints))]
+    pub fn parse(alloc: Global, text: &str) -> Result<KdlIdentifier, ParseFailure>
+        // What is answered is what the grammar derives,
+        ensures found { IfOk result (λ i. IsIdentifierText true (chars text.now) (identifier_tree i).value) }
+        // and it derives nothing else.
+        ensures only { IfOk result (λ i. (v : Text) → IsIdentifierText true (chars text.now) v → v ≡ (identifier_tree i).value) }
+        // The identifier lies in the text: its spelling and its span are the whole text, which it prints.
+        ensures laid { IfOk result (λ i. LaidIdentifierText true (identifier_tree i) (chars text.now)) }
+        ensures prints { IfOk result (λ i. print_identifier (identifier_tree i) ≡ chars text.now) }
+        // What is refused is not derived, and an error tells where.
+        ensures refused { IsSyntax result → (v : Text) → IsIdentifierText true (chars text.now) v → ⊥ }
+        ensures told { TellsOnSyntax text.now result }
+    {
+        match read_identifier(alloc, text) {
+            Ok(identifier) => Ok(identifier),
+            Err(LexFailure::Faulty(fault)) => Err(failure(alloc, text, fault.span)),
+            Err(LexFailure::Memory) => Err(ParseFailure::Memory),
+        }
+    }
+}

@@ -1,0 +1,543 @@
+//! Items under way: the type and value of an entry, or the type and name of a node, token by token.
+//!
+//! The rules of types, keys and values stand here once, for entries alone and for those of a document.
+
+ghost use Rattle.kdl_entry.specs.Building.{key_view, type_view, item_view, Did, Holds, Stays};
+ghost use Rattle.kdl_entry.specs.Handed.{kind_view, IsFaultAt};
+ghost use Rattle.kdl_entry.specs.Items as spec;
+ghost use Rattle.kdl_entry.specs.Items.{between, entry_at, identifier_at};
+ghost use Rattle.kdl_entry.specs.Places.{span_of};
+ghost use Rattle.kdl_entry.specs.Tree.{entry_tree, identifier_tree, value_tree, text_of, plain_identifier};
+ghost use Rattle.kdl_text.specs.Here.{Ahead};
+ghost use Rattle.std.specs.Prelude.{◌≡◌, [], Some, None, true, false, IfOk, OnOk, option_map};
+
+use super::lexer::{Fault, FaultKind, LexFailure, Lexer, TokenKind};
+use crate::entry::{KdlEntry, KdlEntryFormat};
+use crate::identifier::KdlIdentifier;
+use crate::value::KdlValue;
+use kdl_text::chars::Checkpoint;
+use kdl_text::span::SourceSpan;
+use std::alloc::{AllocError, Global};
+use std::mem;
+
+/// A type, and the texts before its name, behind it, and behind the `)`.
+#[derive(Drop)]
+pub struct TypeParts {
+    pub name: KdlIdentifier,
+    pub before: String,
+    pub after: String,
+    pub behind: String,
+}
+
+/// A key, and the texts before and behind its `=`.
+#[derive(Drop)]
+pub struct KeyParts {
+    pub name: KdlIdentifier,
+    pub before: String,
+    pub behind: String,
+}
+
+/// Where in an item: behind the `(` of its type, behind the type's name, behind its `)`; behind the `=` of a
+/// property.
+#[derive(Clone, Copy, Debug, PartialEq, Eq)]
+pub enum Stage {
+    Opened,
+    Named,
+    Closed,
+    Keyed,
+}
+
+/// An item under way. The name and the texts around it are those of its type, or behind `=` those of its key.
+#[derive(Drop)]
+pub struct Item<'a> {
+    /// Whether the item counts. Of one that doesn't no text is held.
+    pub kept: bool,
+    /// Whether any value may stand, or a string alone.
+    pub valued: bool,
+    pub stage: Stage,
+    /// What stands before the item.
+    pub leading: String,
+    pub start: Checkpoint<'a>,
+    /// Where the place under way began.
+    pub from: Checkpoint<'a>,
+    pub key: Option<KeyParts>,
+    pub name: KdlIdentifier,
+    pub before: String,
+    pub after: String,
+}
+
+/// What an item came to.
+#[derive(Drop)]
+pub struct Given {
+    pub key: Option<KeyParts>,
+    pub ty: Option<TypeParts>,
+    pub value: KdlValue,
+}
+
+/// The fault of a token that may not stand here.
+pub fn misplaced(start: &Checkpoint) -> Fault
+    ensures { IsFaultAt start.now result }
+{
+    Fault {
+        kind: FaultKind::Other,
+        span: start.char_span(),
+    }
+}
+
+/// The text between two places. A step for each of its bytes.
+#[tactic(auto, using(crate::proofs::Between::is_between))]
+pub fn text_between<'a>(
+    alloc: Global,
+    lexer: &mut Lexer<'a>,
+    from: &Checkpoint<'a>,
+    to: &Checkpoint<'a>,
+) -> Result<String, AllocError>
+    requires { Ahead from.now to.now }
+    ensures text { IfOk result (λ s. text_of s ≡ between from.now.rest to.now.rest) }
+    ensures stays { Stays lexer.old lexer.new }
+{
+    lexer.slice_between(from, to).to_string(alloc)
+}
+
+/// The span of what stands between two places, in the text that begins at `whole`.
+#[tactic(auto, unfolding(crate::specs::Places::span_of))]
+pub fn span_at(whole: &Checkpoint, start: &Checkpoint, end: &Checkpoint) -> SourceSpan
+    ensures { result ≡ span_of whole.now.rest start.now.rest end.now.rest }
+{
+    whole.span_between(start, end)
+}
+
+/// The string that stands between two places, in the text that begins at `whole`.
+pub fn identifier_between<'a>(
+    alloc: Global,
+    lexer: &mut Lexer<'a>,
+    whole: &Checkpoint<'a>,
+    value: String,
+    start: &Checkpoint<'a>,
+    end: &Checkpoint<'a>,
+) -> Result<KdlIdentifier, AllocError>
+    requires { Ahead start.now end.now }
+    ensures is { IfOk result (λ i. identifier_tree i ≡ identifier_at whole.now.rest (text_of value) start.now.rest end.now.rest) }
+    ensures stays { Stays lexer.old lexer.new }
+{
+    let repr = text_between(alloc, lexer, start, end)?;
+    let span = span_at(whole, start, end);
+    Ok(KdlIdentifier::parsed(value, repr, span))
+}
+
+/// An empty text, which takes no memory.
+#[tactic(auto, using(crate::proofs::Between::empty_text))]
+pub fn empty(alloc: Global) -> String
+    ensures { text_of result ≡ [] }
+{
+    String::new(alloc)
+}
+
+/// An entry by its parts, without a text behind it.
+pub fn entry_from(
+    alloc: Global,
+    span: SourceSpan,
+    leading: String,
+    key: Option<KeyParts>,
+    ty: Option<TypeParts>,
+    value: KdlValue,
+    repr: String,
+) -> KdlEntry
+    ensures { entry_tree result ≡ entry_at span (text_of leading) (option_map key_view key) (option_map type_view ty) (value_tree value) (text_of repr) }
+{
+    let mut format = KdlEntryFormat::new(alloc);
+    format.value_repr = repr;
+    format.leading = leading;
+    let name = match key {
+        Some(
+            KeyParts {
+                name,
+                before,
+                behind,
+            },
+        ) => {
+            format.after_key = before;
+            format.after_eq = behind;
+            Some(name)
+        }
+        None => None,
+    };
+    let ty = match ty {
+        Some(
+            TypeParts {
+                name,
+                before,
+                after,
+                behind,
+            },
+        ) => {
+            format.before_ty_name = before;
+            format.after_ty_name = after;
+            format.after_ty = behind;
+            Some(name)
+        }
+        None => None,
+    };
+    KdlEntry::parsed(ty, name, value, format, span)
+}
+
+impl<'a> Item<'a> {
+    /// No item yet, at the place. It takes no memory.
+    pub fn new(alloc: Global, place: &Checkpoint<'a>) -> Item<'a>
+        ensures { result.from ≡ place.now }
+    {
+        Item {
+            kept: false,
+            valued: false,
+            stage: Stage::Opened,
+            leading: String::new(alloc),
+            start: place.copied(),
+            from: place.copied(),
+            key: None,
+            name: KdlIdentifier::from(String::new(alloc)),
+            before: String::new(alloc),
+            after: String::new(alloc),
+        }
+    }
+
+    /// Begins an item behind the `(` of its type.
+    pub fn open(
+        &mut self,
+        kept: bool,
+        valued: bool,
+        leading: String,
+        start: &Checkpoint<'a>,
+        end: &Checkpoint<'a>,
+    )
+        ensures is { item_view self.new ≡ record (item_view self.old) { kept = kept; valued = valued; stage = spec.opened; leading = text_of leading; start = start.now.rest; from = end.now.rest; key = None } }
+        ensures from { self.new.from ≡ end.now }
+    {
+        self.kept = kept;
+        self.valued = valued;
+        self.stage = Stage::Opened;
+        self.leading = leading;
+        self.start = start.copied();
+        self.from = end.copied();
+        self.key = None;
+    }
+
+    /// Begins a property behind the `=`, by its key and the text before the `=`.
+    pub fn open_keyed(
+        &mut self,
+        kept: bool,
+        leading: String,
+        start: &Checkpoint<'a>,
+        name: KdlIdentifier,
+        before: String,
+        end: &Checkpoint<'a>,
+    )
+        ensures is { item_view self.new ≡ record (item_view self.old) { kept = kept; valued = true; stage = spec.keyed; leading = text_of leading; start = start.now.rest; from = end.now.rest; key = None; name = identifier_tree name; before = text_of before } }
+        ensures from { self.new.from ≡ end.now }
+    {
+        self.kept = kept;
+        self.valued = true;
+        self.stage = Stage::Keyed;
+        self.leading = leading;
+        self.start = start.copied();
+        self.from = end.copied();
+        self.key = None;
+        self.name = name;
+        self.before = before;
+    }
+
+    /// Goes on behind the string that is the type's name.
+    fn take_name(
+        &mut self,
+        alloc: Global,
+        lexer: &mut Lexer<'a>,
+        whole: &Checkpoint<'a>,
+        value: String,
+        start: &Checkpoint<'a>,
+        end: &Checkpoint<'a>,
+    ) -> Result<(), AllocError>
+        requires from { Ahead self.old.from start.now }
+        requires token { Ahead start.now end.now }
+        ensures named { OnOk result (item_view self.new ≡ spec.named_at self.old.kept (identifier_at whole.now.rest (text_of value) start.now.rest end.now.rest) (between self.old.from.rest start.now.rest) end.now.rest (item_view self.old)) }
+        ensures stays { Stays lexer.old lexer.new }
+        ensures from { OnOk result (Ahead self.new.from end.now) }
+    {
+        if self.kept {
+            self.before = text_between(alloc, lexer, &self.from, start)?;
+            self.name = identifier_between(alloc, lexer, whole, value, start, end)?;
+        }
+        self.stage = Stage::Named;
+        self.from = end.copied();
+        Ok(())
+    }
+
+    /// Goes on behind the `)` of the type.
+    fn close(
+        &mut self,
+        alloc: Global,
+        lexer: &mut Lexer<'a>,
+        start: &Checkpoint<'a>,
+        end: &Checkpoint<'a>,
+    ) -> Result<(), AllocError>
+        requires from { Ahead self.old.from start.now }
+        requires token { Ahead start.now end.now }
+        ensures closed { OnOk result (item_view self.new ≡ spec.closed_at self.old.kept (between self.old.from.rest start.now.rest) end.now.rest (item_view self.old)) }
+        ensures stays { Stays lexer.old lexer.new }
+        ensures from { OnOk result (Ahead self.new.from end.now) }
+    {
+        if self.kept {
+            self.after = text_between(alloc, lexer, &self.from, start)?;
+        }
+        self.stage = Stage::Closed;
+        self.from = end.copied();
+        Ok(())
+    }
+
+    /// The type, where the value begins.
+    fn type_parts(
+        &mut self,
+        alloc: Global,
+        lexer: &mut Lexer<'a>,
+        start: &Checkpoint<'a>,
+    ) -> Result<Option<TypeParts>, AllocError>
+        requires from { Ahead self.old.from start.now }
+        ensures is { IfOk result (λ y. option_map type_view y ≡ spec.type_at self.old.kept (item_view self.old) start.now.rest) }
+        ensures key { option_map key_view self.new.key ≡ option_map key_view self.old.key }
+        ensures holds { OnOk result (Holds (item_view self.old) (item_view self.new)) }
+        ensures from { self.new.from ≡ self.old.from }
+        ensures stays { Stays lexer.old lexer.new }
+    {
+        if !self.kept {
+            return Ok(None);
+        }
+        let behind = text_between(alloc, lexer, &self.from, start)?;
+        let name = mem::replace(&mut self.name, KdlIdentifier::from(empty(alloc)));
+        let before = mem::replace(&mut self.before, empty(alloc));
+        let after = mem::replace(&mut self.after, empty(alloc));
+        Ok(Some(TypeParts {
+            name,
+            before,
+            after,
+            behind,
+        }))
+    }
+
+    /// The key, where its value or type begins.
+    fn key_parts(
+        &mut self,
+        alloc: Global,
+        lexer: &mut Lexer<'a>,
+        start: &Checkpoint<'a>,
+    ) -> Result<Option<KeyParts>, AllocError>
+        requires from { Ahead self.old.from start.now }
+        ensures is { IfOk result (λ k. option_map key_view k ≡ spec.key_at self.old.kept (item_view self.old) start.now.rest) }
+        ensures taken { OnOk result (item_view self.new ≡ spec.emptied self.old.kept (item_view self.old)) }
+        ensures from { self.new.from ≡ self.old.from }
+        ensures stays { Stays lexer.old lexer.new }
+    {
+        if !self.kept {
+            return Ok(None);
+        }
+        let behind = text_between(alloc, lexer, &self.from, start)?;
+        let name = mem::replace(&mut self.name, KdlIdentifier::from(empty(alloc)));
+        let before = mem::replace(&mut self.before, empty(alloc));
+        Ok(Some(KeyParts {
+            name,
+            before,
+            behind,
+        }))
+    }
+
+    /// The type and the value, at the value.
+    fn give_typed(
+        &mut self,
+        alloc: Global,
+        lexer: &mut Lexer<'a>,
+        value: KdlValue,
+        start: &Checkpoint<'a>,
+    ) -> Result<Given, AllocError>
+        requires from { Ahead self.old.from start.now }
+        ensures key { IfOk result (λ g. option_map key_view g.key ≡ (item_view self.old).key) }
+        ensures is { IfOk result (λ g. option_map type_view g.ty ≡ spec.type_at self.old.kept (item_view self.old) start.now.rest) }
+        ensures value { IfOk result (λ g. g.value ≡ value) }
+        ensures holds { OnOk result (Holds (item_view self.old) (item_view self.new)) }
+        ensures from { self.new.from ≡ self.old.from }
+        ensures stays { Stays lexer.old lexer.new }
+    {
+        let ty = self.type_parts(alloc, lexer, start)?;
+        let key = self.key.take();
+        Ok(Given { key, ty, value })
+    }
+
+    /// The key and the value, at the value.
+    fn give_keyed(
+        &mut self,
+        alloc: Global,
+        lexer: &mut Lexer<'a>,
+        value: KdlValue,
+        start: &Checkpoint<'a>,
+    ) -> Result<Given, AllocError>
+        requires from { Ahead self.old.from start.now }
+        ensures key { IfOk result (λ g. option_map key_view g.key ≡ spec.key_at self.old.kept (item_view self.old) start.now.rest) }
+        ensures is { IfOk result (λ g. option_map type_view g.ty ≡ None) }
+        ensures value { IfOk result (λ g. g.value ≡ value) }
+        ensures holds { OnOk result (Holds (item_view self.old) (item_view self.new)) }
+        ensures from { self.new.from ≡ self.old.from }
+        ensures stays { Stays lexer.old lexer.new }
+    {
+        let key = self.key_parts(alloc, lexer, start)?;
+        Ok(Given {
+            key,
+            ty: None,
+            value,
+        })
+    }
+
+    /// A token behind the `(` of a type.
+    fn at_opened(
+        &mut self,
+        alloc: Global,
+        lexer: &mut Lexer<'a>,
+        whole: &Checkpoint<'a>,
+        kind: TokenKind,
+        start: &Checkpoint<'a>,
+        end: &Checkpoint<'a>,
+    ) -> Result<Option<Given>, LexFailure>
+        requires from { Ahead self.old.from start.now }
+        requires token { Ahead start.now end.now }
+        ensures did { Did (spec.move spec.opened whole.now.rest (item_view self.old) (kind_view kind) start.now.rest end.now.rest) start.now result (item_view self.new) }
+        ensures holds { OnOk result (Holds (item_view self.old) (item_view self.new)) }
+        ensures from { OnOk result (Ahead self.new.from end.now) }
+        ensures stays { Stays lexer.old lexer.new }
+    {
+        match kind {
+            TokenKind::Space => Ok(None),
+            TokenKind::String(value) => {
+                self.take_name(alloc, lexer, whole, value, start, end)?;
+                Ok(None)
+            }
+            _ => Err(LexFailure::Faulty(misplaced(start))),
+        }
+    }
+
+    /// A token behind the name of a type.
+    fn at_named(
+        &mut self,
+        alloc: Global,
+        lexer: &mut Lexer<'a>,
+        whole: &Checkpoint<'a>,
+        kind: TokenKind,
+        start: &Checkpoint<'a>,
+        end: &Checkpoint<'a>,
+    ) -> Result<Option<Given>, LexFailure>
+        requires from { Ahead self.old.from start.now }
+        requires token { Ahead start.now end.now }
+        ensures did { Did (spec.move spec.named whole.now.rest (item_view self.old) (kind_view kind) start.now.rest end.now.rest) start.now result (item_view self.new) }
+        ensures holds { OnOk result (Holds (item_view self.old) (item_view self.new)) }
+        ensures from { OnOk result (Ahead self.new.from end.now) }
+        ensures stays { Stays lexer.old lexer.new }
+    {
+        match kind {
+            TokenKind::Space => Ok(None),
+            TokenKind::Right => {
+                self.close(alloc, lexer, start, end)?;
+                Ok(None)
+            }
+            _ => Err(LexFailure::Faulty(misplaced(start))),
+        }
+    }
+
+    /// A token behind the `)` of a type.
+    fn at_closed(
+        &mut self,
+        alloc: Global,
+        lexer: &mut Lexer<'a>,
+        whole: &Checkpoint<'a>,
+        kind: TokenKind,
+        start: &Checkpoint<'a>,
+        end: &Checkpoint<'a>,
+    ) -> Result<Option<Given>, LexFailure>
+        requires from { Ahead self.old.from start.now }
+        requires token { Ahead start.now end.now }
+        ensures did { Did (spec.move spec.closed whole.now.rest (item_view self.old) (kind_view kind) start.now.rest end.now.rest) start.now result (item_view self.new) }
+        ensures holds { OnOk result (Holds (item_view self.old) (item_view self.new)) }
+        ensures from { OnOk result (Ahead self.new.from end.now) }
+        ensures stays { Stays lexer.old lexer.new }
+    {
+        match kind {
+            TokenKind::Space => Ok(None),
+            TokenKind::String(value) => {
+                let given = self.give_typed(alloc, lexer, KdlValue::String(value), start)?;
+                Ok(Some(given))
+            }
+            TokenKind::Value(value) if self.valued => {
+                let given = self.give_typed(alloc, lexer, value, start)?;
+                Ok(Some(given))
+            }
+            _ => Err(LexFailure::Faulty(misplaced(start))),
+        }
+    }
+
+    /// A token behind the `=` of a property.
+    fn at_keyed(
+        &mut self,
+        alloc: Global,
+        lexer: &mut Lexer<'a>,
+        whole: &Checkpoint<'a>,
+        kind: TokenKind,
+        start: &Checkpoint<'a>,
+        end: &Checkpoint<'a>,
+    ) -> Result<Option<Given>, LexFailure>
+        requires from { Ahead self.old.from start.now }
+        requires token { Ahead start.now end.now }
+        ensures did { Did (spec.move spec.keyed whole.now.rest (item_view self.old) (kind_view kind) start.now.rest end.now.rest) start.now result (item_view self.new) }
+        ensures holds { OnOk result (Holds (item_view self.old) (item_view self.new)) }
+        ensures from { OnOk result (Ahead self.new.from end.now) }
+        ensures stays { Stays lexer.old lexer.new }
+    {
+        match kind {
+            TokenKind::Space => Ok(None),
+            TokenKind::String(value) => {
+                let given = self.give_keyed(alloc, lexer, KdlValue::String(value), start)?;
+                Ok(Some(given))
+            }
+            TokenKind::Value(value) => {
+                let given = self.give_keyed(alloc, lexer, value, start)?;
+                Ok(Some(given))
+            }
+            TokenKind::Left => {
+                self.key = self.key_parts(alloc, lexer, start)?;
+                self.stage = Stage::Opened;
+                self.valued = true;
+                self.from = end.copied();
+                Ok(None)
+            }
+            _ => Err(LexFailure::Faulty(misplaced(start))),
+        }
+    }
+
+    /// One token. It answers what the item came to, where its value stands in the token, and `None` where the
+    /// item goes on. A fault where the token may not stand here.
+    pub fn take(
+        &mut self,
+        alloc: Global,
+        lexer: &mut Lexer<'a>,
+        whole: &Checkpoint<'a>,
+        kind: TokenKind,
+        start: &Checkpoint<'a>,
+        end: &Checkpoint<'a>,
+    ) -> Result<Option<Given>, LexFailure>
+        requires from { Ahead self.old.from start.now }
+        requires token { Ahead start.now end.now }
+        ensures did { Did (spec.step whole.now.rest (item_view self.old) (kind_view kind) start.now.rest end.now.rest) start.now result (item_view self.new) }
+        ensures holds { OnOk result (Holds (item_view self.old) (item_view self.new)) }
+        ensures from { OnOk result (Ahead self.new.from end.now) }
+        ensures stays { Stays lexer.old lexer.new }
+    {
+        match self.stage {
+            Stage::Opened => self.at_opened(alloc, lexer, whole, kind, start, end),
+            Stage::Named => self.at_named(alloc, lexer, whole, kind, start, end),
+            Stage::Closed => self.at_closed(alloc, lexer, whole, kind, start, end),
+            Stage::Keyed => self.at_keyed(alloc, lexer, whole, kind, start, end),
+        }
+    }
+}

@@ -1,0 +1,10 @@
+-- What is written, and what is answered of it.
+use Rattle.std.specs.Prelude.{◌≡◌, ℕ, ◌<◌, Bool, true, false, List, length, take, Option}
+use Rattle.std.specs.Io.KnownBytes.{Appends}
+use Rattle.kdl_tool.specs.declared.watched.Watched.{Watched}
+
+-- with true all the bytes are written, and no write failed; with false not all are, only a beginning, and a write failed
+abbrev pub Writes : {W : Type 0} → (W → Option (List ℕ)) → Watched W → Watched W → List ℕ → Bool → Type 0
+Writes contents old new bytes true = Appends (contents old.inner) (contents new.inner) bytes × (new.failed ≡ old.failed)
+Writes contents old new bytes false =
+    ((n : ℕ) × (n < length bytes) × Appends (contents old.inner) (contents new.inner) (take n bytes)) × (new.failed ≡ true)
