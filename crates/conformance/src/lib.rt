@@ -1,4 +1,4 @@
-//! Tests of the whole library against worked examples: what no contract says.
+//! Tests of the texts that are read and printed, against worked examples: what no contract says.
 #![tactic(auto)]
 
 ghost use Rattle.std.specs.Prelude.{◌≡◌, IfOk, string_bytes};
@@ -9,21 +9,19 @@ use std::alloc::Global;
 #[cfg(test)]
 mod blocks;
 #[cfg(test)]
-mod copies;
-#[cfg(test)]
 mod documents;
-#[cfg(test)]
-mod entries;
-#[cfg(test)]
-mod equality;
 #[cfg(test)]
 mod errors;
 #[cfg(test)]
 mod newline_rows;
 #[cfg(test)]
+mod nodes;
+#[cfg(test)]
 mod reading;
 #[cfg(test)]
 mod spellings;
+#[cfg(test)]
+mod steps;
 #[cfg(test)]
 mod text;
 #[cfg(test)]
@@ -32,8 +30,6 @@ mod trivia_rows;
 mod truncated;
 #[cfg(test)]
 mod value_rows;
-#[cfg(test)]
-mod values;
 #[cfg(test)]
 mod worked;
 

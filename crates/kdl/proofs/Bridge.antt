@@ -6,9 +6,9 @@ use Rattle.kdl_entry.specs.Items as items
 use Rattle.kdl_entry.specs.Items.{TypeParts, KeyParts, Stage, opened, named, closed, keyed, goes, gives, refuses}
 use Rattle.kdl_entry.specs.Tokens.{Token, space}
 use Rattle.kdl_entry.specs.Tree.{Identifier}
-use Rattle.kdl.specs.Machine.{Under, Frame, at, step, given}
+use Rattle.kdl_grammar.specs.Machine.{Under, Frame, at, step, given}
 use Rattle.kdl.specs.Building.{slot_of, item_phase, valued_at, item_answer, held}
-use Rattle.kdl.specs.Tree.{Nodes}
+use Rattle.kdl_grammar.specs.Tree.{Nodes}
 use Rattle.kdl.proofs.Held.{not_reached}
 
 module _ (whole : Text) where

@@ -5,9 +5,10 @@ use Rattle.std.specs.List.{slice_get}
 use Rattle.kdl_text.specs.Chars.{Text}
 use Rattle.kdl_text.specs.declared.span.SourceSpan.{SourceSpan}
 use Rattle.kdl_entry.specs.Places.{span_of as text_span}
-use Rattle.kdl.specs.Machine.{content_at}
-use Rattle.kdl.specs.Laid.{node_span, content_span, last_end}
-use Rattle.kdl.specs.Tree.{document, node_tree, nodes_tree}
+use Rattle.kdl_grammar.specs.Machine.{content_at}
+use Rattle.kdl_grammar.specs.Laid.{node_span, content_span, last_end}
+use Rattle.kdl_grammar.specs.Tree.{document}
+use Rattle.kdl.specs.Tree.{node_tree, nodes_tree}
 use Rattle.kdl.specs.declared.node.KdlNode.{KdlNode}
 use Rattle.kdl.specs.declared.document.KdlDocument.TheViews.{out-KdlNode}
 use Rattle.kdl.proofs.Trees.{node_tree_out}

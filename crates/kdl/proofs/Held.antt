@@ -2,9 +2,9 @@
 use Rattle.std.proofs.Common.{◌≡◌, true, false, List, [], ◌∷◌, Option, Some, None, option_map, map, refl, sym, ap, ◌∙◌}
 use Rattle.kdl_text.specs.Chars.{Text}
 use Rattle.kdl_entry.specs.Tokens.{Token, space, value, closing}
-use Rattle.kdl.specs.Machine.{no_name, for_name, no_value, for_value, Pending, pending, fresh, spaced, later, Phase, gap, marked, type_open, type_name, type_done, in_node, property, entry_mark, block_mark, kept, kept_mark, Frame, in_block, in_dropped, in_later, State, at, popped, step, finish, Runs, stops, reads}
+use Rattle.kdl_grammar.specs.Machine.{no_name, for_name, no_value, for_value, Pending, pending, fresh, spaced, later, Phase, gap, marked, type_open, type_name, type_done, in_node, property, entry_mark, block_mark, kept, kept_mark, Frame, in_block, in_dropped, in_later, State, at, popped, step, finish, Runs, stops, reads}
 use Rattle.kdl.specs.Building.{pending_held, phase_held, frame_held, held}
-use Rattle.kdl.specs.Tree.{Document, Nodes}
+use Rattle.kdl_grammar.specs.Tree.{Document, Nodes}
 
 pending_twice : (o : Option Pending) → pending_held (pending_held o) ≡ pending_held o
 pending_twice None = refl

@@ -7,9 +7,9 @@ use Rattle.kdl_entry.specs.Items.{opened, named, closed, keyed}
 use Rattle.kdl_entry.specs.Tokens.{Token}
 use Rattle.kdl_entry.specs.declared.items.lexer.LexFailure.{LexFailure}
 use Rattle.kdl_entry.specs.declared.items.lexer.LexFailure.TheVariants.{Faulty, Memory}
-use Rattle.kdl.specs.Machine.{State, Under, Frame, at, step, finish}
+use Rattle.kdl_grammar.specs.Machine.{State, Under, Frame, at, step, finish}
 use Rattle.kdl.specs.Building.{item_phase, item_answer, held, Did, EndsIn, phase_placed}
-use Rattle.kdl.specs.Tree.{Nodes}
+use Rattle.kdl_grammar.specs.Tree.{Nodes}
 use Rattle.kdl.proofs.Bridge.{bridge}
 use Rattle.kdl.proofs.Held.{not_reached}
 

@@ -4,7 +4,7 @@ use Rattle.kdl_text.specs.Chars.{Text, begins}
 use Rattle.kdl_text.specs.Here.{Here, Ate, bytes}
 use Rattle.kdl_entry.specs.declared.items.lexer.LexFailure.{LexFailure}
 use Rattle.kdl.specs.Answered.{BuildAnswers, ReadAnswers}
-use Rattle.kdl.specs.Laid.{with_mark}
+use Rattle.kdl_grammar.specs.Laid.{with_mark}
 use Rattle.kdl.specs.Building.{EndsIn}
 use Rattle.kdl.specs.Tree.{document_tree}
 use Rattle.kdl.specs.declared.document.KdlDocument.{KdlDocument}

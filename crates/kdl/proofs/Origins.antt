@@ -3,8 +3,8 @@ use Rattle.std.proofs.Common.{◌≡◌, [], Option, Some, None, sym, subst}
 use Rattle.kdl_text.specs.Chars.{Text}
 use Rattle.kdl_entry.specs.Items.{between}
 use Rattle.kdl_entry.proofs.Between.{between_is}
-use Rattle.kdl.specs.Machine.{origin}
-use Rattle.kdl.specs.Machine as machine
+use Rattle.kdl_grammar.specs.Machine.{origin}
+use Rattle.kdl_grammar.specs.Machine as machine
 use Rattle.kdl.specs.Building.{EndsIn}
 
 pub between_none : (s : Text) → between s s ≡ []

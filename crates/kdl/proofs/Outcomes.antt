@@ -1,25 +1,23 @@
 -- What the answer on a whole text says of the grammar.
-use Rattle.std.proofs.Common.{◌≡◌, ℕ, true, false, [], ◌∷◌, Some, None, Result, Ok, Err, refl, sym, ap, subst, ◌∙◌}
-use Rattle.std.proofs.lemmas.Bool.{eqb-true}
-use Rattle.kdl_text.specs.Chars.{Text, begins, plus}
-use Rattle.kdl_text.specs.Here.{Here, first}
-use Rattle.kdl_entry.specs.Handed.{Cuts, one, spaces, Lexed}
-use Rattle.kdl_entry.specs.Tokens.{Token, mark, BeginsToken, t_space, t_mark}
+use Rattle.std.proofs.Common.{◌≡◌, true, false, ◌∷◌, Result, Ok, Err, refl, sym, ap, subst, ◌∙◌}
+use Rattle.kdl_text.specs.Chars.{Text, begins}
+use Rattle.kdl_entry.specs.Tokens.{Token, t_mark}
 use Rattle.kdl_entry.specs.declared.items.lexer.LexFailure.{LexFailure}
 use Rattle.kdl_entry.specs.declared.items.lexer.LexFailure.TheVariants.{Faulty, Memory}
 use Rattle.kdl_entry.proofs.Cutting.{token_det}
 use Rattle.kdl.specs.Answered.{BuildAnswers, ReadAnswers}
-use Rattle.kdl.specs.Data.{Nodes}
-use Rattle.kdl.specs.Former.{IsFormerDocument}
-use Rattle.kdl.specs.Grammar.{IsDocument}
-use Rattle.kdl.specs.Laid.{LaidDocument, with_mark}
-use Rattle.kdl.specs.Machine.{step, initial, Runs, reads, Answers}
-use Rattle.kdl.specs.Print.{print_document}
-use Rattle.kdl.specs.Tree.{Document, document_data, document_tree}
+use Rattle.kdl_grammar.specs.Data.{Nodes}
+use Rattle.kdl_grammar.specs.Former.{IsFormerDocument}
+use Rattle.kdl_grammar.specs.Grammar.{IsDocument}
+use Rattle.kdl_grammar.specs.Laid.{LaidDocument, with_mark}
+use Rattle.kdl_grammar.specs.Machine.{step, initial, Runs, reads, Answers}
+use Rattle.kdl_grammar.specs.Print.{print_document}
+use Rattle.kdl_grammar.specs.Tree.{Document, document_data}
+use Rattle.kdl.specs.Tree.{document_tree}
 use Rattle.kdl.specs.declared.document.KdlDocument.{KdlDocument}
-use Rattle.kdl.proofs.Erased.{sound, answered, one_document}
-use Rattle.kdl.proofs.LaidPrinted.{printed}
-use Rattle.kdl.proofs.Widening.{wider}
+use Rattle.kdl_grammar.proofs.Erased.{sound, answered, one_document}
+use Rattle.kdl_grammar.proofs.LaidPrinted.{printed}
+use Rattle.kdl_grammar.proofs.Widening.{wider}
 
 -- U+FEFF ends what the machine reads
 no_mark : (whole s : Text) (d : Document) → Runs whole d (initial (0xFEFF ∷ s)) (0xFEFF ∷ s) → ⊥
@@ -38,42 +36,10 @@ unmarked_answers t (Ok d) n a = Answers.unmarked a
 unmarked_answers t (Err (Faulty fault)) n a = (λ d x. no_unmarked x n a.0, a.1)
 unmarked_answers t (Err Memory) n a = tt
 
-pub not_first : (t : Text) → (first t ≡ Some 0xFEFF → ⊥) → (u : Text) → t ≡ 0xFEFF ∷ u → ⊥
-not_first t n u e = n (ap first e)
-
 pub not_begins : (t : Text) → begins 0xFEFF t ≡ false → (u : Text) → t ≡ 0xFEFF ∷ u → ⊥
 not_begins t n u e = let f = ap (begins 0xFEFF) e in cc
 
 -- a text that begins with U+FEFF
-pub begins_first : (t : Text) → first t ≡ Some 0xFEFF → begins 0xFEFF t ≡ true
-begins_first [] e = absurd cc
-begins_first (c ∷ s) e = let f : c ≡ 0xFEFF = cc in ap (λ (z : ℕ). begins 0xFEFF (z ∷ s)) f
-
-begun : (t : Text) → begins 0xFEFF t ≡ true → (s : Text) × (t ≡ 0xFEFF ∷ s)
-begun [] e = absurd cc
-begun (c ∷ s) e = (s, let f : c ≡ 0xFEFF = eqb-true c 0xFEFF e in ap (λ (z : ℕ). z ∷ s) f)
-
--- the first token is the mark, and what follows it is left
-pub behind_mark : (t u : Text) (k : Token) → begins 0xFEFF t ≡ true → Cuts t k u → t ≡ 0xFEFF ∷ u
-behind_mark t u k b (one x) =
-    let s = begun t b in
-    let y : BeginsToken t mark s.0 = subst (λ (z : Text). BeginsToken z mark s.0) (sym s.1) t_mark in
-    s.1 ∙ ap (λ (z : Text). 0xFEFF ∷ z) (sym (token_det x y).0)
-behind_mark t u k b (spaces (plus n m)) =
-    let s = begun t b in
-    let y : BeginsToken t mark s.0 = subst (λ (z : Text). BeginsToken z mark s.0) (sym s.1) t_mark in
-    let z = (token_det (t_space n) y).1 in
-    absurd cc
-
-pub mark_there : (t : Text) (before after : Here) → before.rest ≡ t → begins 0xFEFF t ≡ true → Lexed before (Ok None) after → ⊥
-mark_there t before after e b x = let s = begun t b in let y : before.rest ≡ [] = x in let z : 0xFEFF ∷ s.0 ≡ [] = sym s.1 ∙ sym e ∙ y in cc
-
-pub mark_read : (t : Text) (before after : Here) (e : LexFailure) → before.rest ≡ t → begins 0xFEFF t ≡ true → Lexed before (Err e) after → ReadAnswers t (Err e)
-mark_read t before after (Faulty fault) f b x =
-    let s = begun t b in
-    absurd (x.0.none s.0 mark (subst (λ (z : Text). BeginsToken z mark s.0) (sym (f ∙ s.1)) t_mark))
-mark_read t before after Memory f b x = tt
-
 no_marked : {t : Text} {d : Document} → Answers t d → (u : Text) → t ≡ 0xFEFF ∷ u → ((d : Document) → Runs t d (initial u) u → ⊥) → ⊥
 no_marked (Answers.unmarked {t = t} {d = d} a) u e f = no_mark t u d (subst (λ (z : Text). Runs t d (initial z) z) e a)
 no_marked (Answers.marked {t = s} {d = d} a) u e f = let g : s ≡ u = cc in f d (subst (λ (z : Text). Runs (0xFEFF ∷ s) d (initial z) z) g a)

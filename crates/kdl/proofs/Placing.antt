@@ -2,9 +2,9 @@
 use Rattle.std.proofs.Common.{◌≡◌, true, false, List, [], ◌∷◌, ◌++◌, Option, Some, None, option_map, refl, sym, ap, subst, ◌∙◌, append_assoc}
 use Rattle.kdl_text.specs.Chars.{Text}
 use Rattle.kdl_entry.specs.Tokens.{Token, space, newline, slashdash, string, value, left, right, opening, closing, equals, semicolon}
-use Rattle.kdl.specs.Machine.{Slot, no_name, for_name, no_value, for_value, pending, fresh, spaced, later, Phase, gap, marked, type_open, type_name, type_done, in_node, property, entry_mark, block_mark, kept, kept_mark, Frame, in_block, in_dropped, in_later, State, at, origin, moved, popped, step}
+use Rattle.kdl_grammar.specs.Machine.{Slot, no_name, for_name, no_value, for_value, pending, fresh, spaced, later, Phase, gap, marked, type_open, type_name, type_done, in_node, property, entry_mark, block_mark, kept, kept_mark, Frame, in_block, in_dropped, in_later, State, at, origin, moved, popped, step}
 use Rattle.kdl.specs.Building.{held, EndsIn, phase_placed, Placed}
-use Rattle.kdl.specs.Tree.{Nodes}
+use Rattle.kdl_grammar.specs.Tree.{Nodes}
 use Rattle.kdl.proofs.Held.{reached}
 
 pub then_ends : {t s r : Text} → EndsIn t s → EndsIn s r → EndsIn t r

@@ -5,8 +5,9 @@ use Rattle.std.proofs.lemmas.Str.{encodes-append}
 use Rattle.std.specs.Str.{encode_utf8_all}
 use Rattle.kdl_entry.specs.Tree.{Entry, entry_tree, entry_format_tree}
 use Rattle.kdl_entry.specs.declared.entry.KdlEntry.{KdlEntry}
-use Rattle.kdl.specs.Print.{print_head, print_tail, print_block, before_block, end_text, leading_text, trailing_text, format_of, print_document, print_piece, print_pieces, print_node, print_nodes, last_has_format}
-use Rattle.kdl.specs.Tree.{Head, Document, Nodes, none, first, join, children, children_of, head_tree, node_tree, nodes_tree, document_tree, document_format_tree}
+use Rattle.kdl_grammar.specs.Print.{print_head, print_tail, print_block, before_block, end_text, leading_text, trailing_text, format_of, print_document, print_piece, print_pieces, print_node, print_nodes, last_has_format}
+use Rattle.kdl_grammar.specs.Tree.{Head, Document, Nodes, none, first, join, children, children_of}
+use Rattle.kdl.specs.Tree.{head_tree, node_tree, nodes_tree, document_tree, document_format_tree}
 use Rattle.kdl.specs.declared.node.KdlNode.{KdlNode}
 use Rattle.kdl.specs.declared.document.KdlDocument.{KdlDocument}
 use Rattle.kdl.specs.declared.document.KdlDocument.TheViews.{out-KdlDocument, out-KdlNode}

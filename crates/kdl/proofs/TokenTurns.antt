@@ -10,20 +10,21 @@ use Rattle.kdl_text.specs.declared.span.SourceSpan.{SourceSpan}
 use Rattle.kdl_text.proofs.Going.{bytes-append}
 use Rattle.kdl_entry.specs.Building.{Stays}
 use Rattle.kdl_entry.specs.Handed.{Cuts, one, spaces, NoToken, IsFaultAt, kind_view, HandsOut, Lexed}
-use Rattle.kdl_entry.specs.Tokens.{Token, mark, t_mark, t_space}
+use Rattle.kdl_entry.specs.Tokens.{Token, t_space}
 use Rattle.kdl_entry.specs.declared.items.lexer.Fault.{Fault}
 use Rattle.kdl_entry.specs.declared.items.lexer.LexFailure.{LexFailure}
 use Rattle.kdl_entry.specs.declared.items.lexer.LexFailure.TheVariants.{Faulty, Memory}
 use Rattle.kdl_entry.specs.declared.items.lexer.Token.{Token as CodeToken}
 use Rattle.kdl_entry.proofs.Cutting.{token_shorter}
 use Rattle.kdl.specs.Answered.{BuildAnswers, Finished}
-use Rattle.kdl.specs.Machine.{State, step, finish, initial, Runs}
+use Rattle.kdl_grammar.specs.Machine.{State, step, finish, initial, Runs}
 use Rattle.kdl.specs.Building.{state_view, held, Did, EndsIn, Placed}
-use Rattle.kdl.specs.Tree.{Document, document_tree}
+use Rattle.kdl_grammar.specs.Tree.{Document}
+use Rattle.kdl.specs.Tree.{document_tree}
 use Rattle.kdl.specs.declared.builder.Builder.{Builder}
 use Rattle.kdl.specs.declared.document.KdlDocument.{KdlDocument}
 use Rattle.kdl.proofs.Placing.{placed_step, then_ends}
-use Rattle.kdl.proofs.Steps.{read_cut, refuses, faults, at_stop}
+use Rattle.kdl.proofs.MachineSteps.{read_cut, refuses, faults, at_stop}
 
 -- the machine answers from here on what it answers on u
 abbrev pub Same : Text → Text → State → Text → Type 0
@@ -65,17 +66,6 @@ starts t u b here e w f x n = record {
   text = subst (λ (z : Text). EndsIn t z) (sym f) x;
   at = ap (λ (z : Text). here.at + bytes z) f ∙ n;
 }
-
-pub starts_unmarked : (t : Text) (b : Builder) (here : Here) → state_view b ≡ initial t → b.whole.rest ≡ t → here.rest ≡ t → here.at ≡ 0 → Going b here t t
-starts_unmarked t b here e w f n = starts t t b here e w f ([], refl) (omega (arith, n))
-
-pub marked_text : (s r : Text) (k : Token) → Cuts s k r → k ≡ mark → s ≡ 0xFEFF ∷ r
-marked_text s r k (one t_mark) e = refl
-marked_text s r k _ e = absurd cc
-
-pub starts_marked : (t : Text) (b : Builder) (before here : Here) (k : CodeToken) → before.rest ≡ t → before.at ≡ 0 → Moves before here → state_view b ≡ initial here.rest → b.whole.rest ≡ t → Going b here t here.rest
-starts_marked t b before here k f n m e w =
-    starts t here.rest b here e w refl (m.piece.0, sym f ∙ m.piece.1) (omega (arith, m.at, n, ap bytes f))
 
 -- a token's turn
 pub goes_on : (b b' : Builder) (before mid after : Here) (t u : Text) (k : CodeToken) → Going b before t u → HandsOut before k mid → Moves before mid
@@ -161,9 +151,6 @@ stops_going b before after t u g e m =
       at = m.at ∙ g.at;
     }
 
-pub placed_now : (b : Builder) (here : Here) (t u : Text) → Going b here t u → Placed (state_view b) here.rest
-placed_now b here t u g = g.placed
-
 pub from_now : (b : Builder) (here : Here) (t u : Text) → Going b here t u → EndsIn b.from.rest here.rest
 from_now b here t u g = g.placed.0
 
@@ -191,7 +178,3 @@ pub finish_told : (b : Builder) (here : Here) (t u : Text) (place : Spot) (resul
 finish_told b here t u place (Ok d) g e f n x = at_the_end b here t u d g e x
 finish_told b here t u place (Err (Faulty fault)) g e f n x = (no_end b here t u g e x.0, told b here t u place fault g f n x.1)
 finish_told b here t u place (Err Memory) g e f n x = tt
-
--- the same, where the place was told in the text
-pub refused_end : (b : Builder) (here : Here) (t u : Text) (fault : Fault) → Going b here t u → here.rest ≡ [] → finish b.whole.rest (state_view b) ≡ None → InText t fault.span → BuildAnswers t u (Err (Faulty fault))
-refused_end b here t u fault g e f x = (no_end b here t u g e f, x)

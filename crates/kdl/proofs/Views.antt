@@ -2,8 +2,9 @@
 use Rattle.std.proofs.Common.{◌≡◌, List, [], ◌∷◌, ◌++◌, map, refl, ap}
 use Rattle.kdl_entry.specs.Tree.{entry_tree}
 use Rattle.kdl_entry.specs.declared.entry.KdlEntry.{KdlEntry}
-use Rattle.kdl.specs.Tree.{none, first, join, node_tree, nodes_tree}
-use Rattle.kdl.specs.Machine as machine
+use Rattle.kdl_grammar.specs.Tree.{none, first, join}
+use Rattle.kdl.specs.Tree.{node_tree, nodes_tree}
+use Rattle.kdl_grammar.specs.Machine as machine
 use Rattle.kdl.specs.Building.{frame_view, stacked}
 use Rattle.kdl.specs.declared.builder.Frame.{Frame}
 use Rattle.kdl.specs.declared.node.KdlNode.{KdlNode}

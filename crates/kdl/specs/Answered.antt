@@ -6,8 +6,9 @@ use Rattle.kdl_text.specs.Spans.{InText}
 use Rattle.kdl_entry.specs.Handed.{IsFaultAt}
 use Rattle.kdl_entry.specs.declared.items.lexer.LexFailure.{LexFailure}
 use Rattle.kdl_entry.specs.declared.items.lexer.LexFailure.TheVariants.{Faulty, Memory}
-use Rattle.kdl.specs.Machine.{initial, Runs, Answers}
-use Rattle.kdl.specs.Tree.{Document, document_tree}
+use Rattle.kdl_grammar.specs.Machine.{initial, Runs, Answers}
+use Rattle.kdl_grammar.specs.Tree.{Document}
+use Rattle.kdl.specs.Tree.{document_tree}
 use Rattle.kdl.specs.declared.document.KdlDocument.{KdlDocument}
 
 -- what the machine answers on u, the text t or what follows its U+FEFF; of a refused text a place is told

@@ -13,9 +13,10 @@ use Rattle.kdl_entry.specs.Places.{span_of}
 use Rattle.kdl_entry.specs.Tree.{Identifier, identifier_tree, plain_identifier, Entry, entry_tree, text_of}
 use Rattle.kdl_entry.specs.declared.items.lexer.LexFailure.{LexFailure}
 use Rattle.kdl_entry.specs.declared.items.lexer.LexFailure.TheVariants.{Faulty, Memory}
-use Rattle.kdl.specs.Machine as machine
-use Rattle.kdl.specs.Machine.{Slot, no_name, for_name, no_value, for_value, pending, at, State, with_entry, given}
-use Rattle.kdl.specs.Tree.{Nodes, nodes_tree, document_tree}
+use Rattle.kdl_grammar.specs.Machine as machine
+use Rattle.kdl_grammar.specs.Machine.{Slot, no_name, for_name, no_value, for_value, pending, at, State, with_entry, given}
+use Rattle.kdl_grammar.specs.Tree.{Nodes}
+use Rattle.kdl.specs.Tree.{nodes_tree, document_tree}
 use Rattle.kdl.specs.declared.builder.Builder.{Builder}
 use Rattle.kdl.specs.declared.builder.Frame.{Frame}
 use Rattle.kdl.specs.declared.builder.Frame.TheVariants.{Block, DroppedBlock, LaterBlock}
@@ -60,6 +61,7 @@ word_name whole from w = record { value = text_of w.value; repr = Some (text_of 
 abbrev pub word_entry : Text → Text → WaitingWord → Entry
 word_entry whole from w = entry_at (span_of whole w.start.rest from) (text_of w.leading) None None (text (text_of w.value)) (text_of w.repr)
 
+-- the node under way, with the string that waits as its last argument
 abbrev pub under_now : Text → Text → Waiting → Option machine.Under → Option machine.Under
 under_now whole from (Word w) (Some u) = Some (with_entry u (word_entry whole from w))
 under_now whole from _ o = o
@@ -120,6 +122,7 @@ node_now b = under_now b.whole.rest b.from.rest b.waiting (option_map under_view
 abbrev pub frames_view : Builder → List machine.Frame
 frames_view b = stacked [] b.frames.items
 
+-- the state that the builder's fields stand for
 abbrev pub state_view : Builder → State
 state_view b =
     at (phase_view b.phase b.whole.rest b.from.rest b.waiting (option_map under_view b.under) (option_map kept_view b.kept) (item_view b.item))

@@ -1,82 +1,13 @@
--- Nodes and documents with every text and span, and nothing of how memory holds them.
-use Rattle.std.specs.Prelude.{List, [], ◌∷◌, map, Option, Some, None, option_map}
-use Rattle.kdl_text.specs.Chars.{Text}
-use Rattle.kdl_text.specs.declared.span.SourceSpan.{SourceSpan}
-use Rattle.kdl_entry.specs.Tree.{Identifier, identifier_tree, Entry, entry_tree, entry_data, text_of}
-use Rattle.kdl.specs.Data as data'
+-- The trees of nodes and documents in memory.
+use Rattle.std.specs.Prelude.{List, map, option_map}
+use Rattle.kdl_entry.specs.Tree.{identifier_tree, entry_tree, text_of}
+use Rattle.kdl_grammar.specs.Tree.{NodeFormat, DocumentFormat, Head, Node, node, Document, document, Nodes, nodes_of, children_of}
 use Rattle.kdl.specs.declared.node.KdlNode.{KdlNode}
 use Rattle.kdl.specs.declared.node.KdlNodeFormat.{KdlNodeFormat}
 use Rattle.kdl.specs.declared.document.KdlDocument.{KdlDocument}
 use Rattle.kdl.specs.declared.document.KdlDocumentFormat.{KdlDocumentFormat}
 use Rattle.kdl.specs.declared.document.KdlDocument.TheOpen.{KdlDocument-F, KdlNode-F}
 use Rattle.kdl.specs.declared.document.KdlDocument.TheFolds.{fold-KdlDocument, fold-KdlNode}
-
--- the texts around the parts of a node
-pub record NodeFormat : Type 0 where
-  pub leading : Text
-  pub before_ty_name : Text
-  pub after_ty_name : Text
-  pub after_ty : Text
-  pub before_children : Text
-  pub before_terminator : Text
-  pub terminator : Text
-  pub trailing : Text
-
-pub record DocumentFormat : Type 0 where
-  pub leading : Text
-  pub trailing : Text
-
--- a node but for its children
-pub record Head : Type 0 where
-  pub ty : Option Identifier
-  pub name : Identifier
-  pub entries : List Entry
-  pub format : Option NodeFormat
-  pub span : SourceSpan
-
-mutual
-  pub data Node : Type 0 where
-    node : Head → Children → Node
-
-  pub data Children : Type 0 where
-    no_children : Children
-    children : Document → Children
-
-  pub data Document : Type 0 where
-    document : Option DocumentFormat → SourceSpan → Nodes → Document
-
-  pub data Nodes : Type 0 where
-    none : Nodes
-    first : Node → Nodes → Nodes
-
--- what they say
-abbrev mutual
-  pub node_data : Node → data'.Node
-  node_data (node h k) = data'.node (option_map (λ i. i.value) h.ty) h.name.value (map entry_data h.entries) (children_data k)
-
-  pub children_data : Children → data'.Children
-  children_data no_children = data'.no_children
-  children_data (children d) = data'.children (document_data d)
-
-  pub document_data : Document → data'.Nodes
-  document_data (document f span ns) = nodes_data ns
-
-  pub nodes_data : Nodes → data'.Nodes
-  nodes_data none = data'.none
-  nodes_data (first n ns) = data'.first (node_data n) (nodes_data ns)
-
-abbrev pub nodes_of : List Node → Nodes
-nodes_of [] = none
-nodes_of (n ∷ ns) = first n (nodes_of ns)
-
--- the nodes ns, and ms behind them
-abbrev pub join : Nodes → Nodes → Nodes
-join none ms = ms
-join (first n ns) ms = first n (join ns ms)
-
-abbrev pub children_of : Option Document → Children
-children_of None = no_children
-children_of (Some d) = children d
 
 abbrev pub node_format_tree : KdlNodeFormat → NodeFormat
 node_format_tree f = record {

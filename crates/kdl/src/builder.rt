@@ -1,23 +1,26 @@
 //! The builder: a document under way, token by token.
 
 ghost use Rattle.kdl.specs.Answered.{Finished};
-ghost use Rattle.kdl.specs.Machine as machine;
-ghost use Rattle.kdl.specs.Machine.{at, initial};
+ghost use Rattle.kdl_grammar.specs.Machine as machine;
+ghost use Rattle.kdl_grammar.specs.Machine.{at, initial};
 ghost use Rattle.kdl.specs.Building.{under_view, kept_view, nodes_view, frame_view, stacked, under_now, node_now, frames_view, pending_now, name_slot, entry_slot, valued_at, item_answer, state_view, held, Did, EndsIn, Placed};
-ghost use Rattle.kdl.specs.Laid as laid;
-ghost use Rattle.kdl.specs.Laid.{node_format};
-ghost use Rattle.kdl.specs.Tree.{node, none, no_children, children, children_of, node_tree, nodes_tree, document_tree, node_format_tree, document_format_tree};
+ghost use Rattle.kdl.specs.Counted.{up_to, unsliced};
+ghost use Rattle.kdl_grammar.specs.Laid as laid;
+ghost use Rattle.kdl_grammar.specs.Laid.{node_format};
+ghost use Rattle.kdl_grammar.specs.Tree.{node, none, no_children, children, children_of};
+ghost use Rattle.kdl.specs.Tree.{node_tree, nodes_tree, document_tree, node_format_tree, document_format_tree};
 ghost use Rattle.kdl_entry.specs.Building.{type_view, key_view, item_view, Stays};
+ghost use Rattle.kdl_entry.specs.Counted.{Sliced};
 ghost use Rattle.kdl_entry.specs.Data.{text};
 ghost use Rattle.kdl_entry.specs.Handed.{kind_view};
 ghost use Rattle.kdl_entry.specs.Items as items;
 ghost use Rattle.kdl_entry.specs.Items.{between, type_of, before_name, after_name, behind_type};
 ghost use Rattle.kdl_entry.specs.Places.{span_of};
 ghost use Rattle.kdl_entry.specs.Tree.{identifier_tree, plain_identifier, entry_tree, value_tree, text_of};
-ghost use Rattle.kdl_text.specs.Here.{Ahead};
+ghost use Rattle.kdl_text.specs.Here.{Ahead, bytes, raise};
 ghost use Rattle.kdl.specs.declared.builder.Phase.{Phase};
 ghost use Rattle.kdl.specs.declared.builder.Waiting.{Waiting};
-ghost use Rattle.std.specs.Prelude.{◌≡◌, if◌then◌else◌, [], ◌∷◌, map, Some, None, true, false, IfOk, OnOk, option_map};
+ghost use Rattle.std.specs.Prelude.{◌≡◌, ◌+◌, ◌≤◌, if◌then◌else◌, [], ◌∷◌, map, Some, None, true, false, IfOk, OnOk, option_map};
 
 mod parts;
 mod steps;
@@ -126,6 +129,7 @@ impl<'a> Builder<'a> {
     /// A builder at the start of a text, or behind its U+FEFF.
     pub(crate) fn new(alloc: Global, whole: Checkpoint<'a>, start: Checkpoint<'a>) -> Self
         ensures state { state_view result ≡ initial start.entry.rest }
+        ensures unsliced { unsliced result ≡ bytes start.entry.rest }
         ensures whole { result.whole ≡ whole.entry }
     {
         let item = Item::new(alloc, &start);
@@ -157,6 +161,7 @@ impl<'a> Builder<'a> {
         ensures did { Did (machine.step self.old.whole.rest (state_view self.old) (kind_view kind) start.now.rest end.now.rest) start.now result (state_view self.new) }
         ensures whole { self.new.whole ≡ self.old.whole }
         ensures stays { Stays lexer.old lexer.new }
+        ensures sliced { OnOk result (Sliced (unsliced self.old) (unsliced self.new) lexer.old lexer.new) }
     {
         let counts = self.nodes.is_some();
         match kind {
@@ -187,6 +192,7 @@ impl<'a> Builder<'a> {
         ensures did { Did (machine.step self.old.whole.rest (state_view self.old) (kind_view kind) start.now.rest end.now.rest) start.now result (state_view self.new) }
         ensures whole { self.new.whole ≡ self.old.whole }
         ensures stays { Stays lexer.old lexer.new }
+        ensures sliced { OnOk result (Sliced (unsliced self.old) (unsliced self.new) lexer.old lexer.new) }
     {
         match kind {
             TokenKind::Space | TokenKind::Newline => Ok(()),
@@ -211,6 +217,7 @@ impl<'a> Builder<'a> {
         ensures did { Did (machine.step self.old.whole.rest (state_view self.old) (kind_view kind) start.now.rest end.now.rest) start.now result (state_view self.new) }
         ensures whole { self.new.whole ≡ self.old.whole }
         ensures stays { Stays lexer.old lexer.new }
+        ensures sliced { OnOk result (Sliced (unsliced self.old) (unsliced self.new) lexer.old lexer.new) }
     {
         match kind {
             TokenKind::Space => {
@@ -243,6 +250,7 @@ impl<'a> Builder<'a> {
         ensures did { Did (machine.step self.old.whole.rest (state_view self.old) (kind_view kind) start.now.rest end.now.rest) start.now result (state_view self.new) }
         ensures whole { self.new.whole ≡ self.old.whole }
         ensures stays { Stays lexer.old lexer.new }
+        ensures sliced { OnOk result (Sliced (unsliced self.old) (unsliced self.new) lexer.old lexer.new) }
     {
         match kind {
             TokenKind::Space => Ok(()),
@@ -277,6 +285,7 @@ impl<'a> Builder<'a> {
         ensures did { Did (machine.step self.old.whole.rest (state_view self.old) (kind_view kind) start.now.rest end.now.rest) start.now result (state_view self.new) }
         ensures whole { self.new.whole ≡ self.old.whole }
         ensures stays { Stays lexer.old lexer.new }
+        ensures sliced { OnOk result (Sliced (unsliced self.old) (unsliced self.new) lexer.old lexer.new) }
     {
         match kind {
             TokenKind::Space => Ok(()),
@@ -308,6 +317,7 @@ impl<'a> Builder<'a> {
         ensures did { Did (machine.step self.old.whole.rest (state_view self.old) (kind_view kind) start.now.rest end.now.rest) start.now result (state_view self.new) }
         ensures whole { self.new.whole ≡ self.old.whole }
         ensures stays { Stays lexer.old lexer.new }
+        ensures sliced { OnOk result (Sliced (unsliced self.old) (unsliced self.new) lexer.old lexer.new) }
     {
         match kind {
             TokenKind::Space | TokenKind::Newline => Ok(()),
@@ -336,6 +346,7 @@ impl<'a> Builder<'a> {
         ensures did { Did (machine.step self.old.whole.rest (state_view self.old) (kind_view kind) start.now.rest end.now.rest) start.now result (state_view self.new) }
         ensures whole { self.new.whole ≡ self.old.whole }
         ensures stays { Stays lexer.old lexer.new }
+        ensures sliced { OnOk result (Sliced (unsliced self.old) (unsliced self.new) lexer.old lexer.new) }
     {
         match kind {
             TokenKind::Space | TokenKind::Newline => Ok(()),
@@ -359,6 +370,7 @@ impl<'a> Builder<'a> {
         ensures did { Did (machine.step self.old.whole.rest (state_view self.old) (kind_view kind) start.now.rest end.now.rest) start.now result (state_view self.new) }
         ensures whole { self.new.whole ≡ self.old.whole }
         ensures stays { Stays lexer.old lexer.new }
+        ensures sliced { OnOk result (Sliced (unsliced self.old) (unsliced self.new) lexer.old lexer.new) }
     {
         match kind {
             TokenKind::Space => Ok(()),
@@ -389,6 +401,7 @@ impl<'a> Builder<'a> {
         ensures did { Did (machine.step self.old.whole.rest (state_view self.old) (kind_view kind) start.now.rest end.now.rest) start.now result (state_view self.new) }
         ensures whole { self.new.whole ≡ self.old.whole }
         ensures stays { Stays lexer.old lexer.new }
+        ensures sliced { OnOk result (Sliced (unsliced self.old) (unsliced self.new) lexer.old lexer.new) }
     {
         match kind {
             TokenKind::Space | TokenKind::Newline => Ok(()),
@@ -410,7 +423,10 @@ impl<'a> Builder<'a> {
         ensures did { Did (machine.step self.old.whole.rest (state_view self.old) (kind_view token.entry.kind) token.entry.start.rest token.entry.end.rest) token.entry.start result (state_view self.new) }
         ensures whole { self.new.whole ≡ self.old.whole }
         ensures stays { Stays lexer.old lexer.new }
+        ensures sliced { OnOk result (Sliced (unsliced self.old + 1) (unsliced self.new) lexer.old lexer.new) }
+        ensures looked { raise lexer.old.steps 1 ≤ raise lexer.new.steps 0 }
     {
+        lexer.count_look();
         let Token { kind, start, end } = token;
         match self.phase {
             Phase::Gap => self.at_gap(alloc, lexer, kind, &start, &end),
@@ -434,7 +450,9 @@ impl<'a> Builder<'a> {
     ) -> Result<KdlDocument, LexFailure>
         requires end { lexer.old.rest ≡ [] }
         requires from { EndsIn self.from.rest lexer.old.rest }
-        ensures { Finished (machine.finish self.entry.whole.rest (state_view self.entry)) (record { rest = lexer.old.rest; at = lexer.old.at }) result }
+        ensures finished { Finished (machine.finish self.entry.whole.rest (state_view self.entry)) (record { rest = lexer.old.rest; at = lexer.old.at }) result }
+        ensures stays { Stays lexer.old lexer.new }
+        ensures sliced { OnOk result (Sliced (unsliced self.entry) 0 lexer.old lexer.new) }
     {
         let here = lexer.checkpoint();
         self.finish_at(alloc, lexer, &here)
@@ -450,7 +468,9 @@ impl<'a> Builder<'a> {
     ) -> Result<KdlDocument, LexFailure>
         requires end { here.now.rest ≡ [] }
         requires from { Ahead self.from here.now }
-        ensures { Finished (machine.finish self.entry.whole.rest (state_view self.entry)) here.now result }
+        ensures finished { Finished (machine.finish self.entry.whole.rest (state_view self.entry)) here.now result }
+        ensures stays { Stays lexer.old lexer.new }
+        ensures sliced { OnOk result (Sliced (unsliced self.entry) 0 lexer.old lexer.new) }
     {
         match self.phase {
             Phase::Gap => self.finish_nodes(alloc, lexer, here),
@@ -480,7 +500,9 @@ impl<'a> Builder<'a> {
     ) -> Result<KdlDocument, LexFailure>
         requires from { Ahead self.from here.now }
         requires end { here.now.rest ≡ [] }
-        ensures { Finished (machine.at_end self.entry.whole.rest (nodes_view self.entry.nodes) (frames_view self.entry) self.entry.from.rest) here.now result }
+        ensures finished { Finished (machine.at_end self.entry.whole.rest (nodes_view self.entry.nodes) (frames_view self.entry) self.entry.from.rest) here.now result }
+        ensures stays { Stays lexer.old lexer.new }
+        ensures sliced { OnOk result (Sliced (bytes self.entry.from.rest) 0 lexer.old lexer.new) }
     {
         let Builder {
             whole,

@@ -1,14 +1,20 @@
 //! Documents.
 
-ghost use Rattle.kdl.specs.Tree.{document, none, nodes_tree, document_tree, document_format_tree};
-ghost use Rattle.kdl.specs.Laid.{with_mark, marked_format};
+ghost use Rattle.kdl_grammar.specs.Tree.{document, none};
+ghost use Rattle.kdl.specs.Tree.{nodes_tree, document_tree, document_format_tree};
+ghost use Rattle.kdl_grammar.specs.Laid.{with_mark, marked_format};
 ghost use Rattle.kdl_entry.specs.Tree.{text_of};
-ghost use Rattle.kdl.specs.Print.{print_document, print_block, leading_text, trailing_text, after_brace, before_brace};
+ghost use Rattle.kdl_grammar.specs.Print.{print_document, print_block, leading_text, trailing_text, after_brace, before_brace};
 ghost use Rattle.kdl.specs.Same.{same_document};
 ghost use Rattle.kdl.specs.declared.document.KdlDocument.{out-KdlDocument};
 ghost use Rattle.std.specs.Fmt.{WritesOnOk};
 ghost use Rattle.std.specs.Prelude.{◌≡◌, ◌++◌, [], ◌∷◌, IfOk, None, Some, option_map, true};
 ghost use Rattle.std.specs.Str.{chars, encode_utf8_all};
+
+pub mod args;
+mod fields;
+mod iter;
+mod lookup;
 
 use crate::node::KdlNode;
 use crate::print::write_spaces;
@@ -95,6 +101,13 @@ impl KdlDocument {
     {
         self.format = Some(behind_mark(alloc, self.format.take())?);
         Ok(self)
+    }
+
+    /// The nodes, the texts around them and the span.
+    pub(crate) fn into_parts(self) -> (Vec<KdlNode>, Option<KdlDocumentFormat>, SourceSpan)
+        ensures { document_tree self ≡ document (option_map document_format_tree result.1) result.2 (nodes_tree result.0.items) }
+    {
+        (self.nodes, self.format, self.span)
     }
 
     /// The nodes, in order.

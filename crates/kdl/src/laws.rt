@@ -1,78 +1,11 @@
-//! What is proved of the written grammar of documents and nodes.
+//! Laws: of the written grammar of documents and nodes; of what an edit changes in the printed text; of equality, hashes
+//! and copies.
 
-ghost use Rattle.kdl.specs.Laws.{OneDocument, OneNode, IsLexed, OneAnswer, AnswersDocuments, AnswersAreLaid, LaidIsDerived, LaidNodeIsDerived, NodesAreLaid, FormerIsKept, ReadsBack, EditedIsLaid};
+pub use kdl_grammar::laws::{
+    answers, answers_are_laid, edited_is_laid, former_is_kept, laid_is_derived,
+    laid_node_is_derived, lexed, nodes_are_laid, one_answer, reads_back, unambiguous,
+    unambiguous_node,
+};
 
-/// No text can be read as two documents.
-#[tactic(auto, using(crate::proofs::LawProofs::one_document))]
-pub fn unambiguous()
-    ensures { OneDocument }
-{}
-
-/// No text can be read as two nodes.
-#[tactic(auto, using(crate::proofs::LawProofs::one_node))]
-pub fn unambiguous_node()
-    ensures { OneNode }
-{}
-
-/// A document is cut into tokens, with nothing left.
-#[tactic(auto, using(crate::proofs::LawProofs::is_lexed))]
-pub fn lexed()
-    ensures { IsLexed }
-{}
-
-/// The machine has one answer at most on each text.
-#[tactic(auto, using(crate::proofs::LawProofs::one_answer))]
-pub fn one_answer()
-    ensures { OneAnswer }
-{}
-
-/// The machine answers exactly where the text is a document, with the document's data.
-#[tactic(auto, using(crate::proofs::LawProofs::answers_documents))]
-pub fn answers()
-    ensures { AnswersDocuments }
-{}
-
-/// What the machine answers is laid in the text, with its spans.
-#[tactic(auto, using(crate::proofs::LawProofs::answers_are_laid))]
-pub fn answers_are_laid()
-    ensures { AnswersAreLaid }
-{}
-
-/// Where a document is laid in a text, the text is a document with its data, and it is what the document prints.
-#[tactic(auto, using(crate::proofs::LawProofs::laid_is_derived))]
-pub fn laid_is_derived()
-    ensures { LaidIsDerived }
-{}
-
-/// Where a node is laid as a whole text, the text is a node with its data, and it is what the node prints.
-#[tactic(auto, using(crate::proofs::LawProofs::laid_node_is_derived))]
-pub fn laid_node_is_derived()
-    ensures { LaidNodeIsDerived }
-{}
-
-/// In each text that is a node, a node with its data is laid.
-#[tactic(auto, using(crate::proofs::LawProofs::nodes_are_laid))]
-pub fn nodes_are_laid()
-    ensures { NodesAreLaid }
-{}
-
-/// What the former language reads, in which spaces stood before each slashdash, the present one reads with the same data.
-#[tactic(auto, using(crate::proofs::LawProofs::former_is_kept))]
-pub fn former_is_kept()
-    ensures { FormerIsKept }
-{}
-
-/// A document that is laid in its own printed text, with the spellings and the forms that it prints, reads back: the text
-/// is a document with its data.
-#[tactic(auto, using(crate::proofs::Formed::reads_back))]
-pub fn reads_back()
-    ensures { ReadsBack }
-{}
-
-/// Where a document is laid, each document that differs from it, spans aside, in its nodes' entries alone, at each node
-/// some of its own entries and entries without format and spelling in any order, reads back from the text that it prints,
-/// and is laid there with the spellings and the forms that it prints.
-#[tactic(auto, using(crate::proofs::Formed::edited_is_laid))]
-pub fn edited_is_laid()
-    ensures { EditedIsLaid }
-{}
+pub mod edits;
+pub mod equality;

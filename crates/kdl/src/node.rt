@@ -1,13 +1,23 @@
 //! Nodes.
 
-ghost use Rattle.kdl.specs.Tree.{node, no_children, children_of, head_tree, node_tree, document_tree, node_format_tree};
-ghost use Rattle.kdl.specs.Print.{print_node, print_head, before_block, end_text};
+ghost use Rattle.kdl_grammar.specs.Tree.{node, no_children, children_of};
+ghost use Rattle.kdl.specs.Tree.{head_tree, node_tree, document_tree, node_format_tree};
+ghost use Rattle.kdl.specs.NodeText.{alone};
+ghost use Rattle.kdl_grammar.specs.Print.{print_node, print_head, before_block, end_text};
 ghost use Rattle.kdl.specs.Same.{same_node};
 ghost use Rattle.kdl.specs.declared.node.KdlNode.{out-KdlNode};
-ghost use Rattle.kdl_entry.specs.Tree.{identifier_tree, entry_tree};
+ghost use Rattle.kdl_entry.specs.Tree.{identifier_tree, entry_tree, text_of};
 ghost use Rattle.std.specs.Fmt.{WritesOnOk};
 ghost use Rattle.std.specs.Prelude.{◌≡◌, [], IfOk, None, Some, map, option_map, true};
 ghost use Rattle.std.specs.Str.{encode_utf8_all};
+
+mod clears;
+mod edit;
+mod fields;
+pub mod iter;
+pub mod key;
+mod lookup;
+pub(crate) mod places;
 
 use crate::document::KdlDocument;
 use crate::print::{ends_formatted, write_pieces, write_spaces};
@@ -117,6 +127,17 @@ impl KdlNode {
             format: Some(format),
             span,
         }
+    }
+
+    /// The node as it stands in a text of its own: with the text behind its terminator, and the span.
+    pub(crate) fn alone(mut self, trailing: String, whole: SourceSpan) -> KdlNode
+        ensures { node_tree result ≡ alone (node_tree self) (text_of trailing) whole }
+    {
+        if let Some(format) = &mut self.format {
+            format.trailing = trailing;
+        }
+        self.set_span(whole);
+        self
     }
 
     /// The name.

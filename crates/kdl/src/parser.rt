@@ -1,13 +1,16 @@
 //! Documents, read from the tokens of a text one by one.
 
 ghost use Rattle.kdl.specs.Answered.{BuildAnswers, ReadAnswers};
-ghost use Rattle.kdl.specs.Laid.{with_mark};
+ghost use Rattle.kdl_grammar.specs.Laid.{with_mark};
 ghost use Rattle.kdl.specs.Building.{EndsIn};
+ghost use Rattle.kdl.specs.Counted.{ReadThrough, Counted};
 ghost use Rattle.kdl.specs.Tree.{document_tree};
 ghost use Rattle.kdl_text.specs.Chars.{begins};
-ghost use Rattle.kdl_text.specs.Here.{bytes};
-ghost use Rattle.std.specs.Prelude.{◌≡◌, ◌+◌, IfOk};
+ghost use Rattle.kdl_text.specs.Here.{bytes, raise};
+ghost use Rattle.std.specs.Prelude.{◌≡◌, ◌+◌, ◌*◌, ◌≤◌, length, IfOk, OnOk};
 ghost use Rattle.std.specs.Str.{chars};
+
+mod nodes;
 
 use crate::builder::Builder;
 use crate::document::KdlDocument;
@@ -16,23 +19,26 @@ use kdl_entry::items::{LexFailure, Lexer};
 use kdl_text::chars::{Checkpoint, Steps};
 use kdl_text::error::ParseFailure;
 use std::alloc::Global;
+use std::mem;
 
 /// The machine's answer on what the lexer has before it, the text or what follows its U+FEFF.
-#[tactic(auto, using(crate::proofs::TokenTurns::starts, crate::proofs::TokenTurns::goes_on, crate::proofs::TokenTurns::placed_start, crate::proofs::TokenTurns::start_end, crate::proofs::TokenTurns::lexer_told, crate::proofs::TokenTurns::take_told, crate::proofs::TokenTurns::all_read, crate::proofs::TokenTurns::stops_going, crate::proofs::TokenTurns::from_now, crate::proofs::TokenTurns::finish_told, crate::proofs::TokenTurns::nearer))]
+#[tactic(auto, using(crate::proofs::Counting::counting_starts, crate::proofs::Counting::counting_ends, crate::proofs::TokenTurns::starts, crate::proofs::TokenTurns::goes_on, crate::proofs::TokenTurns::placed_start, crate::proofs::TokenTurns::start_end, crate::proofs::TokenTurns::lexer_told, crate::proofs::TokenTurns::take_told, crate::proofs::TokenTurns::all_read, crate::proofs::TokenTurns::stops_going, crate::proofs::TokenTurns::from_now, crate::proofs::TokenTurns::finish_told, crate::proofs::TokenTurns::nearer))]
 fn build<'a>(
     alloc: Global,
     whole: Checkpoint<'a>,
-    mut lexer: Lexer<'a>,
+    lexer: &mut Lexer<'a>,
 ) -> Result<KdlDocument, LexFailure>
-    requires text { EndsIn whole.rest lexer.rest }
-    requires at { lexer.at + bytes lexer.rest ≡ bytes whole.rest }
-    ensures { BuildAnswers whole.entry.rest lexer.entry.rest result }
+    requires text { EndsIn whole.rest lexer.old.rest }
+    requires at { lexer.old.at + bytes lexer.old.rest ≡ bytes whole.rest }
+    ensures answers { BuildAnswers whole.entry.rest lexer.old.rest result }
+    ensures counted { OnOk result (ReadThrough lexer.old lexer.new) }
+    ensures counts { raise lexer.old.steps 0 ≤ raise lexer.new.steps 0 }
 {
     let mut builder = Builder::new(alloc, whole, lexer.checkpoint());
     'tokens: loop {
         match lexer.next(alloc) {
             Ok(Some(token)) => {
-                if let Err(failure) = builder.take(alloc, &mut lexer, token) {
+                if let Err(failure) = builder.take(alloc, lexer, token) {
                     return Err(failure);
                 }
             }
@@ -40,15 +46,17 @@ fn build<'a>(
             Err(failure) => return Err(failure),
         }
     }
-    builder.finish(alloc, &mut lexer)
+    builder.finish(alloc, lexer)
 }
 
-/// The machine's answer on the text.
+/// The machine's answer on the text that the lexer is at the start of.
 #[tactic(auto, using(crate::proofs::LeadingMark::mark_ends, crate::proofs::LeadingMark::mark_at, crate::proofs::LeadingMark::without_mark, crate::proofs::LeadingMark::behind_mark, crate::proofs::LeadingMark::fails_behind_mark))]
-fn read(alloc: Global, text: &str) -> Result<KdlDocument, LexFailure>
-    ensures { ReadAnswers (chars text.now) result }
+fn read_all(alloc: Global, lexer: &mut Lexer) -> Result<KdlDocument, LexFailure>
+    requires { lexer.old.at ≡ 0 }
+    ensures answers { ReadAnswers lexer.old.rest result }
+    ensures counted { OnOk result (Counted lexer.old.rest lexer.old.steps lexer.new.steps) }
+    ensures raised { raise lexer.old.steps 1 ≤ lexer.new.steps }
 {
-    let mut lexer = Lexer::new(text, Steps::new());
     let whole = lexer.checkpoint();
     if !lexer.eat_mark() {
         return build(alloc, whole, lexer);
@@ -59,21 +67,32 @@ fn read(alloc: Global, text: &str) -> Result<KdlDocument, LexFailure>
     }
 }
 
+/// The machine's answer on the text, which raises the count.
+fn read(alloc: Global, text: &str, steps: &mut Steps) -> Result<KdlDocument, LexFailure>
+    ensures answers { ReadAnswers (chars text.now) result }
+    ensures counted { OnOk result (Counted (chars text.now) steps.old steps.new) }
+    ensures raised { raise steps.old 1 ≤ steps.new }
+{
+    let mut lexer = Lexer::new(text, mem::replace(steps, Steps::new()));
+    let answer = read_all(alloc, &mut lexer);
+    *steps = lexer.into_steps();
+    answer
+}
+
 impl KdlDocument {
-    ghost use Rattle.kdl.specs.Data.{Nodes};
-    ghost use Rattle.kdl.specs.Edited.{IsEdited, EachDocument};
-    ghost use Rattle.kdl.specs.Former.{IsFormerDocument};
-    ghost use Rattle.kdl.specs.Grammar.{IsDocument};
-    ghost use Rattle.kdl.specs.Laid.{LaidDocument};
-    ghost use Rattle.kdl.specs.Print.{print_document};
-    ghost use Rattle.kdl.specs.Tree.{Document, document_data};
+    ghost use Rattle.kdl_grammar.specs.Data.{Nodes};
+    ghost use Rattle.kdl_grammar.specs.Edited.{IsEdited, EachDocument};
+    ghost use Rattle.kdl_grammar.specs.Former.{IsFormerDocument};
+    ghost use Rattle.kdl_grammar.specs.Grammar.{IsDocument};
+    ghost use Rattle.kdl_grammar.specs.Laid.{LaidDocument};
+    ghost use Rattle.kdl_grammar.specs.Print.{print_document};
+    ghost use Rattle.kdl_grammar.specs.Tree.{Document, document_data};
     ghost use Rattle.kdl_text.specs.Failures.{IsSyntax, TellsOnSyntax};
     ghost use Rattle.std.specs.Prelude.{true};
 
     /// The document of a text, with every byte of its form (KDL 2.0.0, Document). `Syntax`: the text is none.
     /// Its error has one diagnostic, at the first token that fits nothing or the first piece that is none.
     /// `Memory`: a request for memory was refused. Nothing is made then.
-    #[tactic(auto, using(crate::proofs::Outcomes::found, crate::proofs::Outcomes::only, crate::proofs::Outcomes::laid, crate::proofs::Outcomes::prints, crate::proofs::Outcomes::refused, crate::proofs::Outcomes::former, crate::proofs::Outcomes::former_refused, crate::proofs::EditedOutcomes::edited_found))]
     pub fn parse(alloc: Global, text: &str) -> Result<KdlDocument, ParseFailure>
         // What is answered is what the grammar derives,
         ensures found { IfOk result (λ d. IsDocument true (chars text.now) (document_data (document_tree d))) }
@@ -91,7 +110,35 @@ impl KdlDocument {
         // entries without form, prints a text that is derived with its data.
         ensures edited { IfOk result (λ d. (e : Document) → EachDocument IsEdited (document_tree d) e → IsDocument true (print_document e 0) (document_data e)) }
     {
-        match read(alloc, text) {
+        let mut steps = Steps::new();
+        KdlDocument::parse_counted(alloc, text, &mut steps)
+    }
+
+    /// The document of a text, as by `parse`, which raises the count by the steps that it takes, up to the greatest
+    /// `u64`. A step is one look at a character or at a token, or one byte of a slice of the text.
+    ///
+    /// A document of n bytes takes at least a step for each character and at most 32 (n + 1) steps. What is refused
+    /// takes at least one.
+    #[tactic(auto, using(crate::proofs::Outcomes::found, crate::proofs::Outcomes::only, crate::proofs::Outcomes::laid, crate::proofs::Outcomes::prints, crate::proofs::Outcomes::refused, crate::proofs::Outcomes::former, crate::proofs::Outcomes::former_refused, crate::proofs::EditedOutcomes::edited_found))]
+    pub fn parse_counted(
+        alloc: Global,
+        text: &str,
+        steps: &mut Steps,
+    ) -> Result<KdlDocument, ParseFailure>
+        ensures found { IfOk result (λ d. IsDocument true (chars text.now) (document_data (document_tree d))) }
+        ensures only { IfOk result (λ d. (x : Nodes) → IsDocument true (chars text.now) x → x ≡ document_data (document_tree d)) }
+        ensures laid { IfOk result (λ d. LaidDocument true (document_tree d) (chars text.now)) }
+        ensures prints { IfOk result (λ d. print_document (document_tree d) 0 ≡ chars text.now) }
+        ensures refused { IsSyntax result → (x : Nodes) → IsDocument true (chars text.now) x → ⊥ }
+        ensures told { TellsOnSyntax text.now result }
+        ensures former { (x : Nodes) → IsFormerDocument (chars text.now) x → IfOk result (λ d. document_data (document_tree d) ≡ x) }
+        ensures edited { IfOk result (λ d. (e : Document) → EachDocument IsEdited (document_tree d) e → IsDocument true (print_document e 0) (document_data e)) }
+        // At least a step for each character is counted, and at most 32 for each byte and 32 more.
+        ensures least { OnOk result (raise steps.old (length (chars text.now)) ≤ steps.new) }
+        ensures most { OnOk result (steps.new ≤ steps.old + 32 * (length text.now + 1)) }
+        ensures raised { raise steps.old 1 ≤ steps.new }
+    {
+        match read(alloc, text, steps) {
             Ok(document) => Ok(document),
             Err(LexFailure::Faulty(fault)) => Err(failure(alloc, text, fault.span)),
             Err(LexFailure::Memory) => Err(ParseFailure::Memory),

@@ -1,6 +1,6 @@
 //! Parts of the printed text.
 
-ghost use Rattle.kdl.specs.Print.{spaces, print_piece, print_pieces, last_has_format};
+ghost use Rattle.kdl_grammar.specs.Print.{spaces, print_piece, print_pieces, last_has_format};
 ghost use Rattle.kdl_entry.specs.Tree.{entry_tree};
 ghost use Rattle.std.specs.Fmt.{WritesOnOk};
 ghost use Rattle.std.specs.Prelude.{◌≡◌, map};

@@ -1,6 +1,7 @@
 pub mod Between
 pub mod Built
 pub mod Comparing
+pub mod Counting
 pub mod Cutting
 pub mod Derivation
 pub mod EntryAnswering

@@ -1,6 +1,6 @@
 -- The item that a reader's fields stand for, and what its steps answer.
-use Rattle.std.specs.Prelude.{◌≡◌, Option, Some, None, option_map, Result, Ok, Err}
-use Rattle.kdl_text.specs.Here.{Here, Spot}
+use Rattle.std.specs.Prelude.{◌≡◌, ◌≤◌, Option, Some, None, option_map, Result, Ok, Err}
+use Rattle.kdl_text.specs.Here.{Here, Spot, raise}
 use Rattle.kdl_entry.specs.Handed.{IsFaultAt}
 use Rattle.kdl_entry.specs.Items as items
 use Rattle.kdl_entry.specs.Items.{Answer, goes, gives, refuses}
@@ -14,18 +14,22 @@ use Rattle.kdl_entry.specs.declared.items.item.TypeParts.{TypeParts}
 use Rattle.kdl_entry.specs.declared.items.lexer.LexFailure.{LexFailure}
 use Rattle.kdl_entry.specs.declared.items.lexer.LexFailure.TheVariants.{Faulty, Memory}
 
+-- a type in memory, as characters
 abbrev pub type_view : TypeParts → items.TypeParts
 type_view y = record { name = identifier_tree y.name; before = text_of y.before; after = text_of y.after; behind = text_of y.behind }
 
+-- a key in memory, as characters
 abbrev pub key_view : KeyParts → items.KeyParts
 key_view k = record { name = identifier_tree k.name; before = text_of k.before; behind = text_of k.behind }
 
+-- the stage that the reader's field stands for
 abbrev pub stage_view : Stage → items.Stage
 stage_view Opened = items.opened
 stage_view Named = items.named
 stage_view Closed = items.closed
 stage_view Keyed = items.keyed
 
+-- the item that the reader's fields stand for
 abbrev pub item_view : Item → items.Item
 item_view it = record {
   kept = it.kept;
@@ -53,7 +57,8 @@ pub record Holds (old new : items.Item) : Type 0 where
   pub leading : new.leading ≡ old.leading
   pub start : new.start ≡ old.start
 
--- the lexer is where it was
+-- the lexer is where it was, and its count did not fall
 pub record Stays (old new : Here) : Type 0 where
   pub rest : new.rest ≡ old.rest
   pub at : new.at ≡ old.at
+  pub counts : raise old.steps 0 ≤ raise new.steps 0

@@ -62,6 +62,7 @@ came it (goes next) s r = Some (under next)
 came it (gives k y v) s r = Some (given it.kept it.leading k y v s r)
 came it refuses s r = None
 
+-- the token k stands in s before r, in the text `whole`
 abbrev pub step : Text → State → Token → Text → Text → Option State
 step whole ahead space s r = Some ahead
 step whole ahead newline s r = Some ahead
@@ -88,6 +89,7 @@ step whole (done e from) space s r = Some (done e from)
 step whole (done e from) newline s r = Some (done e from)
 step _ _ _ _ _ = None
 
+-- the format with that trailing text
 abbrev pub with_trailing : Text → EntryFormat → EntryFormat
 with_trailing p f = record f { trailing = p }
 

@@ -16,9 +16,11 @@ use Rattle.kdl_entry.specs.declared.items.entries.Word.{Word}
 use Rattle.kdl_entry.specs.declared.items.lexer.LexFailure.{LexFailure}
 use Rattle.kdl_entry.specs.declared.items.lexer.LexFailure.TheVariants.{Faulty, Memory}
 
+-- a string that may be a key, as characters
 abbrev pub word_view : Word → machine.Word
 word_view w = record { leading = text_of w.leading; value = text_of w.value; repr = text_of w.repr; span = w.span }
 
+-- the machine's state that the reader's state stands for
 abbrev pub state_view : State → machine.State
 state_view Start = machine.ahead
 state_view Marked = machine.marked

@@ -82,7 +82,8 @@ Lexed old (Ok None) new = old.rest ≡ []
 Lexed old (Err (Faulty fault)) new = NoToken old.rest × IsFaultAt (record { rest = old.rest; at = old.at }) fault
 Lexed old (Err Memory) new = Unit {0}
 
--- a token that was handed out took at most 24 steps for each byte, and at least one for each character
+-- a token that was handed out took at most 24 steps for each byte, and at least one for each character; the end of the text one
 abbrev pub LexCosts : Result (Option Token) LexFailure → Here → Here → Type 0
 LexCosts (Ok (Some t)) old new = Costs 24 0 old new
+LexCosts (Ok None) old new = Costs 24 1 old new
 LexCosts _ old new = Unit {0}

@@ -25,30 +25,37 @@ pub record KeyParts : Type 0 where
   pub before : Text
   pub behind : Text
 
+-- the type
 abbrev pub type_of : Option TypeParts → Option Identifier
 type_of None = None
 type_of (Some y) = Some y.name
 
+-- the text before the type's name
 abbrev pub before_name : Option TypeParts → Text
 before_name None = []
 before_name (Some y) = y.before
 
+-- the text behind the type's name
 abbrev pub after_name : Option TypeParts → Text
 after_name None = []
 after_name (Some y) = y.after
 
+-- the text behind the type's `)`
 abbrev pub behind_type : Option TypeParts → Text
 behind_type None = []
 behind_type (Some y) = y.behind
 
+-- the name of the property
 abbrev pub key_of : Option KeyParts → Option Identifier
 key_of None = None
 key_of (Some k) = Some k.name
 
+-- the text before the `=`
 abbrev pub before_equals : Option KeyParts → Text
 before_equals None = []
 before_equals (Some k) = k.before
 
+-- the text behind the `=`
 abbrev pub behind_equals : Option KeyParts → Text
 behind_equals None = []
 behind_equals (Some k) = k.behind
@@ -98,16 +105,22 @@ pub record Item : Type 0 where
   pub before : Text
   pub after : Text
 
+-- no item yet, at the place s
+abbrev pub no_item : Text → Item
+no_item s = record { kept = false; valued = false; stage = opened; leading = []; start = s; from = s; key = None; name = plain_identifier []; before = []; after = [] }
+
 -- the item goes on, or gives its key, its type and its value, or the token may not stand here
 pub data Answer : Type 0 where
   goes : Item → Answer
   gives : Option KeyParts → Option TypeParts → Value → Answer
   refuses : Answer
 
+-- the item with the name of its type, and the text before it, where it is kept
 abbrev pub named_at : Bool → Identifier → Text → Text → Item → Item
 named_at true i before r it = record it { stage = named; name = i; before = before; from = r }
 named_at false i before r it = record it { stage = named; from = r }
 
+-- the item with the text behind the name of its type, where it is kept
 abbrev pub closed_at : Bool → Text → Text → Item → Item
 closed_at true after r it = record it { stage = closed; after = after; from = r }
 closed_at false after r it = record it { stage = closed; from = r }
@@ -127,9 +140,11 @@ abbrev pub emptied : Bool → Item → Item
 emptied true it = record it { name = plain_identifier []; before = [] }
 emptied false it = it
 
+-- behind the `(` of a type that follows the key k
 abbrev pub reopened : Option KeyParts → Text → Item → Item
 reopened k r it = record (emptied it.kept it) { stage = opened; valued = true; key = k; from = r }
 
+-- a number or a keyword gives a value alone, and no name
 abbrev pub if_valued : Bool → Answer → Answer
 if_valued true a = a
 if_valued false a = refuses
@@ -149,5 +164,6 @@ move keyed whole it (value v) s r = gives (key_at it.kept it s) None v
 move keyed whole it left s r = goes (reopened (key_at it.kept it s) r it)
 move _ whole it k s r = refuses
 
+-- the step at a token
 abbrev pub step : Text → Item → Token → Text → Text → Answer
 step whole it k s r = move it.stage whole it k s r

@@ -1,4 +1,5 @@
 pub mod Building
+pub mod Counted
 pub mod Data
 pub mod Entries
 pub mod EntryMachine
@@ -13,6 +14,7 @@ pub mod Laws
 pub mod Order
 pub mod Places
 pub mod Print
+pub mod Refused
 pub mod Spelled
 pub mod Tokens
 pub mod Tree

@@ -135,9 +135,11 @@ or_null (Some v) = v
 abbrev pub text_of : String Global → Text
 text_of s = chars (string_bytes s)
 
+-- the text of a float
 abbrev pub float_text_of : KdlFloat → Text
 float_text_of f = text_of f.text
 
+-- the value in memory, with texts as characters
 abbrev pub value_tree : KdlValue → Value
 value_tree (StringValue s) = text (text_of s)
 value_tree (Integer z) = integer z
@@ -145,9 +147,11 @@ value_tree (FloatValue f) = float (float_text_of f)
 value_tree (BoolValue b) = truth b
 value_tree Null = null
 
+-- the identifier in memory, with texts as characters
 abbrev pub identifier_tree : KdlIdentifier → Identifier
 identifier_tree i = record { value = text_of i.value; repr = option_map text_of i.repr; span = i.span }
 
+-- the format of an entry in memory, with texts as characters
 abbrev pub entry_format_tree : KdlEntryFormat → EntryFormat
 entry_format_tree f = record {
   value_repr = text_of f.value_repr;
@@ -161,6 +165,7 @@ entry_format_tree f = record {
   autoformat_keep = f.autoformat_keep;
 }
 
+-- the entry in memory, with texts as characters
 abbrev pub entry_tree : KdlEntry → Entry
 entry_tree e = record {
   ty = option_map identifier_tree e.ty;

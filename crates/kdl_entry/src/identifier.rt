@@ -5,6 +5,8 @@ ghost use Rattle.kdl_entry.specs.Tree.{identifier_tree, plain_identifier, text_o
 ghost use Rattle.kdl_text.specs.Here.{bytes};
 ghost use Rattle.std.specs.Prelude.{◌≡◌, ◌↔◌, IsTrue, IfOk, [], Some, option_map};
 ghost use Rattle.std.specs.Str.{chars, encode_utf8_all};
+ghost use Rattle.std.specs.String.{string_vec};
+ghost use Rattle.std.specs.Vec.{vec_allocator};
 
 use crate::print::write_text;
 use crate::spelled::write_spelled;
@@ -82,6 +84,13 @@ impl KdlIdentifier {
         ensures { identifier_tree self.new ≡ unspelled (identifier_tree self.old) }
     {
         self.clear_format();
+    }
+
+    /// The allocator of the string.
+    pub fn allocator(&self) -> &Global
+        ensures { result.now ≡ vec_allocator (string_vec self.now.value) }
+    {
+        self.value.allocator()
     }
 
     /// The length of the printed text, in bytes. It prints the identifier: it fails where memory is wanting.

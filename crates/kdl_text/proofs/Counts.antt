@@ -40,7 +40,7 @@ raw_count {p = p} {r = r} (raw.content is e) = omega (arith, raw_units_count is,
 
 -- a newline, lines of n units, and their dedent
 pub dedent_moves : (a m e h : Here) (k : ℕ) → Moves a m → Moves m e → h ≡ counted k e → Moves a h
-dedent_moves a m e h k v w is = let x = moves_then v w in rw is (record { piece = x.piece; at = x.at })
+dedent_moves a m e h k v w is = let x = moves_then v w in rw is (record { piece = x.piece; at = x.at; counts = omega (arith, x.counts) })
 
 pub lines_cost : (a m e h : Here) (k n : ℕ) → Moves a m → Costs 2 1 a m → Moves m e → Costs 3 1 m e → n + length e.rest ≤ length m.rest → k ≤ 0 + n + 2 → h ≡ counted k e → Costs 4 4 a h
 lines_cost a m e h k n v c w d few under is =

@@ -197,7 +197,7 @@ whole_err false e z h = refl
 
 -- slices cost a step for each byte
 pub slice_moves : (p : Text) (a b : Here) → b ≡ sliced p a → Moves a b
-slice_moves p a b e = rw e (record { piece = ([], refl); at = refl })
+slice_moves p a b e = rw e (record { piece = ([], refl); at = refl; counts = omega arith })
 
 pub slice_costs : (c : ℕ) (p : Text) (a b e : Here) → a.rest ≡ p ++ b.rest → Costs 2 c a b → e ≡ sliced p b → c ≤ 17 → length b.rest < length a.rest → Costs 20 0 a e
 slice_costs c p a b e h k x le less =

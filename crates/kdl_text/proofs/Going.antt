@@ -6,25 +6,26 @@ use Rattle.kdl_text.specs.Here.{Here, Took, TookTwo, Stayed, looked, stepped, fi
 use Rattle.kdl_text.specs.Reading.{Moves, Costs}
 
 pub stays : (a : Here) → Moves a a
-stays a = record { piece = ([], refl); at = refl }
+stays a = record { piece = ([], refl); at = refl; counts = omega arith }
 
 pub moves_then : {a b e : Here} → Moves a b → Moves b e → Moves a e
 moves_then {a = a} {b = b} {e = e} m n = record {
   piece = (m.piece.0 ++ n.piece.0, m.piece.1 ∙ ap (λ x. m.piece.0 ++ x) n.piece.1 ∙ sym (append_assoc m.piece.0 n.piece.0 e.rest));
   at = n.at ∙ m.at;
+  counts = omega (arith, m.counts, n.counts);
 }
 
 pub moves_stayed : {k : ℕ} {a b : Here} → Stayed k a b → Moves a b
-moves_stayed s = record { piece = ([], sym s.rest); at = omega (arith, ap bytes s.rest, s.at) }
+moves_stayed s = record { piece = ([], sym s.rest); at = omega (arith, ap bytes s.rest, s.at); counts = omega (arith, s.steps) }
 
 pub moves_one : {c : ℕ} {a b : Here} → Took (Some c) a b → Moves a b
-moves_one {c = c} (r, at, s) = record { piece = (c ∷ [], r); at = omega (arith, ap bytes r, at) }
+moves_one {c = c} (r, at, s) = record { piece = (c ∷ [], r); at = omega (arith, ap bytes r, at); counts = omega (arith, s) }
 
 pub moves_two : {c d : ℕ} {a b : Here} → TookTwo c d a b → Moves a b
-moves_two {c = c} {d = d} t = record { piece = (c ∷ d ∷ [], t.rest); at = omega (arith, ap bytes t.rest, t.at) }
+moves_two {c = c} {d = d} t = record { piece = (c ∷ d ∷ [], t.rest); at = omega (arith, ap bytes t.rest, t.at); counts = omega (arith, t.steps) }
 
 pub moves_looked : (f a b : Here) → b ≡ looked a → Moves f a → Moves f b
-moves_looked f a b e m = rw e (record { piece = m.piece; at = m.at })
+moves_looked f a b e m = rw e (record { piece = m.piece; at = m.at; counts = omega (arith, m.counts) })
 
 pub moves_took : (c : ℕ) (f a b : Here) → Took (Some c) a b → Moves f a → Moves f b
 moves_took c f a b t m = moves_then m (moves_one t)

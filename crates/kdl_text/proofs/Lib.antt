@@ -2,6 +2,7 @@ pub mod Bares
 mod Blanks
 mod Blocks
 mod Bodies
+pub mod Classes
 pub mod Closings
 mod Contents
 mod Counts

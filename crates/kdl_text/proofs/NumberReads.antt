@@ -122,7 +122,7 @@ mark_other k a b m e h s x y =
     let steps : e.steps ≡ raise a.steps 2 = ap (λ z. z.steps) y ∙ ap (λ z. z.steps) x ∙ s.steps in
     record {
       mark = subst (λ q. BaseMark q e.rest k) (sym w) (other (ap marked (sym w) ∙ h));
-      moves = record { piece = (c ∷ d ∷ [], w); at = omega (arith, ap bytes w, at) };
+      moves = record { piece = (c ∷ d ∷ [], w); at = omega (arith, ap bytes w, at); counts = omega (arith, steps) };
       costs = record { most = omega (arith, ap bytes w, steps, (len_utf8_bounds c).0, (len_utf8_bounds d).0); least = omega (arith, ap length w, steps) };
     }
 

@@ -1,12 +1,12 @@
 -- Runs of characters of a class.
-use Rattle.std.proofs.Common.{◌≡◌, ℕ, ◌+◌, ◌≤◌, List, [], ◌∷◌, ◌++◌, Bool, true, false, length, refl, ap, sym, ◌∙◌, arith, append_assoc}
+use Rattle.std.proofs.Common.{◌≡◌, ℕ, ◌+◌, ◌≤◌, List, [], ◌∷◌, ◌++◌, Bool, true, false, length, refl, ap, sym, ◌∙◌, arith, append_assoc, length-append}
 use Rattle.std.proofs.lemmas.List.Folds.{list_all-append}
 use Rattle.std.proofs.lemmas.Str.{len_utf8_bounds}
 use Rattle.std.specs.List.{list_all}
 use Rattle.std.specs.Str.{chars}
 use Rattle.std.specs.Char.{len_utf8}
 use Rattle.kdl_text.specs.Chars.{Text, starts}
-use Rattle.kdl_text.specs.Here.{bytes, RunOf}
+use Rattle.kdl_text.specs.Here.{bytes, AsciiOf, RunOf}
 use Rattle.kdl_text.proofs.Going.{bytes-append}
 
 -- the run read so far
@@ -17,21 +17,17 @@ pub record SoFar (p : ℕ → Bool) (old new : List ℕ) (count : ℕ) : Type 0 
   pub len : length old ≡ bytes run + length new
   pub count_is : count ≡ length run
 
-pub run_begins : (p : ℕ → Bool) (s : List ℕ) → SoFar p s s 0
-run_begins p s = record { run = []; text = refl; all = refl; len = omega arith; count_is = refl }
+pub run_begins : (p : ℕ → Bool) (s r : List ℕ) (n : ℕ) → AsciiOf p s r n → SoFar p s r n
+run_begins p s r n i = record { run = i.run; text = i.text; all = i.all; len = omega (arith, i.len, i.bytes_is); count_is = sym i.count_is }
 
-pub run_turn : (p : ℕ → Bool) (old s r : List ℕ) (c n : ℕ) → SoFar p old s n → chars s ≡ c ∷ chars r → length s ≡ len_utf8 c + length r → p c ≡ true → SoFar p old r (n + 1)
-run_turn p old s r c n i e l h = record {
-  run = i.run ++ c ∷ [];
-  text = i.text ∙ ap (λ z. i.run ++ z) e ∙ sym (append_assoc i.run (c ∷ []) (chars r));
-  all = rw (list_all-append p i.run (c ∷ []), i.all, h) refl;
-  len = omega (arith, i.len, l, bytes-append i.run (c ∷ []));
-  count_is = omega (arith, i.count_is, length-snoc i.run);
+pub run_turn : (p : ℕ → Bool) (old s t r : List ℕ) (c n m : ℕ) → SoFar p old s n → chars s ≡ c ∷ chars t → length s ≡ len_utf8 c + length t → p c ≡ true → AsciiOf p t r m → SoFar p old r (n + (1 + m))
+run_turn p old s t r c n m i e l h a = record {
+  run = i.run ++ c ∷ a.run;
+  text = i.text ∙ ap (λ z. i.run ++ z) (e ∙ ap (λ z. c ∷ z) a.text) ∙ sym (append_assoc i.run (c ∷ a.run) (chars r));
+  all = rw (list_all-append p i.run (c ∷ a.run), i.all, h, a.all) refl;
+  len = omega (arith, i.len, l, a.len, a.bytes_is, bytes-append i.run (c ∷ a.run));
+  count_is = omega (arith, i.count_is, a.count_is, length-append i.run (c ∷ a.run));
 }
-  where
-    length-snoc : (xs : List ℕ) → length (xs ++ c ∷ []) ≡ length xs + 1
-    length-snoc [] = refl
-    length-snoc (x ∷ xs) = omega (arith, length-snoc xs)
 
 pub length-bytes : (s : Text) → length s ≤ bytes s
 length-bytes [] = omega arith

@@ -12,7 +12,7 @@ use Rattle.kdl_text.proofs.Runs.{length-bytes}
 use Rattle.std.proofs.lemmas.Str.{len_utf8_bounds}
 
 pub moves_ran : {p : ℕ → Bool} {run : Text} {a b : Here} → Ran p run a b → Moves a b
-moves_ran {run = run} {b = b} r = record { piece = (run, r.text); at = omega (arith, ap bytes r.text, bytes-append run b.rest, r.at) }
+moves_ran {run = run} {b = b} r = record { piece = (run, r.text); at = omega (arith, ap bytes r.text, bytes-append run b.rest, r.at); counts = omega (arith, r.steps) }
 
 pub costs_ran : {p : ℕ → Bool} {run : Text} {a b : Here} → Ran p run a b → Costs 1 1 a b
 costs_ran {run = run} {b = b} r = record {
@@ -24,7 +24,7 @@ pub run_ran : {p : ℕ → Bool} {run : Text} {a b : Here} → Ran p run a b →
 run_ran {run = run} r = record { run = run; text = r.text; all = r.all; stops = r.stops }
 
 pub moves_sliced : (x : Text) (f a b : Here) → b ≡ sliced x a → Moves f a → Moves f b
-moves_sliced x f a b e m = rw e (record { piece = m.piece; at = m.at })
+moves_sliced x f a b e m = rw e (record { piece = m.piece; at = m.at; counts = omega (arith, m.counts) })
 
 -- a slice of what was read since f
 pub costs_sliced : (c : ℕ) (x : Text) (f a b : Here) → b ≡ sliced x a → f.rest ≡ x ++ a.rest → Costs 1 c f a → Costs 2 c f b

@@ -50,7 +50,7 @@ module _ (f : Here) (n c : ℕ) (a b e : Here) (i : Inside f n a) (took : Took (
 
   looked_after : b.at ≡ e.at → b.rest ≡ e.rest → e.steps ≤ b.steps + 1 → b.steps ≤ e.steps → Moves f e × Costs 2 0 f e × (n + f.at ≤ e.at + 1)
   looked_after x y z w = (
-    (let m = moves_took _ _ _ _ took i.moves in record { piece = (m.piece.0, m.piece.1 ∙ ap (λ x. m.piece.0 ++ x) y); at = omega (arith, m.at, x, ap bytes y) }),
+    (let m = moves_took _ _ _ _ took i.moves in record { piece = (m.piece.0, m.piece.1 ∙ ap (λ x. m.piece.0 ++ x) y); at = omega (arith, m.at, x, ap bytes y); counts = omega (arith, i.moves.counts, took.2, z, w) }),
     record { most = omega (arith, ap bytes took.0, ap bytes y, took.2, i.costs.most, (len_utf8_bounds c).0); least = omega (arith, ap length took.0, ap length y, took.2, i.costs.least) },
     omega (arith, took.1, i.few),
   )

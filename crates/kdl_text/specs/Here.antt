@@ -1,9 +1,10 @@
 -- A place in a text that is read from left to right, and what a cursor's calls do to it.
-use Rattle.std.specs.Prelude.{◌≡◌, ℕ, ◌+◌, ◌-◌, ◌^◌, min, List, [], ◌∷◌, ◌++◌, length, Bool, true, false, not, Option, Some, None}
+use Rattle.std.specs.Prelude.{◌≡◌, ℕ, ◌+◌, ◌-◌, ◌^◌, ◌<◌, ◌==◌, min, List, [], ◌∷◌, ◌++◌, length, get_or, bit_and, Bool, true, false, not, Option, Some, None}
 use Rattle.std.specs.List.{list_all}
 use Rattle.std.specs.Char.{len_utf8}
 use Rattle.std.specs.Str.{chars}
 use Rattle.kdl_text.specs.Chars.{Text, begins, begins_two, starts, is_space, is_identifier_char, is_literal, is_newline_char, is_unquoted, is_number_sign, is_quote}
+use Rattle.kdl_text.specs.declared.chars.TheConstants.{ASCII}
 use Rattle.kdl_text.specs.declared.chars.Class.{Class}
 use Rattle.kdl_text.specs.declared.chars.Class.TheVariants.{Space, Identifier, Literal, Line, Unquoted, NumberSign, Quote}
 
@@ -110,6 +111,19 @@ pub record Ran (p : ℕ → Bool) (run : Text) (old new : Here) : Type 0 where
   pub stops : starts p new.rest ≡ false
   pub at : new.at ≡ old.at + bytes run
   pub steps : new.steps ≡ raise old.steps (length run + 1)
+
+-- the bit is set in the table for the ASCII characters of the class alone
+abbrev pub BitOf : (ℕ → Bool) → ℕ → Type 0
+BitOf p bit = (c : ℕ) → c < 128 → (bit_and (get_or ASCII c 0) bit == 0) ≡ not (p c)
+
+-- so many ASCII characters of the class begin the UTF-8 text `old`, which leave `new`
+pub record AsciiOf (p : ℕ → Bool) (old new : List ℕ) (count : ℕ) : Type 0 where
+  pub run : Text
+  pub text : chars old ≡ run ++ chars new
+  pub all : list_all p run ≡ true
+  pub len : length old ≡ count + length new
+  pub count_is : length run ≡ count
+  pub bytes_is : bytes run ≡ count
 
 -- a run of the class begins the UTF-8 text `old` and leaves `new`, where it stops; it has so many characters
 pub record RunOf (p : ℕ → Bool) (old new : List ℕ) (count : ℕ) : Type 0 where

@@ -8,10 +8,11 @@ abbrev pub Reads : (Text → Text → Type 0) → Bool → Text → Text → Typ
 Reads R true s rest = (r : Text) → R s r ↔ (r ≡ rest)
 Reads R false s rest = (r : Text) → R s r → ⊥
 
--- the cursor went on in the same text
+-- the cursor went on in the same text, and its count did not fall
 pub record Moves (old new : Here) : Type 0 where
   pub piece : (p : Text) × (old.rest ≡ p ++ new.rest)
   pub at : new.at + bytes new.rest ≡ old.at + bytes old.rest
+  pub counts : raise old.steps 0 ≤ raise new.steps 0
 
 -- at most k steps for each byte that was read, and c more, and at least one for each character
 pub record Costs (k c : ℕ) (old new : Here) : Type 0 where

@@ -4,11 +4,11 @@
 
 ghost use Rattle.kdl_text.specs.Chars as class;
 ghost use Rattle.kdl_text.specs.Chars.{Text, Newline};
-ghost use Rattle.kdl_text.specs.Here.{Here, Ahead, Behind, Skips, Took, Ate, AteTwo, Stayed, first, first_len, tail, looked, stepped, sliced, counted, bytes, raise, in_class, RunOf};
+ghost use Rattle.kdl_text.specs.Here.{Here, Ahead, Behind, Skips, Took, Ate, AteTwo, Stayed, first, first_len, tail, looked, stepped, sliced, counted, bytes, raise, in_class, RunOf, BitOf, AsciiOf};
 ghost use Rattle.kdl_text.specs.Reading.{Moves, Costs, ReadsNewline};
 ghost use Rattle.kdl_text.specs.Spans as spans;
 ghost use Rattle.std.specs.Char.{len_utf8};
-ghost use Rattle.std.specs.Prelude.{◌≡◌, ℕ, ◌+◌, ◌-◌, ◌<◌, ◌≤◌, ◌^◌, ◌++◌, ◌∷◌, [], length, MatchOption, IfSome, IfOk, IsTrue, ◌↔◌, string_bytes};
+ghost use Rattle.std.specs.Prelude.{◌≡◌, ℕ, Bool, true, ◌+◌, ◌-◌, ◌<◌, ◌≤◌, ◌^◌, ◌++◌, ◌∷◌, [], length, MatchOption, IfSome, IfOk, IsTrue, ◌↔◌, string_bytes};
 ghost use Rattle.std.specs.Str.{chars, IsUtf8};
 
 use crate::span::SourceSpan;
@@ -82,6 +82,9 @@ fn is_mark(c: char) -> bool
 pub fn is_identifier_char(c: char) -> bool
     ensures { result ≡ class.is_identifier_char c }
 {
+    if c.is_ascii() {
+        return ASCII[c as usize] & Class::Identifier.bit() != 0;
+    }
     !(is_space(c) || is_newline_char(c) || is_banned(c) || is_mark(c))
 }
 
@@ -130,9 +133,36 @@ pub enum Class {
     Quote,
 }
 
+/// The classes of each ASCII character, each class the bit that `Class::bit` gives it.
+static ASCII: [u8; 128] = [
+    0x08, 0x08, 0x08, 0x08, 0x08, 0x08, 0x08, 0x08, 0x08, 0x1d, 0x00, 0x00, 0x00, 0x00, 0x08, 0x08,
+    0x08, 0x08, 0x08, 0x08, 0x08, 0x08, 0x08, 0x08, 0x08, 0x08, 0x08, 0x08, 0x08, 0x08, 0x08, 0x08,
+    0x1d, 0x1e, 0x48, 0x3c, 0x1e, 0x1e, 0x1e, 0x1e, 0x1c, 0x1c, 0x1e, 0x1e, 0x1e, 0x1e, 0x1e, 0x1c,
+    0x1e, 0x1e, 0x1e, 0x1e, 0x1e, 0x1e, 0x1e, 0x1e, 0x1e, 0x1e, 0x1e, 0x1c, 0x1e, 0x1c, 0x1e, 0x1e,
+    0x1e, 0x1e, 0x1e, 0x1e, 0x1e, 0x1e, 0x1e, 0x1e, 0x1e, 0x1e, 0x1e, 0x1e, 0x1e, 0x1e, 0x1e, 0x1e,
+    0x1e, 0x1e, 0x1e, 0x1e, 0x1e, 0x1e, 0x1e, 0x1e, 0x1e, 0x1e, 0x1e, 0x1c, 0x18, 0x1c, 0x1e, 0x1e,
+    0x1e, 0x1e, 0x1e, 0x1e, 0x1e, 0x1e, 0x1e, 0x1e, 0x1e, 0x1e, 0x1e, 0x1e, 0x1e, 0x1e, 0x1e, 0x1e,
+    0x1e, 0x1e, 0x1e, 0x1e, 0x1e, 0x1e, 0x1e, 0x1e, 0x1e, 0x1e, 0x1e, 0x1c, 0x1e, 0x1c, 0x1e, 0x08,
+];
+
 impl Class {
-    /// Whether the character is of the class.
+    /// The bit of the class in `ASCII`.
     #[inline]
+    fn bit(self) -> u8
+        ensures { BitOf (in_class self) result }
+    {
+        match self {
+            Class::Space => 1,
+            Class::Identifier => 2,
+            Class::Literal => 4,
+            Class::Line => 8,
+            Class::Unquoted => 16,
+            Class::NumberSign => 32,
+            Class::Quote => 64,
+        }
+    }
+
+    /// Whether the character is of the class.
     pub fn has(self, c: char) -> bool
         ensures { result ≡ in_class self c }
     {
@@ -146,6 +176,30 @@ impl Class {
             Class::Quote => c == '"',
         }
     }
+}
+
+/// Whether the byte is an ASCII character of the class with this bit.
+#[inline]
+fn is_ascii_of(byte: u8, bit: u8) -> bool
+    ensures ascii { IsTrue result → byte < 128 }
+    ensures class { (p : ℕ → Bool) → BitOf p bit → IsTrue result → p byte ≡ true }
+{
+    byte.is_ascii() && ASCII[byte as usize] & bit != 0
+}
+
+/// The text behind its longest run of ASCII characters of the class, and how many these are.
+#[inline]
+#[tactic(auto, using(crate::proofs::Classes::ascii_begins, crate::proofs::Classes::ascii_turn, crate::proofs::Classes::ascii_boundary))]
+fn skip_ascii(text: &str, class: Class) -> (&str, u64)
+    ensures { AsciiOf (in_class class) text.now result.0.now result.1 }
+{
+    let bytes = text.as_bytes();
+    let bit = class.bit();
+    let mut count = 0;
+    'run: while count < bytes.len() && is_ascii_of(bytes[count], bit) {
+        count += 1;
+    }
+    (&text[count..], count as u64)
 }
 
 /// A count of steps, which stays at the greatest `u64` once it is there.
@@ -238,14 +292,14 @@ fn skip_class(text: &str, class: Class) -> (&str, u64)
     ensures { RunOf (in_class class) text.now result.0.now result.1 }
 {
     let _len = text.len();
-    let mut rest = text;
-    let mut count: u64 = 0;
+    let (mut rest, mut count) = skip_ascii(text, class);
     'run: while let Some((c, next)) = split_first(rest) {
         if !class.has(c) {
             break;
         }
-        rest = next;
-        count += 1;
+        let (behind, more) = skip_ascii(next, class);
+        rest = behind;
+        count += 1 + more;
     }
     (rest, count)
 }

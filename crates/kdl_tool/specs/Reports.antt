@@ -41,7 +41,6 @@ abbrev pub lines_of : KdlError → List ℕ
 lines_of e = flat_map diagnostic_line e.diagnostics.items
 
 -- what is written on standard error
-
 abbrev pub report_of : Outcome → List ℕ
 report_of Done = []
 report_of (Refused e) = lines_of e

@@ -1,8 +1,8 @@
 -- What a run of the tool reads, writes and answers.
 use Rattle.std.specs.Prelude.{◌≡◌, ℕ, ◌<◌, Bool, true, false, IsTrue, List, [], ◌∷◌, length, take, Option, Result, Err, IsUtf8, chars, codes}
 use Rattle.std.specs.Io.KnownBytes.{Appends, Consumes, IsAtEnd}
-use Rattle.kdl.specs.Data.{Nodes}
-use Rattle.kdl.specs.Grammar.{IsDocument}
+use Rattle.kdl_grammar.specs.Data.{Nodes}
+use Rattle.kdl_grammar.specs.Grammar.{IsDocument}
 use Rattle.kdl_tool.specs.declared.tool.Outcome.{Outcome}
 use Rattle.kdl_tool.specs.declared.tool.Outcome.TheVariants.{Done, Refused, NotUtf8, NoValue, Usage, ReadFailed, WriteFailed, Memory}
 use Rattle.kdl_tool.specs.declared.tool.Unread.{Unread}

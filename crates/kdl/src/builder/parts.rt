@@ -1,23 +1,26 @@
 //! Nodes, blocks and documents by their parts.
 
 ghost use Rattle.kdl.specs.Answered.{Finished};
-ghost use Rattle.kdl.specs.Machine as machine;
-ghost use Rattle.kdl.specs.Machine.{at, initial};
+ghost use Rattle.kdl_grammar.specs.Machine as machine;
+ghost use Rattle.kdl_grammar.specs.Machine.{at, initial};
 ghost use Rattle.kdl.specs.Building.{under_view, kept_view, nodes_view, frame_view, stacked, under_now, node_now, frames_view, pending_now, name_slot, entry_slot, valued_at, item_answer, state_view, held, Did, EndsIn, Placed};
-ghost use Rattle.kdl.specs.Laid as laid;
-ghost use Rattle.kdl.specs.Laid.{node_format};
-ghost use Rattle.kdl.specs.Tree.{node, none, no_children, children, children_of, node_tree, nodes_tree, document_tree, node_format_tree, document_format_tree};
+ghost use Rattle.kdl.specs.Counted.{up_to, unsliced};
+ghost use Rattle.kdl_grammar.specs.Laid as laid;
+ghost use Rattle.kdl_grammar.specs.Laid.{node_format};
+ghost use Rattle.kdl_grammar.specs.Tree.{node, none, no_children, children, children_of};
+ghost use Rattle.kdl.specs.Tree.{node_tree, nodes_tree, document_tree, node_format_tree, document_format_tree};
 ghost use Rattle.kdl_entry.specs.Building.{type_view, key_view, item_view, Stays};
+ghost use Rattle.kdl_entry.specs.Counted.{Sliced};
 ghost use Rattle.kdl_entry.specs.Data.{text};
 ghost use Rattle.kdl_entry.specs.Handed.{kind_view};
 ghost use Rattle.kdl_entry.specs.Items as items;
 ghost use Rattle.kdl_entry.specs.Items.{between, type_of, before_name, after_name, behind_type};
 ghost use Rattle.kdl_entry.specs.Places.{span_of};
 ghost use Rattle.kdl_entry.specs.Tree.{identifier_tree, plain_identifier, entry_tree, value_tree, text_of};
-ghost use Rattle.kdl_text.specs.Here.{Ahead};
+ghost use Rattle.kdl_text.specs.Here.{Ahead, bytes};
 ghost use Rattle.kdl.specs.declared.builder.Phase.{Phase};
 ghost use Rattle.kdl.specs.declared.builder.Waiting.{Waiting};
-ghost use Rattle.std.specs.Prelude.{◌≡◌, if◌then◌else◌, [], ◌∷◌, map, Some, None, true, false, IfOk, OnOk, option_map};
+ghost use Rattle.std.specs.Prelude.{◌≡◌, ◌+◌, if◌then◌else◌, [], ◌∷◌, map, Some, None, true, false, IfOk, OnOk, option_map};
 
 use super::{Frame, Kept, Phase, Under, Waiting, WaitingWord};
 use crate::document::{KdlDocument, KdlDocumentFormat};
@@ -32,6 +35,17 @@ use kdl_text::chars::Checkpoint;
 use kdl_text::span::SourceSpan;
 use std::alloc::{AllocError, Global};
 use std::mem;
+
+/// Makes room for one more: a full list doubles, from one on.
+pub(super) fn make_room<T>(items: &mut Vec<T>) -> Result<(), AllocError>
+    ensures { items.new.items ≡ items.old.items }
+{
+    let len = items.len();
+    if len < items.capacity() {
+        return Ok(());
+    }
+    items.reserve_exact(len.max(1))
+}
 
 /// The string that waits becomes an argument of the node under way.
 #[tactic(auto, using(crate::proofs::Views::entry_pushed))]
@@ -59,6 +73,7 @@ pub(super) fn settle<'a>(
         let span = span_at(whole, &start, from);
         let value = KdlValue::String(value);
         let entry = entry_from(alloc, span, leading, None, None, value, repr);
+        make_room(&mut under.entries)?;
         under.entries.push(entry)?;
     }
     Ok(())
@@ -87,8 +102,9 @@ pub(super) fn node_from(
         start: _start,
         ty,
         name,
-        entries,
+        mut entries,
     } = under;
+    entries.shrink_to_fit();
     let mut format = KdlNodeFormat::new(alloc);
     format.leading = leading;
     format.before_children = before_children;
@@ -127,6 +143,7 @@ pub(super) fn ended_node<'a>(
     requires token { Ahead start.now end.now }
     ensures is { IfOk result (λ o. option_map node_tree o ≡ machine.closed whole.now.rest (option_map under_view under.entry) no_children [] (between from.now.rest start.now.rest) (between start.now.rest end.now.rest) start.now.rest) }
     ensures stays { Stays lexer.old lexer.new }
+    ensures sliced { OnOk result (Sliced (bytes from.now.rest) (up_to under.entry (bytes from.now.rest) (bytes end.now.rest)) lexer.old lexer.new) }
 {
     let Some(under) = under else {
         return Ok(None);
@@ -151,6 +168,7 @@ pub(super) fn ended_kept<'a>(
     requires token { Ahead start.now end.now }
     ensures is { IfOk result (λ o. option_map node_tree o ≡ machine.closed_kept whole.now.rest (option_map kept_view kept.entry) (between from.now.rest start.now.rest) (between start.now.rest end.now.rest) start.now.rest) }
     ensures stays { Stays lexer.old lexer.new }
+    ensures sliced { OnOk result (Sliced (bytes from.now.rest) (up_to kept.entry (bytes from.now.rest) (bytes end.now.rest)) lexer.old lexer.new) }
 {
     let Some(
         Kept {
@@ -178,6 +196,7 @@ pub(super) fn push_node(
 {
     if let Some(node) = node {
         if let Some(nodes) = nodes {
+            make_room(nodes)?;
             nodes.push(node)?;
         }
     }
@@ -208,12 +227,13 @@ pub(super) fn content_span(nodes: &[KdlNode], place: SourceSpan) -> SourceSpan
 pub(super) fn content(
     alloc: Global,
     whole: &Checkpoint,
-    nodes: Vec<KdlNode>,
+    mut nodes: Vec<KdlNode>,
     place: String,
     end: &Checkpoint,
 ) -> KdlDocument
     ensures { document_tree result ≡ machine.content_at whole.now.rest (nodes_tree nodes.items) (text_of place) end.now.rest }
 {
+    nodes.shrink_to_fit();
     let here = span_at(whole, end, &end.copied());
     let span = content_span(&nodes, here);
     if nodes.is_empty() {
@@ -232,6 +252,7 @@ pub(super) fn content(
 }
 
 /// The node with the block of these nodes, where they count.
+#[tactic(auto, using(crate::proofs::Counting::fewer))]
 pub(super) fn with_block<'a>(
     alloc: Global,
     lexer: &mut Lexer<'a>,
@@ -245,6 +266,7 @@ pub(super) fn with_block<'a>(
     requires { Ahead from.now start.now }
     ensures is { IfOk result (λ o. option_map kept_view o ≡ machine.with_block whole.now.rest (option_map under_view under.entry) (text_of before) (nodes_view nodes) (between from.now.rest start.now.rest) start.now.rest) }
     ensures stays { Stays lexer.old lexer.new }
+    ensures sliced { OnOk result (Sliced (bytes from.now.rest) (up_to under.entry (bytes from.now.rest) (bytes start.now.rest)) lexer.old lexer.new) }
 {
     let Some(under) = under else {
         return Ok(None);

@@ -1,25 +1,30 @@
 //! What the builder does at a token: nodes begin and end, blocks open and close, entries are added.
 
 ghost use Rattle.kdl.specs.Answered.{Finished};
-ghost use Rattle.kdl.specs.Machine as machine;
-ghost use Rattle.kdl.specs.Machine.{at, initial};
+ghost use Rattle.kdl_grammar.specs.Machine as machine;
+ghost use Rattle.kdl_grammar.specs.Machine.{at, initial};
 ghost use Rattle.kdl.specs.Building.{under_view, kept_view, nodes_view, frame_view, stacked, under_now, node_now, frames_view, pending_now, name_slot, entry_slot, valued_at, item_answer, state_view, held, Did, EndsIn, Placed};
-ghost use Rattle.kdl.specs.Laid as laid;
-ghost use Rattle.kdl.specs.Laid.{node_format};
-ghost use Rattle.kdl.specs.Tree.{node, none, no_children, children, children_of, node_tree, nodes_tree, document_tree, node_format_tree, document_format_tree};
+ghost use Rattle.kdl.specs.Counted.{up_to, unsliced};
+ghost use Rattle.kdl_grammar.specs.Laid as laid;
+ghost use Rattle.kdl_grammar.specs.Laid.{node_format};
+ghost use Rattle.kdl_grammar.specs.Tree.{node, none, no_children, children, children_of};
+ghost use Rattle.kdl.specs.Tree.{node_tree, nodes_tree, document_tree, node_format_tree, document_format_tree};
 ghost use Rattle.kdl_entry.specs.Building.{type_view, key_view, item_view, Stays};
+ghost use Rattle.kdl_entry.specs.Counted.{Sliced};
 ghost use Rattle.kdl_entry.specs.Data.{text};
 ghost use Rattle.kdl_entry.specs.Handed.{kind_view};
 ghost use Rattle.kdl_entry.specs.Items as items;
 ghost use Rattle.kdl_entry.specs.Items.{between, type_of, before_name, after_name, behind_type};
 ghost use Rattle.kdl_entry.specs.Places.{span_of};
 ghost use Rattle.kdl_entry.specs.Tree.{identifier_tree, plain_identifier, entry_tree, value_tree, text_of};
-ghost use Rattle.kdl_text.specs.Here.{Ahead};
+ghost use Rattle.kdl_text.specs.Here.{Ahead, bytes};
 ghost use Rattle.kdl.specs.declared.builder.Phase.{Phase};
 ghost use Rattle.kdl.specs.declared.builder.Waiting.{Waiting};
-ghost use Rattle.std.specs.Prelude.{◌≡◌, if◌then◌else◌, [], ◌∷◌, map, Some, None, true, false, IfOk, OnOk, option_map};
+ghost use Rattle.std.specs.Prelude.{◌≡◌, ◌+◌, if◌then◌else◌, [], ◌∷◌, map, Some, None, true, false, IfOk, OnOk, option_map};
 
-use super::parts::{content, ended_kept, ended_node, is_entry, push_node, settle, with_block};
+use super::parts::{
+    content, ended_kept, ended_node, is_entry, make_room, push_node, settle, with_block,
+};
 use super::{Builder, Frame, Kept, Phase, Under, Waiting, WaitingWord};
 use crate::document::{KdlDocument, KdlDocumentFormat};
 use crate::node::{KdlNode, KdlNodeFormat};
@@ -58,6 +63,8 @@ impl<'a> Builder<'a> {
         ensures ended { OnOk result (state_view self.new ≡ at machine.gap (machine.ended (machine.closed self.old.whole.rest (node_now self.old) no_children [] (between self.old.from.rest start.now.rest) (between start.now.rest end.now.rest) start.now.rest) (nodes_view self.old.nodes)) (frames_view self.old) (machine.origin (node_now self.old) self.old.from.rest end.now.rest)) }
         ensures whole { self.new.whole ≡ self.old.whole }
         ensures stays { Stays lexer.old lexer.new }
+        ensures sliced { OnOk result (Sliced (bytes self.old.from.rest) (bytes self.new.from.rest) lexer.old lexer.new) }
+        ensures unsliced { OnOk result (unsliced self.new ≡ bytes self.new.from.rest) }
     {
         self.settle_word(alloc)?;
         let under = self.under.take();
@@ -84,6 +91,8 @@ impl<'a> Builder<'a> {
         ensures ended { OnOk result (state_view self.new ≡ at machine.gap (machine.ended (machine.closed_kept self.old.whole.rest (option_map kept_view self.old.kept) (between self.old.from.rest start.now.rest) (between start.now.rest end.now.rest) start.now.rest) (nodes_view self.old.nodes)) (frames_view self.old) (machine.origin (option_map kept_view self.old.kept) self.old.from.rest end.now.rest)) }
         ensures whole { self.new.whole ≡ self.old.whole }
         ensures stays { Stays lexer.old lexer.new }
+        ensures sliced { OnOk result (Sliced (bytes self.old.from.rest) (bytes self.new.from.rest) lexer.old lexer.new) }
+        ensures unsliced { OnOk result (unsliced self.new ≡ bytes self.new.from.rest) }
     {
         let kept = self.kept.take();
         let counts = kept.is_some();
@@ -97,7 +106,7 @@ impl<'a> Builder<'a> {
     }
 
     /// Opens the block of the node under way.
-    #[tactic(auto, using(crate::proofs::Views::frame_pushed))]
+    #[tactic(auto, using(crate::proofs::Counting::fewer, crate::proofs::Views::frame_pushed))]
     pub(super) fn open_block(
         &mut self,
         alloc: Global,
@@ -106,9 +115,11 @@ impl<'a> Builder<'a> {
         end: &Checkpoint<'a>,
     ) -> Result<(), AllocError>
         requires from { Ahead self.old.from start.now }
+        requires token { Ahead start.now end.now }
         ensures opened { OnOk result (held (state_view self.new) ≡ held (at machine.gap (machine.inside (node_now self.old)) (machine.in_block (node_now self.old) (between self.old.from.rest start.now.rest) (nodes_view self.old.nodes) ∷ frames_view self.old) (machine.origin (node_now self.old) self.old.from.rest end.now.rest))) }
         ensures whole { self.new.whole ≡ self.old.whole }
         ensures stays { Stays lexer.old lexer.new }
+        ensures sliced { OnOk result (Sliced (bytes self.old.from.rest) (unsliced self.new) lexer.old lexer.new) }
     {
         self.settle_word(alloc)?;
         let under = self.under.take();
@@ -130,6 +141,7 @@ impl<'a> Builder<'a> {
     pub(super) fn open_dropped(&mut self, alloc: Global) -> Result<(), AllocError>
         ensures opened { OnOk result (state_view self.new ≡ at machine.gap None (machine.in_dropped (node_now self.old) (nodes_view self.old.nodes) ∷ frames_view self.old) self.old.from.rest) }
         ensures whole { self.new.whole ≡ self.old.whole }
+        ensures unsliced { OnOk result (unsliced self.new ≡ bytes self.old.from.rest) }
     {
         self.settle_word(alloc)?;
         let under = self.under.take();
@@ -144,6 +156,7 @@ impl<'a> Builder<'a> {
     pub(super) fn open_later(&mut self) -> Result<(), AllocError>
         ensures opened { OnOk result (state_view self.new ≡ at machine.gap None (machine.in_later (option_map kept_view self.old.kept) (nodes_view self.old.nodes) ∷ frames_view self.old) self.old.from.rest) }
         ensures whole { self.new.whole ≡ self.old.whole }
+        ensures unsliced { OnOk result (unsliced self.new ≡ bytes self.old.from.rest) }
     {
         let kept = self.kept.take();
         let nodes = self.nodes.take();
@@ -153,6 +166,7 @@ impl<'a> Builder<'a> {
     }
 
     /// Gives the node its block, which ends here, and goes back to the nodes before it.
+    #[tactic(auto, using(crate::proofs::Counting::fewer))]
     pub(super) fn close_block(
         &mut self,
         alloc: Global,
@@ -164,9 +178,11 @@ impl<'a> Builder<'a> {
         end: &Checkpoint<'a>,
     ) -> Result<(), AllocError>
         requires from { Ahead self.old.from start.now }
+        requires token { Ahead start.now end.now }
         ensures closed { OnOk result (state_view self.new ≡ at (machine.kept (machine.with_block self.old.whole.rest (option_map under_view under.entry) (text_of before) (nodes_view self.old.nodes) (between self.old.from.rest start.now.rest) start.now.rest)) (nodes_view nodes) (frames_view self.old) (machine.origin (option_map under_view under.entry) self.old.from.rest end.now.rest)) }
         ensures whole { self.new.whole ≡ self.old.whole }
         ensures stays { Stays lexer.old lexer.new }
+        ensures sliced { OnOk result (Sliced (bytes self.old.from.rest) (unsliced self.new) lexer.old lexer.new) }
     {
         let inner = mem::replace(&mut self.nodes, nodes);
         self.phase = Phase::Behind;
@@ -198,9 +214,11 @@ impl<'a> Builder<'a> {
         end: &Checkpoint<'a>,
     ) -> Result<(), LexFailure>
         requires from { Ahead self.old.from start.now }
+        requires token { Ahead start.now end.now }
         ensures did { Did (machine.popped self.old.whole.rest (nodes_view self.old.nodes) (frames_view self.old) self.old.from.rest start.now.rest end.now.rest) start.now result (state_view self.new) }
         ensures whole { self.new.whole ≡ self.old.whole }
         ensures stays { Stays lexer.old lexer.new }
+        ensures sliced { OnOk result (Sliced (bytes self.old.from.rest) (unsliced self.new) lexer.old lexer.new) }
     {
         match self.frames.pop() {
             Some(Frame::Block(under, before, nodes)) => Ok(self.close_block(
@@ -224,6 +242,7 @@ impl<'a> Builder<'a> {
     }
 
     /// Begins a node, whose name stands between two places.
+    #[tactic(auto, using(crate::proofs::Counting::fewer))]
     pub(super) fn begin_node(
         &mut self,
         alloc: Global,
@@ -240,6 +259,7 @@ impl<'a> Builder<'a> {
         ensures named { OnOk result (state_view self.new ≡ machine.given self.old.whole.rest (name_slot kept (text_of leading) node_start.now.rest) (option_map type_view ty) (value_tree value) None (nodes_view self.old.nodes) (frames_view self.old) self.old.from.rest start.now.rest end.now.rest) }
         ensures whole { self.new.whole ≡ self.old.whole }
         ensures stays { Stays lexer.old lexer.new }
+        ensures sliced { OnOk result (Sliced (if kept then bytes start.now.rest else bytes self.old.from.rest) (unsliced self.new) lexer.old lexer.new) }
     {
         self.waiting = Waiting::Nothing;
         self.phase = Phase::Fresh;
@@ -280,6 +300,7 @@ impl<'a> Builder<'a> {
         ensures added { OnOk result (state_view self.new ≡ machine.given self.old.whole.rest (entry_slot kept (option_map under_view self.old.under) (text_of leading) entry_start.now.rest (option_map key_view key)) (option_map type_view ty) (value_tree value) None (nodes_view self.old.nodes) (frames_view self.old) self.old.from.rest start.now.rest end.now.rest) }
         ensures whole { self.new.whole ≡ self.old.whole }
         ensures stays { Stays lexer.old lexer.new }
+        ensures sliced { OnOk result (Sliced (if kept then up_to self.old.under (bytes self.old.from.rest) (bytes start.now.rest) else bytes self.old.from.rest) (unsliced self.new) lexer.old lexer.new) }
     {
         self.waiting = Waiting::Nothing;
         self.phase = Phase::Fresh;
@@ -290,6 +311,7 @@ impl<'a> Builder<'a> {
             let repr = text_between(alloc, lexer, start, end)?;
             let span = span_at(&self.whole, entry_start, end);
             let entry = entry_from(alloc, span, leading, key, ty, value, repr);
+            make_room(&mut under.entries)?;
             under.entries.push(entry)?;
             self.from = end.copied();
         }
@@ -310,6 +332,7 @@ impl<'a> Builder<'a> {
         ensures waits { OnOk result (held (state_view self.new) ≡ held (machine.worded self.old.whole.rest (machine.entry_slot (node_now self.old) (between self.old.from.rest start.now.rest) start.now.rest) (text_of value) (nodes_view self.old.nodes) (frames_view self.old) self.old.from.rest start.now.rest end.now.rest)) }
         ensures whole { self.new.whole ≡ self.old.whole }
         ensures stays { Stays lexer.old lexer.new }
+        ensures sliced { OnOk result (Sliced (bytes self.old.from.rest) (unsliced self.new) lexer.old lexer.new) }
     {
         self.settle_word(alloc)?;
         self.phase = Phase::Fresh;
@@ -330,6 +353,7 @@ impl<'a> Builder<'a> {
     }
 
     /// What follows the `=` of a property, where a string waits for it.
+    #[tactic(auto, using(crate::proofs::Counting::fewer))]
     pub(super) fn open_property(
         &mut self,
         alloc: Global,
@@ -338,9 +362,11 @@ impl<'a> Builder<'a> {
         end: &Checkpoint<'a>,
     ) -> Result<(), LexFailure>
         requires from { Ahead self.old.from start.now }
+        requires token { Ahead start.now end.now }
         ensures did { Did (machine.stay (nodes_view self.old.nodes) (frames_view self.old) self.old.from.rest (machine.value_from (machine.fresh (pending_now self.old.whole.rest self.old.from.rest self.old.waiting (option_map under_view self.old.under))) start.now.rest end.now.rest)) start.now result (state_view self.new) }
         ensures whole { self.new.whole ≡ self.old.whole }
         ensures stays { Stays lexer.old lexer.new }
+        ensures sliced { OnOk result (Sliced (bytes self.old.from.rest) (unsliced self.new) lexer.old lexer.new) }
     {
         match mem::replace(&mut self.waiting, Waiting::Nothing) {
             Waiting::Nothing => Err(LexFailure::Faulty(misplaced(start))),
@@ -379,6 +405,7 @@ impl<'a> Builder<'a> {
     )
         ensures opened { held (state_view self.new) ≡ held (at (machine.property (machine.no_value (option_map under_view self.old.under)) (plain_identifier []) [] end.now.rest) (nodes_view self.old.nodes) (frames_view self.old) self.old.from.rest) }
         ensures whole { self.new.whole ≡ self.old.whole }
+        ensures unsliced { unsliced self.new ≡ bytes self.old.from.rest }
     {
         let name = KdlIdentifier::from(empty(alloc));
         self.item
@@ -387,6 +414,7 @@ impl<'a> Builder<'a> {
     }
 
     /// What follows the `(` before a node's name.
+    #[tactic(auto, using(crate::proofs::Counting::fewer))]
     pub(super) fn open_name(
         &mut self,
         alloc: Global,
@@ -396,9 +424,11 @@ impl<'a> Builder<'a> {
         end: &Checkpoint<'a>,
     ) -> Result<(), AllocError>
         requires from { Ahead self.old.from start.now }
+        requires token { Ahead start.now end.now }
         ensures opened { OnOk result (state_view self.new ≡ at (machine.type_open false (name_slot counts (between self.old.from.rest start.now.rest) start.now.rest) end.now.rest) (nodes_view self.old.nodes) (frames_view self.old) self.old.from.rest) }
         ensures whole { self.new.whole ≡ self.old.whole }
         ensures stays { Stays lexer.old lexer.new }
+        ensures sliced { OnOk result (Sliced (bytes self.old.from.rest) (unsliced self.new) lexer.old lexer.new) }
     {
         self.phase = Phase::InItem;
         if counts {
@@ -411,6 +441,7 @@ impl<'a> Builder<'a> {
     }
 
     /// What follows the `(` before an entry's value.
+    #[tactic(auto, using(crate::proofs::Counting::fewer))]
     pub(super) fn open_value(
         &mut self,
         alloc: Global,
@@ -420,9 +451,11 @@ impl<'a> Builder<'a> {
         end: &Checkpoint<'a>,
     ) -> Result<(), AllocError>
         requires from { Ahead self.old.from start.now }
+        requires token { Ahead start.now end.now }
         ensures opened { OnOk result (state_view self.new ≡ at (machine.type_open true (entry_slot counts (node_now self.old) (between self.old.from.rest start.now.rest) start.now.rest None) end.now.rest) (nodes_view self.old.nodes) (frames_view self.old) self.old.from.rest) }
         ensures whole { self.new.whole ≡ self.old.whole }
         ensures stays { Stays lexer.old lexer.new }
+        ensures sliced { OnOk result (Sliced (bytes self.old.from.rest) (unsliced self.new) lexer.old lexer.new) }
     {
         self.settle_word(alloc)?;
         self.phase = Phase::InItem;
@@ -450,6 +483,7 @@ impl<'a> Builder<'a> {
         ensures added { OnOk result (state_view self.new ≡ machine.given self.old.whole.rest (entry_slot counts (node_now self.old) (between self.old.from.rest start.now.rest) start.now.rest None) None (value_tree value) None (nodes_view self.old.nodes) (frames_view self.old) self.old.from.rest start.now.rest end.now.rest) }
         ensures whole { self.new.whole ≡ self.old.whole }
         ensures stays { Stays lexer.old lexer.new }
+        ensures sliced { OnOk result (Sliced (bytes self.old.from.rest) (unsliced self.new) lexer.old lexer.new) }
     {
         self.settle_word(alloc)?;
         if counts && self.under.is_some() {
@@ -464,6 +498,7 @@ impl<'a> Builder<'a> {
     }
 
     /// A token inside a type, or behind the `=` of a property.
+    #[tactic(auto, using(crate::proofs::Counting::stays_entry, crate::proofs::Counting::item_went, crate::proofs::Counting::entry_given, crate::proofs::Counting::name_given))]
     pub(super) fn at_item(
         &mut self,
         alloc: Global,
@@ -478,6 +513,7 @@ impl<'a> Builder<'a> {
         ensures did { Did (item_answer self.old.whole.rest (option_map under_view self.old.under) (item_view self.old.item) (nodes_view self.old.nodes) (frames_view self.old) self.old.from.rest start.now.rest end.now.rest (items.step self.old.whole.rest (item_view self.old.item) (kind_view kind) start.now.rest end.now.rest)) start.now result (state_view self.new) }
         ensures whole { self.new.whole ≡ self.old.whole }
         ensures stays { Stays lexer.old lexer.new }
+        ensures sliced { OnOk result (Sliced (unsliced self.old) (unsliced self.new) lexer.old lexer.new) }
     {
         let entry = is_entry(&self.item);
         let Some(Given { key, ty, value }) = self
@@ -531,6 +567,7 @@ impl<'a> Builder<'a> {
         ensures named { OnOk result (state_view self.new ≡ machine.given self.old.whole.rest (name_slot counts (between self.old.from.rest start.now.rest) start.now.rest) None (text (text_of name)) None (nodes_view self.old.nodes) (frames_view self.old) self.old.from.rest start.now.rest end.now.rest) }
         ensures whole { self.new.whole ≡ self.old.whole }
         ensures stays { Stays lexer.old lexer.new }
+        ensures sliced { OnOk result (Sliced (bytes self.old.from.rest) (unsliced self.new) lexer.old lexer.new) }
     {
         let value = KdlValue::String(name);
         if counts {
@@ -554,6 +591,7 @@ impl<'a> Builder<'a> {
     pub(super) fn wait_dropped(&mut self, alloc: Global) -> Result<(), AllocError>
         ensures waits { OnOk result (state_view self.new ≡ at (machine.in_node (node_now self.old) (machine.fresh (Some (machine.pending (machine.no_value (node_now self.old)) (plain_identifier []) [])))) (nodes_view self.old.nodes) (frames_view self.old) self.old.from.rest) }
         ensures whole { self.new.whole ≡ self.old.whole }
+        ensures unsliced { OnOk result (unsliced self.new ≡ bytes self.old.from.rest) }
     {
         self.settle_word(alloc)?;
         self.waiting = Waiting::Dropped;
@@ -565,6 +603,7 @@ impl<'a> Builder<'a> {
     pub(super) fn mark(&mut self, alloc: Global) -> Result<(), AllocError>
         ensures marked { OnOk result (state_view self.new ≡ at (machine.entry_mark (node_now self.old)) (nodes_view self.old.nodes) (frames_view self.old) self.old.from.rest) }
         ensures whole { self.new.whole ≡ self.old.whole }
+        ensures unsliced { OnOk result (unsliced self.new ≡ bytes self.old.from.rest) }
     {
         self.settle_word(alloc)?;
         self.phase = Phase::EntryMark;
@@ -581,9 +620,11 @@ impl<'a> Builder<'a> {
         end: &Checkpoint<'a>,
     ) -> Result<(), LexFailure>
         requires from { Ahead self.old.from start.now }
+        requires token { Ahead start.now end.now }
         ensures did { Did (machine.popped self.old.whole.rest (machine.ended (machine.closed self.old.whole.rest (node_now self.old) no_children [] (between self.old.from.rest start.now.rest) [] start.now.rest) (nodes_view self.old.nodes)) (frames_view self.old) (machine.origin (node_now self.old) self.old.from.rest start.now.rest) start.now.rest end.now.rest) start.now result (state_view self.new) }
         ensures whole { self.new.whole ≡ self.old.whole }
         ensures stays { Stays lexer.old lexer.new }
+        ensures sliced { OnOk result (Sliced (bytes self.old.from.rest) (unsliced self.new) lexer.old lexer.new) }
     {
         self.end_node(alloc, lexer, start, &start.copied())?;
         self.close(alloc, lexer, start, end)
@@ -599,9 +640,11 @@ impl<'a> Builder<'a> {
         end: &Checkpoint<'a>,
     ) -> Result<(), LexFailure>
         requires from { Ahead self.old.from start.now }
+        requires token { Ahead start.now end.now }
         ensures did { Did (machine.popped self.old.whole.rest (machine.ended (machine.closed_kept self.old.whole.rest (option_map kept_view self.old.kept) (between self.old.from.rest start.now.rest) [] start.now.rest) (nodes_view self.old.nodes)) (frames_view self.old) (machine.origin (option_map kept_view self.old.kept) self.old.from.rest start.now.rest) start.now.rest end.now.rest) start.now result (state_view self.new) }
         ensures whole { self.new.whole ≡ self.old.whole }
         ensures stays { Stays lexer.old lexer.new }
+        ensures sliced { OnOk result (Sliced (bytes self.old.from.rest) (unsliced self.new) lexer.old lexer.new) }
     {
         self.end_kept(alloc, lexer, start, &start.copied())?;
         self.close(alloc, lexer, start, end)

@@ -12,7 +12,7 @@ ghost use Rattle.kdl_text.specs.Here.{Ahead};
 ghost use Rattle.std.specs.Prelude.{◌≡◌, [], Some, None, true, false, IfOk};
 ghost use Rattle.std.specs.Str.{chars};
 
-use super::item::{Given, Item, Stage, empty, entry_from, misplaced, text_between};
+use super::item::{Given, Item, empty, entry_from, misplaced, text_between};
 use super::lexer::{LexFailure, Lexer, Token, TokenKind};
 use super::refusal::failure;
 use crate::entry::KdlEntry;
@@ -63,18 +63,9 @@ fn opened<'a>(
 ) -> Item<'a>
     ensures { item_view result ≡ opened_item whole.now.rest kept (text_of leading) end.now.rest }
 {
-    Item {
-        kept,
-        valued: true,
-        stage: Stage::Opened,
-        leading,
-        start: whole.copied(),
-        from: end.copied(),
-        key: None,
-        name: KdlIdentifier::from(empty(alloc)),
-        before: empty(alloc),
-        after: empty(alloc),
-    }
+    let mut item = Item::new(alloc, whole);
+    item.open(kept, true, leading, whole, end);
+    item
 }
 
 /// An entry under way, behind the `=` of its key.
@@ -89,18 +80,9 @@ fn keyed<'a>(
 ) -> Item<'a>
     ensures { item_view result ≡ keyed_item whole.now.rest kept (text_of leading) (identifier_tree name) (text_of before) end.now.rest }
 {
-    Item {
-        kept,
-        valued: true,
-        stage: Stage::Keyed,
-        leading,
-        start: whole.copied(),
-        from: end.copied(),
-        key: None,
-        name,
-        before,
-        after: empty(alloc),
-    }
+    let mut item = Item::new(alloc, whole);
+    item.open_keyed(kept, leading, whole, name, before, end);
+    item
 }
 
 /// The string that stands between two places, and what stands before it.

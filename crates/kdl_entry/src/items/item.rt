@@ -3,13 +3,14 @@
 //! The rules of types, keys and values stand here once, for entries alone and for those of a document.
 
 ghost use Rattle.kdl_entry.specs.Building.{key_view, type_view, item_view, Did, Holds, Stays};
+ghost use Rattle.kdl_entry.specs.Counted.{Sliced, ItemSliced};
 ghost use Rattle.kdl_entry.specs.Handed.{kind_view, IsFaultAt};
 ghost use Rattle.kdl_entry.specs.Items as spec;
 ghost use Rattle.kdl_entry.specs.Items.{between, entry_at, identifier_at};
 ghost use Rattle.kdl_entry.specs.Places.{span_of};
 ghost use Rattle.kdl_entry.specs.Tree.{entry_tree, identifier_tree, value_tree, text_of, plain_identifier};
-ghost use Rattle.kdl_text.specs.Here.{Ahead};
-ghost use Rattle.std.specs.Prelude.{◌≡◌, [], Some, None, true, false, IfOk, OnOk, option_map};
+ghost use Rattle.kdl_text.specs.Here.{Ahead, bytes};
+ghost use Rattle.std.specs.Prelude.{◌≡◌, if◌then◌else◌, [], Some, None, true, false, IfOk, OnOk, option_map};
 
 use super::lexer::{Fault, FaultKind, LexFailure, Lexer, TokenKind};
 use crate::entry::{KdlEntry, KdlEntryFormat};
@@ -95,6 +96,7 @@ pub fn text_between<'a>(
     requires { Ahead from.now to.now }
     ensures text { IfOk result (λ s. text_of s ≡ between from.now.rest to.now.rest) }
     ensures stays { Stays lexer.old lexer.new }
+    ensures sliced { Sliced (bytes from.now.rest) (bytes to.now.rest) lexer.old lexer.new }
 {
     lexer.slice_between(from, to).to_string(alloc)
 }
@@ -119,6 +121,7 @@ pub fn identifier_between<'a>(
     requires { Ahead start.now end.now }
     ensures is { IfOk result (λ i. identifier_tree i ≡ identifier_at whole.now.rest (text_of value) start.now.rest end.now.rest) }
     ensures stays { Stays lexer.old lexer.new }
+    ensures sliced { Sliced (bytes start.now.rest) (bytes end.now.rest) lexer.old lexer.new }
 {
     let repr = text_between(alloc, lexer, start, end)?;
     let span = span_at(whole, start, end);
@@ -184,19 +187,21 @@ pub fn entry_from(
 impl<'a> Item<'a> {
     /// No item yet, at the place. It takes no memory.
     pub fn new(alloc: Global, place: &Checkpoint<'a>) -> Item<'a>
-        ensures { result.from ≡ place.now }
+        ensures is { item_view result ≡ spec.no_item place.now.rest }
+        ensures start { result.start ≡ place.now }
+        ensures from { result.from ≡ place.now }
     {
         Item {
             kept: false,
             valued: false,
             stage: Stage::Opened,
-            leading: String::new(alloc),
+            leading: empty(alloc),
             start: place.copied(),
             from: place.copied(),
             key: None,
-            name: KdlIdentifier::from(String::new(alloc)),
-            before: String::new(alloc),
-            after: String::new(alloc),
+            name: KdlIdentifier::from(empty(alloc)),
+            before: empty(alloc),
+            after: empty(alloc),
         }
     }
 
@@ -210,6 +215,7 @@ impl<'a> Item<'a> {
         end: &Checkpoint<'a>,
     )
         ensures is { item_view self.new ≡ record (item_view self.old) { kept = kept; valued = valued; stage = spec.opened; leading = text_of leading; start = start.now.rest; from = end.now.rest; key = None } }
+        ensures start { self.new.start ≡ start.now }
         ensures from { self.new.from ≡ end.now }
     {
         self.kept = kept;
@@ -232,6 +238,7 @@ impl<'a> Item<'a> {
         end: &Checkpoint<'a>,
     )
         ensures is { item_view self.new ≡ record (item_view self.old) { kept = kept; valued = true; stage = spec.keyed; leading = text_of leading; start = start.now.rest; from = end.now.rest; key = None; name = identifier_tree name; before = text_of before } }
+        ensures start { self.new.start ≡ start.now }
         ensures from { self.new.from ≡ end.now }
     {
         self.kept = kept;
@@ -259,6 +266,7 @@ impl<'a> Item<'a> {
         requires token { Ahead start.now end.now }
         ensures named { OnOk result (item_view self.new ≡ spec.named_at self.old.kept (identifier_at whole.now.rest (text_of value) start.now.rest end.now.rest) (between self.old.from.rest start.now.rest) end.now.rest (item_view self.old)) }
         ensures stays { Stays lexer.old lexer.new }
+        ensures sliced { OnOk result (Sliced (bytes self.old.from.rest) (if self.old.kept then bytes self.new.from.rest else bytes self.old.from.rest) lexer.old lexer.new) }
         ensures from { OnOk result (Ahead self.new.from end.now) }
     {
         if self.kept {
@@ -271,6 +279,7 @@ impl<'a> Item<'a> {
     }
 
     /// Goes on behind the `)` of the type.
+    #[tactic(auto, using(crate::proofs::Counting::ahead_fewer))]
     fn close(
         &mut self,
         alloc: Global,
@@ -282,6 +291,7 @@ impl<'a> Item<'a> {
         requires token { Ahead start.now end.now }
         ensures closed { OnOk result (item_view self.new ≡ spec.closed_at self.old.kept (between self.old.from.rest start.now.rest) end.now.rest (item_view self.old)) }
         ensures stays { Stays lexer.old lexer.new }
+        ensures sliced { OnOk result (Sliced (bytes self.old.from.rest) (if self.old.kept then bytes self.new.from.rest else bytes self.old.from.rest) lexer.old lexer.new) }
         ensures from { OnOk result (Ahead self.new.from end.now) }
     {
         if self.kept {
@@ -305,6 +315,7 @@ impl<'a> Item<'a> {
         ensures holds { OnOk result (Holds (item_view self.old) (item_view self.new)) }
         ensures from { self.new.from ≡ self.old.from }
         ensures stays { Stays lexer.old lexer.new }
+        ensures sliced { OnOk result (Sliced (bytes self.old.from.rest) (if self.old.kept then bytes start.now.rest else bytes self.old.from.rest) lexer.old lexer.new) }
     {
         if !self.kept {
             return Ok(None);
@@ -333,6 +344,7 @@ impl<'a> Item<'a> {
         ensures taken { OnOk result (item_view self.new ≡ spec.emptied self.old.kept (item_view self.old)) }
         ensures from { self.new.from ≡ self.old.from }
         ensures stays { Stays lexer.old lexer.new }
+        ensures sliced { OnOk result (Sliced (bytes self.old.from.rest) (if self.old.kept then bytes start.now.rest else bytes self.old.from.rest) lexer.old lexer.new) }
     {
         if !self.kept {
             return Ok(None);
@@ -362,6 +374,7 @@ impl<'a> Item<'a> {
         ensures holds { OnOk result (Holds (item_view self.old) (item_view self.new)) }
         ensures from { self.new.from ≡ self.old.from }
         ensures stays { Stays lexer.old lexer.new }
+        ensures sliced { OnOk result (Sliced (bytes self.old.from.rest) (if self.old.kept then bytes start.now.rest else bytes self.old.from.rest) lexer.old lexer.new) }
     {
         let ty = self.type_parts(alloc, lexer, start)?;
         let key = self.key.take();
@@ -383,6 +396,7 @@ impl<'a> Item<'a> {
         ensures holds { OnOk result (Holds (item_view self.old) (item_view self.new)) }
         ensures from { self.new.from ≡ self.old.from }
         ensures stays { Stays lexer.old lexer.new }
+        ensures sliced { OnOk result (Sliced (bytes self.old.from.rest) (if self.old.kept then bytes start.now.rest else bytes self.old.from.rest) lexer.old lexer.new) }
     {
         let key = self.key_parts(alloc, lexer, start)?;
         Ok(Given {
@@ -408,6 +422,7 @@ impl<'a> Item<'a> {
         ensures holds { OnOk result (Holds (item_view self.old) (item_view self.new)) }
         ensures from { OnOk result (Ahead self.new.from end.now) }
         ensures stays { Stays lexer.old lexer.new }
+        ensures sliced { ItemSliced result self.old.kept (bytes self.old.from.rest) (bytes self.new.from.rest) (bytes start.now.rest) lexer.old lexer.new }
     {
         match kind {
             TokenKind::Space => Ok(None),
@@ -435,6 +450,7 @@ impl<'a> Item<'a> {
         ensures holds { OnOk result (Holds (item_view self.old) (item_view self.new)) }
         ensures from { OnOk result (Ahead self.new.from end.now) }
         ensures stays { Stays lexer.old lexer.new }
+        ensures sliced { ItemSliced result self.old.kept (bytes self.old.from.rest) (bytes self.new.from.rest) (bytes start.now.rest) lexer.old lexer.new }
     {
         match kind {
             TokenKind::Space => Ok(None),
@@ -462,6 +478,7 @@ impl<'a> Item<'a> {
         ensures holds { OnOk result (Holds (item_view self.old) (item_view self.new)) }
         ensures from { OnOk result (Ahead self.new.from end.now) }
         ensures stays { Stays lexer.old lexer.new }
+        ensures sliced { ItemSliced result self.old.kept (bytes self.old.from.rest) (bytes self.new.from.rest) (bytes start.now.rest) lexer.old lexer.new }
     {
         match kind {
             TokenKind::Space => Ok(None),
@@ -478,6 +495,7 @@ impl<'a> Item<'a> {
     }
 
     /// A token behind the `=` of a property.
+    #[tactic(auto, using(crate::proofs::Counting::ahead_fewer))]
     fn at_keyed(
         &mut self,
         alloc: Global,
@@ -493,6 +511,7 @@ impl<'a> Item<'a> {
         ensures holds { OnOk result (Holds (item_view self.old) (item_view self.new)) }
         ensures from { OnOk result (Ahead self.new.from end.now) }
         ensures stays { Stays lexer.old lexer.new }
+        ensures sliced { ItemSliced result self.old.kept (bytes self.old.from.rest) (bytes self.new.from.rest) (bytes start.now.rest) lexer.old lexer.new }
     {
         match kind {
             TokenKind::Space => Ok(None),
@@ -532,6 +551,7 @@ impl<'a> Item<'a> {
         ensures holds { OnOk result (Holds (item_view self.old) (item_view self.new)) }
         ensures from { OnOk result (Ahead self.new.from end.now) }
         ensures stays { Stays lexer.old lexer.new }
+        ensures sliced { ItemSliced result self.old.kept (bytes self.old.from.rest) (bytes self.new.from.rest) (bytes start.now.rest) lexer.old lexer.new }
     {
         match self.stage {
             Stage::Opened => self.at_opened(alloc, lexer, whole, kind, start, end),

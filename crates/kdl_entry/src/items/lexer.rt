@@ -10,7 +10,7 @@ ghost use Rattle.kdl_entry.specs.declared.items.lexer.LexFailure.TheVariants.{Me
 ghost use Rattle.kdl_text.specs.Chars.{starts, is_identifier_char};
 ghost use Rattle.kdl_text.specs.Numbers as numbers;
 ghost use Rattle.kdl_text.specs.Numbers.{FloatText};
-ghost use Rattle.kdl_text.specs.Here.{Ahead, Ate, Stayed, sliced, first, tail};
+ghost use Rattle.kdl_text.specs.Here.{Ahead, Ate, Stayed, looked, sliced, first, tail};
 ghost use Rattle.kdl_text.specs.Reading.{Moves};
 ghost use Rattle.kdl_text.specs.TriviaReading.{PieceCosts};
 ghost use Rattle.std.specs.Prelude.{◌≡◌, ◌++◌, ◌==◌, ◌||◌, true, false, Some, None, IfOk};
@@ -489,6 +489,13 @@ impl<'a> Lexer<'a> {
         self.cursor.eat('\u{feff}')
     }
 
+    /// Counts a look at the token that was handed out last. A step.
+    pub fn count_look(&mut self)
+        ensures { self.new ≡ looked self.old }
+    {
+        self.cursor.raise(1);
+    }
+
     /// The text from one place to another behind it. A step for each of its bytes.
     pub fn slice_between(&mut self, from: &Checkpoint<'a>, to: &Checkpoint<'a>) -> Piece<'a>
         requires { Ahead from.now to.now }
@@ -501,7 +508,7 @@ impl<'a> Lexer<'a> {
     /// The token here, which the lexer goes past; `None` at the end of the text.
     ///
     /// A fault where no token begins here, with the span of the character here; `Memory` where the memory for
-    /// the token's value is missing. A token takes at most 24 steps for each of its bytes.
+    /// the token's value is missing. A token takes at most 24 steps for each of its bytes, and the end of the text one.
     pub fn next(&mut self, alloc: Global) -> Result<Option<Token<'a>>, LexFailure>
         ensures lexed { Lexed self.old result self.new }
         ensures moves { Moves self.old self.new }

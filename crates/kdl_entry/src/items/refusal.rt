@@ -1,5 +1,6 @@
 //! What is told of a text that is refused.
 
+ghost use Rattle.kdl_entry.specs.Refused.{OneAt, RefusedAt};
 ghost use Rattle.kdl_text.specs.Failures.{Tells, TellsOf};
 ghost use Rattle.kdl_text.specs.Spans.{InText};
 ghost use Rattle.std.specs.Prelude.{IfOk};
@@ -11,10 +12,11 @@ use std::alloc::{AllocError, Global};
 use std::rc::RcStr;
 
 /// The error of a text that is refused at the span, with one diagnostic.
-#[tactic(auto, using(crate::proofs::Refusals::one_told))]
+#[tactic(auto, using(crate::proofs::Refusals::one_told, crate::proofs::Refusals::one_at))]
 pub fn refusal(alloc: Global, text: &str, span: SourceSpan) -> Result<KdlError, AllocError>
     requires { InText (chars text.now) span }
-    ensures { IfOk result (Tells text.now) }
+    ensures tells { IfOk result (Tells text.now) }
+    ensures at { IfOk result (OneAt span) }
 {
     let input = RcStr::from_str(alloc, text)?;
     let diagnostic = KdlDiagnostic {
@@ -33,7 +35,8 @@ pub fn refusal(alloc: Global, text: &str, span: SourceSpan) -> Result<KdlError, 
 /// The failure of a text that is refused at the span, or of want of memory.
 pub fn failure(alloc: Global, text: &str, span: SourceSpan) -> ParseFailure
     requires { InText (chars text.now) span }
-    ensures { TellsOf text.now result }
+    ensures tells { TellsOf text.now result }
+    ensures at { RefusedAt span result }
 {
     match refusal(alloc, text, span) {
         Ok(error) => ParseFailure::Syntax(error),

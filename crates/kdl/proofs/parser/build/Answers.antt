@@ -1,6 +1,11 @@
+use Rattle.kdl.proofs.Counting.{counting_goes_on}
 use Rattle.kdl.proofs.TokenTurns.{goes_on}
 use Rattle.kdl.proofs.parser.build.Goals as goal
 
 pub tokens-preserved : goal.tokens-preserved
 tokens-preserved c =
-    goes_on c.tokens.builder c.take.new.self c.tokens.lexer c.next.new.self c.take.new.lexer _ _ c.in-Ok-Some.token c.tokens.invariant (rw c.in-Ok-Some.field-0-is at c.in-Ok-Some.ensures.lexed) c.next.ensures.moves c.in_default.ensures.did c.take.ensures.whole c.take.ensures.stays
+    let handed = rw c.in-Ok-Some.field-0-is at c.in-Ok-Some.ensures.lexed in
+    let costs = rw c.in-Ok-Some.field-0-is at c.in-Ok-Some.ensures.costs in (
+      goes_on c.tokens.builder c.take.new.self c.tokens.lexer c.next.new.self c.take.new.lexer _ _ c.in-Ok-Some.token c.tokens.invariant.0 handed c.next.ensures.moves c.in_default.ensures.did c.take.ensures.whole c.take.ensures.stays,
+      counting_goes_on _ c.tokens.lexer c.next.new.self c.take.new.lexer c.in-Ok-Some.token _ _ c.tokens.invariant.1 handed c.next.ensures.moves costs c.in_default.ensures.sliced c.take.ensures.stays,
+    )

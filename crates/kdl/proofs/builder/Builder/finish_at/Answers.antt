@@ -1,7 +1,7 @@
 use Rattle.std.proofs.Common.{ap, ◌∙◌, option_map}
 use Rattle.kdl_text.specs.Here.{Spot}
 use Rattle.kdl_entry.specs.Building.{item_view}
-use Rattle.kdl.specs.Machine.{origin}
+use Rattle.kdl_grammar.specs.Machine.{origin}
 use Rattle.kdl.specs.Building.{node_now, under_view, kept_view, nodes_view, frames_view}
 use Rattle.kdl.proofs.ItemTurns.{unfinished}
 use Rattle.kdl.proofs.Origins.{origin_ends, from_of}
@@ -15,7 +15,7 @@ pub finish_nodes-requires-in-Behind-clause-from : goal.finish_nodes-requires-in-
 finish_nodes-requires-in-Behind-clause-from c =
     origin_ends (option_map kept_view c.args.self.kept) c.args.self.from.rest c.end_kept.new.self.from.rest c.args.here.now.rest (ap from_of c.in_ok-end_kept-in-Behind.ensures.ended ∙ ap (λ (z : Spot). origin (option_map kept_view c.args.self.kept) c.args.self.from.rest z.rest) c.copied-in-Behind.ensures) c.requires.from
 
-pub returns-in-InItem : goal.returns-in-InItem
-returns-in-InItem c =
+pub returns-in-InItem-clause-finished : goal.returns-in-InItem-clause-finished
+returns-in-InItem-clause-finished c =
     let self = c.args.self in
     (rw c.in-InItem.is (unfinished self.whole.rest (item_view self.item) (option_map under_view self.under) (nodes_view self.nodes) (frames_view self) self.from.rest), c.misplaced.ensures)

@@ -1,0 +1,205 @@
+//! Nodes that are a whole text: what is read, what is refused and where, and that a node prints its text.
+
+use crate::reading::{
+    NEWLINES, around_block, block, called, ends, filled, lone_entry, lone_node, margins,
+    node_type_places, places, range,
+};
+use kdl::{KdlDocument, KdlNode, ParseFailure, SourceSpan};
+use std::alloc::Global;
+use std::process::Abort;
+use std::test::Fail;
+
+/// The node of a text, which prints it, and whose span it is.
+fn read(rt: &impl Abort, alloc: Global, text: &str) -> Result<KdlNode, Fail> {
+    let node = match KdlNode::parse(alloc, text) {
+        Ok(node) => node,
+        Err(ParseFailure::Memory) => return Err(Fail::from("out of memory")),
+        Err(ParseFailure::Syntax(_)) => {
+            assert!(rt; false, "{text:?} is refused");
+            return Err(Fail::from("refused"));
+        }
+    };
+    let printed = node.to_string(alloc)?;
+    assert_eq!(rt; printed.as_str(), text);
+    assert_eq!(rt; range(node.span()), (0, text.len()));
+    Ok(node)
+}
+
+/// The text is refused, and the one diagnostic is at the span.
+fn refused_at(rt: &impl Abort, alloc: Global, text: &str, offset: usize, len: usize) {
+    match KdlNode::parse(alloc, text) {
+        Ok(_) => assert!(rt; false, "{text:?} is read"),
+        Err(ParseFailure::Memory) => assert!(rt; false, "{text:?} wants memory"),
+        Err(ParseFailure::Syntax(error)) => {
+            assert_eq!(rt; error.input.as_str(), text);
+            assert_eq!(rt; error.diagnostics.len(), 1);
+            for diagnostic in &error.diagnostics {
+                assert_eq!(rt; diagnostic.span, SourceSpan { offset, len });
+                let message = diagnostic.message.as_ref().map_or("", |m| m.as_str());
+                assert_eq!(rt; message, "Expected end of document");
+                let label = diagnostic.label.as_ref().map_or("", |m| m.as_str());
+                assert_eq!(rt; label, "not EOF");
+            }
+        }
+    }
+}
+
+/// The text is read, with these texts before the node and behind its terminator, and this terminator.
+fn stands(
+    rt: &impl Abort,
+    alloc: Global,
+    text: &str,
+    leading: &str,
+    terminator: &str,
+    trailing: &str,
+) -> Result<(), Fail> {
+    let node = read(rt, alloc, text)?;
+    assert_eq!(rt; node.name().value(), "n", "{text:?}");
+    let (before, _, end) = ends(&node);
+    assert_eq!(rt; before, leading, "{text:?}");
+    assert_eq!(rt; end, terminator, "{text:?}");
+    assert_eq!(rt; around_block(&node).1, trailing, "{text:?}");
+    Ok(())
+}
+
+#[test]
+fn a_node_with_its_places(rt: HostRuntime) -> Result<(), Fail> {
+    let node = read(&rt, rt.alloc(), "\n\t  (\"ty\")\"node\" 0xDEADbeef;\n")?;
+    assert_eq!(rt; ends(&node), ("\n\t  ", "", ";"));
+    assert_eq!(rt; around_block(&node), ("", "\n"));
+    assert_eq!(rt; node_type_places(&node), ("", "", ""));
+    assert_eq!(rt; called(node.ty()), "ty");
+    assert_eq!(rt; node.ty().map(|ty| range(ty.span())), Some((5, 9)));
+    assert_eq!(rt; node.name().value(), "node");
+    assert_eq!(rt; range(node.name().span()), (10, 16));
+    let entry = lone_entry(&node)?;
+    assert_eq!(rt; entry.value().as_integer(), Some(3_735_928_559));
+    assert_eq!(rt; range(entry.span()), (17, 27));
+    assert_eq!(rt; range(node.span()), (0, 29));
+    Ok(())
+}
+
+#[test]
+fn a_node_among_comments(rt: HostRuntime) -> Result<(), Fail> {
+    let text = "\n  // indented comment\n  \"formatted\" 1 /* comment */ \\\n    2;\n";
+    let node = read(&rt, rt.alloc(), text)?;
+    assert_eq!(rt; ends(&node), ("\n  // indented comment\n  ", "", ";"));
+    assert_eq!(rt; around_block(&node), ("", "\n"));
+    let [one, two] = node.entries() else {
+        return Err(Fail::from("not two entries"));
+    };
+    assert_eq!(rt; places(one), (" ", "1", ""));
+    assert_eq!(rt; places(two), (" /* comment */ \\\n    ", "2", ""));
+    Ok(())
+}
+
+#[test]
+fn a_node_with_a_block(rt: HostRuntime) -> Result<(), Fail> {
+    let text = " ( u )n /-0 /-{ x } { a; /-b\n} /-{} ; ";
+    let node = read(&rt, rt.alloc(), text)?;
+    assert_eq!(rt; ends(&node), (" ", " /-{} ", ";"));
+    assert_eq!(rt; around_block(&node), (" /-0 /-{ x } ", " "));
+    assert_eq!(rt; node_type_places(&node), (" ", " ", ""));
+    let children = block(&node)?;
+    assert_eq!(rt; margins(children), ("", " /-b\n"));
+    let a = lone_node(children)?;
+    assert_eq!(rt; ends(a), (" ", "", ";"));
+    assert_eq!(rt; range(a.span()), (22, 23));
+    Ok(())
+}
+
+#[test]
+fn terminators(rt: HostRuntime) -> Result<(), Fail> {
+    let alloc = rt.alloc();
+    stands(&rt, alloc, "n", "", "", "")?;
+    stands(&rt, alloc, "n 1 {}", "", "", "")?;
+    stands(&rt, alloc, "n {} ", "", "", "")?;
+    stands(&rt, alloc, "n;", "", ";", "")?;
+    stands(&rt, alloc, "n // c", "", "// c", "")?;
+    stands(&rt, alloc, " n 1 // c\n", " ", "// c\n", "")?;
+    stands(&rt, alloc, "n; // c", "", ";", " // c")?;
+    stands(
+        &rt,
+        alloc,
+        "n\n \\\n/* x */ \n",
+        "",
+        "\n",
+        " \\\n/* x */ \n",
+    )?;
+    stands(&rt, alloc, "n // c\n// d\n", "", "// c\n", "// d\n")?;
+    for newline in NEWLINES {
+        let text = filled(alloc, "n~", newline)?;
+        stands(&rt, alloc, &text, "", newline, "")?;
+        let text = filled(alloc, "~n 1~~", newline)?;
+        stands(&rt, alloc, &text, newline, newline, newline)?;
+        let text = filled(alloc, "n // c~ // d~", newline)?;
+        let comment = filled(alloc, "// c~", newline)?;
+        let trailing = filled(alloc, " // d~", newline)?;
+        stands(&rt, alloc, &text, "", &comment, &trailing)?;
+    }
+    Ok(())
+}
+
+#[test]
+fn nodes_that_count_for_nothing_before_it(rt: HostRuntime) -> Result<(), Fail> {
+    let alloc = rt.alloc();
+    stands(&rt, alloc, "/-a\nn", "/-a\n", "", "")?;
+    stands(&rt, alloc, "/-a {};n;", "/-a {};", ";", "")?;
+    stands(
+        &rt,
+        alloc,
+        " /- // c\na 1\n/-b; n\n",
+        " /- // c\na 1\n/-b; ",
+        "\n",
+        "",
+    )?;
+    stands(&rt, alloc, "n /-1 /-{ a }", "", "", "")?;
+    Ok(())
+}
+
+#[test]
+fn refused_nodes(rt: HostRuntime) {
+    let alloc = rt.alloc();
+    refused_at(&rt, alloc, "", 0, 0);
+    refused_at(&rt, alloc, " // c\n", 6, 0);
+    refused_at(&rt, alloc, "/-a", 3, 0);
+    refused_at(&rt, alloc, ";", 0, 1);
+    refused_at(&rt, alloc, "}", 0, 1);
+    refused_at(&rt, alloc, "n }", 2, 1);
+    refused_at(&rt, alloc, "n {", 3, 0);
+    refused_at(&rt, alloc, "n;;", 2, 1);
+    refused_at(&rt, alloc, "n /-", 4, 0);
+    refused_at(&rt, alloc, "n /* x", 2, 1);
+    refused_at(&rt, alloc, "n; \"", 3, 1);
+    refused_at(&rt, alloc, "/-a {} n", 7, 1);
+    refused_at(&rt, alloc, "n {} /-b", 7, 1);
+    refused_at(&rt, alloc, "\u{feff}n", 0, 3);
+    refused_at(&rt, alloc, "n\n\u{feff}", 2, 3);
+}
+
+#[test]
+fn refused_behind_the_node(rt: HostRuntime) {
+    let alloc = rt.alloc();
+    refused_at(&rt, alloc, "n\nm", 2, 1);
+    refused_at(&rt, alloc, "n; é 1 // c\n", 3, 5);
+    refused_at(&rt, alloc, "n; (t)m 1;o", 3, 6);
+    refused_at(&rt, alloc, "n;/-m", 2, 1);
+    refused_at(&rt, alloc, "é // é\n // é\n /-m\n", 17, 1);
+    refused_at(&rt, alloc, "/-l\nn {}\n\n/-m;", 10, 1);
+    refused_at(&rt, alloc, "n;/-m;o", 6, 1);
+}
+
+#[test]
+fn the_same_node_in_a_document(rt: HostRuntime) -> Result<(), Fail> {
+    let alloc = rt.alloc();
+    let document = KdlDocument::parse(alloc, "n 1 { a; }\n")?;
+    let mut alone = read(&rt, alloc, "n 1 { a; }\n")?;
+    assert!(rt; *lone_node(&document)? == alone);
+    alone.set_span(SourceSpan { offset: 7, len: 9 });
+    assert!(rt; alone == read(&rt, alloc, "n 1 { a; }\n")?);
+    let below = read(&rt, alloc, "\nn 1 { a; }\n")?;
+    assert!(rt; below != alone);
+    let padded = read(&rt, alloc, "n 1 { a; }\n\n")?;
+    assert!(rt; padded != alone);
+    Ok(())
+}

@@ -1,0 +1,173 @@
+//! Look-ups in nodes: what they find, what is left of what was written through them, and the iterators.
+
+ghost use Rattle.kdl.specs.Change.{with_entries};
+ghost use Rattle.kdl.specs.Lookups.{entries_of, key_place, property_place, with_value_there, HasSameEntries, HasWritten};
+ghost use Rattle.kdl.specs.declared.node.KdlNode.{out-KdlNode};
+ghost use Rattle.kdl.specs.declared.node.key.NodeKey.TheVariants.{Index as at_index};
+ghost use Rattle.std.specs.Prelude.{◌≡◌, IsSome, OnErr, OnOk, option_map, slice_get};
+
+use kdl::{KdlDocument, KdlEntry, KdlNode, KdlValue, NodeKey};
+use std::alloc::{AllocError, Global};
+use std::process::Abort;
+use std::test::Fail;
+
+/// Writes the value of the last property of that name, or pushes such a property.
+fn set_property(node: &mut KdlNode, name: &str, value: KdlValue) -> Result<(), AllocError>
+    ensures written { OnOk result (HasWritten (property_place name.now node.old) name.now node.old value node.new) }
+    ensures refused { OnErr result (HasSameEntries node.old node.new) }
+{
+    let place = node.get_or_null_mut(name)?;
+    *place = value;
+    Ok(())
+}
+
+/// Writes the value of the first argument.
+fn set_first(node: &mut KdlNode, value: KdlValue)
+    requires { IsSome (key_place (at_index 0) node.old) }
+    ensures { node.new ≡ with_value_there (key_place (at_index 0) node.old) node.old value }
+{
+    node[0] = value;
+}
+
+/// Makes the entry that the key finds null.
+fn forget(node: &mut KdlNode, key: NodeKey)
+    ensures name { (out-KdlNode node.new).name ≡ (out-KdlNode node.old).name }
+    ensures children { (out-KdlNode node.new).children ≡ (out-KdlNode node.old).children }
+{
+    if let Some(value) = node.get_mut(key) {
+        *value = KdlValue::Null;
+    }
+}
+
+/// Drops the format of the entry that the key finds.
+fn clear_format(node: &mut KdlNode, key: NodeKey)
+    ensures name { (out-KdlNode node.new).name ≡ (out-KdlNode node.old).name }
+    ensures format { (out-KdlNode node.new).format ≡ (out-KdlNode node.old).format }
+{
+    if let Some(entry) = node.entry_mut(key) {
+        entry.clear_format();
+    }
+}
+
+/// The first entry.
+fn first(node: &KdlNode) -> Option<&KdlEntry>
+    ensures { option_map (λ e. e.now) result ≡ slice_get (entries_of node.now) 0 }
+{
+    let mut entries = node.iter();
+    entries.next()
+}
+
+/// A copy of the first node of a text.
+fn node_of(alloc: Global, text: &str) -> Result<KdlNode, Fail> {
+    let document = KdlDocument::parse(alloc, text)?;
+    match document.nodes().first() {
+        Some(node) => Ok(node.clone()?),
+        None => Err(Fail::from("no node")),
+    }
+}
+
+fn key(alloc: Global, name: &str) -> Result<NodeKey, Fail> {
+    Ok(NodeKey::from_text(alloc, name)?)
+}
+
+fn prints(rt: &impl Abort, alloc: Global, node: &KdlNode, text: &str) -> Result<(), Fail> {
+    assert_eq!(rt; node.to_string(alloc)?.as_str(), text);
+    Ok(())
+}
+
+fn integer(value: Option<&KdlValue>) -> Option<i128> {
+    value.and_then(|v| v.as_integer())
+}
+
+#[test]
+fn names_find_the_last_and_places_count_arguments(rt: HostRuntime) -> Result<(), Fail> {
+    let alloc = rt.alloc();
+    let node = node_of(alloc, "n x=1 7 \"x\"=2 y=3 8")?;
+    assert_eq!(rt; integer(node.get(key(alloc, "x")?)), Some(2));
+    assert_eq!(rt; integer(node.get(key(alloc, "y")?)), Some(3));
+    assert!(rt; node.get(key(alloc, "z")?).is_none());
+    assert_eq!(rt; integer(node.get(NodeKey::from(0))), Some(7));
+    assert_eq!(rt; integer(node.get(NodeKey::Index(1))), Some(8));
+    assert!(rt; node.get(NodeKey::Index(2)).is_none());
+    let last = node.entry(key(alloc, "x")?).ok_or("no entry")?;
+    assert_eq!(rt; last.to_string(alloc)?.as_str(), " \"x\"=2");
+    assert!(rt; node.entry(NodeKey::Index(2)).is_none());
+    Ok(())
+}
+
+#[test]
+fn values_by_index(rt: HostRuntime) -> Result<(), Fail> {
+    let alloc = rt.alloc();
+    let mut node = node_of(alloc, "foo x=1 5 x=2")?;
+    if node.get(NodeKey::Index(0)).is_some() {
+        set_first(&mut node, KdlValue::from(6));
+    }
+    prints(&rt, alloc, &node, "foo x=1 5 x=2")?;
+    assert_eq!(rt; integer(node.get(NodeKey::Index(0))), Some(6));
+    Ok(())
+}
+
+#[test]
+fn the_last_property_or_a_null_one(rt: HostRuntime) -> Result<(), Fail> {
+    let alloc = rt.alloc();
+    let mut node = node_of(alloc, "n x=1 x=2")?;
+    set_property(&mut node, "x", KdlValue::from(9))?;
+    assert_eq!(rt; node.entries().len(), 2);
+    assert_eq!(rt; integer(node.get(key(alloc, "x")?)), Some(9));
+    prints(&rt, alloc, &node, "n x=1 x=2")?;
+    let value = node.get_or_null_mut("y")?;
+    assert!(rt; value.is_null());
+    prints(&rt, alloc, &node, "n x=1 x=2 y=#null")?;
+    let value = node.get_or_null_mut("y")?;
+    *value = KdlValue::from(4);
+    prints(&rt, alloc, &node, "n x=1 x=2 y=4")
+}
+
+#[test]
+fn the_spelling_stays_until_it_is_cleared(rt: HostRuntime) -> Result<(), Fail> {
+    let alloc = rt.alloc();
+    let mut node = node_of(alloc, "n 0x10")?;
+    let value = node.get_mut(NodeKey::Index(0)).ok_or("no value")?;
+    *value = KdlValue::from(5);
+    prints(&rt, alloc, &node, "n 0x10")?;
+    clear_format(&mut node, NodeKey::Index(0));
+    prints(&rt, alloc, &node, "n 5")?;
+    forget(&mut node, NodeKey::Index(0));
+    prints(&rt, alloc, &node, "n #null")
+}
+
+#[test]
+fn an_entry_exchanged_for_a_parsed_one(rt: HostRuntime) -> Result<(), Fail> {
+    let alloc = rt.alloc();
+    let mut node = node_of(alloc, "a 1 b=2 // c\n")?;
+    let entry = node.entry_mut(key(alloc, "b")?).ok_or("no entry")?;
+    *entry = KdlEntry::parse(alloc, " b=0x3")?;
+    prints(&rt, alloc, &node, "a 1 b=0x3 // c\n")
+}
+
+#[test]
+fn iterators_go_over_entries_and_children(rt: HostRuntime) -> Result<(), Fail> {
+    let alloc = rt.alloc();
+    let mut node = node_of(alloc, "n 1 k=2 { a; b; }")?;
+    assert_eq!(rt; node.iter().size_hint(), (2, Some(2)));
+    assert_eq!(rt; first(&node).and_then(|e| e.value().as_integer()), Some(1));
+    for entry in node.iter_mut() {
+        entry.set_value(KdlValue::from(true));
+        entry.clear_format();
+    }
+    assert_eq!(rt; node.iter_children().size_hint(), (2, Some(2)));
+    let mut children = node.iter_children_mut();
+    assert_eq!(rt; children.size_hint(), (2, Some(2)));
+    let child = children.next().ok_or("no child")?;
+    child.get_or_null_mut("c")?;
+    assert_eq!(rt; children.size_hint(), (1, Some(1)));
+    drop(children);
+    prints(&rt, alloc, &node, "n #true k=#true { a c=#null; b; }")?;
+    let names = node.iter_children().map(|n| n.name().value().len()).count();
+    assert_eq!(rt; names, 2);
+    let mut bare = node_of(alloc, "n")?;
+    assert!(rt; bare.iter_children().next().is_none());
+    assert!(rt; bare.iter_children_mut().next().is_none());
+    assert_eq!(rt; bare.iter_children_mut().size_hint(), (0, Some(0)));
+    Ok(())
+}

@@ -1,0 +1,225 @@
+-- What is printed where entries or nodes are exchanged, and what edits leave.
+use Rattle.std.proofs.Common.{◌≡◌, ℕ, ◌+◌, ◌<◌, List, ◌∷◌, ◌++◌, map, ap, ◌∙◌, sym, refl, append_assoc, length, take, drop, set, is_some, slice_get, true, false, Option, None, Some, IfSome, IsSome, Result, Ok, Err, IsOk, IfOk, IfErr, OnOk, OnErr, is_ok, if◌then◌else◌, option_map, unwrap_or, Vec, Global, add-one}
+use Rattle.std.proofs.lemmas.List.{map-append, take-map, drop-map, set_split, set-get_or}
+use Rattle.std.proofs.lemmas.Option.{slice_get_within, get_or_from_slice_get}
+use Rattle.std.specs.Vec.{with_item}
+use Rattle.kdl_text.specs.Chars.{Text}
+use Rattle.kdl_entry.specs.Print.{print_entry}
+use Rattle.kdl_entry.specs.Tree.{Identifier, Entry, entry_tree, identifier_tree}
+use Rattle.kdl_entry.specs.declared.identifier.KdlIdentifier.{KdlIdentifier}
+use Rattle.kdl_entry.specs.declared.entry.KdlEntry.{KdlEntry}
+use Rattle.kdl.specs.Change.{with_entries, with_entry}
+use Rattle.kdl.specs.EditLaw.{head_of, tail_of, tree_entries, PrintsInstead, PrintsAtPlace, EntriesExchanged, EntryExchanged, FormedPiece, NodesExchanged, NodeExchanged, document_before, document_behind}
+use Rattle.kdl.specs.Edits.{under, put_for, put_before, there, replaced_place, inserted, IsInserted}
+use Rattle.kdl.specs.EntryLists.{property, sought, place_of}
+use Rattle.kdl_grammar.specs.Print.{print_head, head_text, print_tail, before_block, after_brace, before_brace, end_text, format_of, print_piece, print_pieces, print_node, print_nodes, print_document, leading_text, trailing_text}
+use Rattle.kdl_grammar.specs.Tree.{Head, NodeFormat, Node, node, Children, no_children, children, children_of}
+use Rattle.kdl.specs.Tree.{node_tree, nodes_tree, document_tree, document_format_tree, node_format_tree, head_tree}
+use Rattle.kdl.specs.declared.document.KdlDocument.{KdlDocument}
+use Rattle.kdl.specs.declared.document.KdlDocument.TheViews.{out-KdlDocument, out-KdlNode}
+use Rattle.kdl.specs.declared.node.KdlNode.{KdlNode}
+use Rattle.kdl.specs.declared.node.key.NodeKey.{NodeKey}
+use Rattle.kdl.specs.declared.node.key.NodeKey.TheVariants.{Key, Index}
+use Rattle.kdl.proofs.Printing.{print_pieces-append, print_nodes-join}
+use Rattle.kdl.proofs.Trees.{NodeFields, node_of, document_tree_out, document_tree_roll, node_tree_out, node_tree_roll, nodes_tree-append}
+
+-- the head does not look at the entries; the tail does not where there is a format
+head_same : (h : Head) (es : List Entry) (o : Option NodeFormat) (depth : ℕ) → head_text (record h { entries = es }) o depth ≡ head_text h o depth
+head_same h es None depth = refl
+head_same h es (Some f) depth = refl
+
+before_same : (o : Option NodeFormat) (es fs : List Entry) → IsSome o → before_block o es ≡ before_block o fs
+before_same None es fs s = absurd (cc)
+before_same (Some f) es fs s = refl
+
+tail_same : (h : Head) (es : List Entry) (k : Children) (depth : ℕ) → IsSome h.format → print_tail (record h { entries = es }) k depth ≡ print_tail h k depth
+tail_same h es no_children depth s = refl
+tail_same h es (children d) depth s =
+    ap (λ z. z ++ (123 ∷ after_brace (format_of d)) ++ print_document d (depth + 1) ++ before_brace (format_of d) depth ++ (125 ∷ end_text h.format)) (before_same h.format es h.entries s)
+
+formed : {A B : Type 0} (v : A → B) (o : Option A) → IsSome o → IsSome (option_map v o)
+formed v None s = absurd (cc)
+formed v (Some a) s = refl
+
+fields_exchanged : (x : NodeFields) (v : Vec KdlEntry Global) → IsSome x.format → PrintsInstead (node_of x) (map entry_tree v.items) (node_of (record x { entries = v }))
+fields_exchanged x v s depth =
+    let h = head_tree x in
+    let es = map entry_tree v.items in
+    let k = children_of (option_map document_tree x.children) in
+    ap (λ z. z ++ print_pieces es ++ print_tail (record h { entries = es }) k depth) (head_same h es h.format depth)
+    ∙ ap (λ z. print_head h depth ++ print_pieces es ++ z) (tail_same h es k depth (formed node_format_tree x.format s))
+
+pub entries_exchanged : EntriesExchanged
+entries_exchanged n v s depth =
+    ap (λ z. print_node z depth) (node_tree_roll (record (out-KdlNode n) { entries = v }))
+    ∙ fields_exchanged (out-KdlNode n) v s depth
+    ∙ ap (λ z. head_of z depth ++ print_pieces (map entry_tree v.items) ++ tail_of z depth) (sym (node_tree_out n))
+
+-- a piece between pieces
+pieces_at : (es : List Entry) (i : ℕ) (e : Entry) → print_pieces (take i es ++ (e ∷ drop (i + 1) es)) ≡ print_pieces (take i es) ++ (print_piece e ++ print_pieces (drop (i + 1) es))
+pieces_at es i e = print_pieces-append (take i es) (e ∷ drop (i + 1) es)
+
+seam : (h a p b t : Text) → h ++ (a ++ (p ++ b)) ++ t ≡ (h ++ a) ++ p ++ (b ++ t)
+seam h a p b t = simp append_assoc
+
+at_place : (n m : Node) (i : ℕ) (e : Entry) (es : List Entry) → es ≡ take i (tree_entries n) ++ (e ∷ drop (i + 1) (tree_entries n)) → PrintsInstead n es m → PrintsAtPlace n i e m
+at_place n m i e es k p depth =
+    p depth
+    ∙ ap (λ z. head_of n depth ++ print_pieces z ++ tail_of n depth) k
+    ∙ ap (λ z. head_of n depth ++ z ++ tail_of n depth) (pieces_at (tree_entries n) i e)
+    ∙ seam (head_of n depth) (print_pieces (take i (tree_entries n))) (print_piece e) (print_pieces (drop (i + 1) (tree_entries n))) (tail_of n depth)
+
+itself : (n : Node) → PrintsInstead n (tree_entries n) n
+itself (node h k) depth = refl
+
+-- a list around its element at i
+pub set_around : {A : Type 0} (xs : List A) (i : ℕ) (y : A) → i < length xs → set xs i y ≡ take i xs ++ (y ∷ drop (i + 1) xs)
+set_around xs i y h = set_split xs i y h ∙ ap (λ k. take i xs ++ (y ∷ drop k xs)) (sym (add-one i))
+
+around : {A : Type 0} (xs : List A) (i : ℕ) (x y : A) → slice_get xs i ≡ Some x → set xs i y ≡ take i xs ++ (y ∷ drop (i + 1) xs)
+around xs i x y h = set_around xs i y (slice_get_within xs i x h)
+
+around_itself : {A : Type 0} (xs : List A) (i : ℕ) (x : A) → slice_get xs i ≡ Some x → xs ≡ take i xs ++ (x ∷ drop (i + 1) xs)
+around_itself xs i x h =
+    let g = get_or_from_slice_get xs i x x h in
+    sym (set-get_or xs i x) ∙ ap (set xs i) g ∙ around xs i x x h
+
+-- the same of what the elements are mapped to
+mapped_around : {A B : Type 0} (f : A → B) (xs : List A) (i : ℕ) (y : A) → map f (take i xs ++ (y ∷ drop (i + 1) xs)) ≡ take i (map f xs) ++ (f y ∷ drop (i + 1) (map f xs))
+mapped_around f xs i y =
+    map-append f (take i xs) (y ∷ drop (i + 1) xs)
+    ∙ ap (λ z. z ++ (f y ∷ map f (drop (i + 1) xs))) (sym (take-map f i xs))
+    ∙ ap (λ z. take i (map f xs) ++ (f y ∷ z)) (sym (drop-map f (i + 1) xs))
+
+entries_are : (n : KdlNode) → tree_entries (node_tree n) ≡ map entry_tree (out-KdlNode n).entries.items
+entries_are n = ap tree_entries (node_tree_out n)
+
+tree_around : (n : KdlNode) (i : ℕ) (e : KdlEntry) → map entry_tree (take i (out-KdlNode n).entries.items ++ (e ∷ drop (i + 1) (out-KdlNode n).entries.items))
+    ≡ take i (tree_entries (node_tree n)) ++ (entry_tree e ∷ drop (i + 1) (tree_entries (node_tree n)))
+tree_around n i e = mapped_around entry_tree (out-KdlNode n).entries.items i e ∙ ap (λ z. take i z ++ (entry_tree e ∷ drop (i + 1) z)) (sym (entries_are n))
+
+pub entry_exchanged : EntryExchanged
+entry_exchanged n i old new s h =
+    let x = node_tree n in
+    let es = (out-KdlNode n).entries.items in (
+      at_place x x i (entry_tree old) (tree_entries x) (entries_are n ∙ ap (map entry_tree) (around_itself es i old h) ∙ tree_around n i old) (itself x),
+      at_place x (node_tree (with_entry n i new)) i (entry_tree new) (map entry_tree (set es i new)) (ap (map entry_tree) (around es i old new h) ∙ tree_around n i new) (entries_exchanged n (with_item (out-KdlNode n).entries i new) s),
+    )
+
+pub formed_piece : FormedPiece
+formed_piece e s = elim e.format as (λ o. IsSome o → print_piece (record e { format = o }) ≡ print_entry (record e { format = o })) [ None ↦ λ k. absurd (cc) | Some f ↦ λ k. refl ] s
+
+pub nodes_exchanged : NodesExchanged
+nodes_exchanged d v depth = ap (λ z. print_document z depth) (document_tree_roll (record (out-KdlDocument d) { nodes = v }))
+
+nodes_at : (ns : List KdlNode) (i : ℕ) (n : KdlNode) (depth : ℕ) → print_nodes (nodes_tree (take i ns ++ (n ∷ drop (i + 1) ns))) depth
+    ≡ print_nodes (nodes_tree (take i ns)) depth ++ (print_node (node_tree n) depth ++ print_nodes (nodes_tree (drop (i + 1) ns)) depth)
+nodes_at ns i n depth =
+    ap (λ z. print_nodes z depth) (nodes_tree-append (take i ns) (n ∷ drop (i + 1) ns)) ∙ print_nodes-join (nodes_tree (take i ns)) (nodes_tree (n ∷ drop (i + 1) ns)) depth
+
+node_at : (d : KdlDocument) (ns : List KdlNode) (i : ℕ) (n : KdlNode) (depth : ℕ) → ns ≡ take i (out-KdlDocument d).nodes.items ++ (n ∷ drop (i + 1) (out-KdlDocument d).nodes.items)
+    → leading_text (option_map document_format_tree (out-KdlDocument d).format) ++ print_nodes (nodes_tree ns) depth ++ trailing_text (option_map document_format_tree (out-KdlDocument d).format)
+    ≡ document_before d i depth ++ print_node (node_tree n) depth ++ document_behind d i depth
+node_at d ns i n depth k =
+    let l = leading_text (option_map document_format_tree (out-KdlDocument d).format) in
+    let t = trailing_text (option_map document_format_tree (out-KdlDocument d).format) in
+    let ms = (out-KdlDocument d).nodes.items in
+    ap (λ z. l ++ print_nodes (nodes_tree z) depth ++ t) k
+    ∙ ap (λ z. l ++ z ++ t) (nodes_at ms i n depth)
+    ∙ seam l (print_nodes (nodes_tree (take i ms)) depth) (print_node (node_tree n) depth) (print_nodes (nodes_tree (drop (i + 1) ms)) depth) t
+
+pub node_exchanged : NodeExchanged
+node_exchanged d i old new depth h =
+    let ns = (out-KdlDocument d).nodes.items in (
+      ap (λ z. print_document z depth) (document_tree_out d) ∙ node_at d ns i old depth (around_itself ns i old h),
+      nodes_exchanged d (with_item (out-KdlDocument d).nodes i new) depth ∙ node_at d (set ns i new) i new depth (around ns i old new h),
+    )
+
+-- a node with other entries, by them
+instead : (n m : KdlNode) → m ≡ with_entries n (out-KdlNode m).entries → IsSome (out-KdlNode n).format → PrintsInstead (node_tree n) (map entry_tree (out-KdlNode m).entries.items) (node_tree m)
+instead n m r s depth = ap (λ z. print_node (node_tree z) depth) r ∙ entries_exchanged n (out-KdlNode m).entries s depth
+
+-- what is printed once an entry stands in the place of another
+put_prints : (o : Option ℕ) (e : KdlEntry) (t : Entry) (n m : KdlNode) → entry_tree e ≡ t → (out-KdlNode m).entries.items ≡ put_for o e (out-KdlNode n).entries.items
+    → m ≡ with_entries n (out-KdlNode m).entries → IsSome (out-KdlNode n).format → IfSome o (λ i. PrintsAtPlace (node_tree n) i t (node_tree m))
+put_prints None e t n m k h r s = tt
+put_prints (Some i) e t n m k h r s =
+    at_place (node_tree n) (node_tree m) i t (map entry_tree (out-KdlNode m).entries.items) (ap (map entry_tree) h ∙ tree_around n i e ∙ ap (λ z. take i (tree_entries (node_tree n)) ++ (z ∷ drop (i + 1) (tree_entries (node_tree n)))) k) (instead n m r s)
+
+inserted_prints : (key : NodeKey) (e : KdlEntry) (n m : KdlNode) → IsInserted key e (out-KdlNode n).entries.items (out-KdlNode m).entries.items → m ≡ with_entries n (out-KdlNode m).entries
+    → IsSome (out-KdlNode n).format → IfSome (replaced_place key (out-KdlNode n).entries.items) (λ i. PrintsAtPlace (node_tree n) i (under (sought key) (entry_tree e)) (node_tree m))
+inserted_prints (Key k) e n m d r s = put_prints (place_of (Key k) (out-KdlNode n).entries.items) d.entry _ n m d.tree d.items r s
+inserted_prints (Index i) e n m d r s = tt
+
+-- a node with the entries that it had
+pub entries_same : (n m : KdlNode) → m ≡ with_entries n (out-KdlNode m).entries → (out-KdlNode m).entries.items ≡ (out-KdlNode n).entries.items → node_tree m ≡ node_tree n
+entries_same n m r h =
+    ap node_tree r
+    ∙ node_tree_roll (record (out-KdlNode n) { entries = (out-KdlNode m).entries })
+    ∙ ap (λ z. node (record (head_tree (out-KdlNode n)) { entries = map entry_tree z }) (children_of (option_map document_tree (out-KdlNode n).children))) h
+    ∙ sym (node_tree_out n)
+
+pub refused_same : {T E : Type 0} (r : Result T E) (n m : KdlNode) (es : List KdlEntry) → (out-KdlNode m).entries.items ≡ (if is_ok r then es else (out-KdlNode n).entries.items)
+    → m ≡ with_entries n (out-KdlNode m).entries → OnErr r (node_tree m ≡ node_tree n)
+refused_same (Ok a) n m es h s = tt
+refused_same (Err e) n m es h s = entries_same n m s h
+
+-- what a successful insertion leaves, and what it prints
+pub insert_done : {T E : Type 0} (r : Result T E) (key : NodeKey) (e f : KdlEntry) (n m : KdlNode) → entry_tree f ≡ under (sought key) (entry_tree e)
+    → (out-KdlNode m).entries.items ≡ (if is_ok r then inserted key f (out-KdlNode n).entries.items else (out-KdlNode n).entries.items)
+    → OnOk r (IsInserted key e (out-KdlNode n).entries.items (out-KdlNode m).entries.items)
+insert_done (Ok a) key e f n m t h = record { entry = f; tree = t; items = h }
+insert_done (Err a) key e f n m t h = tt
+
+pub insert_prints : {T E : Type 0} (r : Result T E) (key : NodeKey) (e : KdlEntry) (n m : KdlNode) → OnOk r (IsInserted key e (out-KdlNode n).entries.items (out-KdlNode m).entries.items)
+    → m ≡ with_entries n (out-KdlNode m).entries
+    → OnOk r (IsSome (out-KdlNode n).format → IfSome (replaced_place key (out-KdlNode n).entries.items) (λ i. PrintsAtPlace (node_tree n) i (under (sought key) (entry_tree e)) (node_tree m)))
+insert_prints (Ok a) key e n m d s = λ f. inserted_prints key e n m d s f
+insert_prints (Err a) key e n m d s = tt
+
+-- the name that an entry takes
+pub own_name : {A : Type 0} (f : A → Identifier) (o : Option A) (e : Entry) (k : Identifier) → option_map f o ≡ e.name → is_some o ≡ true → e ≡ under (property k) e
+own_name f None e k h t = absurd (cc)
+own_name f (Some a) e k h t =
+    let q : e.name ≡ Some (unwrap_or e.name k) = sym h ∙ ap (λ o. Some (unwrap_or o k)) h in
+    ap (λ o. record e { name = o }) q
+
+pub given_name : {A : Type 0} (f : A → Identifier) (o : Option A) (e : Entry) (k : Identifier) → option_map f o ≡ e.name → is_some o ≡ false → record e { name = Some k } ≡ under (property k) e
+given_name f None e k h t = ap (λ o. record e { name = Some (unwrap_or o k) }) h
+given_name f (Some a) e k h t = absurd (cc)
+
+-- an insertion by name, and by index, by the place that was found
+pub key_put : (key : NodeKey) (k : KdlIdentifier) (o : Option ℕ) (f : KdlEntry) (es : List KdlEntry) → key ≡ Key k → o ≡ place_of key es → put_for o f es ≡ inserted key f es
+key_put key k o f es e p = rw (p, e) refl
+
+pub index_put : (key : NodeKey) (i : ℕ) (o : Option ℕ) (f : KdlEntry) (es : List KdlEntry) → key ≡ Index i → o ≡ place_of key es → put_before o f es ≡ inserted key f es
+index_put key i o f es e p = rw (p, e) refl
+
+pub key_replaced : (key : NodeKey) (k : KdlIdentifier) (o : Option ℕ) (es : List KdlEntry) → key ≡ Key k → o ≡ place_of key es → there o es ≡ there (replaced_place key es) es
+key_replaced key k o es e p = rw (p, e) refl
+
+pub index_replaced : (key : NodeKey) (i : ℕ) (es : List KdlEntry) → key ≡ Index i → None ≡ there (replaced_place key es) es
+index_replaced key i es e = rw e refl
+
+pub key_succeeds : {T E : Type 0} (r : Result T E) (key : NodeKey) (k : KdlIdentifier) (o : Option ℕ) (es : List KdlEntry) → key ≡ Key k → o ≡ place_of key es → (IsSome o → IsOk r) → IsSome (replaced_place key es) → IsOk r
+key_succeeds r key k o es e p = rw (p, e) (λ f. f)
+
+pub index_succeeds : {T E : Type 0} (r : Result T E) (key : NodeKey) (i : ℕ) (es : List KdlEntry) → key ≡ Index i → IsSome (replaced_place key es) → IsOk r
+index_succeeds r key i es e = rw e (λ h. absurd (cc))
+
+pub key_under : (key : NodeKey) (k : KdlIdentifier) (f : KdlEntry) (t : Entry) → key ≡ Key k → entry_tree f ≡ under (property (identifier_tree k)) t → entry_tree f ≡ under (sought key) t
+key_under key k f t e h = rw e h
+
+pub index_under : (key : NodeKey) (i : ℕ) (t : Entry) → key ≡ Index i → t ≡ under (sought key) t
+index_under key i t e = rw e refl
+
+pub if_ok_same : {T E : Type 0} (r : Result T E) (xs ys zs old : List KdlEntry) → xs ≡ (if is_ok r then ys else old) → ys ≡ zs → xs ≡ (if is_ok r then zs else old)
+if_ok_same r xs ys zs old h e = h ∙ ap (λ z. if is_ok r then z else old) e
+
+pub replaced_is : {A E : Type 0} (r : Result A E) (x y : A) → IfOk r (λ e. e ≡ x) → x ≡ y → IfOk r (λ e. e ≡ y)
+replaced_is (Ok a) x y h k = h ∙ k
+replaced_is (Err a) x y h k = tt
+
+pub back_is : {T E : Type 0} (first : E → KdlEntry) (r : Result T E) (f : KdlEntry) (t : Entry) → IfErr r (λ e. first e ≡ f) → entry_tree f ≡ t → IfErr r (λ e. entry_tree (first e) ≡ t)
+back_is first (Ok a) f t h k = tt
+back_is first (Err e) f t h k = ap entry_tree h ∙ k

@@ -1,0 +1,5 @@
+use Rattle.kdl_entry.proofs.Printing.{printed_empty}
+use Rattle.kdl.proofs.document.KdlDocument.is_empty.Goals as goal
+
+pub returns : goal.returns
+returns c = printed_empty c.in_ok-to_string.field-0 _ _ c.in_ok-to_string.ensures.ok c.is_empty.ensures

@@ -1,0 +1,63 @@
+-- What look-ups in a node give, and what a node is once what they lent was written.
+use Rattle.std.specs.Prelude.{◌≡◌, ℕ, List, [], ◌∷◌, ◌++◌, Option, Some, None, option_map, option_and_then, length, slice_get}
+use Rattle.std.specs.Str.{chars}
+use Rattle.kdl_entry.specs.Data.{Value, null}
+use Rattle.kdl_entry.specs.Tree.{entry_tree, value_tree, plain_entry, plain_identifier}
+use Rattle.kdl_entry.specs.declared.entry.KdlEntry.{KdlEntry}
+use Rattle.kdl_entry.specs.declared.value.KdlValue.{KdlValue}
+use Rattle.kdl.specs.Change.{with_entries, with_entry, with_value}
+use Rattle.kdl.specs.EntryLists.{place_of, last_place, has_name}
+use Rattle.kdl.specs.declared.node.key.NodeKey.{NodeKey}
+use Rattle.kdl.specs.declared.node.KdlNode.{KdlNode, out-KdlNode}
+
+-- the entries of a node
+abbrev pub entries_of : KdlNode → List KdlEntry
+entries_of n = (out-KdlNode n).entries.items
+
+-- the place of the last property of that name
+abbrev pub property_place : List ℕ → KdlNode → Option ℕ
+property_place s n = last_place (has_name s) (entries_of n)
+
+-- the place of the entry that a key finds
+abbrev pub key_place : NodeKey → KdlNode → Option ℕ
+key_place k n = place_of k (entries_of n)
+
+-- the entry at a place that was found
+abbrev pub entry_there : Option ℕ → KdlNode → Option KdlEntry
+entry_there place n = option_and_then (λ i. slice_get (entries_of n) i) place
+
+-- the value of the entry at a place that was found
+abbrev pub value_there : Option ℕ → KdlNode → Option Value
+value_there place n = option_map (λ e. value_tree e.value) (entry_there place n)
+
+-- the node with the entry at a place that was found exchanged, and all else as it was
+abbrev pub with_entry_there : Option ℕ → KdlNode → KdlEntry → KdlNode
+with_entry_there None n e = n
+with_entry_there (Some i) n e = with_entry n i e
+
+-- the node with the value of the entry at a place that was found exchanged, and all else as it was
+abbrev pub with_value_there : Option ℕ → KdlNode → KdlValue → KdlNode
+with_value_there None n w = n
+with_value_there (Some i) n w = with_value n i w
+
+-- m is n with a property of that name and value behind its entries, and all else as it was
+pub record IsPushed (s : List ℕ) (w : Value) (n m : KdlNode) : Type 0 where
+  pub entry : KdlEntry
+  pub tree : entry_tree entry ≡ plain_entry (Some (plain_identifier (chars s))) w
+  pub items : entries_of m ≡ entries_of n ++ (entry ∷ [])
+  pub rest : m ≡ with_entries n (out-KdlNode m).entries
+
+-- m has the entries of n, and all else as it was
+pub record HasSameEntries (n m : KdlNode) : Type 0 where
+  pub items : entries_of m ≡ entries_of n
+  pub rest : m ≡ with_entries n (out-KdlNode m).entries
+
+-- m is n with the property at the place that was found, or else with a null property of that name pushed; i is its place
+abbrev pub HasProperty : Option ℕ → List ℕ → KdlNode → ℕ → KdlNode → Type 0
+HasProperty None s n i m = (i ≡ length (entries_of n)) × IsPushed s null n m
+HasProperty (Some k) s n i m = (i ≡ k) × (m ≡ n)
+
+-- m is n with w as the value of the property at the place that was found, or else with a property of that name and value pushed; all else is as it was
+abbrev pub HasWritten : Option ℕ → List ℕ → KdlNode → KdlValue → KdlNode → Type 0
+HasWritten None s n w m = IsPushed s (value_tree w) n m
+HasWritten (Some i) s n w m = m ≡ with_value n i w

@@ -1,0 +1,158 @@
+//! The iterators over the arguments of a node, and of its children named `-`.
+
+ghost use Rattle.kdl.specs.DocumentLookups.{arguments, arguments_of, dash_arguments, dash_arguments_of, node_named};
+ghost use Rattle.kdl.specs.EntryLists.{is_argument};
+ghost use Rattle.kdl.specs.Iterators.{child_nodes};
+ghost use Rattle.kdl_entry.specs.Tree.{value_tree};
+ghost use Rattle.std.specs.Iterator.{UpTo, at_most};
+ghost use Rattle.std.specs.Iterator.SizeHint.{IsWithinCount};
+ghost use Rattle.std.specs.Map.Iter.{TakesFirst};
+ghost use Rattle.std.specs.Prelude.{◌≡◌, IfSome, IsSome, length};
+ghost use Rattle.std.specs.Slice.Iter.{iter_rest};
+
+use crate::document::KdlDocument;
+use crate::document::lookup::is_named;
+use crate::node::KdlNode;
+use crate::node::key::NodeKey;
+use crate::node::places::is_unnamed;
+use kdl_entry::{KdlEntry, KdlValue};
+use std::marker::Model;
+use std::slice;
+
+impl KdlDocument {
+    /// The values of the arguments of the first node of that name, in order; none where there is no such node.
+    pub fn iter_args(&self, name: &str) -> ArgsIter<'_>
+        ensures { result ≡ arguments_of (node_named name.now self.now) }
+    {
+        match self.get(name) {
+            Some(node) => ArgsIter {
+                entries: node.entries().iter(),
+            },
+            None => ArgsIter { entries: [].iter() },
+        }
+    }
+
+    /// The value of the first argument of each child named `-` that has one, in order, among the children of the first node of that name; none where there is no such node.
+    pub fn iter_dash_args(&self, name: &str) -> DashArgsIter<'_>
+        ensures { result ≡ dash_arguments_of (node_named name.now self.now) }
+    {
+        match self.get(name) {
+            Some(node) => DashArgsIter {
+                nodes: children(node).iter(),
+            },
+            None => DashArgsIter { nodes: [].iter() },
+        }
+    }
+}
+
+/// The children of a node, none without a child block.
+fn children(node: &KdlNode) -> &[KdlNode]
+    ensures { result.now ≡ child_nodes node.now }
+{
+    match node.children() {
+        Some(children) => children.nodes(),
+        None => &[],
+    }
+}
+
+/// The value of the next argument.
+fn next_argument<'a>(entries: &mut slice::Iter<'a, KdlEntry>) -> Option<&'a KdlValue>
+    ensures { TakesFirst (λ v. value_tree v.now) (arguments (iter_rest entries.old)) result (arguments (iter_rest entries.new)) }
+{
+    while let Some(entry) = entries.next() {
+        if is_unnamed(entry) {
+            return Some(entry.value());
+        }
+    }
+    None
+}
+
+/// The value of the first argument of the next node that is named `-` and has one.
+fn next_dash_argument<'a>(nodes: &mut slice::Iter<'a, KdlNode>) -> Option<&'a KdlValue>
+    ensures { TakesFirst (λ v. value_tree v.now) (dash_arguments (iter_rest nodes.old)) result (dash_arguments (iter_rest nodes.new)) }
+{
+    while let Some(node) = nodes.next() {
+        if is_named(node, "-") {
+            if let Some(value) = node.get(NodeKey::Index(0)) {
+                return Some(value);
+            }
+        }
+    }
+    None
+}
+
+/// The values of a node's arguments, in order.
+#[derive(Drop)]
+pub struct ArgsIter<'a> {
+    entries: slice::Iter<'a, KdlEntry>,
+}
+
+impl<'a> Model for ArgsIter<'a> {
+    ghost use Rattle.kdl.specs.DocumentLookups.{arguments};
+    ghost use Rattle.kdl_entry.specs.Data.{Value as Data};
+    ghost use Rattle.std.specs.Prelude.{List};
+    ghost use Rattle.std.specs.Slice.Iter.{iter_rest};
+
+    ghost Value = { List Data };
+
+    ghost view = { λ a. arguments (iter_rest a.entries) };
+}
+
+impl<'a> Iterator for ArgsIter<'a> {
+    type Item = &'a KdlValue;
+
+    ghost next_gives = { TakesFirst (λ v. value_tree v.now) };
+
+    ghost remaining = { λ s. at_most (length s) };
+
+    fn next(&mut self) -> Option<&'a KdlValue> {
+        next_argument(&mut self.entries)
+    }
+
+    /// At most as many as entries are left.
+    fn size_hint(&self) -> (usize, Option<usize>)
+        ensures lower { IsWithinCount result.0 (at_most (length self.now)) }
+        ensures upper { IfSome result.1 (UpTo (at_most (length self.now))) }
+        ensures bounded { IsSome result.1 }
+    {
+        (0, Some(self.entries.len()))
+    }
+}
+
+/// The values of the first arguments of a node's children named `-`, in order.
+#[derive(Drop)]
+pub struct DashArgsIter<'a> {
+    nodes: slice::Iter<'a, KdlNode>,
+}
+
+impl<'a> Model for DashArgsIter<'a> {
+    ghost use Rattle.kdl.specs.DocumentLookups.{dash_arguments};
+    ghost use Rattle.kdl_entry.specs.Data.{Value as Data};
+    ghost use Rattle.std.specs.Prelude.{List};
+    ghost use Rattle.std.specs.Slice.Iter.{iter_rest};
+
+    ghost Value = { List Data };
+
+    ghost view = { λ a. dash_arguments (iter_rest a.nodes) };
+}
+
+impl<'a> Iterator for DashArgsIter<'a> {
+    type Item = &'a KdlValue;
+
+    ghost next_gives = { TakesFirst (λ v. value_tree v.now) };
+
+    ghost remaining = { λ s. at_most (length s) };
+
+    fn next(&mut self) -> Option<&'a KdlValue> {
+        next_dash_argument(&mut self.nodes)
+    }
+
+    /// At most as many as children are left.
+    fn size_hint(&self) -> (usize, Option<usize>)
+        ensures lower { IsWithinCount result.0 (at_most (length self.now)) }
+        ensures upper { IfSome result.1 (UpTo (at_most (length self.now))) }
+        ensures bounded { IsSome result.1 }
+    {
+        (0, Some(self.nodes.len()))
+    }
+}

@@ -1,0 +1,96 @@
+//! The parts of a document, to be set or to be changed in place, and its printed length.
+
+ghost use Rattle.kdl.specs.Change.{with_nodes, with_document_format, nodes_row};
+ghost use Rattle.kdl.specs.Cleared.{cleared_document, cleared_nodes};
+ghost use Rattle.kdl_grammar.specs.Print.{print_document};
+ghost use Rattle.kdl.specs.Tree.{document_tree, nodes_tree};
+ghost use Rattle.kdl.specs.contracts.document.KdlDocument.{the_row};
+ghost use Rattle.kdl.specs.contracts.document.KdlDocumentFormat.{the_row as format_row};
+ghost use Rattle.kdl.specs.declared.document.KdlDocument.{out-KdlDocument};
+ghost use Rattle.kdl_text.specs.Here.{bytes};
+ghost use Rattle.std.specs.Borrow.{Lends, LendsIf, sem};
+ghost use Rattle.std.specs.Prelude.{◌≡◌, ◌↔◌, IfOk, IsTrue, [], None, Some, option_map};
+ghost use Rattle.std.specs.Vec.Iter.{into_iter_items};
+
+use crate::document::{KdlDocument, KdlDocumentFormat};
+use crate::node::KdlNode;
+use std::alloc::{AllocError, Global};
+use std::vec::IntoIter;
+
+impl KdlDocument {
+    /// The nodes, to be changed in place.
+    pub fn nodes_mut(&mut self) -> &mut Vec<KdlNode>
+        ensures* writes_back { sem 𝓛 (Lends the_row nodes_row self.entry result (with_nodes self.old)) }
+        ensures value { result.now ≡ (out-KdlDocument self.old).nodes }
+    {
+        &mut self.nodes
+    }
+
+    /// The texts around the nodes, to be changed in place, where the document keeps them.
+    pub fn format_mut(&mut self) -> Option<&mut KdlDocumentFormat>
+        ensures* writes_back { sem 𝓛 (LendsIf the_row format_row self.entry result (λ f. with_document_format self.old (Some f)) self.old) }
+        ensures value { option_map (λ f. f.now) result ≡ (out-KdlDocument self.old).format }
+    {
+        self.format.as_mut()
+    }
+
+    /// Sets the texts around the nodes, and nothing else.
+    pub fn set_format(&mut self, format: KdlDocumentFormat)
+        ensures { out-KdlDocument self.new ≡ record (out-KdlDocument self.old) { format = Some format } }
+    {
+        self.format = Some(format);
+    }
+
+    /// Drops the document's own format, and nothing else: its nodes stay as they are.
+    pub fn clear_format(&mut self)
+        ensures { out-KdlDocument self.new ≡ record (out-KdlDocument self.old) { format = None } }
+    {
+        self.format = None;
+    }
+
+    /// Drops the document's format, and all that `clear_format_recursive` of each node drops.
+    #[cycle(clear)]
+    pub fn clear_format_recursive(&mut self)
+        ensures { document_tree self.new ≡ cleared_document (document_tree self.old) }
+    {
+        self.clear_format();
+        clear_nodes(&mut self.nodes);
+    }
+
+    /// The length of the printed text, in bytes. It prints the document: it fails where memory is wanting.
+    pub fn len(&self, alloc: Global) -> Result<usize, AllocError>
+        ensures { IfOk result (λ n. n ≡ bytes (print_document (document_tree self.now) 0)) }
+    {
+        Ok(self.to_string(alloc)?.len())
+    }
+
+    /// Whether the printed text is empty. It prints the document: it fails where memory is wanting.
+    pub fn is_empty(&self, alloc: Global) -> Result<bool, AllocError>
+        ensures { IfOk result (λ b. IsTrue b ↔ (print_document (document_tree self.now) 0 ≡ [])) }
+    {
+        Ok(self.to_string(alloc)?.is_empty())
+    }
+}
+
+/// Drops the formats and spellings of nodes.
+#[cycle(clear)]
+fn clear_nodes(nodes: &mut Vec<KdlNode>)
+    ensures { nodes_tree nodes.new.items ≡ cleared_nodes (nodes_tree nodes.old.items) }
+{
+    for node in nodes.iter_mut() {
+        node.clear_format_recursive();
+    }
+}
+
+/// The nodes, in order; the document's format and span are dropped.
+impl IntoIterator for KdlDocument {
+    type Item = KdlNode;
+
+    type IntoIter = IntoIter<KdlNode>;
+
+    ghost into_iter_gives = { λ d r. into_iter_items r ≡ (out-KdlDocument d).nodes.items };
+
+    fn into_iter(self) -> IntoIter<KdlNode> {
+        self.nodes.into_iter()
+    }
+}

@@ -1,0 +1,88 @@
+//! Look-ups of nodes by their name.
+
+ghost use Rattle.kdl.specs.DocumentLookups.{argument_named, argument_place, first_argument, node_named, node_place, nodes_of, with_argument_there, with_node_there};
+ghost use Rattle.kdl.specs.EntryLists.{is_node_named};
+ghost use Rattle.kdl.specs.contracts.document.KdlDocument.{the_row};
+ghost use Rattle.kdl.specs.contracts.node.KdlNode.{the_row as node_row};
+ghost use Rattle.kdl_entry.specs.Tree.{value_tree};
+ghost use Rattle.kdl_entry.specs.contracts.value.KdlValue.{the_row as value_row};
+ghost use Rattle.std.specs.Borrow.{LendsIf, sem};
+ghost use Rattle.std.specs.List.{find};
+ghost use Rattle.std.specs.Prelude.{◌≡◌, ◌<◌, IfNone, IfSome, IsSome, None, Some, length, option_and_then, option_map, position, slice_get};
+
+use crate::document::KdlDocument;
+use crate::node::KdlNode;
+use crate::node::key::NodeKey;
+use kdl_entry::KdlValue;
+
+/// Whether the node has that name.
+pub(crate) fn is_named(node: &KdlNode, name: &str) -> bool
+    ensures { result ≡ is_node_named name.now node.now }
+{
+    node.name().value() == name
+}
+
+/// The place of the first node of that name.
+fn place(nodes: &[KdlNode], name: &str) -> Option<usize>
+    ensures place { result ≡ position (is_node_named name.now) nodes.now }
+    ensures bound { IfSome result (λ i. i < length nodes.now) }
+{
+    nodes.iter().position(|node| is_named(node, name))
+}
+
+/// The place of the first node of that name, where it has an argument.
+fn place_with_argument(nodes: &[KdlNode], name: &str) -> Option<usize>
+    ensures place { IfSome result (λ i. Some i ≡ position (is_node_named name.now) nodes.now) }
+    ensures bound { IfSome result (λ i. i < length nodes.now) }
+    ensures there { IfSome result (λ i. IsSome (option_and_then argument_place (slice_get nodes.now i))) }
+    ensures absent { IfNone result (option_and_then first_argument (find (is_node_named name.now) nodes.now) ≡ None) }
+{
+    let Some(at) = place(nodes, name) else {
+        return None;
+    };
+    match nodes[at].get(NodeKey::Index(0)) {
+        Some(_) => Some(at),
+        None => None,
+    }
+}
+
+impl KdlDocument {
+    /// The first node of that name. The name's value counts, not its spelling.
+    pub fn get(&self, name: &str) -> Option<&KdlNode>
+        ensures { option_map (λ n. n.now) result ≡ node_named name.now self.now }
+    {
+        self.nodes.iter().find(|node| is_named(*node, name))
+    }
+
+    /// The first node of that name, to be changed in place. All else stays as it is.
+    pub fn get_mut(&mut self, name: &str) -> Option<&mut KdlNode>
+        ensures* writes_back { sem 𝓛 (LendsIf the_row node_row self.entry result (with_node_there (node_place name.now self.old) self.old) self.old) }
+        ensures value { option_map (λ n. n.now) result ≡ node_named name.now self.old }
+    {
+        match place(&self.nodes, name) {
+            Some(at) => Some(&mut self.nodes[at]),
+            None => None,
+        }
+    }
+
+    /// The value of the first argument of the first node of that name.
+    pub fn get_arg(&self, name: &str) -> Option<&KdlValue>
+        ensures { option_map (λ v. value_tree v.now) result ≡ option_map (λ e. value_tree e.value) (argument_named name.now self.now) }
+    {
+        match self.get(name) {
+            Some(node) => node.get(NodeKey::Index(0)),
+            None => None,
+        }
+    }
+
+    /// The value that `get_arg` gives, to be changed in place. The entry's format, with the spelling of the value, and all else stay as they are.
+    pub fn get_arg_mut(&mut self, name: &str) -> Option<&mut KdlValue>
+        ensures* writes_back { sem 𝓛 (LendsIf the_row value_row self.entry result (with_argument_there (node_place name.now self.old) self.old) self.old) }
+        ensures value { option_map (λ v. v.now) result ≡ option_map (λ e. e.value) (argument_named name.now self.old) }
+    {
+        match place_with_argument(&self.nodes, name) {
+            Some(at) => Some(&mut self.nodes[at][0]),
+            None => None,
+        }
+    }
+}

@@ -1,0 +1,245 @@
+//! Edits of a node's entries.
+
+ghost use Rattle.kdl.specs.Change.{with_entries, entries_row};
+ghost use Rattle.kdl.specs.EditLaw.{PrintsAtPlace};
+ghost use Rattle.kdl.specs.Edits.{GoesUnder, HasArgumentAt, HasRoomAt, IsInserted, put_before, put_for, removed, replaced_place, there, under};
+ghost use Rattle.kdl.specs.EntryLists.{property, removed_place, sought};
+ghost use Rattle.kdl.specs.Tree.{node_tree};
+ghost use Rattle.kdl.specs.contracts.node.KdlNode.{the_row};
+ghost use Rattle.kdl.specs.declared.node.KdlNode.{out-KdlNode};
+ghost use Rattle.kdl_entry.specs.Tree.{entry_tree, identifier_tree};
+ghost use Rattle.std.specs.Borrow.{Lends, sem};
+ghost use Rattle.std.specs.Fn.{CalledAt};
+ghost use Rattle.std.specs.List.Retain.{IsFiltered};
+ghost use Rattle.std.specs.List.Sorted.{IsPermutation, IsSortedByClosure, IsSortedByKeyClosure, IsStableByClosure, IsStableByKeyClosure};
+ghost use Rattle.std.specs.Prelude.{◌≡◌, ◌==◌, ◌<◌, ◌≤◌, ◌+◌, [], ◌∷◌, ◌++◌, if◌then◌else◌, IfErr, IfOk, IfSome, IsSome, IsOk, OnErr, OnOk, Some, drop, is_ok, length, slice_get, take};
+
+use crate::node::KdlNode;
+use crate::node::key::NodeKey;
+use crate::node::places::{place, place_to_remove};
+use kdl_entry::{KdlEntry, KdlIdentifier};
+use std::alloc::AllocError;
+use std::cmp::Ordering;
+use std::mem;
+
+impl KdlNode {
+    /// The number of entries.
+    pub fn len(&self) -> usize
+        ensures { result ≡ length (out-KdlNode self.now).entries.items }
+    {
+        self.entries.len()
+    }
+
+    /// Whether there are no entries.
+    pub fn is_empty(&self) -> bool
+        ensures { result ≡ (length (out-KdlNode self.now).entries.items == 0) }
+    {
+        self.entries.is_empty()
+    }
+
+    /// The entries, to be changed in place. All else stays as it is: of a node with a format, what is printed before the
+    /// entries and behind them too.
+    pub fn entries_mut(&mut self) -> &mut Vec<KdlEntry>
+        ensures* writes_back { sem 𝓛 (Lends the_row entries_row self.entry result (with_entries self.old)) }
+        ensures value { result.now ≡ (out-KdlNode self.old).entries }
+    {
+        &mut self.entries
+    }
+
+    /// Drops all entries. All else stays as it is.
+    pub fn clear(&mut self)
+        ensures items { (out-KdlNode self.new).entries.items ≡ [] }
+        ensures rest { self.new ≡ with_entries self.old (out-KdlNode self.new).entries }
+    {
+        self.entries.clear();
+    }
+
+    /// Puts the entry behind the others. Fails where memory is wanting: then the entry comes back, and the node is as it was.
+    #[tactic(auto, using(crate::proofs::EditLaws::entries_same))]
+    pub fn push(&mut self, entry: KdlEntry) -> Result<(), (KdlEntry, AllocError)>
+        ensures items { (out-KdlNode self.new).entries.items ≡ (if is_ok result then (out-KdlNode self.old).entries.items ++ (entry ∷ []) else (out-KdlNode self.old).entries.items) }
+        ensures rest { self.new ≡ with_entries self.old (out-KdlNode self.new).entries }
+        ensures back { IfErr result (λ e. e.0 ≡ entry) }
+        ensures refused { OnErr result (node_tree self.new ≡ node_tree self.old) }
+    {
+        match self.entries.push(entry) {
+            Ok(()) => Ok(()),
+            Err(refused) => Err((refused.value, AllocError)),
+        }
+    }
+
+    /// Puts the entry in under the key. Under a name, an entry without a name takes it; the last property whose name has
+    /// that value is replaced in place and handed back, and where there is none the entry goes last. Under an index it goes
+    /// directly before the argument at that place among the arguments, or last where there are as many arguments.
+    ///
+    /// The entry has no name, or under a name one of equal value; the index is at most the number of arguments. A
+    /// replacement takes no memory. Else it fails where memory is wanting: then the entry comes back, with the key for its
+    /// name where it had none, and the node is as it was.
+    pub fn insert(
+        &mut self,
+        key: NodeKey,
+        entry: KdlEntry,
+    ) -> Result<Option<KdlEntry>, (KdlEntry, AllocError)>
+        requires fits { GoesUnder (sought key) (entry_tree entry) }
+        requires room { HasRoomAt (sought key) (out-KdlNode self.old).entries.items }
+        ensures items { OnOk result (IsInserted key entry (out-KdlNode self.old).entries.items (out-KdlNode self.new).entries.items) }
+        ensures rest { self.new ≡ with_entries self.old (out-KdlNode self.new).entries }
+        ensures replaced { IfOk result (λ e. e ≡ there (replaced_place key (out-KdlNode self.old).entries.items) (out-KdlNode self.old).entries.items) }
+        ensures prints { OnOk result (IsSome (out-KdlNode self.old).format → IfSome (replaced_place key (out-KdlNode self.old).entries.items) (λ i. PrintsAtPlace (node_tree self.old) i (under (sought key) (entry_tree entry)) (node_tree self.new))) }
+        ensures succeeds { IsSome (replaced_place key (out-KdlNode self.old).entries.items) → IsOk result }
+        ensures back { IfErr result (λ e. entry_tree e.0 ≡ under (sought key) (entry_tree entry)) }
+        ensures refused { OnErr result (node_tree self.new ≡ node_tree self.old) }
+    {
+        let at = place(&self.entries, &key);
+        match key {
+            NodeKey::Key(name) => self.put_for(at, named(entry, name)),
+            NodeKey::Index(_) => self.put_before(at, entry),
+        }
+    }
+
+    /// Takes out and hands back the first property whose name has the key's value, or the argument at the key's place
+    /// among the arguments, which has to be there. All else stays as it is.
+    pub fn remove(&mut self, key: NodeKey) -> Option<KdlEntry>
+        requires { HasArgumentAt (sought key) (out-KdlNode self.old).entries.items }
+        ensures items { (out-KdlNode self.new).entries.items ≡ removed key (out-KdlNode self.old).entries.items }
+        ensures rest { self.new ≡ with_entries self.old (out-KdlNode self.new).entries }
+        ensures value { result ≡ there (removed_place key (out-KdlNode self.old).entries.items) (out-KdlNode self.old).entries.items }
+    {
+        match place_to_remove(&self.entries, &key) {
+            Some(at) => Some(self.remove_at(at)),
+            None => None,
+        }
+    }
+
+    /// Keeps, in order, the entries for which `keep` answers true. It is asked once for each entry, in order. All else stays
+    /// as it is.
+    pub fn retain<F: FnMut(&KdlEntry) -> bool>(&mut self, keep: F)
+        requires { F.IsAlwaysCallable keep }
+        ensures items { IsFiltered (CalledAt F.FnMut) keep (out-KdlNode self.old).entries.items (out-KdlNode self.new).entries.items }
+        ensures rest { self.new ≡ with_entries self.old (out-KdlNode self.new).entries }
+    {
+        self.entries.retain(keep);
+    }
+
+    /// Sorts the entries by `compare`, a total preorder; entries that compare as equal keep their order. Fails where memory
+    /// is wanting: then the entries are in some order.
+    pub fn sort_by<F: FnMut(&KdlEntry, &KdlEntry) -> Ordering>(
+        &mut self,
+        compare: F,
+    ) -> Result<(), AllocError>
+        requires { F.IsAlwaysCallable compare }
+        ensures permutation { IsPermutation (out-KdlNode self.old).entries.items (out-KdlNode self.new).entries.items }
+        ensures sorted { OnOk result (IsSortedByClosure F.FnMut compare (out-KdlNode self.new).entries.items) }
+        ensures stable { IsStableByClosure F.FnMut compare (out-KdlNode self.old).entries.items (out-KdlNode self.new).entries.items }
+        ensures rest { self.new ≡ with_entries self.old (out-KdlNode self.new).entries }
+    {
+        self.entries.sort_by(compare)
+    }
+
+    /// Sorts the entries by the key that `f` gives of each; entries with equal keys keep their order. Fails where memory is
+    /// wanting: then the entries are in some order.
+    pub fn sort_by_key<K: Ord, F: FnMut(&KdlEntry) -> K>(&mut self, f: F) -> Result<(), AllocError>
+    where
+        K: Drop,
+        requires { F.IsAlwaysCallable f }
+        ensures permutation { IsPermutation (out-KdlNode self.old).entries.items (out-KdlNode self.new).entries.items }
+        ensures sorted { OnOk result (IsSortedByKeyClosure F.FnMut K.cmp f (out-KdlNode self.new).entries.items) }
+        ensures stable { IsStableByKeyClosure F.FnMut K.cmp f (out-KdlNode self.old).entries.items (out-KdlNode self.new).entries.items }
+        ensures rest { self.new ≡ with_entries self.old (out-KdlNode self.new).entries }
+    {
+        self.entries.sort_by_key(f)
+    }
+}
+
+impl KdlNode {
+    /// Puts the entry in the place of the one there and hands that back, or puts it last where no place is given.
+    fn put_for(
+        &mut self,
+        at: Option<usize>,
+        entry: KdlEntry,
+    ) -> Result<Option<KdlEntry>, (KdlEntry, AllocError)>
+        requires { IfSome at (λ i. i < length (out-KdlNode self.old).entries.items) }
+        ensures items { (out-KdlNode self.new).entries.items ≡ (if is_ok result then put_for at entry (out-KdlNode self.old).entries.items else (out-KdlNode self.old).entries.items) }
+        ensures rest { self.new ≡ with_entries self.old (out-KdlNode self.new).entries }
+        ensures replaced { IfOk result (λ e. e ≡ there at (out-KdlNode self.old).entries.items) }
+        ensures succeeds { IsSome at → IsOk result }
+        ensures back { IfErr result (λ e. e.0 ≡ entry) }
+    {
+        match at {
+            Some(at) => Ok(Some(self.replace_at(at, entry))),
+            None => {
+                self.push(entry)?;
+                Ok(None)
+            }
+        }
+    }
+
+    /// Puts the entry before the one at that place, or last where no place is given.
+    fn put_before(
+        &mut self,
+        at: Option<usize>,
+        entry: KdlEntry,
+    ) -> Result<Option<KdlEntry>, (KdlEntry, AllocError)>
+        requires { IfSome at (λ i. i < length (out-KdlNode self.old).entries.items) }
+        ensures items { (out-KdlNode self.new).entries.items ≡ (if is_ok result then put_before at entry (out-KdlNode self.old).entries.items else (out-KdlNode self.old).entries.items) }
+        ensures rest { self.new ≡ with_entries self.old (out-KdlNode self.new).entries }
+        ensures replaced { IfOk result (λ e. e ≡ None) }
+        ensures back { IfErr result (λ e. e.0 ≡ entry) }
+    {
+        match at {
+            Some(at) => {
+                self.insert_at(at, entry)?;
+                Ok(None)
+            }
+            None => {
+                self.push(entry)?;
+                Ok(None)
+            }
+        }
+    }
+
+    /// Exchanges the entry at that place, and hands back the one that was there.
+    fn replace_at(&mut self, at: usize, entry: KdlEntry) -> KdlEntry
+        requires { at < length (out-KdlNode self.old).entries.items }
+        ensures items { (out-KdlNode self.new).entries.items ≡ take at (out-KdlNode self.old).entries.items ++ (entry ∷ drop (at + 1) (out-KdlNode self.old).entries.items) }
+        ensures rest { self.new ≡ with_entries self.old (out-KdlNode self.new).entries }
+        ensures value { slice_get (out-KdlNode self.old).entries.items at ≡ Some result }
+    {
+        mem::replace(&mut self.entries[at], entry)
+    }
+
+    /// Puts the entry before the one at that place.
+    fn insert_at(&mut self, at: usize, entry: KdlEntry) -> Result<(), (KdlEntry, AllocError)>
+        requires { at ≤ length (out-KdlNode self.old).entries.items }
+        ensures items { (out-KdlNode self.new).entries.items ≡ (if is_ok result then take at (out-KdlNode self.old).entries.items ++ (entry ∷ drop at (out-KdlNode self.old).entries.items) else (out-KdlNode self.old).entries.items) }
+        ensures rest { self.new ≡ with_entries self.old (out-KdlNode self.new).entries }
+        ensures back { IfErr result (λ e. e.0 ≡ entry) }
+    {
+        match self.entries.insert(at, entry) {
+            Ok(()) => Ok(()),
+            Err(refused) => Err((refused.value, AllocError)),
+        }
+    }
+
+    /// Takes out the entry at that place.
+    fn remove_at(&mut self, at: usize) -> KdlEntry
+        requires { at < length (out-KdlNode self.old).entries.items }
+        ensures items { (out-KdlNode self.new).entries.items ≡ take at (out-KdlNode self.old).entries.items ++ drop (at + 1) (out-KdlNode self.old).entries.items }
+        ensures rest { self.new ≡ with_entries self.old (out-KdlNode self.new).entries }
+        ensures value { slice_get (out-KdlNode self.old).entries.items at ≡ Some result }
+    {
+        self.entries.remove(at)
+    }
+}
+
+/// The entry, with the key for its name where it has none.
+fn named(mut entry: KdlEntry, key: KdlIdentifier) -> KdlEntry
+    ensures { entry_tree result ≡ under (property (identifier_tree key)) (entry_tree entry) }
+{
+    let has_name = entry.name().is_some();
+    if has_name {
+        return entry;
+    }
+    entry.set_name(Some(key));
+    entry
+}

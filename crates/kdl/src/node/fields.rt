@@ -1,0 +1,134 @@
+//! The parts of a node, to be set or to be changed in place.
+
+ghost use Rattle.kdl.specs.Change.{with_name, with_ty, with_children, with_format, ty_row, children_row};
+ghost use Rattle.kdl.specs.Cleared.{ended_format, new_node, new_document};
+ghost use Rattle.kdl.specs.Tree.{node_tree, node_format_tree, document_tree};
+ghost use Rattle.kdl.specs.contracts.document.KdlDocument.{the_row as document_row};
+ghost use Rattle.kdl.specs.contracts.node.KdlNode.{the_row};
+ghost use Rattle.kdl.specs.contracts.node.KdlNodeFormat.{the_row as format_row};
+ghost use Rattle.kdl.specs.declared.node.KdlNode.{out-KdlNode};
+ghost use Rattle.kdl_entry.specs.contracts.identifier.KdlIdentifier.{the_row as identifier_row};
+ghost use Rattle.kdl_entry.specs.Tree.{identifier_tree};
+ghost use Rattle.std.specs.Borrow.{Lends, LendsIf, sem};
+ghost use Rattle.std.specs.Prelude.{◌≡◌, IfNone, IfOk, IfSome, None, Some, option_map};
+
+use crate::document::KdlDocument;
+use crate::node::{KdlNode, KdlNodeFormat};
+use kdl_entry::KdlIdentifier;
+use kdl_text::span::SourceSpan;
+use std::alloc::{AllocError, Global};
+
+impl KdlNode {
+    /// A node of that name, without a type, entries and children. The texts of its format are empty, but for the trailing
+    /// one, which is one newline; the span is 0 of length 0. Fails where memory is wanting.
+    pub fn new(name: KdlIdentifier) -> Result<KdlNode, AllocError>
+        ensures { IfOk result (λ n. node_tree n ≡ new_node (identifier_tree name)) }
+    {
+        let alloc = *name.allocator();
+        let format = new_format(alloc)?;
+        Ok(KdlNode {
+            ty: None,
+            name,
+            entries: Vec::new(alloc),
+            children: None,
+            format: Some(format),
+            span: SourceSpan { offset: 0, len: 0 },
+        })
+    }
+
+    /// The name, to be changed in place.
+    pub fn name_mut(&mut self) -> &mut KdlIdentifier
+        ensures* writes_back { sem 𝓛 (Lends the_row identifier_row self.entry result (with_name self.old)) }
+        ensures value { result.now ≡ (out-KdlNode self.old).name }
+    {
+        &mut self.name
+    }
+
+    /// Sets the name, and nothing else.
+    pub fn set_name(&mut self, name: KdlIdentifier)
+        ensures { out-KdlNode self.new ≡ record (out-KdlNode self.old) { name = name } }
+    {
+        self.name = name;
+    }
+
+    /// The type or none, to be changed in place.
+    pub fn ty_mut(&mut self) -> &mut Option<KdlIdentifier>
+        ensures* writes_back { sem 𝓛 (Lends the_row ty_row self.entry result (with_ty self.old)) }
+        ensures value { result.now ≡ (out-KdlNode self.old).ty }
+    {
+        &mut self.ty
+    }
+
+    /// Sets the type, and nothing else.
+    pub fn set_ty(&mut self, ty: KdlIdentifier)
+        ensures { out-KdlNode self.new ≡ record (out-KdlNode self.old) { ty = Some ty } }
+    {
+        self.ty = Some(ty);
+    }
+
+    /// The children or none, to be changed in place.
+    pub fn children_mut(&mut self) -> &mut Option<KdlDocument>
+        ensures* writes_back { sem 𝓛 (Lends the_row children_row self.entry result (with_children self.old)) }
+        ensures value { result.now ≡ (out-KdlNode self.old).children }
+    {
+        &mut self.children
+    }
+
+    /// Sets the children, in place of those that were there, and nothing else.
+    pub fn set_children(&mut self, children: KdlDocument)
+        ensures { out-KdlNode self.new ≡ record (out-KdlNode self.old) { children = Some children } }
+    {
+        self.children = Some(children);
+    }
+
+    /// Drops the child block, and nothing else.
+    pub fn clear_children(&mut self)
+        ensures { out-KdlNode self.new ≡ record (out-KdlNode self.old) { children = None } }
+    {
+        self.children = None;
+    }
+
+    /// The children, to be changed in place; where the node has no child block it gets an empty new one. It takes no
+    /// memory.
+    pub fn ensure_children(&mut self) -> &mut KdlDocument
+        ensures* writes_back { sem 𝓛 (Lends the_row document_row self.entry result (λ d. with_children self.old (Some d))) }
+        ensures found { IfSome (out-KdlNode self.old).children (λ d. result.now ≡ d) }
+        ensures made { IfNone (out-KdlNode self.old).children (document_tree result.now ≡ new_document) }
+    {
+        let alloc = *self.entries.allocator();
+        self.children.get_or_insert(KdlDocument::new(alloc))
+    }
+
+    /// The texts around the parts, to be changed in place, where the node keeps them.
+    pub fn format_mut(&mut self) -> Option<&mut KdlNodeFormat>
+        ensures* writes_back { sem 𝓛 (LendsIf the_row format_row self.entry result (λ f. with_format self.old (Some f)) self.old) }
+        ensures value { option_map (λ f. f.now) result ≡ (out-KdlNode self.old).format }
+    {
+        self.format.as_mut()
+    }
+
+    /// Sets the texts around the parts, and nothing else.
+    pub fn set_format(&mut self, format: KdlNodeFormat)
+        ensures { out-KdlNode self.new ≡ record (out-KdlNode self.old) { format = Some format } }
+    {
+        self.format = Some(format);
+    }
+
+    /// Drops the node's own format, and nothing else: the spellings, and the formats of entries and children, stay.
+    pub fn clear_format(&mut self)
+        ensures { out-KdlNode self.new ≡ record (out-KdlNode self.old) { format = None } }
+    {
+        self.format = None;
+    }
+}
+
+/// The format of a new node: a newline behind it, and nothing else.
+fn new_format(alloc: Global) -> Result<KdlNodeFormat, AllocError>
+    ensures { IfOk result (λ f. node_format_tree f ≡ ended_format) }
+{
+    let mut trailing = String::new(alloc);
+    trailing.push('\n')?;
+    let mut format = KdlNodeFormat::new(alloc);
+    format.trailing = trailing;
+    Ok(format)
+}

@@ -1,0 +1,214 @@
+//! The iterators over the entries and the children of a node.
+
+ghost use Rattle.kdl.specs.Iterators.{child_nodes, entries_left, entries_name, nodes_in, nodes_left, with_written_entries};
+ghost use Rattle.kdl.specs.Lookups.{entries_of};
+ghost use Rattle.kdl.specs.contracts.node.KdlNode.{the_row as node_row};
+ghost use Rattle.std.specs.Borrow.{Array, follows, sem};
+ghost use Rattle.std.specs.Iterator.{UpTo, at_most};
+ghost use Rattle.std.specs.Iterator.SizeHint.{IsWithinCount};
+ghost use Rattle.std.specs.Map.Iter.{TakesFirst};
+ghost use Rattle.std.specs.Prelude.{◌≡◌, [], IfSome, Some, length, option_map, unwrap_or};
+ghost use Rattle.std.specs.Slice.Iter.{iter_mut_rest};
+
+use crate::document::KdlDocument;
+use crate::node::KdlNode;
+use kdl_entry::KdlEntry;
+use std::marker::Model;
+use std::slice;
+
+impl KdlNode {
+    ghost use Rattle.kdl_entry.specs.contracts.entry.KdlEntry.{the_row as entry_row};
+
+    /// The entries, arguments and properties, in order.
+    pub fn iter(&self) -> EntryIter<'_>
+        ensures { result ≡ entries_of self.now }
+    {
+        EntryIter {
+            entries: self.entries.iter(),
+        }
+    }
+
+    /// The entries, in order, to be changed in place.
+    pub fn iter_mut(&mut self) -> EntryIterMut<'_>
+        ensures* writes_back { sem 𝓛 (follows node_row (Array entry_row 0) self.entry.ghost_name (entries_name result) (with_written_entries self.old)) }
+        ensures left { entries_left result ≡ entries_of self.old }
+    {
+        EntryIterMut {
+            entries: self.entries.iter_mut(),
+        }
+    }
+
+    /// The children, in order; none without a child block.
+    pub fn iter_children(&self) -> ChildrenIter<'_>
+        ensures { result ≡ child_nodes self.now }
+    {
+        match &self.children {
+            Some(children) => ChildrenIter {
+                nodes: children.nodes().iter(),
+            },
+            None => ChildrenIter { nodes: [].iter() },
+        }
+    }
+
+    /// The children, in order, to be changed in place; none without a child block.
+    pub fn iter_children_mut(&mut self) -> ChildrenIterMut<'_>
+        ensures { nodes_left result ≡ child_nodes self.old }
+    {
+        ChildrenIterMut {
+            nodes: lent_nodes(&mut self.children),
+        }
+    }
+}
+
+/// The nodes of a child block, in order, to be changed in place.
+fn lent_nodes(children: &mut Option<KdlDocument>) -> Option<slice::IterMut<'_, KdlNode>>
+    ensures { nodes_in children.old ≡ unwrap_or (option_map iter_mut_rest result) [] }
+{
+    let children = children.as_mut()?;
+    Some(children.iter_nodes_mut())
+}
+
+/// The entries of a node, in order.
+#[derive(Drop)]
+pub struct EntryIter<'a> {
+    entries: slice::Iter<'a, KdlEntry>,
+}
+
+impl<'a> Model for EntryIter<'a> {
+    ghost use Rattle.std.specs.Prelude.{List};
+    ghost use Rattle.std.specs.Slice.Iter.{iter_rest};
+    ghost use Rattle.kdl_entry.specs.declared.entry.KdlEntry.{KdlEntry};
+
+    ghost Value = { List KdlEntry };
+
+    ghost view = { λ a. iter_rest a.entries };
+}
+
+impl<'a> Iterator for EntryIter<'a> {
+    ghost use Rattle.std.specs.Map.Iter.{TakesFirst, deref};
+
+    type Item = &'a KdlEntry;
+
+    ghost next_gives = { TakesFirst deref };
+
+    ghost remaining = { λ s. at_most (length s) };
+
+    fn next(&mut self) -> Option<&'a KdlEntry> {
+        self.entries.next()
+    }
+
+    /// How many entries are left.
+    fn size_hint(&self) -> (usize, Option<usize>)
+        ensures lower { IsWithinCount result.0 (at_most (length self.now)) }
+        ensures upper { IfSome result.1 (UpTo (at_most (length self.now))) }
+        ensures value { result ≡ (length self.now, Some (length self.now)) }
+    {
+        let len = self.entries.len();
+        (len, Some(len))
+    }
+}
+
+/// The entries of a node, in order, each to be changed in place.
+#[derive(Drop)]
+pub struct EntryIterMut<'a> {
+    entries: slice::IterMut<'a, KdlEntry>,
+}
+
+impl<'a> Iterator for EntryIterMut<'a> {
+    type Item = &'a mut KdlEntry;
+
+    ghost next_gives = { λ s r t. TakesFirst (λ e. e.now) (entries_left s) r (entries_left t) };
+
+    ghost remaining = { λ s. at_most (length (entries_left s)) };
+
+    fn next(&mut self) -> Option<&'a mut KdlEntry> {
+        self.entries.next()
+    }
+
+    /// How many entries are left.
+    fn size_hint(&self) -> (usize, Option<usize>)
+        ensures lower { IsWithinCount result.0 (at_most (length (entries_left self.now))) }
+        ensures upper { IfSome result.1 (UpTo (at_most (length (entries_left self.now)))) }
+        ensures value { result ≡ (length (entries_left self.now), Some (length (entries_left self.now))) }
+    {
+        let left = self.entries.len();
+        (left, Some(left))
+    }
+}
+
+/// The children of a node, in order.
+#[derive(Drop)]
+pub struct ChildrenIter<'a> {
+    nodes: slice::Iter<'a, KdlNode>,
+}
+
+impl<'a> Model for ChildrenIter<'a> {
+    ghost use Rattle.std.specs.Prelude.{List};
+    ghost use Rattle.std.specs.Slice.Iter.{iter_rest};
+    ghost use Rattle.std.specs.Coded.{codes};
+    ghost use Rattle.kdl.specs.contracts.node.KdlNode as node;
+    ghost use Rattle.kdl.specs.declared.node.KdlNode.{KdlNode};
+
+    ghost Value = { List KdlNode };
+
+    ghost coded = { Prim.hlevel (codes, node.the_row.coded) };
+
+    ghost view = { λ a. iter_rest a.nodes };
+}
+
+impl<'a> Iterator for ChildrenIter<'a> {
+    ghost use Rattle.std.specs.Map.Iter.{TakesFirst, deref};
+
+    type Item = &'a KdlNode;
+
+    ghost next_gives = { TakesFirst deref };
+
+    ghost remaining = { λ s. at_most (length s) };
+
+    fn next(&mut self) -> Option<&'a KdlNode> {
+        self.nodes.next()
+    }
+
+    /// How many children are left.
+    fn size_hint(&self) -> (usize, Option<usize>)
+        ensures lower { IsWithinCount result.0 (at_most (length self.now)) }
+        ensures upper { IfSome result.1 (UpTo (at_most (length self.now))) }
+        ensures value { result ≡ (length self.now, Some (length self.now)) }
+    {
+        let count = self.nodes.len();
+        (count, Some(count))
+    }
+}
+
+/// The children of a node, in order, each to be changed in place.
+#[derive(Drop)]
+pub struct ChildrenIterMut<'a> {
+    nodes: Option<slice::IterMut<'a, KdlNode>>,
+}
+
+impl<'a> Iterator for ChildrenIterMut<'a> {
+    type Item = &'a mut KdlNode;
+
+    ghost next_gives = { λ s r t. TakesFirst (λ n. n.now) (nodes_left s) r (nodes_left t) };
+
+    ghost remaining = { λ s. at_most (length (nodes_left s)) };
+
+    fn next(&mut self) -> Option<&'a mut KdlNode> {
+        match &mut self.nodes {
+            Some(nodes) => nodes.next(),
+            None => None,
+        }
+    }
+
+    /// How many children are left.
+    fn size_hint(&self) -> (usize, Option<usize>)
+        ensures lower { IsWithinCount result.0 (at_most (length (nodes_left self.now))) }
+        ensures upper { IfSome result.1 (UpTo (at_most (length (nodes_left self.now)))) }
+        ensures value { result ≡ (length (nodes_left self.now), Some (length (nodes_left self.now))) }
+    {
+        match &self.nodes {
+            Some(nodes) => (nodes.len(), Some(nodes.len())),
+            None => (0, Some(0)),
+        }
+    }
+}

@@ -1,0 +1,157 @@
+//! Look-ups of entries by the name of a property, or by the place of an argument.
+
+ghost use Rattle.kdl.specs.Change.{with_value};
+ghost use Rattle.kdl.specs.EntryLists.{has_name, is_argument, last_place, nth_place, place_of};
+ghost use Rattle.kdl.specs.Lookups.{entries_of, entry_there, key_place, property_place, value_there, with_entry_there, with_value_there, HasProperty, HasSameEntries, HasWritten};
+ghost use Rattle.kdl.specs.declared.node.KdlNode.{out-KdlNode};
+ghost use Rattle.kdl.specs.declared.node.key.NodeKey.TheVariants.{Index as at_index};
+ghost use Rattle.kdl_entry.specs.Tree.{or_null, value_tree};
+ghost use Rattle.std.specs.Borrow.{Lends, LendsIf, LendsSoOk, sem};
+ghost use Rattle.std.specs.Prelude.{◌≡◌, ◌<◌, IfErr, IfOk, IfSome, IsSome, OnErr, Some, is_some, length, option_map, slice_get};
+
+use crate::node::KdlNode;
+use crate::node::key::NodeKey;
+use crate::node::places::{last_property, nth_argument, place};
+use kdl_entry::{KdlEntry, KdlIdentifier, KdlValue};
+use std::alloc::AllocError;
+use std::ops::{Index, IndexMut};
+
+impl KdlNode {
+    /// The entry that the key finds: the last property whose name has the key's value, or the argument at the key's place among the arguments.
+    pub fn entry(&self, key: NodeKey) -> Option<&KdlEntry>
+        ensures { option_map (λ e. e.now) result ≡ entry_there (key_place key self.now) self.now }
+    {
+        match place(&self.entries, &key) {
+            Some(at) => Some(&self.entries[at]),
+            None => None,
+        }
+    }
+
+    /// The value of the entry that the key finds: of the last property whose name has the key's value, or of the argument at the key's place among the arguments.
+    pub fn get(&self, key: NodeKey) -> Option<&KdlValue>
+        ensures { option_map (λ v. value_tree v.now) result ≡ value_there (key_place key self.now) self.now }
+    {
+        match place(&self.entries, &key) {
+            Some(at) => Some(self.entries[at].value()),
+            None => None,
+        }
+    }
+
+    /// Whether the node has a property of that name. The name's value counts, not its spelling. Then `node[name]` is there.
+    pub fn has_property(&self, name: &str) -> bool
+        ensures { result ≡ is_some (property_place name.now self.now) }
+    {
+        last_property(&self.entries, name).is_some()
+    }
+}
+
+impl KdlNode {
+    ghost use Rattle.kdl.specs.contracts.node.KdlNode.{the_row};
+    ghost use Rattle.kdl_entry.specs.contracts.entry.KdlEntry.{the_row as entry_row};
+    ghost use Rattle.kdl_entry.specs.contracts.value.KdlValue.{the_row as value_row};
+
+    /// The entry that `entry` gives, to be changed in place. All else stays as it is.
+    pub fn entry_mut(&mut self, key: NodeKey) -> Option<&mut KdlEntry>
+        ensures* writes_back { sem 𝓛 (LendsIf the_row entry_row self.entry result (with_entry_there (key_place key self.old) self.old) self.old) }
+        ensures value { option_map (λ e. e.now) result ≡ entry_there (key_place key self.old) self.old }
+    {
+        match place(&self.entries, &key) {
+            Some(at) => Some(&mut self.entries[at]),
+            None => None,
+        }
+    }
+
+    /// The value that `get` gives, to be changed in place. The entry's format, with the spelling of the value, and all else stay as they are.
+    pub fn get_mut(&mut self, key: NodeKey) -> Option<&mut KdlValue>
+        ensures* writes_back { sem 𝓛 (LendsIf the_row value_row self.entry result (with_value_there (key_place key self.old) self.old) self.old) }
+        ensures value { option_map (λ v. v.now) result ≡ option_map (λ e. e.value) (entry_there (key_place key self.old) self.old) }
+    {
+        match place(&self.entries, &key) {
+            Some(at) => Some(self.value_at_mut(at)),
+            None => None,
+        }
+    }
+
+    /// The value of the last property of that name, to be changed in place; a property of that name with the value null is pushed first where there is none. Fails where memory for it is wanting: then the entries are as they were.
+    pub fn get_or_null_mut(&mut self, name: &str) -> Result<&mut KdlValue, AllocError>
+        ensures* writes_back { sem 𝓛 (LendsSoOk the_row value_row self.entry result (λ n w. HasWritten (property_place name.now self.old) name.now self.old w n) (λ n. HasSameEntries self.old n)) }
+        ensures value { IfOk result (λ v. value_tree v.now ≡ or_null (value_there (property_place name.now self.old) self.old)) }
+    {
+        let at = self.property_or_null(name)?;
+        Ok(self.value_at_mut(at))
+    }
+
+    /// The place of the last property of that name, after a null one was pushed where there was none.
+    fn property_or_null(&mut self, name: &str) -> Result<usize, AllocError>
+        ensures found { IfOk result (λ i. HasProperty (property_place name.now self.old) name.now self.old i self.new) }
+        ensures bound { IfOk result (λ i. i < length (entries_of self.new)) }
+        ensures refused { IfErr result (λ _. HasSameEntries self.old self.new) }
+    {
+        if let Some(at) = last_property(&self.entries, name) {
+            return Ok(at);
+        }
+        let alloc = *self.entries.allocator();
+        let key = KdlIdentifier::from_text(alloc, name)?;
+        let at = self.entries.len();
+        self.entries.push(KdlEntry::new_prop(key, KdlValue::Null))?;
+        Ok(at)
+    }
+
+    /// The value of the entry at that place, to be changed in place.
+    fn value_at_mut(&mut self, at: usize) -> &mut KdlValue
+        requires { at < length (entries_of self.old) }
+        ensures* writes_back { sem 𝓛 (Lends the_row value_row self.entry result (with_value self.old at)) }
+        ensures value { option_map (λ e. e.value) (slice_get (entries_of self.old) at) ≡ Some result.now }
+    {
+        self.entries[at].value_mut()
+    }
+}
+
+/// The value of the argument at that place among the arguments, from 0. It has to be there, as `get` tells.
+impl Index<usize> for KdlNode {
+    type Output = KdlValue;
+
+    ghost can_index = { λ n i. IsSome (key_place (at_index i) n) };
+
+    ghost index_gives = { λ n i v. value_there (key_place (at_index i) n) n ≡ Some (value_tree v) };
+
+    fn index(&self, index: usize) -> &KdlValue {
+        match nth_argument(&self.entries, index) {
+            Some(at) => self.entries[at].value(),
+            None => unreachable!(),
+        }
+    }
+}
+
+/// The value of the last property of that name. It has to be there, as `has_property` tells.
+impl<'q> Index<&'q str> for KdlNode {
+    type Output = KdlValue;
+
+    ghost can_index = { λ n name. IsSome (property_place name.now n) };
+
+    ghost index_gives = { λ n name v. value_there (property_place name.now n) n ≡ Some (value_tree v) };
+
+    fn index(&self, name: &'q str) -> &KdlValue {
+        match last_property(&self.entries, name) {
+            Some(at) => self.entries[at].value(),
+            None => unreachable!(),
+        }
+    }
+}
+
+/// The value that `node[index]` gives, to be changed in place. All else stays as it is.
+impl IndexMut<usize> for KdlNode {
+    ghost use Rattle.kdl.specs.contracts.node.KdlNode.{the_row};
+    ghost use Rattle.kdl_entry.specs.contracts.value.KdlValue.{the_row as value_row};
+
+    fn index_mut(&mut self, index: usize) -> &mut KdlValue
+        requires { IsSome (key_place (at_index index) self.old) }
+        ensures* writes_back { sem 𝓛 (Lends the_row value_row self.entry result (with_value_there (key_place (at_index index) self.old) self.old)) }
+        ensures value { option_map (λ e. e.value) (entry_there (key_place (at_index index) self.old) self.old) ≡ Some result.now }
+    {
+        match nth_argument(&self.entries, index) {
+            Some(at) => self.value_at_mut(at),
+            None => unreachable!(),
+        }
+    }
+}

@@ -1,0 +1,15 @@
+pub mod Complete
+pub mod Control
+pub mod Derivation
+pub mod Ends
+pub mod Erased
+pub mod Examples
+pub mod Faults
+pub mod Formed
+pub mod LaidPrinted
+pub mod LawProofs
+pub mod Moving
+pub mod Relaid
+pub mod Sound
+pub mod ValueExamples
+pub mod Widening

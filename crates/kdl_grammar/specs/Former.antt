@@ -1,0 +1,13 @@
+-- The former language, in which node-spaces or a `}` stand before each slashdash in a node.
+use Rattle.std.specs.Prelude.{false}
+use Rattle.kdl_text.specs.Chars.{Text}
+use Rattle.kdl_grammar.specs.Data.{Node, Nodes}
+use Rattle.kdl_grammar.specs.Grammar.{IsDocument, IsNodeText}
+
+-- the text is a document of the former language with these nodes
+abbrev pub IsFormerDocument : Text → Nodes → Type 0
+IsFormerDocument = IsDocument false
+
+-- the text is a node of the former language
+abbrev pub IsFormerNodeText : Text → Node → Type 0
+IsFormerNodeText = IsNodeText false

@@ -1,0 +1,61 @@
+-- What is proved of the written grammar of documents and nodes.
+use Rattle.std.specs.Prelude.{◌≡◌, ◌↔◌, Bool, true, false, List}
+use Rattle.kdl_text.specs.Chars.{Text}
+use Rattle.kdl_entry.specs.Tokens.{Token, Lexes}
+use Rattle.kdl_grammar.specs.Data as data'
+use Rattle.kdl_grammar.specs.Edited.{IsEdited, IsFormed, EachDocument}
+use Rattle.kdl_grammar.specs.Former.{IsFormerDocument, IsFormerNodeText}
+use Rattle.kdl_grammar.specs.Grammar.{IsDocument, IsNodeText}
+use Rattle.kdl_grammar.specs.Laid.{LaidDocument, LaidNodeText}
+use Rattle.kdl_grammar.specs.Machine.{Answers}
+use Rattle.kdl_grammar.specs.Print.{print_document, print_node}
+use Rattle.kdl_grammar.specs.Tree.{Document, Node, document_data, node_data}
+
+-- a text is one document at most
+abbrev pub OneDocument : Type 0
+OneDocument = (wide : Bool) (t : Text) (x y : data'.Nodes) → IsDocument wide t x → IsDocument wide t y → x ≡ y
+
+-- a text is one node at most
+abbrev pub OneNode : Type 0
+OneNode = (wide : Bool) (t : Text) (x y : data'.Node) → IsNodeText wide t x → IsNodeText wide t y → x ≡ y
+
+-- a document is cut into tokens, with nothing left
+abbrev pub IsLexed : Type 0
+IsLexed = (wide : Bool) (t : Text) (x : data'.Nodes) → IsDocument wide t x → (ks : List Token) × Lexes t ks
+
+-- the machine has one answer at most
+abbrev pub OneAnswer : Type 0
+OneAnswer = (t : Text) (d e : Document) → Answers t d → Answers t e → d ≡ e
+
+-- the machine answers exactly where the text is a document, with its data
+abbrev pub AnswersDocuments : Type 0
+AnswersDocuments = (t : Text) (x : data'.Nodes) → IsDocument true t x ↔ ((d : Document) × Answers t d × (document_data d ≡ x))
+
+-- what the machine answers is laid in the text, with its spans
+abbrev pub AnswersAreLaid : Type 0
+AnswersAreLaid = (t : Text) (d : Document) → Answers t d → LaidDocument true d t
+
+-- where a document is laid, the text is a document with its data, and it is what is printed
+abbrev pub LaidIsDerived : Type 0
+LaidIsDerived = (exact : Bool) (t : Text) (d : Document) → LaidDocument exact d t → IsDocument true t (document_data d) × (print_document d 0 ≡ t)
+
+-- the same for a node that is the whole text
+abbrev pub LaidNodeIsDerived : Type 0
+LaidNodeIsDerived = (exact : Bool) (t : Text) (x : Node) → LaidNodeText exact t x → IsNodeText true t (node_data x) × (print_node x 0 ≡ t)
+
+-- each text that is a node has one laid in it, with its data
+abbrev pub NodesAreLaid : Type 0
+NodesAreLaid = (t : Text) (x : data'.Node) → IsNodeText true t x → (n : Node) × LaidNodeText true t n × (node_data n ≡ x)
+
+-- what the former language derives, the present one derives with the same data
+abbrev pub FormerIsKept : Type 0
+FormerIsKept = ((t : Text) (x : data'.Nodes) → IsFormerDocument t x → IsDocument true t x) × ((t : Text) (x : data'.Node) → IsFormerNodeText t x → IsNodeText true t x)
+
+-- a document that is laid in its own printed text with the spellings and forms that it prints reads back: the text is a document with its data
+abbrev pub ReadsBack : Type 0
+ReadsBack = (d f : Document) → EachDocument IsFormed d f → LaidDocument false f (print_document d 0) → IsDocument true (print_document d 0) (document_data d)
+
+-- so does what differs, spans aside, from a laid one in its nodes' entries alone, at each node some of its own and ones without form; it is so laid
+abbrev pub EditedIsLaid : Type 0
+EditedIsLaid = (exact : Bool) (t : Text) (d e : Document) → LaidDocument exact d t → EachDocument IsEdited d e
+    → IsDocument true (print_document e 0) (document_data e) × ((f : Document) → EachDocument IsFormed e f → LaidDocument false f (print_document e 0))

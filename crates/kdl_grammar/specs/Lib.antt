@@ -1,0 +1,10 @@
+pub mod Data
+pub mod Edited
+pub mod Former
+pub mod Grammar
+pub mod Laid
+pub mod Laws
+pub mod Machine
+pub mod Places
+pub mod Print
+pub mod Tree
