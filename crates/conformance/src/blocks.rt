@@ -1,8 +1,8 @@
 //! Blocks and slashdashes: children, spans, and the places around what is left out.
 
 use crate::reading::{
-    around_block, block, called, ends, key_places, lone_entry, lone_node, margins, nested, places,
-    range, read, refuse,
+    around_block, block, ends, has_around_block, has_ends, has_key_places, has_margins, has_places,
+    is_called, is_range, lone_entry, lone_node, nested, places, range, read, refuse,
 };
 use kdl::KdlNode;
 use std::test::Fail;
@@ -11,18 +11,18 @@ use std::test::Fail;
 fn children_in_one_line(rt: HostRuntime) -> Result<(), Fail> {
     let document = read(&rt, rt.alloc(), "inline { time; \"y;all\" }")?;
     let node = lone_node(&document)?;
-    assert_eq!(rt; range(node.span()), (0, 24));
-    assert_eq!(rt; around_block(node), (" ", ""));
-    assert_eq!(rt; ends(node), ("", "", ""));
+    is_range(&rt, node.span(), 0, 24);
+    has_around_block(&rt, node, " ", "");
+    has_ends(&rt, node, "", "", "");
     let children = block(node)?;
-    assert_eq!(rt; range(children.span()), (9, 23));
+    is_range(&rt, children.span(), 9, 23);
     let [time, all] = children.nodes() else {
         return Err(Fail::from("not two children"));
     };
-    assert_eq!(rt; range(time.span()), (9, 13));
-    assert_eq!(rt; ends(time), (" ", "", ";"));
-    assert_eq!(rt; range(all.span()), (15, 23));
-    assert_eq!(rt; ends(all), (" ", " ", ""));
+    is_range(&rt, time.span(), 9, 13);
+    has_ends(&rt, time, " ", "", ";");
+    is_range(&rt, all.span(), 15, 23);
+    has_ends(&rt, all, " ", " ", "");
     assert_eq!(rt; all.name().value(), "y;all");
     Ok(())
 }
@@ -32,31 +32,31 @@ fn slashdashes_around_an_empty_block(rt: HostRuntime) -> Result<(), Fail> {
     let document = read(&rt, rt.alloc(), "a /-1 /-{ x } { } /-{} \n")?;
     let node = lone_node(&document)?;
     assert!(rt; node.entries().is_empty());
-    assert_eq!(rt; around_block(node), (" /-1 /-{ x } ", ""));
-    assert_eq!(rt; ends(node), ("", " /-{} ", "\n"));
-    assert_eq!(rt; range(node.span()), (0, 23));
+    has_around_block(&rt, node, " /-1 /-{ x } ", "");
+    has_ends(&rt, node, "", " /-{} ", "\n");
+    is_range(&rt, node.span(), 0, 23);
     let children = block(node)?;
     assert!(rt; children.nodes().is_empty());
-    assert_eq!(rt; range(children.span()), (16, 16));
-    assert_eq!(rt; margins(children), (" ", ""));
+    is_range(&rt, children.span(), 16, 16);
+    has_margins(&rt, children, " ", "");
     Ok(())
 }
 
 #[test]
 fn an_empty_block_and_a_node_behind_it(rt: HostRuntime) -> Result<(), Fail> {
     let document = read(&rt, rt.alloc(), "a { } \nb\n")?;
-    assert_eq!(rt; range(document.span()), (0, 8));
+    is_range(&rt, document.span(), 0, 8);
     let [a, b] = document.nodes() else {
         return Err(Fail::from("not two nodes"));
     };
-    assert_eq!(rt; around_block(a), (" ", ""));
-    assert_eq!(rt; ends(a), ("", " ", "\n"));
-    assert_eq!(rt; range(a.span()), (0, 6));
+    has_around_block(&rt, a, " ", "");
+    has_ends(&rt, a, "", " ", "\n");
+    is_range(&rt, a.span(), 0, 6);
     let children = block(a)?;
-    assert_eq!(rt; margins(children), (" ", ""));
-    assert_eq!(rt; range(children.span()), (4, 4));
-    assert_eq!(rt; range(b.span()), (7, 8));
-    assert_eq!(rt; ends(b), ("", "", "\n"));
+    has_margins(&rt, children, " ", "");
+    is_range(&rt, children.span(), 4, 4);
+    is_range(&rt, b.span(), 7, 8);
+    has_ends(&rt, b, "", "", "\n");
     Ok(())
 }
 
@@ -136,11 +136,11 @@ fn an_argument_and_slashdashes(rt: HostRuntime) -> Result<(), Fail> {
 fn a_slashdashed_property_before_a_kept_one(rt: HostRuntime) -> Result<(), Fail> {
     let document = read(&rt, rt.alloc(), "n /- foo=1 bar = 2")?;
     let entry = lone_entry(lone_node(&document)?)?;
-    assert_eq!(rt; called(entry.name()), "bar");
+    is_called(&rt, entry.name(), "bar");
     assert_eq!(rt; entry.value().as_integer(), Some(2));
-    assert_eq!(rt; places(entry), (" /- foo=1 ", "2", ""));
-    assert_eq!(rt; key_places(entry), (" ", " "));
-    assert_eq!(rt; range(entry.span()), (11, 18));
+    has_places(&rt, entry, " /- foo=1 ", "2", "");
+    has_key_places(&rt, entry, " ", " ");
+    is_range(&rt, entry.span(), 11, 18);
     Ok(())
 }
 
@@ -150,11 +150,11 @@ fn a_slashdashed_number_between_kept_entries(rt: HostRuntime) -> Result<(), Fail
     let [k, three] = lone_node(&document)?.entries() else {
         return Err(Fail::from("not two entries"));
     };
-    assert_eq!(rt; called(k.name()), "k");
+    is_called(&rt, k.name(), "k");
     assert_eq!(rt; k.value().as_integer(), Some(1));
     assert!(rt; three.name().is_none());
     assert_eq!(rt; three.value().as_integer(), Some(3));
-    assert_eq!(rt; places(three), ("/-2 ", "3", ""));
+    has_places(&rt, three, "/-2 ", "3", "");
     Ok(())
 }
 
@@ -164,15 +164,15 @@ fn slashdashed_nodes_between_kept_ones(rt: HostRuntime) -> Result<(), Fail> {
     refuse(&rt, rt.alloc(), text);
     let text = "/-a {\n b\n}\nc;/-d 1;/-e\nf {/-g\nh;/-i};/-j";
     let document = read(&rt, rt.alloc(), text)?;
-    assert_eq!(rt; margins(&document), ("", "/-j"));
+    has_margins(&rt, &document, "", "/-j");
     let [c, f] = document.nodes() else {
         return Err(Fail::from("not two nodes"));
     };
-    assert_eq!(rt; ends(c), ("/-a {\n b\n}\n", "", ";"));
-    assert_eq!(rt; ends(f), ("/-d 1;/-e\n", "", ";"));
+    has_ends(&rt, c, "/-a {\n b\n}\n", "", ";");
+    has_ends(&rt, f, "/-d 1;/-e\n", "", ";");
     let children = block(f)?;
-    assert_eq!(rt; margins(children), ("", "/-i"));
-    assert_eq!(rt; ends(lone_node(children)?), ("/-g\n", "", ";"));
+    has_margins(&rt, children, "", "/-i");
+    has_ends(&rt, lone_node(children)?, "/-g\n", "", ";");
     Ok(())
 }
 
@@ -237,7 +237,7 @@ fn blocks_three_hundred_deep(rt: HostRuntime) -> Result<(), Fail> {
     let node = bottom(lone_node(&document)?, 300)?;
     assert_eq!(rt; node.name().value(), "a");
     assert!(rt; node.children().is_none());
-    assert_eq!(rt; range(node.span()), (1200, 1202));
+    is_range(&rt, node.span(), 1200, 1202);
     Ok(())
 }
 
@@ -252,7 +252,7 @@ fn slashdashed_blocks_three_hundred_deep(rt: HostRuntime) -> Result<(), Fail> {
         let node = lone_node(&document)?;
         assert!(rt; node.entries().is_empty());
         assert!(rt; node.children().is_none());
-        assert_eq!(rt; range(node.span()), (0, len));
+        is_range(&rt, node.span(), 0, len);
     }
     Ok(())
 }
@@ -263,7 +263,7 @@ fn comments_three_hundred_deep(rt: HostRuntime) -> Result<(), Fail> {
     let text = nested(alloc, "/*", "", "*/", 300)?;
     let document = read(&rt, alloc, &text)?;
     assert!(rt; document.nodes().is_empty());
-    assert_eq!(rt; margins(&document), (text.as_str(), ""));
+    has_margins(&rt, &document, text.as_str(), "");
     let open = text.get(..1199).ok_or("no front")?;
     refuse(&rt, alloc, open);
     Ok(())

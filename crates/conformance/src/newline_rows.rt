@@ -1,8 +1,9 @@
 //! Each newline, each space and each banned character in each role that it has in a document.
 
 use crate::reading::{
-    NEWLINES, SPACES, around_block, block, called, ends, filled, is_read, key_places, lone_entry,
-    lone_node, margins, node_type_places, places, read, refuse, type_places,
+    NEWLINES, SPACES, block, filled, has_around_block, has_ends, has_key_places, has_margins,
+    has_node_type_places, has_places, has_type_places, is_called, is_read, lone_entry, lone_node,
+    read, refuse,
 };
 use kdl::KdlDocument;
 use std::alloc::Global;
@@ -39,9 +40,9 @@ fn a_newline_ends_a_line_comment(rt: HostRuntime) -> Result<(), Fail> {
             return Err(Fail::from("not two nodes"));
         };
         let comment = filled(alloc, "// c~", newline)?;
-        assert_eq!(rt; ends(a), ("", " ", comment.as_str()));
+        has_ends(&rt, a, "", " ", comment.as_str());
         let leading = filled(alloc, "// d~ ", newline)?;
-        assert_eq!(rt; ends(b), (leading.as_str(), " ", "// e"));
+        has_ends(&rt, b, leading.as_str(), " ", "// e");
     }
     Ok(())
 }
@@ -54,8 +55,8 @@ fn a_newline_after_a_backslash(rt: HostRuntime) -> Result<(), Fail> {
             let leading = filled(alloc, pattern, newline)?;
             let document = read(&rt, alloc, &format!(in alloc; "n{leading}1{leading}{{}}")?)?;
             let node = lone_node(&document)?;
-            assert_eq!(rt; places(lone_entry(node)?), (leading.as_str(), "1", ""));
-            assert_eq!(rt; around_block(node), (leading.as_str(), ""));
+            has_places(&rt, lone_entry(node)?, leading.as_str(), "1", "");
+            has_around_block(&rt, node, leading.as_str(), "");
         }
     }
     Ok(())
@@ -95,9 +96,9 @@ fn a_newline_behind_a_slashdash(rt: HostRuntime) -> Result<(), Fail> {
         let leading = filled(alloc, "/-~n~", newline)?;
         let node = lone_node(&document)?;
         let block = filled(alloc, "/-~{~}", newline)?;
-        assert_eq!(rt; ends(node), (leading.as_str(), block.as_str(), ""));
+        has_ends(&rt, node, leading.as_str(), block.as_str(), "");
         let leading = filled(alloc, " /-~1 ", newline)?;
-        assert_eq!(rt; places(lone_entry(node)?), (leading.as_str(), "2", ""));
+        has_places(&rt, lone_entry(node)?, leading.as_str(), "2", "");
     }
     Ok(())
 }
@@ -108,10 +109,10 @@ fn a_newline_in_a_block(rt: HostRuntime) -> Result<(), Fail> {
     for newline in NEWLINES {
         let document = read_filled(&rt, alloc, "a {~b~~}~", newline)?;
         let node = lone_node(&document)?;
-        assert_eq!(rt; ends(node), ("", "", newline));
+        has_ends(&rt, node, "", "", newline);
         let children = block(node)?;
-        assert_eq!(rt; ends(lone_node(children)?), (newline, "", newline));
-        assert_eq!(rt; margins(children), ("", newline));
+        has_ends(&rt, lone_node(children)?, newline, "", newline);
+        has_margins(&rt, children, "", newline);
     }
     Ok(())
 }
@@ -145,23 +146,23 @@ fn a_space_in_each_place(rt: HostRuntime) -> Result<(), Fail> {
     for space in SPACES {
         let pattern = "~(~t~)~n~(~u~)~1~k~=~(~v~)~2~{~m~}~;~";
         let document = read_filled(&rt, alloc, pattern, space)?;
-        assert_eq!(rt; margins(&document), ("", space));
+        has_margins(&rt, &document, "", space);
         let node = lone_node(&document)?;
-        assert_eq!(rt; ends(node), (space, space, ";"));
-        assert_eq!(rt; called(node.ty()), "t");
-        assert_eq!(rt; node_type_places(node), (space, space, space));
-        assert_eq!(rt; around_block(node), (space, ""));
+        has_ends(&rt, node, space, space, ";");
+        is_called(&rt, node.ty(), "t");
+        has_node_type_places(&rt, node, space, space, space);
+        has_around_block(&rt, node, space, "");
         let child = lone_node(block(node)?)?;
-        assert_eq!(rt; ends(child), (space, space, ""));
+        has_ends(&rt, child, space, space, "");
         let [one, two] = node.entries() else {
             return Err(Fail::from("not two entries"));
         };
-        assert_eq!(rt; places(one), (space, "1", ""));
-        assert_eq!(rt; type_places(one), (space, space, space));
-        assert_eq!(rt; places(two), (space, "2", ""));
-        assert_eq!(rt; type_places(two), (space, space, space));
-        assert_eq!(rt; called(two.name()), "k");
-        assert_eq!(rt; key_places(two), (space, space));
+        has_places(&rt, one, space, "1", "");
+        has_type_places(&rt, one, space, space, space);
+        has_places(&rt, two, space, "2", "");
+        has_type_places(&rt, two, space, space, space);
+        is_called(&rt, two.name(), "k");
+        has_key_places(&rt, two, space, space);
     }
     Ok(())
 }

@@ -1,8 +1,8 @@
 //! Nodes that are a whole text: what is read, what is refused and where, and that a node prints its text.
 
 use crate::reading::{
-    NEWLINES, around_block, block, called, ends, filled, lone_entry, lone_node, margins,
-    node_type_places, places, range,
+    NEWLINES, around_block, block, ends, filled, has_around_block, has_ends, has_margins,
+    has_node_type_places, has_places, is_called, is_range, lone_entry, lone_node, range,
 };
 use kdl::{KdlDocument, KdlNode, ParseFailure, SourceSpan};
 use std::alloc::Global;
@@ -21,7 +21,7 @@ fn read(rt: &impl Abort, alloc: Global, text: &str) -> Result<KdlNode, Fail> {
     };
     let printed = node.to_string(alloc)?;
     assert_eq!(rt; printed.as_str(), text);
-    assert_eq!(rt; range(node.span()), (0, text.len()));
+    is_range(rt, node.span(), 0, text.len());
     Ok(node)
 }
 
@@ -65,17 +65,17 @@ fn stands(
 #[test]
 fn a_node_with_its_places(rt: HostRuntime) -> Result<(), Fail> {
     let node = read(&rt, rt.alloc(), "\n\t  (\"ty\")\"node\" 0xDEADbeef;\n")?;
-    assert_eq!(rt; ends(&node), ("\n\t  ", "", ";"));
-    assert_eq!(rt; around_block(&node), ("", "\n"));
-    assert_eq!(rt; node_type_places(&node), ("", "", ""));
-    assert_eq!(rt; called(node.ty()), "ty");
+    has_ends(&rt, &node, "\n\t  ", "", ";");
+    has_around_block(&rt, &node, "", "\n");
+    has_node_type_places(&rt, &node, "", "", "");
+    is_called(&rt, node.ty(), "ty");
     assert_eq!(rt; node.ty().map(|ty| range(ty.span())), Some((5, 9)));
     assert_eq!(rt; node.name().value(), "node");
-    assert_eq!(rt; range(node.name().span()), (10, 16));
+    is_range(&rt, node.name().span(), 10, 16);
     let entry = lone_entry(&node)?;
     assert_eq!(rt; entry.value().as_integer(), Some(3_735_928_559));
-    assert_eq!(rt; range(entry.span()), (17, 27));
-    assert_eq!(rt; range(node.span()), (0, 29));
+    is_range(&rt, entry.span(), 17, 27);
+    is_range(&rt, node.span(), 0, 29);
     Ok(())
 }
 
@@ -83,13 +83,13 @@ fn a_node_with_its_places(rt: HostRuntime) -> Result<(), Fail> {
 fn a_node_among_comments(rt: HostRuntime) -> Result<(), Fail> {
     let text = "\n  // indented comment\n  \"formatted\" 1 /* comment */ \\\n    2;\n";
     let node = read(&rt, rt.alloc(), text)?;
-    assert_eq!(rt; ends(&node), ("\n  // indented comment\n  ", "", ";"));
-    assert_eq!(rt; around_block(&node), ("", "\n"));
+    has_ends(&rt, &node, "\n  // indented comment\n  ", "", ";");
+    has_around_block(&rt, &node, "", "\n");
     let [one, two] = node.entries() else {
         return Err(Fail::from("not two entries"));
     };
-    assert_eq!(rt; places(one), (" ", "1", ""));
-    assert_eq!(rt; places(two), (" /* comment */ \\\n    ", "2", ""));
+    has_places(&rt, one, " ", "1", "");
+    has_places(&rt, two, " /* comment */ \\\n    ", "2", "");
     Ok(())
 }
 
@@ -97,14 +97,14 @@ fn a_node_among_comments(rt: HostRuntime) -> Result<(), Fail> {
 fn a_node_with_a_block(rt: HostRuntime) -> Result<(), Fail> {
     let text = " ( u )n /-0 /-{ x } { a; /-b\n} /-{} ; ";
     let node = read(&rt, rt.alloc(), text)?;
-    assert_eq!(rt; ends(&node), (" ", " /-{} ", ";"));
-    assert_eq!(rt; around_block(&node), (" /-0 /-{ x } ", " "));
-    assert_eq!(rt; node_type_places(&node), (" ", " ", ""));
+    has_ends(&rt, &node, " ", " /-{} ", ";");
+    has_around_block(&rt, &node, " /-0 /-{ x } ", " ");
+    has_node_type_places(&rt, &node, " ", " ", "");
     let children = block(&node)?;
-    assert_eq!(rt; margins(children), ("", " /-b\n"));
+    has_margins(&rt, children, "", " /-b\n");
     let a = lone_node(children)?;
-    assert_eq!(rt; ends(a), (" ", "", ";"));
-    assert_eq!(rt; range(a.span()), (22, 23));
+    has_ends(&rt, a, " ", "", ";");
+    is_range(&rt, a.span(), 22, 23);
     Ok(())
 }
 

@@ -204,3 +204,54 @@ pub fn nested(
     }
     Ok(text)
 }
+
+/// The span has this start and this end.
+pub fn is_range(rt: &impl Abort, span: SourceSpan, start: usize, end: usize) {
+    assert_eq!(rt; range(span), (start, end));
+}
+
+/// These texts stand before the node and before its terminator, which is this one.
+pub fn has_ends(rt: &impl Abort, node: &KdlNode, leading: &str, before: &str, terminator: &str) {
+    assert_eq!(rt; ends(node), (leading, before, terminator));
+}
+
+/// These texts stand before the node's block, and behind the node.
+pub fn has_around_block(rt: &impl Abort, node: &KdlNode, before: &str, trailing: &str) {
+    assert_eq!(rt; around_block(node), (before, trailing));
+}
+
+/// These texts stand before and behind the nodes of the document.
+pub fn has_margins(rt: &impl Abort, document: &KdlDocument, leading: &str, trailing: &str) {
+    assert_eq!(rt; margins(document), (leading, trailing));
+}
+
+/// The entry has this text in front of it, this spelling of its value, and this text behind it.
+pub fn has_places(rt: &impl Abort, entry: &KdlEntry, leading: &str, repr: &str, trailing: &str) {
+    assert_eq!(rt; places(entry), (leading, repr, trailing));
+}
+
+/// These texts stand around the name of the node's type, and behind its `)`.
+pub fn has_node_type_places(
+    rt: &impl Abort,
+    node: &KdlNode,
+    before: &str,
+    after: &str,
+    behind: &str,
+) {
+    assert_eq!(rt; node_type_places(node), (before, after, behind));
+}
+
+/// These texts stand around the name of the entry's type, and behind its `)`.
+pub fn has_type_places(rt: &impl Abort, entry: &KdlEntry, before: &str, after: &str, behind: &str) {
+    assert_eq!(rt; type_places(entry), (before, after, behind));
+}
+
+/// These texts stand around the `=` of the entry.
+pub fn has_key_places(rt: &impl Abort, entry: &KdlEntry, before: &str, behind: &str) {
+    assert_eq!(rt; key_places(entry), (before, behind));
+}
+
+/// The identifier is there, and has this value.
+pub fn is_called(rt: &impl Abort, identifier: Option<&KdlIdentifier>, name: &str) {
+    assert_eq!(rt; called(identifier), name);
+}

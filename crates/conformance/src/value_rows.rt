@@ -1,6 +1,6 @@
 //! Values as arguments and properties of a node: numbers, keywords and strings, and what is none.
 
-use crate::reading::{called, lone_entry, lone_node, nested, places, read, refuse};
+use crate::reading::{called, has_places, lone_entry, lone_node, nested, places, read, refuse};
 use kdl::KdlValue;
 use std::alloc::Global;
 use std::process::Abort;
@@ -24,8 +24,8 @@ fn numbers_and_keywords_behind_one_another(rt: HostRuntime) -> Result<(), Fail> 
     assert!(rt; e.value().is_null());
     assert_eq!(rt; f.value().as_bool(), Some(true));
     assert_eq!(rt; g.value().as_bool(), Some(false));
-    assert_eq!(rt; places(a), (" ", "+0x1F", ""));
-    assert_eq!(rt; places(d), (" ", "#-inf", ""));
+    has_places(&rt, a, " ", "+0x1F", "");
+    has_places(&rt, d, " ", "#-inf", "");
     Ok(())
 }
 
@@ -147,7 +147,7 @@ fn strings_are_names_keys_types_and_values(rt: HostRuntime) -> Result<(), Fail> 
         assert_eq!(rt; called(entry.name()), value, "{text}");
         assert_eq!(rt; called(entry.ty()), value, "{text}");
         assert_eq!(rt; entry.value().as_string(), Some(value), "{text}");
-        assert_eq!(rt; places(entry), (" ", text, ""));
+        has_places(&rt, entry, " ", text, "");
     }
     Ok(())
 }

@@ -1,6 +1,9 @@
 //! A whole document with blocks, read into its parts.
 
-use crate::reading::{around_block, block, called, ends, lone_entry, margins, places, range, read};
+use crate::reading::{
+    block, has_around_block, has_ends, has_margins, has_places, is_called, is_range, lone_entry,
+    read,
+};
 use kdl::{KdlDocument, KdlNode, ParseFailure};
 use std::process::Abort;
 use std::test::Fail;
@@ -11,18 +14,18 @@ const TEXT: &str =
 
 /// The node with a property and three children.
 fn is_world(rt: &impl Abort, world: &KdlNode) -> Result<(), Fail> {
-    assert_eq!(rt; ends(world), ("\n// Comment\n", "", "\n"));
-    assert_eq!(rt; around_block(world), (" ", ""));
+    has_ends(rt, world, "\n// Comment\n", "", "\n");
+    has_around_block(rt, world, " ", "");
     let prop = lone_entry(world)?;
-    assert_eq!(rt; called(prop.name()), "prop");
+    is_called(rt, prop.name(), "prop");
     assert_eq!(rt; prop.value().as_string(), Some("string-value"));
     let children = block(world)?;
-    assert_eq!(rt; margins(children), ("", ""));
+    has_margins(rt, children, "", "");
     let [one, two, three] = children.nodes() else {
         return Err(Fail::from("not three children"));
     };
-    assert_eq!(rt; ends(one), ("\n    ", "", "\n"));
-    assert_eq!(rt; ends(three), ("    ", "", "\n"));
+    has_ends(rt, one, "\n    ", "", "\n");
+    has_ends(rt, three, "    ", "", "\n");
     assert_eq!(rt; lone_entry(one)?.value().as_integer(), Some(1));
     assert_eq!(rt; lone_entry(two)?.value().as_integer(), Some(2));
     let float = lone_entry(three)?.value().as_float();
@@ -33,20 +36,20 @@ fn is_world(rt: &impl Abort, world: &KdlNode) -> Result<(), Fail> {
 #[test]
 fn two_nodes_and_three_children(rt: HostRuntime) -> Result<(), Fail> {
     let document = read(&rt, rt.alloc(), TEXT)?;
-    assert_eq!(rt; margins(&document), ("", ""));
+    has_margins(&rt, &document, "", "");
     let [hello, world] = document.nodes() else {
         return Err(Fail::from("not two nodes"));
     };
     assert_eq!(rt; hello.name().value(), "hello");
-    assert_eq!(rt; ends(hello), ("\n", "", "\n"));
-    assert_eq!(rt; range(hello.span()), (1, 12));
+    has_ends(&rt, hello, "\n", "", "\n");
+    is_range(&rt, hello.span(), 1, 12);
     let [one, two, three] = hello.entries() else {
         return Err(Fail::from("not three entries"));
     };
     assert_eq!(rt; one.value().as_integer(), Some(1));
     assert_eq!(rt; two.value().as_integer(), Some(2));
     assert_eq!(rt; three.value().as_integer(), Some(3));
-    assert_eq!(rt; places(three), (" ", "3", ""));
+    has_places(&rt, three, " ", "3", "");
     assert_eq!(rt; world.name().value(), "world");
     is_world(&rt, world)
 }

@@ -40,25 +40,33 @@ fn the_first_node_of_a_name(rt: HostRuntime) -> Result<(), Fail> {
     Ok(())
 }
 
-#[test]
-fn a_node_and_an_argument_written(rt: HostRuntime) -> Result<(), Fail> {
-    let alloc = rt.alloc();
-    let mut document = KdlDocument::parse(alloc, "n k=1 0x10; n 2; m k=3")?;
+fn check_a_node_and_an_argument_written(
+    rt: &impl Abort,
+    alloc: Global,
+    document: &mut KdlDocument,
+) -> Result<(), Fail> {
     let value = document.get_arg_mut("n").ok_or("no argument")?;
     *value = KdlValue::from(5);
     assert_eq!(rt; integer(document.get_arg("n")), Some(5));
-    prints(&rt, alloc, &document, "n k=1 0x10; n 2; m k=3")?;
+    prints(rt, alloc, document, "n k=1 0x10; n 2; m k=3")?;
     let node = document.get_mut("n").ok_or("no node")?;
     let entry = node.entry_mut(NodeKey::Index(0)).ok_or("no entry")?;
     entry.clear_format();
-    prints(&rt, alloc, &document, "n k=1 5; n 2; m k=3")?;
-    forget(&mut document, "n");
-    forget(&mut document, "m");
-    prints(&rt, alloc, &document, "n k=1 #null; n 2; m k=3")?;
+    prints(rt, alloc, document, "n k=1 5; n 2; m k=3")?;
+    forget(document, "n");
+    forget(document, "m");
+    prints(rt, alloc, document, "n k=1 #null; n 2; m k=3")?;
     assert!(rt; document.get_arg_mut("m").is_none());
     assert!(rt; document.get_arg_mut("o").is_none());
     assert!(rt; document.get_mut("o").is_none());
     Ok(())
+}
+
+#[test]
+fn a_node_and_an_argument_written(rt: HostRuntime) -> Result<(), Fail> {
+    let alloc = rt.alloc();
+    let mut document = KdlDocument::parse(alloc, "n k=1 0x10; n 2; m k=3")?;
+    check_a_node_and_an_argument_written(&rt, alloc, &mut document)
 }
 
 #[test]

@@ -102,6 +102,54 @@ fn key_places(entry: &KdlEntry) -> (&str, &str) {
     }
 }
 
+/// The text is read, with these texts before and behind the entry, and this spelling of its value.
+fn stands(
+    rt: &impl Abort,
+    alloc: Global,
+    text: &str,
+    leading: &str,
+    trailing: &str,
+    repr: &str,
+) -> Result<(), Fail> {
+    let entry = read(rt, alloc, text)?;
+    assert_eq!(rt; places(&entry), (leading, trailing, repr));
+    Ok(())
+}
+
+/// The text is read as a property of that name.
+fn is_named(rt: &impl Abort, alloc: Global, text: &str, name: &str) -> Result<(), Fail> {
+    let entry = read(rt, alloc, text)?;
+    assert_eq!(rt; entry.name().map(|name| name.value()), Some(name));
+    Ok(())
+}
+
+/// The text is read as a property, with these texts around its `=`.
+fn key_stands(
+    rt: &impl Abort,
+    alloc: Global,
+    text: &str,
+    before: &str,
+    behind: &str,
+) -> Result<(), Fail> {
+    let entry = read(rt, alloc, text)?;
+    assert_eq!(rt; key_places(&entry), (before, behind));
+    Ok(())
+}
+
+/// The text is read with this type, and with these texts around its name and behind its `)`.
+fn is_typed(
+    rt: &impl Abort,
+    alloc: Global,
+    text: &str,
+    ty: &str,
+    around: (&str, &str, &str),
+) -> Result<(), Fail> {
+    let entry = read(rt, alloc, text)?;
+    assert_eq!(rt; entry.ty().map(|ty| ty.value()), Some(ty));
+    assert_eq!(rt; type_places(&entry), around);
+    Ok(())
+}
+
 #[test]
 fn numbers_and_keywords(rt: HostRuntime) -> Result<(), Fail> {
     let alloc = rt.alloc();
@@ -155,17 +203,12 @@ fn strings(rt: HostRuntime) -> Result<(), Fail> {
 #[test]
 fn types_and_properties(rt: HostRuntime) -> Result<(), Fail> {
     let alloc = rt.alloc();
-    let typed = read(&rt, alloc, "(u8) 1")?;
-    assert_eq!(rt; typed.ty().map(|ty| ty.value()), Some("u8"));
-    assert_eq!(rt; type_places(&typed), ("", "", " "));
-    let both = read(&rt, alloc, "k = ( x )2")?;
-    assert_eq!(rt; both.name().map(|name| name.value()), Some("k"));
-    assert_eq!(rt; both.ty().map(|ty| ty.value()), Some("x"));
-    assert_eq!(rt; key_places(&both), (" ", " "));
-    assert_eq!(rt; type_places(&both), (" ", " ", ""));
-    assert_eq!(rt; places(&both), ("", "", "2"));
-    let comment = read(&rt, alloc, "( /*a*/ t )  n")?;
-    assert_eq!(rt; type_places(&comment), (" /*a*/ ", " ", "  "));
+    is_typed(&rt, alloc, "(u8) 1", "u8", ("", "", " "))?;
+    is_named(&rt, alloc, "k = ( x )2", "k")?;
+    is_typed(&rt, alloc, "k = ( x )2", "x", (" ", " ", ""))?;
+    key_stands(&rt, alloc, "k = ( x )2", " ", " ")?;
+    stands(&rt, alloc, "k = ( x )2", "", "", "2")?;
+    is_typed(&rt, alloc, "( /*a*/ t )  n", "t", (" /*a*/ ", " ", "  "))?;
     refused(&rt, alloc, "(t)k=1");
     refused(&rt, alloc, "k=");
     refused(&rt, alloc, "1=2");
@@ -173,10 +216,7 @@ fn types_and_properties(rt: HostRuntime) -> Result<(), Fail> {
     Ok(())
 }
 
-#[test]
-fn a_property_with_all_its_places(rt: HostRuntime) -> Result<(), Fail> {
-    let alloc = rt.alloc();
-    let entry = read(&rt, alloc, " \\\n \"foo\"=(\"m\\\"eh\")0xDEADbeef\t\\\n")?;
+fn check_a_property_with_all_its_places(rt: &impl Abort, entry: &KdlEntry) -> Result<(), Fail> {
     let name = entry.name().ok_or("no name")?;
     assert_eq!(rt; name.value(), "foo");
     assert_eq!(rt; name.repr(), Some("\"foo\""));
@@ -185,46 +225,38 @@ fn a_property_with_all_its_places(rt: HostRuntime) -> Result<(), Fail> {
     assert_eq!(rt; ty.value(), "m\"eh");
     assert_eq!(rt; ty.span(), SourceSpan { offset: 11, len: 7 });
     assert_eq!(rt; entry.value().as_integer(), Some(3_735_928_559));
-    assert_eq!(rt; places(&entry), (" \\\n ", "\t\\\n", "0xDEADbeef"));
+    assert_eq!(rt; places(entry), (" \\\n ", "\t\\\n", "0xDEADbeef"));
     assert_eq!(rt; entry.span(), SourceSpan { offset: 0, len: 32 });
     Ok(())
 }
 
 #[test]
+fn a_property_with_all_its_places(rt: HostRuntime) -> Result<(), Fail> {
+    let text = " \\\n \"foo\"=(\"m\\\"eh\")0xDEADbeef\t\\\n";
+    check_a_property_with_all_its_places(&rt, &read(&rt, rt.alloc(), text)?)
+}
+
+#[test]
 fn entries_that_count_for_nothing(rt: HostRuntime) -> Result<(), Fail> {
     let alloc = rt.alloc();
-    let one = read(&rt, alloc, "/-1 2")?;
-    assert_eq!(rt; one.value().as_integer(), Some(2));
-    assert_eq!(rt; places(&one), ("/-1 ", "", "2"));
-    let two = read(&rt, alloc, "/- a=1 b=2")?;
-    assert_eq!(rt; two.name().map(|name| name.value()), Some("b"));
-    assert_eq!(rt; places(&two), ("/- a=1 ", "", "2"));
-    let spaced = read(&rt, alloc, " /- foo=1 bar = 2")?;
-    assert_eq!(rt; places(&spaced), (" /- foo=1 ", "", "2"));
-    assert_eq!(rt; key_places(&spaced), (" ", " "));
-    let many = read(&rt, alloc, "\n/-\n(t)1 /-a = (u)1 b")?;
-    assert_eq!(rt; many.value().as_string(), Some("b"));
-    assert_eq!(rt; places(&many), ("\n/-\n(t)1 /-a = (u)1 ", "", "b"));
-    Ok(())
+    reads_integer(&rt, alloc, "/-1 2", 2)?;
+    stands(&rt, alloc, "/-1 2", "/-1 ", "", "2")?;
+    is_named(&rt, alloc, "/- a=1 b=2", "b")?;
+    stands(&rt, alloc, "/- a=1 b=2", "/- a=1 ", "", "2")?;
+    stands(&rt, alloc, " /- foo=1 bar = 2", " /- foo=1 ", "", "2")?;
+    key_stands(&rt, alloc, " /- foo=1 bar = 2", " ", " ")?;
+    let many = "\n/-\n(t)1 /-a = (u)1 b";
+    reads_string(&rt, alloc, many, "b")?;
+    stands(&rt, alloc, many, "\n/-\n(t)1 /-a = (u)1 ", "", "b")
 }
 
 #[test]
 fn texts_behind_the_entry(rt: HostRuntime) -> Result<(), Fail> {
     let alloc = rt.alloc();
-    assert_eq!(rt;
-        places(&read(&rt, alloc, "1 // c\n")?),
-        ("", " // c\n", "1")
-    );
-    assert_eq!(rt; places(&read(&rt, alloc, "a // c")?), ("", " // c", "a"));
-    assert_eq!(rt;
-        places(&read(&rt, alloc, "a/* x */\n\n")?),
-        ("", "/* x */\n\n", "a")
-    );
-    assert_eq!(rt;
-        places(&read(&rt, alloc, "// c\n a=b ")?),
-        ("// c\n ", " ", "b")
-    );
-    Ok(())
+    stands(&rt, alloc, "1 // c\n", "", " // c\n", "1")?;
+    stands(&rt, alloc, "a // c", "", " // c", "a")?;
+    stands(&rt, alloc, "a/* x */\n\n", "", "/* x */\n\n", "a")?;
+    stands(&rt, alloc, "// c\n a=b ", "// c\n ", " ", "b")
 }
 
 #[test]

@@ -4,6 +4,7 @@ use kdl::{KdlDocument, KdlEntry, KdlFloat, KdlIdentifier, KdlNode, KdlValue, Sou
 use std::alloc::Global;
 use std::cmp::Ordering;
 use std::hash::{DefaultHasher, Hash, Hasher};
+use std::process::Abort;
 use std::test::Fail;
 
 const ELSEWHERE: SourceSpan = SourceSpan { offset: 40, len: 2 };
@@ -86,33 +87,47 @@ fn identifiers_by_value_and_spelling(rt: HostRuntime) -> Result<(), Fail> {
     Ok(())
 }
 
-#[test]
-fn entries_by_their_spellings(rt: HostRuntime) -> Result<(), Fail> {
-    let alloc = rt.alloc();
-    let mut hexadecimal = entry(alloc, "n 0x10")?;
-    let mut decimal = entry(alloc, "n 16")?;
+fn check_entries_by_their_spellings(
+    rt: &impl Abort,
+    hexadecimal: &mut KdlEntry,
+    decimal: &mut KdlEntry,
+) {
     assert!(rt; hexadecimal.value() == decimal.value());
-    assert!(rt; hexadecimal != decimal);
+    assert!(rt; *hexadecimal != *decimal);
     hexadecimal.clear_format();
     decimal.clear_format();
-    assert!(rt; hexadecimal == decimal);
-    assert_eq!(rt; hash_of(&hexadecimal), hash_of(&decimal));
+    assert!(rt; *hexadecimal == *decimal);
+    assert_eq!(rt; hash_of(hexadecimal), hash_of(decimal));
     decimal.set_span(ELSEWHERE);
-    assert!(rt; hexadecimal == decimal);
-    assert_eq!(rt; hash_of(&hexadecimal), hash_of(&decimal));
-    Ok(())
+    assert!(rt; *hexadecimal == *decimal);
+    assert_eq!(rt; hash_of(hexadecimal), hash_of(decimal));
 }
 
 #[test]
-fn a_new_value_under_the_old_spelling(rt: HostRuntime) -> Result<(), Fail> {
+fn entries_by_their_spellings(rt: HostRuntime) -> Result<(), Fail> {
     let alloc = rt.alloc();
-    let mut entry = entry(alloc, "n 0x10")?;
+    let mut decimal = entry(alloc, "n 16")?;
+    check_entries_by_their_spellings(&rt, &mut entry(alloc, "n 0x10")?, &mut decimal);
+    Ok(())
+}
+
+fn check_a_new_value_under_the_old_spelling(
+    rt: &impl Abort,
+    alloc: Global,
+    entry: &mut KdlEntry,
+) -> Result<(), Fail> {
     entry.set_value(KdlValue::from(5));
     assert_eq!(rt; entry.value().as_integer(), Some(5));
     assert_eq!(rt; entry.to_string(alloc)?.as_str(), " 0x10");
     entry.clear_format();
     assert_eq!(rt; entry.to_string(alloc)?.as_str(), "5");
     Ok(())
+}
+
+#[test]
+fn a_new_value_under_the_old_spelling(rt: HostRuntime) -> Result<(), Fail> {
+    let alloc = rt.alloc();
+    check_a_new_value_under_the_old_spelling(&rt, alloc, &mut entry(alloc, "n 0x10")?)
 }
 
 #[test]

@@ -67,10 +67,7 @@ fn hash_of<T: Hash>(value: &T) -> u64 {
     state.finish()
 }
 
-#[test]
-fn a_new_node(rt: HostRuntime) -> Result<(), Fail> {
-    let alloc = rt.alloc();
-    let mut node = built(alloc, "foo")?;
+fn check_a_new_node(rt: &impl Abort, alloc: Global, node: &mut KdlNode) -> Result<(), Fail> {
     assert_eq!(rt; node.name().value(), "foo");
     assert!(rt; node.ty().is_none() && node.children().is_none());
     assert!(rt; node.entries().is_empty());
@@ -78,19 +75,26 @@ fn a_new_node(rt: HostRuntime) -> Result<(), Fail> {
     let format = node.format().ok_or("no format")?;
     assert_eq!(rt; format.trailing.as_str(), "\n");
     assert_eq!(rt; format.terminator.as_str(), "");
-    prints(&rt, alloc, &node, "foo\n")?;
+    prints(rt, alloc, node, "foo\n")?;
     node.clear_format();
-    prints(&rt, alloc, &node, "foo")?;
+    prints(rt, alloc, node, "foo")?;
     node.set_name(identifier(alloc, "a b")?);
-    prints(&rt, alloc, &node, "\"a b\"")
+    prints(rt, alloc, node, "\"a b\"")
 }
 
 #[test]
-fn the_places_of_a_built_node(rt: HostRuntime) -> Result<(), Fail> {
+fn a_new_node(rt: HostRuntime) -> Result<(), Fail> {
     let alloc = rt.alloc();
-    let mut node = built(alloc, "n")?;
+    check_a_new_node(&rt, alloc, &mut built(alloc, "foo")?)
+}
+
+fn check_the_places_of_a_built_node(
+    rt: &impl Abort,
+    alloc: Global,
+    node: &mut KdlNode,
+) -> Result<(), Fail> {
     node.set_ty(identifier(alloc, "t")?);
-    prints(&rt, alloc, &node, "(t)n\n")?;
+    prints(rt, alloc, node, "(t)n\n")?;
     let mut format = KdlNodeFormat::new(alloc);
     format.leading = text(alloc, "0")?;
     format.before_ty_name = text(alloc, "1")?;
@@ -101,45 +105,58 @@ fn the_places_of_a_built_node(rt: HostRuntime) -> Result<(), Fail> {
     format.terminator = text(alloc, "6")?;
     format.trailing = text(alloc, "7")?;
     node.set_format(format);
-    prints(&rt, alloc, &node, "0(1t2)3n567")?;
+    prints(rt, alloc, node, "0(1t2)3n567")?;
     *node.ty_mut() = None;
-    prints(&rt, alloc, &node, "03n567")?;
+    prints(rt, alloc, node, "03n567")?;
     node.ensure_children();
-    prints(&rt, alloc, &node, "03n4{\n}567")?;
+    prints(rt, alloc, node, "03n4{\n}567")?;
     node.ensure_children()
         .set_format(KdlDocumentFormat::new(alloc));
-    prints(&rt, alloc, &node, "03n4{}567")?;
+    prints(rt, alloc, node, "03n4{}567")?;
     let format = node.format_mut().ok_or("no format")?;
     format.before_children.clear();
-    prints(&rt, alloc, &node, "03n{}567")?;
+    prints(rt, alloc, node, "03n{}567")?;
     node.clear_format();
     assert!(rt; node.format_mut().is_none());
-    prints(&rt, alloc, &node, "n {}")?;
+    prints(rt, alloc, node, "n {}")?;
     node.clear_children();
-    prints(&rt, alloc, &node, "n")
+    prints(rt, alloc, node, "n")
+}
+
+#[test]
+fn the_places_of_a_built_node(rt: HostRuntime) -> Result<(), Fail> {
+    let alloc = rt.alloc();
+    check_the_places_of_a_built_node(&rt, alloc, &mut built(alloc, "n")?)
+}
+
+fn check_built_documents(
+    rt: &impl Abort,
+    alloc: Global,
+    document: &mut KdlDocument,
+) -> Result<(), Fail> {
+    document_prints(rt, alloc, document, "")?;
+    document.nodes_mut().push(built(alloc, "foo")?)?;
+    document.nodes_mut().push(built(alloc, "bar")?)?;
+    document.nodes_mut().push(formless(alloc, "é")?)?;
+    document_prints(rt, alloc, document, "foo\nbar\né")?;
+    let mut format = KdlDocumentFormat::new(alloc);
+    format.leading = text(alloc, "// a\n")?;
+    document.set_format(format);
+    document_prints(rt, alloc, document, "// a\nfoo\nbar\né")?;
+    let format = document.format_mut().ok_or("no format")?;
+    format.trailing.push_str("\n// z")?;
+    document_prints(rt, alloc, document, "// a\nfoo\nbar\né\n// z")?;
+    document.clear_format();
+    assert!(rt; document.format_mut().is_none());
+    document_prints(rt, alloc, document, "foo\nbar\né")?;
+    document.nodes_mut().clear();
+    document_prints(rt, alloc, document, "")
 }
 
 #[test]
 fn built_documents(rt: HostRuntime) -> Result<(), Fail> {
     let alloc = rt.alloc();
-    let mut document = KdlDocument::new(alloc);
-    document_prints(&rt, alloc, &document, "")?;
-    document.nodes_mut().push(built(alloc, "foo")?)?;
-    document.nodes_mut().push(built(alloc, "bar")?)?;
-    document.nodes_mut().push(formless(alloc, "é")?)?;
-    document_prints(&rt, alloc, &document, "foo\nbar\né")?;
-    let mut format = KdlDocumentFormat::new(alloc);
-    format.leading = text(alloc, "// a\n")?;
-    document.set_format(format);
-    document_prints(&rt, alloc, &document, "// a\nfoo\nbar\né")?;
-    let format = document.format_mut().ok_or("no format")?;
-    format.trailing.push_str("\n// z")?;
-    document_prints(&rt, alloc, &document, "// a\nfoo\nbar\né\n// z")?;
-    document.clear_format();
-    assert!(rt; document.format_mut().is_none());
-    document_prints(&rt, alloc, &document, "foo\nbar\né")?;
-    document.nodes_mut().clear();
-    document_prints(&rt, alloc, &document, "")
+    check_built_documents(&rt, alloc, &mut KdlDocument::new(alloc))
 }
 
 #[test]
@@ -164,46 +181,71 @@ fn blocks_without_formats_are_indented(rt: HostRuntime) -> Result<(), Fail> {
     prints(&rt, alloc, &a, printed)
 }
 
-#[test]
-fn entries_between_a_name_and_a_block(rt: HostRuntime) -> Result<(), Fail> {
-    let alloc = rt.alloc();
-    let mut node = parsed(alloc, "\"n\" ( t ) 0x10  k = \"v\"{}")?;
+fn check_entries_between_a_name_and_a_block(
+    rt: &impl Abort,
+    alloc: Global,
+    node: &mut KdlNode,
+) -> Result<(), Fail> {
     node.clear_format();
-    prints(&rt, alloc, &node, "\"n\" ( t ) 0x10  k = \"v\"{}")?;
+    prints(rt, alloc, node, "\"n\" ( t ) 0x10  k = \"v\"{}")?;
     node.clear_format_recursive();
-    prints(&rt, alloc, &node, "n (t)16 k=v {\n}")?;
+    prints(rt, alloc, node, "n (t)16 k=v {\n}")?;
     node.set_children(KdlDocument::parse(alloc, " m;")?);
-    prints(&rt, alloc, &node, "n (t)16 k=v { m;}")
+    prints(rt, alloc, node, "n (t)16 k=v { m;}")
 }
 
 #[test]
-fn a_block_is_made_once(rt: HostRuntime) -> Result<(), Fail> {
+fn entries_between_a_name_and_a_block(rt: HostRuntime) -> Result<(), Fail> {
     let alloc = rt.alloc();
-    let mut node = formless(alloc, "n")?;
+    check_entries_between_a_name_and_a_block(
+        &rt,
+        alloc,
+        &mut parsed(alloc, "\"n\" ( t ) 0x10  k = \"v\"{}")?,
+    )
+}
+
+fn check_a_block_is_made_once(
+    rt: &impl Abort,
+    alloc: Global,
+    node: &mut KdlNode,
+) -> Result<(), Fail> {
     let children = node.ensure_children();
     assert!(rt; *children == KdlDocument::new(alloc));
     assert_eq!(rt; children.span(), SourceSpan { offset: 0, len: 0 });
     children.nodes_mut().push(formless(alloc, "m")?)?;
     assert_eq!(rt; node.ensure_children().nodes().len(), 1);
-    prints(&rt, alloc, &node, "n {\n    m}")?;
+    prints(rt, alloc, node, "n {\n    m}")?;
     *node.children_mut() = None;
-    prints(&rt, alloc, &node, "n")?;
+    prints(rt, alloc, node, "n")?;
     *node.children_mut() = Some(KdlDocument::new(alloc));
-    prints(&rt, alloc, &node, "n {\n}")
+    prints(rt, alloc, node, "n {\n}")
+}
+
+#[test]
+fn a_block_is_made_once(rt: HostRuntime) -> Result<(), Fail> {
+    let alloc = rt.alloc();
+    check_a_block_is_made_once(&rt, alloc, &mut formless(alloc, "n")?)
+}
+
+fn check_a_name_changed_in_place(
+    rt: &impl Abort,
+    alloc: Global,
+    node: &mut KdlNode,
+) -> Result<(), Fail> {
+    node.name_mut().set_value(text(alloc, "b")?);
+    prints(rt, alloc, node, " \"a\"  1 ;")?;
+    node.name_mut().clear_format();
+    prints(rt, alloc, node, " b  1 ;")?;
+    *node.ty_mut() = Some(identifier(alloc, "t")?);
+    prints(rt, alloc, node, " (t)b  1 ;")?;
+    node.set_name(identifier(alloc, "")?);
+    prints(rt, alloc, node, " (t)\"\"  1 ;")
 }
 
 #[test]
 fn a_name_changed_in_place(rt: HostRuntime) -> Result<(), Fail> {
     let alloc = rt.alloc();
-    let mut node = parsed(alloc, " \"a\"  1 ;")?;
-    node.name_mut().set_value(text(alloc, "b")?);
-    prints(&rt, alloc, &node, " \"a\"  1 ;")?;
-    node.name_mut().clear_format();
-    prints(&rt, alloc, &node, " b  1 ;")?;
-    *node.ty_mut() = Some(identifier(alloc, "t")?);
-    prints(&rt, alloc, &node, " (t)b  1 ;")?;
-    node.set_name(identifier(alloc, "")?);
-    prints(&rt, alloc, &node, " (t)\"\"  1 ;")
+    check_a_name_changed_in_place(&rt, alloc, &mut parsed(alloc, " \"a\"  1 ;")?)
 }
 
 #[test]

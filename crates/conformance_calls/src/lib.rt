@@ -1,4 +1,5 @@
-//! Tests of the calls on values, identifiers, entries, nodes and documents, against worked examples: what no contract says.
+//! Tests of the calls on values, identifiers, entries, nodes and documents, against worked examples: what no contract
+//! says.
 #![tactic(auto)]
 
 pub mod callers;

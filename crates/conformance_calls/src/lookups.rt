@@ -1,6 +1,5 @@
 //! Look-ups in nodes: what they find, what is left of what was written through them, and the iterators.
 
-ghost use Rattle.kdl.specs.Change.{with_entries};
 ghost use Rattle.kdl.specs.Lookups.{entries_of, key_place, property_place, with_value_there, HasSameEntries, HasWritten};
 ghost use Rattle.kdl.specs.declared.node.KdlNode.{out-KdlNode};
 ghost use Rattle.kdl.specs.declared.node.key.NodeKey.TheVariants.{Index as at_index};
@@ -79,10 +78,11 @@ fn integer(value: Option<&KdlValue>) -> Option<i128> {
     value.and_then(|v| v.as_integer())
 }
 
-#[test]
-fn names_find_the_last_and_places_count_arguments(rt: HostRuntime) -> Result<(), Fail> {
-    let alloc = rt.alloc();
-    let node = node_of(alloc, "n x=1 7 \"x\"=2 y=3 8")?;
+fn check_names_find_the_last_and_places_count_arguments(
+    rt: &impl Abort,
+    alloc: Global,
+    node: &KdlNode,
+) -> Result<(), Fail> {
     assert_eq!(rt; integer(node.get(key(alloc, "x")?)), Some(2));
     assert_eq!(rt; integer(node.get(key(alloc, "y")?)), Some(3));
     assert!(rt; node.get(key(alloc, "z")?).is_none());
@@ -96,65 +96,114 @@ fn names_find_the_last_and_places_count_arguments(rt: HostRuntime) -> Result<(),
 }
 
 #[test]
-fn values_by_index(rt: HostRuntime) -> Result<(), Fail> {
+fn names_find_the_last_and_places_count_arguments(rt: HostRuntime) -> Result<(), Fail> {
     let alloc = rt.alloc();
-    let mut node = node_of(alloc, "foo x=1 5 x=2")?;
+    check_names_find_the_last_and_places_count_arguments(
+        &rt,
+        alloc,
+        &node_of(alloc, "n x=1 7 \"x\"=2 y=3 8")?,
+    )
+}
+
+fn check_values_by_index(rt: &impl Abort, alloc: Global, node: &mut KdlNode) -> Result<(), Fail> {
     if node.get(NodeKey::Index(0)).is_some() {
-        set_first(&mut node, KdlValue::from(6));
+        set_first(node, KdlValue::from(6));
     }
-    prints(&rt, alloc, &node, "foo x=1 5 x=2")?;
+    prints(rt, alloc, node, "foo x=1 5 x=2")?;
     assert_eq!(rt; integer(node.get(NodeKey::Index(0))), Some(6));
     Ok(())
 }
 
 #[test]
-fn the_last_property_or_a_null_one(rt: HostRuntime) -> Result<(), Fail> {
+fn values_by_index(rt: HostRuntime) -> Result<(), Fail> {
     let alloc = rt.alloc();
-    let mut node = node_of(alloc, "n x=1 x=2")?;
-    set_property(&mut node, "x", KdlValue::from(9))?;
+    check_values_by_index(&rt, alloc, &mut node_of(alloc, "foo x=1 5 x=2")?)
+}
+
+fn check_the_last_property_or_a_null_one(
+    rt: &impl Abort,
+    alloc: Global,
+    node: &mut KdlNode,
+) -> Result<(), Fail> {
+    set_property(node, "x", KdlValue::from(9))?;
     assert_eq!(rt; node.entries().len(), 2);
     assert_eq!(rt; integer(node.get(key(alloc, "x")?)), Some(9));
-    prints(&rt, alloc, &node, "n x=1 x=2")?;
+    prints(rt, alloc, node, "n x=1 x=2")?;
     let value = node.get_or_null_mut("y")?;
     assert!(rt; value.is_null());
-    prints(&rt, alloc, &node, "n x=1 x=2 y=#null")?;
+    prints(rt, alloc, node, "n x=1 x=2 y=#null")?;
     let value = node.get_or_null_mut("y")?;
     *value = KdlValue::from(4);
-    prints(&rt, alloc, &node, "n x=1 x=2 y=4")
+    prints(rt, alloc, node, "n x=1 x=2 y=4")
+}
+
+#[test]
+fn the_last_property_or_a_null_one(rt: HostRuntime) -> Result<(), Fail> {
+    let alloc = rt.alloc();
+    check_the_last_property_or_a_null_one(&rt, alloc, &mut node_of(alloc, "n x=1 x=2")?)
+}
+
+fn check_the_spelling_stays_until_it_is_cleared(
+    rt: &impl Abort,
+    alloc: Global,
+    node: &mut KdlNode,
+) -> Result<(), Fail> {
+    let value = node.get_mut(NodeKey::Index(0)).ok_or("no value")?;
+    *value = KdlValue::from(5);
+    prints(rt, alloc, node, "n 0x10")?;
+    clear_format(node, NodeKey::Index(0));
+    prints(rt, alloc, node, "n 5")?;
+    forget(node, NodeKey::Index(0));
+    prints(rt, alloc, node, "n #null")
 }
 
 #[test]
 fn the_spelling_stays_until_it_is_cleared(rt: HostRuntime) -> Result<(), Fail> {
     let alloc = rt.alloc();
-    let mut node = node_of(alloc, "n 0x10")?;
-    let value = node.get_mut(NodeKey::Index(0)).ok_or("no value")?;
-    *value = KdlValue::from(5);
-    prints(&rt, alloc, &node, "n 0x10")?;
-    clear_format(&mut node, NodeKey::Index(0));
-    prints(&rt, alloc, &node, "n 5")?;
-    forget(&mut node, NodeKey::Index(0));
-    prints(&rt, alloc, &node, "n #null")
+    check_the_spelling_stays_until_it_is_cleared(&rt, alloc, &mut node_of(alloc, "n 0x10")?)
+}
+
+fn check_an_entry_exchanged_for_a_parsed_one(
+    rt: &impl Abort,
+    alloc: Global,
+    node: &mut KdlNode,
+) -> Result<(), Fail> {
+    let entry = node.entry_mut(key(alloc, "b")?).ok_or("no entry")?;
+    *entry = KdlEntry::parse(alloc, " b=0x3")?;
+    prints(rt, alloc, node, "a 1 b=0x3 // c\n")
 }
 
 #[test]
 fn an_entry_exchanged_for_a_parsed_one(rt: HostRuntime) -> Result<(), Fail> {
     let alloc = rt.alloc();
-    let mut node = node_of(alloc, "a 1 b=2 // c\n")?;
-    let entry = node.entry_mut(key(alloc, "b")?).ok_or("no entry")?;
-    *entry = KdlEntry::parse(alloc, " b=0x3")?;
-    prints(&rt, alloc, &node, "a 1 b=0x3 // c\n")
+    check_an_entry_exchanged_for_a_parsed_one(&rt, alloc, &mut node_of(alloc, "a 1 b=2 // c\n")?)
 }
 
-#[test]
-fn iterators_go_over_entries_and_children(rt: HostRuntime) -> Result<(), Fail> {
-    let alloc = rt.alloc();
-    let mut node = node_of(alloc, "n 1 k=2 { a; b; }")?;
+fn check_an_iterator_over_entries(
+    rt: &impl Abort,
+    alloc: Global,
+    node: &mut KdlNode,
+) -> Result<(), Fail> {
     assert_eq!(rt; node.iter().size_hint(), (2, Some(2)));
-    assert_eq!(rt; first(&node).and_then(|e| e.value().as_integer()), Some(1));
+    assert_eq!(rt; first(node).and_then(|e| e.value().as_integer()), Some(1));
     for entry in node.iter_mut() {
         entry.set_value(KdlValue::from(true));
         entry.clear_format();
     }
+    prints(rt, alloc, node, "n #true k=#true { a; b; }")
+}
+
+#[test]
+fn an_iterator_over_entries(rt: HostRuntime) -> Result<(), Fail> {
+    let alloc = rt.alloc();
+    check_an_iterator_over_entries(&rt, alloc, &mut node_of(alloc, "n 1 k=2 { a; b; }")?)
+}
+
+fn check_an_iterator_over_children(
+    rt: &impl Abort,
+    alloc: Global,
+    node: &mut KdlNode,
+) -> Result<(), Fail> {
     assert_eq!(rt; node.iter_children().size_hint(), (2, Some(2)));
     let mut children = node.iter_children_mut();
     assert_eq!(rt; children.size_hint(), (2, Some(2)));
@@ -162,10 +211,21 @@ fn iterators_go_over_entries_and_children(rt: HostRuntime) -> Result<(), Fail> {
     child.get_or_null_mut("c")?;
     assert_eq!(rt; children.size_hint(), (1, Some(1)));
     drop(children);
-    prints(&rt, alloc, &node, "n #true k=#true { a c=#null; b; }")?;
+    prints(rt, alloc, node, "n 1 k=2 { a c=#null; b; }")?;
     let names = node.iter_children().map(|n| n.name().value().len()).count();
     assert_eq!(rt; names, 2);
-    let mut bare = node_of(alloc, "n")?;
+    Ok(())
+}
+
+#[test]
+fn an_iterator_over_children(rt: HostRuntime) -> Result<(), Fail> {
+    let alloc = rt.alloc();
+    check_an_iterator_over_children(&rt, alloc, &mut node_of(alloc, "n 1 k=2 { a; b; }")?)
+}
+
+#[test]
+fn no_children_without_a_block(rt: HostRuntime) -> Result<(), Fail> {
+    let mut bare = node_of(rt.alloc(), "n")?;
     assert!(rt; bare.iter_children().next().is_none());
     assert!(rt; bare.iter_children_mut().next().is_none());
     assert_eq!(rt; bare.iter_children_mut().size_hint(), (0, Some(0)));

@@ -26,19 +26,29 @@ fn spells(rt: &impl Abort, alloc: Global, text: &str, spelling: &str) -> Result<
     prints(rt, alloc, &string(alloc, text)?, spelling)
 }
 
+/// The whole number prints the text.
+fn number_prints(rt: &impl Abort, alloc: Global, number: i128, text: &str) -> Result<(), Fail> {
+    prints(rt, alloc, &KdlValue::from(number), text)
+}
+
+/// The float of the text prints it.
+fn float_prints(rt: &impl Abort, alloc: Global, text: &str) -> Result<(), Fail> {
+    prints(rt, alloc, &float(alloc, text)?, text)
+}
+
 #[test]
-fn printed_values(rt: HostRuntime) -> Result<(), Fail> {
+fn printed_numbers(rt: HostRuntime) -> Result<(), Fail> {
     let alloc = rt.alloc();
-    prints(&rt, alloc, &string(alloc, "foo")?, "foo")?;
-    prints(&rt, alloc, &KdlValue::from(-17), "-17")?;
-    prints(
-        &rt,
-        alloc,
-        &KdlValue::from(i128::MIN),
-        "-170141183460469231731687303715884105728",
-    )?;
-    prints(&rt, alloc, &float(alloc, "-0.5E-3")?, "-0.5E-3")?;
-    prints(&rt, alloc, &float(alloc, "#-inf")?, "#-inf")?;
+    number_prints(&rt, alloc, -17, "-17")?;
+    let least = "-170141183460469231731687303715884105728";
+    number_prints(&rt, alloc, i128::MIN, least)?;
+    float_prints(&rt, alloc, "-0.5E-3")?;
+    float_prints(&rt, alloc, "#-inf")
+}
+
+#[test]
+fn printed_keywords(rt: HostRuntime) -> Result<(), Fail> {
+    let alloc = rt.alloc();
     prints(&rt, alloc, &KdlValue::from(true), "#true")?;
     prints(&rt, alloc, &KdlValue::from(false), "#false")?;
     prints(&rt, alloc, &KdlValue::Null, "#null")?;
@@ -49,6 +59,7 @@ fn printed_values(rt: HostRuntime) -> Result<(), Fail> {
 #[test]
 fn printed_strings(rt: HostRuntime) -> Result<(), Fail> {
     let alloc = rt.alloc();
+    spells(&rt, alloc, "foo", "foo")?;
     spells(&rt, alloc, "\u{85}", "\"\\u{85}\"")?;
     spells(&rt, alloc, "\u{7f}", "\"\\u{7f}\"")?;
     spells(&rt, alloc, "\u{feff}", "\"\\u{feff}\"")?;
@@ -92,23 +103,35 @@ fn ordered_values(rt: HostRuntime) -> Result<(), Fail> {
 }
 
 #[test]
-fn value_tests(rt: HostRuntime) -> Result<(), Fail> {
-    let alloc = rt.alloc();
-    let text = string(alloc, "a")?;
+fn a_string(rt: HostRuntime) -> Result<(), Fail> {
+    let text = string(rt.alloc(), "a")?;
     assert!(rt; text.is_string() && !text.is_null());
     assert_eq!(rt; text.as_string(), Some("a"));
+    Ok(())
+}
+
+#[test]
+fn a_whole_number(rt: HostRuntime) {
     let whole = KdlValue::from(3);
     assert!(rt; whole.is_integer() && !whole.is_float());
     assert_eq!(rt; whole.as_integer(), Some(3));
-    let decimal = float(alloc, "3.0")?;
+}
+
+#[test]
+fn a_decimal(rt: HostRuntime) -> Result<(), Fail> {
+    let decimal = float(rt.alloc(), "3.0")?;
     assert!(rt; decimal.is_float() && !decimal.is_integer());
     assert_eq!(rt; decimal.as_float().map(|f| f.as_str()), Some("3.0"));
+    assert!(rt; decimal.clone()? == decimal && decimal != KdlValue::from(3));
+    Ok(())
+}
+
+#[test]
+fn a_bool_and_null(rt: HostRuntime) {
     let truth = KdlValue::from(true);
     assert!(rt; truth.is_bool() && !truth.is_string());
     assert_eq!(rt; truth.as_bool(), Some(true));
     assert!(rt; KdlValue::Null.is_null() && !KdlValue::Null.is_bool());
-    assert!(rt; decimal.clone()? == decimal && decimal != whole);
-    Ok(())
 }
 
 /// Whether the text is a float; a float keeps its text.
@@ -165,43 +188,63 @@ fn identifiers(rt: HostRuntime) -> Result<(), Fail> {
     Ok(())
 }
 
-/// The entry `k=(t)1`, with a format.
-fn property(alloc: Global) -> Result<KdlEntry, Fail> {
-    let key = KdlIdentifier::from_text(alloc, "k")?;
-    let mut entry = KdlEntry::from((key, KdlValue::from(1)));
-    entry.set_ty(KdlIdentifier::from_text(alloc, "t")?);
+/// The texts around `k=(t)1`.
+fn format(alloc: Global) -> Result<KdlEntryFormat, Fail> {
     let mut format = KdlEntryFormat::new(alloc);
     format.leading.push_str("  ")?;
     format.value_repr.push_str("0x1")?;
     format.after_eq.push_str(" ")?;
     format.trailing.push_str(" ")?;
+    Ok(format)
+}
+
+/// The entry `k=(t)1`, with a format.
+fn property(alloc: Global) -> Result<KdlEntry, Fail> {
+    let key = KdlIdentifier::from_text(alloc, "k")?;
+    let ty = KdlIdentifier::from_text(alloc, "t")?;
+    let format = format(alloc)?;
+    let mut entry = KdlEntry::from((key, KdlValue::from(1)));
+    entry.set_ty(ty);
     entry.set_format(format);
     Ok(entry)
+}
+
+fn entry_prints(rt: &impl Abort, alloc: Global, entry: &KdlEntry, text: &str) -> Result<(), Fail> {
+    assert_eq!(rt; entry.to_string(alloc)?.as_str(), text);
+    assert_eq!(rt; entry.len(alloc)?, text.len());
+    assert_eq!(rt; entry.is_empty(alloc)?, text.is_empty());
+    Ok(())
+}
+
+fn check_entries(rt: &impl Abort, alloc: Global, entry: &mut KdlEntry) -> Result<(), Fail> {
+    entry_prints(rt, alloc, entry, "  k= (t)0x1 ")?;
+    entry.keep_format();
+    entry.autoformat();
+    entry_prints(rt, alloc, entry, "  k=(t)0x1")?;
+    entry.autoformat();
+    entry_prints(rt, alloc, entry, "k=(t)1")
 }
 
 #[test]
 fn entries(rt: HostRuntime) -> Result<(), Fail> {
     let alloc = rt.alloc();
-    let mut entry = property(alloc)?;
-    assert_eq!(rt; entry.to_string(alloc)?.as_str(), "  k= (t)0x1 ");
-    assert_eq!(rt; entry.len(alloc)?, 12);
-    entry.keep_format();
-    entry.autoformat();
-    assert_eq!(rt; entry.to_string(alloc)?.as_str(), "  k=(t)0x1");
-    entry.autoformat();
-    assert_eq!(rt; entry.to_string(alloc)?.as_str(), "k=(t)1");
-    let mut other = property(alloc)?;
-    assert!(rt; other != entry);
+    check_entries(&rt, alloc, &mut property(alloc)?)
+}
+
+fn check_formats_count(rt: &impl Abort, entry: &KdlEntry, other: &mut KdlEntry) {
+    assert!(rt; *entry == *other);
     other.clear_format();
-    assert!(rt; other == entry);
-    assert!(rt; !other.is_empty(alloc)?);
-    Ok(())
+    assert!(rt; *entry != *other);
 }
 
 #[test]
-fn lent_parts(rt: HostRuntime) -> Result<(), Fail> {
+fn formats_count(rt: HostRuntime) -> Result<(), Fail> {
     let alloc = rt.alloc();
-    let mut entry = property(alloc)?;
+    check_formats_count(&rt, &property(alloc)?, &mut property(alloc)?);
+    Ok(())
+}
+
+fn check_lent_parts(rt: &impl Abort, alloc: Global, entry: &mut KdlEntry) -> Result<(), Fail> {
     if let Some(name) = entry.name_mut() {
         name.set_value(String::from_str(alloc, "key")?);
     }
@@ -212,9 +255,18 @@ fn lent_parts(rt: HostRuntime) -> Result<(), Fail> {
         format.after_ty.push_str(" ")?;
     }
     *entry.value_mut() = KdlValue::Null;
-    assert_eq!(rt; entry.to_string(alloc)?.as_str(), "  key= (type) 0x1 ");
+    entry_prints(rt, alloc, entry, "  key= (type) 0x1 ")?;
     entry.clear_format();
-    assert_eq!(rt; entry.to_string(alloc)?.as_str(), "key=(type)#null");
+    entry_prints(rt, alloc, entry, "key=(type)#null")
+}
+
+#[test]
+fn lent_parts(rt: HostRuntime) -> Result<(), Fail> {
+    let alloc = rt.alloc();
+    check_lent_parts(&rt, alloc, &mut property(alloc)?)
+}
+
+#[test]
+fn no_name_to_lend(rt: HostRuntime) {
     assert!(rt; KdlEntry::from(KdlValue::Null).name_mut().is_none());
-    Ok(())
 }

@@ -3,41 +3,30 @@
 ghost use Rattle.kdl.specs.Answered.{Finished};
 ghost use Rattle.kdl_grammar.specs.Machine as machine;
 ghost use Rattle.kdl_grammar.specs.Machine.{at, initial};
-ghost use Rattle.kdl.specs.Building.{under_view, kept_view, nodes_view, frame_view, stacked, under_now, node_now, frames_view, pending_now, name_slot, entry_slot, valued_at, item_answer, state_view, held, Did, EndsIn, Placed};
-ghost use Rattle.kdl.specs.Counted.{up_to, unsliced};
-ghost use Rattle.kdl_grammar.specs.Laid as laid;
-ghost use Rattle.kdl_grammar.specs.Laid.{node_format};
-ghost use Rattle.kdl_grammar.specs.Tree.{node, none, no_children, children, children_of};
-ghost use Rattle.kdl.specs.Tree.{node_tree, nodes_tree, document_tree, node_format_tree, document_format_tree};
-ghost use Rattle.kdl_entry.specs.Building.{type_view, key_view, item_view, Stays};
+ghost use Rattle.kdl.specs.Building.{nodes_view, frames_view, state_view, held, Did, EndsIn, Placed};
+ghost use Rattle.kdl.specs.Counted.{unsliced};
+ghost use Rattle.kdl_grammar.specs.Tree.{node};
+ghost use Rattle.kdl_entry.specs.Building.{Stays};
 ghost use Rattle.kdl_entry.specs.Counted.{Sliced};
 ghost use Rattle.kdl_entry.specs.Data.{text};
 ghost use Rattle.kdl_entry.specs.Handed.{kind_view};
-ghost use Rattle.kdl_entry.specs.Items as items;
-ghost use Rattle.kdl_entry.specs.Items.{between, type_of, before_name, after_name, behind_type};
-ghost use Rattle.kdl_entry.specs.Places.{span_of};
-ghost use Rattle.kdl_entry.specs.Tree.{identifier_tree, plain_identifier, entry_tree, value_tree, text_of};
+ghost use Rattle.kdl_entry.specs.Items.{between};
 ghost use Rattle.kdl_text.specs.Here.{Ahead, bytes, raise};
 ghost use Rattle.kdl.specs.declared.builder.Phase.{Phase};
 ghost use Rattle.kdl.specs.declared.builder.Waiting.{Waiting};
-ghost use Rattle.std.specs.Prelude.{◌≡◌, ◌+◌, ◌≤◌, if◌then◌else◌, [], ◌∷◌, map, Some, None, true, false, IfOk, OnOk, option_map};
+ghost use Rattle.std.specs.Prelude.{◌≡◌, ◌+◌, ◌≤◌, if◌then◌else◌, [], Some, None, true, false, OnOk};
 
 mod parts;
 mod steps;
 
 use self::parts::content;
-use crate::document::{KdlDocument, KdlDocumentFormat};
-use crate::node::{KdlNode, KdlNodeFormat};
-use kdl_entry::items::item::{
-    Given, Item, KeyParts, Stage, TypeParts, empty, entry_from, identifier_between, misplaced,
-    span_at, text_between,
-};
+use crate::document::KdlDocument;
+use crate::node::KdlNode;
+use kdl_entry::items::item::{Item, TypeParts, misplaced, text_between};
 use kdl_entry::items::{LexFailure, Lexer, Token, TokenKind};
-use kdl_entry::{KdlEntry, KdlIdentifier, KdlValue};
+use kdl_entry::{KdlEntry, KdlIdentifier};
 use kdl_text::chars::Checkpoint;
-use kdl_text::span::SourceSpan;
-use std::alloc::{AllocError, Global};
-use std::mem;
+use std::alloc::Global;
 
 /// Where in the grammar the builder is.
 #[derive(Clone, Copy, Debug, PartialEq, Eq)]
@@ -442,17 +431,17 @@ impl<'a> Builder<'a> {
         }
     }
 
-    /// The document, where the text ends. A fault where what is open isn't closed.
+    /// The document, where the text ends. A fault where what is open isn't closed. The builder is spent then.
     pub(crate) fn finish(
-        self,
+        &mut self,
         alloc: Global,
         lexer: &mut Lexer<'a>,
     ) -> Result<KdlDocument, LexFailure>
         requires end { lexer.old.rest ≡ [] }
-        requires from { EndsIn self.from.rest lexer.old.rest }
-        ensures finished { Finished (machine.finish self.entry.whole.rest (state_view self.entry)) (record { rest = lexer.old.rest; at = lexer.old.at }) result }
+        requires from { EndsIn self.old.from.rest lexer.old.rest }
+        ensures finished { Finished (machine.finish self.old.whole.rest (state_view self.old)) (record { rest = lexer.old.rest; at = lexer.old.at }) result }
         ensures stays { Stays lexer.old lexer.new }
-        ensures sliced { OnOk result (Sliced (unsliced self.entry) 0 lexer.old lexer.new) }
+        ensures sliced { OnOk result (Sliced (unsliced self.old) 0 lexer.old lexer.new) }
     {
         let here = lexer.checkpoint();
         self.finish_at(alloc, lexer, &here)
@@ -461,16 +450,16 @@ impl<'a> Builder<'a> {
     /// The document, where the text ends at the place.
     #[tactic(auto, using(crate::proofs::Origins::between_none, crate::proofs::Origins::origin_ends, crate::proofs::ItemTurns::unfinished))]
     fn finish_at(
-        mut self,
+        &mut self,
         alloc: Global,
         lexer: &mut Lexer<'a>,
         here: &Checkpoint<'a>,
     ) -> Result<KdlDocument, LexFailure>
         requires end { here.now.rest ≡ [] }
-        requires from { Ahead self.from here.now }
-        ensures finished { Finished (machine.finish self.entry.whole.rest (state_view self.entry)) here.now result }
+        requires from { Ahead self.old.from here.now }
+        ensures finished { Finished (machine.finish self.old.whole.rest (state_view self.old)) here.now result }
         ensures stays { Stays lexer.old lexer.new }
-        ensures sliced { OnOk result (Sliced (unsliced self.entry) 0 lexer.old lexer.new) }
+        ensures sliced { OnOk result (Sliced (unsliced self.old) 0 lexer.old lexer.new) }
     {
         match self.phase {
             Phase::Gap => self.finish_nodes(alloc, lexer, here),
@@ -493,31 +482,24 @@ impl<'a> Builder<'a> {
     /// The document of the nodes, where no block is open.
     #[tactic(auto, using(crate::proofs::Views::frame_pushed))]
     fn finish_nodes(
-        self,
+        &mut self,
         alloc: Global,
         lexer: &mut Lexer<'a>,
         here: &Checkpoint<'a>,
     ) -> Result<KdlDocument, LexFailure>
-        requires from { Ahead self.from here.now }
+        requires from { Ahead self.old.from here.now }
         requires end { here.now.rest ≡ [] }
-        ensures finished { Finished (machine.at_end self.entry.whole.rest (nodes_view self.entry.nodes) (frames_view self.entry) self.entry.from.rest) here.now result }
+        ensures finished { Finished (machine.at_end self.old.whole.rest (nodes_view self.old.nodes) (frames_view self.old) self.old.from.rest) here.now result }
         ensures stays { Stays lexer.old lexer.new }
-        ensures sliced { OnOk result (Sliced (bytes self.entry.from.rest) 0 lexer.old lexer.new) }
+        ensures sliced { OnOk result (Sliced (bytes self.old.from.rest) 0 lexer.old lexer.new) }
     {
-        let Builder {
-            whole,
-            nodes,
-            mut frames,
-            from,
-            ..
-        } = self;
-        if let Some(_) = frames.pop() {
+        if let Some(_) = self.frames.pop() {
             return Err(LexFailure::Faulty(misplaced(here)));
         }
-        let Some(nodes) = nodes else {
+        let Some(nodes) = self.nodes.take() else {
             return Err(LexFailure::Faulty(misplaced(here)));
         };
-        let place = text_between(alloc, lexer, &from, here)?;
-        Ok(content(alloc, &whole, nodes, place, here))
+        let place = text_between(alloc, lexer, &self.from, here)?;
+        Ok(content(alloc, &self.whole, nodes, place, here))
     }
 }

@@ -1,5 +1,5 @@
-//! Laws: of the written grammar of documents and nodes; of what an edit changes in the printed text; of equality, hashes
-//! and copies.
+//! Laws: of the written grammar of documents and nodes; of what an edit changes in the printed text; of equality,
+//! hashes and copies.
 
 pub use kdl_grammar::laws::{
     answers, answers_are_laid, edited_is_laid, former_is_kept, laid_is_derived,

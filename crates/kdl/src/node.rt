@@ -1,6 +1,6 @@
 //! Nodes.
 
-ghost use Rattle.kdl_grammar.specs.Tree.{node, no_children, children_of};
+ghost use Rattle.kdl_grammar.specs.Tree.{node, children_of};
 ghost use Rattle.kdl.specs.Tree.{head_tree, node_tree, document_tree, node_format_tree};
 ghost use Rattle.kdl.specs.NodeText.{alone};
 ghost use Rattle.kdl_grammar.specs.Print.{print_node, print_head, before_block, end_text};

@@ -1,11 +1,10 @@
 //! Documents, read from the tokens of a text one by one.
 
 ghost use Rattle.kdl.specs.Answered.{BuildAnswers, ReadAnswers};
-ghost use Rattle.kdl_grammar.specs.Laid.{with_mark};
-ghost use Rattle.kdl.specs.Building.{EndsIn};
-ghost use Rattle.kdl.specs.Counted.{ReadThrough, Counted};
+ghost use Rattle.kdl_grammar.specs.Machine.{initial};
+ghost use Rattle.kdl.specs.Building.{EndsIn, state_view};
+ghost use Rattle.kdl.specs.Counted.{ReadThrough, Counted, unsliced};
 ghost use Rattle.kdl.specs.Tree.{document_tree};
-ghost use Rattle.kdl_text.specs.Chars.{begins};
 ghost use Rattle.kdl_text.specs.Here.{bytes, raise};
 ghost use Rattle.std.specs.Prelude.{◌≡◌, ◌+◌, ◌*◌, ◌≤◌, length, IfOk, OnOk};
 ghost use Rattle.std.specs.Str.{chars};
@@ -21,8 +20,28 @@ use kdl_text::error::ParseFailure;
 use std::alloc::Global;
 use std::mem;
 
-/// The machine's answer on what the lexer has before it, the text or what follows its U+FEFF.
+/// The machine's answer on what the lexer has before it, by a builder that has seen no token yet.
 #[tactic(auto, using(crate::proofs::Counting::counting_starts, crate::proofs::Counting::counting_ends, crate::proofs::TokenTurns::starts, crate::proofs::TokenTurns::goes_on, crate::proofs::TokenTurns::placed_start, crate::proofs::TokenTurns::start_end, crate::proofs::TokenTurns::lexer_told, crate::proofs::TokenTurns::take_told, crate::proofs::TokenTurns::all_read, crate::proofs::TokenTurns::stops_going, crate::proofs::TokenTurns::from_now, crate::proofs::TokenTurns::finish_told, crate::proofs::TokenTurns::nearer))]
+fn build_with<'a>(
+    alloc: Global,
+    builder: &mut Builder<'a>,
+    lexer: &mut Lexer<'a>,
+) -> Result<KdlDocument, LexFailure>
+    requires state { state_view builder.old ≡ initial lexer.old.rest }
+    requires unsliced { unsliced builder.old ≡ bytes lexer.old.rest }
+    requires text { EndsIn builder.old.whole.rest lexer.old.rest }
+    requires at { lexer.old.at + bytes lexer.old.rest ≡ bytes builder.old.whole.rest }
+    ensures answers { BuildAnswers builder.old.whole.rest lexer.old.rest result }
+    ensures counted { OnOk result (ReadThrough lexer.old lexer.new) }
+    ensures counts { raise lexer.old.steps 0 ≤ raise lexer.new.steps 0 }
+{
+    'tokens: while let Some(token) = lexer.next(alloc)? {
+        builder.take(alloc, lexer, token)?;
+    }
+    builder.finish(alloc, lexer)
+}
+
+/// The machine's answer on what the lexer has before it, the text or what follows its U+FEFF.
 fn build<'a>(
     alloc: Global,
     whole: Checkpoint<'a>,
@@ -35,18 +54,7 @@ fn build<'a>(
     ensures counts { raise lexer.old.steps 0 ≤ raise lexer.new.steps 0 }
 {
     let mut builder = Builder::new(alloc, whole, lexer.checkpoint());
-    'tokens: loop {
-        match lexer.next(alloc) {
-            Ok(Some(token)) => {
-                if let Err(failure) = builder.take(alloc, lexer, token) {
-                    return Err(failure);
-                }
-            }
-            Ok(None) => break,
-            Err(failure) => return Err(failure),
-        }
-    }
-    builder.finish(alloc, lexer)
+    build_with(alloc, &mut builder, lexer)
 }
 
 /// The machine's answer on the text that the lexer is at the start of.

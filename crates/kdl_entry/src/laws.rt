@@ -36,8 +36,8 @@ fn number_fits(number: i128)
     ensures { FitsSigned w128 number }
 {}
 
-/// Every value in memory is well formed: its text is of Unicode scalar values, its whole number has 128 bits with a sign,
-/// its float's text is a float's.
+/// Every value in memory is well formed: its text is of Unicode scalar values, its whole number has 128 bits with a
+/// sign, its float's text is a float's.
 pub fn values_are_well_formed(value: &KdlValue)
     ensures { IsWellFormed (value_tree value.now) }
 {

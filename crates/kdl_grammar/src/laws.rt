@@ -56,22 +56,23 @@ pub fn nodes_are_laid()
     ensures { NodesAreLaid }
 {}
 
-/// What the former language reads, in which spaces stood before each slashdash, the present one reads with the same data.
+/// What the former language reads, in which spaces stood before each slashdash, the present one reads with the same
+/// data.
 #[tactic(auto, using(crate::proofs::LawProofs::former_is_kept))]
 pub fn former_is_kept()
     ensures { FormerIsKept }
 {}
 
-/// A document that is laid in its own printed text, with the spellings and the forms that it prints, reads back: the text
-/// is a document with its data.
+/// A document that is laid in its own printed text, with the spellings and the forms that it prints, reads back: the
+/// text is a document with its data.
 #[tactic(auto, using(crate::proofs::Formed::reads_back))]
 pub fn reads_back()
     ensures { ReadsBack }
 {}
 
 /// Where a document is laid, each document that differs from it, spans aside, in its nodes' entries alone, at each node
-/// some of its own entries and entries without format and spelling in any order, reads back from the text that it prints,
-/// and is laid there with the spellings and the forms that it prints.
+/// some of its own entries and entries without format and spelling in any order, reads back from the text that it
+/// prints, and is laid there with the spellings and the forms that it prints.
 #[tactic(auto, using(crate::proofs::Formed::edited_is_laid))]
 pub fn edited_is_laid()
     ensures { EditedIsLaid }

@@ -8,7 +8,7 @@ ghost use Rattle.kdl_text.specs.Here.{Here, Ahead, Behind, Skips, Took, Ate, Ate
 ghost use Rattle.kdl_text.specs.Reading.{Moves, Costs, ReadsNewline};
 ghost use Rattle.kdl_text.specs.Spans as spans;
 ghost use Rattle.std.specs.Char.{len_utf8};
-ghost use Rattle.std.specs.Prelude.{◌≡◌, ℕ, Bool, true, ◌+◌, ◌-◌, ◌<◌, ◌≤◌, ◌^◌, ◌++◌, ◌∷◌, [], length, MatchOption, IfSome, IfOk, IsTrue, ◌↔◌, string_bytes};
+ghost use Rattle.std.specs.Prelude.{◌≡◌, ℕ, Bool, true, ◌+◌, ◌-◌, ◌<◌, ◌^◌, ◌++◌, ◌∷◌, [], length, MatchOption, IfSome, IfOk, IsTrue, ◌↔◌, string_bytes};
 ghost use Rattle.std.specs.Str.{chars, IsUtf8};
 
 use crate::span::SourceSpan;

@@ -7,7 +7,7 @@ ghost use Rattle.kdl_text.specs.NumberReading.{radix_of, IsBase, LooksMark, Coun
 ghost use Rattle.kdl_text.specs.Numbers as spec;
 ghost use Rattle.kdl_text.specs.Numbers.{Sign, BaseMark, Decimal, FloatKeyword, FloatText};
 ghost use Rattle.kdl_text.specs.Reading.{Moves, Costs};
-ghost use Rattle.std.specs.Prelude.{◌≡◌, ℕ, ◌+◌, ◌*◌, ◌<◌, ◌≤◌, ◌||◌, not, IfOk, if◌then◌else◌, Bool, ◌↔◌, IsTrue, IfSome, string_bytes, [], length, ◌==◌};
+ghost use Rattle.std.specs.Prelude.{◌≡◌, ℕ, ◌+◌, ◌*◌, ◌<◌, ◌≤◌, ◌||◌, not, IfOk, if◌then◌else◌, ◌↔◌, IsTrue, IfSome, string_bytes, [], length, ◌==◌};
 ghost use Rattle.std.specs.List.{list_all};
 ghost use Rattle.std.specs.Str.{chars};
 

@@ -1,6 +1,6 @@
 //! Trivia: comments, spaces, esclines, and the mark of a slashdash.
 
-ghost use Rattle.kdl_text.specs.Chars.{Text, begins, begins_two, Space};
+ghost use Rattle.kdl_text.specs.Chars.{begins, begins_two, Space};
 ghost use Rattle.kdl_text.specs.Here.{AteTwo};
 ghost use Rattle.kdl_text.specs.Reading.{Reads, Moves, Costs, Longest};
 ghost use Rattle.kdl_text.specs.Trivia.{Parts, BlockComment, Line, LineComment, EscEnd};
@@ -12,7 +12,8 @@ use crate::chars::{Class, Cursor, is_space, newline};
 #[cfg(test)]
 mod tests;
 
-/// What is wrong where a space or a comment should be, with the offset of the piece in bytes from the start of the text.
+/// What is wrong where a space or a comment should be, with the offset of the piece in bytes from the start of the
+/// text.
 #[derive(Clone, Copy, Debug, PartialEq, Eq)]
 pub enum TriviaFault {
     /// A block comment isn't closed (KDL 2.0.0, Multi-line Comments).
@@ -76,7 +77,8 @@ fn block_end(cursor: &mut Cursor) -> bool
     }
 }
 
-/// Goes past the block comment that begins here (KDL 2.0.0, Multi-line Comments). False: it isn't closed, and the cursor is at the end.
+/// Goes past the block comment that begins here (KDL 2.0.0, Multi-line Comments). False: it isn't closed, and the
+/// cursor is at the end.
 pub fn block_comment(cursor: &mut Cursor) -> bool
     requires { begins_two 47 42 cursor.old.rest ≡ true }
     ensures reads { Reads BlockComment result cursor.old.rest cursor.new.rest }
@@ -119,7 +121,8 @@ pub fn spaces(cursor: &mut Cursor)
     cursor.skip(Class::Space);
 }
 
-/// Goes past spaces and block comments, as many as there are. An error is the offset of a block comment that isn't closed.
+/// Goes past spaces and block comments, as many as there are. An error is the offset of a block comment that isn't
+/// closed.
 fn ws_run(cursor: &mut Cursor) -> Result<(), usize>
     ensures reads { RunsWs result cursor.old cursor.new }
     ensures moves { Moves cursor.old cursor.new }
@@ -137,7 +140,8 @@ fn ws_run(cursor: &mut Cursor) -> Result<(), usize>
     }
 }
 
-/// Goes past what ends an escline: a line comment, a newline, or nothing at the end of the text. False: none of these is here.
+/// Goes past what ends an escline: a line comment, a newline, or nothing at the end of the text. False: none of these
+/// is here.
 fn escline_end(cursor: &mut Cursor) -> bool
     ensures reads { Reads EscEnd result cursor.old.rest cursor.new.rest }
     ensures moves { Moves cursor.old cursor.new }

@@ -1,40 +1,31 @@
 //! Nodes, blocks and documents by their parts.
 
-ghost use Rattle.kdl.specs.Answered.{Finished};
 ghost use Rattle.kdl_grammar.specs.Machine as machine;
-ghost use Rattle.kdl_grammar.specs.Machine.{at, initial};
-ghost use Rattle.kdl.specs.Building.{under_view, kept_view, nodes_view, frame_view, stacked, under_now, node_now, frames_view, pending_now, name_slot, entry_slot, valued_at, item_answer, state_view, held, Did, EndsIn, Placed};
-ghost use Rattle.kdl.specs.Counted.{up_to, unsliced};
+ghost use Rattle.kdl_grammar.specs.Machine.{at};
+ghost use Rattle.kdl.specs.Building.{under_view, kept_view, nodes_view, under_now, valued_at};
+ghost use Rattle.kdl.specs.Counted.{up_to};
 ghost use Rattle.kdl_grammar.specs.Laid as laid;
 ghost use Rattle.kdl_grammar.specs.Laid.{node_format};
-ghost use Rattle.kdl_grammar.specs.Tree.{node, none, no_children, children, children_of};
-ghost use Rattle.kdl.specs.Tree.{node_tree, nodes_tree, document_tree, node_format_tree, document_format_tree};
-ghost use Rattle.kdl_entry.specs.Building.{type_view, key_view, item_view, Stays};
+ghost use Rattle.kdl_grammar.specs.Tree.{node, no_children, children_of};
+ghost use Rattle.kdl.specs.Tree.{node_tree, nodes_tree, document_tree};
+ghost use Rattle.kdl_entry.specs.Building.{type_view, item_view, Stays};
 ghost use Rattle.kdl_entry.specs.Counted.{Sliced};
-ghost use Rattle.kdl_entry.specs.Data.{text};
-ghost use Rattle.kdl_entry.specs.Handed.{kind_view};
 ghost use Rattle.kdl_entry.specs.Items as items;
 ghost use Rattle.kdl_entry.specs.Items.{between, type_of, before_name, after_name, behind_type};
-ghost use Rattle.kdl_entry.specs.Places.{span_of};
-ghost use Rattle.kdl_entry.specs.Tree.{identifier_tree, plain_identifier, entry_tree, value_tree, text_of};
+ghost use Rattle.kdl_entry.specs.Tree.{identifier_tree, entry_tree, text_of};
 ghost use Rattle.kdl_text.specs.Here.{Ahead, bytes};
-ghost use Rattle.kdl.specs.declared.builder.Phase.{Phase};
 ghost use Rattle.kdl.specs.declared.builder.Waiting.{Waiting};
-ghost use Rattle.std.specs.Prelude.{◌≡◌, ◌+◌, if◌then◌else◌, [], ◌∷◌, map, Some, None, true, false, IfOk, OnOk, option_map};
+ghost use Rattle.std.specs.Prelude.{◌≡◌, [], map, Some, None, true, IfOk, OnOk, option_map};
 
-use super::{Frame, Kept, Phase, Under, Waiting, WaitingWord};
+use super::{Kept, Under, Waiting, WaitingWord};
 use crate::document::{KdlDocument, KdlDocumentFormat};
 use crate::node::{KdlNode, KdlNodeFormat};
-use kdl_entry::items::item::{
-    Given, Item, KeyParts, Stage, TypeParts, empty, entry_from, identifier_between, misplaced,
-    span_at, text_between,
-};
-use kdl_entry::items::{LexFailure, Lexer, Token, TokenKind};
-use kdl_entry::{KdlEntry, KdlIdentifier, KdlValue};
+use kdl_entry::KdlValue;
+use kdl_entry::items::Lexer;
+use kdl_entry::items::item::{Item, Stage, TypeParts, empty, entry_from, span_at, text_between};
 use kdl_text::chars::Checkpoint;
 use kdl_text::span::SourceSpan;
 use std::alloc::{AllocError, Global};
-use std::mem;
 
 /// Makes room for one more: a full list doubles, from one on.
 pub(super) fn make_room<T>(items: &mut Vec<T>) -> Result<(), AllocError>

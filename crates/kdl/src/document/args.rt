@@ -1,7 +1,6 @@
 //! The iterators over the arguments of a node, and of its children named `-`.
 
 ghost use Rattle.kdl.specs.DocumentLookups.{arguments, arguments_of, dash_arguments, dash_arguments_of, node_named};
-ghost use Rattle.kdl.specs.EntryLists.{is_argument};
 ghost use Rattle.kdl.specs.Iterators.{child_nodes};
 ghost use Rattle.kdl_entry.specs.Tree.{value_tree};
 ghost use Rattle.std.specs.Iterator.{UpTo, at_most};
@@ -32,7 +31,8 @@ impl KdlDocument {
         }
     }
 
-    /// The value of the first argument of each child named `-` that has one, in order, among the children of the first node of that name; none where there is no such node.
+    /// The value of the first argument of each child named `-` that has one, in order, among the children of the first
+    /// node of that name; none where there is no such node.
     pub fn iter_dash_args(&self, name: &str) -> DashArgsIter<'_>
         ensures { result ≡ dash_arguments_of (node_named name.now self.now) }
     {

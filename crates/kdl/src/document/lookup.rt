@@ -1,6 +1,6 @@
 //! Look-ups of nodes by their name.
 
-ghost use Rattle.kdl.specs.DocumentLookups.{argument_named, argument_place, first_argument, node_named, node_place, nodes_of, with_argument_there, with_node_there};
+ghost use Rattle.kdl.specs.DocumentLookups.{argument_named, argument_place, first_argument, node_named, node_place, with_argument_there, with_node_there};
 ghost use Rattle.kdl.specs.EntryLists.{is_node_named};
 ghost use Rattle.kdl.specs.contracts.document.KdlDocument.{the_row};
 ghost use Rattle.kdl.specs.contracts.node.KdlNode.{the_row as node_row};
@@ -75,7 +75,8 @@ impl KdlDocument {
         }
     }
 
-    /// The value that `get_arg` gives, to be changed in place. The entry's format, with the spelling of the value, and all else stay as they are.
+    /// The value that `get_arg` gives, to be changed in place. The entry's format, with the spelling of the value, and
+    /// all else stay as they are.
     pub fn get_arg_mut(&mut self, name: &str) -> Option<&mut KdlValue>
         ensures* writes_back { sem 𝓛 (LendsIf the_row value_row self.entry result (with_argument_there (node_place name.now self.old) self.old) self.old) }
         ensures value { option_map (λ v. v.now) result ≡ option_map (λ e. e.value) (argument_named name.now self.old) }

@@ -9,8 +9,8 @@ ghost use Rattle.std.specs.Prelude.{IsSome, map};
 use crate::node::KdlNode;
 use kdl_entry::KdlEntry;
 
-/// Whatever entries a node with a format has, it prints the head and the tail that it had, and the pieces of the entries
-/// between them.
+/// Whatever entries a node with a format has, it prints the head and the tail that it had, and the pieces of the
+/// entries between them.
 #[tactic(auto, using(crate::proofs::EditLaws::entries_exchanged))]
 pub fn entries_exchanged()
     ensures { EntriesExchanged }

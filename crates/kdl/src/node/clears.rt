@@ -11,8 +11,8 @@ use crate::node::KdlNode;
 use kdl_entry::KdlEntry;
 
 impl KdlNode {
-    /// Drops the node's format, the spelling of its name, the formats and spellings of its entries, and likewise those of
-    /// all nodes below it and the formats of the child documents. The spelling of the type stays, at each depth.
+    /// Drops the node's format, the spelling of its name, the formats and spellings of its entries, and likewise those
+    /// of all nodes below it and the formats of the child documents. The spelling of the type stays, at each depth.
     #[cycle(clear)]
     pub fn clear_format_recursive(&mut self)
         ensures { node_tree self.new ≡ cleared_node (node_tree self.old) }

@@ -37,8 +37,8 @@ impl KdlNode {
         self.entries.is_empty()
     }
 
-    /// The entries, to be changed in place. All else stays as it is: of a node with a format, what is printed before the
-    /// entries and behind them too.
+    /// The entries, to be changed in place. All else stays as it is: of a node with a format, what is printed before
+    /// the entries and behind them too.
     pub fn entries_mut(&mut self) -> &mut Vec<KdlEntry>
         ensures* writes_back { sem 𝓛 (Lends the_row entries_row self.entry result (with_entries self.old)) }
         ensures value { result.now ≡ (out-KdlNode self.old).entries }
@@ -54,7 +54,8 @@ impl KdlNode {
         self.entries.clear();
     }
 
-    /// Puts the entry behind the others. Fails where memory is wanting: then the entry comes back, and the node is as it was.
+    /// Puts the entry behind the others. Fails where memory is wanting: then the entry comes back, and the node is as
+    /// it was.
     #[tactic(auto, using(crate::proofs::EditLaws::entries_same))]
     pub fn push(&mut self, entry: KdlEntry) -> Result<(), (KdlEntry, AllocError)>
         ensures items { (out-KdlNode self.new).entries.items ≡ (if is_ok result then (out-KdlNode self.old).entries.items ++ (entry ∷ []) else (out-KdlNode self.old).entries.items) }
@@ -68,13 +69,14 @@ impl KdlNode {
         }
     }
 
-    /// Puts the entry in under the key. Under a name, an entry without a name takes it; the last property whose name has
-    /// that value is replaced in place and handed back, and where there is none the entry goes last. Under an index it goes
-    /// directly before the argument at that place among the arguments, or last where there are as many arguments.
+    /// Puts the entry in under the key. Under a name, an entry without a name takes it; the last property whose name
+    /// has that value is replaced in place and handed back, and where there is none the entry goes last. Under an index
+    /// it goes directly before the argument at that place among the arguments, or last where there are as many
+    /// arguments.
     ///
     /// The entry has no name, or under a name one of equal value; the index is at most the number of arguments. A
-    /// replacement takes no memory. Else it fails where memory is wanting: then the entry comes back, with the key for its
-    /// name where it had none, and the node is as it was.
+    /// replacement takes no memory. Else it fails where memory is wanting: then the entry comes back, with the key for
+    /// its name where it had none, and the node is as it was.
     pub fn insert(
         &mut self,
         key: NodeKey,
@@ -111,8 +113,8 @@ impl KdlNode {
         }
     }
 
-    /// Keeps, in order, the entries for which `keep` answers true. It is asked once for each entry, in order. All else stays
-    /// as it is.
+    /// Keeps, in order, the entries for which `keep` answers true. It is asked once for each entry, in order. All else
+    /// stays as it is.
     pub fn retain<F: FnMut(&KdlEntry) -> bool>(&mut self, keep: F)
         requires { F.IsAlwaysCallable keep }
         ensures items { IsFiltered (CalledAt F.FnMut) keep (out-KdlNode self.old).entries.items (out-KdlNode self.new).entries.items }
@@ -121,8 +123,8 @@ impl KdlNode {
         self.entries.retain(keep);
     }
 
-    /// Sorts the entries by `compare`, a total preorder; entries that compare as equal keep their order. Fails where memory
-    /// is wanting: then the entries are in some order.
+    /// Sorts the entries by `compare`, a total preorder; entries that compare as equal keep their order. Fails where
+    /// memory is wanting: then the entries are in some order.
     pub fn sort_by<F: FnMut(&KdlEntry, &KdlEntry) -> Ordering>(
         &mut self,
         compare: F,
@@ -136,8 +138,8 @@ impl KdlNode {
         self.entries.sort_by(compare)
     }
 
-    /// Sorts the entries by the key that `f` gives of each; entries with equal keys keep their order. Fails where memory is
-    /// wanting: then the entries are in some order.
+    /// Sorts the entries by the key that `f` gives of each; entries with equal keys keep their order. Fails where
+    /// memory is wanting: then the entries are in some order.
     pub fn sort_by_key<K: Ord, F: FnMut(&KdlEntry) -> K>(&mut self, f: F) -> Result<(), AllocError>
     where
         K: Drop,

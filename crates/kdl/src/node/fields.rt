@@ -19,8 +19,8 @@ use kdl_text::span::SourceSpan;
 use std::alloc::{AllocError, Global};
 
 impl KdlNode {
-    /// A node of that name, without a type, entries and children. The texts of its format are empty, but for the trailing
-    /// one, which is one newline; the span is 0 of length 0. Fails where memory is wanting.
+    /// A node of that name, without a type, entries and children. The texts of its format are empty, but for the
+    /// trailing one, which is one newline; the span is 0 of length 0. Fails where memory is wanting.
     pub fn new(name: KdlIdentifier) -> Result<KdlNode, AllocError>
         ensures { IfOk result (λ n. node_tree n ≡ new_node (identifier_tree name)) }
     {

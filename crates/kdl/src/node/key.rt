@@ -18,7 +18,8 @@ pub enum NodeKey {
 }
 
 impl NodeKey {
-    /// The key of the properties whose name is a copy of the text. Fails where memory is wanting; an empty text takes none.
+    /// The key of the properties whose name is a copy of the text. Fails where memory is wanting; an empty text takes
+    /// none.
     pub fn from_text(alloc: Global, name: &str) -> Result<NodeKey, AllocError>
         ensures { IfOk result (λ k. sought k ≡ property (plain_identifier (chars name.now))) }
     {

@@ -1,13 +1,11 @@
 //! Look-ups of entries by the name of a property, or by the place of an argument.
 
 ghost use Rattle.kdl.specs.Change.{with_value};
-ghost use Rattle.kdl.specs.EntryLists.{has_name, is_argument, last_place, nth_place, place_of};
 ghost use Rattle.kdl.specs.Lookups.{entries_of, entry_there, key_place, property_place, value_there, with_entry_there, with_value_there, HasProperty, HasSameEntries, HasWritten};
-ghost use Rattle.kdl.specs.declared.node.KdlNode.{out-KdlNode};
 ghost use Rattle.kdl.specs.declared.node.key.NodeKey.TheVariants.{Index as at_index};
 ghost use Rattle.kdl_entry.specs.Tree.{or_null, value_tree};
 ghost use Rattle.std.specs.Borrow.{Lends, LendsIf, LendsSoOk, sem};
-ghost use Rattle.std.specs.Prelude.{◌≡◌, ◌<◌, IfErr, IfOk, IfSome, IsSome, OnErr, Some, is_some, length, option_map, slice_get};
+ghost use Rattle.std.specs.Prelude.{◌≡◌, ◌<◌, IfErr, IfOk, IsSome, Some, is_some, length, option_map, slice_get};
 
 use crate::node::KdlNode;
 use crate::node::key::NodeKey;
@@ -17,7 +15,8 @@ use std::alloc::AllocError;
 use std::ops::{Index, IndexMut};
 
 impl KdlNode {
-    /// The entry that the key finds: the last property whose name has the key's value, or the argument at the key's place among the arguments.
+    /// The entry that the key finds: the last property whose name has the key's value, or the argument at the key's
+    /// place among the arguments.
     pub fn entry(&self, key: NodeKey) -> Option<&KdlEntry>
         ensures { option_map (λ e. e.now) result ≡ entry_there (key_place key self.now) self.now }
     {
@@ -27,7 +26,8 @@ impl KdlNode {
         }
     }
 
-    /// The value of the entry that the key finds: of the last property whose name has the key's value, or of the argument at the key's place among the arguments.
+    /// The value of the entry that the key finds: of the last property whose name has the key's value, or of the
+    /// argument at the key's place among the arguments.
     pub fn get(&self, key: NodeKey) -> Option<&KdlValue>
         ensures { option_map (λ v. value_tree v.now) result ≡ value_there (key_place key self.now) self.now }
     {
@@ -37,7 +37,8 @@ impl KdlNode {
         }
     }
 
-    /// Whether the node has a property of that name. The name's value counts, not its spelling. Then `node[name]` is there.
+    /// Whether the node has a property of that name. The name's value counts, not its spelling. Then `node[name]` is
+    /// there.
     pub fn has_property(&self, name: &str) -> bool
         ensures { result ≡ is_some (property_place name.now self.now) }
     {
@@ -61,7 +62,8 @@ impl KdlNode {
         }
     }
 
-    /// The value that `get` gives, to be changed in place. The entry's format, with the spelling of the value, and all else stay as they are.
+    /// The value that `get` gives, to be changed in place. The entry's format, with the spelling of the value, and all
+    /// else stay as they are.
     pub fn get_mut(&mut self, key: NodeKey) -> Option<&mut KdlValue>
         ensures* writes_back { sem 𝓛 (LendsIf the_row value_row self.entry result (with_value_there (key_place key self.old) self.old) self.old) }
         ensures value { option_map (λ v. v.now) result ≡ option_map (λ e. e.value) (entry_there (key_place key self.old) self.old) }
@@ -72,7 +74,8 @@ impl KdlNode {
         }
     }
 
-    /// The value of the last property of that name, to be changed in place; a property of that name with the value null is pushed first where there is none. Fails where memory for it is wanting: then the entries are as they were.
+    /// The value of the last property of that name, to be changed in place; a property of that name with the value null
+    /// is pushed first where there is none. Fails where memory for it is wanting: then the entries are as they were.
     pub fn get_or_null_mut(&mut self, name: &str) -> Result<&mut KdlValue, AllocError>
         ensures* writes_back { sem 𝓛 (LendsSoOk the_row value_row self.entry result (λ n w. HasWritten (property_place name.now self.old) name.now self.old w n) (λ n. HasSameEntries self.old n)) }
         ensures value { IfOk result (λ v. value_tree v.now ≡ or_null (value_there (property_place name.now self.old) self.old)) }

@@ -29,23 +29,19 @@ fn is_line_space(kind: &TokenKind) -> bool
     matches!(kind, TokenKind::Space | TokenKind::Newline)
 }
 
-/// Reads line-spaces to the end of the text. A fault at the first token that is none, or the first piece that is no token.
+/// Reads line-spaces to the end of the text. A fault at the first token that is none, or the first piece that is no
+/// token.
 #[tactic(auto, using(crate::proofs::LineSpaces::lines_start, crate::proofs::LineSpaces::lines_fail, crate::proofs::LineSpaces::lines_nearer))]
 fn line_spaces(alloc: Global, text: &str) -> Result<(), LexFailure>
     ensures { AreLineSpaces (chars text.now) result }
 {
     let mut lexer = Lexer::new(text, Steps::new());
-    'tokens: loop {
-        match lexer.next(alloc) {
-            Ok(Some(token)) => {
-                if !is_line_space(&token.kind) {
-                    return Err(LexFailure::Faulty(misplaced(&token.start)));
-                }
-            }
-            Ok(None) => return Ok(()),
-            Err(failure) => return Err(failure),
+    'tokens: while let Some(token) = lexer.next(alloc)? {
+        if !is_line_space(&token.kind) {
+            return Err(LexFailure::Faulty(misplaced(&token.start)));
         }
     }
+    Ok(())
 }
 
 /// A fault at the span.

@@ -2,10 +2,9 @@
 
 ghost use Rattle.kdl_entry.specs.Building.{item_view, Stays};
 ghost use Rattle.kdl_entry.specs.EntryMachine as machine;
-ghost use Rattle.kdl_entry.specs.EntryMachine.{argument_of, came, ended, finish, keyed_item, made, opened_item, step, word_at};
+ghost use Rattle.kdl_entry.specs.EntryMachine.{argument_of, ended, finish, keyed_item, made, opened_item, step, word_at};
 ghost use Rattle.kdl_entry.specs.EntryReading.{word_view, state_view, Answers, Stands, Stepped, Ended};
 ghost use Rattle.kdl_entry.specs.Handed.{kind_view};
-ghost use Rattle.kdl_entry.specs.Items as items;
 ghost use Rattle.kdl_entry.specs.Items.{between};
 ghost use Rattle.kdl_entry.specs.Tree.{entry_tree, identifier_tree, text_of, value_tree};
 ghost use Rattle.kdl_text.specs.Here.{Ahead};
@@ -417,15 +416,8 @@ fn read_tokens<'a>(
     ensures { Answers whole.now.rest result }
 {
     let mut state = State::Start;
-    'tokens: loop {
-        match lexer.next(alloc) {
-            Ok(Some(token)) => match state.take(alloc, lexer, whole, token) {
-                Ok(next) => state = next,
-                Err(failure) => return Err(failure),
-            },
-            Ok(None) => break,
-            Err(failure) => return Err(failure),
-        }
+    'tokens: while let Some(token) = lexer.next(alloc)? {
+        state = state.take(alloc, lexer, whole, token)?;
     }
     let here = lexer.checkpoint();
     match state.finish(alloc, lexer, whole)? {

@@ -8,7 +8,7 @@ ghost use Rattle.kdl_entry.specs.Handed.{kind_view, IsFaultAt};
 ghost use Rattle.kdl_entry.specs.Items as spec;
 ghost use Rattle.kdl_entry.specs.Items.{between, entry_at, identifier_at};
 ghost use Rattle.kdl_entry.specs.Places.{span_of};
-ghost use Rattle.kdl_entry.specs.Tree.{entry_tree, identifier_tree, value_tree, text_of, plain_identifier};
+ghost use Rattle.kdl_entry.specs.Tree.{entry_tree, identifier_tree, value_tree, text_of};
 ghost use Rattle.kdl_text.specs.Here.{Ahead, bytes};
 ghost use Rattle.std.specs.Prelude.{◌≡◌, if◌then◌else◌, [], Some, None, true, false, IfOk, OnOk, option_map};
 

@@ -5,7 +5,7 @@ ghost use Rattle.kdl_text.specs.Raw.{IsRaw, RawUnit, RawContent, RawPart, MultiL
 ghost use Rattle.kdl_text.specs.Reading.{Moves, Costs};
 ghost use Rattle.kdl_text.specs.declared.strings.StringFailure.TheVariants.{Memory};
 ghost use Rattle.kdl_text.specs.declared.strings.dedent.LineUnit.{LineUnit};
-ghost use Rattle.std.specs.Prelude.{◌≡◌, ◌<◌, ◌≤◌, ◌++◌, ◌∷◌, List, ℕ, false, string_bytes, IfOk, IfErr, MatchResult};
+ghost use Rattle.std.specs.Prelude.{◌≡◌, ◌<◌, ◌≤◌, ◌++◌, ◌∷◌, List, false, string_bytes, IfOk, IfErr, MatchResult};
 ghost use Rattle.std.specs.Str.{chars};
 
 use crate::chars::{Class, Cursor, Piece, Steps, is_newline_char, is_raw, newline};

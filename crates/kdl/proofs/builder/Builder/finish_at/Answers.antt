@@ -9,13 +9,13 @@ use Rattle.kdl.proofs.builder.Builder.finish_at.Goals as goal
 
 pub finish_nodes-requires-in-Fresh-clause-from : goal.finish_nodes-requires-in-Fresh-clause-from
 finish_nodes-requires-in-Fresh-clause-from c =
-    origin_ends (node_now c.args.self) c.args.self.from.rest c.end_node.new.self.from.rest c.args.here.now.rest (ap from_of c.in_ok-end_node-in-Fresh.ensures.ended ∙ ap (λ (z : Spot). origin (node_now c.args.self) c.args.self.from.rest z.rest) c.copied.ensures) c.requires.from
+    origin_ends (node_now c.args.self.now) c.args.self.now.from.rest c.end_node.new.self.from.rest c.args.here.now.rest (ap from_of c.in_ok-end_node-in-Fresh.ensures.ended ∙ ap (λ (z : Spot). origin (node_now c.args.self.now) c.args.self.now.from.rest z.rest) c.copied.ensures) c.requires.from
 
 pub finish_nodes-requires-in-Behind-clause-from : goal.finish_nodes-requires-in-Behind-clause-from
 finish_nodes-requires-in-Behind-clause-from c =
-    origin_ends (option_map kept_view c.args.self.kept) c.args.self.from.rest c.end_kept.new.self.from.rest c.args.here.now.rest (ap from_of c.in_ok-end_kept-in-Behind.ensures.ended ∙ ap (λ (z : Spot). origin (option_map kept_view c.args.self.kept) c.args.self.from.rest z.rest) c.copied-in-Behind.ensures) c.requires.from
+    origin_ends (option_map kept_view c.args.self.now.kept) c.args.self.now.from.rest c.end_kept.new.self.from.rest c.args.here.now.rest (ap from_of c.in_ok-end_kept-in-Behind.ensures.ended ∙ ap (λ (z : Spot). origin (option_map kept_view c.args.self.now.kept) c.args.self.now.from.rest z.rest) c.copied-in-Behind.ensures) c.requires.from
 
 pub returns-in-InItem-clause-finished : goal.returns-in-InItem-clause-finished
 returns-in-InItem-clause-finished c =
-    let self = c.args.self in
+    let self = c.args.self.now in
     (rw c.in-InItem.is (unfinished self.whole.rest (item_view self.item) (option_map under_view self.under) (nodes_view self.nodes) (frames_view self) self.from.rest), c.misplaced.ensures)
