@@ -231,16 +231,20 @@ fn entries(rt: HostRuntime) -> Result<(), Fail> {
     check_entries(&rt, alloc, &mut property(alloc)?)
 }
 
-fn check_formats_count(rt: &impl Abort, entry: &KdlEntry, other: &mut KdlEntry) {
+fn check_formats_count(rt: &impl Abort, entry: &mut KdlEntry, other: &mut KdlEntry) {
     assert!(rt; *entry == *other);
-    other.clear_format();
+    entry.keep_format();
+    entry.autoformat();
+    entry.autoformat();
     assert!(rt; *entry != *other);
+    other.clear_format();
+    assert!(rt; *entry == *other);
 }
 
 #[test]
 fn formats_count(rt: HostRuntime) -> Result<(), Fail> {
     let alloc = rt.alloc();
-    check_formats_count(&rt, &property(alloc)?, &mut property(alloc)?);
+    check_formats_count(&rt, &mut property(alloc)?, &mut property(alloc)?);
     Ok(())
 }
 
