@@ -1,18 +1,13 @@
 //! Documents: what is read, what is refused, and that a document prints its text.
 
-use crate::reprinted;
-use kdl::{KdlDocument, KdlEntry, KdlNode, ParseFailure, Severity};
+use crate::reading::{
+    NEWLINES, SPACES, has_ends, has_margins, has_places, is_called, is_string, is_whole,
+    lone_entry, lone_node, read,
+};
+use kdl::{KdlDocument, KdlNode, ParseFailure, Severity};
 use std::alloc::Global;
 use std::process::Abort;
 use std::test::Fail;
-
-/// The document of a text, which prints it.
-fn read(rt: &impl Abort, alloc: Global, text: &str) -> Result<KdlDocument, Fail> {
-    let document = KdlDocument::parse(alloc, text)?;
-    let printed = reprinted(alloc, text)?;
-    assert_eq!(rt; printed.as_str(), text);
-    Ok(document)
-}
 
 /// A text that is refused, with one diagnostic.
 fn refuse(rt: &impl Abort, alloc: Global, text: &str) {
@@ -34,110 +29,70 @@ fn refuse(rt: &impl Abort, alloc: Global, text: &str) {
     }
 }
 
-/// The text in front of an entry, and the spelling of its value.
-fn places(entry: &KdlEntry) -> (&str, &str) {
-    match entry.format() {
-        Some(format) => (format.leading.as_str(), format.value_repr.as_str()),
-        None => ("none", "none"),
-    }
-}
-
-/// The texts before a node and around its end.
-fn ends(node: &KdlNode) -> (&str, &str, &str) {
-    match node.format() {
-        Some(format) => (
-            format.leading.as_str(),
-            format.before_terminator.as_str(),
-            format.terminator.as_str(),
-        ),
-        None => ("none", "none", "none"),
-    }
-}
-
-#[test]
-fn one_node_with_three_arguments(rt: HostRuntime) -> Result<(), Fail> {
-    let alloc = rt.alloc();
-    let document = read(&rt, alloc, "node 1 \"two\" three;\n")?;
-    let [node] = document.nodes() else {
-        return Err(Fail::from("not one node"));
-    };
-    assert_eq!(rt; node.name().value(), "node");
+fn check_three_arguments(rt: &impl Abort, node: &KdlNode) -> Result<(), Fail> {
+    is_called(rt, Some(node.name()), "node");
     assert!(rt; node.ty().is_none() && node.children().is_none());
+    has_ends(rt, node, "", "", ";");
     let [one, two, three] = node.entries() else {
         return Err(Fail::from("not three entries"));
     };
-    assert_eq!(rt; one.value().as_integer(), Some(1));
-    assert_eq!(rt; two.value().as_string().unwrap_or("none"), "two");
-    assert_eq!(rt; three.value().as_string().unwrap_or("none"), "three");
-    assert_eq!(rt; places(one), (" ", "1"));
-    assert_eq!(rt; places(two), (" ", "\"two\""));
-    assert_eq!(rt; places(three), (" ", "three"));
-    assert_eq!(rt; ends(node), ("", "", ";"));
-    let format = document.format().ok_or("no format")?;
-    assert_eq!(rt; format.leading.as_str(), "");
-    assert_eq!(rt; format.trailing.as_str(), "\n");
+    is_whole(rt, one, 1);
+    is_string(rt, two, "two");
+    is_string(rt, three, "three");
+    has_places(rt, one, " ", "1", "");
+    has_places(rt, two, " ", "\"two\"", "");
+    has_places(rt, three, " ", "three", "");
     Ok(())
 }
 
 #[test]
+fn one_node_with_three_arguments(rt: HostRuntime) -> Result<(), Fail> {
+    let document = read(&rt, rt.alloc(), "node 1 \"two\" three;\n")?;
+    has_margins(&rt, &document, "", "\n");
+    check_three_arguments(&rt, lone_node(&document)?)
+}
+
+#[test]
 fn a_document_without_nodes(rt: HostRuntime) -> Result<(), Fail> {
-    let alloc = rt.alloc();
-    let empty = read(&rt, alloc, "")?;
-    assert!(rt; empty.nodes().is_empty());
-    let gap = read(&rt, alloc, " \n\t\r\n")?;
-    assert!(rt; gap.nodes().is_empty());
-    let format = gap.format().ok_or("no format")?;
-    assert_eq!(rt; format.leading.as_str(), " \n\t\r\n");
-    assert_eq!(rt; format.trailing.as_str(), "");
+    for text in ["", " \n\t\r\n"] {
+        let document = read(&rt, rt.alloc(), text)?;
+        assert!(rt; document.nodes().is_empty());
+        has_margins(&rt, &document, text, "");
+    }
     Ok(())
 }
 
 #[test]
 fn an_escape_and_a_negative_number(rt: HostRuntime) -> Result<(), Fail> {
-    let alloc = rt.alloc();
-    let document = read(&rt, alloc, "\"a\\tb\" -1_0")?;
-    let [node] = document.nodes() else {
-        return Err(Fail::from("not one node"));
-    };
-    assert_eq!(rt; node.name().value(), "a\tb");
-    assert_eq!(rt; node.name().repr().unwrap_or("none"), "\"a\\tb\"");
-    let [entry] = node.entries() else {
-        return Err(Fail::from("not one entry"));
-    };
-    assert_eq!(rt; entry.value().as_integer(), Some(-10));
-    assert_eq!(rt; places(entry), (" ", "-1_0"));
-    assert_eq!(rt; ends(node), ("", "", ""));
+    let document = read(&rt, rt.alloc(), "\"a\\tb\" -1_0")?;
+    let node = lone_node(&document)?;
+    is_called(&rt, Some(node.name()), "a\tb");
+    assert_eq!(rt; node.name().repr(), Some("\"a\\tb\""));
+    let entry = lone_entry(node)?;
+    is_whole(&rt, entry, -10);
+    has_places(&rt, entry, " ", "-1_0", "");
+    has_ends(&rt, node, "", "", "");
     Ok(())
 }
 
 #[test]
 fn a_gap_and_a_sign(rt: HostRuntime) -> Result<(), Fail> {
-    let alloc = rt.alloc();
-    let document = read(&rt, alloc, " \n n + ")?;
-    let [node] = document.nodes() else {
-        return Err(Fail::from("not one node"));
-    };
-    assert_eq!(rt; ends(node), (" \n ", " ", ""));
-    let [entry] = node.entries() else {
-        return Err(Fail::from("not one entry"));
-    };
-    assert_eq!(rt; entry.value().as_string().unwrap_or("none"), "+");
+    let document = read(&rt, rt.alloc(), " \n n + ")?;
+    let node = lone_node(&document)?;
+    has_ends(&rt, node, " \n ", " ", "");
+    is_string(&rt, lone_entry(node)?, "+");
     Ok(())
 }
 
 #[test]
 fn the_least_and_the_greatest_number(rt: HostRuntime) -> Result<(), Fail> {
-    let alloc = rt.alloc();
     let text = "n -170141183460469231731687303715884105728 170141183460469231731687303715884105727";
-    let document = read(&rt, alloc, text)?;
-    let [node] = document.nodes() else {
-        return Err(Fail::from("not one node"));
-    };
-    let [least, greatest] = node.entries() else {
+    let document = read(&rt, rt.alloc(), text)?;
+    let [least, greatest] = lone_node(&document)?.entries() else {
         return Err(Fail::from("not two entries"));
     };
-    assert_eq!(rt; least.value().as_integer(), Some(i128::MIN));
-    assert_eq!(rt; greatest.value().as_integer(), Some(i128::MAX));
+    is_whole(&rt, least, i128::MIN);
+    is_whole(&rt, greatest, i128::MAX);
     Ok(())
 }
 
@@ -161,48 +116,39 @@ fn refusals(rt: HostRuntime) {
     }
 }
 
-#[test]
-fn each_newline_ends_a_node(rt: HostRuntime) -> Result<(), Fail> {
-    let alloc = rt.alloc();
-    let newlines = [
-        "\r\n", "\r", "\n", "\u{85}", "\u{b}", "\u{c}", "\u{2028}", "\u{2029}",
-    ];
-    for newline in newlines {
-        let text = format!(in alloc; "a{newline}b")?;
-        let document = read(&rt, alloc, &text)?;
-        let [first, second] = document.nodes() else {
-            return Err(Fail::from("not two nodes"));
-        };
-        assert_eq!(rt; ends(first), ("", "", newline));
-        assert_eq!(rt; second.name().value(), "b");
-    }
-    let document = read(&rt, alloc, "a\r\r\nb")?;
+/// The first of two nodes ends with this text, and this one stands before the second.
+fn check_two_nodes(
+    rt: &impl Abort,
+    alloc: Global,
+    text: &str,
+    terminator: &str,
+    leading: &str,
+) -> Result<(), Fail> {
+    let document = read(rt, alloc, text)?;
     let [first, second] = document.nodes() else {
         return Err(Fail::from("not two nodes"));
     };
-    assert_eq!(rt; ends(first), ("", "", "\r"));
-    assert_eq!(rt; ends(second), ("\r\n", "", ""));
+    has_ends(rt, first, "", "", terminator);
+    has_ends(rt, second, leading, "", "");
+    is_called(rt, Some(second.name()), "b");
     Ok(())
+}
+
+#[test]
+fn each_newline_ends_a_node(rt: HostRuntime) -> Result<(), Fail> {
+    let alloc = rt.alloc();
+    for newline in NEWLINES {
+        check_two_nodes(&rt, alloc, &format!(in alloc; "a{newline}b")?, newline, "")?;
+    }
+    check_two_nodes(&rt, alloc, "a\r\r\nb", "\r", "\r\n")
 }
 
 #[test]
 fn each_space_stands_before_an_entry(rt: HostRuntime) -> Result<(), Fail> {
     let alloc = rt.alloc();
-    let spaces = [
-        "\u{9}", "\u{20}", "\u{a0}", "\u{1680}", "\u{2000}", "\u{2001}", "\u{2002}", "\u{2003}",
-        "\u{2004}", "\u{2005}", "\u{2006}", "\u{2007}", "\u{2008}", "\u{2009}", "\u{200a}",
-        "\u{202f}", "\u{205f}", "\u{3000}",
-    ];
-    for space in spaces {
-        let text = format!(in alloc; "n{space}1")?;
-        let document = read(&rt, alloc, &text)?;
-        let [node] = document.nodes() else {
-            return Err(Fail::from("not one node"));
-        };
-        let [entry] = node.entries() else {
-            return Err(Fail::from("not one entry"));
-        };
-        assert_eq!(rt; places(entry), (space, "1"));
+    for space in SPACES {
+        let document = read(&rt, alloc, &format!(in alloc; "n{space}1")?)?;
+        has_places(&rt, lone_entry(lone_node(&document)?)?, space, "1", "");
     }
     Ok(())
 }

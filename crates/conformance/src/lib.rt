@@ -23,8 +23,6 @@ mod spellings;
 #[cfg(test)]
 mod steps;
 #[cfg(test)]
-mod text;
-#[cfg(test)]
 mod trivia_rows;
 #[cfg(test)]
 mod truncated;

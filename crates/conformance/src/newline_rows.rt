@@ -2,10 +2,10 @@
 
 use crate::reading::{
     NEWLINES, SPACES, block, filled, has_around_block, has_ends, has_key_places, has_margins,
-    has_node_type_places, has_places, has_type_places, is_called, is_read, lone_entry, lone_node,
-    read, refuse,
+    has_node_type_places, has_places, has_type_places, is_argument, is_called, is_read, lone_entry,
+    lone_node, read, refuse,
 };
-use kdl::KdlDocument;
+use kdl::{KdlDocument, KdlNode};
 use std::alloc::Global;
 use std::process::Abort;
 use std::test::Fail;
@@ -66,23 +66,17 @@ fn a_newline_after_a_backslash(rt: HostRuntime) -> Result<(), Fail> {
 fn a_newline_in_a_string(rt: HostRuntime) -> Result<(), Fail> {
     let alloc = rt.alloc();
     let rows = [
-        ("n \"a\\~b\"", "ab"),
-        ("n \"a\\ ~ ~ b\"", "ab"),
-        ("n \"\"\"~  x~~   y~  \"\"\"", "x\n\n y"),
-        ("n \"\"\"~~\"\"\"", ""),
-        ("n \"\"\"~x\\~  y~\"\"\"", "xy"),
-        ("n #\"\"\"~  x~~   y~  \"\"\"#", "x\n\n y"),
-        ("n ##\"\"\"~x\"\"\"#~\"\"\"##", "x\"\"\"#"),
+        ("\"a\\~b\"", "ab"),
+        ("\"a\\ ~ ~ b\"", "ab"),
+        ("\"\"\"~  x~~   y~  \"\"\"", "x\n\n y"),
+        ("\"\"\"~~\"\"\"", ""),
+        ("\"\"\"~x\\~  y~\"\"\"", "xy"),
+        ("#\"\"\"~  x~~   y~  \"\"\"#", "x\n\n y"),
+        ("##\"\"\"~x\"\"\"#~\"\"\"##", "x\"\"\"#"),
     ];
     for newline in NEWLINES {
         for (pattern, value) in rows {
-            let document = read_filled(&rt, alloc, pattern, newline)?;
-            let entry = lone_entry(lone_node(&document)?)?;
-            assert_eq!(rt;
-                entry.value().as_string(),
-                Some(value),
-                "{pattern} {newline:?}"
-            );
+            is_argument(&rt, alloc, &filled(alloc, pattern, newline)?, value)?;
         }
     }
     Ok(())
@@ -140,6 +134,25 @@ fn newlines_in_wrong_places(rt: HostRuntime) -> Result<(), Fail> {
     Ok(())
 }
 
+/// The space stands in each place of the node `(t)n` that it can stand in.
+fn check_spaced_node(rt: &impl Abort, node: &KdlNode, space: &str) -> Result<(), Fail> {
+    has_ends(rt, node, space, space, ";");
+    is_called(rt, node.ty(), "t");
+    has_node_type_places(rt, node, space, space, space);
+    has_around_block(rt, node, space, "");
+    has_ends(rt, lone_node(block(node)?)?, space, space, "");
+    let [one, two] = node.entries() else {
+        return Err(Fail::from("not two entries"));
+    };
+    has_places(rt, one, space, "1", "");
+    has_type_places(rt, one, space, space, space);
+    has_places(rt, two, space, "2", "");
+    has_type_places(rt, two, space, space, space);
+    is_called(rt, two.name(), "k");
+    has_key_places(rt, two, space, space);
+    Ok(())
+}
+
 #[test]
 fn a_space_in_each_place(rt: HostRuntime) -> Result<(), Fail> {
     let alloc = rt.alloc();
@@ -147,22 +160,7 @@ fn a_space_in_each_place(rt: HostRuntime) -> Result<(), Fail> {
         let pattern = "~(~t~)~n~(~u~)~1~k~=~(~v~)~2~{~m~}~;~";
         let document = read_filled(&rt, alloc, pattern, space)?;
         has_margins(&rt, &document, "", space);
-        let node = lone_node(&document)?;
-        has_ends(&rt, node, space, space, ";");
-        is_called(&rt, node.ty(), "t");
-        has_node_type_places(&rt, node, space, space, space);
-        has_around_block(&rt, node, space, "");
-        let child = lone_node(block(node)?)?;
-        has_ends(&rt, child, space, space, "");
-        let [one, two] = node.entries() else {
-            return Err(Fail::from("not two entries"));
-        };
-        has_places(&rt, one, space, "1", "");
-        has_type_places(&rt, one, space, space, space);
-        has_places(&rt, two, space, "2", "");
-        has_type_places(&rt, two, space, space, space);
-        is_called(&rt, two.name(), "k");
-        has_key_places(&rt, two, space, space);
+        check_spaced_node(&rt, lone_node(&document)?, space)?;
     }
     Ok(())
 }
@@ -171,23 +169,17 @@ fn a_space_in_each_place(rt: HostRuntime) -> Result<(), Fail> {
 fn a_space_in_strings_and_continued_lines(rt: HostRuntime) -> Result<(), Fail> {
     let alloc = rt.alloc();
     let rows = [
-        ("n \"a\\~b\"", "ab"),
-        ("n \"a\\~~\n~b\"", "ab"),
-        ("n \"\"\"\n~x\n~\n~\"\"\"", "x\n"),
-        ("n #\"\"\"\n~x\n~\n~\"\"\"#", "x\n"),
-        ("n \\~\n~b", "b"),
-        ("n /-~1~b", "b"),
-        ("n /-~\n~1~b", "b"),
+        ("\"a\\~b\"", "ab"),
+        ("\"a\\~~\n~b\"", "ab"),
+        ("\"\"\"\n~x\n~\n~\"\"\"", "x\n"),
+        ("#\"\"\"\n~x\n~\n~\"\"\"#", "x\n"),
+        ("\\~\n~b", "b"),
+        ("/-~1~b", "b"),
+        ("/-~\n~1~b", "b"),
     ];
     for space in SPACES {
         for (pattern, value) in rows {
-            let document = read_filled(&rt, alloc, pattern, space)?;
-            let entry = lone_entry(lone_node(&document)?)?;
-            assert_eq!(rt;
-                entry.value().as_string(),
-                Some(value),
-                "{pattern} {space:?}"
-            );
+            is_argument(&rt, alloc, &filled(alloc, pattern, space)?, value)?;
         }
     }
     Ok(())

@@ -189,17 +189,22 @@ fn refused_behind_the_node(rt: HostRuntime) {
     refused_at(&rt, alloc, "n;/-m;o", 6, 1);
 }
 
+fn check_the_same_node(rt: &impl Abort, alloc: Global, alone: &mut KdlNode) -> Result<(), Fail> {
+    let document = KdlDocument::parse(alloc, "n 1 { a; }\n")?;
+    assert!(rt; *lone_node(&document)? == *alone);
+    alone.set_span(SourceSpan { offset: 7, len: 9 });
+    for (text, is_same) in [
+        ("n 1 { a; }\n", true),
+        ("\nn 1 { a; }\n", false),
+        ("n 1 { a; }\n\n", false),
+    ] {
+        assert_eq!(rt; read(rt, alloc, text)? == *alone, is_same, "{text:?}");
+    }
+    Ok(())
+}
+
 #[test]
 fn the_same_node_in_a_document(rt: HostRuntime) -> Result<(), Fail> {
     let alloc = rt.alloc();
-    let document = KdlDocument::parse(alloc, "n 1 { a; }\n")?;
-    let mut alone = read(&rt, alloc, "n 1 { a; }\n")?;
-    assert!(rt; *lone_node(&document)? == alone);
-    alone.set_span(SourceSpan { offset: 7, len: 9 });
-    assert!(rt; alone == read(&rt, alloc, "n 1 { a; }\n")?);
-    let below = read(&rt, alloc, "\nn 1 { a; }\n")?;
-    assert!(rt; below != alone);
-    let padded = read(&rt, alloc, "n 1 { a; }\n\n")?;
-    assert!(rt; padded != alone);
-    Ok(())
+    check_the_same_node(&rt, alloc, &mut read(&rt, alloc, "n 1 { a; }\n")?)
 }

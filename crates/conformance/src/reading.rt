@@ -255,3 +255,20 @@ pub fn has_key_places(rt: &impl Abort, entry: &KdlEntry, before: &str, behind: &
 pub fn is_called(rt: &impl Abort, identifier: Option<&KdlIdentifier>, name: &str) {
     assert_eq!(rt; called(identifier), name);
 }
+
+/// The entry's value is this string.
+pub fn is_string(rt: &impl Abort, entry: &KdlEntry, value: &str) {
+    assert_eq!(rt; entry.value().as_string(), Some(value));
+}
+
+/// The entry's value is this whole number.
+pub fn is_whole(rt: &impl Abort, entry: &KdlEntry, value: i128) {
+    assert_eq!(rt; entry.value().as_integer(), Some(value));
+}
+
+/// The text is one argument of a node, and this string is its value.
+pub fn is_argument(rt: &impl Abort, alloc: Global, text: &str, value: &str) -> Result<(), Fail> {
+    let document = read(rt, alloc, &format!(in alloc; "n {text}")?)?;
+    is_string(rt, lone_entry(lone_node(&document)?)?, value);
+    Ok(())
+}

@@ -1,6 +1,6 @@
 //! Strings in their five spellings, and numbers in their four bases.
 
-use crate::text::{decimal, whole};
+use crate::reading::is_argument;
 use kdl::{KdlDocument, KdlIdentifier, KdlValue, ParseFailure, SourceSpan};
 use std::alloc::Global;
 use std::process::Abort;
@@ -164,8 +164,7 @@ fn a_string_is_an_argument(rt: HostRuntime) -> Result<(), Fail> {
         ("_1234.56", "_1234.56"),
     ];
     for (text, value) in values {
-        let read = argument(alloc, text)?.ok_or("refused")?;
-        assert_eq!(rt; read.as_string(), Some(value), "{text}");
+        is_argument(&rt, alloc, text, value)?;
     }
     Ok(())
 }
@@ -183,7 +182,6 @@ fn whole_numbers_in_four_bases(rt: HostRuntime) -> Result<(), Fail> {
         ("-170141183460469231731687303715884105728", i128::MIN),
     ];
     for (text, value) in values {
-        assert_eq!(rt; whole(alloc, text)?, Some(value), "{text}");
         let read = argument(alloc, text)?.ok_or("refused")?;
         assert_eq!(rt; read.as_integer(), Some(value), "{text}");
     }
@@ -195,7 +193,6 @@ fn whole_numbers_in_four_bases(rt: HostRuntime) -> Result<(), Fail> {
         "0b12389",
     ];
     for text in refused {
-        assert_eq!(rt; whole(alloc, text)?, None, "{text}");
         assert!(rt; argument(alloc, text)?.is_none(), "{text}");
     }
     Ok(())
@@ -204,10 +201,8 @@ fn whole_numbers_in_four_bases(rt: HostRuntime) -> Result<(), Fail> {
 #[test]
 fn a_decimal_keeps_its_text_without_marks(rt: HostRuntime) -> Result<(), Fail> {
     let alloc = rt.alloc();
-    let read = decimal(alloc, "1_0.5E+3")?.ok_or("refused")?;
-    assert_eq!(rt; read.as_str(), "10.5E+3");
-    let value = KdlValue::from(kdl::KdlFloat::new(alloc, &read)?);
-    assert_eq!(rt; value.to_string(alloc)?.as_str(), "10.5E+3");
-    assert!(rt; decimal(alloc, "1.")?.is_none());
+    let read = argument(alloc, "1_0.5E+3")?.ok_or("refused")?;
+    assert_eq!(rt; read.to_string(alloc)?.as_str(), "10.5E+3");
+    assert!(rt; argument(alloc, "1.")?.is_none());
     Ok(())
 }

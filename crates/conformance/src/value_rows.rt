@@ -1,32 +1,35 @@
 //! Values as arguments and properties of a node: numbers, keywords and strings, and what is none.
 
-use crate::reading::{called, has_places, lone_entry, lone_node, nested, places, read, refuse};
-use kdl::KdlValue;
+use crate::reading::{
+    has_places, is_argument, is_called, is_string, is_whole, lone_entry, lone_node, nested, places,
+    read, refuse,
+};
+use kdl::{KdlNode, KdlValue};
 use std::alloc::Global;
 use std::process::Abort;
 use std::test::Fail;
 
-#[test]
-fn numbers_and_keywords_behind_one_another(rt: HostRuntime) -> Result<(), Fail> {
-    let document = read(
-        &rt,
-        rt.alloc(),
-        "n +0x1F -0b101 0O17 #-inf #null #true #false",
-    )?;
-    let entries = lone_node(&document)?.entries();
-    let [a, b, c, d, e, f, g] = entries else {
+fn check_numbers_and_keywords(rt: &impl Abort, node: &KdlNode) -> Result<(), Fail> {
+    let [a, b, c, d, e, f, g] = node.entries() else {
         return Err(Fail::from("not seven entries"));
     };
-    assert_eq!(rt; a.value().as_integer(), Some(31));
-    assert_eq!(rt; b.value().as_integer(), Some(-5));
-    assert_eq!(rt; c.value().as_integer(), Some(15));
+    is_whole(rt, a, 31);
+    is_whole(rt, b, -5);
+    is_whole(rt, c, 15);
     assert_eq!(rt; d.value().as_float().map(|x| x.as_str()), Some("#-inf"));
     assert!(rt; e.value().is_null());
     assert_eq!(rt; f.value().as_bool(), Some(true));
     assert_eq!(rt; g.value().as_bool(), Some(false));
-    has_places(&rt, a, " ", "+0x1F", "");
-    has_places(&rt, d, " ", "#-inf", "");
+    has_places(rt, a, " ", "+0x1F", "");
+    has_places(rt, d, " ", "#-inf", "");
     Ok(())
+}
+
+#[test]
+fn numbers_and_keywords_behind_one_another(rt: HostRuntime) -> Result<(), Fail> {
+    let text = "n +0x1F -0b101 0O17 #-inf #null #true #false";
+    let document = read(&rt, rt.alloc(), text)?;
+    check_numbers_and_keywords(&rt, lone_node(&document)?)
 }
 
 #[test]
@@ -133,41 +136,46 @@ const STRINGS: [(&str, &str); 24] = [
     ),
 ];
 
+/// The text is the node's name and type, and the name, type and value of its one entry; this is what it says.
+fn check_each_role(rt: &impl Abort, node: &KdlNode, text: &str, value: &str) -> Result<(), Fail> {
+    assert_eq!(rt; node.name().repr(), Some(text));
+    is_called(rt, Some(node.name()), value);
+    is_called(rt, node.ty(), value);
+    let entry = lone_entry(node)?;
+    is_called(rt, entry.name(), value);
+    is_called(rt, entry.ty(), value);
+    is_string(rt, entry, value);
+    has_places(rt, entry, " ", text, "");
+    Ok(())
+}
+
 #[test]
 fn strings_are_names_keys_types_and_values(rt: HostRuntime) -> Result<(), Fail> {
     let alloc = rt.alloc();
     for (text, value) in STRINGS {
         let whole = format!(in alloc; "({text}){text} {text}=({text}){text} {{}}")?;
         let document = read(&rt, alloc, &whole)?;
-        let node = lone_node(&document)?;
-        assert_eq!(rt; node.name().value(), value, "{text}");
-        assert_eq!(rt; node.name().repr(), Some(text));
-        assert_eq!(rt; called(node.ty()), value, "{text}");
-        let entry = lone_entry(node)?;
-        assert_eq!(rt; called(entry.name()), value, "{text}");
-        assert_eq!(rt; called(entry.ty()), value, "{text}");
-        assert_eq!(rt; entry.value().as_string(), Some(value), "{text}");
-        has_places(&rt, entry, " ", text, "");
+        check_each_role(&rt, lone_node(&document)?, text, value)?;
     }
     Ok(())
 }
 
 #[test]
-fn long_strings(rt: HostRuntime) -> Result<(), Fail> {
+fn a_long_raw_string(rt: HostRuntime) -> Result<(), Fail> {
     let alloc = rt.alloc();
     let quotes = nested(alloc, "\"###", "", "", 1000)?;
-    let text = format!(in alloc; "n ####\"{quotes}\"####")?;
-    let document = read(&rt, alloc, &text)?;
-    let value = lone_entry(lone_node(&document)?)?.value();
-    assert_eq!(rt; value.as_string(), Some(quotes.as_str()));
+    let text = format!(in alloc; "####\"{quotes}\"####")?;
+    is_argument(&rt, alloc, &text, &quotes)
+}
+
+#[test]
+fn a_string_of_many_lines(rt: HostRuntime) -> Result<(), Fail> {
+    let alloc = rt.alloc();
     let newlines = nested(alloc, "\n", "", "", 999)?;
     let spaces = nested(alloc, " ", "", "", 20)?;
-    let text = format!(in alloc; "n \"\"\"\n\n{newlines}{spaces}\"\"\"")?;
-    assert_eq!(rt; text.len(), 1029);
-    let document = read(&rt, alloc, &text)?;
-    let value = lone_entry(lone_node(&document)?)?.value();
-    assert_eq!(rt; value.as_string(), Some(newlines.as_str()));
-    Ok(())
+    let text = format!(in alloc; "\"\"\"\n\n{newlines}{spaces}\"\"\"")?;
+    assert_eq!(rt; text.len(), 1027);
+    is_argument(&rt, alloc, &text, &newlines)
 }
 
 /// The value ends before the text behind it.

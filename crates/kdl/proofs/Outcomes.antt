@@ -1,11 +1,14 @@
 -- What the answer on a whole text says of the grammar.
-use Rattle.std.proofs.Common.{◌≡◌, true, false, ◌∷◌, Result, Ok, Err, refl, sym, ap, subst, ◌∙◌}
+use Rattle.std.proofs.Common.{◌≡◌, ℕ, List, ◌+◌, ◌*◌, ◌≤◌, length, arith, true, false, ◌∷◌, Result, Ok, Err, refl, sym, ap, subst, ◌∙◌}
+use Rattle.std.specs.Str.{chars, IsUtf8}
 use Rattle.kdl_text.specs.Chars.{Text, begins}
 use Rattle.kdl_entry.specs.Tokens.{Token, t_mark}
 use Rattle.kdl_entry.specs.declared.items.lexer.LexFailure.{LexFailure}
 use Rattle.kdl_entry.specs.declared.items.lexer.LexFailure.TheVariants.{Faulty, Memory}
 use Rattle.kdl_entry.proofs.Cutting.{token_det}
+use Rattle.kdl_text.proofs.Texts.{bytes-chars}
 use Rattle.kdl.specs.Answered.{BuildAnswers, ReadAnswers}
+use Rattle.kdl.specs.Counted.{Counted}
 use Rattle.kdl_grammar.specs.Data.{Nodes}
 use Rattle.kdl_grammar.specs.Former.{IsFormerDocument}
 use Rattle.kdl_grammar.specs.Grammar.{IsDocument}
@@ -75,3 +78,7 @@ former t d a x i = sym (only t d a x (wider false i))
 
 pub former_refused : (t : Text) → ((d : Document) → Answers t d → ⊥) → (x : Nodes) → IsFormerDocument t x → ⊥
 former_refused t n x i = refused t n x (wider false i)
+
+-- the bound on the steps, in bytes of the text
+pub most_counted : (text : List ℕ) (old new : ℕ) → IsUtf8 text → Counted (chars text) old new → new ≤ old + 32 * (length text + 1)
+most_counted text old new u c = omega (arith, c.most, bytes-chars text u)

@@ -480,7 +480,6 @@ impl<'a> Builder<'a> {
     }
 
     /// The document of the nodes, where no block is open.
-    #[tactic(auto, using(crate::proofs::Views::frame_pushed))]
     fn finish_nodes(
         &mut self,
         alloc: Global,
@@ -493,7 +492,7 @@ impl<'a> Builder<'a> {
         ensures stays { Stays lexer.old lexer.new }
         ensures sliced { OnOk result (Sliced (bytes self.old.from.rest) 0 lexer.old lexer.new) }
     {
-        if let Some(_) = self.frames.pop() {
+        if !self.frames.is_empty() {
             return Err(LexFailure::Faulty(misplaced(here)));
         }
         let Some(nodes) = self.nodes.take() else {

@@ -127,7 +127,7 @@ impl KdlDocument {
     ///
     /// A document of n bytes takes at least a step for each character and at most 32 (n + 1) steps. What is refused
     /// takes at least one.
-    #[tactic(auto, using(crate::proofs::Outcomes::found, crate::proofs::Outcomes::only, crate::proofs::Outcomes::laid, crate::proofs::Outcomes::prints, crate::proofs::Outcomes::refused, crate::proofs::Outcomes::former, crate::proofs::Outcomes::former_refused, crate::proofs::EditedOutcomes::edited_found))]
+    #[tactic(auto, using(crate::proofs::Outcomes::found, crate::proofs::Outcomes::only, crate::proofs::Outcomes::laid, crate::proofs::Outcomes::prints, crate::proofs::Outcomes::refused, crate::proofs::Outcomes::former, crate::proofs::Outcomes::former_refused, crate::proofs::EditedOutcomes::edited_found, crate::proofs::Outcomes::most_counted))]
     pub fn parse_counted(
         alloc: Global,
         text: &str,

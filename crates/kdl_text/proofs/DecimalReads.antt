@@ -17,7 +17,7 @@ use Rattle.kdl_text.specs.Numbers.{is_digit_of, Sign, BaseMark, Integer, WholeNu
 use Rattle.kdl_text.specs.Numbers.BaseMark.{ten, other}
 use Rattle.kdl_text.specs.Numbers.Fraction.{none as no_fraction, fraction}
 use Rattle.kdl_text.specs.Numbers.Exponent.{none as no_exponent, exponent}
-use Rattle.kdl_text.specs.NumberReading.{Begun, FaultAt, IsFault, IsNumberFault, Counts, IsFront, ReadsInteger, ReadsWhole, ReadsNumber, AteMark, radix_of}
+use Rattle.kdl_text.specs.NumberReading.{Begun, FaultAt, IsNumberFault, Counts, IsFront, ReadsInteger, ReadsNumber, AteMark, radix_of}
 use Rattle.kdl_text.specs.declared.numbers.Magnitude.{Magnitude}
 use Rattle.kdl_text.specs.declared.numbers.Front.{Front}
 use Rattle.kdl_text.specs.declared.numbers.Radix.{Radix}
@@ -30,7 +30,7 @@ use Rattle.kdl_text.specs.declared.numbers.NumberFault.{NumberFault}
 use Rattle.kdl_text.specs.declared.numbers.NumberFault.TheVariants.{OutOfRange, Trailing}
 use Rattle.kdl_text.proofs.Going.{moves_then, moves_stayed, stayed_looked, took_from, bytes-append, shorter, costs_then}
 use Rattle.kdl_text.proofs.Runs.{length-bytes}
-use Rattle.kdl_text.proofs.WholeNumbers.{sign_det, integer_digit, whole_is, whole_digit, whole_number_det}
+use Rattle.kdl_text.proofs.WholeNumbers.{sign_det, integer_digit, whole_is, whole_digit}
 use Rattle.kdl_text.proofs.Decimals.{part_det, part_is, fraction_det, no_ten, mark_is_ten, part_of, part_begins, number_det}
 use Rattle.kdl_text.proofs.NumberReads.{tight}
 
@@ -57,22 +57,6 @@ module _ (f : Front) (t u : Text) (x : IsFront f t u) where
   front_trailing h r z w =
       let e = (whole_is t x.behind_sign x.behind_mark u x.digits r f.minus (radix_of f.radix) z x.sign x.mark x.int w).ends in
       let y : false ≡ true = h ∙ ap not e in cc
-
-  -- a whole number ends here
-  pub front_whole : (rest : Text) (result : Result ℤ NumberFault) → rest ≡ u → true ≡ not (starts is_identifier_char u)
-      → ((q : ℕ) → Counts f.magnitude q → result ≡ (if fits f.minus q then Ok (signed f.minus q) else Err OutOfRange)) → ReadsWhole result t rest
-  front_whole rest result r h g = rw (g (digits_value (radix_of f.radix) x.digits) x.counts) (go (fits f.minus (digits_value (radix_of f.radix) x.digits)) refl)
-    where
-      ends : (b : Bool) → true ≡ not b → b ≡ false
-      ends true h = cc
-      ends false h = refl
-
-      found : fits f.minus (digits_value (radix_of f.radix) x.digits) ≡ true → WholeNumber t rest (signed f.minus (digits_value (radix_of f.radix) x.digits))
-      found y = rw r (whole x.sign x.mark x.int (ends _ h) y refl)
-
-      go : (b : Bool) → fits f.minus (digits_value (radix_of f.radix) x.digits) ≡ b → ReadsWhole (if b then Ok (signed f.minus (digits_value (radix_of f.radix) x.digits)) else Err OutOfRange) t rest
-      go true y = λ v z. (λ w. whole_number_det w (found y), λ (p, q). rw (p, q) (found y))
-      go false y = λ v z w. let c = (whole_is t x.behind_sign x.behind_mark u x.digits v f.minus (radix_of f.radix) z x.sign x.mark x.int w).fits in cc
 
   -- a whole number ends here, and so no decimal
   pub front_number : (rest : Text) (result : Result Number NumberFailure) → rest ≡ u → true ≡ not (starts is_identifier_char u)
@@ -313,13 +297,6 @@ module _ (f : Front) (t u : Text) (x : IsFront f t u) where
 
   range : (rest : Text) → rest ≡ u → fits f.minus (digits_value (radix_of f.radix) x.digits) ≡ false → FaultAt OutOfRange t rest
   range rest e h = rw e (f.radix, record { behind_sign = x.behind_sign; behind_mark = x.behind_mark; digits = x.digits; negative = f.minus; sign = x.sign; mark = x.mark; int = x.int }, h)
-
-  pub front_range : (rest : Text) (result : Result ℤ NumberFault) → rest ≡ u → ((q : ℕ) → Counts f.magnitude q → result ≡ (if fits f.minus q then Ok (signed f.minus q) else Err OutOfRange)) → IsFault result t rest
-  front_range rest result e g = rw (g (digits_value (radix_of f.radix) x.digits) x.counts) (go (fits f.minus (digits_value (radix_of f.radix) x.digits)) refl)
-    where
-      go : (b : Bool) → fits f.minus (digits_value (radix_of f.radix) x.digits) ≡ b → IsFault {A = ℤ} (if b then Ok (signed f.minus (digits_value (radix_of f.radix) x.digits)) else Err OutOfRange) t rest
-      go true h = tt
-      go false h = range rest e h
 
   pub number_range : (rest : Text) (result : Result Number NumberFailure) → rest ≡ u → ((q : ℕ) → Counts f.magnitude q → result ≡ (if fits f.minus q then Ok (IntegerNumber (signed f.minus q)) else Err (Fault OutOfRange))) → IsNumberFault result t rest
   number_range rest result e g = rw (g (digits_value (radix_of f.radix) x.digits) x.counts) (go (fits f.minus (digits_value (radix_of f.radix) x.digits)) refl)

@@ -1,24 +1,20 @@
 -- Readers of numbers, a step at a time.
-use Rattle.std.proofs.Common.{◌≡◌, ℕ, ◌+◌, ◌*◌, ◌<◌, ◌≤◌, [], ◌∷◌, ◌++◌, Bool, true, false, not, length, refl, ap, sym, ◌∙◌, subst, arith, ℤ, Some, None, append_assoc, append-nil, ne_eqb, ◌↔◌, length-append, lit≤}
+use Rattle.std.proofs.Common.{◌≡◌, ℕ, ◌+◌, ◌*◌, ◌<◌, ◌≤◌, [], ◌∷◌, ◌++◌, Bool, true, false, length, refl, ap, sym, ◌∙◌, subst, arith, Some, None, append_assoc, append-nil, ne_eqb, length-append}
 use Rattle.std.proofs.lemmas.Str.{len_utf8_bounds}
-use Rattle.std.specs.Prelude.{if◌then◌else◌, Result, Ok, Err, IfOk}
 use Rattle.std.specs.Char.{digit_value, len_utf8}
-use Rattle.std.specs.Str.Parse.{digits_value, digits_value_after}
-use Rattle.kdl_text.specs.Chars.{Text, is_sign, is_identifier_char, starts}
+use Rattle.std.specs.Str.Parse.{digits_value_after}
+use Rattle.kdl_text.specs.Chars.{Text, is_sign, starts}
 use Rattle.kdl_text.specs.Here.{Here, Took, Stayed, looked, stepped, first, first_len, tail, raise, bytes}
 use Rattle.kdl_text.specs.Reading.{Moves, Costs}
-use Rattle.kdl_text.specs.Numbers.{is_digit_of, is_part, Sign, BaseMark, Digits, Integer, WholeNumber, whole, integer, marked, signed, fits}
+use Rattle.kdl_text.specs.Numbers.{is_digit_of, is_part, Sign, BaseMark, Digits, Integer, integer, marked}
 use Rattle.kdl_text.specs.Numbers.Sign.{none, plus, minus}
 use Rattle.kdl_text.specs.Numbers.BaseMark.{ten, other}
 use Rattle.kdl_text.specs.Numbers.Digits.{stop, digit, mark}
-use Rattle.kdl_text.specs.NumberReading.{Counts, IsDigit, ReadsDigits, ReadsInteger, ReadsWhole}
+use Rattle.kdl_text.specs.NumberReading.{Counts, IsDigit, ReadsDigits, ReadsInteger}
 use Rattle.kdl_text.specs.declared.numbers.Magnitude.{Magnitude}
 use Rattle.kdl_text.specs.declared.numbers.Magnitude.TheVariants.{Small}
-use Rattle.kdl_text.specs.declared.numbers.NumberFault.{NumberFault}
-use Rattle.kdl_text.specs.declared.numbers.NumberFault.TheVariants.{OutOfRange}
-use Rattle.kdl_text.proofs.Going.{stays, moves_then, moves_stayed, moves_one, stayed_looked, took_from, fewer_bytes, bytes-append, shorter, costs_then}
+use Rattle.kdl_text.proofs.Going.{stays, moves_then, moves_one, stayed_looked, took_from, fewer_bytes, bytes-append}
 use Rattle.kdl_text.proofs.Runs.{length-bytes}
-use Rattle.kdl_text.proofs.WholeNumbers.{shorter_integer, whole_is, whole_digit, whole_number_det}
 
 value_after : (k : ℕ) (ds : Text) (d n : ℕ) → digits_value_after k n (ds ++ d ∷ []) ≡ digits_value_after k n ds * k + digit_value d
 value_after k [] d n = refl
@@ -132,55 +128,9 @@ integer_read k c d m a b e g h x y (is, value, small) (w, read, counts) =
     let t = took_from c a b e h x y in
     (c ∷ w, subst (λ q. Integer k q g.rest (c ∷ w)) (sym t.0) (integer is read), counts (0 * k + digit_value c) (omega (arith, value)))
 
--- one whole number, and no other
-reads_whole : (t rest : Text) (z : ℤ) → WholeNumber t rest z → (r : Text) (y : ℤ) → WholeNumber t r y ↔ ((r ≡ rest) × (y ≡ z))
-reads_whole t rest z w r y = (λ h. whole_number_det h w, λ (p, q). rw (p, q) w)
-
--- a whole number
-module _ (t s u v : Text) (n : Bool) (k j : ℕ) (a : Sign t s n) (b : BaseMark s u k) (e : j ≡ k) where
-  pub no_integer : starts (is_digit_of j) u ≡ false → (r : Text) (z : ℤ) → WholeNumber t r z → ⊥
-  no_integer h r z w = let x = whole_digit t s u r n k z a b w in let y : starts (is_digit_of k) u ≡ false = rw (← e) h in cc
-
-  module _ (m : Magnitude) (i : ReadsInteger j (Some m) u v) where
-    pub trailing : false ≡ not (starts is_identifier_char v) → (r : Text) (z : ℤ) → WholeNumber t r z → ⊥
-    trailing h r z w = let x = (whole_is t s u v i.0 r n k z a b (subst (λ q. Integer q u v i.0) e i.1) w).ends in let y : false ≡ true = h ∙ ap not x in cc
-
-    pub whole_read : (rest : Text) (result : Result ℤ NumberFault) → rest ≡ v → true ≡ not (starts is_identifier_char v)
-        → ((q : ℕ) → Counts m q → result ≡ (if fits n q then Ok (signed n q) else Err OutOfRange)) → ReadsWhole result t rest
-    whole_read rest result r h f = rw (f (digits_value k i.0) counted) (go (fits n (digits_value k i.0)) refl)
-      where
-        int : Integer k u v i.0
-        int = subst (λ q. Integer q u v i.0) e i.1
-
-        counted : Counts m (digits_value k i.0)
-        counted = subst (λ q. Counts m (digits_value q i.0)) e i.2
-
-        ends : (b : Bool) → true ≡ not b → b ≡ false
-        ends true h = cc
-        ends false h = refl
-
-        go : (b : Bool) → fits n (digits_value k i.0) ≡ b → ReadsWhole (if b then Ok (signed n (digits_value k i.0)) else Err OutOfRange) t rest
-        go true x = reads_whole t rest _ (rw r (whole a b int (ends _ h) x refl))
-        go false x = λ y z w. let c = (whole_is t s u v i.0 y n k z a b int w).fits in cc
-
 -- where at least one character was read, a constant cost is one for each byte
 pub tight : (c : ℕ) (a b : Here) → c ≤ 18 → Moves a b → length b.rest < length a.rest → Costs 2 c a b → Costs 20 0 a b
 tight c a b le m h k =
     let p = m.piece.0 in
     let more : 1 ≤ bytes p = omega (arith, ap length m.piece.1, length-append p b.rest, h, length-bytes p) in
     record { most = omega (arith, k.most, more, le, ap bytes m.piece.1, bytes-append p b.rest); least = k.least }
-
-costs_stayed : (a b : Here) → Stayed 1 a b → Costs 2 1 a b
-costs_stayed a b s = record { most = omega (arith, ap bytes s.rest, s.steps); least = omega (arith, ap length s.rest, s.steps) }
-
--- what a whole number costs: its sign, mark and integer, and a look behind them
-pub whole_costs : (j : ℕ) (m : Magnitude) (r : Result ℤ NumberFault) (f a b d e : Here) → Moves f a → Costs 2 1 f a → Moves a b → Costs 2 2 a b → ReadsInteger j (Some m) b.rest d.rest → Moves b d → Costs 2 1 b d → Stayed 1 d e
-    → IfOk r (λ n. Costs 20 0 f e)
-whole_costs j m r f a b d e m1 c1 m2 c2 i m3 c3 s =
-    let less : length e.rest < length f.rest = omega (arith, shorter_integer i.1, shorter m1, shorter m2, ap length s.rest) in
-    let most = costs_then 2 1 4 f a e c1 (costs_then 2 2 2 a b e c2 (costs_then 2 1 1 b d e c3 (costs_stayed d e s))) in
-    always r (tight 5 f e (lit≤ tt) (moves_then m1 (moves_then m2 (moves_then m3 (moves_stayed s)))) less most)
-  where
-    always : (r : Result ℤ NumberFault) → Costs 20 0 f e → IfOk r (λ n. Costs 20 0 f e)
-    always (Ok n) h = h
-    always (Err x) h = tt

@@ -1,12 +1,12 @@
 -- How a reader of numbers stands to the text while the number is under way.
-use Rattle.std.specs.Prelude.{◌≡◌, ℕ, ◌<◌, ◌≤◌, ◌^◌, ◌↔◌, ℤ, true, false, Option, Some, None, Result, Ok, Err}
+use Rattle.std.specs.Prelude.{◌≡◌, ℕ, ◌<◌, ◌≤◌, ◌^◌, ◌↔◌, true, false, Option, Some, None, Result, Ok, Err}
 use Rattle.std.specs.Prelude.{string_bytes, ◌∷◌, Bool}
 use Rattle.std.specs.Str.{chars}
 use Rattle.std.specs.Char.{digit_value}
 use Rattle.std.specs.Str.Parse.{digits_value, digits_value_after}
 use Rattle.kdl_text.specs.Chars.{Text, starts, is_identifier_char}
 use Rattle.kdl_text.specs.Here.{Here, Stayed, Took}
-use Rattle.kdl_text.specs.Numbers.{is_digit_of, fits, marked, Digits, Integer, WholeNumber, Sign, BaseMark, Fraction, Exponent, DecimalPart, NumberValue, whole_value, decimal_text, IsNumber, IsKeyword, keyword_text, is_exponent_mark}
+use Rattle.kdl_text.specs.Numbers.{is_digit_of, fits, marked, Digits, Integer, Sign, BaseMark, Fraction, Exponent, DecimalPart, NumberValue, whole_value, decimal_text, IsNumber, IsKeyword, keyword_text, is_exponent_mark}
 use Rattle.kdl_text.specs.declared.numbers.Magnitude.{Magnitude}
 use Rattle.kdl_text.specs.declared.numbers.Magnitude.TheVariants.{Small, Large, Huge}
 use Rattle.kdl_text.specs.declared.numbers.Radix.{Radix}
@@ -57,11 +57,6 @@ ReadsDigits radix before after s rest = (w : Text) × Digits radix s rest w × (
 abbrev pub ReadsInteger : ℕ → Option Magnitude → Text → Text → Type 0
 ReadsInteger radix (Some m) s rest = (w : Text) × Integer radix s rest w × Counts m (digits_value radix w)
 ReadsInteger radix None s rest = (rest ≡ s) × (starts (is_digit_of radix) s ≡ false)
-
--- a whole number begins here, and stands for n alone; or none begins here
-abbrev pub ReadsWhole : Result ℤ NumberFault → Text → Text → Type 0
-ReadsWhole (Ok n) s rest = (r : Text) (z : ℤ) → WholeNumber s r z ↔ ((r ≡ rest) × (z ≡ n))
-ReadsWhole (Err e) s rest = (r : Text) (z : ℤ) → WholeNumber s r z → ⊥
 
 -- the front of a number, as far as its first integer
 pub record IsFront (f : Front) (t rest : Text) : Type 0 where

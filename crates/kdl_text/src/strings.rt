@@ -328,6 +328,3 @@ pub fn quoted_string(alloc: Global, cursor: &mut Cursor) -> Result<String, Strin
         quoted_body(alloc, cursor)
     }
 }
-
-#[cfg(test)]
-mod tests;

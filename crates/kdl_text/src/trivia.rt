@@ -9,9 +9,6 @@ ghost use Rattle.std.specs.Prelude.{◌≡◌, true, false, []};
 
 use crate::chars::{Class, Cursor, is_space, newline};
 
-#[cfg(test)]
-mod tests;
-
 /// What is wrong where a space or a comment should be, with the offset of the piece in bytes from the start of the
 /// text.
 #[derive(Clone, Copy, Debug, PartialEq, Eq)]

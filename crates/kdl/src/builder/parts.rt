@@ -15,7 +15,7 @@ ghost use Rattle.kdl_entry.specs.Items.{between, type_of, before_name, after_nam
 ghost use Rattle.kdl_entry.specs.Tree.{identifier_tree, entry_tree, text_of};
 ghost use Rattle.kdl_text.specs.Here.{Ahead, bytes};
 ghost use Rattle.kdl.specs.declared.builder.Waiting.{Waiting};
-ghost use Rattle.std.specs.Prelude.{◌≡◌, [], map, Some, None, true, IfOk, OnOk, option_map};
+ghost use Rattle.std.specs.Prelude.{◌≡◌, [], ◌∷◌, ◌++◌, map, Some, None, true, IfOk, OnOk, option_map};
 
 use super::{Kept, Under, Waiting, WaitingWord};
 use crate::document::{KdlDocument, KdlDocumentFormat};
@@ -27,15 +27,16 @@ use kdl_text::chars::Checkpoint;
 use kdl_text::span::SourceSpan;
 use std::alloc::{AllocError, Global};
 
-/// Makes room for one more: a full list doubles, from one on.
-pub(super) fn make_room<T>(items: &mut Vec<T>) -> Result<(), AllocError>
-    ensures { items.new.items ≡ items.old.items }
+/// Puts the item behind the others. A full list doubles, from one on.
+pub(super) fn add<T: Drop>(items: &mut Vec<T>, item: T) -> Result<(), AllocError>
+    ensures { OnOk result (items.new.items ≡ items.old.items ++ (item ∷ [])) }
 {
     let len = items.len();
-    if len < items.capacity() {
-        return Ok(());
+    if len == items.capacity() {
+        items.reserve_exact(len.max(1))?;
     }
-    items.reserve_exact(len.max(1))
+    items.push(item)?;
+    Ok(())
 }
 
 /// The string that waits becomes an argument of the node under way.
@@ -64,8 +65,7 @@ pub(super) fn settle<'a>(
         let span = span_at(whole, &start, from);
         let value = KdlValue::String(value);
         let entry = entry_from(alloc, span, leading, None, None, value, repr);
-        make_room(&mut under.entries)?;
-        under.entries.push(entry)?;
+        add(&mut under.entries, entry)?;
     }
     Ok(())
 }
@@ -185,11 +185,8 @@ pub(super) fn push_node(
 ) -> Result<(), AllocError>
     ensures { OnOk result (nodes_view nodes.new ≡ machine.ended (option_map node_tree node) (nodes_view nodes.old)) }
 {
-    if let Some(node) = node {
-        if let Some(nodes) = nodes {
-            make_room(nodes)?;
-            nodes.push(node)?;
-        }
+    if let (Some(nodes), Some(node)) = (nodes, node) {
+        add(nodes, node)?;
     }
     Ok(())
 }

@@ -17,7 +17,7 @@ ghost use Rattle.kdl.specs.declared.builder.Phase.{Phase};
 ghost use Rattle.kdl.specs.declared.builder.Waiting.{Waiting};
 ghost use Rattle.std.specs.Prelude.{◌≡◌, if◌then◌else◌, [], ◌∷◌, Some, None, true, false, OnOk, option_map};
 
-use super::parts::{ended_kept, ended_node, is_entry, make_room, push_node, settle, with_block};
+use super::parts::{add, ended_kept, ended_node, is_entry, push_node, settle, with_block};
 use super::{Builder, Frame, Phase, Under, Waiting, WaitingWord};
 use crate::node::KdlNode;
 use kdl_entry::items::item::{
@@ -302,8 +302,7 @@ impl<'a> Builder<'a> {
             let repr = text_between(alloc, lexer, start, end)?;
             let span = span_at(&self.whole, entry_start, end);
             let entry = entry_from(alloc, span, leading, key, ty, value, repr);
-            make_room(&mut under.entries)?;
-            under.entries.push(entry)?;
+            add(&mut under.entries, entry)?;
             self.from = end.copied();
         }
         Ok(())

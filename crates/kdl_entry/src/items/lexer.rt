@@ -31,9 +31,6 @@ use kdl_text::trivia::{SlashRead, TriviaFault, escline, slash};
 use std::alloc::{AllocError, AllocFailed, Global};
 use std::marker::Model;
 
-#[cfg(test)]
-mod tests;
-
 /// Why no token begins at a place.
 #[derive(Clone, Copy, Debug, PartialEq, Eq)]
 pub enum FaultKind {

@@ -1,0 +1,23 @@
+//! The spaces, the newlines and the characters that stand in comments alone (KDL 2.0.0, Whitespace, Newline,
+//! Disallowed Literal Code Points).
+
+pub const SPACES: [&str; 18] = [
+    "\u{9}", "\u{20}", "\u{a0}", "\u{1680}", "\u{2000}", "\u{2001}", "\u{2002}", "\u{2003}",
+    "\u{2004}", "\u{2005}", "\u{2006}", "\u{2007}", "\u{2008}", "\u{2009}", "\u{200a}", "\u{202f}",
+    "\u{205f}", "\u{3000}",
+];
+
+pub const NEWLINES: [&str; 8] = [
+    "\r\n", "\r", "\n", "\u{85}", "\u{b}", "\u{c}", "\u{2028}", "\u{2029}",
+];
+
+/// The first and last of each run.
+pub const BANNED: [(u32, u32); 7] = [
+    (0x0, 0x8),
+    (0xe, 0x1f),
+    (0x7f, 0x7f),
+    (0x200e, 0x200f),
+    (0x202a, 0x202e),
+    (0x2066, 0x2069),
+    (0xfeff, 0xfeff),
+];
