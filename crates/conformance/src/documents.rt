@@ -1,9 +1,9 @@
 //! Documents: what is read, what is refused, and that a document prints its text.
 
 use crate::reading::{
-    NEWLINES, SPACES, has_ends, has_margins, has_places, is_called, is_string, is_whole,
-    lone_entry, lone_node, read,
+    has_ends, has_margins, has_places, is_called, is_string, is_whole, lone_entry, lone_node, read,
 };
+use conformance_text::characters::{NEWLINES, SPACES};
 use kdl::{KdlDocument, KdlNode, ParseFailure, Severity};
 use std::alloc::Global;
 use std::process::Abort;

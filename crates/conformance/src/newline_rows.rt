@@ -1,25 +1,15 @@
 //! Each newline, each space and each banned character in each role that it has in a document.
 
 use crate::reading::{
-    NEWLINES, SPACES, block, filled, has_around_block, has_ends, has_key_places, has_margins,
-    has_node_type_places, has_places, has_type_places, is_argument, is_called, is_read, lone_entry,
-    lone_node, read, refuse,
+    block, has_around_block, has_ends, has_key_places, has_margins, has_node_type_places,
+    has_places, has_type_places, is_argument, is_called, is_read, lone_entry, lone_node, read,
+    refuse,
 };
+use conformance_text::characters::{BANNED, NEWLINES, SPACES, filled};
 use kdl::{KdlDocument, KdlNode};
 use std::alloc::Global;
 use std::process::Abort;
 use std::test::Fail;
-
-/// The characters that stand in comments alone, as first and last of each run.
-const BANNED: [(u32, u32); 7] = [
-    (0x0, 0x8),
-    (0xe, 0x1f),
-    (0x7f, 0x7f),
-    (0x200e, 0x200f),
-    (0x202a, 0x202e),
-    (0x2066, 0x2069),
-    (0xfeff, 0xfeff),
-];
 
 /// The document of the pattern with the text in the place of each `~`, which prints it.
 fn read_filled(

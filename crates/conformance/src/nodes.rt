@@ -1,9 +1,10 @@
 //! Nodes that are a whole text: what is read, what is refused and where, and that a node prints its text.
 
 use crate::reading::{
-    NEWLINES, around_block, block, ends, filled, has_around_block, has_ends, has_margins,
-    has_node_type_places, has_places, is_called, is_range, lone_entry, lone_node, range,
+    around_block, block, ends, has_around_block, has_ends, has_margins, has_node_type_places,
+    has_places, is_called, is_range, lone_entry, lone_node, range,
 };
+use conformance_text::characters::{NEWLINES, filled};
 use kdl::{KdlDocument, KdlNode, ParseFailure, SourceSpan};
 use std::alloc::Global;
 use std::process::Abort;

@@ -6,16 +6,6 @@ use std::alloc::{AllocError, Global};
 use std::process::Abort;
 use std::test::Fail;
 
-pub const SPACES: [&str; 18] = [
-    "\u{9}", "\u{20}", "\u{a0}", "\u{1680}", "\u{2000}", "\u{2001}", "\u{2002}", "\u{2003}",
-    "\u{2004}", "\u{2005}", "\u{2006}", "\u{2007}", "\u{2008}", "\u{2009}", "\u{200a}", "\u{202f}",
-    "\u{205f}", "\u{3000}",
-];
-
-pub const NEWLINES: [&str; 8] = [
-    "\r\n", "\r", "\n", "\u{85}", "\u{b}", "\u{c}", "\u{2028}", "\u{2029}",
-];
-
 /// The document of a text, which prints it.
 pub fn read(rt: &impl Abort, alloc: Global, text: &str) -> Result<KdlDocument, Fail> {
     let document = match KdlDocument::parse(alloc, text) {
@@ -171,19 +161,6 @@ pub fn called(identifier: Option<&KdlIdentifier>) -> &str {
         Some(identifier) => identifier.value(),
         None => "none",
     }
-}
-
-/// The pattern with the text in the place of each `~`.
-pub fn filled(alloc: Global, pattern: &str, text: &str) -> Result<String, AllocError> {
-    let mut filled = String::new(alloc);
-    for c in pattern.chars() {
-        if c == '~' {
-            filled.push_str(text)?;
-        } else {
-            filled.push(c)?;
-        }
-    }
-    Ok(filled)
 }
 
 /// The opening so many times, the middle, and the closing so many times.

@@ -1,5 +1,7 @@
 //! The spaces, the newlines and the characters that stand in comments alone (KDL 2.0.0, Whitespace, Newline,
-//! Disallowed Literal Code Points).
+//! Disallowed Literal Code Points), and patterns that are filled with them.
+
+use std::alloc::{AllocError, Global};
 
 pub const SPACES: [&str; 18] = [
     "\u{9}", "\u{20}", "\u{a0}", "\u{1680}", "\u{2000}", "\u{2001}", "\u{2002}", "\u{2003}",
@@ -21,3 +23,16 @@ pub const BANNED: [(u32, u32); 7] = [
     (0x2066, 0x2069),
     (0xfeff, 0xfeff),
 ];
+
+/// The pattern with the text in the place of each `~`.
+pub fn filled(alloc: Global, pattern: &str, text: &str) -> Result<String, AllocError> {
+    let mut filled = String::new(alloc);
+    for c in pattern.chars() {
+        if c == '~' {
+            filled.push_str(text)?;
+        } else {
+            filled.push(c)?;
+        }
+    }
+    Ok(filled)
+}

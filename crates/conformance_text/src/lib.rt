@@ -10,8 +10,7 @@ use kdl_text::chars::{Cursor, Steps};
 use kdl_text::strings::{StringFailure, quoted_string};
 use std::alloc::Global;
 
-#[cfg(test)]
-mod characters;
+pub mod characters;
 #[cfg(test)]
 mod numbers;
 #[cfg(test)]

@@ -1,6 +1,6 @@
 //! Strings in each spelling: what they say, where they are faulty, and what they cost.
 
-use crate::characters::{BANNED, NEWLINES, SPACES};
+use crate::characters::{BANNED, NEWLINES, SPACES, filled};
 use crate::quoted;
 use kdl_text::chars::{Cursor, Steps};
 use kdl_text::strings::{StringFailure, StringFault, bare_string, quoted_string, raw_string};
@@ -12,6 +12,15 @@ use std::test::Fail;
 fn raw(alloc: Global, text: &str) -> Result<String, StringFailure> {
     let mut cursor = Cursor::new(text, Steps::new());
     raw_string(alloc, &mut cursor)
+}
+
+/// The value of the string in quotes that begins the text; a raw one begins with `#`.
+fn quoted_or_raw(alloc: Global, text: &str) -> Result<String, StringFailure> {
+    if text.starts_with('#') {
+        raw(alloc, text)
+    } else {
+        quoted(alloc, text)
+    }
 }
 
 /// Whether the string was read with the value.
@@ -30,17 +39,10 @@ fn is_fault(read: Result<String, StringFailure>, fault: StringFault) -> bool {
     }
 }
 
-/// Each text begins with a quoted string, and it has the value beside it.
-fn check_quoted(rt: &impl Abort, alloc: Global, rows: &[(&str, &str)]) {
+/// Each text begins with a string in quotes, and it has the value beside it.
+fn check_strings(rt: &impl Abort, alloc: Global, rows: &[(&str, &str)]) {
     for (text, value) in rows {
-        assert!(rt; is_value(quoted(alloc, text), value), "{text:?}");
-    }
-}
-
-/// Each text begins with a raw string, and it has the value beside it.
-fn check_raw(rt: &impl Abort, alloc: Global, rows: &[(&str, &str)]) {
-    for (text, value) in rows {
-        assert!(rt; is_value(raw(alloc, text), value), "{text:?}");
+        assert!(rt; is_value(quoted_or_raw(alloc, text), value), "{text:?}");
     }
 }
 
@@ -101,7 +103,7 @@ fn escapes(rt: HostRuntime) {
         (r#""\b\f\n\r\t\s\\\"""#, "\u{8}\u{c}\n\r\t \\\""),
         ("\"a\\ \r\n  b\"", "ab"),
     ];
-    check_quoted(&rt, rt.alloc(), &rows);
+    check_strings(&rt, rt.alloc(), &rows);
 }
 
 #[test]
@@ -173,7 +175,7 @@ fn many_lines(rt: HostRuntime) {
         ("\"\"\"\na\\\"\"\"\n\"\"\"", "a\"\"\""),
         ("\"\"\"\n  a\n    \n  b\n  \"\"\" c", "a\n\nb"),
     ];
-    check_quoted(&rt, rt.alloc(), &rows);
+    check_strings(&rt, rt.alloc(), &rows);
 }
 
 #[test]
@@ -209,7 +211,7 @@ fn raw_strings(rt: HostRuntime) {
         ("#\"\"\"\na\"\"\"\"b\n\"\"\"#", "a\"\"\"\"b"),
         ("##\"\"\"\n#\"#\"\"##\n\"\"\"##", "#\"#\"\"##"),
     ];
-    check_raw(&rt, rt.alloc(), &rows);
+    check_strings(&rt, rt.alloc(), &rows);
 }
 
 #[test]
@@ -230,13 +232,46 @@ fn raw_strings_refused(rt: HostRuntime) {
     check_faulty_raw(&rt, rt.alloc(), &rows);
 }
 
+/// Each pattern, filled with the text, begins with a string that has the value beside it.
+fn check_filled(
+    rt: &impl Abort,
+    alloc: Global,
+    text: &str,
+    rows: &[(&str, &str)],
+) -> Result<(), Fail> {
+    for (pattern, value) in rows {
+        let filled = filled(alloc, pattern, text)?;
+        let read = quoted_or_raw(alloc, &filled);
+        assert!(rt; is_value(read, value), "{filled:?}");
+    }
+    Ok(())
+}
+
+/// Each pattern, filled with the text, begins with no string, for the fault.
+fn check_filled_faulty(
+    rt: &impl Abort,
+    alloc: Global,
+    text: &str,
+    patterns: &[&str],
+    fault: StringFault,
+) -> Result<(), Fail> {
+    for pattern in patterns {
+        let filled = filled(alloc, pattern, text)?;
+        let read = quoted_or_raw(alloc, &filled);
+        assert!(rt; is_fault(read, fault), "{filled:?}");
+    }
+    Ok(())
+}
+
 #[test]
 fn each_space(rt: HostRuntime) -> Result<(), Fail> {
-    let alloc = rt.alloc();
+    let rows = [
+        ("\"\"\"\n~x\n~\n~\"\"\"", "x\n"),
+        ("#\"\"\"\n~x\n~\n~\"\"\"#", "x\n"),
+    ];
     for space in SPACES {
-        let lines = format!(in alloc; "\"\"\"\n{space}x\n{space}\n{space}\"\"\"")?;
-        check_quoted(&rt, alloc, &[(lines.as_str(), "x\n")]);
-        ends_behind_one(&rt, &format!(in alloc; "a{space}")?);
+        check_filled(&rt, rt.alloc(), space, &rows)?;
+        ends_behind_one(&rt, &filled(rt.alloc(), "a~", space)?);
     }
     Ok(())
 }
@@ -244,54 +279,38 @@ fn each_space(rt: HostRuntime) -> Result<(), Fail> {
 #[test]
 fn each_newline(rt: HostRuntime) -> Result<(), Fail> {
     let alloc = rt.alloc();
-    check_quoted(&rt, alloc, &[("\"\"\"\u{85}x\u{c}\"\"\"", "x")]);
+    let rows = [
+        ("\"a\\~b\"", "ab"),
+        ("\"\"\"~x~y~\"\"\"", "x\ny"),
+        ("\"\"\"~ x~~  y~ \"\"\"", "x\n\n y"),
+        ("\"\"\"\u{85}x~\"\"\"", "x"),
+        ("#\"\"\"~x~y~\"\"\"#", "x\ny"),
+        ("#\"\"\"~ x~~  y~ \"\"\"#", "x\n\n y"),
+    ];
+    let refused = ["\"a~b\"", "#\"a~b\"#"];
     for newline in NEWLINES {
-        let escape = format!(in alloc; "\"a\\{newline}b\"")?;
-        check_quoted(&rt, alloc, &[(escape.as_str(), "ab")]);
-        let lines = format!(in alloc; "\"\"\"{newline}x{newline}y{newline}\"\"\"")?;
-        check_quoted(&rt, alloc, &[(lines.as_str(), "x\ny")]);
-        check_raw(&rt, alloc, &[(&format!(in alloc; "#{lines}#")?, "x\ny")]);
-        let lines = format!(in alloc; "\"\"\"{newline} x{newline}{newline}  y{newline} \"\"\"")?;
-        check_quoted(&rt, alloc, &[(lines.as_str(), "x\n\n y")]);
-        check_raw(&rt, alloc, &[(&format!(in alloc; "#{lines}#")?, "x\n\n y")]);
-        let one_line = format!(in alloc; "\"a{newline}b\"")?;
-        check_faulty(&rt, alloc, &[(one_line.as_str(), StringFault::Newline)]);
-        let raw_line = format!(in alloc; "#{one_line}#")?;
-        check_faulty_raw(&rt, alloc, &[(raw_line.as_str(), StringFault::Newline)]);
-        ends_behind_one(&rt, &format!(in alloc; "a{newline}")?);
+        check_filled(&rt, alloc, newline, &rows)?;
+        check_filled_faulty(&rt, alloc, newline, &refused, StringFault::Newline)?;
+        ends_behind_one(&rt, &filled(alloc, "a~", newline)?);
     }
-    Ok(())
-}
-
-/// No string holds the character, in any spelling.
-fn check_banned(rt: &impl Abort, alloc: Global, c: char) -> Result<(), Fail> {
-    let one_line = format!(in alloc; "\"{c}\"")?;
-    check_faulty(rt, alloc, &[(one_line.as_str(), StringFault::Banned)]);
-    check_faulty_raw(
-        rt,
-        alloc,
-        &[(&format!(in alloc; "#{one_line}#")?, StringFault::Banned)],
-    );
-    let lines = format!(in alloc; "\"\"\"\n{c}\n\"\"\"")?;
-    check_faulty(rt, alloc, &[(lines.as_str(), StringFault::Banned)]);
-    check_faulty_raw(
-        rt,
-        alloc,
-        &[(&format!(in alloc; "#{lines}#")?, StringFault::Banned)],
-    );
-    ends_behind_one(rt, &format!(in alloc; "a{c}")?);
     Ok(())
 }
 
 #[test]
 fn each_banned_character(rt: HostRuntime) -> Result<(), Fail> {
+    let alloc = rt.alloc();
+    let refused = [
+        "\"~\"",
+        "#\"~\"#",
+        "\"\"\"\n~\n\"\"\"",
+        "#\"\"\"\n~\n\"\"\"#",
+    ];
     for (low, high) in BANNED {
         for code in low..=high {
-            check_banned(
-                &rt,
-                rt.alloc(),
-                char::from_u32(code).ok_or("no scalar value")?,
-            )?;
+            let c = char::from_u32(code).ok_or("no scalar value")?;
+            let banned = format!(in alloc; "{c}")?;
+            check_filled_faulty(&rt, alloc, &banned, &refused, StringFault::Banned)?;
+            ends_behind_one(&rt, &filled(alloc, "a~", &banned)?);
         }
     }
     Ok(())

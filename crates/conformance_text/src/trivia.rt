@@ -1,6 +1,6 @@
 //! Spaces, comments, esclines and slashdashes: where each ends, and where it is faulty.
 
-use crate::characters::{BANNED, NEWLINES, SPACES};
+use crate::characters::{BANNED, NEWLINES, SPACES, filled};
 use kdl_text::chars::{Cursor, Steps};
 use kdl_text::trivia::{
     SlashRead, SpaceRead, TriviaFault, block_comment, escline, line_comment, node_space, slash,
@@ -109,10 +109,10 @@ fn line_end(text: &str) -> Option<usize> {
 #[test]
 fn line_comments(rt: HostRuntime) -> Result<(), Fail> {
     for newline in NEWLINES {
-        let line = joined(rt.alloc(), &["// /* \u{feff}\t\"", newline])?;
-        let text = joined(rt.alloc(), &[line.as_str(), " "])?;
-        is_slash(&rt, &text, SlashRead::Line, line.len());
-        assert_eq!(rt; line_end(&text), Some(line.len()), "{newline:?}");
+        let text = filled(rt.alloc(), "// /* \u{feff}\t\"~ ", newline)?;
+        let end = text.len().saturating_sub(1);
+        is_slash(&rt, &text, SlashRead::Line, end);
+        assert_eq!(rt; line_end(&text), Some(end), "{newline:?}");
     }
     for (text, end) in [("//", 2), ("// c", 4), ("//\n\r", 3)] {
         is_slash(&rt, text, SlashRead::Line, end);
@@ -146,11 +146,11 @@ fn escline_end(text: &str) -> Option<usize> {
 fn esclines(rt: HostRuntime) -> Result<(), Fail> {
     let alloc = rt.alloc();
     for newline in NEWLINES {
-        for front in ["\\", "\\ \t", "\\ /* x */ ", "\\/**/ // c"] {
-            let line = joined(alloc, &[front, newline])?;
-            let text = joined(alloc, &[line.as_str(), " \n"])?;
-            is_space(&rt, &text, SpaceRead::Read, line.len());
-            assert_eq!(rt; escline_end(&text), Some(line.len()), "{text:?}");
+        for pattern in ["\\~ \n", "\\ \t~ \n", "\\ /* x */ ~ \n", "\\/**/ // c~ \n"] {
+            let text = filled(alloc, pattern, newline)?;
+            let end = text.len().saturating_sub(2);
+            is_space(&rt, &text, SpaceRead::Read, end);
+            assert_eq!(rt; escline_end(&text), Some(end), "{text:?}");
         }
     }
     for text in ["\\", "\\ ", "\\ // c", "\\//", "\\/* x */"] {
