@@ -28,6 +28,7 @@ use kdl_text::span::SourceSpan;
 use std::alloc::{AllocError, Global};
 
 /// Puts the item behind the others. A full list doubles, from one on.
+#[inline]
 pub(super) fn add<T: Drop>(items: &mut Vec<T>, item: T) -> Result<(), AllocError>
     ensures { OnOk result (items.new.items ≡ items.old.items ++ (item ∷ [])) }
 {
