@@ -246,6 +246,7 @@ pub fn is_whole(rt: &impl Abort, entry: &KdlEntry, value: i128) {
 /// The text is one argument of a node, and this string is its value.
 pub fn is_argument(rt: &impl Abort, alloc: Global, text: &str, value: &str) -> Result<(), Fail> {
     let document = read(rt, alloc, &format!(in alloc; "n {text}")?)?;
-    is_string(rt, lone_entry(lone_node(&document)?)?, value);
+    let entry = lone_entry(lone_node(&document)?)?;
+    assert_eq!(rt; entry.value().as_string(), Some(value), "{text:?}");
     Ok(())
 }

@@ -3,17 +3,19 @@
 
 use std::alloc::{AllocError, Global};
 
+/// Each space.
 pub const SPACES: [&str; 18] = [
     "\u{9}", "\u{20}", "\u{a0}", "\u{1680}", "\u{2000}", "\u{2001}", "\u{2002}", "\u{2003}",
     "\u{2004}", "\u{2005}", "\u{2006}", "\u{2007}", "\u{2008}", "\u{2009}", "\u{200a}", "\u{202f}",
     "\u{205f}", "\u{3000}",
 ];
 
+/// Each newline; CR LF is one.
 pub const NEWLINES: [&str; 8] = [
     "\r\n", "\r", "\n", "\u{85}", "\u{b}", "\u{c}", "\u{2028}", "\u{2029}",
 ];
 
-/// The first and last of each run.
+/// The characters that stand in comments alone, as first and last of each run.
 pub const BANNED: [(u32, u32); 7] = [
     (0x0, 0x8),
     (0xe, 0x1f),

@@ -1,17 +1,20 @@
 //! Strings in each spelling: what they say, where they are faulty, and what they cost.
 
 use crate::characters::{BANNED, NEWLINES, SPACES, filled};
-use crate::quoted;
 use kdl_text::chars::{Cursor, Steps};
 use kdl_text::strings::{StringFailure, StringFault, bare_string, quoted_string, raw_string};
 use std::alloc::Global;
 use std::process::Abort;
 use std::test::Fail;
 
+/// The value of the quoted string that begins the text.
+fn quoted(alloc: Global, text: &str) -> Result<String, StringFailure> {
+    quoted_string(alloc, &mut Cursor::new(text, Steps::new()))
+}
+
 /// The value of the raw string that begins the text.
 fn raw(alloc: Global, text: &str) -> Result<String, StringFailure> {
-    let mut cursor = Cursor::new(text, Steps::new());
-    raw_string(alloc, &mut cursor)
+    raw_string(alloc, &mut Cursor::new(text, Steps::new()))
 }
 
 /// The value of the string in quotes that begins the text; a raw one begins with `#`.

@@ -65,7 +65,7 @@ fn kinds(rt: HostRuntime) -> Result<(), Fail> {
         ("#\"a\"# ##\"b\"## #inf \"\"\"\n a\n \"\"\"", "s_s_f_s"),
         ("", ""),
     ] {
-        assert_eq!(rt; cut(rt.alloc(), text)?.as_str(), letters);
+        assert_eq!(rt; cut(rt.alloc(), text)?.as_str(), letters, "{text:?}");
     }
     Ok(())
 }
