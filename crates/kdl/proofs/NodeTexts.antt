@@ -13,18 +13,15 @@ use Rattle.kdl_entry.specs.Places.{span_of}
 use Rattle.kdl_entry.specs.declared.items.lexer.Fault.{Fault}
 use Rattle.kdl_entry.specs.declared.items.lexer.LexFailure.{LexFailure}
 use Rattle.kdl_entry.specs.declared.items.lexer.LexFailure.TheVariants.{Faulty, Memory}
-use Rattle.kdl.specs.Answered.{BuildAnswers}
-use Rattle.kdl.specs.Building.{EndsIn}
 use Rattle.kdl_grammar.specs.Data as data'
 use Rattle.kdl_grammar.specs.Former.{IsFormerNodeText}
 use Rattle.kdl_grammar.specs.Grammar.{IsNodeText}
 use Rattle.kdl_grammar.specs.Laid.{node_span, LaidNode, laid_node, LaidNodes, no_node, a_node, LaidContent, with_nodes, LaidNodeText, laid_node_text}
 use Rattle.kdl_grammar.specs.Machine.{initial, Runs}
-use Rattle.kdl.specs.NodeText.{alone, Reads, ReadsNodes, EndInLineSpaces, NoNode}
+use Rattle.kdl.specs.NodeText.{alone, Reads, ReadsNodes, NoNode}
 use Rattle.kdl_grammar.specs.Print.{format_of, trailing_text, print_node}
 use Rattle.kdl_grammar.specs.Tree.{DocumentFormat, Node, Document, document, Nodes, none, first, node_data}
-use Rattle.kdl.specs.Tree.{document_tree, node_tree, nodes_tree}
-use Rattle.kdl.specs.declared.document.KdlDocument.{KdlDocument}
+use Rattle.kdl.specs.Tree.{node_tree, nodes_tree}
 use Rattle.kdl.specs.declared.document.KdlDocument.TheViews.{out-KdlNode}
 use Rattle.kdl.specs.declared.node.KdlNode.{KdlNode}
 use Rattle.kdl_grammar.proofs.Complete.{runs_det, only_node}
@@ -34,6 +31,12 @@ use Rattle.kdl_grammar.proofs.Erased.{sound_runs}
 use Rattle.kdl_grammar.proofs.LaidPrinted.{node_text_printed}
 use Rattle.kdl_grammar.proofs.LawProofs.{one_node}
 use Rattle.kdl.proofs.Trees.{node_tree_out}
+use Rattle.kdl_entry.specs.Tree.{text_of}
+use Rattle.kdl_parser.specs.Answered.{BuildAnswers}
+use Rattle.kdl_parser.specs.Building.{EndsIn}
+use Rattle.kdl_parser.specs.LineSpaces.{EndInLineSpaces}
+use Rattle.kdl_parser.specs.Parts.{document_by}
+use Rattle.kdl_parser.specs.declared.parts.DocumentParts.{DocumentParts}
 use Rattle.kdl_grammar.proofs.Widening.{wider_node}
 
 -- what the parts of a document are
@@ -147,12 +150,13 @@ pub one_left : (ns ms : List KdlNode) (n : KdlNode) → ns ≡ n ∷ ms → leng
 one_left ns [] n e k = e
 one_left ns (m ∷ ms) n e k = absurd (omega (arith, k, ap length e))
 
-pub some_read : (t : Text) (d : KdlDocument) (f : Option DocumentFormat) (at : SourceSpan) (ns : Nodes) → Reads t (document_tree d) → document_tree d ≡ document f at ns → (g : Option DocumentFormat) × ReadsNodes t g ns
-some_read t d f at ns a e = (f, (at, subst (λ (z : Document). Reads t z) e a))
+pub some_read : (t : Text) (d : DocumentParts KdlNode) → Reads t (document_by node_tree d) → (f : Option DocumentFormat) × ReadsNodes t f (nodes_tree d.nodes.items)
+some_read t d a = (Some (record { leading = text_of d.leading; trailing = text_of d.trailing }), (d.span, a))
 
-pub one_read : (t : Text) (d : KdlDocument) (f : Option DocumentFormat) (at : SourceSpan) (ns : List KdlNode) (n : KdlNode) → Reads t (document_tree d) → document_tree d ≡ document f at (nodes_tree ns) → ns ≡ n ∷ []
-    → ReadsNodes t f (first (node_tree n) none)
-one_read t d f at ns n a e g = subst (λ (z : List KdlNode). ReadsNodes t f (nodes_tree z)) g (at, subst (λ (z : Document). Reads t z) e a)
+pub one_read : (t : Text) (d : DocumentParts KdlNode) (n : KdlNode) → Reads t (document_by node_tree d) → d.nodes.items ≡ n ∷ []
+    → (leading : Text) × ReadsNodes t (Some (record { leading = leading; trailing = text_of d.trailing })) (first (node_tree n) none)
+one_read t d n a e =
+    (text_of d.leading, subst (λ (z : List KdlNode). ReadsNodes t (Some (record { leading = text_of d.leading; trailing = text_of d.trailing })) (nodes_tree z)) e (d.span, a))
 
 -- the text behind the one node
 pub ends_there : (t u : Text) (f : Option DocumentFormat) (n : Node) → ReadsNodes t f (first n none) → u ≡ trailing_text f → EndsIn t u
@@ -176,11 +180,11 @@ whole_ends w l e = ([], e)
 pub whole_at : (w : Text) (l : Here) → w ≡ l.rest → l.at ≡ 0 → l.at + bytes l.rest ≡ bytes w
 whole_at w l e n = omega (arith, n, ap bytes e)
 
-pub whole_read : (t w : Text) (l : Here) (d : KdlDocument) → w ≡ l.rest → l.rest ≡ t → BuildAnswers w l.rest (Ok d) → Reads t (document_tree d)
-whole_read t w l d e f a = subst (λ (z : Text). Runs z (document_tree d) (initial t) t) (e ∙ f) (subst (λ (z : Text). Runs w (document_tree d) (initial z) z) f a)
+pub whole_read : (t w : Text) (l : Here) (d : DocumentParts KdlNode) → w ≡ l.rest → l.rest ≡ t → BuildAnswers node_tree w l.rest (Ok d) → Reads t (document_by node_tree d)
+whole_read t w l d e f a = subst (λ (z : Text). Runs z (document_by node_tree d) (initial t) t) (e ∙ f) (subst (λ (z : Text). Runs w (document_by node_tree d) (initial z) z) f a)
 
-pub nothing_read : (t w : Text) (l : Here) (e : LexFailure) → w ≡ l.rest → l.rest ≡ t → BuildAnswers w l.rest (Err e) → NoNode t e
+pub nothing_read : (t w : Text) (l : Here) (e : LexFailure) → w ≡ l.rest → l.rest ≡ t → BuildAnswers node_tree w l.rest (Err e) → NoNode t e
 nothing_read t w l (Faulty fault) p q a =
-    let b : BuildAnswers t t (Err (Faulty fault)) = subst (λ (z : Text). BuildAnswers z t (Err (Faulty fault))) (p ∙ q) (subst (λ (z : Text). BuildAnswers w z (Err (Faulty fault))) q a) in
+    let b : BuildAnswers node_tree t t (Err (Faulty fault)) = subst (λ (z : Text). BuildAnswers node_tree z t (Err (Faulty fault))) (p ∙ q) (subst (λ (z : Text). BuildAnswers node_tree w z (Err (Faulty fault))) q a) in
     (λ x i. (let o = only_node i in b.0 (document (Some (record { leading = []; trailing = o.trailing })) o.span (first o.tree none)) o.runs), b.1)
 nothing_read t w l Memory p q a = tt

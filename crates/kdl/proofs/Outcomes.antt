@@ -1,5 +1,5 @@
 -- What the answer on a whole text says of the grammar.
-use Rattle.std.proofs.Common.{◌≡◌, ℕ, List, ◌+◌, ◌*◌, ◌≤◌, length, arith, true, false, ◌∷◌, Result, Ok, Err, refl, sym, ap, subst, ◌∙◌}
+use Rattle.std.proofs.Common.{◌≡◌, ℕ, List, ◌+◌, ◌*◌, ◌≤◌, length, arith, true, false, ◌∷◌, Ok, Err, refl, sym, ap, subst, ◌∙◌}
 use Rattle.std.specs.Str.{chars, IsUtf8}
 use Rattle.kdl_text.specs.Chars.{Text, begins}
 use Rattle.kdl_entry.specs.Tokens.{Token, t_mark}
@@ -7,7 +7,7 @@ use Rattle.kdl_entry.specs.declared.items.lexer.LexFailure.{LexFailure}
 use Rattle.kdl_entry.specs.declared.items.lexer.LexFailure.TheVariants.{Faulty, Memory}
 use Rattle.kdl_entry.proofs.Cutting.{token_det}
 use Rattle.kdl_text.proofs.Texts.{bytes-chars}
-use Rattle.kdl.specs.Answered.{BuildAnswers, ReadAnswers}
+use Rattle.kdl.specs.Answered.{ReadAnswers}
 use Rattle.kdl.specs.Counted.{Counted}
 use Rattle.kdl_grammar.specs.Data.{Nodes}
 use Rattle.kdl_grammar.specs.Former.{IsFormerDocument}
@@ -16,8 +16,12 @@ use Rattle.kdl_grammar.specs.Laid.{LaidDocument, with_mark}
 use Rattle.kdl_grammar.specs.Machine.{step, initial, Runs, reads, Answers}
 use Rattle.kdl_grammar.specs.Print.{print_document}
 use Rattle.kdl_grammar.specs.Tree.{Document, document_data}
-use Rattle.kdl.specs.Tree.{document_tree}
+use Rattle.kdl.specs.Tree.{node_tree, document_tree}
 use Rattle.kdl.specs.declared.document.KdlDocument.{KdlDocument}
+use Rattle.kdl.specs.declared.node.KdlNode.{KdlNode}
+use Rattle.kdl_parser.specs.Answered.{BuildAnswers}
+use Rattle.kdl_parser.specs.Parts.{document_by}
+use Rattle.kdl_parser.specs.declared.parts.DocumentParts.{DocumentParts}
 use Rattle.kdl_grammar.proofs.Erased.{sound, answered, one_document}
 use Rattle.kdl_grammar.proofs.LaidPrinted.{printed}
 use Rattle.kdl_grammar.proofs.Widening.{wider}
@@ -34,10 +38,12 @@ no_unmarked : {t : Text} {d : Document} → Answers t d → ((u : Text) → t �
 no_unmarked (Answers.unmarked {d = d} a) n f = f d a
 no_unmarked (Answers.marked {t = s} a) n f = n s refl
 
-pub unmarked_answers : (t : Text) (result : Result KdlDocument LexFailure) → ((u : Text) → t ≡ 0xFEFF ∷ u → ⊥) → BuildAnswers t t result → ReadAnswers t result
-unmarked_answers t (Ok d) n a = Answers.unmarked a
-unmarked_answers t (Err (Faulty fault)) n a = (λ d x. no_unmarked x n a.0, a.1)
-unmarked_answers t (Err Memory) n a = tt
+pub unmarked_answer : (t : Text) (p : DocumentParts KdlNode) (d : KdlDocument) → BuildAnswers node_tree t t (Ok p) → document_tree d ≡ document_by node_tree p → ReadAnswers t (Ok d)
+unmarked_answer t p d a e = subst (λ (z : Document). Answers t z) (sym e) (Answers.unmarked a)
+
+pub unmarked_failure : (t : Text) (e : LexFailure) → ((u : Text) → t ≡ 0xFEFF ∷ u → ⊥) → BuildAnswers node_tree t t (Err e) → ReadAnswers t (Err e)
+unmarked_failure t (Faulty fault) n a = (λ d x. no_unmarked x n a.0, a.1)
+unmarked_failure t Memory n a = tt
 
 pub not_begins : (t : Text) → begins 0xFEFF t ≡ false → (u : Text) → t ≡ 0xFEFF ∷ u → ⊥
 not_begins t n u e = let f = ap (begins 0xFEFF) e in cc
@@ -47,12 +53,12 @@ no_marked : {t : Text} {d : Document} → Answers t d → (u : Text) → t ≡ 0
 no_marked (Answers.unmarked {t = t} {d = d} a) u e f = no_mark t u d (subst (λ (z : Text). Runs t d (initial z) z) e a)
 no_marked (Answers.marked {t = s} {d = d} a) u e f = let g : s ≡ u = cc in f d (subst (λ (z : Text). Runs (0xFEFF ∷ s) d (initial z) z) g a)
 
-pub marked_answer : (t u : Text) (d d' : KdlDocument) → t ≡ 0xFEFF ∷ u → BuildAnswers t u (Ok d) → document_tree d' ≡ with_mark (document_tree d) → ReadAnswers t (Ok d')
-marked_answer t u d d' e a f =
-    let b : Runs (0xFEFF ∷ u) (document_tree d) (initial u) u = subst (λ (z : Text). Runs z (document_tree d) (initial u) u) e a in
-    subst (λ (z : Text). Answers z (document_tree d')) (sym e) (subst (λ (z : Document). Answers (0xFEFF ∷ u) z) (sym f) (Answers.marked b))
+pub marked_answer : (t u : Text) (p : DocumentParts KdlNode) (d : KdlDocument) → t ≡ 0xFEFF ∷ u → BuildAnswers node_tree t u (Ok p) → document_tree d ≡ with_mark (document_by node_tree p) → ReadAnswers t (Ok d)
+marked_answer t u p d e a f =
+    let b : Runs (0xFEFF ∷ u) (document_by node_tree p) (initial u) u = subst (λ (z : Text). Runs z (document_by node_tree p) (initial u) u) e a in
+    subst (λ (z : Text). Answers z (document_tree d)) (sym e) (subst (λ (z : Document). Answers (0xFEFF ∷ u) z) (sym f) (Answers.marked b))
 
-pub marked_failure : (t u : Text) (e : LexFailure) → t ≡ 0xFEFF ∷ u → BuildAnswers t u (Err e) → ReadAnswers t (Err e)
+pub marked_failure : (t u : Text) (e : LexFailure) → t ≡ 0xFEFF ∷ u → BuildAnswers node_tree t u (Err e) → ReadAnswers t (Err e)
 marked_failure t u (Faulty fault) e a = (λ d x. no_marked x u e a.0, a.1)
 marked_failure t u Memory e a = tt
 

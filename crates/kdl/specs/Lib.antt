@@ -1,5 +1,4 @@
 pub mod Answered
-pub mod Building
 pub mod Change
 pub mod EditLaw
 pub mod Edits

@@ -1,13 +1,10 @@
 -- Nodes that are a whole text, and what is answered on one.
-use Rattle.std.specs.Prelude.{◌≡◌, Bool, true, false, List, [], ◌∷◌, Option, Some, None, Result, Ok, Err}
-use Rattle.kdl_text.specs.Chars.{Text, Star}
+use Rattle.std.specs.Prelude.{◌≡◌, true, List, [], ◌∷◌, Option, Some, None, Result, Ok, Err}
+use Rattle.kdl_text.specs.Chars.{Text}
 use Rattle.kdl_text.specs.Spans.{InText}
-use Rattle.kdl_text.specs.Trivia.{LineSpace}
 use Rattle.kdl_text.specs.declared.span.SourceSpan.{SourceSpan}
 use Rattle.kdl_entry.specs.declared.items.lexer.LexFailure.{LexFailure}
 use Rattle.kdl_entry.specs.declared.items.lexer.LexFailure.TheVariants.{Faulty, Memory}
-use Rattle.kdl_entry.specs.declared.items.lexer.TokenKind.{TokenKind}
-use Rattle.kdl_entry.specs.declared.items.lexer.TokenKind.TheVariants.{Space, Newline}
 use Rattle.kdl_grammar.specs.Data as data'
 use Rattle.kdl_grammar.specs.Grammar.{IsNodeText}
 use Rattle.kdl_grammar.specs.Laid.{LaidNodeText}
@@ -24,24 +21,6 @@ trailed t (Some f) = Some (record f { trailing = t })
 -- the node with the text behind its terminator, and the span of the text that it is
 abbrev pub alone : Node → Text → SourceSpan → Node
 alone (node h k) t at = node (record h { format = trailed t h.format; span = at }) k
-
--- a token that is made of line-spaces
-abbrev pub is_line_space : TokenKind → Bool
-is_line_space Space = true
-is_line_space Newline = true
-is_line_space _ = false
-
--- whether the text t is line-spaces alone; else a place of it is told
-abbrev pub AreLineSpaces : Text → Result (Unit {0}) LexFailure → Type 0
-AreLineSpaces t (Ok _) = Star LineSpace t []
-AreLineSpaces t (Err (Faulty fault)) = (Star LineSpace t [] → ⊥) × InText t fault.span
-AreLineSpaces t (Err Memory) = Unit {0}
-
--- the same of an end u of the text t, in which the place is told
-abbrev pub EndInLineSpaces : Text → Text → Result (Unit {0}) LexFailure → Type 0
-EndInLineSpaces t u (Ok _) = Star LineSpace u []
-EndInLineSpaces t u (Err (Faulty fault)) = (Star LineSpace u [] → ⊥) × InText t fault.span
-EndInLineSpaces t u (Err Memory) = Unit {0}
 
 -- what the machine answers on the text
 abbrev pub Reads : Text → Document → Type 0

@@ -1,7 +1,8 @@
 //! Documents.
 
 ghost use Rattle.kdl_grammar.specs.Tree.{document, none};
-ghost use Rattle.kdl.specs.Tree.{nodes_tree, document_tree, document_format_tree};
+ghost use Rattle.kdl.specs.Tree.{node_tree, document_tree, document_format_tree};
+ghost use Rattle.kdl_parser.specs.Parts.{document_by};
 ghost use Rattle.kdl_grammar.specs.Laid.{with_mark, marked_format};
 ghost use Rattle.kdl_entry.specs.Tree.{text_of};
 ghost use Rattle.kdl_grammar.specs.Print.{print_document, print_block, leading_text, trailing_text, after_brace, before_brace};
@@ -19,6 +20,7 @@ mod lookup;
 use crate::node::KdlNode;
 use crate::print::write_spaces;
 use kdl_entry::write_text;
+use kdl_parser::DocumentParts;
 use kdl_text::span::SourceSpan;
 use std::alloc::{AllocError, Global};
 use std::fmt;
@@ -81,17 +83,17 @@ impl KdlDocument {
     }
 
     /// A document as it was read.
-    pub(crate) fn parsed(
-        nodes: Vec<KdlNode>,
-        format: KdlDocumentFormat,
-        span: SourceSpan,
-    ) -> KdlDocument
-        ensures { document_tree result ≡ document (Some (document_format_tree format)) span (nodes_tree nodes.items) }
+    pub(crate) fn parsed(parts: DocumentParts<KdlNode>) -> KdlDocument
+        ensures { document_tree result ≡ document_by node_tree parts }
     {
+        let format = KdlDocumentFormat {
+            leading: parts.leading,
+            trailing: parts.trailing,
+        };
         KdlDocument {
-            nodes,
+            nodes: parts.nodes,
             format: Some(format),
-            span,
+            span: parts.span,
         }
     }
 
@@ -101,13 +103,6 @@ impl KdlDocument {
     {
         self.format = Some(behind_mark(alloc, self.format.take())?);
         Ok(self)
-    }
-
-    /// The nodes, the texts around them and the span.
-    pub(crate) fn into_parts(self) -> (Vec<KdlNode>, Option<KdlDocumentFormat>, SourceSpan)
-        ensures { document_tree self ≡ document (option_map document_format_tree result.1) result.2 (nodes_tree result.0.items) }
-    {
-        (self.nodes, self.format, self.span)
     }
 
     /// The nodes, in order.

@@ -1,7 +1,6 @@
 //! KDL 2 documents: nodes and documents that keep every byte of their form.
 #![tactic(auto)]
 
-mod builder;
 mod document;
 pub mod laws;
 mod node;

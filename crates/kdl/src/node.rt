@@ -17,6 +17,7 @@ mod fields;
 pub mod iter;
 pub mod key;
 mod lookup;
+mod parsed;
 pub(crate) mod places;
 
 use crate::document::KdlDocument;
@@ -108,27 +109,6 @@ pub struct KdlNode {
 }
 
 impl KdlNode {
-    /// A node as it was read.
-    pub(crate) fn parsed(
-        ty: Option<KdlIdentifier>,
-        name: KdlIdentifier,
-        entries: Vec<KdlEntry>,
-        children: Option<KdlDocument>,
-        format: KdlNodeFormat,
-        span: SourceSpan,
-    ) -> KdlNode
-        ensures { node_tree result ≡ node (record { ty = option_map identifier_tree ty; name = identifier_tree name; entries = map entry_tree entries.items; format = Some (node_format_tree format); span = span }) (children_of (option_map document_tree children)) }
-    {
-        KdlNode {
-            ty,
-            name,
-            entries,
-            children,
-            format: Some(format),
-            span,
-        }
-    }
-
     /// The node as it stands in a text of its own: with the text behind its terminator, and the span.
     pub(crate) fn alone(mut self, trailing: String, whole: SourceSpan) -> KdlNode
         ensures { node_tree result ≡ alone (node_tree self) (text_of trailing) whole }

@@ -1,64 +1,25 @@
 //! Documents, read from the tokens of a text one by one.
 
-ghost use Rattle.kdl.specs.Answered.{BuildAnswers, ReadAnswers};
-ghost use Rattle.kdl_grammar.specs.Machine.{initial};
-ghost use Rattle.kdl.specs.Building.{EndsIn, state_view};
-ghost use Rattle.kdl.specs.Counted.{ReadThrough, Counted, unsliced};
+ghost use Rattle.kdl.specs.Answered.{ReadAnswers};
+ghost use Rattle.kdl.specs.Counted.{Counted};
 ghost use Rattle.kdl.specs.Tree.{document_tree};
-ghost use Rattle.kdl_text.specs.Here.{bytes, raise};
+ghost use Rattle.kdl_text.specs.Here.{raise};
 ghost use Rattle.std.specs.Prelude.{◌≡◌, ◌+◌, ◌*◌, ◌≤◌, length, IfOk, OnOk};
 ghost use Rattle.std.specs.Str.{chars};
 
 mod nodes;
 
-use crate::builder::Builder;
 use crate::document::KdlDocument;
 use kdl_entry::items::refusal::failure;
 use kdl_entry::items::{LexFailure, Lexer};
-use kdl_text::chars::{Checkpoint, Steps};
+use kdl_parser::build;
+use kdl_text::chars::Steps;
 use kdl_text::error::ParseFailure;
 use std::alloc::Global;
 use std::mem;
 
-/// The machine's answer on what the lexer has before it, by a builder that has seen no token yet.
-#[tactic(auto, using(crate::proofs::Counting::counting_starts, crate::proofs::Counting::counting_ends, crate::proofs::TokenTurns::starts, crate::proofs::TokenTurns::goes_on, crate::proofs::TokenTurns::placed_start, crate::proofs::TokenTurns::start_end, crate::proofs::TokenTurns::lexer_told, crate::proofs::TokenTurns::take_told, crate::proofs::TokenTurns::all_read, crate::proofs::TokenTurns::stops_going, crate::proofs::TokenTurns::from_now, crate::proofs::TokenTurns::finish_told, crate::proofs::TokenTurns::nearer))]
-fn build_with<'a>(
-    alloc: Global,
-    builder: &mut Builder<'a>,
-    lexer: &mut Lexer<'a>,
-) -> Result<KdlDocument, LexFailure>
-    requires state { state_view builder.old ≡ initial lexer.old.rest }
-    requires unsliced { unsliced builder.old ≡ bytes lexer.old.rest }
-    requires text { EndsIn builder.old.whole.rest lexer.old.rest }
-    requires at { lexer.old.at + bytes lexer.old.rest ≡ bytes builder.old.whole.rest }
-    ensures answers { BuildAnswers builder.old.whole.rest lexer.old.rest result }
-    ensures counted { OnOk result (ReadThrough lexer.old lexer.new) }
-    ensures counts { raise lexer.old.steps 0 ≤ raise lexer.new.steps 0 }
-{
-    'tokens: while let Some(token) = lexer.next(alloc)? {
-        builder.take(alloc, lexer, token)?;
-    }
-    builder.finish(alloc, lexer)
-}
-
-/// The machine's answer on what the lexer has before it, the text or what follows its U+FEFF.
-fn build<'a>(
-    alloc: Global,
-    whole: Checkpoint<'a>,
-    lexer: &mut Lexer<'a>,
-) -> Result<KdlDocument, LexFailure>
-    requires text { EndsIn whole.rest lexer.old.rest }
-    requires at { lexer.old.at + bytes lexer.old.rest ≡ bytes whole.rest }
-    ensures answers { BuildAnswers whole.entry.rest lexer.old.rest result }
-    ensures counted { OnOk result (ReadThrough lexer.old lexer.new) }
-    ensures counts { raise lexer.old.steps 0 ≤ raise lexer.new.steps 0 }
-{
-    let mut builder = Builder::new(alloc, whole, lexer.checkpoint());
-    build_with(alloc, &mut builder, lexer)
-}
-
 /// The machine's answer on the text that the lexer is at the start of.
-#[tactic(auto, using(crate::proofs::LeadingMark::mark_ends, crate::proofs::LeadingMark::mark_at, crate::proofs::LeadingMark::without_mark, crate::proofs::LeadingMark::behind_mark, crate::proofs::LeadingMark::fails_behind_mark))]
+#[tactic(auto, using(crate::proofs::LeadingMark::mark_ends, crate::proofs::LeadingMark::mark_at, crate::proofs::LeadingMark::without_mark, crate::proofs::LeadingMark::fails_without_mark, crate::proofs::LeadingMark::behind_mark, crate::proofs::LeadingMark::fails_behind_mark))]
 fn read_all(alloc: Global, lexer: &mut Lexer) -> Result<KdlDocument, LexFailure>
     requires { lexer.old.at ≡ 0 }
     ensures answers { ReadAnswers lexer.old.rest result }
@@ -67,12 +28,10 @@ fn read_all(alloc: Global, lexer: &mut Lexer) -> Result<KdlDocument, LexFailure>
 {
     let whole = lexer.checkpoint();
     if !lexer.eat_mark() {
-        return build(alloc, whole, lexer);
+        return Ok(KdlDocument::parsed(build(alloc, whole, lexer)?));
     }
-    match build(alloc, whole, lexer) {
-        Ok(document) => Ok(document.marked(alloc)?),
-        Err(failure) => Err(failure),
-    }
+    let document = KdlDocument::parsed(build(alloc, whole, lexer)?);
+    Ok(document.marked(alloc)?)
 }
 
 /// The machine's answer on the text, which raises the count.

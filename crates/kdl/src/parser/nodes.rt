@@ -1,95 +1,22 @@
 //! Nodes that are a whole text.
 
-ghost use Rattle.kdl.specs.Building.{EndsIn};
-ghost use Rattle.kdl.specs.NodeText as node_text;
-ghost use Rattle.kdl.specs.NodeText.{AreLineSpaces, EndInLineSpaces, Reads, ReadsNodes, IsOnly, NodeAnswers};
-ghost use Rattle.kdl_grammar.specs.Print.{trailing_text};
-ghost use Rattle.kdl_grammar.specs.Tree.{DocumentFormat, none, first};
-ghost use Rattle.kdl.specs.Tree.{document_tree, document_format_tree, node_tree, nodes_tree};
+ghost use Rattle.kdl.specs.NodeText.{Reads, ReadsNodes, IsOnly, NodeAnswers};
+ghost use Rattle.kdl.specs.Tree.{node_tree, nodes_tree};
 ghost use Rattle.kdl_entry.specs.Tree.{text_of};
-ghost use Rattle.kdl_text.specs.Spans.{InText};
-ghost use Rattle.std.specs.Prelude.{◌≡◌, IfOk, Option, option_map, true};
+ghost use Rattle.kdl_grammar.specs.Tree.{DocumentFormat, none, first};
+ghost use Rattle.kdl_parser.specs.Parts.{document_by};
+ghost use Rattle.kdl_text.specs.Chars.{Text};
+ghost use Rattle.std.specs.Prelude.{◌≡◌, IfOk, Option, Some, true};
 ghost use Rattle.std.specs.Str.{chars};
 
-use super::build;
-use crate::document::{KdlDocument, KdlDocumentFormat};
 use crate::node::KdlNode;
-use kdl_entry::items::item::{empty, misplaced};
 use kdl_entry::items::refusal::failure;
-use kdl_entry::items::{Fault, FaultKind, LexFailure, Lexer, TokenKind};
+use kdl_entry::items::{LexFailure, Lexer};
+use kdl_parser::{DocumentParts, build, fault_at, trailing_line_spaces};
 use kdl_text::chars::Steps;
 use kdl_text::error::ParseFailure;
 use kdl_text::span::SourceSpan;
 use std::alloc::Global;
-
-/// Whether the token is made of line-spaces.
-fn is_line_space(kind: &TokenKind) -> bool
-    ensures { result ≡ node_text.is_line_space kind.now }
-{
-    matches!(kind, TokenKind::Space | TokenKind::Newline)
-}
-
-/// Reads line-spaces to the end of the text. A fault at the first token that is none, or the first piece that is no
-/// token.
-#[tactic(auto, using(crate::proofs::LineSpaces::lines_start, crate::proofs::LineSpaces::lines_fail, crate::proofs::LineSpaces::lines_nearer))]
-fn line_spaces(alloc: Global, text: &str) -> Result<(), LexFailure>
-    ensures { AreLineSpaces (chars text.now) result }
-{
-    let mut lexer = Lexer::new(text, Steps::new());
-    'tokens: while let Some(token) = lexer.next(alloc)? {
-        if !is_line_space(&token.kind) {
-            return Err(LexFailure::Faulty(misplaced(&token.start)));
-        }
-    }
-    Ok(())
-}
-
-/// A fault at the span.
-fn fault_at(span: SourceSpan) -> Fault
-    ensures { result.span ≡ span }
-{
-    Fault {
-        kind: FaultKind::Other,
-        span,
-    }
-}
-
-/// The span in the text, where it was told of the text's end.
-fn behind(text: &str, end: &str, span: SourceSpan) -> SourceSpan
-    requires ends { EndsIn (chars text.now) (chars end.now) }
-    requires told { InText (chars end.now) span }
-    ensures { InText (chars text.now) result }
-{
-    let to_end = end.len() - span.offset;
-    SourceSpan {
-        offset: text.len() - to_end,
-        len: span.len,
-    }
-}
-
-/// Reads line-spaces to the end of the trailing text, with which the text ends. A fault is told in the text.
-fn trailing_line_spaces(alloc: Global, text: &str, trailing: &str) -> Result<(), LexFailure>
-    requires { EndsIn (chars text.now) (chars trailing.now) }
-    ensures { EndInLineSpaces (chars text.now) (chars trailing.now) result }
-{
-    match line_spaces(alloc, trailing) {
-        Ok(()) => Ok(()),
-        Err(LexFailure::Faulty(fault)) => Err(LexFailure::Faulty(fault_at(behind(
-            text, trailing, fault.span,
-        )))),
-        Err(LexFailure::Memory) => Err(LexFailure::Memory),
-    }
-}
-
-/// The text behind the last node.
-fn trailing_of(alloc: Global, format: Option<KdlDocumentFormat>) -> String
-    ensures { text_of result ≡ trailing_text (option_map document_format_tree format) }
-{
-    match format {
-        Some(format) => format.trailing,
-        None => empty(alloc),
-    }
-}
 
 /// The only one of the nodes of a text. A fault at the second one, or at the end of the text where there is none.
 fn only_node(text: &str, nodes: Vec<KdlNode>) -> Result<KdlNode, LexFailure>
@@ -111,16 +38,10 @@ fn only_node(text: &str, nodes: Vec<KdlNode>) -> Result<KdlNode, LexFailure>
 }
 
 /// The only node of a text as a text of its own, where line-spaces alone stand behind it. A fault at what else does.
-fn alone(
-    alloc: Global,
-    text: &str,
-    node: KdlNode,
-    format: Option<KdlDocumentFormat>,
-) -> Result<KdlNode, LexFailure>
-    requires { ReadsNodes (chars text.now) (option_map document_format_tree format) (first (node_tree node) none) }
+fn alone(alloc: Global, text: &str, node: KdlNode, trailing: String) -> Result<KdlNode, LexFailure>
+    requires { (leading : Text) × ReadsNodes (chars text.now) (Some (record { leading = leading; trailing = text_of trailing })) (first (node_tree node) none) }
     ensures { NodeAnswers (chars text.now) result }
 {
-    let trailing = trailing_of(alloc, format);
     match trailing_line_spaces(alloc, text, trailing.as_str()) {
         Ok(()) => {
             let len = text.len();
@@ -132,13 +53,16 @@ fn alone(
 
 /// The node that is the text, of the document that the text is.
 #[tactic(auto, using(crate::proofs::NodeTexts::some_read, crate::proofs::NodeTexts::one_read))]
-fn node_of(alloc: Global, text: &str, document: KdlDocument) -> Result<KdlNode, LexFailure>
-    requires { Reads (chars text.now) (document_tree document) }
+fn node_of(
+    alloc: Global,
+    text: &str,
+    document: DocumentParts<KdlNode>,
+) -> Result<KdlNode, LexFailure>
+    requires { Reads (chars text.now) (document_by node_tree document) }
     ensures { NodeAnswers (chars text.now) result }
 {
-    let (nodes, format, _) = document.into_parts();
-    match only_node(text, nodes) {
-        Ok(node) => alone(alloc, text, node, format),
+    match only_node(text, document.nodes) {
+        Ok(node) => alone(alloc, text, node, document.trailing),
         Err(failure) => Err(failure),
     }
 }
@@ -150,10 +74,8 @@ fn read_node(alloc: Global, text: &str) -> Result<KdlNode, LexFailure>
 {
     let mut lexer = Lexer::new(text, Steps::new());
     let whole = lexer.checkpoint();
-    match build(alloc, whole, &mut lexer) {
-        Ok(document) => node_of(alloc, text, document),
-        Err(failure) => Err(failure),
-    }
+    let document = build(alloc, whole, &mut lexer)?;
+    node_of(alloc, text, document)
 }
 
 impl KdlNode {

@@ -1,5 +1,0 @@
-use Rattle.kdl.proofs.Counting.{begun}
-use Rattle.kdl.proofs.builder.Builder.begin_node.Goals as goal
-
-pub returns-in_default-clause-sliced : goal.returns-in_default-clause-sliced
-returns-in_default-clause-sliced c = begun c.args.kept _ c.args.start.now c.args.end.now c.copied-self.result c.args.lexer.now c.if-not-kept.false c.requires.token c.copied-self.ensures

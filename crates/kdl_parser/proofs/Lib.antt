@@ -1,0 +1,11 @@
+pub mod Bridge
+pub mod Contents
+pub mod Counting
+pub mod Held
+pub mod ItemTurns
+pub mod LineSpaces
+pub mod MachineSteps
+pub mod Origins
+pub mod Placing
+pub mod TokenTurns
+pub mod Views

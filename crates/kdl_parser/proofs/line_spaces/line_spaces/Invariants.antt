@@ -1,0 +1,10 @@
+use Rattle.std.proofs.Common.{length}
+use Rattle.std.specs.Str.{chars}
+use Rattle.kdl_parser.proofs.LineSpaces.{Lines}
+use Rattle.kdl_parser.proofs.line_spaces.line_spaces.Given as goal
+
+abbrev pub invariant-tokens : goal.invariant-tokens
+invariant-tokens l = Lines l.lexer (chars l.fn.text)
+
+abbrev pub decreases-tokens : goal.decreases-tokens
+decreases-tokens l = length l.lexer.rest

@@ -1,0 +1,27 @@
+-- Line-spaces alone, up to the end of a text.
+use Rattle.std.specs.Prelude.{Bool, true, false, [], Result, Ok, Err}
+use Rattle.kdl_text.specs.Chars.{Text, Star}
+use Rattle.kdl_text.specs.Spans.{InText}
+use Rattle.kdl_text.specs.Trivia.{LineSpace}
+use Rattle.kdl_entry.specs.declared.items.lexer.LexFailure.{LexFailure}
+use Rattle.kdl_entry.specs.declared.items.lexer.LexFailure.TheVariants.{Faulty, Memory}
+use Rattle.kdl_entry.specs.declared.items.lexer.TokenKind.{TokenKind}
+use Rattle.kdl_entry.specs.declared.items.lexer.TokenKind.TheVariants.{Space, Newline}
+
+-- a token that is made of line-spaces
+abbrev pub is_line_space : TokenKind → Bool
+is_line_space Space = true
+is_line_space Newline = true
+is_line_space _ = false
+
+-- whether the text t is line-spaces alone; else a place of it is told
+abbrev pub AreLineSpaces : Text → Result (Unit {0}) LexFailure → Type 0
+AreLineSpaces t (Ok _) = Star LineSpace t []
+AreLineSpaces t (Err (Faulty fault)) = (Star LineSpace t [] → ⊥) × InText t fault.span
+AreLineSpaces t (Err Memory) = Unit {0}
+
+-- the same of an end u of the text t, in which the place is told
+abbrev pub EndInLineSpaces : Text → Text → Result (Unit {0}) LexFailure → Type 0
+EndInLineSpaces t u (Ok _) = Star LineSpace u []
+EndInLineSpaces t u (Err (Faulty fault)) = (Star LineSpace u [] → ⊥) × InText t fault.span
+EndInLineSpaces t u (Err Memory) = Unit {0}

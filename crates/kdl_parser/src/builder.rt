@@ -1,0 +1,503 @@
+//! The builder: a document under way, token by token.
+
+ghost use Rattle.kdl_parser.specs.Answered.{Finished};
+ghost use Rattle.kdl_grammar.specs.Machine as machine;
+ghost use Rattle.kdl_grammar.specs.Machine.{at, initial};
+ghost use Rattle.kdl_parser.specs.Building.{nodes_view, frames_view, state_view, held, Did, EndsIn, Placed};
+ghost use Rattle.kdl_parser.specs.Counted.{unsliced};
+ghost use Rattle.kdl_grammar.specs.Tree.{node};
+ghost use Rattle.kdl_entry.specs.Building.{Stays};
+ghost use Rattle.kdl_entry.specs.Counted.{Sliced};
+ghost use Rattle.kdl_entry.specs.Data.{text};
+ghost use Rattle.kdl_entry.specs.Handed.{kind_view};
+ghost use Rattle.kdl_entry.specs.Items.{between};
+ghost use Rattle.kdl_text.specs.Here.{Ahead, bytes, raise};
+ghost use Rattle.kdl_parser.specs.declared.builder.Phase.{Phase};
+ghost use Rattle.kdl_parser.specs.declared.builder.Waiting.{Waiting};
+ghost use Rattle.std.specs.Prelude.{◌≡◌, ◌+◌, ◌≤◌, if◌then◌else◌, [], Some, None, true, false, OnOk};
+
+mod content;
+mod steps;
+
+use self::content::content;
+use crate::parts::{DocumentParts, ParsedNode};
+use kdl_entry::items::item::{Item, TypeParts, misplaced, text_between};
+use kdl_entry::items::{LexFailure, Lexer, Token, TokenKind};
+use kdl_entry::{KdlEntry, KdlIdentifier};
+use kdl_text::chars::Checkpoint;
+use std::alloc::Global;
+
+/// Where in the grammar the builder is.
+#[derive(Clone, Copy, Debug, PartialEq, Eq)]
+enum Phase {
+    /// Between nodes.
+    Gap,
+    /// Between nodes, behind `/-`.
+    Marked,
+    /// In a type, or behind the `=` of a property.
+    InItem,
+    /// Directly behind the name or an entry of a node.
+    Fresh,
+    /// Behind spaces there.
+    Spaced,
+    /// Behind a block that counts for nothing, where the node's own may follow.
+    Later,
+    /// Behind `/-` where an entry or a block may follow.
+    EntryMark,
+    /// Behind `/-` where a block may follow.
+    BlockMark,
+    /// Behind the node's block.
+    Behind,
+    /// Behind `/-` there.
+    BehindMark,
+}
+
+/// The node under way.
+#[derive(Drop)]
+struct Under<'a> {
+    leading: String,
+    start: Checkpoint<'a>,
+    ty: Option<TypeParts>,
+    name: KdlIdentifier,
+    entries: Vec<KdlEntry>,
+}
+
+/// A node with its block, and the text before the block.
+#[derive(Drop)]
+struct Kept<'a, N> {
+    under: Under<'a>,
+    before: String,
+    block: DocumentParts<N>,
+}
+
+/// An open block: what it belongs to, and the nodes before that. `None` for what counts for nothing.
+#[derive(Drop)]
+enum Frame<'a, N> {
+    /// The block of a node, and the text before it.
+    Block(Option<Under<'a>>, String, Option<Vec<N>>),
+    /// A block that counts for nothing.
+    DroppedBlock(Option<Under<'a>>, Option<Vec<N>>),
+    /// A block that counts for nothing, behind the node's own.
+    LaterBlock(Option<Kept<'a, N>>, Option<Vec<N>>),
+}
+
+/// A string in a node that is a key where `=` follows, and else an argument.
+#[derive(Drop)]
+struct WaitingWord<'a> {
+    leading: String,
+    start: Checkpoint<'a>,
+    value: String,
+    repr: String,
+}
+
+/// Whether a string waits that may be a key.
+#[derive(Drop)]
+enum Waiting<'a> {
+    Nothing,
+    /// One of an entry that counts for nothing.
+    Dropped,
+    Word(WaitingWord<'a>),
+}
+
+/// A document under way. Of what counts for nothing no text is held.
+#[derive(Drop)]
+pub(crate) struct Builder<'a, N> {
+    whole: Checkpoint<'a>,
+    phase: Phase,
+    item: Item<'a>,
+    waiting: Waiting<'a>,
+    under: Option<Under<'a>>,
+    kept: Option<Kept<'a, N>>,
+    nodes: Option<Vec<N>>,
+    frames: Vec<Frame<'a, N>>,
+    from: Checkpoint<'a>,
+}
+
+impl<'a, N: ParsedNode> Builder<'a, N> {
+    /// A builder at the start of a text, or behind its U+FEFF.
+    pub(crate) fn new(alloc: Global, whole: Checkpoint<'a>, start: Checkpoint<'a>) -> Self
+        ensures state { state_view N.tree result ≡ initial start.entry.rest }
+        ensures unsliced { unsliced result ≡ bytes start.entry.rest }
+        ensures whole { result.whole ≡ whole.entry }
+    {
+        let item = Item::new(alloc, &start);
+        Builder {
+            whole,
+            phase: Phase::Gap,
+            item,
+            waiting: Waiting::Nothing,
+            under: None,
+            kept: None,
+            nodes: Some(Vec::new(alloc)),
+            frames: Vec::new(alloc),
+            from: start,
+        }
+    }
+
+    /// A token between nodes.
+    fn at_gap(
+        &mut self,
+        alloc: Global,
+        lexer: &mut Lexer<'a>,
+        kind: TokenKind,
+        start: &Checkpoint<'a>,
+        end: &Checkpoint<'a>,
+    ) -> Result<(), LexFailure>
+        requires from { Ahead self.old.from start.now }
+        requires token { Ahead start.now end.now }
+        requires phase { self.old.phase ≡ Phase.Gap }
+        ensures did { Did (machine.step self.old.whole.rest (state_view N.tree self.old) (kind_view kind) start.now.rest end.now.rest) start.now result (state_view N.tree self.new) }
+        ensures whole { self.new.whole ≡ self.old.whole }
+        ensures stays { Stays lexer.old lexer.new }
+        ensures sliced { OnOk result (Sliced (unsliced self.old) (unsliced self.new) lexer.old lexer.new) }
+    {
+        let counts = self.nodes.is_some();
+        match kind {
+            TokenKind::Space | TokenKind::Newline => Ok(()),
+            TokenKind::Slashdash => {
+                self.phase = Phase::Marked;
+                Ok(())
+            },
+            TokenKind::String(name) => Ok(self.name_node(alloc, lexer, counts, name, start, end)?),
+            TokenKind::Left => Ok(self.open_name(alloc, lexer, counts, start, end)?),
+            TokenKind::Closing => self.close(alloc, lexer, start, end),
+            _ => Err(LexFailure::Faulty(misplaced(start))),
+        }
+    }
+
+    /// A token behind `/-` between nodes.
+    fn at_marked(
+        &mut self,
+        alloc: Global,
+        lexer: &mut Lexer<'a>,
+        kind: TokenKind,
+        start: &Checkpoint<'a>,
+        end: &Checkpoint<'a>,
+    ) -> Result<(), LexFailure>
+        requires from { Ahead self.old.from start.now }
+        requires token { Ahead start.now end.now }
+        requires phase { self.old.phase ≡ Phase.Marked }
+        ensures did { Did (machine.step self.old.whole.rest (state_view N.tree self.old) (kind_view kind) start.now.rest end.now.rest) start.now result (state_view N.tree self.new) }
+        ensures whole { self.new.whole ≡ self.old.whole }
+        ensures stays { Stays lexer.old lexer.new }
+        ensures sliced { OnOk result (Sliced (unsliced self.old) (unsliced self.new) lexer.old lexer.new) }
+    {
+        match kind {
+            TokenKind::Space | TokenKind::Newline => Ok(()),
+            TokenKind::String(name) => Ok(self.name_node(alloc, lexer, false, name, start, end)?),
+            TokenKind::Left => Ok(self.open_name(alloc, lexer, false, start, end)?),
+            _ => Err(LexFailure::Faulty(misplaced(start))),
+        }
+    }
+
+    /// A token directly behind a name or an entry.
+    fn at_fresh(
+        &mut self,
+        alloc: Global,
+        lexer: &mut Lexer<'a>,
+        kind: TokenKind,
+        start: &Checkpoint<'a>,
+        end: &Checkpoint<'a>,
+    ) -> Result<(), LexFailure>
+        requires from { Ahead self.old.from start.now }
+        requires token { Ahead start.now end.now }
+        requires phase { self.old.phase ≡ Phase.Fresh }
+        ensures did { Did (machine.step self.old.whole.rest (state_view N.tree self.old) (kind_view kind) start.now.rest end.now.rest) start.now result (state_view N.tree self.new) }
+        ensures whole { self.new.whole ≡ self.old.whole }
+        ensures stays { Stays lexer.old lexer.new }
+        ensures sliced { OnOk result (Sliced (unsliced self.old) (unsliced self.new) lexer.old lexer.new) }
+    {
+        match kind {
+            TokenKind::Space => {
+                self.phase = Phase::Spaced;
+                Ok(())
+            },
+            TokenKind::Newline | TokenKind::Semicolon => Ok(self.end_node(
+                alloc, lexer, start, end,
+            )?),
+            TokenKind::Closing => self.close_node(alloc, lexer, start, end),
+            TokenKind::Opening => Ok(self.open_block(alloc, lexer, start, end)?),
+            TokenKind::Slashdash => Ok(self.mark(alloc)?),
+            TokenKind::Equals => self.open_property(alloc, lexer, start, end),
+            _ => Err(LexFailure::Faulty(misplaced(start))),
+        }
+    }
+
+    /// A token behind spaces in a node.
+    fn at_spaced(
+        &mut self,
+        alloc: Global,
+        lexer: &mut Lexer<'a>,
+        kind: TokenKind,
+        start: &Checkpoint<'a>,
+        end: &Checkpoint<'a>,
+    ) -> Result<(), LexFailure>
+        requires from { Ahead self.old.from start.now }
+        requires token { Ahead start.now end.now }
+        requires phase { self.old.phase ≡ Phase.Spaced }
+        ensures did { Did (machine.step self.old.whole.rest (state_view N.tree self.old) (kind_view kind) start.now.rest end.now.rest) start.now result (state_view N.tree self.new) }
+        ensures whole { self.new.whole ≡ self.old.whole }
+        ensures stays { Stays lexer.old lexer.new }
+        ensures sliced { OnOk result (Sliced (unsliced self.old) (unsliced self.new) lexer.old lexer.new) }
+    {
+        match kind {
+            TokenKind::Space => Ok(()),
+            TokenKind::Newline | TokenKind::Semicolon => Ok(self.end_node(
+                alloc, lexer, start, end,
+            )?),
+            TokenKind::Closing => self.close_node(alloc, lexer, start, end),
+            TokenKind::Opening => Ok(self.open_block(alloc, lexer, start, end)?),
+            TokenKind::Slashdash => Ok(self.mark(alloc)?),
+            TokenKind::Equals => self.open_property(alloc, lexer, start, end),
+            TokenKind::String(value) => Ok(self.wait(alloc, lexer, value, start, end)?),
+            TokenKind::Value(value) => Ok(self.add_argument(
+                alloc, lexer, true, value, start, end,
+            )?),
+            TokenKind::Left => Ok(self.open_value(alloc, lexer, true, start, end)?),
+            _ => Err(LexFailure::Faulty(misplaced(start))),
+        }
+    }
+
+    /// A token behind a block that counts for nothing, before the node's own.
+    fn at_later(
+        &mut self,
+        alloc: Global,
+        lexer: &mut Lexer<'a>,
+        kind: TokenKind,
+        start: &Checkpoint<'a>,
+        end: &Checkpoint<'a>,
+    ) -> Result<(), LexFailure>
+        requires from { Ahead self.old.from start.now }
+        requires token { Ahead start.now end.now }
+        requires phase { self.old.phase ≡ Phase.Later }
+        ensures did { Did (machine.step self.old.whole.rest (state_view N.tree self.old) (kind_view kind) start.now.rest end.now.rest) start.now result (state_view N.tree self.new) }
+        ensures whole { self.new.whole ≡ self.old.whole }
+        ensures stays { Stays lexer.old lexer.new }
+        ensures sliced { OnOk result (Sliced (unsliced self.old) (unsliced self.new) lexer.old lexer.new) }
+    {
+        match kind {
+            TokenKind::Space => Ok(()),
+            TokenKind::Newline | TokenKind::Semicolon => Ok(self.end_node(
+                alloc, lexer, start, end,
+            )?),
+            TokenKind::Closing => self.close_node(alloc, lexer, start, end),
+            TokenKind::Opening => Ok(self.open_block(alloc, lexer, start, end)?),
+            TokenKind::Slashdash => {
+                self.phase = Phase::BlockMark;
+                Ok(())
+            },
+            _ => Err(LexFailure::Faulty(misplaced(start))),
+        }
+    }
+
+    /// A token behind `/-`, where an entry or a block may follow.
+    fn at_entry_mark(
+        &mut self,
+        alloc: Global,
+        lexer: &mut Lexer<'a>,
+        kind: TokenKind,
+        start: &Checkpoint<'a>,
+        end: &Checkpoint<'a>,
+    ) -> Result<(), LexFailure>
+        requires from { Ahead self.old.from start.now }
+        requires token { Ahead start.now end.now }
+        requires phase { self.old.phase ≡ Phase.EntryMark }
+        ensures did { Did (machine.step self.old.whole.rest (state_view N.tree self.old) (kind_view kind) start.now.rest end.now.rest) start.now result (state_view N.tree self.new) }
+        ensures whole { self.new.whole ≡ self.old.whole }
+        ensures stays { Stays lexer.old lexer.new }
+        ensures sliced { OnOk result (Sliced (unsliced self.old) (unsliced self.new) lexer.old lexer.new) }
+    {
+        match kind {
+            TokenKind::Space | TokenKind::Newline => Ok(()),
+            TokenKind::String(_) => Ok(self.wait_dropped(alloc)?),
+            TokenKind::Value(value) => Ok(self.add_argument(
+                alloc, lexer, false, value, start, end,
+            )?),
+            TokenKind::Left => Ok(self.open_value(alloc, lexer, false, start, end)?),
+            TokenKind::Opening => Ok(self.open_dropped(alloc)?),
+            _ => Err(LexFailure::Faulty(misplaced(start))),
+        }
+    }
+
+    /// A token behind `/-`, where a block may follow.
+    fn at_block_mark(
+        &mut self,
+        alloc: Global,
+        lexer: &mut Lexer<'a>,
+        kind: TokenKind,
+        start: &Checkpoint<'a>,
+        end: &Checkpoint<'a>,
+    ) -> Result<(), LexFailure>
+        requires from { Ahead self.old.from start.now }
+        requires token { Ahead start.now end.now }
+        requires phase { self.old.phase ≡ Phase.BlockMark }
+        ensures did { Did (machine.step self.old.whole.rest (state_view N.tree self.old) (kind_view kind) start.now.rest end.now.rest) start.now result (state_view N.tree self.new) }
+        ensures whole { self.new.whole ≡ self.old.whole }
+        ensures stays { Stays lexer.old lexer.new }
+        ensures sliced { OnOk result (Sliced (unsliced self.old) (unsliced self.new) lexer.old lexer.new) }
+    {
+        match kind {
+            TokenKind::Space | TokenKind::Newline => Ok(()),
+            TokenKind::Opening => Ok(self.open_dropped(alloc)?),
+            _ => Err(LexFailure::Faulty(misplaced(start))),
+        }
+    }
+
+    /// A token behind a node's block.
+    fn at_behind(
+        &mut self,
+        alloc: Global,
+        lexer: &mut Lexer<'a>,
+        kind: TokenKind,
+        start: &Checkpoint<'a>,
+        end: &Checkpoint<'a>,
+    ) -> Result<(), LexFailure>
+        requires from { Ahead self.old.from start.now }
+        requires token { Ahead start.now end.now }
+        requires phase { self.old.phase ≡ Phase.Behind }
+        ensures did { Did (machine.step self.old.whole.rest (state_view N.tree self.old) (kind_view kind) start.now.rest end.now.rest) start.now result (state_view N.tree self.new) }
+        ensures whole { self.new.whole ≡ self.old.whole }
+        ensures stays { Stays lexer.old lexer.new }
+        ensures sliced { OnOk result (Sliced (unsliced self.old) (unsliced self.new) lexer.old lexer.new) }
+    {
+        match kind {
+            TokenKind::Space => Ok(()),
+            TokenKind::Newline | TokenKind::Semicolon => Ok(self.end_kept(
+                alloc, lexer, start, end,
+            )?),
+            TokenKind::Closing => self.close_kept(alloc, lexer, start, end),
+            TokenKind::Slashdash => {
+                self.phase = Phase::BehindMark;
+                Ok(())
+            },
+            _ => Err(LexFailure::Faulty(misplaced(start))),
+        }
+    }
+
+    /// A token behind `/-`, where another block may follow.
+    fn at_behind_mark(
+        &mut self,
+        alloc: Global,
+        lexer: &mut Lexer<'a>,
+        kind: TokenKind,
+        start: &Checkpoint<'a>,
+        end: &Checkpoint<'a>,
+    ) -> Result<(), LexFailure>
+        requires from { Ahead self.old.from start.now }
+        requires token { Ahead start.now end.now }
+        requires phase { self.old.phase ≡ Phase.BehindMark }
+        ensures did { Did (machine.step self.old.whole.rest (state_view N.tree self.old) (kind_view kind) start.now.rest end.now.rest) start.now result (state_view N.tree self.new) }
+        ensures whole { self.new.whole ≡ self.old.whole }
+        ensures stays { Stays lexer.old lexer.new }
+        ensures sliced { OnOk result (Sliced (unsliced self.old) (unsliced self.new) lexer.old lexer.new) }
+    {
+        match kind {
+            TokenKind::Space | TokenKind::Newline => Ok(()),
+            TokenKind::Opening => Ok(self.open_later()?),
+            _ => Err(LexFailure::Faulty(misplaced(start))),
+        }
+    }
+
+    /// One token. A fault where it may not stand here; want of memory leaves the builder as it is then.
+    #[tactic(auto, using(crate::proofs::ItemTurns::item_did, crate::proofs::ItemTurns::item_placed))]
+    pub(crate) fn take(
+        &mut self,
+        alloc: Global,
+        lexer: &mut Lexer<'a>,
+        token: Token<'a>,
+    ) -> Result<(), LexFailure>
+        requires placed { Placed (state_view N.tree self.old) token.start.rest }
+        requires token { Ahead token.start token.end }
+        ensures did { Did (machine.step self.old.whole.rest (state_view N.tree self.old) (kind_view token.entry.kind) token.entry.start.rest token.entry.end.rest) token.entry.start result (state_view N.tree self.new) }
+        ensures whole { self.new.whole ≡ self.old.whole }
+        ensures stays { Stays lexer.old lexer.new }
+        ensures sliced { OnOk result (Sliced (unsliced self.old + 1) (unsliced self.new) lexer.old lexer.new) }
+        ensures looked { raise lexer.old.steps 1 ≤ raise lexer.new.steps 0 }
+    {
+        lexer.count_look();
+        let Token { kind, start, end } = token;
+        match self.phase {
+            Phase::Gap => self.at_gap(alloc, lexer, kind, &start, &end),
+            Phase::Marked => self.at_marked(alloc, lexer, kind, &start, &end),
+            Phase::InItem => self.at_item(alloc, lexer, kind, &start, &end),
+            Phase::Fresh => self.at_fresh(alloc, lexer, kind, &start, &end),
+            Phase::Spaced => self.at_spaced(alloc, lexer, kind, &start, &end),
+            Phase::Later => self.at_later(alloc, lexer, kind, &start, &end),
+            Phase::EntryMark => self.at_entry_mark(alloc, lexer, kind, &start, &end),
+            Phase::BlockMark => self.at_block_mark(alloc, lexer, kind, &start, &end),
+            Phase::Behind => self.at_behind(alloc, lexer, kind, &start, &end),
+            Phase::BehindMark => self.at_behind_mark(alloc, lexer, kind, &start, &end),
+        }
+    }
+
+    /// The document, where the text ends. A fault where what is open isn't closed. The builder is spent then.
+    pub(crate) fn finish(
+        &mut self,
+        alloc: Global,
+        lexer: &mut Lexer<'a>,
+    ) -> Result<DocumentParts<N>, LexFailure>
+        requires end { lexer.old.rest ≡ [] }
+        requires from { EndsIn self.old.from.rest lexer.old.rest }
+        ensures finished { Finished N.tree (machine.finish self.old.whole.rest (state_view N.tree self.old)) (record { rest = lexer.old.rest; at = lexer.old.at }) result }
+        ensures stays { Stays lexer.old lexer.new }
+        ensures sliced { OnOk result (Sliced (unsliced self.old) 0 lexer.old lexer.new) }
+    {
+        let here = lexer.checkpoint();
+        self.finish_at(alloc, lexer, &here)
+    }
+
+    /// The document, where the text ends at the place.
+    #[tactic(auto, using(crate::proofs::Origins::between_none, crate::proofs::Origins::origin_ends, crate::proofs::ItemTurns::unfinished))]
+    fn finish_at(
+        &mut self,
+        alloc: Global,
+        lexer: &mut Lexer<'a>,
+        here: &Checkpoint<'a>,
+    ) -> Result<DocumentParts<N>, LexFailure>
+        requires end { here.now.rest ≡ [] }
+        requires from { Ahead self.old.from here.now }
+        ensures finished { Finished N.tree (machine.finish self.old.whole.rest (state_view N.tree self.old)) here.now result }
+        ensures stays { Stays lexer.old lexer.new }
+        ensures sliced { OnOk result (Sliced (unsliced self.old) 0 lexer.old lexer.new) }
+    {
+        match self.phase {
+            Phase::Gap => self.finish_nodes(alloc, lexer, here),
+            Phase::Fresh | Phase::Spaced | Phase::Later => {
+                self.end_node(alloc, lexer, here, &here.copied())?;
+                self.finish_nodes(alloc, lexer, here)
+            }
+            Phase::Behind => {
+                self.end_kept(alloc, lexer, here, &here.copied())?;
+                self.finish_nodes(alloc, lexer, here)
+            }
+            Phase::InItem => Err(LexFailure::Faulty(misplaced(here))),
+            Phase::Marked => Err(LexFailure::Faulty(misplaced(here))),
+            Phase::EntryMark => Err(LexFailure::Faulty(misplaced(here))),
+            Phase::BlockMark => Err(LexFailure::Faulty(misplaced(here))),
+            Phase::BehindMark => Err(LexFailure::Faulty(misplaced(here))),
+        }
+    }
+
+    /// The document of the nodes, where no block is open.
+    fn finish_nodes(
+        &mut self,
+        alloc: Global,
+        lexer: &mut Lexer<'a>,
+        here: &Checkpoint<'a>,
+    ) -> Result<DocumentParts<N>, LexFailure>
+        requires from { Ahead self.old.from here.now }
+        requires end { here.now.rest ≡ [] }
+        ensures finished { Finished N.tree (machine.at_end self.old.whole.rest (nodes_view N.tree self.old.nodes) (frames_view N.tree self.old) self.old.from.rest) here.now result }
+        ensures stays { Stays lexer.old lexer.new }
+        ensures sliced { OnOk result (Sliced (bytes self.old.from.rest) 0 lexer.old lexer.new) }
+    {
+        if !self.frames.is_empty() {
+            return Err(LexFailure::Faulty(misplaced(here)));
+        }
+        let Some(nodes) = self.nodes.take() else {
+            return Err(LexFailure::Faulty(misplaced(here)));
+        };
+        let place = text_between(alloc, lexer, &self.from, here)?;
+        Ok(content(alloc, &self.whole, nodes, place, here))
+    }
+}

@@ -1,0 +1,275 @@
+//! Nodes, blocks and documents by their parts.
+
+ghost use Rattle.kdl_grammar.specs.Machine as machine;
+ghost use Rattle.kdl_grammar.specs.Machine.{at};
+ghost use Rattle.kdl_parser.specs.Building.{under_view, kept_view, nodes_view, under_now, valued_at};
+ghost use Rattle.kdl_parser.specs.Counted.{up_to};
+ghost use Rattle.kdl_grammar.specs.Laid as laid;
+ghost use Rattle.kdl_grammar.specs.Laid.{node_format};
+ghost use Rattle.kdl_grammar.specs.Tree.{node, no_children, children_of};
+ghost use Rattle.kdl_parser.specs.Parts.{nodes_tree, document_by};
+ghost use Rattle.kdl_entry.specs.Building.{type_view, item_view, Stays};
+ghost use Rattle.kdl_entry.specs.Counted.{Sliced};
+ghost use Rattle.kdl_entry.specs.Items as items;
+ghost use Rattle.kdl_entry.specs.Items.{between, type_of, before_name, after_name, behind_type};
+ghost use Rattle.kdl_entry.specs.Tree.{identifier_tree, entry_tree, text_of};
+ghost use Rattle.kdl_text.specs.Here.{Ahead, bytes};
+ghost use Rattle.kdl_parser.specs.declared.builder.Waiting.{Waiting};
+ghost use Rattle.std.specs.Prelude.{◌≡◌, [], ◌∷◌, ◌++◌, map, Some, None, true, IfOk, OnOk, option_map};
+
+use super::{Kept, Under, Waiting, WaitingWord};
+use crate::parts::{DocumentParts, NodeParts, ParsedNode};
+use kdl_entry::KdlValue;
+use kdl_entry::items::Lexer;
+use kdl_entry::items::item::{Item, Stage, TypeParts, empty, entry_from, span_at, text_between};
+use kdl_text::chars::Checkpoint;
+use kdl_text::span::SourceSpan;
+use std::alloc::{AllocError, Global};
+
+/// Puts the item behind the others. A full list doubles, from one on.
+#[inline]
+pub(super) fn add<T: Drop>(items: &mut Vec<T>, item: T) -> Result<(), AllocError>
+    ensures { OnOk result (items.new.items ≡ items.old.items ++ (item ∷ [])) }
+{
+    let len = items.len();
+    if len == items.capacity() {
+        items.reserve_exact(len.max(1))?;
+    }
+    items.push(item)?;
+    Ok(())
+}
+
+/// The string that waits becomes an argument of the node under way.
+#[tactic(auto, using(crate::proofs::Views::entry_pushed))]
+pub(super) fn settle<'a>(
+    alloc: Global,
+    whole: &Checkpoint<'a>,
+    from: &Checkpoint<'a>,
+    waiting: Waiting<'a>,
+    under: &mut Option<Under<'a>>,
+) -> Result<(), AllocError>
+    ensures { OnOk result (option_map under_view under.new ≡ under_now whole.now.rest from.now.rest waiting.entry (option_map under_view under.old)) }
+{
+    let Waiting::Word(
+        WaitingWord {
+            leading,
+            start,
+            value,
+            repr,
+        },
+    ) = waiting
+    else {
+        return Ok(());
+    };
+    if let Some(under) = under {
+        let span = span_at(whole, &start, from);
+        let value = KdlValue::String(value);
+        let entry = entry_from(alloc, span, leading, None, None, value, repr);
+        add(&mut under.entries, entry)?;
+    }
+    Ok(())
+}
+
+/// The node of what stands under way, its block and the texts behind its entries.
+pub(super) fn node_from<N: ParsedNode>(
+    alloc: Global,
+    under: Under,
+    children: Option<DocumentParts<N>>,
+    before_children: String,
+    before_terminator: String,
+    terminator: String,
+    span: SourceSpan,
+) -> N
+    ensures { N.tree result ≡ node (record {
+      ty = type_of (option_map type_view under.entry.ty);
+      name = identifier_tree under.entry.name;
+      entries = map entry_tree under.entry.entries.items;
+      format = Some (node_format (text_of under.entry.leading) (before_name (option_map type_view under.entry.ty)) (after_name (option_map type_view under.entry.ty)) (behind_type (option_map type_view under.entry.ty)) (text_of before_children) (text_of before_terminator) (text_of terminator) []);
+      span = span;
+    }) (children_of (option_map (document_by N.tree) children)) }
+{
+    let Under {
+        leading,
+        start: _start,
+        ty,
+        name,
+        mut entries,
+    } = under;
+    entries.shrink_to_fit();
+    N::parsed(
+        alloc,
+        NodeParts {
+            leading,
+            ty,
+            name,
+            entries,
+            before_children,
+            children,
+            before_terminator,
+            terminator,
+            span,
+        },
+    )
+}
+
+/// The node that ends at `start`, with its terminator, where it counts.
+pub(super) fn ended_node<'a, N: ParsedNode>(
+    alloc: Global,
+    lexer: &mut Lexer<'a>,
+    whole: &Checkpoint<'a>,
+    from: &Checkpoint<'a>,
+    under: Option<Under<'a>>,
+    start: &Checkpoint<'a>,
+    end: &Checkpoint<'a>,
+) -> Result<Option<N>, AllocError>
+    requires from { Ahead from.now start.now }
+    requires token { Ahead start.now end.now }
+    ensures is { IfOk result (λ o. option_map N.tree o ≡ machine.closed whole.now.rest (option_map under_view under.entry) no_children [] (between from.now.rest start.now.rest) (between start.now.rest end.now.rest) start.now.rest) }
+    ensures stays { Stays lexer.old lexer.new }
+    ensures sliced { OnOk result (Sliced (bytes from.now.rest) (up_to under.entry (bytes from.now.rest) (bytes end.now.rest)) lexer.old lexer.new) }
+{
+    let Some(under) = under else {
+        return Ok(None);
+    };
+    let before = text_between(alloc, lexer, from, start)?;
+    let terminator = text_between(alloc, lexer, start, end)?;
+    let span = span_at(whole, &under.start, start);
+    Ok(Some(node_from(alloc, under, None, empty(alloc), before, terminator, span)))
+}
+
+/// The node with its block that ends at `start`, with its terminator, where it counts.
+pub(super) fn ended_kept<'a, N: ParsedNode>(
+    alloc: Global,
+    lexer: &mut Lexer<'a>,
+    whole: &Checkpoint<'a>,
+    from: &Checkpoint<'a>,
+    kept: Option<Kept<'a, N>>,
+    start: &Checkpoint<'a>,
+    end: &Checkpoint<'a>,
+) -> Result<Option<N>, AllocError>
+    requires from { Ahead from.now start.now }
+    requires token { Ahead start.now end.now }
+    ensures is { IfOk result (λ o. option_map N.tree o ≡ machine.closed_kept whole.now.rest (option_map (kept_view N.tree) kept.entry) (between from.now.rest start.now.rest) (between start.now.rest end.now.rest) start.now.rest) }
+    ensures stays { Stays lexer.old lexer.new }
+    ensures sliced { OnOk result (Sliced (bytes from.now.rest) (up_to kept.entry (bytes from.now.rest) (bytes end.now.rest)) lexer.old lexer.new) }
+{
+    let Some(
+        Kept {
+            under,
+            before,
+            block,
+        },
+    ) = kept
+    else {
+        return Ok(None);
+    };
+    let later = text_between(alloc, lexer, from, start)?;
+    let terminator = text_between(alloc, lexer, start, end)?;
+    let span = span_at(whole, &under.start, start);
+    Ok(Some(node_from(alloc, under, Some(block), before, later, terminator, span)))
+}
+
+/// One more node, where it and the nodes count.
+#[tactic(auto, using(crate::proofs::Views::node_pushed))]
+pub(super) fn push_node<N: ParsedNode>(
+    nodes: &mut Option<Vec<N>>,
+    node: Option<N>,
+) -> Result<(), AllocError>
+    ensures { OnOk result (nodes_view N.tree nodes.new ≡ machine.ended (option_map N.tree node) (nodes_view N.tree nodes.old)) }
+{
+    if let (Some(nodes), Some(node)) = (nodes, node) {
+        add(nodes, node)?;
+    }
+    Ok(())
+}
+
+/// The span from where the first node begins to where the last one ends; without nodes the span given.
+#[tactic(auto, using(crate::proofs::Contents::spans, crate::proofs::Contents::nothing, crate::proofs::Contents::no_last))]
+pub(super) fn content_span<N: ParsedNode>(nodes: &[N], place: SourceSpan) -> SourceSpan
+    ensures { result ≡ laid.content_span place (nodes_tree N.tree nodes.now) }
+{
+    let Some(first) = nodes.first() else {
+        return place;
+    };
+    let Some(last) = nodes.last() else {
+        return place;
+    };
+    let offset = first.span().offset;
+    let end = last.span().offset.saturating_add(last.span().len);
+    SourceSpan {
+        offset,
+        len: end.saturating_sub(offset),
+    }
+}
+
+/// The nodes, and the place behind them, before `end`; without nodes it stands before them.
+#[tactic(auto, using(crate::proofs::Contents::without, crate::proofs::Contents::within))]
+pub(super) fn content<N: ParsedNode>(
+    alloc: Global,
+    whole: &Checkpoint,
+    mut nodes: Vec<N>,
+    place: String,
+    end: &Checkpoint,
+) -> DocumentParts<N>
+    ensures { document_by N.tree result ≡ machine.content_at whole.now.rest (nodes_tree N.tree nodes.items) (text_of place) end.now.rest }
+{
+    nodes.shrink_to_fit();
+    let here = span_at(whole, end, &end.copied());
+    let span = content_span(&nodes, here);
+    if nodes.is_empty() {
+        return DocumentParts {
+            leading: place,
+            nodes,
+            trailing: empty(alloc),
+            span,
+        };
+    }
+    DocumentParts {
+        leading: empty(alloc),
+        nodes,
+        trailing: place,
+        span,
+    }
+}
+
+/// The node with the block of these nodes, where they count.
+#[tactic(auto, using(crate::proofs::Counting::fewer))]
+pub(super) fn with_block<'a, N: ParsedNode>(
+    alloc: Global,
+    lexer: &mut Lexer<'a>,
+    whole: &Checkpoint<'a>,
+    from: &Checkpoint<'a>,
+    under: Option<Under<'a>>,
+    before: String,
+    nodes: Option<Vec<N>>,
+    start: &Checkpoint<'a>,
+) -> Result<Option<Kept<'a, N>>, AllocError>
+    requires { Ahead from.now start.now }
+    ensures is { IfOk result (λ o. option_map (kept_view N.tree) o ≡ machine.with_block whole.now.rest (option_map under_view under.entry) (text_of before) (nodes_view N.tree nodes) (between from.now.rest start.now.rest) start.now.rest) }
+    ensures stays { Stays lexer.old lexer.new }
+    ensures sliced { OnOk result (Sliced (bytes from.now.rest) (up_to under.entry (bytes from.now.rest) (bytes start.now.rest)) lexer.old lexer.new) }
+{
+    let Some(under) = under else {
+        return Ok(None);
+    };
+    let Some(nodes) = nodes else {
+        return Ok(None);
+    };
+    let place = text_between(alloc, lexer, from, start)?;
+    let block = content(alloc, whole, nodes, place, start);
+    Ok(Some(Kept {
+        under,
+        before,
+        block,
+    }))
+}
+
+/// Whether the item is an entry, and not the name of a node.
+pub(super) fn is_entry(item: &Item) -> bool
+    ensures { result ≡ valued_at (item_view item.now).stage (item_view item.now).valued }
+{
+    match item.stage {
+        Stage::Keyed => true,
+        Stage::Opened | Stage::Named | Stage::Closed => item.valued,
+    }
+}

@@ -1,0 +1,73 @@
+//! Line-spaces up to the end of a text.
+
+ghost use Rattle.kdl_parser.specs.Building.{EndsIn};
+ghost use Rattle.kdl_parser.specs.LineSpaces as lines;
+ghost use Rattle.kdl_parser.specs.LineSpaces.{AreLineSpaces, EndInLineSpaces};
+ghost use Rattle.kdl_text.specs.Spans.{InText};
+ghost use Rattle.std.specs.Prelude.{◌≡◌};
+ghost use Rattle.std.specs.Str.{chars};
+
+use kdl_entry::items::item::misplaced;
+use kdl_entry::items::{Fault, FaultKind, LexFailure, Lexer, TokenKind};
+use kdl_text::chars::Steps;
+use kdl_text::span::SourceSpan;
+use std::alloc::Global;
+
+/// Whether the token is made of line-spaces.
+fn is_line_space(kind: &TokenKind) -> bool
+    ensures { result ≡ lines.is_line_space kind.now }
+{
+    matches!(kind, TokenKind::Space | TokenKind::Newline)
+}
+
+/// Reads line-spaces to the end of the text. A fault at the first token that is none, or the first piece that is no
+/// token.
+#[tactic(auto, using(crate::proofs::LineSpaces::lines_start, crate::proofs::LineSpaces::lines_fail, crate::proofs::LineSpaces::lines_nearer))]
+fn line_spaces(alloc: Global, text: &str) -> Result<(), LexFailure>
+    ensures { AreLineSpaces (chars text.now) result }
+{
+    let mut lexer = Lexer::new(text, Steps::new());
+    'tokens: while let Some(token) = lexer.next(alloc)? {
+        if !is_line_space(&token.kind) {
+            return Err(LexFailure::Faulty(misplaced(&token.start)));
+        }
+    }
+    Ok(())
+}
+
+/// A fault at the span.
+pub fn fault_at(span: SourceSpan) -> Fault
+    ensures { result.span ≡ span }
+{
+    Fault {
+        kind: FaultKind::Other,
+        span,
+    }
+}
+
+/// The span in the text, where it was told of the text's end.
+fn behind(text: &str, end: &str, span: SourceSpan) -> SourceSpan
+    requires ends { EndsIn (chars text.now) (chars end.now) }
+    requires told { InText (chars end.now) span }
+    ensures { InText (chars text.now) result }
+{
+    let to_end = end.len() - span.offset;
+    SourceSpan {
+        offset: text.len() - to_end,
+        len: span.len,
+    }
+}
+
+/// Reads line-spaces to the end of the trailing text, with which the text ends. A fault is told in the text.
+pub fn trailing_line_spaces(alloc: Global, text: &str, trailing: &str) -> Result<(), LexFailure>
+    requires { EndsIn (chars text.now) (chars trailing.now) }
+    ensures { EndInLineSpaces (chars text.now) (chars trailing.now) result }
+{
+    match line_spaces(alloc, trailing) {
+        Ok(()) => Ok(()),
+        Err(LexFailure::Faulty(fault)) => Err(LexFailure::Faulty(fault_at(behind(
+            text, trailing, fault.span,
+        )))),
+        Err(LexFailure::Memory) => Err(LexFailure::Memory),
+    }
+}

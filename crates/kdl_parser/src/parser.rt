@@ -1,0 +1,53 @@
+//! Documents, read from the tokens of a text one by one.
+
+ghost use Rattle.kdl_parser.specs.Answered.{BuildAnswers};
+ghost use Rattle.kdl_grammar.specs.Machine.{initial};
+ghost use Rattle.kdl_parser.specs.Building.{EndsIn, state_view};
+ghost use Rattle.kdl_parser.specs.Counted.{ReadThrough, unsliced};
+ghost use Rattle.kdl_text.specs.Here.{bytes, raise};
+ghost use Rattle.std.specs.Prelude.{◌≡◌, ◌+◌, ◌≤◌, OnOk};
+
+use crate::builder::Builder;
+use crate::parts::{DocumentParts, ParsedNode};
+use kdl_entry::items::{LexFailure, Lexer};
+use kdl_text::chars::Checkpoint;
+use std::alloc::Global;
+
+/// The machine's answer on what the lexer has before it, by a builder that has seen no token yet.
+#[tactic(auto, using(crate::proofs::Counting::counting_starts, crate::proofs::Counting::counting_ends, crate::proofs::TokenTurns::starts, crate::proofs::TokenTurns::goes_on, crate::proofs::TokenTurns::placed_start, crate::proofs::TokenTurns::start_end, crate::proofs::TokenTurns::lexer_told, crate::proofs::TokenTurns::take_told, crate::proofs::TokenTurns::all_read, crate::proofs::TokenTurns::stops_going, crate::proofs::TokenTurns::from_now, crate::proofs::TokenTurns::finish_told, crate::proofs::TokenTurns::nearer))]
+fn build_with<'a, N: ParsedNode>(
+    alloc: Global,
+    builder: &mut Builder<'a, N>,
+    lexer: &mut Lexer<'a>,
+) -> Result<DocumentParts<N>, LexFailure>
+    requires state { state_view N.tree builder.old ≡ initial lexer.old.rest }
+    requires unsliced { unsliced builder.old ≡ bytes lexer.old.rest }
+    requires text { EndsIn builder.old.whole.rest lexer.old.rest }
+    requires at { lexer.old.at + bytes lexer.old.rest ≡ bytes builder.old.whole.rest }
+    ensures answers { BuildAnswers N.tree builder.old.whole.rest lexer.old.rest result }
+    ensures counted { OnOk result (ReadThrough lexer.old lexer.new) }
+    ensures counts { raise lexer.old.steps 0 ≤ raise lexer.new.steps 0 }
+{
+    'tokens: while let Some(token) = lexer.next(alloc)? {
+        builder.take(alloc, lexer, token)?;
+    }
+    builder.finish(alloc, lexer)
+}
+
+/// The document that the lexer has before it: the text `whole`, or what follows its U+FEFF. Each piece is sliced once,
+/// and what counts for nothing is not sliced at all. A fault at the first token that fits nothing, or at the first piece
+/// that is no token; its span lies in the text. `Memory`: a request for memory was refused.
+pub fn build<'a, N: ParsedNode>(
+    alloc: Global,
+    whole: Checkpoint<'a>,
+    lexer: &mut Lexer<'a>,
+) -> Result<DocumentParts<N>, LexFailure>
+    requires text { EndsIn whole.rest lexer.old.rest }
+    requires at { lexer.old.at + bytes lexer.old.rest ≡ bytes whole.rest }
+    ensures answers { BuildAnswers N.tree whole.entry.rest lexer.old.rest result }
+    ensures counted { OnOk result (ReadThrough lexer.old lexer.new) }
+    ensures counts { raise lexer.old.steps 0 ≤ raise lexer.new.steps 0 }
+{
+    let mut builder = Builder::new(alloc, whole, lexer.checkpoint());
+    build_with(alloc, &mut builder, lexer)
+}
