@@ -1,6 +1,6 @@
 //! What a caller shows for the edits that ask for something.
 
-ghost use Rattle.kdl.specs.EntryLists.{is_argument};
+ghost use Rattle.kdl_parts.specs.EntryLists.{is_argument};
 ghost use Rattle.kdl.specs.declared.node.KdlNode.{out-KdlNode};
 ghost use Rattle.std.specs.Prelude.{◌≡◌};
 ghost use Rattle.std.specs.List.{count_by};

@@ -2,7 +2,7 @@
 
 ghost use Rattle.kdl.specs.Lookups.{entries_of, key_place, property_place, with_value_there, HasSameEntries, HasWritten};
 ghost use Rattle.kdl.specs.declared.node.KdlNode.{out-KdlNode};
-ghost use Rattle.kdl.specs.declared.node.key.NodeKey.TheVariants.{Index as at_index};
+ghost use Rattle.kdl_parts.specs.declared.key.NodeKey.TheVariants.{Index as at_index};
 ghost use Rattle.std.specs.Prelude.{◌≡◌, IsSome, OnErr, OnOk, option_map, slice_get};
 
 use kdl::{KdlDocument, KdlEntry, KdlNode, KdlValue, NodeKey};

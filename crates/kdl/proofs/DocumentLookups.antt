@@ -15,11 +15,11 @@ use Rattle.kdl_entry.specs.Data.{Value}
 use Rattle.kdl_entry.specs.Tree.{identifier_tree, value_tree}
 use Rattle.kdl_entry.specs.declared.entry.KdlEntry.{KdlEntry}
 use Rattle.kdl_entry.specs.declared.identifier.KdlIdentifier.{KdlIdentifier}
-use Rattle.kdl.specs.DocumentLookups.{argument_place, argument_value, arguments, dash_arguments, first_argument}
-use Rattle.kdl.specs.EntryLists.{is_argument, is_node_named, same_text}
+use Rattle.kdl.specs.DocumentLookups.{argument_place, argument_value, arguments, dash_arguments, first_argument, is_node_named}
+use Rattle.kdl_parts.specs.EntryLists.{is_argument, same_text}
 use Rattle.kdl.specs.Lookups.{value_there}
 use Rattle.kdl.specs.declared.node.KdlNode.{KdlNode, out-KdlNode}
-use Rattle.kdl.proofs.EntryPlaces.{same_bytes}
+use Rattle.kdl_parts.proofs.EntryPlaces.{same_bytes}
 use Rattle.kdl.proofs.Lookups.{found_at}
 
 -- a node whose name's text was compared

@@ -11,16 +11,18 @@ use Rattle.kdl_entry.specs.declared.entry.KdlEntry.{KdlEntry}
 use Rattle.kdl.specs.Change.{with_entries, with_entry}
 use Rattle.kdl.specs.EditLaw.{head_of, tail_of, tree_entries, PrintsInstead, PrintsAtPlace, EntriesExchanged, EntryExchanged, FormedPiece, NodesExchanged, NodeExchanged, document_before, document_behind}
 use Rattle.kdl.specs.Edits.{under, put_for, put_before, there, replaced_place, inserted, IsInserted}
-use Rattle.kdl.specs.EntryLists.{property, sought, place_of}
+use Rattle.kdl_parts.specs.EntryLists.{property, sought, place_of}
 use Rattle.kdl_grammar.specs.Print.{print_head, head_text, print_tail, before_block, after_brace, before_brace, end_text, format_of, print_piece, print_pieces, print_node, print_nodes, print_document, leading_text, trailing_text}
 use Rattle.kdl_grammar.specs.Tree.{Head, NodeFormat, Node, node, Children, no_children, children, children_of}
-use Rattle.kdl.specs.Tree.{node_tree, nodes_tree, document_tree, document_format_tree, node_format_tree, head_tree}
+use Rattle.kdl.specs.Tree.{node_tree, nodes_tree, document_tree, head_tree}
+use Rattle.kdl_parts.specs.Formats.{document_format_tree, node_format_tree}
 use Rattle.kdl.specs.declared.document.KdlDocument.{KdlDocument}
 use Rattle.kdl.specs.declared.document.KdlDocument.TheViews.{out-KdlDocument, out-KdlNode}
 use Rattle.kdl.specs.declared.node.KdlNode.{KdlNode}
-use Rattle.kdl.specs.declared.node.key.NodeKey.{NodeKey}
-use Rattle.kdl.specs.declared.node.key.NodeKey.TheVariants.{Key, Index}
-use Rattle.kdl.proofs.Printing.{print_pieces-append, print_nodes-join}
+use Rattle.kdl_parts.specs.declared.key.NodeKey.{NodeKey}
+use Rattle.kdl_parts.specs.declared.key.NodeKey.TheVariants.{Key, Index}
+use Rattle.kdl.proofs.Printing.{print_nodes-join}
+use Rattle.kdl_parts.proofs.Printing.{print_pieces-append}
 use Rattle.kdl.proofs.Trees.{NodeFields, node_of, document_tree_out, document_tree_roll, node_tree_out, node_tree_roll, nodes_tree-append}
 
 -- the head does not look at the entries; the tail does not where there is a format

@@ -4,7 +4,7 @@ use Rattle.std.proofs.lemmas.Bool.Decides.{Decides-and, Decides-like}
 use Rattle.std.specs.Bool.{Decides}
 use Rattle.std.specs.Cmp.Lexicographic.{pointwise}
 use Rattle.std.specs.Option.{option_eq}
-use Rattle.kdl_entry.proofs.Equality.{text_decides, option_decides, identifier_decides, entry_decides}
+use Rattle.kdl_entry.proofs.Equality.{option_decides, identifier_decides, entry_decides}
 use Rattle.kdl_entry.specs.Tree.{Identifier, identifier_tree, entry_tree, without_span, without_spans}
 use Rattle.kdl_entry.specs.declared.entry.KdlEntry.{KdlEntry}
 use Rattle.kdl_entry.specs.declared.identifier.KdlIdentifier.{KdlIdentifier}
@@ -13,47 +13,19 @@ use Rattle.kdl_entry.specs.contracts.identifier.KdlIdentifierPartialEq.TheImpl a
 use Rattle.kdl.specs.Cleared.{node_without_spans, children_without_spans, document_without_spans, nodes_without_spans}
 use Rattle.kdl.specs.Same.{same_node, same_document}
 use Rattle.kdl_grammar.specs.Tree.{Head, Node, node, Children, children_of}
-use Rattle.kdl.specs.Tree.{node_tree, document_tree, nodes_tree, node_format_tree, document_format_tree}
+use Rattle.kdl.specs.Tree.{node_tree, document_tree, nodes_tree}
+use Rattle.kdl_parts.specs.Formats.{node_format_tree, document_format_tree}
 use Rattle.kdl.specs.contracts.document.KdlDocumentPartialEq.TheImpl.Laws.{is as document_is}
-use Rattle.kdl.specs.contracts.document.KdlDocumentFormatPartialEq.TheImpl as document_format_impl
+use Rattle.kdl_parts.specs.contracts.format.KdlDocumentFormatPartialEq.TheImpl as document_format_impl
 use Rattle.kdl.specs.contracts.node.KdlNodePartialEq.TheImpl.Laws.{is as node_is}
-use Rattle.kdl.specs.contracts.node.KdlNodeFormatPartialEq.TheImpl as node_format_impl
+use Rattle.kdl_parts.specs.contracts.format.KdlNodeFormatPartialEq.TheImpl as node_format_impl
 use Rattle.kdl.specs.declared.document.KdlDocument.{KdlDocument}
 use Rattle.kdl.specs.declared.document.KdlDocument.TheFolds.{map-KdlNode, ind-KdlDocument, ind-KdlNode}
 use Rattle.kdl.specs.declared.document.KdlDocument.TheOpen.{KdlNode-F}
 use Rattle.kdl.specs.declared.document.KdlDocument.TheViews.{out-KdlDocument, out-KdlNode, roll-KdlDocument, roll-KdlNode, out-roll-KdlDocument, out-roll-KdlNode}
-use Rattle.kdl.specs.declared.document.KdlDocumentFormat.{KdlDocumentFormat}
 use Rattle.kdl.specs.declared.node.KdlNode.{KdlNode}
-use Rattle.kdl.specs.declared.node.KdlNodeFormat.{KdlNodeFormat}
+use Rattle.kdl_parts.proofs.Equality.{node_format_decides, document_format_decides}
 use Rattle.kdl.proofs.Trees.{NodeFields, DocumentFields, node_of, document_of, node_tree_out, node_tree_roll, document_tree_out, document_tree_roll}
-
--- formats are equal exactly where all their texts are
-pub node_format_decides : (f g : KdlNodeFormat) → Decides (node_format_impl.ghosts.eq f g) (node_format_tree f ≡ node_format_tree g)
-node_format_decides f g =
-    let ends = Decides-and _ _ (text_decides f.terminator g.terminator) (text_decides f.trailing g.trailing) in
-    let behind = Decides-and _ _ (text_decides f.before_children g.before_children) (Decides-and _ _ (text_decides f.before_terminator g.before_terminator) ends) in
-    let types = Decides-and _ _ (text_decides f.after_ty_name g.after_ty_name) (Decides-and _ _ (text_decides f.after_ty g.after_ty) behind) in
-    let all = Decides-and _ _ (text_decides f.leading g.leading) (Decides-and _ _ (text_decides f.before_ty_name g.before_ty_name) types) in
-    Decides-like _ (λ (leading, (before, (inside, (after, (block, (end, (terminator, trailing))))))). cc)
-    (λ e. (
-      ap (λ x. x.leading) e,
-      (
-        ap (λ x. x.before_ty_name) e,
-        (
-          ap (λ x. x.after_ty_name) e,
-          (
-            ap (λ x. x.after_ty) e,
-            (ap (λ x. x.before_children) e, (ap (λ x. x.before_terminator) e, (ap (λ x. x.terminator) e, ap (λ x. x.trailing) e))),
-          ),
-        ),
-      ),
-    ))
-    all
-
-pub document_format_decides : (f g : KdlDocumentFormat) → Decides (document_format_impl.ghosts.eq f g) (document_format_tree f ≡ document_format_tree g)
-document_format_decides f g =
-    Decides-like _ (λ (leading, trailing). cc) (λ e. (ap (λ x. x.leading) e, ap (λ x. x.trailing) e))
-    (Decides-and _ _ (text_decides f.leading g.leading) (text_decides f.trailing g.trailing))
 
 -- an identifier's tree, wherever it stood
 abbrev spanless : KdlIdentifier → Identifier

@@ -2,15 +2,12 @@ pub mod Clearing
 pub mod DocumentLookups
 pub mod EditLaws
 pub mod EditedOutcomes
-pub mod EntryPlaces
 pub mod Equality
 pub mod LeadingMark
 pub mod Lookups
 pub mod Loops
-pub mod Marks
 pub mod NodeTexts
 pub mod Outcomes
 pub mod Printing
 pub mod Same
 pub mod Trees
-pub mod Writing

@@ -1,49 +1,29 @@
 -- What nodes and documents print, part by part.
-use Rattle.std.proofs.Common.{◌≡◌, ℕ, suc, ◌+◌, ◌-◌, ◌<◌, List, [], ◌∷◌, ◌++◌, map, ap, ◌∙◌, sym, refl, append_assoc, arith, length, take, get_or, slice_get, not, Option, None, Some, option_map, is_some, is_none}
-use Rattle.std.proofs.lemmas.List.{take_more, map-append, append-nil}
+use Rattle.std.proofs.Common.{◌≡◌, ℕ, ◌+◌, ◌<◌, List, ◌++◌, map, ap, ◌∙◌, sym, refl, append_assoc, length, take, get_or, option_map}
+use Rattle.std.proofs.lemmas.List.{take_more, append-nil}
 use Rattle.std.proofs.lemmas.Str.{encodes-append}
 use Rattle.std.specs.Str.{encode_utf8_all}
-use Rattle.kdl_entry.specs.Tree.{Entry, entry_tree, entry_format_tree}
-use Rattle.kdl_entry.specs.declared.entry.KdlEntry.{KdlEntry}
-use Rattle.kdl_grammar.specs.Print.{print_head, print_tail, print_block, before_block, end_text, leading_text, trailing_text, format_of, print_document, print_piece, print_pieces, print_node, print_nodes, last_has_format}
+use Rattle.kdl_entry.specs.Tree.{entry_tree}
+use Rattle.kdl_grammar.specs.Print.{print_head, print_tail, print_block, before_block, end_text, leading_text, trailing_text, format_of, print_document, print_pieces, print_node, print_nodes}
 use Rattle.kdl_grammar.specs.Tree.{Head, Document, Nodes, none, first, join, children, children_of}
-use Rattle.kdl.specs.Tree.{head_tree, node_tree, nodes_tree, document_tree, document_format_tree}
+use Rattle.kdl.specs.Tree.{head_tree, node_tree, nodes_tree, document_tree}
+use Rattle.kdl_parts.specs.Formats.{document_format_tree}
 use Rattle.kdl.specs.declared.node.KdlNode.{KdlNode}
 use Rattle.kdl.specs.declared.document.KdlDocument.{KdlDocument}
 use Rattle.kdl.specs.declared.document.KdlDocument.TheViews.{out-KdlDocument, out-KdlNode}
 use Rattle.kdl.proofs.Trees.{nodes_tree_more, document_tree_out, node_tree_out}
 
 -- one text behind another
-pub print_pieces-append : (es fs : List Entry) → print_pieces (es ++ fs) ≡ print_pieces es ++ print_pieces fs
-print_pieces-append [] fs = refl
-print_pieces-append (e ∷ es) fs = ap (λ t. print_piece e ++ t) (print_pieces-append es fs) ∙ sym (append_assoc (print_piece e) (print_pieces es) (print_pieces fs))
-
 pub print_nodes-join : (ns ms : Nodes) (depth : ℕ) → print_nodes (join ns ms) depth ≡ print_nodes ns depth ++ print_nodes ms depth
 print_nodes-join none ms depth = refl
 print_nodes-join (first n ns) ms depth = ap (λ t. print_node n depth ++ t) (print_nodes-join ns ms depth) ∙ sym (append_assoc (print_node n depth) (print_nodes ns depth) (print_nodes ms depth))
 
--- one more entry, and one more node
-pub pieces_more : (es : List KdlEntry) (i : ℕ) (e : KdlEntry) → i < length es
-    → print_pieces (map entry_tree (take (i + 1) es)) ≡ print_pieces (map entry_tree (take i es)) ++ print_piece (entry_tree (get_or es i e))
-pieces_more es i e h =
-    let x = get_or es i e in
-    rw (take_more es i e h, map-append entry_tree (take i es) (x ∷ []), print_pieces-append (map entry_tree (take i es)) (entry_tree x ∷ []), append-nil (print_piece (entry_tree x))) refl
-
+-- one more node
 pub nodes_more : (xs : List KdlNode) (i : ℕ) (x : KdlNode) (depth : ℕ) → i < length xs
     → print_nodes (nodes_tree (take (i + 1) xs)) depth ≡ print_nodes (nodes_tree (take i xs)) depth ++ print_node (node_tree (get_or xs i x)) depth
 nodes_more xs i x depth h =
     let n = get_or xs i x in
     rw (take_more xs i x h, nodes_tree_more (take i xs) n, print_nodes-join (nodes_tree (take i xs)) (first (node_tree n) none) depth, append-nil (print_node (node_tree n) depth)) refl
-
--- the last entry, as a look-up gives it
-pub has_format : {A B : Type 0} (v : A → B) (o : Option A) (p : Option B) → option_map v o ≡ p → is_some o ≡ not (is_none p)
-has_format v None p h = rw (← h) refl
-has_format v (Some a) p h = rw (← h) refl
-
-pub last_formatted : (es : List KdlEntry) (e : KdlEntry) → slice_get es (length es - 1) ≡ Some e → last_has_format (map entry_tree es) ≡ not (is_none (option_map entry_format_tree e.format))
-last_formatted [] e h = absurd (cc)
-last_formatted (d ∷ []) e h = let k : d ≡ e = cc in rw k refl
-last_formatted (d ∷ x ∷ es) e h = let k : length (d ∷ x ∷ es) - 1 ≡ suc (length (x ∷ es) - 1) = omega arith in last_formatted (x ∷ es) e (rw k at h)
 
 -- what a document and a node print, by their fields
 pub document_printed : (x : KdlDocument) (depth : ℕ) → print_document (document_tree x) depth
@@ -61,11 +41,6 @@ pub tail_printed : (h : Head) (d : Document) (depth : ℕ) → print_tail h (chi
 tail_printed h d depth = simp append_assoc
 
 -- the same as bytes, for the turns of the loops
-pub pieces_written : (es : List KdlEntry) (i : ℕ) (e : KdlEntry) → i < length es → e ≡ get_or es i e
-    → encode_utf8_all (print_pieces (map entry_tree (take i es))) ++ encode_utf8_all (print_piece (entry_tree e)) ≡ encode_utf8_all (print_pieces (map entry_tree (take (i + 1) es)))
-pieces_written es i e h k =
-    rw (pieces_more es i e h, ← k) (sym (encodes-append (print_pieces (map entry_tree (take i es))) (print_piece (entry_tree e))))
-
 pub nodes_written : (before : List ℕ) (xs : List KdlNode) (i : ℕ) (x : KdlNode) (depth : ℕ) → i < length xs → x ≡ get_or xs i x
     → encode_utf8_all (before ++ print_nodes (nodes_tree (take i xs)) depth) ++ encode_utf8_all (print_node (node_tree x) depth) ≡ encode_utf8_all (before ++ print_nodes (nodes_tree (take (i + 1) xs)) depth)
 nodes_written before xs i x depth h k =

@@ -6,7 +6,8 @@ use Rattle.std.specs.List.{AllZip}
 use Rattle.kdl_entry.specs.declared.entry.KdlEntry.{KdlEntry}
 use Rattle.kdl_entry.specs.Tree.{identifier_tree, entry_tree}
 use Rattle.kdl_grammar.specs.Tree.{Document, document, Node, node, Nodes, none, first, join, nodes_of, children_of}
-use Rattle.kdl.specs.Tree.{head_tree, document_step, node_step, document_tree, node_tree, nodes_tree, document_format_tree, node_format_tree}
+use Rattle.kdl.specs.Tree.{head_tree, document_step, node_step, document_tree, node_tree, nodes_tree}
+use Rattle.kdl_parts.specs.Formats.{document_format_tree, node_format_tree}
 use Rattle.kdl.specs.declared.node.KdlNode.{KdlNode}
 use Rattle.kdl.specs.declared.document.KdlDocument.{KdlDocument}
 use Rattle.kdl.specs.declared.document.KdlDocument.TheOpen.{KdlNode-F, KdlDocument-F}

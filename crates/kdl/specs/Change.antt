@@ -15,9 +15,9 @@ use Rattle.kdl_entry.specs.declared.value.KdlValue.{KdlValue}
 use Rattle.kdl.specs.contracts.document.KdlDocument as document
 use Rattle.kdl.specs.contracts.node.KdlNode as node
 use Rattle.kdl.specs.declared.node.KdlNode.{KdlNode}
-use Rattle.kdl.specs.declared.node.KdlNodeFormat.{KdlNodeFormat}
+use Rattle.kdl_parts.specs.declared.format.KdlNodeFormat.{KdlNodeFormat}
 use Rattle.kdl.specs.declared.document.KdlDocument.{KdlDocument}
-use Rattle.kdl.specs.declared.document.KdlDocumentFormat.{KdlDocumentFormat}
+use Rattle.kdl_parts.specs.declared.format.KdlDocumentFormat.{KdlDocumentFormat}
 use Rattle.kdl.specs.declared.document.KdlDocument.TheViews.{out-KdlDocument, out-KdlNode, roll-KdlDocument, roll-KdlNode}
 
 abbrev pub with_name : KdlNode → KdlIdentifier → KdlNode

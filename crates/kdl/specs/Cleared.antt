@@ -1,12 +1,9 @@
 -- Nodes as they are made, and nodes and documents without their formats, or wherever they stood.
-use Rattle.std.specs.Prelude.{[], ◌∷◌, map, Some, None, option_map}
+use Rattle.std.specs.Prelude.{[], map, Some, None, option_map}
 use Rattle.kdl_entry.specs.Tree as entry'
 use Rattle.kdl_entry.specs.Tree.{Identifier, no_span, unspelled, cleared, without_span}
-use Rattle.kdl_grammar.specs.Tree.{NodeFormat, Head, Node, node, Children, no_children, children, Document, document, Nodes, none, first}
-
--- the format of a new node: a newline behind it, and nothing else
-abbrev pub ended_format : NodeFormat
-ended_format = record { leading = []; before_ty_name = []; after_ty_name = []; after_ty = []; before_children = []; before_terminator = []; terminator = []; trailing = 10 ∷ [] }
+use Rattle.kdl_grammar.specs.Tree.{Head, Node, node, Children, no_children, children, Document, document, Nodes, none, first}
+use Rattle.kdl_parts.specs.Formats.{ended_format}
 
 -- a new node: a name alone
 abbrev pub new_node : Identifier → Node

@@ -1,16 +1,20 @@
 -- What look-ups in a document give, and what a document is once what they lent was written.
 use Rattle.std.specs.List.{filter, filter_map, find}
-use Rattle.std.specs.Prelude.{ℕ, List, [], Option, Some, None, codes, map, option_and_then, option_map, position, slice_get}
+use Rattle.std.specs.Prelude.{ℕ, Bool, List, [], Option, Some, None, codes, map, option_and_then, option_map, position, slice_get, string_bytes}
 use Rattle.kdl_entry.specs.Data.{Value}
 use Rattle.kdl_entry.specs.Tree.{value_tree}
 use Rattle.kdl_entry.specs.declared.entry.KdlEntry.{KdlEntry}
 use Rattle.kdl_entry.specs.declared.value.KdlValue.{KdlValue}
 use Rattle.kdl.specs.Change.{with_node}
-use Rattle.kdl.specs.EntryLists.{is_argument, is_node_named, nth_place}
+use Rattle.kdl_parts.specs.EntryLists.{is_argument, nth_place, same_text}
 use Rattle.kdl.specs.Iterators.{child_nodes}
 use Rattle.kdl.specs.Lookups.{entries_of, entry_there, with_value_there}
 use Rattle.kdl.specs.declared.document.KdlDocument.{KdlDocument, out-KdlDocument}
-use Rattle.kdl.specs.declared.node.KdlNode.{KdlNode}
+use Rattle.kdl.specs.declared.node.KdlNode.{KdlNode, out-KdlNode}
+
+-- the node has that name
+abbrev pub is_node_named : List ℕ → KdlNode → Bool
+is_node_named s n = same_text (string_bytes (out-KdlNode n).name.value) s
 
 -- the nodes of a document
 abbrev pub nodes_of : KdlDocument → List KdlNode

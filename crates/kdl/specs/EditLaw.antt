@@ -8,7 +8,8 @@ use Rattle.kdl_entry.specs.declared.entry.KdlEntry.{KdlEntry}
 use Rattle.kdl.specs.Change.{with_entries, with_entry, with_nodes, with_node}
 use Rattle.kdl_grammar.specs.Print.{print_head, print_tail, print_piece, print_pieces, print_node, print_nodes, print_document, leading_text, trailing_text}
 use Rattle.kdl_grammar.specs.Tree.{Node, node}
-use Rattle.kdl.specs.Tree.{node_tree, nodes_tree, document_tree, document_format_tree}
+use Rattle.kdl.specs.Tree.{node_tree, nodes_tree, document_tree}
+use Rattle.kdl_parts.specs.Formats.{document_format_tree}
 use Rattle.kdl.specs.declared.document.KdlDocument.{KdlDocument}
 use Rattle.kdl.specs.declared.document.KdlDocument.TheViews.{out-KdlDocument, out-KdlNode}
 use Rattle.kdl.specs.declared.node.KdlNode.{KdlNode}

@@ -3,9 +3,9 @@ use Rattle.std.specs.Prelude.{◌≡◌, ℕ, ◌+◌, ◌<◌, ◌≤◌, List,
 use Rattle.std.specs.List.{count_by}
 use Rattle.kdl_entry.specs.Tree.{Entry, entry_tree}
 use Rattle.kdl_entry.specs.declared.entry.KdlEntry.{KdlEntry}
-use Rattle.kdl.specs.EntryLists.{Sought, property, argument, sought, is_argument, place_of, removed_place}
-use Rattle.kdl.specs.declared.node.key.NodeKey.{NodeKey}
-use Rattle.kdl.specs.declared.node.key.NodeKey.TheVariants.{Key, Index}
+use Rattle.kdl_parts.specs.EntryLists.{Sought, property, argument, sought, is_argument, place_of, removed_place}
+use Rattle.kdl_parts.specs.declared.key.NodeKey.{NodeKey}
+use Rattle.kdl_parts.specs.declared.key.NodeKey.TheVariants.{Key, Index}
 
 -- the entry may go in there: under a name, without a name or with one of equal value; under an index, without a name
 abbrev pub GoesUnder : Sought → Entry → Type 0

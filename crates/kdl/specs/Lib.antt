@@ -4,7 +4,6 @@ pub mod EditLaw
 pub mod Edits
 pub mod Cleared
 pub mod DocumentLookups
-pub mod EntryLists
 pub mod Iterators
 pub mod Lookups
 pub mod NodeText

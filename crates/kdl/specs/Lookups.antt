@@ -6,8 +6,8 @@ use Rattle.kdl_entry.specs.Tree.{entry_tree, value_tree, plain_entry, plain_iden
 use Rattle.kdl_entry.specs.declared.entry.KdlEntry.{KdlEntry}
 use Rattle.kdl_entry.specs.declared.value.KdlValue.{KdlValue}
 use Rattle.kdl.specs.Change.{with_entries, with_entry, with_value}
-use Rattle.kdl.specs.EntryLists.{place_of, last_place, has_name}
-use Rattle.kdl.specs.declared.node.key.NodeKey.{NodeKey}
+use Rattle.kdl_parts.specs.EntryLists.{place_of, last_place, has_name}
+use Rattle.kdl_parts.specs.declared.key.NodeKey.{NodeKey}
 use Rattle.kdl.specs.declared.node.KdlNode.{KdlNode, out-KdlNode}
 
 -- the entries of a node

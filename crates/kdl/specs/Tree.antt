@@ -1,28 +1,12 @@
 -- The trees of nodes and documents in memory.
 use Rattle.std.specs.Prelude.{List, map, option_map}
-use Rattle.kdl_entry.specs.Tree.{identifier_tree, entry_tree, text_of}
-use Rattle.kdl_grammar.specs.Tree.{NodeFormat, DocumentFormat, Head, Node, node, Document, document, Nodes, nodes_of, children_of}
+use Rattle.kdl_entry.specs.Tree.{identifier_tree, entry_tree}
+use Rattle.kdl_grammar.specs.Tree.{Head, Node, node, Document, document, Nodes, nodes_of, children_of}
 use Rattle.kdl.specs.declared.node.KdlNode.{KdlNode}
-use Rattle.kdl.specs.declared.node.KdlNodeFormat.{KdlNodeFormat}
 use Rattle.kdl.specs.declared.document.KdlDocument.{KdlDocument}
-use Rattle.kdl.specs.declared.document.KdlDocumentFormat.{KdlDocumentFormat}
+use Rattle.kdl_parts.specs.Formats.{node_format_tree, document_format_tree}
 use Rattle.kdl.specs.declared.document.KdlDocument.TheOpen.{KdlDocument-F, KdlNode-F}
 use Rattle.kdl.specs.declared.document.KdlDocument.TheFolds.{fold-KdlDocument, fold-KdlNode}
-
-abbrev pub node_format_tree : KdlNodeFormat → NodeFormat
-node_format_tree f = record {
-  leading = text_of f.leading;
-  before_ty_name = text_of f.before_ty_name;
-  after_ty_name = text_of f.after_ty_name;
-  after_ty = text_of f.after_ty;
-  before_children = text_of f.before_children;
-  before_terminator = text_of f.before_terminator;
-  terminator = text_of f.terminator;
-  trailing = text_of f.trailing;
-}
-
-abbrev pub document_format_tree : KdlDocumentFormat → DocumentFormat
-document_format_tree f = record { leading = text_of f.leading; trailing = text_of f.trailing }
 
 -- the trees of one level, where those of the levels below are made
 abbrev pub document_step : KdlDocument-F Document Node → Document

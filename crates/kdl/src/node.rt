@@ -1,9 +1,9 @@
 //! Nodes.
 
 ghost use Rattle.kdl_grammar.specs.Tree.{node, children_of};
-ghost use Rattle.kdl.specs.Tree.{head_tree, node_tree, document_tree, node_format_tree};
+ghost use Rattle.kdl.specs.Tree.{head_tree, node_tree, document_tree};
 ghost use Rattle.kdl.specs.NodeText.{alone};
-ghost use Rattle.kdl_grammar.specs.Print.{print_node, print_head, before_block, end_text};
+ghost use Rattle.kdl_grammar.specs.Print.{print_node, print_head};
 ghost use Rattle.kdl.specs.Same.{same_node};
 ghost use Rattle.kdl.specs.declared.node.KdlNode.{out-KdlNode};
 ghost use Rattle.kdl_entry.specs.Tree.{identifier_tree, entry_tree, text_of};
@@ -15,82 +15,16 @@ mod clears;
 mod edit;
 mod fields;
 pub mod iter;
-pub mod key;
 mod lookup;
 mod parsed;
-pub(crate) mod places;
 
 use crate::document::KdlDocument;
-use crate::print::{ends_formatted, write_pieces, write_spaces};
 use kdl_entry::{KdlEntry, KdlIdentifier, write_text, write_type};
+use kdl_parts::KdlNodeFormat;
+use kdl_parts::print::{write_before_block, write_end, write_pieces, write_spaces};
 use kdl_text::span::SourceSpan;
 use std::alloc::{AllocError, Global};
 use std::fmt;
-
-/// The texts around the parts of a node.
-#[derive(PartialEq, Eq, Hash, Debug, Drop)]
-pub struct KdlNodeFormat {
-    /// What stands before the node.
-    pub leading: String,
-    /// What stands between the `(` of the type and its name.
-    pub before_ty_name: String,
-    /// What stands between the name of the type and its `)`.
-    pub after_ty_name: String,
-    /// What stands between the `)` of the type and the node's name.
-    pub after_ty: String,
-    /// What stands between the last entry and the `{` of the children.
-    pub before_children: String,
-    /// What stands between the last entry, or the `}` of the children, and the terminator.
-    pub before_terminator: String,
-    /// The newline or `;` that ends the node.
-    pub terminator: String,
-    /// What stands behind the terminator.
-    pub trailing: String,
-}
-
-impl KdlNodeFormat {
-    /// A format whose texts are empty. It takes no memory.
-    #[tactic(auto, using(crate::proofs::Writing::writes))]
-    pub fn new(alloc: Global) -> KdlNodeFormat
-        ensures { node_format_tree result ≡ record { leading = []; before_ty_name = []; after_ty_name = []; after_ty = []; before_children = []; before_terminator = []; terminator = []; trailing = [] } }
-    {
-        KdlNodeFormat {
-            leading: String::new(alloc),
-            before_ty_name: String::new(alloc),
-            after_ty_name: String::new(alloc),
-            after_ty: String::new(alloc),
-            before_children: String::new(alloc),
-            before_terminator: String::new(alloc),
-            terminator: String::new(alloc),
-            trailing: String::new(alloc),
-        }
-    }
-}
-
-impl Clone for KdlNodeFormat {
-    ghost is_clone = { λ v w. node_format_tree w ≡ node_format_tree v };
-
-    fn clone(&self) -> Result<KdlNodeFormat, AllocError> {
-        let leading = self.leading.clone()?;
-        let before_ty_name = self.before_ty_name.clone()?;
-        let after_ty_name = self.after_ty_name.clone()?;
-        let after_ty = self.after_ty.clone()?;
-        let before_children = self.before_children.clone()?;
-        let before_terminator = self.before_terminator.clone()?;
-        let terminator = self.terminator.clone()?;
-        let trailing = self.trailing.clone()?;
-        Ok(KdlNodeFormat {
-            leading,
-            before_ty_name,
-            after_ty_name,
-            after_ty,
-            before_children,
-            before_terminator,
-            terminator,
-            trailing,
-        })
-    }
-}
 
 /// A node: a name, maybe a type, entries, maybe children, and the texts around them (KDL 2.0.0, Node).
 ///
@@ -193,7 +127,7 @@ impl KdlNode {
     }
 
     /// Writes the leading text, the type and the name.
-    #[tactic(auto, using(crate::proofs::Writing::writes))]
+    #[tactic(auto, using(kdl_parts::proofs::Writing::writes))]
     fn write_head<W: fmt::Write>(&self, depth: usize, f: &mut fmt::Formatter<W>) -> fmt::Result
         ensures { WritesOnOk W.write_str_gives f.old result (encode_utf8_all (print_head (head_tree (out-KdlNode self.now)) depth)) f.new }
     {
@@ -259,44 +193,5 @@ fn copy_children(children: &Option<KdlDocument>) -> Result<Option<KdlDocument>, 
     match children {
         Some(children) => Ok(Some(children.copy()?)),
         None => Ok(None),
-    }
-}
-
-/// Writes what stands before the `{` of a child block.
-#[tactic(auto, using(crate::proofs::Writing::writes))]
-fn write_before_block<W: fmt::Write>(
-    format: &Option<KdlNodeFormat>,
-    entries: &[KdlEntry],
-    f: &mut fmt::Formatter<W>,
-) -> fmt::Result
-    ensures { WritesOnOk W.write_str_gives f.old result (encode_utf8_all (before_block (option_map node_format_tree format.now) (map entry_tree entries.now))) f.new }
-{
-    match format {
-        Some(format) => write_text(&format.before_children, f),
-        None => {
-            if ends_formatted(entries) {
-                Ok(())
-            } else {
-                f.write_str(" ")
-            }
-        }
-    }
-}
-
-/// Writes what stands behind the last entry, or behind the child block.
-#[tactic(auto, using(crate::proofs::Writing::writes))]
-fn write_end<W: fmt::Write>(
-    format: &Option<KdlNodeFormat>,
-    f: &mut fmt::Formatter<W>,
-) -> fmt::Result
-    ensures { WritesOnOk W.write_str_gives f.old result (encode_utf8_all (end_text (option_map node_format_tree format.now))) f.new }
-{
-    match format {
-        Some(format) => {
-            write_text(&format.before_terminator, f)?;
-            write_text(&format.terminator, f)?;
-            write_text(&format.trailing, f)
-        }
-        None => Ok(()),
     }
 }

@@ -2,7 +2,8 @@ use Rattle.std.proofs.Common.{◌++◌, take, option_map}
 use Rattle.std.specs.Fmt.{HasWritten, IsPlainFormatter}
 use Rattle.std.specs.Str.{encode_utf8_all}
 use Rattle.kdl_grammar.specs.Print.{leading_text, print_nodes}
-use Rattle.kdl.specs.Tree.{document_format_tree, nodes_tree}
+use Rattle.kdl.specs.Tree.{nodes_tree}
+use Rattle.kdl_parts.specs.Formats.{document_format_tree}
 use Rattle.kdl.specs.declared.document.KdlDocument.TheViews.{out-KdlDocument}
 use Rattle.kdl.proofs.+stringify.Given as goal
 

@@ -12,9 +12,9 @@ ghost use Rattle.std.specs.Slice.Iter.{iter_rest};
 use crate::document::KdlDocument;
 use crate::document::lookup::is_named;
 use crate::node::KdlNode;
-use crate::node::key::NodeKey;
-use crate::node::places::is_unnamed;
 use kdl_entry::{KdlEntry, KdlValue};
+use kdl_parts::NodeKey;
+use kdl_parts::places::is_unnamed;
 use std::marker::Model;
 use std::slice;
 

@@ -5,15 +5,16 @@ ghost use Rattle.kdl.specs.Cleared.{cleared_document, cleared_nodes};
 ghost use Rattle.kdl_grammar.specs.Print.{print_document};
 ghost use Rattle.kdl.specs.Tree.{document_tree, nodes_tree};
 ghost use Rattle.kdl.specs.contracts.document.KdlDocument.{the_row};
-ghost use Rattle.kdl.specs.contracts.document.KdlDocumentFormat.{the_row as format_row};
+ghost use Rattle.kdl_parts.specs.contracts.format.KdlDocumentFormat.{the_row as format_row};
 ghost use Rattle.kdl.specs.declared.document.KdlDocument.{out-KdlDocument};
 ghost use Rattle.kdl_text.specs.Here.{bytes};
 ghost use Rattle.std.specs.Borrow.{Lends, LendsIf, sem};
 ghost use Rattle.std.specs.Prelude.{◌≡◌, ◌↔◌, IfOk, IsTrue, [], None, Some, option_map};
 ghost use Rattle.std.specs.Vec.Iter.{into_iter_items};
 
-use crate::document::{KdlDocument, KdlDocumentFormat};
+use crate::document::KdlDocument;
 use crate::node::KdlNode;
+use kdl_parts::KdlDocumentFormat;
 use std::alloc::{AllocError, Global};
 use std::vec::IntoIter;
 

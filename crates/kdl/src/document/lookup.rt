@@ -1,7 +1,6 @@
 //! Look-ups of nodes by their name.
 
-ghost use Rattle.kdl.specs.DocumentLookups.{argument_named, argument_place, first_argument, node_named, node_place, with_argument_there, with_node_there};
-ghost use Rattle.kdl.specs.EntryLists.{is_node_named};
+ghost use Rattle.kdl.specs.DocumentLookups.{argument_named, argument_place, first_argument, is_node_named, node_named, node_place, with_argument_there, with_node_there};
 ghost use Rattle.kdl.specs.contracts.document.KdlDocument.{the_row};
 ghost use Rattle.kdl.specs.contracts.node.KdlNode.{the_row as node_row};
 ghost use Rattle.kdl_entry.specs.Tree.{value_tree};
@@ -12,8 +11,8 @@ ghost use Rattle.std.specs.Prelude.{◌≡◌, ◌<◌, IfNone, IfSome, IsSome, 
 
 use crate::document::KdlDocument;
 use crate::node::KdlNode;
-use crate::node::key::NodeKey;
 use kdl_entry::KdlValue;
+use kdl_parts::NodeKey;
 
 /// Whether the node has that name.
 pub(crate) fn is_named(node: &KdlNode, name: &str) -> bool

@@ -3,7 +3,7 @@
 ghost use Rattle.kdl.specs.Change.{with_entries, entries_row};
 ghost use Rattle.kdl.specs.EditLaw.{PrintsAtPlace};
 ghost use Rattle.kdl.specs.Edits.{GoesUnder, HasArgumentAt, HasRoomAt, IsInserted, put_before, put_for, removed, replaced_place, there, under};
-ghost use Rattle.kdl.specs.EntryLists.{property, removed_place, sought};
+ghost use Rattle.kdl_parts.specs.EntryLists.{property, removed_place, sought};
 ghost use Rattle.kdl.specs.Tree.{node_tree};
 ghost use Rattle.kdl.specs.contracts.node.KdlNode.{the_row};
 ghost use Rattle.kdl.specs.declared.node.KdlNode.{out-KdlNode};
@@ -15,9 +15,9 @@ ghost use Rattle.std.specs.List.Sorted.{IsPermutation, IsSortedByClosure, IsSort
 ghost use Rattle.std.specs.Prelude.{◌≡◌, ◌==◌, ◌<◌, ◌≤◌, ◌+◌, [], ◌∷◌, ◌++◌, if◌then◌else◌, IfErr, IfOk, IfSome, IsSome, IsOk, OnErr, OnOk, Some, drop, is_ok, length, slice_get, take};
 
 use crate::node::KdlNode;
-use crate::node::key::NodeKey;
-use crate::node::places::{place, place_to_remove};
 use kdl_entry::{KdlEntry, KdlIdentifier};
+use kdl_parts::NodeKey;
+use kdl_parts::places::{place, place_to_remove};
 use std::alloc::AllocError;
 use std::cmp::Ordering;
 use std::mem;

@@ -1,11 +1,11 @@
 //! The parts of a node, to be set or to be changed in place.
 
 ghost use Rattle.kdl.specs.Change.{with_name, with_ty, with_children, with_format, ty_row, children_row};
-ghost use Rattle.kdl.specs.Cleared.{ended_format, new_node, new_document};
-ghost use Rattle.kdl.specs.Tree.{node_tree, node_format_tree, document_tree};
+ghost use Rattle.kdl.specs.Cleared.{new_node, new_document};
+ghost use Rattle.kdl.specs.Tree.{node_tree, document_tree};
 ghost use Rattle.kdl.specs.contracts.document.KdlDocument.{the_row as document_row};
 ghost use Rattle.kdl.specs.contracts.node.KdlNode.{the_row};
-ghost use Rattle.kdl.specs.contracts.node.KdlNodeFormat.{the_row as format_row};
+ghost use Rattle.kdl_parts.specs.contracts.format.KdlNodeFormat.{the_row as format_row};
 ghost use Rattle.kdl.specs.declared.node.KdlNode.{out-KdlNode};
 ghost use Rattle.kdl_entry.specs.contracts.identifier.KdlIdentifier.{the_row as identifier_row};
 ghost use Rattle.kdl_entry.specs.Tree.{identifier_tree};
@@ -13,8 +13,10 @@ ghost use Rattle.std.specs.Borrow.{Lends, LendsIf, sem};
 ghost use Rattle.std.specs.Prelude.{◌≡◌, IfNone, IfOk, IfSome, None, Some, option_map};
 
 use crate::document::KdlDocument;
-use crate::node::{KdlNode, KdlNodeFormat};
+use crate::node::KdlNode;
 use kdl_entry::KdlIdentifier;
+use kdl_parts::KdlNodeFormat;
+use kdl_parts::format::new_format;
 use kdl_text::span::SourceSpan;
 use std::alloc::{AllocError, Global};
 
@@ -120,15 +122,4 @@ impl KdlNode {
     {
         self.format = None;
     }
-}
-
-/// The format of a new node: a newline behind it, and nothing else.
-fn new_format(alloc: Global) -> Result<KdlNodeFormat, AllocError>
-    ensures { IfOk result (λ f. node_format_tree f ≡ ended_format) }
-{
-    let mut trailing = String::new(alloc);
-    trailing.push('\n')?;
-    let mut format = KdlNodeFormat::new(alloc);
-    format.trailing = trailing;
-    Ok(format)
 }

@@ -2,15 +2,15 @@
 
 ghost use Rattle.kdl.specs.Change.{with_value};
 ghost use Rattle.kdl.specs.Lookups.{entries_of, entry_there, key_place, property_place, value_there, with_entry_there, with_value_there, HasProperty, HasSameEntries, HasWritten};
-ghost use Rattle.kdl.specs.declared.node.key.NodeKey.TheVariants.{Index as at_index};
+ghost use Rattle.kdl_parts.specs.declared.key.NodeKey.TheVariants.{Index as at_index};
 ghost use Rattle.kdl_entry.specs.Tree.{or_null, value_tree};
 ghost use Rattle.std.specs.Borrow.{Lends, LendsIf, LendsSoOk, sem};
 ghost use Rattle.std.specs.Prelude.{◌≡◌, ◌<◌, IfErr, IfOk, IsSome, Some, is_some, length, option_map, slice_get};
 
 use crate::node::KdlNode;
-use crate::node::key::NodeKey;
-use crate::node::places::{last_property, nth_argument, place};
 use kdl_entry::{KdlEntry, KdlIdentifier, KdlValue};
+use kdl_parts::NodeKey;
+use kdl_parts::places::{last_property, nth_argument, place};
 use std::alloc::AllocError;
 use std::ops::{Index, IndexMut};
 

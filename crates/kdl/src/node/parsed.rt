@@ -5,10 +5,11 @@ ghost use Rattle.kdl_grammar.specs.Laid.{node_span};
 ghost use Rattle.kdl_parser.specs.Parts.{node_by};
 ghost use Rattle.std.specs.Prelude.{◌≡◌};
 
-use super::{KdlNode, KdlNodeFormat};
+use super::KdlNode;
 use crate::document::KdlDocument;
 use kdl_entry::items::item::TypeParts;
 use kdl_parser::{NodeParts, ParsedNode};
+use kdl_parts::KdlNodeFormat;
 use kdl_text::span::SourceSpan;
 use std::alloc::Global;
 

@@ -1,6 +1,6 @@
 use Rattle.std.proofs.Common.{◌≡◌, ◌≤◌, take}
 use Rattle.std.specs.List.{count_by}
-use Rattle.kdl.specs.EntryLists.{is_argument}
+use Rattle.kdl_parts.specs.EntryLists.{is_argument}
 use Rattle.conformance_calls.proofs.callers.count_arguments.Given as goal
 
 abbrev pub invariant-loop-entry : goal.invariant-loop-entry

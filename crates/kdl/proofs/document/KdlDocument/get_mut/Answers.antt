@@ -1,7 +1,6 @@
 use Rattle.std.proofs.Common.{ap, inl, length, position, refl, sym, ◌∙◌}
 use Rattle.std.proofs.lemmas.Option.{slice_get_read}
-use Rattle.kdl.specs.DocumentLookups.{nodes_of, with_node_there}
-use Rattle.kdl.specs.EntryLists.{is_node_named}
+use Rattle.kdl.specs.DocumentLookups.{is_node_named, nodes_of, with_node_there}
 use Rattle.kdl.proofs.DocumentLookups.{found_is, none_there}
 use Rattle.kdl.proofs.document.KdlDocument.get_mut.Goals as goal
 

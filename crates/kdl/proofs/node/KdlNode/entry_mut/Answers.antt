@@ -1,6 +1,6 @@
 use Rattle.std.proofs.Common.{ap, inl, length, sym, ◌∙◌}
 use Rattle.std.proofs.lemmas.Option.{slice_get_read}
-use Rattle.kdl.specs.EntryLists.{place_of}
+use Rattle.kdl_parts.specs.EntryLists.{place_of}
 use Rattle.kdl.specs.Lookups.{with_entry_there}
 use Rattle.kdl.proofs.Lookups.{found_at}
 use Rattle.kdl.proofs.node.KdlNode.entry_mut.Goals as goal

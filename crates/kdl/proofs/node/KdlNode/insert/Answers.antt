@@ -1,6 +1,6 @@
 use Rattle.std.proofs.Common.{◌∙◌, ap, None}
 use Rattle.kdl_entry.specs.Tree.{entry_tree}
-use Rattle.kdl.specs.EntryLists.{place_of}
+use Rattle.kdl_parts.specs.EntryLists.{place_of}
 use Rattle.kdl.specs.declared.node.KdlNode.{out-KdlNode}
 use Rattle.kdl.proofs.EditLaws.{key_put, key_replaced, key_succeeds, key_under, index_put, index_replaced, index_succeeds, index_under, if_ok_same, replaced_is, back_is, insert_done, insert_prints, refused_same}
 use Rattle.kdl.proofs.node.KdlNode.insert.Goals as goal

@@ -1,6 +1,0 @@
-use Rattle.std.proofs.Common.{◌≡◌, ◌<◌, length, take, IfSome}
-use Rattle.kdl.specs.EntryLists.{has_name, last_place}
-use Rattle.kdl.proofs.node.places.last_property.Given as goal
-
-abbrev pub invariant-loop-i : goal.invariant-loop-i
-invariant-loop-i l = (l.found ≡ last_place (has_name l.name) (take l.i l.entries)) × IfSome l.found (λ k. k < length l.entries)

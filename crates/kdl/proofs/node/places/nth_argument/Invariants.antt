@@ -1,7 +1,0 @@
-use Rattle.std.proofs.Common.{◌≡◌, drop}
-use Rattle.kdl.specs.EntryLists.{nth_place, is_argument}
-use Rattle.kdl.proofs.EntryPlaces.{after}
-use Rattle.kdl.proofs.node.places.nth_argument.Given as goal
-
-abbrev pub invariant-loop-i : goal.invariant-loop-i
-invariant-loop-i l = after l.i (nth_place is_argument (drop l.i l.entries) l.left) ≡ nth_place is_argument l.entries l.n

@@ -1,0 +1,5 @@
+pub mod EntryPlaces
+pub mod Equality
+pub mod Marks
+pub mod Printing
+pub mod Writing

@@ -1,0 +1,13 @@
+use Rattle.std.proofs.Common.{[], ◌∷◌, ap, ◌∙◌}
+use Rattle.std.proofs.lemmas.Str.{IsUtf8-string_bytes}
+use Rattle.std.specs.Prelude.{string_bytes}
+use Rattle.kdl_text.specs.Chars.{Text}
+use Rattle.kdl_grammar.specs.Tree.{NodeFormat}
+use Rattle.kdl_parts.specs.Formats.{node_format_tree}
+use Rattle.kdl_parts.proofs.Marks.{one_char}
+use Rattle.kdl_parts.proofs.format.new_format.Goals as goal
+
+pub returns : goal.returns
+returns c =
+    let lf = one_char 10 (string_bytes c.new-trailing.result) (string_bytes c.push.new.self) c.new-trailing.ensures.bytes (IsUtf8-string_bytes c.push.new.self) c.in_ok-push.ensures.bytes in
+    ap (λ (t : Text). record (node_format_tree c.new-format.result) { trailing = t }) lf ∙ ap (λ (f : NodeFormat). record f { trailing = 10 ∷ [] }) c.new-format.ensures

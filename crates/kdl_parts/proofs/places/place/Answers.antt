@@ -1,0 +1,9 @@
+use Rattle.std.proofs.Common.{◌∙◌, ap}
+use Rattle.std.proofs.lemmas.Str.{IsUtf8-string_bytes}
+use Rattle.kdl_parts.specs.EntryLists.{has_name, last_place}
+use Rattle.kdl_parts.proofs.EntryPlaces.{same_bytes}
+use Rattle.kdl_parts.proofs.places.place.Goals as goal
+
+pub returns-in-Key-clause-place : goal.returns-in-Key-clause-place
+returns-in-Key-clause-place c =
+    rw c.in-Key.is (c.last_property.ensures.place ∙ ap (λ s. last_place (has_name s) c.args.entries.now) (same_bytes _ _ c.value.utf8 (IsUtf8-string_bytes c.in-Key.name.value) c.value.ensures))

@@ -1,0 +1,66 @@
+-- Where look-ups find an entry.
+use Rattle.std.specs.Prelude.{ℕ, zero, suc, List, [], ◌∷◌, Bool, true, false, ◌==◌, Option, Some, None, option_map, is_none, string_bytes, position}
+use Rattle.std.specs.Cmp.Lexicographic.{pointwise}
+use Rattle.kdl_entry.specs.declared.entry.KdlEntry.{KdlEntry}
+use Rattle.kdl_entry.specs.declared.identifier.KdlIdentifier.{KdlIdentifier}
+use Rattle.kdl_entry.specs.Tree.{Identifier, identifier_tree}
+use Rattle.kdl_parts.specs.declared.key.NodeKey.{NodeKey}
+use Rattle.kdl_parts.specs.declared.key.NodeKey.TheVariants.{Key, Index}
+
+-- what a key looks for: a property of that name, or the argument at that place
+pub data Sought : Type 0 where
+  property : Identifier → Sought
+  argument : ℕ → Sought
+
+abbrev pub sought : NodeKey → Sought
+sought (Key k) = property (identifier_tree k)
+sought (Index n) = argument n
+
+-- the two texts have the same bytes
+abbrev pub same_text : List ℕ → List ℕ → Bool
+same_text = pointwise ◌==◌
+
+-- the identifier's value is the text
+abbrev pub is_name : List ℕ → Option KdlIdentifier → Bool
+is_name s None = false
+is_name s (Some i) = same_text (string_bytes i.value) s
+
+-- the entry is a property of that name
+abbrev pub has_name : List ℕ → KdlEntry → Bool
+has_name s e = is_name s e.name
+
+-- the entry has no name
+abbrev pub is_argument : KdlEntry → Bool
+is_argument e = is_none e.name
+
+-- the last place, where those behind the first element have this last place, and b tells of the first
+abbrev pub later : Option ℕ → Bool → Option ℕ
+later (Some i) b = Some (suc i)
+later None true = Some 0
+later None false = None
+
+-- the last place where p holds
+abbrev pub last_place : {A : Type 0} → (A → Bool) → List A → Option ℕ
+last_place p [] = None
+last_place p (x ∷ xs) = later (last_place p xs) (p x)
+
+-- the place of the n-th, where the first element is one or not, and `rest` gives places behind it
+abbrev pub nth_step : Bool → ℕ → (ℕ → Option ℕ) → Option ℕ
+nth_step true zero rest = Some 0
+nth_step true (suc n) rest = option_map suc (rest n)
+nth_step false n rest = option_map suc (rest n)
+
+-- the place of the n-th element, counted from 0, where p holds
+abbrev pub nth_place : {A : Type 0} → (A → Bool) → List A → ℕ → Option ℕ
+nth_place p [] n = None
+nth_place p (x ∷ xs) n = nth_step (p x) n (nth_place p xs)
+
+-- the place that `get` looks at: the last property of that name, or that argument
+abbrev pub place_of : NodeKey → List KdlEntry → Option ℕ
+place_of (Key k) es = last_place (has_name (string_bytes k.value)) es
+place_of (Index n) es = nth_place is_argument es n
+
+-- the place that `remove` looks at: the first property of that name, or that argument
+abbrev pub removed_place : NodeKey → List KdlEntry → Option ℕ
+removed_place (Key k) es = position (has_name (string_bytes k.value)) es
+removed_place (Index n) es = nth_place is_argument es n

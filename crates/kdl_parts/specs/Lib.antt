@@ -1,0 +1,2 @@
+pub mod EntryLists
+pub mod Formats

@@ -1,0 +1,153 @@
+//! The texts around nodes and documents.
+
+ghost use Rattle.kdl_entry.specs.Tree.{text_of};
+ghost use Rattle.kdl_grammar.specs.Laid.{marked_format};
+ghost use Rattle.kdl_parts.specs.Formats.{document_format_tree, ended_format, node_format_tree};
+ghost use Rattle.std.specs.Prelude.{◌≡◌, ◌++◌, [], ◌∷◌, IfOk, option_map};
+ghost use Rattle.std.specs.Str.{chars};
+
+use std::alloc::{AllocError, Global};
+
+/// The texts around the parts of a node.
+#[derive(PartialEq, Eq, Hash, Debug, Drop)]
+pub struct KdlNodeFormat {
+    /// What stands before the node.
+    pub leading: String,
+    /// What stands between the `(` of the type and its name.
+    pub before_ty_name: String,
+    /// What stands between the name of the type and its `)`.
+    pub after_ty_name: String,
+    /// What stands between the `)` of the type and the node's name.
+    pub after_ty: String,
+    /// What stands between the last entry and the `{` of the children.
+    pub before_children: String,
+    /// What stands between the last entry, or the `}` of the children, and the terminator.
+    pub before_terminator: String,
+    /// The newline or `;` that ends the node.
+    pub terminator: String,
+    /// What stands behind the terminator.
+    pub trailing: String,
+}
+
+impl KdlNodeFormat {
+    /// A format whose texts are empty. It takes no memory.
+    #[tactic(auto, using(crate::proofs::Writing::writes))]
+    pub fn new(alloc: Global) -> KdlNodeFormat
+        ensures { node_format_tree result ≡ record { leading = []; before_ty_name = []; after_ty_name = []; after_ty = []; before_children = []; before_terminator = []; terminator = []; trailing = [] } }
+    {
+        KdlNodeFormat {
+            leading: String::new(alloc),
+            before_ty_name: String::new(alloc),
+            after_ty_name: String::new(alloc),
+            after_ty: String::new(alloc),
+            before_children: String::new(alloc),
+            before_terminator: String::new(alloc),
+            terminator: String::new(alloc),
+            trailing: String::new(alloc),
+        }
+    }
+}
+
+impl Clone for KdlNodeFormat {
+    ghost is_clone = { λ v w. node_format_tree w ≡ node_format_tree v };
+
+    fn clone(&self) -> Result<KdlNodeFormat, AllocError> {
+        let leading = self.leading.clone()?;
+        let before_ty_name = self.before_ty_name.clone()?;
+        let after_ty_name = self.after_ty_name.clone()?;
+        let after_ty = self.after_ty.clone()?;
+        let before_children = self.before_children.clone()?;
+        let before_terminator = self.before_terminator.clone()?;
+        let terminator = self.terminator.clone()?;
+        let trailing = self.trailing.clone()?;
+        Ok(KdlNodeFormat {
+            leading,
+            before_ty_name,
+            after_ty_name,
+            after_ty,
+            before_children,
+            before_terminator,
+            terminator,
+            trailing,
+        })
+    }
+}
+
+/// The format of a new node: a newline behind it, and nothing else.
+pub fn new_format(alloc: Global) -> Result<KdlNodeFormat, AllocError>
+    ensures { IfOk result (λ f. node_format_tree f ≡ ended_format) }
+{
+    let mut trailing = String::new(alloc);
+    trailing.push('\n')?;
+    let mut format = KdlNodeFormat::new(alloc);
+    format.trailing = trailing;
+    Ok(format)
+}
+
+/// The texts around the nodes of a document.
+#[derive(PartialEq, Eq, Hash, Debug, Drop)]
+pub struct KdlDocumentFormat {
+    /// What stands before the first node.
+    pub leading: String,
+    /// What stands behind the last node.
+    pub trailing: String,
+}
+
+impl KdlDocumentFormat {
+    /// A format whose texts are empty. It takes no memory.
+    #[tactic(auto, using(crate::proofs::Writing::writes))]
+    pub fn new(alloc: Global) -> KdlDocumentFormat
+        ensures { document_format_tree result ≡ record { leading = []; trailing = [] } }
+    {
+        KdlDocumentFormat {
+            leading: String::new(alloc),
+            trailing: String::new(alloc),
+        }
+    }
+}
+
+impl Clone for KdlDocumentFormat {
+    ghost is_clone = { λ v w. document_format_tree w ≡ document_format_tree v };
+
+    fn clone(&self) -> Result<KdlDocumentFormat, AllocError> {
+        let leading = self.leading.clone()?;
+        let trailing = self.trailing.clone()?;
+        Ok(KdlDocumentFormat { leading, trailing })
+    }
+}
+
+/// U+FEFF as a text.
+fn mark_text(alloc: Global) -> Result<String, AllocError>
+    ensures { IfOk result (λ s. text_of s ≡ 0xFEFF ∷ []) }
+{
+    let mut mark = String::new(alloc);
+    mark.push('\u{feff}')?;
+    Ok(mark)
+}
+
+/// The text behind another.
+fn push_text(text: &mut String, more: &str) -> Result<(), AllocError>
+    ensures { IfOk result (λ _. text_of text.new ≡ text_of text.old ++ chars more.now) }
+{
+    text.push_str(more)
+}
+
+/// The format with U+FEFF before its leading text.
+pub fn behind_mark(
+    alloc: Global,
+    format: Option<KdlDocumentFormat>,
+) -> Result<KdlDocumentFormat, AllocError>
+    ensures { IfOk result (λ f. document_format_tree f ≡ marked_format (option_map document_format_tree format)) }
+{
+    let mut leading = mark_text(alloc)?;
+    let Some(format) = format else {
+        let mut marked = KdlDocumentFormat::new(alloc);
+        marked.leading = leading;
+        return Ok(marked);
+    };
+    push_text(&mut leading, &format.leading)?;
+    Ok(KdlDocumentFormat {
+        leading,
+        trailing: format.trailing,
+    })
+}

@@ -1,0 +1,44 @@
+//! What an entry of a node is looked up by.
+
+ghost use Rattle.kdl_parts.specs.EntryLists.{sought, property, argument};
+ghost use Rattle.kdl_entry.specs.Tree.{plain_identifier, text_of};
+ghost use Rattle.std.specs.Prelude.{◌≡◌, IfOk};
+ghost use Rattle.std.specs.Str.{chars};
+
+use kdl_entry::KdlIdentifier;
+use std::alloc::{AllocError, Global};
+
+/// What an entry of a node is looked up by: the name of a property, or the place of an argument.
+#[derive(Clone, PartialEq, Eq, Debug, Drop)]
+pub enum NodeKey {
+    /// The name of a property. Its value counts, not its spelling.
+    Key(KdlIdentifier),
+    /// The place of an argument, from 0, counted over the arguments alone.
+    Index(usize),
+}
+
+impl NodeKey {
+    /// The key of the properties whose name is a copy of the text. Fails where memory is wanting; an empty text takes
+    /// none.
+    pub fn from_text(alloc: Global, name: &str) -> Result<NodeKey, AllocError>
+        ensures { IfOk result (λ k. sought k ≡ property (plain_identifier (chars name.now))) }
+    {
+        Ok(NodeKey::Key(KdlIdentifier::from_text(alloc, name)?))
+    }
+}
+
+impl From<String> for NodeKey {
+    ghost from_gives = { λ s k. sought k ≡ property (plain_identifier (text_of s)) };
+
+    fn from(name: String) -> NodeKey {
+        NodeKey::Key(KdlIdentifier::from(name))
+    }
+}
+
+impl From<usize> for NodeKey {
+    ghost from_gives = { λ n k. sought k ≡ argument n };
+
+    fn from(place: usize) -> NodeKey {
+        NodeKey::Index(place)
+    }
+}

@@ -1,0 +1,11 @@
+//! What nodes and documents are made of but for themselves: the texts around them, and the lists of their entries.
+#![tactic(auto)]
+
+pub mod format;
+pub mod key;
+pub mod laws;
+pub mod places;
+pub mod print;
+
+pub use format::{KdlDocumentFormat, KdlNodeFormat};
+pub use key::NodeKey;

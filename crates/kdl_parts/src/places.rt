@@ -1,0 +1,85 @@
+//! Where the entries stand that a key names.
+
+ghost use Rattle.kdl_parts.specs.EntryLists.{has_name, is_argument, last_place, nth_place, place_of, removed_place};
+ghost use Rattle.std.specs.Prelude.{◌≡◌, ◌<◌, IfSome, length, position};
+
+use crate::key::NodeKey;
+use kdl_entry::KdlEntry;
+
+/// Whether the entry is a property of that name.
+fn is_property(entry: &KdlEntry, name: &str) -> bool
+    ensures { result ≡ has_name name.now entry.now }
+{
+    match entry.name() {
+        Some(key) => key.value() == name,
+        None => false,
+    }
+}
+
+/// Whether the entry is an argument.
+pub fn is_unnamed(entry: &KdlEntry) -> bool
+    ensures { result ≡ is_argument entry.now }
+{
+    entry.name().is_none()
+}
+
+/// The place of the last property of that name.
+pub fn last_property(entries: &[KdlEntry], name: &str) -> Option<usize>
+    ensures place { result ≡ last_place (has_name name.now) entries.now }
+    ensures bound { IfSome result (λ i. i < length entries.now) }
+{
+    let mut found = None;
+    for (i, entry) in entries.iter().enumerate() {
+        if is_property(entry, name) {
+            found = Some(i);
+        }
+    }
+    found
+}
+
+/// The place of the argument that stands at `n` among the arguments, from 0.
+pub fn nth_argument(entries: &[KdlEntry], n: usize) -> Option<usize>
+    ensures place { result ≡ nth_place is_argument entries.now n }
+    ensures bound { IfSome result (λ i. i < length entries.now) }
+{
+    let mut left = n;
+    for (i, entry) in entries.iter().enumerate() {
+        if is_unnamed(entry) {
+            if left == 0 {
+                return Some(i);
+            }
+            left -= 1;
+        }
+    }
+    None
+}
+
+/// The place of the first property of that name.
+fn first_property(entries: &[KdlEntry], name: &str) -> Option<usize>
+    ensures place { result ≡ position (has_name name.now) entries.now }
+    ensures bound { IfSome result (λ i. i < length entries.now) }
+{
+    entries.iter().position(|entry| is_property(entry, name))
+}
+
+/// The place of the entry that the key finds.
+pub fn place(entries: &[KdlEntry], key: &NodeKey) -> Option<usize>
+    ensures place { result ≡ place_of key.now entries.now }
+    ensures bound { IfSome result (λ i. i < length entries.now) }
+{
+    match key {
+        NodeKey::Key(name) => last_property(entries, name.value()),
+        NodeKey::Index(n) => nth_argument(entries, *n),
+    }
+}
+
+/// The place of the entry that a removal takes out: the first property of that name, or that argument.
+pub fn place_to_remove(entries: &[KdlEntry], key: &NodeKey) -> Option<usize>
+    ensures place { result ≡ removed_place key.now entries.now }
+    ensures bound { IfSome result (λ i. i < length entries.now) }
+{
+    match key {
+        NodeKey::Key(name) => first_property(entries, name.value()),
+        NodeKey::Index(n) => nth_argument(entries, *n),
+    }
+}

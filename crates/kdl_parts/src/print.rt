@@ -1,0 +1,152 @@
+//! Parts of the printed text.
+
+ghost use Rattle.kdl_grammar.specs.Print.{after_brace, before_block, before_brace, end_text, last_has_format, leading_text, print_piece, print_pieces, spaces, trailing_text};
+ghost use Rattle.kdl_parts.specs.Formats.{document_format_tree, node_format_tree};
+ghost use Rattle.kdl_entry.specs.Tree.{entry_tree};
+ghost use Rattle.std.specs.Fmt.{WritesOnOk};
+ghost use Rattle.std.specs.Prelude.{◌≡◌, ◌++◌, [], ◌∷◌, map, option_map};
+ghost use Rattle.std.specs.Str.{encode_utf8_all};
+
+use crate::format::{KdlDocumentFormat, KdlNodeFormat};
+use kdl_entry::{KdlEntry, write_text};
+use std::fmt;
+
+/// Writes the indentation at a depth: four spaces for each level.
+#[tactic(auto, using(crate::proofs::Writing::writes, crate::proofs::Writing::spaces_more))]
+pub fn write_spaces<W: fmt::Write>(depth: usize, f: &mut fmt::Formatter<W>) -> fmt::Result
+    ensures { WritesOnOk W.write_str_gives f.old result (encode_utf8_all (spaces depth)) f.new }
+{
+    for _level in 0..depth {
+        f.write_str("    ")?;
+    }
+    Ok(())
+}
+
+/// Writes the entries of a node.
+#[tactic(auto, using(crate::proofs::Writing::writes, crate::proofs::Printing::pieces_written))]
+pub fn write_pieces<W: fmt::Write>(entries: &[KdlEntry], f: &mut fmt::Formatter<W>) -> fmt::Result
+    ensures { WritesOnOk W.write_str_gives f.old result (encode_utf8_all (print_pieces (map entry_tree entries.now))) f.new }
+{
+    for entry in entries {
+        write_piece(entry, f)?;
+    }
+    Ok(())
+}
+
+/// Writes an entry of a node: one without a format stands after one space.
+#[tactic(auto, using(crate::proofs::Writing::writes))]
+fn write_piece<W: fmt::Write>(entry: &KdlEntry, f: &mut fmt::Formatter<W>) -> fmt::Result
+    ensures { WritesOnOk W.write_str_gives f.old result (encode_utf8_all (print_piece (entry_tree entry.now))) f.new }
+{
+    if entry.format().is_none() {
+        f.write_str(" ")?;
+    }
+    write!(f, "{entry}")
+}
+
+/// Whether the last entry has a format.
+pub fn ends_formatted(entries: &[KdlEntry]) -> bool
+    ensures { result ≡ last_has_format (map entry_tree entries.now) }
+{
+    match entries.last() {
+        Some(last) => last.format().is_some(),
+        None => false,
+    }
+}
+
+/// Writes what stands before the `{` of a child block.
+#[tactic(auto, using(crate::proofs::Writing::writes))]
+pub fn write_before_block<W: fmt::Write>(
+    format: &Option<KdlNodeFormat>,
+    entries: &[KdlEntry],
+    f: &mut fmt::Formatter<W>,
+) -> fmt::Result
+    ensures { WritesOnOk W.write_str_gives f.old result (encode_utf8_all (before_block (option_map node_format_tree format.now) (map entry_tree entries.now))) f.new }
+{
+    match format {
+        Some(format) => write_text(&format.before_children, f),
+        None => {
+            if ends_formatted(entries) {
+                Ok(())
+            } else {
+                f.write_str(" ")
+            }
+        }
+    }
+}
+
+/// Writes what stands behind the last entry, or behind the child block.
+#[tactic(auto, using(crate::proofs::Writing::writes))]
+pub fn write_end<W: fmt::Write>(
+    format: &Option<KdlNodeFormat>,
+    f: &mut fmt::Formatter<W>,
+) -> fmt::Result
+    ensures { WritesOnOk W.write_str_gives f.old result (encode_utf8_all (end_text (option_map node_format_tree format.now))) f.new }
+{
+    match format {
+        Some(format) => {
+            write_text(&format.before_terminator, f)?;
+            write_text(&format.terminator, f)?;
+            write_text(&format.trailing, f)
+        }
+        None => Ok(()),
+    }
+}
+
+/// Writes what stands before the first node.
+pub fn write_leading<W: fmt::Write>(
+    format: &Option<KdlDocumentFormat>,
+    f: &mut fmt::Formatter<W>,
+) -> fmt::Result
+    ensures { WritesOnOk W.write_str_gives f.old result (encode_utf8_all (leading_text (option_map document_format_tree format.now))) f.new }
+{
+    match format {
+        Some(format) => write_text(&format.leading, f),
+        None => Ok(()),
+    }
+}
+
+/// Writes what stands behind the last node.
+pub fn write_trailing<W: fmt::Write>(
+    format: &Option<KdlDocumentFormat>,
+    f: &mut fmt::Formatter<W>,
+) -> fmt::Result
+    ensures { WritesOnOk W.write_str_gives f.old result (encode_utf8_all (trailing_text (option_map document_format_tree format.now))) f.new }
+{
+    match format {
+        Some(format) => write_text(&format.trailing, f),
+        None => Ok(()),
+    }
+}
+
+/// Writes the `{` of a child block, and the newline behind it.
+#[tactic(auto, using(crate::proofs::Writing::writes))]
+pub fn write_after_brace<W: fmt::Write>(
+    format: &Option<KdlDocumentFormat>,
+    f: &mut fmt::Formatter<W>,
+) -> fmt::Result
+    ensures { WritesOnOk W.write_str_gives f.old result (encode_utf8_all (123 ∷ after_brace (option_map document_format_tree format.now))) f.new }
+{
+    match format {
+        Some(_) => f.write_str("{"),
+        None => f.write_str("{\n"),
+    }
+}
+
+/// Writes the `}` of a child block, and the indentation before it.
+#[tactic(auto, using(crate::proofs::Writing::writes))]
+pub fn write_before_brace<W: fmt::Write>(
+    format: &Option<KdlDocumentFormat>,
+    depth: usize,
+    f: &mut fmt::Formatter<W>,
+) -> fmt::Result
+    ensures { WritesOnOk W.write_str_gives f.old result (encode_utf8_all (before_brace (option_map document_format_tree format.now) depth ++ 125 ∷ [])) f.new }
+{
+    match format {
+        Some(_) => f.write_str("}"),
+        None => {
+            write_spaces(depth, f)?;
+            f.write_str("}")
+        }
+    }
+}
