@@ -5,16 +5,17 @@ use crate::reading::{
     is_called, is_range, lone_entry, lone_node, nested, places, range, read, refuse,
 };
 use kdl::KdlNode;
+use std::process::Abort;
 use std::test::Fail;
 
 #[test]
 fn children_in_one_line(rt: HostRuntime) -> Result<(), Fail> {
     let document = read(&rt, rt.alloc(), "inline { time; \"y;all\" }")?;
-    let node = lone_node(&document)?;
+    let node = lone_node(&rt, &document);
     is_range(&rt, node.span(), 0, 24);
     has_around_block(&rt, node, " ", "");
     has_ends(&rt, node, "", "", "");
-    let children = block(node)?;
+    let children = block(&rt, node);
     is_range(&rt, children.span(), 9, 23);
     let [time, all] = children.nodes() else {
         return Err(Fail::from("not two children"));
@@ -30,12 +31,12 @@ fn children_in_one_line(rt: HostRuntime) -> Result<(), Fail> {
 #[test]
 fn slashdashes_around_an_empty_block(rt: HostRuntime) -> Result<(), Fail> {
     let document = read(&rt, rt.alloc(), "a /-1 /-{ x } { } /-{} \n")?;
-    let node = lone_node(&document)?;
+    let node = lone_node(&rt, &document);
     assert!(rt; node.entries().is_empty());
     has_around_block(&rt, node, " /-1 /-{ x } ", "");
     has_ends(&rt, node, "", " /-{} ", "\n");
     is_range(&rt, node.span(), 0, 23);
-    let children = block(node)?;
+    let children = block(&rt, node);
     assert!(rt; children.nodes().is_empty());
     is_range(&rt, children.span(), 16, 16);
     has_margins(&rt, children, " ", "");
@@ -52,7 +53,7 @@ fn an_empty_block_and_a_node_behind_it(rt: HostRuntime) -> Result<(), Fail> {
     has_around_block(&rt, a, " ", "");
     has_ends(&rt, a, "", " ", "\n");
     is_range(&rt, a.span(), 0, 6);
-    let children = block(a)?;
+    let children = block(&rt, a);
     has_margins(&rt, children, " ", "");
     is_range(&rt, children.span(), 4, 4);
     is_range(&rt, b.span(), 7, 8);
@@ -74,9 +75,9 @@ fn places_around_slashdashed_blocks(rt: HostRuntime) -> Result<(), Fail> {
     ];
     for (text, before_children, before_terminator) in rows {
         let document = read(&rt, alloc, text)?;
-        let node = lone_node(&document)?;
+        let node = lone_node(&rt, &document);
         assert!(rt; node.entries().is_empty(), "{text:?}");
-        assert!(rt; block(node)?.nodes().is_empty(), "{text:?}");
+        assert!(rt; block(&rt, node).nodes().is_empty(), "{text:?}");
         assert_eq!(rt; around_block(node), (before_children, ""), "{text:?}");
         assert_eq!(rt; ends(node), ("", before_terminator, ""), "{text:?}");
         assert_eq!(rt; range(node.span()), (0, text.len()), "{text:?}");
@@ -99,7 +100,7 @@ fn slashdashes_without_a_block(rt: HostRuntime) -> Result<(), Fail> {
     ];
     for (text, before_terminator) in rows {
         let document = read(&rt, alloc, text)?;
-        let node = lone_node(&document)?;
+        let node = lone_node(&rt, &document);
         assert!(rt; node.entries().is_empty(), "{text:?}");
         assert!(rt; node.children().is_none(), "{text:?}");
         assert_eq!(rt; ends(node), ("", before_terminator, ""), "{text:?}");
@@ -120,8 +121,8 @@ fn an_argument_and_slashdashes(rt: HostRuntime) -> Result<(), Fail> {
     ];
     for (text, leading, span, before_terminator) in rows {
         let document = read(&rt, alloc, text)?;
-        let node = lone_node(&document)?;
-        let entry = lone_entry(node)?;
+        let node = lone_node(&rt, &document);
+        let entry = lone_entry(&rt, node);
         assert_eq!(rt; entry.value().as_integer(), Some(1), "{text:?}");
         assert_eq!(rt; places(entry), (leading, "1", ""), "{text:?}");
         assert_eq!(rt; range(entry.span()), span, "{text:?}");
@@ -135,7 +136,7 @@ fn an_argument_and_slashdashes(rt: HostRuntime) -> Result<(), Fail> {
 #[test]
 fn a_slashdashed_property_before_a_kept_one(rt: HostRuntime) -> Result<(), Fail> {
     let document = read(&rt, rt.alloc(), "n /- foo=1 bar = 2")?;
-    let entry = lone_entry(lone_node(&document)?)?;
+    let entry = lone_entry(&rt, lone_node(&rt, &document));
     is_called(&rt, entry.name(), "bar");
     assert_eq!(rt; entry.value().as_integer(), Some(2));
     has_places(&rt, entry, " /- foo=1 ", "2", "");
@@ -147,7 +148,7 @@ fn a_slashdashed_property_before_a_kept_one(rt: HostRuntime) -> Result<(), Fail>
 #[test]
 fn a_slashdashed_number_between_kept_entries(rt: HostRuntime) -> Result<(), Fail> {
     let document = read(&rt, rt.alloc(), "n k=1/-2 3")?;
-    let [k, three] = lone_node(&document)?.entries() else {
+    let [k, three] = lone_node(&rt, &document).entries() else {
         return Err(Fail::from("not two entries"));
     };
     is_called(&rt, k.name(), "k");
@@ -170,9 +171,9 @@ fn slashdashed_nodes_between_kept_ones(rt: HostRuntime) -> Result<(), Fail> {
     };
     has_ends(&rt, c, "/-a {\n b\n}\n", "", ";");
     has_ends(&rt, f, "/-d 1;/-e\n", "", ";");
-    let children = block(f)?;
+    let children = block(&rt, f);
     has_margins(&rt, children, "", "/-i");
-    has_ends(&rt, lone_node(children)?, "/-g\n", "", ";");
+    has_ends(&rt, lone_node(&rt, children), "/-g\n", "", ";");
     Ok(())
 }
 
@@ -217,15 +218,13 @@ fn blocks_and_slashdashes_in_wrong_places(rt: HostRuntime) {
 }
 
 /// The node at the bottom of so many blocks, each with one node without entries.
-fn bottom(node: &KdlNode, depth: usize) -> Result<&KdlNode, Fail> {
+fn bottom<'a>(rt: &impl Abort, node: &'a KdlNode, depth: usize) -> &'a KdlNode {
     let mut at = node;
     for _ in 0..depth {
-        if !at.entries().is_empty() {
-            return Err(Fail::from("an entry"));
-        }
-        at = lone_node(block(at)?)?;
+        assert!(rt; at.entries().is_empty());
+        at = lone_node(rt, block(rt, at));
     }
-    Ok(at)
+    at
 }
 
 #[test]
@@ -234,7 +233,7 @@ fn blocks_three_hundred_deep(rt: HostRuntime) -> Result<(), Fail> {
     let text = nested(alloc, "a { ", "a", " }", 300)?;
     assert_eq!(rt; text.len(), 1801);
     let document = read(&rt, alloc, &text)?;
-    let node = bottom(lone_node(&document)?, 300)?;
+    let node = bottom(&rt, lone_node(&rt, &document), 300);
     assert_eq!(rt; node.name().value(), "a");
     assert!(rt; node.children().is_none());
     is_range(&rt, node.span(), 1200, 1202);
@@ -249,7 +248,7 @@ fn slashdashed_blocks_three_hundred_deep(rt: HostRuntime) -> Result<(), Fail> {
         let text = nested(alloc, opening, "a", closing, 300)?;
         assert_eq!(rt; text.len(), len);
         let document = read(&rt, alloc, &text)?;
-        let node = lone_node(&document)?;
+        let node = lone_node(&rt, &document);
         assert!(rt; node.entries().is_empty());
         assert!(rt; node.children().is_none());
         is_range(&rt, node.span(), 0, len);

@@ -49,7 +49,7 @@ fn check_three_arguments(rt: &impl Abort, node: &KdlNode) -> Result<(), Fail> {
 fn one_node_with_three_arguments(rt: HostRuntime) -> Result<(), Fail> {
     let document = read(&rt, rt.alloc(), "node 1 \"two\" three;\n")?;
     has_margins(&rt, &document, "", "\n");
-    check_three_arguments(&rt, lone_node(&document)?)
+    check_three_arguments(&rt, lone_node(&rt, &document))
 }
 
 #[test]
@@ -65,10 +65,10 @@ fn a_document_without_nodes(rt: HostRuntime) -> Result<(), Fail> {
 #[test]
 fn an_escape_and_a_negative_number(rt: HostRuntime) -> Result<(), Fail> {
     let document = read(&rt, rt.alloc(), "\"a\\tb\" -1_0")?;
-    let node = lone_node(&document)?;
+    let node = lone_node(&rt, &document);
     is_called(&rt, Some(node.name()), "a\tb");
     assert_eq!(rt; node.name().repr(), Some("\"a\\tb\""));
-    let entry = lone_entry(node)?;
+    let entry = lone_entry(&rt, node);
     is_whole(&rt, entry, -10);
     has_places(&rt, entry, " ", "-1_0", "");
     has_ends(&rt, node, "", "", "");
@@ -78,9 +78,9 @@ fn an_escape_and_a_negative_number(rt: HostRuntime) -> Result<(), Fail> {
 #[test]
 fn a_gap_and_a_sign(rt: HostRuntime) -> Result<(), Fail> {
     let document = read(&rt, rt.alloc(), " \n n + ")?;
-    let node = lone_node(&document)?;
+    let node = lone_node(&rt, &document);
     has_ends(&rt, node, " \n ", " ", "");
-    is_string(&rt, lone_entry(node)?, "+");
+    is_string(&rt, lone_entry(&rt, node), "+");
     Ok(())
 }
 
@@ -88,7 +88,7 @@ fn a_gap_and_a_sign(rt: HostRuntime) -> Result<(), Fail> {
 fn the_least_and_the_greatest_number(rt: HostRuntime) -> Result<(), Fail> {
     let text = "n -170141183460469231731687303715884105728 170141183460469231731687303715884105727";
     let document = read(&rt, rt.alloc(), text)?;
-    let [least, greatest] = lone_node(&document)?.entries() else {
+    let [least, greatest] = lone_node(&rt, &document).entries() else {
         return Err(Fail::from("not two entries"));
     };
     is_whole(&rt, least, i128::MIN);
@@ -148,7 +148,13 @@ fn each_space_stands_before_an_entry(rt: HostRuntime) -> Result<(), Fail> {
     let alloc = rt.alloc();
     for space in SPACES {
         let document = read(&rt, alloc, &format!(in alloc; "n{space}1")?)?;
-        has_places(&rt, lone_entry(lone_node(&document)?)?, space, "1", "");
+        has_places(
+            &rt,
+            lone_entry(&rt, lone_node(&rt, &document)),
+            space,
+            "1",
+            "",
+        );
     }
     Ok(())
 }

@@ -44,8 +44,8 @@ fn a_newline_after_a_backslash(rt: HostRuntime) -> Result<(), Fail> {
         for pattern in [" \\~ ", " \\ /**/~", "\\~", " \\ // c~ ", "\\~\\~"] {
             let leading = filled(alloc, pattern, newline)?;
             let document = read(&rt, alloc, &format!(in alloc; "n{leading}1{leading}{{}}")?)?;
-            let node = lone_node(&document)?;
-            has_places(&rt, lone_entry(node)?, leading.as_str(), "1", "");
+            let node = lone_node(&rt, &document);
+            has_places(&rt, lone_entry(&rt, node), leading.as_str(), "1", "");
             has_around_block(&rt, node, leading.as_str(), "");
         }
     }
@@ -78,11 +78,11 @@ fn a_newline_behind_a_slashdash(rt: HostRuntime) -> Result<(), Fail> {
     for newline in NEWLINES {
         let document = read_filled(&rt, alloc, "/-~n~a /-~1 2/-~{~}", newline)?;
         let leading = filled(alloc, "/-~n~", newline)?;
-        let node = lone_node(&document)?;
+        let node = lone_node(&rt, &document);
         let block = filled(alloc, "/-~{~}", newline)?;
         has_ends(&rt, node, leading.as_str(), block.as_str(), "");
         let leading = filled(alloc, " /-~1 ", newline)?;
-        has_places(&rt, lone_entry(node)?, leading.as_str(), "2", "");
+        has_places(&rt, lone_entry(&rt, node), leading.as_str(), "2", "");
     }
     Ok(())
 }
@@ -92,10 +92,10 @@ fn a_newline_in_a_block(rt: HostRuntime) -> Result<(), Fail> {
     let alloc = rt.alloc();
     for newline in NEWLINES {
         let document = read_filled(&rt, alloc, "a {~b~~}~", newline)?;
-        let node = lone_node(&document)?;
+        let node = lone_node(&rt, &document);
         has_ends(&rt, node, "", "", newline);
-        let children = block(node)?;
-        has_ends(&rt, lone_node(children)?, newline, "", newline);
+        let children = block(&rt, node);
+        has_ends(&rt, lone_node(&rt, children), newline, "", newline);
         has_margins(&rt, children, "", newline);
     }
     Ok(())
@@ -130,7 +130,7 @@ fn check_spaced_node(rt: &impl Abort, node: &KdlNode, space: &str) -> Result<(),
     is_called(rt, node.ty(), "t");
     has_node_type_places(rt, node, space, space, space);
     has_around_block(rt, node, space, "");
-    has_ends(rt, lone_node(block(node)?)?, space, space, "");
+    has_ends(rt, lone_node(rt, block(rt, node)), space, space, "");
     let [one, two] = node.entries() else {
         return Err(Fail::from("not two entries"));
     };
@@ -150,7 +150,7 @@ fn a_space_in_each_place(rt: HostRuntime) -> Result<(), Fail> {
         let pattern = "~(~t~)~n~(~u~)~1~k~=~(~v~)~2~{~m~}~;~";
         let document = read_filled(&rt, alloc, pattern, space)?;
         has_margins(&rt, &document, "", space);
-        check_spaced_node(&rt, lone_node(&document)?, space)?;
+        check_spaced_node(&rt, lone_node(&rt, &document), space)?;
     }
     Ok(())
 }

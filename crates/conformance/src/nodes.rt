@@ -73,7 +73,7 @@ fn a_node_with_its_places(rt: HostRuntime) -> Result<(), Fail> {
     assert_eq!(rt; node.ty().map(|ty| range(ty.span())), Some((5, 9)));
     assert_eq!(rt; node.name().value(), "node");
     is_range(&rt, node.name().span(), 10, 16);
-    let entry = lone_entry(&node)?;
+    let entry = lone_entry(&rt, &node);
     assert_eq!(rt; entry.value().as_integer(), Some(3_735_928_559));
     is_range(&rt, entry.span(), 17, 27);
     is_range(&rt, node.span(), 0, 29);
@@ -101,9 +101,9 @@ fn a_node_with_a_block(rt: HostRuntime) -> Result<(), Fail> {
     has_ends(&rt, &node, " ", " /-{} ", ";");
     has_around_block(&rt, &node, " /-0 /-{ x } ", " ");
     has_node_type_places(&rt, &node, " ", " ", "");
-    let children = block(&node)?;
+    let children = block(&rt, &node);
     has_margins(&rt, children, "", " /-b\n");
-    let a = lone_node(children)?;
+    let a = lone_node(&rt, children);
     has_ends(&rt, a, " ", "", ";");
     is_range(&rt, a.span(), 22, 23);
     Ok(())
@@ -192,7 +192,7 @@ fn refused_behind_the_node(rt: HostRuntime) {
 
 fn check_the_same_node(rt: &impl Abort, alloc: Global, alone: &mut KdlNode) -> Result<(), Fail> {
     let document = KdlDocument::parse(alloc, "n 1 { a; }\n")?;
-    assert!(rt; *lone_node(&document)? == *alone);
+    assert!(rt; *lone_node(rt, &document) == *alone);
     alone.set_span(SourceSpan { offset: 7, len: 9 });
     for (text, is_same) in [
         ("n 1 { a; }\n", true),

@@ -60,27 +60,27 @@ pub fn range(span: SourceSpan) -> (usize, usize) {
 }
 
 /// The one node of a document.
-pub fn lone_node(document: &KdlDocument) -> Result<&KdlNode, Fail> {
+pub fn lone_node<'a>(rt: &impl Abort, document: &'a KdlDocument) -> &'a KdlNode {
     let [node] = document.nodes() else {
-        return Err(Fail::from("not one node"));
+        panic!(rt; "not one node");
     };
-    Ok(node)
+    node
 }
 
 /// The one entry of a node.
-pub fn lone_entry(node: &KdlNode) -> Result<&KdlEntry, Fail> {
+pub fn lone_entry<'a>(rt: &impl Abort, node: &'a KdlNode) -> &'a KdlEntry {
     let [entry] = node.entries() else {
-        return Err(Fail::from("not one entry"));
+        panic!(rt; "not one entry");
     };
-    Ok(entry)
+    entry
 }
 
 /// The child document of a node.
-pub fn block(node: &KdlNode) -> Result<&KdlDocument, Fail> {
+pub fn block<'a>(rt: &impl Abort, node: &'a KdlNode) -> &'a KdlDocument {
     let Some(children) = node.children() else {
-        return Err(Fail::from("no block"));
+        panic!(rt; "no block");
     };
-    Ok(children)
+    children
 }
 
 /// The texts before and behind the nodes of a document.
@@ -246,7 +246,7 @@ pub fn is_whole(rt: &impl Abort, entry: &KdlEntry, value: i128) {
 /// The text is one argument of a node, and this string is its value.
 pub fn is_argument(rt: &impl Abort, alloc: Global, text: &str, value: &str) -> Result<(), Fail> {
     let document = read(rt, alloc, &format!(in alloc; "n {text}")?)?;
-    let entry = lone_entry(lone_node(&document)?)?;
+    let entry = lone_entry(rt, lone_node(rt, &document));
     assert_eq!(rt; entry.value().as_string(), Some(value), "{text:?}");
     Ok(())
 }

@@ -9,11 +9,11 @@ use std::test::Fail;
 #[test]
 fn comments_around_a_node_and_its_entry(rt: HostRuntime) -> Result<(), Fail> {
     let document = read(&rt, rt.alloc(), "/* a /* b */ c */n /*x*/ 1 // end\n")?;
-    let node = lone_node(&document)?;
+    let node = lone_node(&rt, &document);
     has_ends(&rt, node, "/* a /* b */ c */", " ", "// end\n");
     has_around_block(&rt, node, "", "");
     assert_eq!(rt; node.name().value(), "n");
-    let entry = lone_entry(node)?;
+    let entry = lone_entry(&rt, node);
     has_places(&rt, entry, " /*x*/ ", "1", "");
     assert_eq!(rt; entry.value().as_integer(), Some(1));
     has_margins(&rt, &document, "", "");
@@ -23,16 +23,16 @@ fn comments_around_a_node_and_its_entry(rt: HostRuntime) -> Result<(), Fail> {
 #[test]
 fn a_comment_in_a_continued_line(rt: HostRuntime) -> Result<(), Fail> {
     let document = read(&rt, rt.alloc(), "n \\ // c\n 1\n")?;
-    let node = lone_node(&document)?;
+    let node = lone_node(&rt, &document);
     has_ends(&rt, node, "", "", "\n");
-    has_places(&rt, lone_entry(node)?, " \\ // c\n ", "1", "");
+    has_places(&rt, lone_entry(&rt, node), " \\ // c\n ", "1", "");
     Ok(())
 }
 
 #[test]
 fn a_line_continued_at_the_end(rt: HostRuntime) -> Result<(), Fail> {
     let document = read(&rt, rt.alloc(), "n\\")?;
-    let node = lone_node(&document)?;
+    let node = lone_node(&rt, &document);
     assert!(rt; node.entries().is_empty());
     has_ends(&rt, node, "", "\\", "");
     Ok(())
@@ -75,7 +75,7 @@ fn texts_without_nodes(rt: HostRuntime) -> Result<(), Fail> {
 fn the_mark_at_the_top(rt: HostRuntime) -> Result<(), Fail> {
     let document = read(&rt, rt.alloc(), "\u{feff}n\n")?;
     has_margins(&rt, &document, "\u{feff}", "");
-    let node = lone_node(&document)?;
+    let node = lone_node(&rt, &document);
     has_ends(&rt, node, "", "", "\n");
     is_range(&rt, node.span(), 3, 4);
     Ok(())
@@ -86,10 +86,10 @@ fn the_mark_and_wide_characters(rt: HostRuntime) -> Result<(), Fail> {
     let document = read(&rt, rt.alloc(), "\u{feff}é \"ü\"")?;
     has_margins(&rt, &document, "\u{feff}", "");
     is_range(&rt, document.span(), 3, 10);
-    let node = lone_node(&document)?;
+    let node = lone_node(&rt, &document);
     assert_eq!(rt; node.name().value(), "é");
     is_range(&rt, node.name().span(), 3, 5);
-    let entry = lone_entry(node)?;
+    let entry = lone_entry(&rt, node);
     assert_eq!(rt; entry.value().as_string(), Some("ü"));
     is_range(&rt, entry.span(), 6, 10);
     Ok(())
@@ -123,7 +123,7 @@ fn comments_and_marks_in_wrong_places(rt: HostRuntime) {
 fn indented_comments_and_a_continued_line(rt: HostRuntime) -> Result<(), Fail> {
     let text = "\n  // indented comment\n  \"formatted\" 1 /* comment */ \\\n    2;\n";
     let document = read(&rt, rt.alloc(), text)?;
-    let node = lone_node(&document)?;
+    let node = lone_node(&rt, &document);
     has_ends(&rt, node, "\n  // indented comment\n  ", "", ";");
     assert_eq!(rt; node.name().value(), "formatted");
     assert_eq!(rt; node.name().repr(), Some("\"formatted\""));
@@ -139,7 +139,7 @@ fn indented_comments_and_a_continued_line(rt: HostRuntime) -> Result<(), Fail> {
 #[test]
 fn a_comment_ends_a_node(rt: HostRuntime) -> Result<(), Fail> {
     let document = read(&rt, rt.alloc(), "a 1 b=2 // c\n")?;
-    let node = lone_node(&document)?;
+    let node = lone_node(&rt, &document);
     has_ends(&rt, node, "", " ", "// c\n");
     is_range(&rt, node.span(), 0, 8);
     let [one, two] = node.entries() else {
@@ -155,7 +155,7 @@ fn a_comment_ends_a_node(rt: HostRuntime) -> Result<(), Fail> {
 #[test]
 fn spaces_around_types_and_keys(rt: HostRuntime) -> Result<(), Fail> {
     let document = read(&rt, rt.alloc(), "( /*a*/ t )  n (u8) 1 k = ( x )2")?;
-    let node = lone_node(&document)?;
+    let node = lone_node(&rt, &document);
     is_called(&rt, node.ty(), "t");
     has_node_type_places(&rt, node, " /*a*/ ", " ", "  ");
     has_ends(&rt, node, "", "", "");
@@ -178,7 +178,7 @@ fn spaces_around_types_and_keys(rt: HostRuntime) -> Result<(), Fail> {
 #[test]
 fn a_typed_name_between_quotes(rt: HostRuntime) -> Result<(), Fail> {
     let document = read(&rt, rt.alloc(), "\n\t  (\"ty\")\"node\" 0xDEADbeef;\n")?;
-    let node = lone_node(&document)?;
+    let node = lone_node(&rt, &document);
     has_ends(&rt, node, "\n\t  ", "", ";");
     has_node_type_places(&rt, node, "", "", "");
     has_margins(&rt, &document, "", "\n");
@@ -188,7 +188,7 @@ fn a_typed_name_between_quotes(rt: HostRuntime) -> Result<(), Fail> {
     let ty = node.ty().ok_or("no type")?;
     assert_eq!(rt; ty.value(), "ty");
     is_range(&rt, ty.span(), 5, 9);
-    let entry = lone_entry(node)?;
+    let entry = lone_entry(&rt, node);
     assert_eq!(rt; entry.value().as_integer(), Some(3735928559));
     is_range(&rt, entry.span(), 17, 27);
     Ok(())

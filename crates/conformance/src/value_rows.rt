@@ -29,7 +29,7 @@ fn check_numbers_and_keywords(rt: &impl Abort, node: &KdlNode) -> Result<(), Fai
 fn numbers_and_keywords_behind_one_another(rt: HostRuntime) -> Result<(), Fail> {
     let text = "n +0x1F -0b101 0O17 #-inf #null #true #false";
     let document = read(&rt, rt.alloc(), text)?;
-    check_numbers_and_keywords(&rt, lone_node(&document)?)
+    check_numbers_and_keywords(&rt, lone_node(&rt, &document))
 }
 
 #[test]
@@ -50,7 +50,7 @@ fn whole_numbers(rt: HostRuntime) -> Result<(), Fail> {
     for (text, value) in rows {
         for pattern in ["n ", "n k=", "n (t)", "n k= (t) "] {
             let document = read(&rt, alloc, &format!(in alloc; "{pattern}{text}")?)?;
-            let entry = lone_entry(lone_node(&document)?)?;
+            let entry = lone_entry(&rt, lone_node(&rt, &document));
             assert_eq!(rt; entry.value().as_integer(), Some(value), "{pattern}{text}");
             let (_, repr, _) = places(entry);
             assert_eq!(rt; repr, text);
@@ -68,7 +68,7 @@ fn reads_float(
     value: &str,
 ) -> Result<(), Fail> {
     let document = read(rt, alloc, &format!(in alloc; "{node}{text}")?)?;
-    let entry = lone_entry(lone_node(&document)?)?;
+    let entry = lone_entry(rt, lone_node(rt, &document));
     let float = entry.value().as_float().ok_or("no float")?;
     assert_eq!(rt; float.as_str(), value, "{node}{text}");
     let (_, repr, _) = places(entry);
@@ -137,16 +137,15 @@ const STRINGS: [(&str, &str); 24] = [
 ];
 
 /// The text is the node's name and type, and the name, type and value of its one entry; this is what it says.
-fn check_each_role(rt: &impl Abort, node: &KdlNode, text: &str, value: &str) -> Result<(), Fail> {
+fn check_each_role(rt: &impl Abort, node: &KdlNode, text: &str, value: &str) {
     assert_eq!(rt; node.name().repr(), Some(text));
     is_called(rt, Some(node.name()), value);
     is_called(rt, node.ty(), value);
-    let entry = lone_entry(node)?;
+    let entry = lone_entry(rt, node);
     is_called(rt, entry.name(), value);
     is_called(rt, entry.ty(), value);
     is_string(rt, entry, value);
     has_places(rt, entry, " ", text, "");
-    Ok(())
 }
 
 #[test]
@@ -155,7 +154,7 @@ fn strings_are_names_keys_types_and_values(rt: HostRuntime) -> Result<(), Fail> 
     for (text, value) in STRINGS {
         let whole = format!(in alloc; "({text}){text} {text}=({text}){text} {{}}")?;
         let document = read(&rt, alloc, &whole)?;
-        check_each_role(&rt, lone_node(&document)?, text, value)?;
+        check_each_role(&rt, lone_node(&rt, &document), text, value);
     }
     Ok(())
 }
@@ -181,7 +180,7 @@ fn a_string_of_many_lines(rt: HostRuntime) -> Result<(), Fail> {
 /// The value ends before the text behind it.
 fn ends_before(rt: &impl Abort, alloc: Global, value: &str, end: &str) -> Result<(), Fail> {
     let document = read(rt, alloc, &format!(in alloc; "n {value}{end}")?)?;
-    let (_, repr, _) = places(lone_entry(lone_node(&document)?)?);
+    let (_, repr, _) = places(lone_entry(rt, lone_node(rt, &document)));
     assert_eq!(rt; repr, value, "{end:?}");
     Ok(())
 }
@@ -337,7 +336,7 @@ fn a_value_keeps_its_kind(rt: HostRuntime) -> Result<(), Fail> {
     ];
     for (text, value) in &rows {
         let document = read(&rt, alloc, &format!(in alloc; "n {text}")?)?;
-        let entry = lone_entry(lone_node(&document)?)?;
+        let entry = lone_entry(&rt, lone_node(&rt, &document));
         assert!(rt; entry.value() == value, "{text}");
     }
     Ok(())

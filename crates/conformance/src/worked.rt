@@ -16,19 +16,19 @@ const TEXT: &str =
 fn is_world(rt: &impl Abort, world: &KdlNode) -> Result<(), Fail> {
     has_ends(rt, world, "\n// Comment\n", "", "\n");
     has_around_block(rt, world, " ", "");
-    let prop = lone_entry(world)?;
+    let prop = lone_entry(rt, world);
     is_called(rt, prop.name(), "prop");
     assert_eq!(rt; prop.value().as_string(), Some("string-value"));
-    let children = block(world)?;
+    let children = block(rt, world);
     has_margins(rt, children, "", "");
     let [one, two, three] = children.nodes() else {
         return Err(Fail::from("not three children"));
     };
     has_ends(rt, one, "\n    ", "", "\n");
     has_ends(rt, three, "    ", "", "\n");
-    assert_eq!(rt; lone_entry(one)?.value().as_integer(), Some(1));
-    assert_eq!(rt; lone_entry(two)?.value().as_integer(), Some(2));
-    let float = lone_entry(three)?.value().as_float();
+    assert_eq!(rt; lone_entry(rt, one).value().as_integer(), Some(1));
+    assert_eq!(rt; lone_entry(rt, two).value().as_integer(), Some(2));
+    let float = lone_entry(rt, three).value().as_float();
     assert_eq!(rt; float.map(|f| f.as_str()), Some("#inf"));
     Ok(())
 }
