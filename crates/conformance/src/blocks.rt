@@ -1,16 +1,15 @@
 //! Blocks and slashdashes: children, spans, and the places around what is left out.
 
 use crate::reading::{
-    around_block, block, ends, has_around_block, has_ends, has_key_places, has_margins, has_places,
-    is_called, is_range, lone_entry, lone_node, nested, places, range, read, refuse,
+    block, has_around_block, has_ends, has_key_places, has_margins, has_places, is_called,
+    is_range, is_whole, lone_entry, lone_node, nested, range, read, refuse,
 };
 use kdl::KdlNode;
 use std::process::Abort;
-use std::test::Fail;
 
 #[test]
-fn children_in_one_line(rt: HostRuntime) -> Result<(), Fail> {
-    let document = read(&rt, rt.alloc(), "inline { time; \"y;all\" }")?;
+fn children_in_one_line(rt: HostRuntime) {
+    let document = read(&rt, rt.alloc(), "inline { time; \"y;all\" }");
     let node = lone_node(&rt, &document);
     is_range(&rt, node.span(), 0, 24);
     has_around_block(&rt, node, " ", "");
@@ -18,19 +17,18 @@ fn children_in_one_line(rt: HostRuntime) -> Result<(), Fail> {
     let children = block(&rt, node);
     is_range(&rt, children.span(), 9, 23);
     let [time, all] = children.nodes() else {
-        return Err(Fail::from("not two children"));
+        panic!(rt; "not two children");
     };
     is_range(&rt, time.span(), 9, 13);
     has_ends(&rt, time, " ", "", ";");
     is_range(&rt, all.span(), 15, 23);
     has_ends(&rt, all, " ", " ", "");
     assert_eq!(rt; all.name().value(), "y;all");
-    Ok(())
 }
 
 #[test]
-fn slashdashes_around_an_empty_block(rt: HostRuntime) -> Result<(), Fail> {
-    let document = read(&rt, rt.alloc(), "a /-1 /-{ x } { } /-{} \n")?;
+fn slashdashes_around_an_empty_block(rt: HostRuntime) {
+    let document = read(&rt, rt.alloc(), "a /-1 /-{ x } { } /-{} \n");
     let node = lone_node(&rt, &document);
     assert!(rt; node.entries().is_empty());
     has_around_block(&rt, node, " /-1 /-{ x } ", "");
@@ -40,15 +38,14 @@ fn slashdashes_around_an_empty_block(rt: HostRuntime) -> Result<(), Fail> {
     assert!(rt; children.nodes().is_empty());
     is_range(&rt, children.span(), 16, 16);
     has_margins(&rt, children, " ", "");
-    Ok(())
 }
 
 #[test]
-fn an_empty_block_and_a_node_behind_it(rt: HostRuntime) -> Result<(), Fail> {
-    let document = read(&rt, rt.alloc(), "a { } \nb\n")?;
+fn an_empty_block_and_a_node_behind_it(rt: HostRuntime) {
+    let document = read(&rt, rt.alloc(), "a { } \nb\n");
     is_range(&rt, document.span(), 0, 8);
     let [a, b] = document.nodes() else {
-        return Err(Fail::from("not two nodes"));
+        panic!(rt; "not two nodes");
     };
     has_around_block(&rt, a, " ", "");
     has_ends(&rt, a, "", " ", "\n");
@@ -58,11 +55,19 @@ fn an_empty_block_and_a_node_behind_it(rt: HostRuntime) -> Result<(), Fail> {
     is_range(&rt, children.span(), 4, 4);
     is_range(&rt, b.span(), 7, 8);
     has_ends(&rt, b, "", "", "\n");
-    Ok(())
+}
+
+/// The node, which is the whole text, has an empty block alone, with these texts before and behind it.
+fn check_a_block_alone(rt: &impl Abort, node: &KdlNode, text: &str, before: &str, behind: &str) {
+    assert!(rt; node.entries().is_empty(), "{text:?}");
+    assert!(rt; block(rt, node).nodes().is_empty(), "{text:?}");
+    has_around_block(rt, node, before, "");
+    has_ends(rt, node, "", behind, "");
+    is_range(rt, node.span(), 0, text.len());
 }
 
 #[test]
-fn places_around_slashdashed_blocks(rt: HostRuntime) -> Result<(), Fail> {
+fn places_around_slashdashed_blocks(rt: HostRuntime) {
     let alloc = rt.alloc();
     let rows = [
         ("a{}/-{}/-{}", "", "/-{}/-{}"),
@@ -74,19 +79,23 @@ fn places_around_slashdashed_blocks(rt: HostRuntime) -> Result<(), Fail> {
         ("a \\\n {}", " \\\n ", ""),
     ];
     for (text, before_children, before_terminator) in rows {
-        let document = read(&rt, alloc, text)?;
+        let document = read(&rt, alloc, text);
         let node = lone_node(&rt, &document);
-        assert!(rt; node.entries().is_empty(), "{text:?}");
-        assert!(rt; block(&rt, node).nodes().is_empty(), "{text:?}");
-        assert_eq!(rt; around_block(node), (before_children, ""), "{text:?}");
-        assert_eq!(rt; ends(node), ("", before_terminator, ""), "{text:?}");
-        assert_eq!(rt; range(node.span()), (0, text.len()), "{text:?}");
+        check_a_block_alone(&rt, node, text, before_children, before_terminator);
     }
-    Ok(())
+}
+
+/// The node, which is the whole text, has no block and no entry; this text stands behind its name.
+fn check_a_name_alone(rt: &impl Abort, node: &KdlNode, text: &str, behind: &str) {
+    assert!(rt; node.entries().is_empty(), "{text:?}");
+    assert!(rt; node.children().is_none(), "{text:?}");
+    has_around_block(rt, node, "", "");
+    has_ends(rt, node, "", behind, "");
+    is_range(rt, node.span(), 0, text.len());
 }
 
 #[test]
-fn slashdashes_without_a_block(rt: HostRuntime) -> Result<(), Fail> {
+fn slashdashes_without_a_block(rt: HostRuntime) {
     let alloc = rt.alloc();
     let rows = [
         ("a/-b", "/-b"),
@@ -99,19 +108,32 @@ fn slashdashes_without_a_block(rt: HostRuntime) -> Result<(), Fail> {
         ("a /-1 /-\"b\" ", " /-1 /-\"b\" "),
     ];
     for (text, before_terminator) in rows {
-        let document = read(&rt, alloc, text)?;
-        let node = lone_node(&rt, &document);
-        assert!(rt; node.entries().is_empty(), "{text:?}");
-        assert!(rt; node.children().is_none(), "{text:?}");
-        assert_eq!(rt; ends(node), ("", before_terminator, ""), "{text:?}");
-        assert_eq!(rt; around_block(node), ("", ""), "{text:?}");
-        assert_eq!(rt; range(node.span()), (0, text.len()), "{text:?}");
+        let document = read(&rt, alloc, text);
+        check_a_name_alone(&rt, lone_node(&rt, &document), text, before_terminator);
     }
-    Ok(())
+}
+
+/// The node, which is the whole text, has the argument 1 alone, behind this text and at this span, and no block; the
+/// other text stands behind it.
+fn check_an_argument_alone(
+    rt: &impl Abort,
+    node: &KdlNode,
+    text: &str,
+    leading: &str,
+    span: (usize, usize),
+    behind: &str,
+) {
+    let entry = lone_entry(rt, node);
+    is_whole(rt, entry, 1);
+    has_places(rt, entry, leading, "1", "");
+    assert_eq!(rt; range(entry.span()), span, "{text:?}");
+    assert!(rt; node.children().is_none(), "{text:?}");
+    has_ends(rt, node, "", behind, "");
+    is_range(rt, node.span(), 0, text.len());
 }
 
 #[test]
-fn an_argument_and_slashdashes(rt: HostRuntime) -> Result<(), Fail> {
+fn an_argument_and_slashdashes(rt: HostRuntime) {
     let alloc = rt.alloc();
     let rows = [
         ("a 1/-{}", " ", (2, 3), "/-{}"),
@@ -120,61 +142,51 @@ fn an_argument_and_slashdashes(rt: HostRuntime) -> Result<(), Fail> {
         ("a 1/-2", " ", (2, 3), "/-2"),
     ];
     for (text, leading, span, before_terminator) in rows {
-        let document = read(&rt, alloc, text)?;
+        let document = read(&rt, alloc, text);
         let node = lone_node(&rt, &document);
-        let entry = lone_entry(&rt, node);
-        assert_eq!(rt; entry.value().as_integer(), Some(1), "{text:?}");
-        assert_eq!(rt; places(entry), (leading, "1", ""), "{text:?}");
-        assert_eq!(rt; range(entry.span()), span, "{text:?}");
-        assert!(rt; node.children().is_none(), "{text:?}");
-        assert_eq!(rt; ends(node), ("", before_terminator, ""), "{text:?}");
-        assert_eq!(rt; range(node.span()), (0, text.len()), "{text:?}");
+        check_an_argument_alone(&rt, node, text, leading, span, before_terminator);
     }
-    Ok(())
 }
 
 #[test]
-fn a_slashdashed_property_before_a_kept_one(rt: HostRuntime) -> Result<(), Fail> {
-    let document = read(&rt, rt.alloc(), "n /- foo=1 bar = 2")?;
+fn a_slashdashed_property_before_a_kept_one(rt: HostRuntime) {
+    let document = read(&rt, rt.alloc(), "n /- foo=1 bar = 2");
     let entry = lone_entry(&rt, lone_node(&rt, &document));
     is_called(&rt, entry.name(), "bar");
     assert_eq!(rt; entry.value().as_integer(), Some(2));
     has_places(&rt, entry, " /- foo=1 ", "2", "");
     has_key_places(&rt, entry, " ", " ");
     is_range(&rt, entry.span(), 11, 18);
-    Ok(())
 }
 
 #[test]
-fn a_slashdashed_number_between_kept_entries(rt: HostRuntime) -> Result<(), Fail> {
-    let document = read(&rt, rt.alloc(), "n k=1/-2 3")?;
+fn a_slashdashed_number_between_kept_entries(rt: HostRuntime) {
+    let document = read(&rt, rt.alloc(), "n k=1/-2 3");
     let [k, three] = lone_node(&rt, &document).entries() else {
-        return Err(Fail::from("not two entries"));
+        panic!(rt; "not two entries");
     };
     is_called(&rt, k.name(), "k");
     assert_eq!(rt; k.value().as_integer(), Some(1));
     assert!(rt; three.name().is_none());
     assert_eq!(rt; three.value().as_integer(), Some(3));
     has_places(&rt, three, "/-2 ", "3", "");
-    Ok(())
 }
 
 #[test]
-fn slashdashed_nodes_between_kept_ones(rt: HostRuntime) -> Result<(), Fail> {
+fn slashdashed_nodes_between_kept_ones(rt: HostRuntime) {
     let text = "/-a {\n b\n}\nc;/-d 1;/-e\nf {/-g\nh;/-i}/-j";
     refuse(&rt, rt.alloc(), text);
     let text = "/-a {\n b\n}\nc;/-d 1;/-e\nf {/-g\nh;/-i};/-j";
-    let document = read(&rt, rt.alloc(), text)?;
+    let document = read(&rt, rt.alloc(), text);
     has_margins(&rt, &document, "", "/-j");
     let [c, f] = document.nodes() else {
-        return Err(Fail::from("not two nodes"));
+        panic!(rt; "not two nodes");
     };
     has_ends(&rt, c, "/-a {\n b\n}\n", "", ";");
     has_ends(&rt, f, "/-d 1;/-e\n", "", ";");
     let children = block(&rt, f);
     has_margins(&rt, children, "", "/-i");
     has_ends(&rt, lone_node(&rt, children), "/-g\n", "", ";");
-    Ok(())
 }
 
 #[test]
@@ -228,42 +240,39 @@ fn bottom<'a>(rt: &impl Abort, node: &'a KdlNode, depth: usize) -> &'a KdlNode {
 }
 
 #[test]
-fn blocks_three_hundred_deep(rt: HostRuntime) -> Result<(), Fail> {
+fn blocks_three_hundred_deep(rt: HostRuntime) {
     let alloc = rt.alloc();
-    let text = nested(alloc, "a { ", "a", " }", 300)?;
+    let text = nested(&rt, alloc, "a { ", "a", " }", 300);
     assert_eq!(rt; text.len(), 1801);
-    let document = read(&rt, alloc, &text)?;
+    let document = read(&rt, alloc, &text);
     let node = bottom(&rt, lone_node(&rt, &document), 300);
     assert_eq!(rt; node.name().value(), "a");
     assert!(rt; node.children().is_none());
     is_range(&rt, node.span(), 1200, 1202);
-    Ok(())
 }
 
 #[test]
-fn slashdashed_blocks_three_hundred_deep(rt: HostRuntime) -> Result<(), Fail> {
+fn slashdashed_blocks_three_hundred_deep(rt: HostRuntime) {
     let alloc = rt.alloc();
     let rows = [("a /-{ ", " }", 2401), ("a/-{", "}", 1501)];
     for (opening, closing, len) in rows {
-        let text = nested(alloc, opening, "a", closing, 300)?;
+        let text = nested(&rt, alloc, opening, "a", closing, 300);
         assert_eq!(rt; text.len(), len);
-        let document = read(&rt, alloc, &text)?;
+        let document = read(&rt, alloc, &text);
         let node = lone_node(&rt, &document);
         assert!(rt; node.entries().is_empty());
         assert!(rt; node.children().is_none());
         is_range(&rt, node.span(), 0, len);
     }
-    Ok(())
 }
 
 #[test]
-fn comments_three_hundred_deep(rt: HostRuntime) -> Result<(), Fail> {
+fn comments_three_hundred_deep(rt: HostRuntime) {
     let alloc = rt.alloc();
-    let text = nested(alloc, "/*", "", "*/", 300)?;
-    let document = read(&rt, alloc, &text)?;
+    let text = nested(&rt, alloc, "/*", "", "*/", 300);
+    let document = read(&rt, alloc, &text);
     assert!(rt; document.nodes().is_empty());
     has_margins(&rt, &document, text.as_str(), "");
-    let open = text.get(..1199).ok_or("no front")?;
+    let open = text.get(..1199).expect(&rt, "no front");
     refuse(&rt, alloc, open);
-    Ok(())
 }

@@ -1,49 +1,54 @@
 //! What the error types print.
 
-use kdl::{KdlDiagnostic, KdlDocument, ParseFailure, Severity, SourceSpan};
+use kdl::{KdlDiagnostic, KdlDocument, KdlError, ParseFailure, Severity, SourceSpan};
+use std::alloc::Global;
+use std::process::Abort;
 use std::rc::RcStr;
-use std::test::Fail;
 
-#[test]
-fn errors_print(rt: HostRuntime) -> Result<(), Fail> {
-    let alloc = rt.alloc();
-    let Err(ParseFailure::Syntax(error)) = KdlDocument::parse(alloc, ";") else {
-        return Err(Fail::from("not refused"));
-    };
-    assert_eq!(rt;
-        error.to_string(alloc)?.as_str(),
-        "Failed to parse KDL document"
-    );
-    for diagnostic in &error.diagnostics {
-        assert_eq!(rt;
-            diagnostic.to_string(alloc)?.as_str(),
-            "Expected end of document"
-        );
-    }
-    let failure = ParseFailure::Syntax(error);
-    assert_eq!(rt;
-        failure.to_string(alloc)?.as_str(),
-        "Failed to parse KDL document"
-    );
-    assert_eq!(rt;
-        ParseFailure::Memory.to_string(alloc)?.as_str(),
-        "out of memory"
-    );
-    Ok(())
+/// The error prints this text.
+fn error_prints(rt: &impl Abort, alloc: Global, error: &KdlError, text: &str) {
+    let printed = error.to_string(alloc).expect(rt, "memory");
+    assert_eq!(rt; printed.as_str(), text);
+}
+
+/// The diagnostic prints this text.
+fn diagnostic_prints(rt: &impl Abort, alloc: Global, diagnostic: &KdlDiagnostic, text: &str) {
+    let printed = diagnostic.to_string(alloc).expect(rt, "memory");
+    assert_eq!(rt; printed.as_str(), text);
+}
+
+/// The failure prints this text.
+fn failure_prints(rt: &impl Abort, alloc: Global, failure: &ParseFailure, text: &str) {
+    let printed = failure.to_string(alloc).expect(rt, "memory");
+    assert_eq!(rt; printed.as_str(), text);
 }
 
 #[test]
-fn a_diagnostic_without_a_message(rt: HostRuntime) -> Result<(), Fail> {
+fn errors_print(rt: HostRuntime) {
+    let alloc = rt.alloc();
+    let Err(ParseFailure::Syntax(error)) = KdlDocument::parse(alloc, ";") else {
+        panic!(rt; "not refused");
+    };
+    error_prints(&rt, alloc, &error, "Failed to parse KDL document");
+    for diagnostic in &error.diagnostics {
+        diagnostic_prints(&rt, alloc, diagnostic, "Expected end of document");
+    }
+    let failure = ParseFailure::Syntax(error);
+    failure_prints(&rt, alloc, &failure, "Failed to parse KDL document");
+    failure_prints(&rt, alloc, &ParseFailure::Memory, "out of memory");
+}
+
+#[test]
+fn a_diagnostic_without_a_message(rt: HostRuntime) {
     let alloc = rt.alloc();
     let diagnostic = KdlDiagnostic {
-        input: RcStr::from_str(alloc, "a")?,
+        input: RcStr::from_str(alloc, "a").expect(&rt, "memory"),
         span: SourceSpan { offset: 0, len: 1 },
         message: None,
         label: None,
         help: None,
         severity: Severity::default(),
     };
-    assert_eq!(rt; diagnostic.to_string(alloc)?.as_str(), "Unexpected error");
+    diagnostic_prints(&rt, alloc, &diagnostic, "Unexpected error");
     assert_eq!(rt; diagnostic.severity, Severity::Error);
-    Ok(())
 }

@@ -1,59 +1,54 @@
 //! Each newline, each space and each banned character in each role that it has in a document.
 
 use crate::reading::{
-    block, has_around_block, has_ends, has_key_places, has_margins, has_node_type_places,
+    block, fill, has_around_block, has_ends, has_key_places, has_margins, has_node_type_places,
     has_places, has_type_places, is_argument, is_called, is_read, lone_entry, lone_node, read,
     refuse,
 };
-use conformance_text::characters::{BANNED, NEWLINES, SPACES, filled};
+use conformance_text::characters::{BANNED, NEWLINES, SPACES};
 use kdl::{KdlDocument, KdlNode};
 use std::alloc::Global;
 use std::process::Abort;
-use std::test::Fail;
 
 /// The document of the pattern with the text in the place of each `~`, which prints it.
-fn read_filled(
-    rt: &impl Abort,
-    alloc: Global,
-    pattern: &str,
-    text: &str,
-) -> Result<KdlDocument, Fail> {
-    read(rt, alloc, &filled(alloc, pattern, text)?)
+fn read_filled(rt: &impl Abort, alloc: Global, pattern: &str, text: &str) -> KdlDocument {
+    read(rt, alloc, &fill(rt, alloc, pattern, text))
 }
 
 #[test]
-fn a_newline_ends_a_line_comment(rt: HostRuntime) -> Result<(), Fail> {
+fn a_newline_ends_a_line_comment(rt: HostRuntime) {
     let alloc = rt.alloc();
     for newline in NEWLINES {
-        let document = read_filled(&rt, alloc, "a // c~// d~ b // e", newline)?;
+        let document = read_filled(&rt, alloc, "a // c~// d~ b // e", newline);
         let [a, b] = document.nodes() else {
-            return Err(Fail::from("not two nodes"));
+            panic!(rt; "not two nodes");
         };
-        let comment = filled(alloc, "// c~", newline)?;
-        has_ends(&rt, a, "", " ", comment.as_str());
-        let leading = filled(alloc, "// d~ ", newline)?;
-        has_ends(&rt, b, leading.as_str(), " ", "// e");
+        has_ends(&rt, a, "", " ", &fill(&rt, alloc, "// c~", newline));
+        has_ends(&rt, b, &fill(&rt, alloc, "// d~ ", newline), " ", "// e");
     }
-    Ok(())
+}
+
+/// The text stands before an argument and before a block.
+fn stands_before_both(rt: &impl Abort, alloc: Global, leading: &str) {
+    let text = format!(in alloc; "n{leading}1{leading}{{}}").expect(rt, "memory");
+    let document = read(rt, alloc, &text);
+    let node = lone_node(rt, &document);
+    has_places(rt, lone_entry(rt, node), leading, "1", "");
+    has_around_block(rt, node, leading, "");
 }
 
 #[test]
-fn a_newline_after_a_backslash(rt: HostRuntime) -> Result<(), Fail> {
+fn a_newline_after_a_backslash(rt: HostRuntime) {
     let alloc = rt.alloc();
     for newline in NEWLINES {
         for pattern in [" \\~ ", " \\ /**/~", "\\~", " \\ // c~ ", "\\~\\~"] {
-            let leading = filled(alloc, pattern, newline)?;
-            let document = read(&rt, alloc, &format!(in alloc; "n{leading}1{leading}{{}}")?)?;
-            let node = lone_node(&rt, &document);
-            has_places(&rt, lone_entry(&rt, node), leading.as_str(), "1", "");
-            has_around_block(&rt, node, leading.as_str(), "");
+            stands_before_both(&rt, alloc, &fill(&rt, alloc, pattern, newline));
         }
     }
-    Ok(())
 }
 
 #[test]
-fn a_newline_in_a_string(rt: HostRuntime) -> Result<(), Fail> {
+fn a_newline_in_a_string(rt: HostRuntime) {
     let alloc = rt.alloc();
     let rows = [
         ("\"a\\~b\"", "ab"),
@@ -66,43 +61,43 @@ fn a_newline_in_a_string(rt: HostRuntime) -> Result<(), Fail> {
     ];
     for newline in NEWLINES {
         for (pattern, value) in rows {
-            is_argument(&rt, alloc, &filled(alloc, pattern, newline)?, value)?;
+            is_argument(&rt, alloc, &fill(&rt, alloc, pattern, newline), value);
         }
     }
-    Ok(())
+}
+
+/// The newline stands behind the slashdashes before the node, before its entry and behind it.
+fn check_behind_slashdashes(rt: &impl Abort, alloc: Global, node: &KdlNode, newline: &str) {
+    let leading = fill(rt, alloc, "/-~n~", newline);
+    has_ends(rt, node, &leading, &fill(rt, alloc, "/-~{~}", newline), "");
+    let leading = fill(rt, alloc, " /-~1 ", newline);
+    has_places(rt, lone_entry(rt, node), &leading, "2", "");
 }
 
 #[test]
-fn a_newline_behind_a_slashdash(rt: HostRuntime) -> Result<(), Fail> {
+fn a_newline_behind_a_slashdash(rt: HostRuntime) {
     let alloc = rt.alloc();
     for newline in NEWLINES {
-        let document = read_filled(&rt, alloc, "/-~n~a /-~1 2/-~{~}", newline)?;
-        let leading = filled(alloc, "/-~n~", newline)?;
-        let node = lone_node(&rt, &document);
-        let block = filled(alloc, "/-~{~}", newline)?;
-        has_ends(&rt, node, leading.as_str(), block.as_str(), "");
-        let leading = filled(alloc, " /-~1 ", newline)?;
-        has_places(&rt, lone_entry(&rt, node), leading.as_str(), "2", "");
+        let document = read_filled(&rt, alloc, "/-~n~a /-~1 2/-~{~}", newline);
+        check_behind_slashdashes(&rt, alloc, lone_node(&rt, &document), newline);
     }
-    Ok(())
 }
 
 #[test]
-fn a_newline_in_a_block(rt: HostRuntime) -> Result<(), Fail> {
+fn a_newline_in_a_block(rt: HostRuntime) {
     let alloc = rt.alloc();
     for newline in NEWLINES {
-        let document = read_filled(&rt, alloc, "a {~b~~}~", newline)?;
+        let document = read_filled(&rt, alloc, "a {~b~~}~", newline);
         let node = lone_node(&rt, &document);
         has_ends(&rt, node, "", "", newline);
         let children = block(&rt, node);
         has_ends(&rt, lone_node(&rt, children), newline, "", newline);
         has_margins(&rt, children, "", newline);
     }
-    Ok(())
 }
 
 #[test]
-fn newlines_in_wrong_places(rt: HostRuntime) -> Result<(), Fail> {
+fn newlines_in_wrong_places(rt: HostRuntime) {
     let alloc = rt.alloc();
     let patterns = [
         "n (~t)1",
@@ -118,21 +113,20 @@ fn newlines_in_wrong_places(rt: HostRuntime) -> Result<(), Fail> {
     ];
     for newline in NEWLINES {
         for pattern in patterns {
-            refuse(&rt, alloc, &filled(alloc, pattern, newline)?);
+            refuse(&rt, alloc, &fill(&rt, alloc, pattern, newline));
         }
     }
-    Ok(())
 }
 
 /// The space stands in each place of the node `(t)n` that it can stand in.
-fn check_spaced_node(rt: &impl Abort, node: &KdlNode, space: &str) -> Result<(), Fail> {
+fn check_spaced_node(rt: &impl Abort, node: &KdlNode, space: &str) {
     has_ends(rt, node, space, space, ";");
     is_called(rt, node.ty(), "t");
     has_node_type_places(rt, node, space, space, space);
     has_around_block(rt, node, space, "");
     has_ends(rt, lone_node(rt, block(rt, node)), space, space, "");
     let [one, two] = node.entries() else {
-        return Err(Fail::from("not two entries"));
+        panic!(rt; "not two entries");
     };
     has_places(rt, one, space, "1", "");
     has_type_places(rt, one, space, space, space);
@@ -140,23 +134,21 @@ fn check_spaced_node(rt: &impl Abort, node: &KdlNode, space: &str) -> Result<(),
     has_type_places(rt, two, space, space, space);
     is_called(rt, two.name(), "k");
     has_key_places(rt, two, space, space);
-    Ok(())
 }
 
 #[test]
-fn a_space_in_each_place(rt: HostRuntime) -> Result<(), Fail> {
+fn a_space_in_each_place(rt: HostRuntime) {
     let alloc = rt.alloc();
     for space in SPACES {
         let pattern = "~(~t~)~n~(~u~)~1~k~=~(~v~)~2~{~m~}~;~";
-        let document = read_filled(&rt, alloc, pattern, space)?;
+        let document = read_filled(&rt, alloc, pattern, space);
         has_margins(&rt, &document, "", space);
-        check_spaced_node(&rt, lone_node(&rt, &document), space)?;
+        check_spaced_node(&rt, lone_node(&rt, &document), space);
     }
-    Ok(())
 }
 
 #[test]
-fn a_space_in_strings_and_continued_lines(rt: HostRuntime) -> Result<(), Fail> {
+fn a_space_in_strings_and_continued_lines(rt: HostRuntime) {
     let alloc = rt.alloc();
     let rows = [
         ("\"a\\~b\"", "ab"),
@@ -169,14 +161,18 @@ fn a_space_in_strings_and_continued_lines(rt: HostRuntime) -> Result<(), Fail> {
     ];
     for space in SPACES {
         for (pattern, value) in rows {
-            is_argument(&rt, alloc, &filled(alloc, pattern, space)?, value)?;
+            is_argument(&rt, alloc, &fill(&rt, alloc, pattern, space), value);
         }
     }
-    Ok(())
+}
+
+/// The text is a document, which prints it.
+fn is_document(rt: &impl Abort, alloc: Global, text: &str) {
+    assert!(rt; is_read(rt, alloc, text), "{text:?}");
 }
 
 /// The text of a character between `n` and other texts of one node, each refused; in comments it is read.
-fn stands_in_comments_alone(rt: &impl Abort, alloc: Global, banned: &str) -> Result<(), Fail> {
+fn stands_in_comments_alone(rt: &impl Abort, alloc: Global, banned: &str) {
     let refused = [
         "a~b",
         "a~",
@@ -194,23 +190,21 @@ fn stands_in_comments_alone(rt: &impl Abort, alloc: Global, banned: &str) -> Res
         "n \\~\n",
     ];
     for pattern in refused {
-        refuse(rt, alloc, &filled(alloc, pattern, banned)?);
+        refuse(rt, alloc, &fill(rt, alloc, pattern, banned));
     }
     for pattern in ["n //~", "n /*~*/ 1", "//~\nn", "n \\/*~*/\n", "n \\//~\n1"] {
-        let text = filled(alloc, pattern, banned)?;
-        assert!(rt; is_read(rt, alloc, &text)?, "{text:?}");
+        is_document(rt, alloc, &fill(rt, alloc, pattern, banned));
     }
-    Ok(())
 }
 
 #[test]
-fn banned_characters(rt: HostRuntime) -> Result<(), Fail> {
+fn banned_characters(rt: HostRuntime) {
     let alloc = rt.alloc();
     for (first, last) in BANNED {
         for code in first..=last {
-            let c = char::from_u32(code).ok_or("no character")?;
-            stands_in_comments_alone(&rt, alloc, &format!(in alloc; "{c}")?)?;
+            let c = char::from_u32(code).expect(&rt, "no character");
+            let banned = format!(in alloc; "{c}").expect(&rt, "memory");
+            stands_in_comments_alone(&rt, alloc, &banned);
         }
     }
-    Ok(())
 }

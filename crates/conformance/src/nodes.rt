@@ -1,47 +1,51 @@
 //! Nodes that are a whole text: what is read, what is refused and where, and that a node prints its text.
 
 use crate::reading::{
-    around_block, block, ends, has_around_block, has_ends, has_margins, has_node_type_places,
+    around_block, block, ends, fill, has_around_block, has_ends, has_margins, has_node_type_places,
     has_places, is_called, is_range, lone_entry, lone_node, range,
 };
-use conformance_text::characters::{NEWLINES, filled};
-use kdl::{KdlDocument, KdlNode, ParseFailure, SourceSpan};
+use conformance_text::characters::NEWLINES;
+use kdl::{KdlDocument, KdlError, KdlNode, ParseFailure, SourceSpan};
 use std::alloc::Global;
 use std::process::Abort;
-use std::test::Fail;
 
 /// The node of a text, which prints it, and whose span it is.
-fn read(rt: &impl Abort, alloc: Global, text: &str) -> Result<KdlNode, Fail> {
+fn read(rt: &impl Abort, alloc: Global, text: &str) -> KdlNode {
     let node = match KdlNode::parse(alloc, text) {
         Ok(node) => node,
-        Err(ParseFailure::Memory) => return Err(Fail::from("out of memory")),
-        Err(ParseFailure::Syntax(_)) => {
-            assert!(rt; false, "{text:?} is refused");
-            return Err(Fail::from("refused"));
-        }
+        Err(ParseFailure::Memory) => panic!(rt; "{text:?} wants memory"),
+        Err(ParseFailure::Syntax(_)) => panic!(rt; "{text:?} is refused"),
     };
-    let printed = node.to_string(alloc)?;
-    assert_eq!(rt; printed.as_str(), text);
+    prints(rt, alloc, &node, text);
     is_range(rt, node.span(), 0, text.len());
-    Ok(node)
+    node
+}
+
+/// The node prints this text.
+fn prints(rt: &impl Abort, alloc: Global, node: &KdlNode, text: &str) {
+    let printed = node.to_string(alloc).expect(rt, "memory");
+    assert_eq!(rt; printed.as_str(), text);
 }
 
 /// The text is refused, and the one diagnostic is at the span.
 fn refused_at(rt: &impl Abort, alloc: Global, text: &str, offset: usize, len: usize) {
     match KdlNode::parse(alloc, text) {
-        Ok(_) => assert!(rt; false, "{text:?} is read"),
-        Err(ParseFailure::Memory) => assert!(rt; false, "{text:?} wants memory"),
-        Err(ParseFailure::Syntax(error)) => {
-            assert_eq!(rt; error.input.as_str(), text);
-            assert_eq!(rt; error.diagnostics.len(), 1);
-            for diagnostic in &error.diagnostics {
-                assert_eq!(rt; diagnostic.span, SourceSpan { offset, len });
-                let message = diagnostic.message.as_ref().map_or("", |m| m.as_str());
-                assert_eq!(rt; message, "Expected end of document");
-                let label = diagnostic.label.as_ref().map_or("", |m| m.as_str());
-                assert_eq!(rt; label, "not EOF");
-            }
-        }
+        Ok(_) => panic!(rt; "{text:?} is read"),
+        Err(ParseFailure::Memory) => panic!(rt; "{text:?} wants memory"),
+        Err(ParseFailure::Syntax(error)) => tells(rt, &error, text, SourceSpan { offset, len }),
+    }
+}
+
+/// The error has the text, and one diagnostic, which is at the span.
+fn tells(rt: &impl Abort, error: &KdlError, text: &str, span: SourceSpan) {
+    assert_eq!(rt; error.input.as_str(), text);
+    assert_eq!(rt; error.diagnostics.len(), 1);
+    for diagnostic in &error.diagnostics {
+        assert_eq!(rt; diagnostic.span, span);
+        let message = diagnostic.message.as_ref().map_or("", |m| m.as_str());
+        assert_eq!(rt; message, "Expected end of document");
+        let label = diagnostic.label.as_ref().map_or("", |m| m.as_str());
+        assert_eq!(rt; label, "not EOF");
     }
 }
 
@@ -53,19 +57,18 @@ fn stands(
     leading: &str,
     terminator: &str,
     trailing: &str,
-) -> Result<(), Fail> {
-    let node = read(rt, alloc, text)?;
+) {
+    let node = read(rt, alloc, text);
     assert_eq!(rt; node.name().value(), "n", "{text:?}");
     let (before, _, end) = ends(&node);
     assert_eq!(rt; before, leading, "{text:?}");
     assert_eq!(rt; end, terminator, "{text:?}");
     assert_eq!(rt; around_block(&node).1, trailing, "{text:?}");
-    Ok(())
 }
 
 #[test]
-fn a_node_with_its_places(rt: HostRuntime) -> Result<(), Fail> {
-    let node = read(&rt, rt.alloc(), "\n\t  (\"ty\")\"node\" 0xDEADbeef;\n")?;
+fn a_node_with_its_places(rt: HostRuntime) {
+    let node = read(&rt, rt.alloc(), "\n\t  (\"ty\")\"node\" 0xDEADbeef;\n");
     has_ends(&rt, &node, "\n\t  ", "", ";");
     has_around_block(&rt, &node, "", "\n");
     has_node_type_places(&rt, &node, "", "", "");
@@ -77,27 +80,25 @@ fn a_node_with_its_places(rt: HostRuntime) -> Result<(), Fail> {
     assert_eq!(rt; entry.value().as_integer(), Some(3_735_928_559));
     is_range(&rt, entry.span(), 17, 27);
     is_range(&rt, node.span(), 0, 29);
-    Ok(())
 }
 
 #[test]
-fn a_node_among_comments(rt: HostRuntime) -> Result<(), Fail> {
+fn a_node_among_comments(rt: HostRuntime) {
     let text = "\n  // indented comment\n  \"formatted\" 1 /* comment */ \\\n    2;\n";
-    let node = read(&rt, rt.alloc(), text)?;
+    let node = read(&rt, rt.alloc(), text);
     has_ends(&rt, &node, "\n  // indented comment\n  ", "", ";");
     has_around_block(&rt, &node, "", "\n");
     let [one, two] = node.entries() else {
-        return Err(Fail::from("not two entries"));
+        panic!(rt; "not two entries");
     };
     has_places(&rt, one, " ", "1", "");
     has_places(&rt, two, " /* comment */ \\\n    ", "2", "");
-    Ok(())
 }
 
 #[test]
-fn a_node_with_a_block(rt: HostRuntime) -> Result<(), Fail> {
+fn a_node_with_a_block(rt: HostRuntime) {
     let text = " ( u )n /-0 /-{ x } { a; /-b\n} /-{} ; ";
-    let node = read(&rt, rt.alloc(), text)?;
+    let node = read(&rt, rt.alloc(), text);
     has_ends(&rt, &node, " ", " /-{} ", ";");
     has_around_block(&rt, &node, " /-0 /-{ x } ", " ");
     has_node_type_places(&rt, &node, " ", " ", "");
@@ -106,19 +107,30 @@ fn a_node_with_a_block(rt: HostRuntime) -> Result<(), Fail> {
     let a = lone_node(&rt, children);
     has_ends(&rt, a, " ", "", ";");
     is_range(&rt, a.span(), 22, 23);
-    Ok(())
+}
+
+/// The newline ends a node: alone, between others, and behind a comment with a comment behind it.
+fn ends_nodes(rt: &impl Abort, alloc: Global, newline: &str) {
+    let text = fill(rt, alloc, "n~", newline);
+    stands(rt, alloc, &text, "", newline, "");
+    let text = fill(rt, alloc, "~n 1~~", newline);
+    stands(rt, alloc, &text, newline, newline, newline);
+    let text = fill(rt, alloc, "n // c~ // d~", newline);
+    let comment = fill(rt, alloc, "// c~", newline);
+    let trailing = fill(rt, alloc, " // d~", newline);
+    stands(rt, alloc, &text, "", &comment, &trailing);
 }
 
 #[test]
-fn terminators(rt: HostRuntime) -> Result<(), Fail> {
+fn terminators(rt: HostRuntime) {
     let alloc = rt.alloc();
-    stands(&rt, alloc, "n", "", "", "")?;
-    stands(&rt, alloc, "n 1 {}", "", "", "")?;
-    stands(&rt, alloc, "n {} ", "", "", "")?;
-    stands(&rt, alloc, "n;", "", ";", "")?;
-    stands(&rt, alloc, "n // c", "", "// c", "")?;
-    stands(&rt, alloc, " n 1 // c\n", " ", "// c\n", "")?;
-    stands(&rt, alloc, "n; // c", "", ";", " // c")?;
+    stands(&rt, alloc, "n", "", "", "");
+    stands(&rt, alloc, "n 1 {}", "", "", "");
+    stands(&rt, alloc, "n {} ", "", "", "");
+    stands(&rt, alloc, "n;", "", ";", "");
+    stands(&rt, alloc, "n // c", "", "// c", "");
+    stands(&rt, alloc, " n 1 // c\n", " ", "// c\n", "");
+    stands(&rt, alloc, "n; // c", "", ";", " // c");
     stands(
         &rt,
         alloc,
@@ -126,26 +138,18 @@ fn terminators(rt: HostRuntime) -> Result<(), Fail> {
         "",
         "\n",
         " \\\n/* x */ \n",
-    )?;
-    stands(&rt, alloc, "n // c\n// d\n", "", "// c\n", "// d\n")?;
+    );
+    stands(&rt, alloc, "n // c\n// d\n", "", "// c\n", "// d\n");
     for newline in NEWLINES {
-        let text = filled(alloc, "n~", newline)?;
-        stands(&rt, alloc, &text, "", newline, "")?;
-        let text = filled(alloc, "~n 1~~", newline)?;
-        stands(&rt, alloc, &text, newline, newline, newline)?;
-        let text = filled(alloc, "n // c~ // d~", newline)?;
-        let comment = filled(alloc, "// c~", newline)?;
-        let trailing = filled(alloc, " // d~", newline)?;
-        stands(&rt, alloc, &text, "", &comment, &trailing)?;
+        ends_nodes(&rt, alloc, newline);
     }
-    Ok(())
 }
 
 #[test]
-fn nodes_that_count_for_nothing_before_it(rt: HostRuntime) -> Result<(), Fail> {
+fn nodes_that_count_for_nothing_before_it(rt: HostRuntime) {
     let alloc = rt.alloc();
-    stands(&rt, alloc, "/-a\nn", "/-a\n", "", "")?;
-    stands(&rt, alloc, "/-a {};n;", "/-a {};", ";", "")?;
+    stands(&rt, alloc, "/-a\nn", "/-a\n", "", "");
+    stands(&rt, alloc, "/-a {};n;", "/-a {};", ";", "");
     stands(
         &rt,
         alloc,
@@ -153,9 +157,8 @@ fn nodes_that_count_for_nothing_before_it(rt: HostRuntime) -> Result<(), Fail> {
         " /- // c\na 1\n/-b; ",
         "\n",
         "",
-    )?;
-    stands(&rt, alloc, "n /-1 /-{ a }", "", "", "")?;
-    Ok(())
+    );
+    stands(&rt, alloc, "n /-1 /-{ a }", "", "", "");
 }
 
 #[test]
@@ -190,22 +193,34 @@ fn refused_behind_the_node(rt: HostRuntime) {
     refused_at(&rt, alloc, "n;/-m;o", 6, 1);
 }
 
-fn check_the_same_node(rt: &impl Abort, alloc: Global, alone: &mut KdlNode) -> Result<(), Fail> {
-    let document = KdlDocument::parse(alloc, "n 1 { a; }\n")?;
-    assert!(rt; *lone_node(rt, &document) == *alone);
+/// The text is a document whose one node equals this node.
+fn is_node_of(rt: &impl Abort, alloc: Global, text: &str, node: &KdlNode) {
+    let Ok(document) = KdlDocument::parse(alloc, text) else {
+        panic!(rt; "{text:?} is not read");
+    };
+    assert!(rt; *lone_node(rt, &document) == *node);
+}
+
+/// The node of the text equals this node, or does not.
+fn compares(rt: &impl Abort, alloc: Global, text: &str, node: &KdlNode, is_same: bool) {
+    let other = read(rt, alloc, text);
+    assert_eq!(rt; other == *node, is_same, "{text:?}");
+}
+
+fn check_the_same_node(rt: &impl Abort, alloc: Global, alone: &mut KdlNode) {
+    is_node_of(rt, alloc, "n 1 { a; }\n", alone);
     alone.set_span(SourceSpan { offset: 7, len: 9 });
     for (text, is_same) in [
         ("n 1 { a; }\n", true),
         ("\nn 1 { a; }\n", false),
         ("n 1 { a; }\n\n", false),
     ] {
-        assert_eq!(rt; read(rt, alloc, text)? == *alone, is_same, "{text:?}");
+        compares(rt, alloc, text, alone, is_same);
     }
-    Ok(())
 }
 
 #[test]
-fn the_same_node_in_a_document(rt: HostRuntime) -> Result<(), Fail> {
+fn the_same_node_in_a_document(rt: HostRuntime) {
     let alloc = rt.alloc();
-    check_the_same_node(&rt, alloc, &mut read(&rt, alloc, "n 1 { a; }\n")?)
+    check_the_same_node(&rt, alloc, &mut read(&rt, alloc, "n 1 { a; }\n"));
 }

@@ -1,55 +1,60 @@
 //! What the tests of documents share: a text that is read or refused, its nodes, and their places.
 
 use crate::reprinted;
-use kdl::{KdlDocument, KdlEntry, KdlIdentifier, KdlNode, ParseFailure, SourceSpan};
-use std::alloc::{AllocError, Global};
+use conformance_text::characters::filled;
+use kdl::{KdlDocument, KdlEntry, KdlError, KdlIdentifier, KdlNode, ParseFailure, SourceSpan};
+use std::alloc::Global;
 use std::process::Abort;
-use std::test::Fail;
 
 /// The document of a text, which prints it.
-pub fn read(rt: &impl Abort, alloc: Global, text: &str) -> Result<KdlDocument, Fail> {
-    let document = match KdlDocument::parse(alloc, text) {
+pub fn read(rt: &impl Abort, alloc: Global, text: &str) -> KdlDocument {
+    prints(rt, alloc, text);
+    match KdlDocument::parse(alloc, text) {
         Ok(document) => document,
-        Err(ParseFailure::Memory) => return Err(Fail::from("out of memory")),
-        Err(ParseFailure::Syntax(_)) => {
-            assert!(rt; false, "{text:?} is refused");
-            return Err(Fail::from("refused"));
-        }
-    };
-    let printed = reprinted(alloc, text)?;
-    assert_eq!(rt; printed.as_str(), text);
-    Ok(document)
+        Err(_) => panic!(rt; "{text:?} is refused"),
+    }
+}
+
+/// The text is read, and printed byte for byte.
+fn prints(rt: &impl Abort, alloc: Global, text: &str) {
+    match reprinted(alloc, text) {
+        Ok(printed) => assert_eq!(rt; printed.as_str(), text),
+        Err(ParseFailure::Memory) => panic!(rt; "{text:?} wants memory"),
+        Err(ParseFailure::Syntax(_)) => panic!(rt; "{text:?} is refused"),
+    }
 }
 
 /// The text is refused, by a diagnostic at least, each with a span inside on character boundaries.
 pub fn refuse(rt: &impl Abort, alloc: Global, text: &str) {
     match KdlDocument::parse(alloc, text) {
-        Ok(_) => assert!(rt; false, "{text:?} is read"),
-        Err(ParseFailure::Memory) => assert!(rt; false, "{text:?} wants memory"),
-        Err(ParseFailure::Syntax(error)) => {
-            assert_eq!(rt; error.input.as_str(), text);
-            assert!(rt; !error.diagnostics.is_empty(), "{text:?}");
-            for diagnostic in &error.diagnostics {
-                let (start, end) = range(diagnostic.span);
-                assert!(rt; text.is_char_boundary(start), "{text:?} at {start}");
-                assert!(rt; text.is_char_boundary(end), "{text:?} at {end}");
-            }
-        }
+        Ok(_) => panic!(rt; "{text:?} is read"),
+        Err(ParseFailure::Memory) => panic!(rt; "{text:?} wants memory"),
+        Err(ParseFailure::Syntax(error)) => tells_where(rt, &error, text),
+    }
+}
+
+/// The error has the text, and a diagnostic at least, each with a span inside on character boundaries.
+fn tells_where(rt: &impl Abort, error: &KdlError, text: &str) {
+    assert_eq!(rt; error.input.as_str(), text);
+    assert!(rt; !error.diagnostics.is_empty(), "{text:?}");
+    for diagnostic in &error.diagnostics {
+        let (start, end) = range(diagnostic.span);
+        assert!(rt; text.is_char_boundary(start), "{text:?} at {start}");
+        assert!(rt; text.is_char_boundary(end), "{text:?} at {end}");
     }
 }
 
 /// Whether the text is a document. One that is read prints the text; one that is refused tells where.
-pub fn is_read(rt: &impl Abort, alloc: Global, text: &str) -> Result<bool, Fail> {
-    match KdlDocument::parse(alloc, text) {
-        Ok(document) => {
-            let printed = document.to_string(alloc)?;
+pub fn is_read(rt: &impl Abort, alloc: Global, text: &str) -> bool {
+    match reprinted(alloc, text) {
+        Ok(printed) => {
             assert_eq!(rt; printed.as_str(), text);
-            Ok(true)
+            true
         }
-        Err(ParseFailure::Memory) => Err(Fail::from("out of memory")),
+        Err(ParseFailure::Memory) => panic!(rt; "{text:?} wants memory"),
         Err(ParseFailure::Syntax(_)) => {
             refuse(rt, alloc, text);
-            Ok(false)
+            false
         }
     }
 }
@@ -165,21 +170,32 @@ pub fn called(identifier: Option<&KdlIdentifier>) -> &str {
 
 /// The opening so many times, the middle, and the closing so many times.
 pub fn nested(
+    rt: &impl Abort,
     alloc: Global,
     opening: &str,
     middle: &str,
     closing: &str,
     depth: usize,
-) -> Result<String, AllocError> {
+) -> String {
     let mut text = String::new(alloc);
     for _ in 0..depth {
-        text.push_str(opening)?;
+        text.push_str(opening).expect(rt, "memory");
     }
-    text.push_str(middle)?;
+    text.push_str(middle).expect(rt, "memory");
     for _ in 0..depth {
-        text.push_str(closing)?;
+        text.push_str(closing).expect(rt, "memory");
     }
-    Ok(text)
+    text
+}
+
+/// The two texts, one behind the other.
+pub fn joined(rt: &impl Abort, alloc: Global, front: &str, text: &str) -> String {
+    format!(in alloc; "{front}{text}").expect(rt, "memory")
+}
+
+/// The pattern with the text in the place of each `~`.
+pub fn fill(rt: &impl Abort, alloc: Global, pattern: &str, text: &str) -> String {
+    filled(alloc, pattern, text).expect(rt, "memory")
 }
 
 /// The span has this start and this end.
@@ -244,9 +260,7 @@ pub fn is_whole(rt: &impl Abort, entry: &KdlEntry, value: i128) {
 }
 
 /// The text is one argument of a node, and this string is its value.
-pub fn is_argument(rt: &impl Abort, alloc: Global, text: &str, value: &str) -> Result<(), Fail> {
-    let document = read(rt, alloc, &format!(in alloc; "n {text}")?)?;
-    let entry = lone_entry(rt, lone_node(rt, &document));
-    assert_eq!(rt; entry.value().as_string(), Some(value), "{text:?}");
-    Ok(())
+pub fn is_argument(rt: &impl Abort, alloc: Global, text: &str, value: &str) {
+    let document = read(rt, alloc, &joined(rt, alloc, "n ", text));
+    is_string(rt, lone_entry(rt, lone_node(rt, &document)), value);
 }

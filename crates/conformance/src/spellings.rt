@@ -1,14 +1,27 @@
 //! Strings in their five spellings, and numbers in their four bases.
 
-use crate::reading::is_argument;
-use kdl::{KdlDocument, KdlIdentifier, KdlValue, ParseFailure, SourceSpan};
+use crate::reading::{is_argument, joined, lone_entry, lone_node, read, refuse};
+use kdl::{KdlError, KdlIdentifier, KdlValue, ParseFailure, SourceSpan};
 use std::alloc::Global;
 use std::process::Abort;
-use std::test::Fail;
 
 /// The text is an identifier with this value. It is its spelling and its span, and it is what is printed.
-fn reads(rt: &impl Abort, alloc: Global, text: &str, value: &str) -> Result<(), Fail> {
-    let identifier = KdlIdentifier::parse(alloc, text)?;
+fn reads(rt: &impl Abort, alloc: Global, text: &str, value: &str) {
+    match KdlIdentifier::parse(alloc, text) {
+        Ok(identifier) => has_spelling(rt, alloc, &identifier, text, value),
+        Err(ParseFailure::Memory) => panic!(rt; "{text:?} wants memory"),
+        Err(ParseFailure::Syntax(_)) => panic!(rt; "{text:?} is refused"),
+    }
+}
+
+/// The identifier has this value. The text is its spelling and its span, and it is what is printed.
+fn has_spelling(
+    rt: &impl Abort,
+    alloc: Global,
+    identifier: &KdlIdentifier,
+    text: &str,
+    value: &str,
+) {
     assert_eq!(rt; identifier.value(), value, "{text}");
     assert_eq!(rt; identifier.repr(), Some(text));
     assert_eq!(rt;
@@ -18,43 +31,55 @@ fn reads(rt: &impl Abort, alloc: Global, text: &str, value: &str) -> Result<(), 
             len: text.len()
         }
     );
-    assert_eq!(rt; identifier.to_string(alloc)?.as_str(), text);
-    Ok(())
+    let printed = identifier.to_string(alloc).expect(rt, "memory");
+    assert_eq!(rt; printed.as_str(), text);
 }
 
 /// The text is no identifier, and the one diagnostic is at the span.
 fn refused_at(rt: &impl Abort, alloc: Global, text: &str, offset: usize, len: usize) {
     match KdlIdentifier::parse(alloc, text) {
-        Ok(_) => assert!(rt; false, "{text:?} is read"),
-        Err(ParseFailure::Memory) => assert!(rt; false, "{text:?} wants memory"),
-        Err(ParseFailure::Syntax(error)) => {
-            assert_eq!(rt; error.input.as_str(), text);
-            assert_eq!(rt; error.diagnostics.len(), 1);
-            for diagnostic in &error.diagnostics {
-                assert_eq!(rt; diagnostic.span, SourceSpan { offset, len });
-            }
-        }
+        Ok(_) => panic!(rt; "{text:?} is read"),
+        Err(ParseFailure::Memory) => panic!(rt; "{text:?} wants memory"),
+        Err(ParseFailure::Syntax(error)) => tells_where(rt, &error, text, offset, len),
     }
 }
 
-/// The value of the one argument of the node `n`, or that the text is refused.
-fn argument(alloc: Global, text: &str) -> Result<Option<KdlValue>, Fail> {
-    let document = match KdlDocument::parse(alloc, &format!(in alloc; "n {text}")?) {
-        Ok(document) => document,
-        Err(ParseFailure::Syntax(_)) => return Ok(None),
-        Err(ParseFailure::Memory) => return Err(Fail::from("out of memory")),
-    };
-    let [node] = document.nodes() else {
-        return Err(Fail::from("not one node"));
-    };
-    let [entry] = node.entries() else {
-        return Err(Fail::from("not one entry"));
-    };
-    Ok(Some(entry.value().clone()?))
+/// The error has the text, and one diagnostic, which is at the span.
+fn tells_where(rt: &impl Abort, error: &KdlError, text: &str, offset: usize, len: usize) {
+    assert_eq!(rt; error.input.as_str(), text);
+    assert_eq!(rt; error.diagnostics.len(), 1);
+    for diagnostic in &error.diagnostics {
+        assert_eq!(rt; diagnostic.span, SourceSpan { offset, len });
+    }
+}
+
+/// The text is one argument of a node, and this whole number is its value.
+fn is_whole_argument(rt: &impl Abort, alloc: Global, text: &str, value: i128) {
+    let document = read(rt, alloc, &joined(rt, alloc, "n ", text));
+    let entry = lone_entry(rt, lone_node(rt, &document));
+    assert_eq!(rt; entry.value().as_integer(), Some(value), "{text}");
+}
+
+/// The text is one argument of a node, and its value is printed as the other text.
+fn is_printed_as(rt: &impl Abort, alloc: Global, text: &str, value: &str) {
+    let document = read(rt, alloc, &joined(rt, alloc, "n ", text));
+    let entry = lone_entry(rt, lone_node(rt, &document));
+    prints(rt, alloc, entry.value(), value);
+}
+
+/// The value is printed as the text.
+fn prints(rt: &impl Abort, alloc: Global, value: &KdlValue, text: &str) {
+    let printed = value.to_string(alloc).expect(rt, "memory");
+    assert_eq!(rt; printed.as_str(), text);
+}
+
+/// The text is no argument of a node.
+fn is_no_argument(rt: &impl Abort, alloc: Global, text: &str) {
+    refuse(rt, alloc, &joined(rt, alloc, "n ", text));
 }
 
 #[test]
-fn strings_on_one_line(rt: HostRuntime) -> Result<(), Fail> {
+fn strings_on_one_line(rt: HostRuntime) {
     let alloc = rt.alloc();
     let values = [
         ("\"a\\ \r\n  b\"", "ab"),
@@ -66,7 +91,7 @@ fn strings_on_one_line(rt: HostRuntime) -> Result<(), Fail> {
         ("_1234", "_1234"),
     ];
     for (text, value) in values {
-        reads(&rt, alloc, text, value)?;
+        reads(&rt, alloc, text, value);
     }
     let refused = [
         "\"\\u{d800}\"",
@@ -82,11 +107,10 @@ fn strings_on_one_line(rt: HostRuntime) -> Result<(), Fail> {
     for text in refused {
         refused_at(&rt, alloc, text, 0, 1);
     }
-    Ok(())
 }
 
 #[test]
-fn strings_on_many_lines(rt: HostRuntime) -> Result<(), Fail> {
+fn strings_on_many_lines(rt: HostRuntime) {
     let alloc = rt.alloc();
     let values = [
         ("\"\"\"\n\"\"\"", ""),
@@ -113,7 +137,7 @@ fn strings_on_many_lines(rt: HostRuntime) -> Result<(), Fail> {
         ),
     ];
     for (text, value) in values {
-        reads(&rt, alloc, text, value)?;
+        reads(&rt, alloc, text, value);
     }
     let refused = [
         "\"\"\"\nx\n\\s\"\"\"",
@@ -123,7 +147,6 @@ fn strings_on_many_lines(rt: HostRuntime) -> Result<(), Fail> {
     for text in refused {
         refused_at(&rt, alloc, text, 0, 1);
     }
-    Ok(())
 }
 
 #[test]
@@ -151,7 +174,7 @@ fn what_is_no_one_string(rt: HostRuntime) {
 }
 
 #[test]
-fn a_string_is_an_argument(rt: HostRuntime) -> Result<(), Fail> {
+fn a_string_is_an_argument(rt: HostRuntime) {
     let alloc = rt.alloc();
     let values = [
         ("-inf", "-inf"),
@@ -164,13 +187,12 @@ fn a_string_is_an_argument(rt: HostRuntime) -> Result<(), Fail> {
         ("_1234.56", "_1234.56"),
     ];
     for (text, value) in values {
-        is_argument(&rt, alloc, text, value)?;
+        is_argument(&rt, alloc, text, value);
     }
-    Ok(())
 }
 
 #[test]
-fn whole_numbers_in_four_bases(rt: HostRuntime) -> Result<(), Fail> {
+fn whole_numbers_in_four_bases(rt: HostRuntime) {
     let alloc = rt.alloc();
     let values = [
         ("+0x1F", 31),
@@ -182,8 +204,7 @@ fn whole_numbers_in_four_bases(rt: HostRuntime) -> Result<(), Fail> {
         ("-170141183460469231731687303715884105728", i128::MIN),
     ];
     for (text, value) in values {
-        let read = argument(alloc, text)?.ok_or("refused")?;
-        assert_eq!(rt; read.as_integer(), Some(value), "{text}");
+        is_whole_argument(&rt, alloc, text, value);
     }
     let refused = [
         "170141183460469231731687303715884105728",
@@ -193,16 +214,13 @@ fn whole_numbers_in_four_bases(rt: HostRuntime) -> Result<(), Fail> {
         "0b12389",
     ];
     for text in refused {
-        assert!(rt; argument(alloc, text)?.is_none(), "{text}");
+        is_no_argument(&rt, alloc, text);
     }
-    Ok(())
 }
 
 #[test]
-fn a_decimal_keeps_its_text_without_marks(rt: HostRuntime) -> Result<(), Fail> {
+fn a_decimal_keeps_its_text_without_marks(rt: HostRuntime) {
     let alloc = rt.alloc();
-    let read = argument(alloc, "1_0.5E+3")?.ok_or("refused")?;
-    assert_eq!(rt; read.to_string(alloc)?.as_str(), "10.5E+3");
-    assert!(rt; argument(alloc, "1.")?.is_none());
-    Ok(())
+    is_printed_as(&rt, alloc, "1_0.5E+3", "10.5E+3");
+    is_no_argument(&rt, alloc, "1.");
 }

@@ -4,59 +4,57 @@ use crate::reading::nested;
 use kdl::{KdlDocument, ParseFailure, Steps};
 use std::alloc::Global;
 use std::process::Abort;
-use std::test::Fail;
 
 /// Whether the text is a document. The count is raised.
-fn is_document(alloc: Global, text: &str, steps: &mut Steps) -> Result<bool, Fail> {
+fn is_document(rt: &impl Abort, alloc: Global, text: &str, steps: &mut Steps) -> bool {
     match KdlDocument::parse_counted(alloc, text, steps) {
-        Ok(_) => Ok(true),
-        Err(ParseFailure::Memory) => Err(Fail::from("out of memory")),
-        Err(ParseFailure::Syntax(_)) => Ok(false),
+        Ok(_) => true,
+        Err(ParseFailure::Memory) => panic!(rt; "memory"),
+        Err(ParseFailure::Syntax(_)) => false,
     }
 }
 
 /// The text of so many bytes is a document, which takes a step for each character and at most 32 for each byte and
 /// 32 more.
-fn takes(rt: &impl Abort, alloc: Global, text: &str, bytes: usize) -> Result<(), Fail> {
+fn takes(rt: &impl Abort, alloc: Global, text: &str, bytes: usize) {
     assert_eq!(rt; text.len(), bytes);
     let mut steps = Steps::new();
-    assert!(rt; is_document(alloc, text, &mut steps)?);
+    assert!(rt; is_document(rt, alloc, text, &mut steps));
     let count = steps.count();
     let least = text.chars().count() as u64;
     let most = (bytes as u64).saturating_add(1).saturating_mul(32);
     assert!(rt; least <= count, "{count} steps for {bytes} bytes");
     assert!(rt; count <= most, "{count} steps for {bytes} bytes");
-    Ok(())
 }
 
 #[test]
-fn small_texts(rt: HostRuntime) -> Result<(), Fail> {
+fn small_texts(rt: HostRuntime) {
     let alloc = rt.alloc();
-    takes(&rt, alloc, "", 0)?;
-    takes(&rt, alloc, "a", 1)?;
-    takes(&rt, alloc, "\u{feff}", 3)?;
+    takes(&rt, alloc, "", 0);
+    takes(&rt, alloc, "a", 1);
+    takes(&rt, alloc, "\u{feff}", 3);
     takes(
         &rt,
         alloc,
         "( /*a/*b*/*/ t )  n (u8) 1 k = ( x )2 #true",
         43,
-    )
+    );
 }
 
 #[test]
-fn long_strings(rt: HostRuntime) -> Result<(), Fail> {
+fn long_strings(rt: HostRuntime) {
     let alloc = rt.alloc();
-    let quotes = nested(alloc, "\"###", "", "", 100000)?;
-    let text = format!(in alloc; "n ####\"{quotes}\"####")?;
-    takes(&rt, alloc, &text, 400012)?;
-    let newlines = nested(alloc, "\n", "", "", 1000)?;
-    let spaces = nested(alloc, " ", "", "", 20)?;
-    let text = format!(in alloc; "n \"\"\"\n{newlines}{spaces}\"\"\"")?;
-    takes(&rt, alloc, &text, 1029)
+    let quotes = nested(&rt, alloc, "\"###", "", "", 100000);
+    let text = format!(in alloc; "n ####\"{quotes}\"####").expect(&rt, "memory");
+    takes(&rt, alloc, &text, 400012);
+    let newlines = nested(&rt, alloc, "\n", "", "", 1000);
+    let spaces = nested(&rt, alloc, " ", "", "", 20);
+    let text = format!(in alloc; "n \"\"\"\n{newlines}{spaces}\"\"\"").expect(&rt, "memory");
+    takes(&rt, alloc, &text, 1029);
 }
 
 #[test]
-fn three_hundred_deep(rt: HostRuntime) -> Result<(), Fail> {
+fn three_hundred_deep(rt: HostRuntime) {
     let alloc = rt.alloc();
     let rows = [
         ("a { ", "a", " }", 1801),
@@ -65,44 +63,41 @@ fn three_hundred_deep(rt: HostRuntime) -> Result<(), Fail> {
         ("/*", "", "*/", 1200),
     ];
     for (opening, middle, closing, bytes) in rows {
-        let text = nested(alloc, opening, middle, closing, 300)?;
-        takes(&rt, alloc, &text, bytes)?;
+        let text = nested(&rt, alloc, opening, middle, closing, 300);
+        takes(&rt, alloc, &text, bytes);
     }
-    Ok(())
 }
 
 #[test]
-fn blocks_a_hundred_thousand_deep(rt: HostRuntime) -> Result<(), Fail> {
+fn blocks_a_hundred_thousand_deep(rt: HostRuntime) {
     let alloc = rt.alloc();
-    let open = nested(alloc, "a {", "", "", 100000)?;
-    assert!(rt; !is_document(alloc, &open, &mut Steps::new())?);
-    let dropped = nested(alloc, "a /-{", "a", "}", 100000)?;
-    takes(&rt, alloc, &dropped, 600001)
+    let open = nested(&rt, alloc, "a {", "", "", 100000);
+    assert!(rt; !is_document(&rt, alloc, &open, &mut Steps::new()));
+    let dropped = nested(&rt, alloc, "a /-{", "a", "}", 100000);
+    takes(&rt, alloc, &dropped, 600001);
 }
 
 #[test]
-fn a_count_goes_on(rt: HostRuntime) -> Result<(), Fail> {
+fn a_count_goes_on(rt: HostRuntime) {
     let alloc = rt.alloc();
     let text = "a 1 { b \"x\"; }\n";
     let mut steps = Steps::new();
-    assert!(rt; is_document(alloc, text, &mut steps)?);
+    assert!(rt; is_document(&rt, alloc, text, &mut steps));
     let once = steps.count();
-    assert!(rt; is_document(alloc, text, &mut steps)?);
+    assert!(rt; is_document(&rt, alloc, text, &mut steps));
     assert_eq!(rt; steps.count(), once.saturating_mul(2));
     let before = steps.count();
-    assert!(rt; !is_document(alloc, "a {", &mut steps)?);
+    assert!(rt; !is_document(&rt, alloc, "a {", &mut steps));
     assert!(rt; before < steps.count());
-    Ok(())
 }
 
 #[test]
-fn a_count_stays_at_the_greatest(rt: HostRuntime) -> Result<(), Fail> {
+fn a_count_stays_at_the_greatest(rt: HostRuntime) {
     let alloc = rt.alloc();
     let mut steps = Steps::new();
     steps.raise(u64::MAX - 3);
-    assert!(rt; is_document(alloc, "a 1", &mut steps)?);
+    assert!(rt; is_document(&rt, alloc, "a 1", &mut steps));
     assert_eq!(rt; steps.count(), u64::MAX);
-    assert!(rt; is_document(alloc, "a 1", &mut steps)?);
+    assert!(rt; is_document(&rt, alloc, "a 1", &mut steps));
     assert_eq!(rt; steps.count(), u64::MAX);
-    Ok(())
 }

@@ -2,44 +2,50 @@
 
 use crate::reading::{
     has_around_block, has_ends, has_key_places, has_margins, has_node_type_places, has_places,
-    has_type_places, is_called, is_range, lone_entry, lone_node, margins, range, read, refuse,
+    has_type_places, is_called, is_range, is_string, is_whole, lone_entry, lone_node, read, refuse,
 };
-use std::test::Fail;
+use std::alloc::Global;
+use std::process::Abort;
 
 #[test]
-fn comments_around_a_node_and_its_entry(rt: HostRuntime) -> Result<(), Fail> {
-    let document = read(&rt, rt.alloc(), "/* a /* b */ c */n /*x*/ 1 // end\n")?;
+fn comments_around_a_node_and_its_entry(rt: HostRuntime) {
+    let document = read(&rt, rt.alloc(), "/* a /* b */ c */n /*x*/ 1 // end\n");
     let node = lone_node(&rt, &document);
     has_ends(&rt, node, "/* a /* b */ c */", " ", "// end\n");
     has_around_block(&rt, node, "", "");
-    assert_eq!(rt; node.name().value(), "n");
+    is_called(&rt, Some(node.name()), "n");
     let entry = lone_entry(&rt, node);
     has_places(&rt, entry, " /*x*/ ", "1", "");
-    assert_eq!(rt; entry.value().as_integer(), Some(1));
+    is_whole(&rt, entry, 1);
     has_margins(&rt, &document, "", "");
-    Ok(())
 }
 
 #[test]
-fn a_comment_in_a_continued_line(rt: HostRuntime) -> Result<(), Fail> {
-    let document = read(&rt, rt.alloc(), "n \\ // c\n 1\n")?;
+fn a_comment_in_a_continued_line(rt: HostRuntime) {
+    let document = read(&rt, rt.alloc(), "n \\ // c\n 1\n");
     let node = lone_node(&rt, &document);
     has_ends(&rt, node, "", "", "\n");
     has_places(&rt, lone_entry(&rt, node), " \\ // c\n ", "1", "");
-    Ok(())
 }
 
 #[test]
-fn a_line_continued_at_the_end(rt: HostRuntime) -> Result<(), Fail> {
-    let document = read(&rt, rt.alloc(), "n\\")?;
+fn a_line_continued_at_the_end(rt: HostRuntime) {
+    let document = read(&rt, rt.alloc(), "n\\");
     let node = lone_node(&rt, &document);
     assert!(rt; node.entries().is_empty());
     has_ends(&rt, node, "", "\\", "");
-    Ok(())
+}
+
+/// The text is a document without nodes: it stands in front of where they were, and the span is its end.
+fn has_no_nodes(rt: &impl Abort, alloc: Global, text: &str) {
+    let document = read(rt, alloc, text);
+    assert!(rt; document.nodes().is_empty(), "{text:?}");
+    has_margins(rt, &document, text, "");
+    is_range(rt, document.span(), text.len(), text.len());
 }
 
 #[test]
-fn texts_without_nodes(rt: HostRuntime) -> Result<(), Fail> {
+fn texts_without_nodes(rt: HostRuntime) {
     let alloc = rt.alloc();
     let texts = [
         "\\",
@@ -59,40 +65,30 @@ fn texts_without_nodes(rt: HostRuntime) -> Result<(), Fail> {
         "/-a /-{}",
     ];
     for text in texts {
-        let document = read(&rt, alloc, text)?;
-        assert!(rt; document.nodes().is_empty(), "{text:?}");
-        assert_eq!(rt; margins(&document), (text, ""), "{text:?}");
-        assert_eq!(rt;
-            range(document.span()),
-            (text.len(), text.len()),
-            "{text:?}"
-        );
+        has_no_nodes(&rt, alloc, text);
     }
-    Ok(())
 }
 
 #[test]
-fn the_mark_at_the_top(rt: HostRuntime) -> Result<(), Fail> {
-    let document = read(&rt, rt.alloc(), "\u{feff}n\n")?;
+fn the_mark_at_the_top(rt: HostRuntime) {
+    let document = read(&rt, rt.alloc(), "\u{feff}n\n");
     has_margins(&rt, &document, "\u{feff}", "");
     let node = lone_node(&rt, &document);
     has_ends(&rt, node, "", "", "\n");
     is_range(&rt, node.span(), 3, 4);
-    Ok(())
 }
 
 #[test]
-fn the_mark_and_wide_characters(rt: HostRuntime) -> Result<(), Fail> {
-    let document = read(&rt, rt.alloc(), "\u{feff}é \"ü\"")?;
+fn the_mark_and_wide_characters(rt: HostRuntime) {
+    let document = read(&rt, rt.alloc(), "\u{feff}é \"ü\"");
     has_margins(&rt, &document, "\u{feff}", "");
     is_range(&rt, document.span(), 3, 10);
     let node = lone_node(&rt, &document);
-    assert_eq!(rt; node.name().value(), "é");
+    is_called(&rt, Some(node.name()), "é");
     is_range(&rt, node.name().span(), 3, 5);
     let entry = lone_entry(&rt, node);
-    assert_eq!(rt; entry.value().as_string(), Some("ü"));
+    is_string(&rt, entry, "ü");
     is_range(&rt, entry.span(), 6, 10);
-    Ok(())
 }
 
 #[test]
@@ -120,48 +116,46 @@ fn comments_and_marks_in_wrong_places(rt: HostRuntime) {
 }
 
 #[test]
-fn indented_comments_and_a_continued_line(rt: HostRuntime) -> Result<(), Fail> {
+fn indented_comments_and_a_continued_line(rt: HostRuntime) {
     let text = "\n  // indented comment\n  \"formatted\" 1 /* comment */ \\\n    2;\n";
-    let document = read(&rt, rt.alloc(), text)?;
+    let document = read(&rt, rt.alloc(), text);
     let node = lone_node(&rt, &document);
     has_ends(&rt, node, "\n  // indented comment\n  ", "", ";");
-    assert_eq!(rt; node.name().value(), "formatted");
+    is_called(&rt, Some(node.name()), "formatted");
     assert_eq!(rt; node.name().repr(), Some("\"formatted\""));
     let [one, two] = node.entries() else {
-        return Err(Fail::from("not two entries"));
+        panic!(rt; "not two entries");
     };
     has_places(&rt, one, " ", "1", "");
     has_places(&rt, two, " /* comment */ \\\n    ", "2", "");
     has_margins(&rt, &document, "", "\n");
-    Ok(())
 }
 
 #[test]
-fn a_comment_ends_a_node(rt: HostRuntime) -> Result<(), Fail> {
-    let document = read(&rt, rt.alloc(), "a 1 b=2 // c\n")?;
+fn a_comment_ends_a_node(rt: HostRuntime) {
+    let document = read(&rt, rt.alloc(), "a 1 b=2 // c\n");
     let node = lone_node(&rt, &document);
     has_ends(&rt, node, "", " ", "// c\n");
     is_range(&rt, node.span(), 0, 8);
     let [one, two] = node.entries() else {
-        return Err(Fail::from("not two entries"));
+        panic!(rt; "not two entries");
     };
-    assert_eq!(rt; one.value().as_integer(), Some(1));
+    is_whole(&rt, one, 1);
     is_called(&rt, two.name(), "b");
-    assert_eq!(rt; two.value().as_integer(), Some(2));
+    is_whole(&rt, two, 2);
     is_range(&rt, two.span(), 4, 7);
-    Ok(())
 }
 
 #[test]
-fn spaces_around_types_and_keys(rt: HostRuntime) -> Result<(), Fail> {
-    let document = read(&rt, rt.alloc(), "( /*a*/ t )  n (u8) 1 k = ( x )2")?;
+fn spaces_around_types_and_keys(rt: HostRuntime) {
+    let document = read(&rt, rt.alloc(), "( /*a*/ t )  n (u8) 1 k = ( x )2");
     let node = lone_node(&rt, &document);
     is_called(&rt, node.ty(), "t");
     has_node_type_places(&rt, node, " /*a*/ ", " ", "  ");
     has_ends(&rt, node, "", "", "");
     is_range(&rt, node.span(), 0, 32);
     let [one, two] = node.entries() else {
-        return Err(Fail::from("not two entries"));
+        panic!(rt; "not two entries");
     };
     assert!(rt; one.name().is_none());
     is_called(&rt, one.ty(), "u8");
@@ -172,24 +166,22 @@ fn spaces_around_types_and_keys(rt: HostRuntime) -> Result<(), Fail> {
     is_called(&rt, two.ty(), "x");
     has_type_places(&rt, two, " ", " ", "");
     has_places(&rt, two, " ", "2", "");
-    Ok(())
 }
 
 #[test]
-fn a_typed_name_between_quotes(rt: HostRuntime) -> Result<(), Fail> {
-    let document = read(&rt, rt.alloc(), "\n\t  (\"ty\")\"node\" 0xDEADbeef;\n")?;
+fn a_typed_name_between_quotes(rt: HostRuntime) {
+    let document = read(&rt, rt.alloc(), "\n\t  (\"ty\")\"node\" 0xDEADbeef;\n");
     let node = lone_node(&rt, &document);
     has_ends(&rt, node, "\n\t  ", "", ";");
     has_node_type_places(&rt, node, "", "", "");
     has_margins(&rt, &document, "", "\n");
     is_range(&rt, node.span(), 4, 27);
-    assert_eq!(rt; node.name().value(), "node");
+    is_called(&rt, Some(node.name()), "node");
     is_range(&rt, node.name().span(), 10, 16);
-    let ty = node.ty().ok_or("no type")?;
-    assert_eq!(rt; ty.value(), "ty");
+    let ty = node.ty().expect(&rt, "no type");
+    is_called(&rt, Some(ty), "ty");
     is_range(&rt, ty.span(), 5, 9);
     let entry = lone_entry(&rt, node);
-    assert_eq!(rt; entry.value().as_integer(), Some(3735928559));
+    is_whole(&rt, entry, 3735928559);
     is_range(&rt, entry.span(), 17, 27);
-    Ok(())
 }

@@ -3,7 +3,6 @@
 use crate::reading::{is_read, nested};
 use std::alloc::Global;
 use std::process::Abort;
-use std::test::Fail;
 
 /// Texts with every form of the language.
 const TEXTS: [&str; 33] = [
@@ -43,32 +42,42 @@ const TEXTS: [&str; 33] = [
 ];
 
 /// The lengths of the fronts that are refused. Each other front is a document that prints it.
-fn refused_fronts(rt: &impl Abort, alloc: Global, text: &str) -> Result<Vec<usize>, Fail> {
+fn refused_fronts(rt: &impl Abort, alloc: Global, text: &str) -> Vec<usize> {
     let mut refused = Vec::new(alloc);
     for (at, _) in text.char_indices() {
-        let front = text.get(..at).ok_or("no front")?;
-        if !is_read(rt, alloc, front)? {
-            refused.push(at)?;
+        let front = text.get(..at).expect(rt, "no front");
+        if !is_read(rt, alloc, front) {
+            refused.push(at).expect(rt, "memory");
         }
     }
-    if !is_read(rt, alloc, text)? {
-        refused.push(text.len())?;
+    if !is_read(rt, alloc, text) {
+        refused.push(text.len()).expect(rt, "memory");
     }
-    Ok(refused)
+    refused
+}
+
+/// Each front is a document that prints it, or is refused. The empty one is not refused.
+fn reads_the_empty_front(rt: &impl Abort, alloc: Global, text: &str) {
+    let refused = refused_fronts(rt, alloc, text);
+    assert!(rt; refused.first() != Some(&0), "{text:?}");
 }
 
 #[test]
-fn each_front_is_printed_or_refused(rt: HostRuntime) -> Result<(), Fail> {
+fn each_front_is_printed_or_refused(rt: HostRuntime) {
     let alloc = rt.alloc();
     for text in TEXTS {
-        let refused = refused_fronts(&rt, alloc, text)?;
-        assert!(rt; refused.first() != Some(&0), "{text:?}");
+        reads_the_empty_front(&rt, alloc, text);
     }
-    Ok(())
+}
+
+/// The fronts of these lengths are refused, and no others.
+fn refuses_fronts(rt: &impl Abort, alloc: Global, text: &str, refused: &[usize]) {
+    let fronts = refused_fronts(rt, alloc, text);
+    assert_eq!(rt; fronts.as_slice(), refused, "{text:?}");
 }
 
 #[test]
-fn fronts_that_are_refused(rt: HostRuntime) -> Result<(), Fail> {
+fn fronts_that_are_refused(rt: HostRuntime) {
     let alloc = rt.alloc();
     let rows: [(&str, &[usize]); 10] = [
         ("n /- foo=1 bar = 2", &[3, 4, 5, 9, 16, 17]),
@@ -86,46 +95,40 @@ fn fronts_that_are_refused(rt: HostRuntime) -> Result<(), Fail> {
         ),
     ];
     for (text, refused) in rows {
-        let fronts = refused_fronts(&rt, alloc, text)?;
-        assert_eq!(rt; fronts.as_slice(), refused, "{text:?}");
+        refuses_fronts(&rt, alloc, text, refused);
     }
-    Ok(())
 }
 
 /// The fronts from one length to another are refused, and no others.
-fn refused_between(
-    rt: &impl Abort,
-    alloc: Global,
-    text: &str,
-    from: usize,
-    to: usize,
-) -> Result<(), Fail> {
-    let fronts = refused_fronts(rt, alloc, text)?;
+fn refused_between(rt: &impl Abort, alloc: Global, text: &str, from: usize, to: usize) {
+    let fronts = refused_fronts(rt, alloc, text);
     assert!(rt; fronts.iter().copied().eq(from..=to), "{text:?} {fronts:?}");
-    Ok(())
 }
 
 #[test]
-fn fronts_of_nested_texts(rt: HostRuntime) -> Result<(), Fail> {
+fn fronts_of_nested_texts(rt: HostRuntime) {
     let alloc = rt.alloc();
-    let blocks = nested(alloc, "a { ", "a", " }", 50)?;
-    refused_between(&rt, alloc, &blocks, 3, 300)?;
-    let comments = nested(alloc, "/*", "", "*/", 50)?;
-    refused_between(&rt, alloc, &comments, 1, 199)?;
-    let slashdashes = nested(alloc, "a/-{", "a", "}", 50)?;
-    refused_between(&rt, alloc, &slashdashes, 2, 250)
+    let blocks = nested(&rt, alloc, "a { ", "a", " }", 50);
+    refused_between(&rt, alloc, &blocks, 3, 300);
+    let comments = nested(&rt, alloc, "/*", "", "*/", 50);
+    refused_between(&rt, alloc, &comments, 1, 199);
+    let slashdashes = nested(&rt, alloc, "a/-{", "a", "}", 50);
+    refused_between(&rt, alloc, &slashdashes, 2, 250);
+}
+
+/// The front of this length is refused.
+fn refuses_front(rt: &impl Abort, alloc: Global, text: &str, len: usize) {
+    let front = text.get(..len).expect(rt, "no front");
+    assert!(rt; !is_read(rt, alloc, front), "{front:?}");
 }
 
 #[test]
-fn fronts_of_deep_texts(rt: HostRuntime) -> Result<(), Fail> {
+fn fronts_of_deep_texts(rt: HostRuntime) {
     let alloc = rt.alloc();
-    let blocks = nested(alloc, "a { ", "a", " }", 300)?;
-    let slashdashes = nested(alloc, "a /-{ ", "a", " }", 300)?;
+    let blocks = nested(&rt, alloc, "a { ", "a", " }", 300);
+    let slashdashes = nested(&rt, alloc, "a /-{ ", "a", " }", 300);
     for step in 1..60 {
-        let front = blocks.get(..30 * step).ok_or("no front")?;
-        assert!(rt; !is_read(&rt, alloc, front)?, "{front:?}");
-        let front = slashdashes.get(..40 * step).ok_or("no front")?;
-        assert!(rt; !is_read(&rt, alloc, front)?, "{front:?}");
+        refuses_front(&rt, alloc, &blocks, 30 * step);
+        refuses_front(&rt, alloc, &slashdashes, 40 * step);
     }
-    Ok(())
 }

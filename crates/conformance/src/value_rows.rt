@@ -1,17 +1,16 @@
 //! Values as arguments and properties of a node: numbers, keywords and strings, and what is none.
 
 use crate::reading::{
-    has_places, is_argument, is_called, is_string, is_whole, lone_entry, lone_node, nested, places,
-    read, refuse,
+    has_places, is_argument, is_called, is_string, is_whole, joined, lone_entry, lone_node, nested,
+    places, read, refuse,
 };
 use kdl::{KdlNode, KdlValue};
 use std::alloc::Global;
 use std::process::Abort;
-use std::test::Fail;
 
-fn check_numbers_and_keywords(rt: &impl Abort, node: &KdlNode) -> Result<(), Fail> {
+fn check_numbers_and_keywords(rt: &impl Abort, node: &KdlNode) {
     let [a, b, c, d, e, f, g] = node.entries() else {
-        return Err(Fail::from("not seven entries"));
+        panic!(rt; "not seven entries");
     };
     is_whole(rt, a, 31);
     is_whole(rt, b, -5);
@@ -22,18 +21,26 @@ fn check_numbers_and_keywords(rt: &impl Abort, node: &KdlNode) -> Result<(), Fai
     assert_eq!(rt; g.value().as_bool(), Some(false));
     has_places(rt, a, " ", "+0x1F", "");
     has_places(rt, d, " ", "#-inf", "");
-    Ok(())
 }
 
 #[test]
-fn numbers_and_keywords_behind_one_another(rt: HostRuntime) -> Result<(), Fail> {
+fn numbers_and_keywords_behind_one_another(rt: HostRuntime) {
     let text = "n +0x1F -0b101 0O17 #-inf #null #true #false";
-    let document = read(&rt, rt.alloc(), text)?;
-    check_numbers_and_keywords(&rt, lone_node(&rt, &document))
+    let document = read(&rt, rt.alloc(), text);
+    check_numbers_and_keywords(&rt, lone_node(&rt, &document));
+}
+
+/// The one entry of the node, of which the text behind it is the value, is a whole number.
+fn reads_whole(rt: &impl Abort, alloc: Global, node: &str, text: &str, value: i128) {
+    let document = read(rt, alloc, &joined(rt, alloc, node, text));
+    let entry = lone_entry(rt, lone_node(rt, &document));
+    assert_eq!(rt; entry.value().as_integer(), Some(value), "{node}{text}");
+    let (_, repr, _) = places(entry);
+    assert_eq!(rt; repr, text);
 }
 
 #[test]
-fn whole_numbers(rt: HostRuntime) -> Result<(), Fail> {
+fn whole_numbers(rt: HostRuntime) {
     let alloc = rt.alloc();
     let rows = [
         ("-170141183460469231731687303715884105728", i128::MIN),
@@ -49,35 +56,23 @@ fn whole_numbers(rt: HostRuntime) -> Result<(), Fail> {
     ];
     for (text, value) in rows {
         for pattern in ["n ", "n k=", "n (t)", "n k= (t) "] {
-            let document = read(&rt, alloc, &format!(in alloc; "{pattern}{text}")?)?;
-            let entry = lone_entry(&rt, lone_node(&rt, &document));
-            assert_eq!(rt; entry.value().as_integer(), Some(value), "{pattern}{text}");
-            let (_, repr, _) = places(entry);
-            assert_eq!(rt; repr, text);
+            reads_whole(&rt, alloc, pattern, text, value);
         }
     }
-    Ok(())
 }
 
 /// The one entry of the node, of which the text behind it is the value, is a float.
-fn reads_float(
-    rt: &impl Abort,
-    alloc: Global,
-    node: &str,
-    text: &str,
-    value: &str,
-) -> Result<(), Fail> {
-    let document = read(rt, alloc, &format!(in alloc; "{node}{text}")?)?;
+fn reads_float(rt: &impl Abort, alloc: Global, node: &str, text: &str, value: &str) {
+    let document = read(rt, alloc, &joined(rt, alloc, node, text));
     let entry = lone_entry(rt, lone_node(rt, &document));
-    let float = entry.value().as_float().ok_or("no float")?;
+    let float = entry.value().as_float().expect(rt, "no float");
     assert_eq!(rt; float.as_str(), value, "{node}{text}");
     let (_, repr, _) = places(entry);
     assert_eq!(rt; repr, text);
-    Ok(())
 }
 
 #[test]
-fn floats(rt: HostRuntime) -> Result<(), Fail> {
+fn floats(rt: HostRuntime) {
     let alloc = rt.alloc();
     let rows = [
         ("1_0.5E+3", "10.5E+3"),
@@ -95,11 +90,10 @@ fn floats(rt: HostRuntime) -> Result<(), Fail> {
         ("#nan", "#nan"),
     ];
     for (text, value) in rows {
-        reads_float(&rt, alloc, "n ", text, value)?;
-        reads_float(&rt, alloc, "n k=", text, value)?;
-        reads_float(&rt, alloc, "n (t)", text, value)?;
+        reads_float(&rt, alloc, "n ", text, value);
+        reads_float(&rt, alloc, "n k=", text, value);
+        reads_float(&rt, alloc, "n (t)", text, value);
     }
-    Ok(())
 }
 
 /// The strings of the table that are written on one line or many, with their values.
@@ -148,77 +142,93 @@ fn check_each_role(rt: &impl Abort, node: &KdlNode, text: &str, value: &str) {
     has_places(rt, entry, " ", text, "");
 }
 
+/// The text is read as a name, a key, a value and the types of a node and an entry; this is what it says.
+fn plays_each_role(rt: &impl Abort, alloc: Global, text: &str, value: &str) {
+    let whole = format!(in alloc; "({text}){text} {text}=({text}){text} {{}}").expect(rt, "memory");
+    let document = read(rt, alloc, &whole);
+    check_each_role(rt, lone_node(rt, &document), text, value);
+}
+
 #[test]
-fn strings_are_names_keys_types_and_values(rt: HostRuntime) -> Result<(), Fail> {
+fn strings_are_names_keys_types_and_values(rt: HostRuntime) {
     let alloc = rt.alloc();
     for (text, value) in STRINGS {
-        let whole = format!(in alloc; "({text}){text} {text}=({text}){text} {{}}")?;
-        let document = read(&rt, alloc, &whole)?;
-        check_each_role(&rt, lone_node(&rt, &document), text, value);
+        plays_each_role(&rt, alloc, text, value);
     }
-    Ok(())
 }
 
 #[test]
-fn a_long_raw_string(rt: HostRuntime) -> Result<(), Fail> {
+fn a_long_raw_string(rt: HostRuntime) {
     let alloc = rt.alloc();
-    let quotes = nested(alloc, "\"###", "", "", 1000)?;
-    let text = format!(in alloc; "####\"{quotes}\"####")?;
-    is_argument(&rt, alloc, &text, &quotes)
+    let quotes = nested(&rt, alloc, "\"###", "", "", 1000);
+    let text = format!(in alloc; "####\"{quotes}\"####").expect(&rt, "memory");
+    is_argument(&rt, alloc, &text, &quotes);
 }
 
 #[test]
-fn a_string_of_many_lines(rt: HostRuntime) -> Result<(), Fail> {
+fn a_string_of_many_lines(rt: HostRuntime) {
     let alloc = rt.alloc();
-    let newlines = nested(alloc, "\n", "", "", 999)?;
-    let spaces = nested(alloc, " ", "", "", 20)?;
-    let text = format!(in alloc; "\"\"\"\n\n{newlines}{spaces}\"\"\"")?;
+    let newlines = nested(&rt, alloc, "\n", "", "", 999);
+    let spaces = nested(&rt, alloc, " ", "", "", 20);
+    let text = format!(in alloc; "\"\"\"\n\n{newlines}{spaces}\"\"\"").expect(&rt, "memory");
     assert_eq!(rt; text.len(), 1027);
-    is_argument(&rt, alloc, &text, &newlines)
+    is_argument(&rt, alloc, &text, &newlines);
 }
 
 /// The value ends before the text behind it.
-fn ends_before(rt: &impl Abort, alloc: Global, value: &str, end: &str) -> Result<(), Fail> {
-    let document = read(rt, alloc, &format!(in alloc; "n {value}{end}")?)?;
+fn ends_before(rt: &impl Abort, alloc: Global, value: &str, end: &str) {
+    let text = format!(in alloc; "n {value}{end}").expect(rt, "memory");
+    let document = read(rt, alloc, &text);
     let (_, repr, _) = places(lone_entry(rt, lone_node(rt, &document)));
     assert_eq!(rt; repr, value, "{end:?}");
-    Ok(())
 }
 
 #[test]
-fn what_ends_a_value(rt: HostRuntime) -> Result<(), Fail> {
+fn what_ends_a_value(rt: HostRuntime) {
     let alloc = rt.alloc();
     for value in ["1", "1.5", "#true", "a", "\"a\"", "#\"a\"#"] {
-        ends_before(&rt, alloc, value, "")?;
-        ends_before(&rt, alloc, value, ";")?;
-        ends_before(&rt, alloc, value, "\n")?;
-        ends_before(&rt, alloc, value, " ")?;
-        ends_before(&rt, alloc, value, "//")?;
-        ends_before(&rt, alloc, value, "/**/")?;
-        ends_before(&rt, alloc, value, "/-b")?;
-        ends_before(&rt, alloc, value, "\\\n")?;
-        ends_before(&rt, alloc, value, "{}")?;
-        ends_before(&rt, alloc, value, "/-{}")?;
+        ends_before(&rt, alloc, value, "");
+        ends_before(&rt, alloc, value, ";");
+        ends_before(&rt, alloc, value, "\n");
+        ends_before(&rt, alloc, value, " ");
+        ends_before(&rt, alloc, value, "//");
+        ends_before(&rt, alloc, value, "/**/");
+        ends_before(&rt, alloc, value, "/-b");
+        ends_before(&rt, alloc, value, "\\\n");
+        ends_before(&rt, alloc, value, "{}");
+        ends_before(&rt, alloc, value, "/-{}");
     }
-    Ok(())
+}
+
+/// The two texts, one behind the other, are refused.
+fn refuse_joined(rt: &impl Abort, alloc: Global, front: &str, text: &str) {
+    refuse(rt, alloc, &joined(rt, alloc, front, text));
 }
 
 #[test]
-fn what_ends_no_value(rt: HostRuntime) -> Result<(), Fail> {
+fn what_ends_no_value(rt: HostRuntime) {
     let alloc = rt.alloc();
     for end in ["(", "[", "]", "\"", "#", "/", "\\x", ")", "="] {
-        refuse(&rt, alloc, &format!(in alloc; "n 1{end}")?);
-        refuse(&rt, alloc, &format!(in alloc; "n 1.5{end}")?);
-        refuse(&rt, alloc, &format!(in alloc; "n #true{end}")?);
-        refuse(&rt, alloc, &format!(in alloc; "n a{end}")?);
-        refuse(&rt, alloc, &format!(in alloc; "n \"a\"{end}")?);
-        refuse(&rt, alloc, &format!(in alloc; "n #\"a\"#{end}")?);
+        refuse_joined(&rt, alloc, "n 1", end);
+        refuse_joined(&rt, alloc, "n 1.5", end);
+        refuse_joined(&rt, alloc, "n #true", end);
+        refuse_joined(&rt, alloc, "n a", end);
+        refuse_joined(&rt, alloc, "n \"a\"", end);
+        refuse_joined(&rt, alloc, "n #\"a\"#", end);
     }
-    Ok(())
+}
+
+/// The text is refused as an argument, as the value of a property, behind `/-`, and in a block.
+fn is_no_value(rt: &impl Abort, alloc: Global, text: &str) {
+    refuse_joined(rt, alloc, "n ", text);
+    refuse_joined(rt, alloc, "n k=", text);
+    refuse_joined(rt, alloc, "n /-", text);
+    let block = format!(in alloc; "n {{ m {text}\n}}").expect(rt, "memory");
+    refuse(rt, alloc, &block);
 }
 
 #[test]
-fn what_is_no_value(rt: HostRuntime) -> Result<(), Fail> {
+fn what_is_no_value(rt: HostRuntime) {
     let alloc = rt.alloc();
     let texts = [
         "170141183460469231731687303715884105728",
@@ -276,12 +286,8 @@ fn what_is_no_value(rt: HostRuntime) -> Result<(), Fail> {
         "a[",
     ];
     for text in texts {
-        refuse(&rt, alloc, &format!(in alloc; "n {text}")?);
-        refuse(&rt, alloc, &format!(in alloc; "n k={text}")?);
-        refuse(&rt, alloc, &format!(in alloc; "n /-{text}")?);
-        refuse(&rt, alloc, &format!(in alloc; "n {{ m {text}\n}}")?);
+        is_no_value(&rt, alloc, text);
     }
-    Ok(())
 }
 
 #[test]
@@ -323,21 +329,26 @@ fn what_is_no_node(rt: HostRuntime) {
     }
 }
 
+/// The text is one argument of a node, and this is its value.
+fn has_value(rt: &impl Abort, alloc: Global, text: &str, value: &KdlValue) {
+    let document = read(rt, alloc, &joined(rt, alloc, "n ", text));
+    let entry = lone_entry(rt, lone_node(rt, &document));
+    assert!(rt; entry.value() == value, "{text}");
+}
+
+/// The text is one argument of a node, and the value of this string is its value.
+fn has_string_value(rt: &impl Abort, alloc: Global, text: &str, value: &str) {
+    let value = KdlValue::from_text(alloc, value).expect(rt, "memory");
+    has_value(rt, alloc, text, &value);
+}
+
 #[test]
-fn a_value_keeps_its_kind(rt: HostRuntime) -> Result<(), Fail> {
+fn a_value_keeps_its_kind(rt: HostRuntime) {
     let alloc = rt.alloc();
-    let rows = [
-        ("\"1\"", KdlValue::from_text(alloc, "1")?),
-        ("\"true\"", KdlValue::from_text(alloc, "true")?),
-        ("#\"null\"#", KdlValue::from_text(alloc, "null")?),
-        ("#true", KdlValue::from(true)),
-        ("0x10", KdlValue::from(16)),
-        ("#null", KdlValue::Null),
-    ];
-    for (text, value) in &rows {
-        let document = read(&rt, alloc, &format!(in alloc; "n {text}")?)?;
-        let entry = lone_entry(&rt, lone_node(&rt, &document));
-        assert!(rt; entry.value() == value, "{text}");
-    }
-    Ok(())
+    has_string_value(&rt, alloc, "\"1\"", "1");
+    has_string_value(&rt, alloc, "\"true\"", "true");
+    has_string_value(&rt, alloc, "#\"null\"#", "null");
+    has_value(&rt, alloc, "#true", &KdlValue::from(true));
+    has_value(&rt, alloc, "0x10", &KdlValue::from(16));
+    has_value(&rt, alloc, "#null", &KdlValue::Null);
 }

@@ -1,8 +1,8 @@
 //! A whole document with blocks, read into its parts.
 
 use crate::reading::{
-    block, has_around_block, has_ends, has_margins, has_places, is_called, is_range, lone_entry,
-    read,
+    block, has_around_block, has_ends, has_margins, has_places, is_called, is_range, is_string,
+    is_whole, lone_entry, read,
 };
 use kdl::{KdlDocument, KdlNode, ParseFailure};
 use std::process::Abort;
@@ -13,45 +13,44 @@ const TEXT: &str =
     "\nhello 1 2 3\n\n// Comment\nworld prop=string-value {\n    child 1\n    child 2\n    child #inf\n}\n";
 
 /// The node with a property and three children.
-fn is_world(rt: &impl Abort, world: &KdlNode) -> Result<(), Fail> {
+fn is_world(rt: &impl Abort, world: &KdlNode) {
     has_ends(rt, world, "\n// Comment\n", "", "\n");
     has_around_block(rt, world, " ", "");
     let prop = lone_entry(rt, world);
     is_called(rt, prop.name(), "prop");
-    assert_eq!(rt; prop.value().as_string(), Some("string-value"));
+    is_string(rt, prop, "string-value");
     let children = block(rt, world);
     has_margins(rt, children, "", "");
     let [one, two, three] = children.nodes() else {
-        return Err(Fail::from("not three children"));
+        panic!(rt; "not three children");
     };
     has_ends(rt, one, "\n    ", "", "\n");
     has_ends(rt, three, "    ", "", "\n");
-    assert_eq!(rt; lone_entry(rt, one).value().as_integer(), Some(1));
-    assert_eq!(rt; lone_entry(rt, two).value().as_integer(), Some(2));
+    is_whole(rt, lone_entry(rt, one), 1);
+    is_whole(rt, lone_entry(rt, two), 2);
     let float = lone_entry(rt, three).value().as_float();
     assert_eq!(rt; float.map(|f| f.as_str()), Some("#inf"));
-    Ok(())
 }
 
 #[test]
-fn two_nodes_and_three_children(rt: HostRuntime) -> Result<(), Fail> {
-    let document = read(&rt, rt.alloc(), TEXT)?;
+fn two_nodes_and_three_children(rt: HostRuntime) {
+    let document = read(&rt, rt.alloc(), TEXT);
     has_margins(&rt, &document, "", "");
     let [hello, world] = document.nodes() else {
-        return Err(Fail::from("not two nodes"));
+        panic!(rt; "not two nodes");
     };
-    assert_eq!(rt; hello.name().value(), "hello");
+    is_called(&rt, Some(hello.name()), "hello");
     has_ends(&rt, hello, "\n", "", "\n");
     is_range(&rt, hello.span(), 1, 12);
     let [one, two, three] = hello.entries() else {
-        return Err(Fail::from("not three entries"));
+        panic!(rt; "not three entries");
     };
-    assert_eq!(rt; one.value().as_integer(), Some(1));
-    assert_eq!(rt; two.value().as_integer(), Some(2));
-    assert_eq!(rt; three.value().as_integer(), Some(3));
+    is_whole(&rt, one, 1);
+    is_whole(&rt, two, 2);
+    is_whole(&rt, three, 3);
     has_places(&rt, three, " ", "3", "");
-    assert_eq!(rt; world.name().value(), "world");
-    is_world(&rt, world)
+    is_called(&rt, Some(world.name()), "world");
+    is_world(&rt, world);
 }
 
 /// The text of the parsed document, or none for want of memory.

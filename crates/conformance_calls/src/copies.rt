@@ -7,136 +7,224 @@ use kdl::{
 use std::alloc::Global;
 use std::process::Abort;
 use std::rc::RcStr;
-use std::test::Fail;
 
 const SPAN: SourceSpan = SourceSpan { offset: 3, len: 2 };
 
-fn text(alloc: Global, text: &str) -> Result<String, Fail> {
-    Ok(String::from_str(alloc, text)?)
+/// The text, owned.
+fn text(rt: &impl Abort, alloc: Global, text: &str) -> String {
+    String::from_str(alloc, text).expect(rt, "memory")
 }
 
 /// An identifier with a spelling and a span.
-fn spelled(alloc: Global, value: &str, repr: &str) -> Result<KdlIdentifier, Fail> {
-    let mut identifier = KdlIdentifier::from_text(alloc, value)?;
-    identifier.set_repr(text(alloc, repr)?);
+fn spelled(rt: &impl Abort, alloc: Global, value: &str, repr: &str) -> KdlIdentifier {
+    let mut identifier = KdlIdentifier::from_text(alloc, value).expect(rt, "memory");
+    identifier.set_repr(text(rt, alloc, repr));
     identifier.set_span(SPAN);
-    Ok(identifier)
+    identifier
 }
 
 /// The texts around the value of the entry below.
-fn format(alloc: Global) -> Result<KdlEntryFormat, Fail> {
+fn format(rt: &impl Abort, alloc: Global) -> KdlEntryFormat {
     let mut format = KdlEntryFormat::new(alloc);
-    format.leading.push_str(" \\\n ")?;
-    format.value_repr.push_str("0xDEADbeef")?;
-    format.trailing.push_str("\t\\\n")?;
-    Ok(format)
+    format.leading.push_str(" \\\n ").expect(rt, "memory");
+    format
+        .value_repr
+        .push_str("0xDEADbeef")
+        .expect(rt, "memory");
+    format.trailing.push_str("\t\\\n").expect(rt, "memory");
+    format
 }
 
 /// The entry ` \⏎ "foo"=("m\"eh")0xDEADbeef⇥\⏎`, where ⏎ is a newline and ⇥ a tab.
-fn property(alloc: Global) -> Result<KdlEntry, Fail> {
-    let key = spelled(alloc, "foo", "\"foo\"")?;
-    let ty = spelled(alloc, "m\"eh", "\"m\\\"eh\"")?;
-    let format = format(alloc)?;
+fn property(rt: &impl Abort, alloc: Global) -> KdlEntry {
+    let key = spelled(rt, alloc, "foo", "\"foo\"");
+    let ty = spelled(rt, alloc, "m\"eh", "\"m\\\"eh\"");
+    let format = format(rt, alloc);
     let mut entry = KdlEntry::new_prop(key, KdlValue::from(3735928559));
     entry.set_ty(ty);
     entry.set_format(format);
     entry.set_span(SourceSpan { offset: 0, len: 32 });
-    Ok(entry)
+    entry
+}
+
+/// The float prints this text.
+fn float_prints(rt: &impl Abort, alloc: Global, float: &KdlFloat, text: &str) {
+    let printed = float.to_string(alloc).expect(rt, "memory");
+    assert_eq!(rt; printed.as_str(), text);
+}
+
+/// The value prints this text.
+fn value_prints(rt: &impl Abort, alloc: Global, value: &KdlValue, text: &str) {
+    let printed = value.to_string(alloc).expect(rt, "memory");
+    assert_eq!(rt; printed.as_str(), text);
+}
+
+/// The identifier prints this text.
+fn name_prints(rt: &impl Abort, alloc: Global, name: &KdlIdentifier, text: &str) {
+    let printed = name.to_string(alloc).expect(rt, "memory");
+    assert_eq!(rt; printed.as_str(), text);
+}
+
+/// The entry prints this text.
+fn entry_prints(rt: &impl Abort, alloc: Global, entry: &KdlEntry, text: &str) {
+    let printed = entry.to_string(alloc).expect(rt, "memory");
+    assert_eq!(rt; printed.as_str(), text);
+}
+
+/// The node prints this text.
+fn node_prints(rt: &impl Abort, alloc: Global, node: &KdlNode, text: &str) {
+    let printed = node.to_string(alloc).expect(rt, "memory");
+    assert_eq!(rt; printed.as_str(), text);
+}
+
+/// The diagnostic prints this text.
+fn diagnostic_prints(rt: &impl Abort, alloc: Global, diagnostic: &KdlDiagnostic, text: &str) {
+    let printed = diagnostic.to_string(alloc).expect(rt, "memory");
+    assert_eq!(rt; printed.as_str(), text);
+}
+
+/// The failure prints this text.
+fn failure_prints(rt: &impl Abort, alloc: Global, failure: &ParseFailure, text: &str) {
+    let printed = failure.to_string(alloc).expect(rt, "memory");
+    assert_eq!(rt; printed.as_str(), text);
+}
+
+/// A copy of the float equals it and has this text, which the float prints.
+fn float_is_copied(rt: &impl Abort, alloc: Global, float: &KdlFloat, text: &str) {
+    let copy = float.clone().expect(rt, "memory");
+    assert!(rt; copy == *float);
+    assert_eq!(rt; copy.as_str(), text);
+    float_prints(rt, alloc, float, text);
+}
+
+/// A copy of the value equals it, and prints this text.
+fn value_is_copied(rt: &impl Abort, alloc: Global, value: &KdlValue, text: &str) {
+    let copy = value.clone().expect(rt, "memory");
+    assert!(rt; copy == *value);
+    value_prints(rt, alloc, &copy, text);
 }
 
 #[test]
-fn values_are_copied(rt: HostRuntime) -> Result<(), Fail> {
+fn values_are_copied(rt: HostRuntime) {
     let alloc = rt.alloc();
-    let float = KdlFloat::new(alloc, "1.03e2")?;
-    let copy = float.clone()?;
-    assert!(rt; copy == float);
-    assert_eq!(rt; copy.as_str(), "1.03e2");
-    assert_eq!(rt; float.to_string(alloc)?.as_str(), "1.03e2");
-    let values = vec![in alloc;
-        KdlValue::from_text(alloc, "a b")?,
-        KdlValue::from(-7),
-        KdlValue::from(float),
-        KdlValue::from(true),
-        KdlValue::Null,
-    ]?;
-    let printed = ["\"a b\"", "-7", "1.03e2", "#true", "#null"];
-    for (value, text) in values.iter().zip(&printed) {
-        let copy = value.clone()?;
-        assert!(rt; copy == *value);
-        assert_eq!(rt; copy.to_string(alloc)?.as_str(), *text);
-    }
-    Ok(())
+    let float = KdlFloat::new(alloc, "1.03e2").expect(&rt, "no float");
+    float_is_copied(&rt, alloc, &float, "1.03e2");
+    let string = KdlValue::from_text(alloc, "a b").expect(&rt, "memory");
+    value_is_copied(&rt, alloc, &string, "\"a b\"");
+    value_is_copied(&rt, alloc, &KdlValue::from(-7), "-7");
+    value_is_copied(&rt, alloc, &KdlValue::from(float), "1.03e2");
+    value_is_copied(&rt, alloc, &KdlValue::from(true), "#true");
+    value_is_copied(&rt, alloc, &KdlValue::Null, "#null");
 }
 
-#[test]
-fn texts_become_values_and_identifiers(rt: HostRuntime) -> Result<(), Fail> {
-    let alloc = rt.alloc();
-    let value = KdlValue::from(text(alloc, "a b")?);
-    assert_eq!(rt; value.as_string(), Some("a b"));
-    assert!(rt; value == KdlValue::from_text(alloc, "a b")?);
-    let name = KdlIdentifier::from(text(alloc, "a b")?);
-    assert_eq!(rt; name.value(), "a b");
+/// The value is this string, as the value made of a text is.
+fn is_value_of(rt: &impl Abort, alloc: Global, value: &KdlValue, text: &str) {
+    assert_eq!(rt; value.as_string(), Some(text));
+    let other = KdlValue::from_text(alloc, text).expect(rt, "memory");
+    assert!(rt; *value == other);
+}
+
+/// The identifier has this value and no spelling, and prints this text.
+fn is_plain(rt: &impl Abort, alloc: Global, name: &KdlIdentifier, value: &str, printed: &str) {
+    assert_eq!(rt; name.value(), value);
     assert!(rt; name.repr().is_none());
-    assert_eq!(rt; name.to_string(alloc)?.as_str(), "\"a b\"");
-    let back = String::from(spelled(alloc, "a b", "\"a\\sb\"")?);
-    assert_eq!(rt; back.as_str(), "a b");
-    Ok(())
+    name_prints(rt, alloc, name, printed);
+}
+
+/// The identifier becomes this text.
+fn becomes(rt: &impl Abort, name: KdlIdentifier, text: &str) {
+    let back = String::from(name);
+    assert_eq!(rt; back.as_str(), text);
 }
 
 #[test]
-fn identifiers_are_copied(rt: HostRuntime) -> Result<(), Fail> {
+fn texts_become_values_and_identifiers(rt: HostRuntime) {
     let alloc = rt.alloc();
-    let name = spelled(alloc, "a b", "\"a\\sb\"")?;
-    let copy = name.clone()?;
-    assert!(rt; copy == name);
+    let value = KdlValue::from(text(&rt, alloc, "a b"));
+    is_value_of(&rt, alloc, &value, "a b");
+    let name = KdlIdentifier::from(text(&rt, alloc, "a b"));
+    is_plain(&rt, alloc, &name, "a b", "\"a b\"");
+    becomes(&rt, spelled(&rt, alloc, "a b", "\"a\\sb\""), "a b");
+}
+
+fn check_identifiers_are_copied(
+    rt: &impl Abort,
+    alloc: Global,
+    name: &KdlIdentifier,
+    copy: &KdlIdentifier,
+) {
+    assert!(rt; *copy == *name);
     assert_eq!(rt; copy.value(), "a b");
     assert_eq!(rt; copy.repr(), Some("\"a\\sb\""));
     assert_eq!(rt; copy.span(), SPAN);
-    assert_eq!(rt; copy.to_string(alloc)?.as_str(), "\"a\\sb\"");
-    assert_eq!(rt; copy.len(alloc)?, 6);
-    let blank = spelled(alloc, "a", "")?;
-    assert!(rt; blank.is_empty(alloc)?);
-    assert_eq!(rt; blank.len(alloc)?, 0);
-    Ok(())
+    name_prints(rt, alloc, copy, "\"a\\sb\"");
+    assert_eq!(rt; copy.len(alloc).expect(rt, "memory"), 6);
 }
 
-fn check_entries_are_copied(
-    rt: &impl Abort,
-    alloc: Global,
-    entry: &KdlEntry,
-    copy: &KdlEntry,
-) -> Result<(), Fail> {
-    assert!(rt; *copy == *entry);
-    let printed = " \\\n \"foo\"=(\"m\\\"eh\")0xDEADbeef\t\\\n";
-    assert_eq!(rt; copy.to_string(alloc)?.as_str(), printed);
-    assert_eq!(rt; copy.len(alloc)?, 32);
-    assert_eq!(rt; copy.span(), SourceSpan { offset: 0, len: 32 });
-    assert_eq!(rt; copy.name().map(|name| name.value()), Some("foo"));
-    assert_eq!(rt; copy.ty().map(|ty| ty.value()), Some("m\"eh"));
-    let format = copy.format().ok_or("no format")?;
-    let again = format.clone()?;
+/// The identifier prints nothing.
+fn is_blank(rt: &impl Abort, alloc: Global, name: &KdlIdentifier) {
+    assert!(rt; name.is_empty(alloc).expect(rt, "memory"));
+    assert_eq!(rt; name.len(alloc).expect(rt, "memory"), 0);
+}
+
+#[test]
+fn identifiers_are_copied(rt: HostRuntime) {
+    let alloc = rt.alloc();
+    let name = spelled(&rt, alloc, "a b", "\"a\\sb\"");
+    let copy = name.clone().expect(&rt, "memory");
+    check_identifiers_are_copied(&rt, alloc, &name, &copy);
+    is_blank(&rt, alloc, &spelled(&rt, alloc, "a", ""));
+}
+
+/// A copy of the format equals it, and has the texts of the entry above.
+fn format_of_the_property_is_copied(rt: &impl Abort, format: &KdlEntryFormat) {
+    let again = format.clone().expect(rt, "memory");
     assert!(rt; again == *format);
     assert_eq!(rt; again.leading.as_str(), " \\\n ");
     assert_eq!(rt; again.trailing.as_str(), "\t\\\n");
     assert_eq!(rt; again.value_repr.as_str(), "0xDEADbeef");
-    Ok(())
+}
+
+fn check_entries_are_copied(rt: &impl Abort, alloc: Global, entry: &KdlEntry, copy: &KdlEntry) {
+    assert!(rt; *copy == *entry);
+    let printed = " \\\n \"foo\"=(\"m\\\"eh\")0xDEADbeef\t\\\n";
+    entry_prints(rt, alloc, copy, printed);
+    assert_eq!(rt; copy.len(alloc).expect(rt, "memory"), 32);
+    assert_eq!(rt; copy.span(), SourceSpan { offset: 0, len: 32 });
+    assert_eq!(rt; copy.name().map(|name| name.value()), Some("foo"));
+    assert_eq!(rt; copy.ty().map(|ty| ty.value()), Some("m\"eh"));
+    let format = copy.format().expect(rt, "no format");
+    format_of_the_property_is_copied(rt, format);
 }
 
 #[test]
-fn entries_are_copied(rt: HostRuntime) -> Result<(), Fail> {
+fn entries_are_copied(rt: HostRuntime) {
     let alloc = rt.alloc();
-    let entry = property(alloc)?;
-    check_entries_are_copied(&rt, alloc, &entry, &entry.clone()?)
+    let entry = property(&rt, alloc);
+    let copy = entry.clone().expect(&rt, "memory");
+    check_entries_are_copied(&rt, alloc, &entry, &copy);
+}
+
+fn check_an_entry_whose_format_is_empty(rt: &impl Abort, alloc: Global, blank: &mut KdlEntry) {
+    assert!(rt; !blank.is_empty(alloc).expect(rt, "memory"));
+    blank.set_format(KdlEntryFormat::new(alloc));
+    assert!(rt; blank.is_empty(alloc).expect(rt, "memory"));
 }
 
 #[test]
-fn an_entry_whose_format_is_empty(rt: HostRuntime) -> Result<(), Fail> {
+fn an_entry_whose_format_is_empty(rt: HostRuntime) {
     let alloc = rt.alloc();
     let mut blank = KdlEntry::new(KdlValue::Null);
-    assert!(rt; !blank.is_empty(alloc)?);
-    blank.set_format(KdlEntryFormat::new(alloc));
-    assert!(rt; blank.is_empty(alloc)?);
-    Ok(())
+    check_an_entry_whose_format_is_empty(&rt, alloc, &mut blank);
+}
+
+/// A copy of the format has the texts of the node below, and is no new format.
+fn format_of_the_node_is_copied(rt: &impl Abort, alloc: Global, format: &KdlNodeFormat) {
+    let format = format.clone().expect(rt, "memory");
+    assert_eq!(rt; format.leading.as_str(), " \n");
+    assert_eq!(rt; format.before_terminator.as_str(), " ");
+    assert_eq!(rt; format.terminator.as_str(), ";");
+    assert!(rt; format != KdlNodeFormat::new(alloc));
 }
 
 fn check_nodes_and_their_formats_are_copied(
@@ -144,64 +232,73 @@ fn check_nodes_and_their_formats_are_copied(
     alloc: Global,
     node: &KdlNode,
     copy: &KdlNode,
-) -> Result<(), Fail> {
+) {
     assert!(rt; *copy == *node);
-    assert_eq!(rt; copy.to_string(alloc)?.as_str(), " \n\"a b\"  1 ;");
-    let format = copy.format().ok_or("no format")?.clone()?;
-    assert_eq!(rt; format.leading.as_str(), " \n");
-    assert_eq!(rt; format.before_terminator.as_str(), " ");
-    assert_eq!(rt; format.terminator.as_str(), ";");
-    assert!(rt; format != KdlNodeFormat::new(alloc));
-    Ok(())
+    node_prints(rt, alloc, copy, " \n\"a b\"  1 ;");
+    let format = copy.format().expect(rt, "no format");
+    format_of_the_node_is_copied(rt, alloc, format);
+}
+
+/// The node of a text.
+fn node(rt: &impl Abort, alloc: Global, text: &str) -> KdlNode {
+    match KdlNode::parse(alloc, text) {
+        Ok(node) => node,
+        Err(_) => panic!(rt; "{text:?} is refused"),
+    }
 }
 
 #[test]
-fn nodes_and_their_formats_are_copied(rt: HostRuntime) -> Result<(), Fail> {
+fn nodes_and_their_formats_are_copied(rt: HostRuntime) {
     let alloc = rt.alloc();
-    let node = KdlNode::parse(alloc, " \n\"a b\"  1 ;")?;
-    check_nodes_and_their_formats_are_copied(&rt, alloc, &node, &node.clone()?)
+    let node = node(&rt, alloc, " \n\"a b\"  1 ;");
+    let copy = node.clone().expect(&rt, "memory");
+    check_nodes_and_their_formats_are_copied(&rt, alloc, &node, &copy);
 }
 
-fn check_formats_of_documents_are_copied(
-    rt: &impl Abort,
-    alloc: Global,
-    document: &KdlDocument,
-) -> Result<(), Fail> {
-    let around = document.format().ok_or("no format")?.clone()?;
+fn check_formats_of_documents_are_copied(rt: &impl Abort, alloc: Global, document: &KdlDocument) {
+    let format = document.format().expect(rt, "no format");
+    let around = format.clone().expect(rt, "memory");
     assert_eq!(rt; around.leading.as_str(), "");
     assert_eq!(rt; around.trailing.as_str(), "\n");
     assert!(rt; around != KdlDocumentFormat::new(alloc));
-    Ok(())
+}
+
+/// The document of a text.
+fn document(rt: &impl Abort, alloc: Global, text: &str) -> KdlDocument {
+    match KdlDocument::parse(alloc, text) {
+        Ok(document) => document,
+        Err(_) => panic!(rt; "{text:?} is refused"),
+    }
 }
 
 #[test]
-fn formats_of_documents_are_copied(rt: HostRuntime) -> Result<(), Fail> {
+fn formats_of_documents_are_copied(rt: HostRuntime) {
     let alloc = rt.alloc();
-    check_formats_of_documents_are_copied(&rt, alloc, &KdlDocument::parse(alloc, "n ;\n")?)
+    check_formats_of_documents_are_copied(&rt, alloc, &document(&rt, alloc, "n ;\n"));
 }
 
 /// A diagnostic of a text, with all its parts.
-fn diagnostic(alloc: Global) -> Result<KdlDiagnostic, Fail> {
-    let input = RcStr::from_str(alloc, "n }")?;
-    let message = text(alloc, "message")?;
-    let label = text(alloc, "label")?;
-    let help = text(alloc, "help")?;
-    Ok(KdlDiagnostic {
+fn diagnostic(rt: &impl Abort, alloc: Global) -> KdlDiagnostic {
+    let input = RcStr::from_str(alloc, "n }").expect(rt, "memory");
+    let message = text(rt, alloc, "message");
+    let label = text(rt, alloc, "label");
+    let help = text(rt, alloc, "help");
+    KdlDiagnostic {
         input,
         span: SPAN,
         message: Some(message),
         label: Some(label),
         help: Some(help),
         severity: Severity::Warning,
-    })
+    }
 }
 
 /// An error with that diagnostic alone.
-fn error(alloc: Global) -> Result<KdlError, Fail> {
-    let diagnostic = diagnostic(alloc)?;
-    let input = diagnostic.input.clone()?;
-    let diagnostics = vec![in alloc; diagnostic]?;
-    Ok(KdlError { input, diagnostics })
+fn error(rt: &impl Abort, alloc: Global) -> KdlError {
+    let diagnostic = diagnostic(rt, alloc);
+    let input = diagnostic.input.clone().expect(rt, "memory");
+    let diagnostics = vec![in alloc; diagnostic].expect(rt, "memory");
+    KdlError { input, diagnostics }
 }
 
 fn check_diagnostics_are_copied(
@@ -209,41 +306,50 @@ fn check_diagnostics_are_copied(
     alloc: Global,
     diagnostic: &mut KdlDiagnostic,
     copy: &KdlDiagnostic,
-) -> Result<(), Fail> {
+) {
     assert!(rt; *copy == *diagnostic);
-    assert_eq!(rt; copy.to_string(alloc)?.as_str(), "message");
+    diagnostic_prints(rt, alloc, copy, "message");
     assert_eq!(rt; copy.input.as_str(), "n }");
     assert_eq!(rt; copy.severity, Severity::Warning);
     diagnostic.span = SourceSpan { offset: 3, len: 1 };
     assert!(rt; *copy != *diagnostic, "spans are compared");
-    Ok(())
 }
 
 #[test]
-fn diagnostics_are_copied(rt: HostRuntime) -> Result<(), Fail> {
+fn diagnostics_are_copied(rt: HostRuntime) {
     let alloc = rt.alloc();
-    let mut diagnostic = diagnostic(alloc)?;
-    let copy = diagnostic.clone()?;
-    check_diagnostics_are_copied(&rt, alloc, &mut diagnostic, &copy)
+    let mut diagnostic = diagnostic(&rt, alloc);
+    let copy = diagnostic.clone().expect(&rt, "memory");
+    check_diagnostics_are_copied(&rt, alloc, &mut diagnostic, &copy);
 }
 
-#[test]
-fn errors_are_copied(rt: HostRuntime) -> Result<(), Fail> {
-    let error = error(rt.alloc())?;
-    let copy = error.clone()?;
-    assert!(rt; copy == error);
+fn check_errors_are_copied(rt: &impl Abort, error: &KdlError, copy: &KdlError) {
+    assert!(rt; *copy == *error);
     assert_eq!(rt; copy.diagnostics.len(), 1);
-    Ok(())
 }
 
 #[test]
-fn failures_are_copied(rt: HostRuntime) -> Result<(), Fail> {
+fn errors_are_copied(rt: HostRuntime) {
+    let error = error(&rt, rt.alloc());
+    let copy = error.clone().expect(&rt, "memory");
+    check_errors_are_copied(&rt, &error, &copy);
+}
+
+fn check_failures_are_copied(
+    rt: &impl Abort,
+    alloc: Global,
+    failure: &ParseFailure,
+    copy: &ParseFailure,
+) {
+    assert!(rt; *copy == *failure);
+    assert!(rt; *copy != ParseFailure::Memory);
+    failure_prints(rt, alloc, copy, "Failed to parse KDL document");
+}
+
+#[test]
+fn failures_are_copied(rt: HostRuntime) {
     let alloc = rt.alloc();
-    let failure = ParseFailure::Syntax(error(alloc)?);
-    let copy = failure.clone()?;
-    assert!(rt; copy == failure);
-    assert!(rt; copy != ParseFailure::Memory);
-    let printed = copy.to_string(alloc)?;
-    assert_eq!(rt; printed.as_str(), "Failed to parse KDL document");
-    Ok(())
+    let failure = ParseFailure::Syntax(error(&rt, alloc));
+    let copy = failure.clone().expect(&rt, "memory");
+    check_failures_are_copied(&rt, alloc, &failure, &copy);
 }

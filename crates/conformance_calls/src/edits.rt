@@ -4,71 +4,100 @@ use crate::callers::{insert_argument, insert_first, property, remove_argument, s
 use kdl::{KdlDocument, KdlEntry, KdlIdentifier, KdlNode, KdlValue, NodeKey};
 use std::alloc::Global;
 use std::process::Abort;
-use std::test::Fail;
+
+/// The document of a text.
+fn read(rt: &impl Abort, alloc: Global, text: &str) -> KdlDocument {
+    match KdlDocument::parse(alloc, text) {
+        Ok(document) => document,
+        Err(_) => panic!(rt; "{text:?} is refused"),
+    }
+}
 
 /// A copy of the one node of the text.
-fn node(alloc: Global, text: &str) -> Result<KdlNode, Fail> {
-    let document = KdlDocument::parse(alloc, text)?;
+fn node(rt: &impl Abort, alloc: Global, text: &str) -> KdlNode {
+    let document = read(rt, alloc, text);
     let [node] = document.nodes() else {
-        return Err(Fail::from("not one node"));
+        panic!(rt; "not one node");
     };
-    Ok(node.clone()?)
+    node.clone().expect(rt, "memory")
 }
 
 /// A new node of that name.
-fn built(alloc: Global, name: &str) -> Result<KdlNode, Fail> {
-    Ok(KdlNode::new(KdlIdentifier::from_text(alloc, name)?)?)
+fn built(rt: &impl Abort, alloc: Global, name: &str) -> KdlNode {
+    let name = KdlIdentifier::from_text(alloc, name).expect(rt, "memory");
+    KdlNode::new(name).expect(rt, "memory")
 }
 
-fn prints(rt: &impl Abort, alloc: Global, node: &KdlNode, text: &str) -> Result<(), Fail> {
-    assert_eq!(rt; node.to_string(alloc)?.as_str(), text);
-    Ok(())
+/// The value of a string.
+fn string(rt: &impl Abort, alloc: Global, text: &str) -> KdlValue {
+    KdlValue::from_text(alloc, text).expect(rt, "memory")
 }
 
-/// Puts the value in under the name, and gives what was handed back, as it prints.
-fn set(alloc: Global, node: &mut KdlNode, name: &str, value: KdlValue) -> Result<String, Fail> {
-    let key = KdlIdentifier::from_text(alloc, name)?;
-    match node.insert(NodeKey::Key(key), KdlEntry::new(value)) {
-        Ok(Some(old)) => Ok(old.to_string(alloc)?),
-        Ok(None) => Ok(String::new(alloc)),
-        Err(_) => Err(Fail::from("no memory")),
+/// The node prints this text.
+fn prints(rt: &impl Abort, alloc: Global, node: &KdlNode, text: &str) {
+    let printed = node.to_string(alloc).expect(rt, "memory");
+    assert_eq!(rt; printed.as_str(), text);
+}
+
+/// The entry prints this text; where there is none, the text is empty.
+fn old_prints(rt: &impl Abort, alloc: Global, old: Option<&KdlEntry>, text: &str) {
+    match old {
+        Some(old) => {
+            let printed = old.to_string(alloc).expect(rt, "memory");
+            assert_eq!(rt; printed.as_str(), text);
+        }
+        None => assert_eq!(rt; "", text),
     }
 }
 
-/// Takes out the first property of that name, and gives it, as it prints.
-fn take(alloc: Global, node: &mut KdlNode, name: &str) -> Result<String, Fail> {
-    match node.remove(NodeKey::from_text(alloc, name)?) {
-        Some(old) => Ok(old.to_string(alloc)?),
-        None => Ok(String::new(alloc)),
-    }
-}
-
-fn add(node: &mut KdlNode, value: KdlValue) -> Result<(), Fail> {
-    match node.push(KdlEntry::new(value)) {
-        Ok(()) => Ok(()),
-        Err(_) => Err(Fail::from("no memory")),
-    }
-}
-
-/// Puts a property behind the other entries.
-fn add_property(
+/// Puts the value in under the name, and what was handed back prints this text.
+fn sets(
+    rt: &impl Abort,
     alloc: Global,
     node: &mut KdlNode,
     name: &str,
     value: KdlValue,
-) -> Result<(), Fail> {
-    let key = KdlIdentifier::from_text(alloc, name)?;
-    match node.push(KdlEntry::new_prop(key, value)) {
-        Ok(()) => Ok(()),
-        Err(_) => Err(Fail::from("no memory")),
+    text: &str,
+) {
+    let key = KdlIdentifier::from_text(alloc, name).expect(rt, "memory");
+    match node.insert(NodeKey::Key(key), KdlEntry::new(value)) {
+        Ok(old) => old_prints(rt, alloc, old.as_ref(), text),
+        Err(_) => panic!(rt; "memory"),
     }
 }
 
-fn add_argument(node: &mut KdlNode, index: usize, value: KdlValue) -> Result<(), Fail> {
+/// Takes out the first property of that name, which prints this text.
+fn takes(rt: &impl Abort, alloc: Global, node: &mut KdlNode, name: &str, text: &str) {
+    let Ok(key) = NodeKey::from_text(alloc, name) else {
+        panic!(rt; "memory");
+    };
+    let old = node.remove(key);
+    old_prints(rt, alloc, old.as_ref(), text);
+}
+
+/// Puts an argument behind the other entries.
+fn add(rt: &impl Abort, node: &mut KdlNode, value: KdlValue) {
+    match node.push(KdlEntry::new(value)) {
+        Ok(()) => (),
+        Err(_) => panic!(rt; "memory"),
+    }
+}
+
+/// Puts a property behind the other entries.
+fn add_property(rt: &impl Abort, alloc: Global, node: &mut KdlNode, name: &str, value: KdlValue) {
+    let key = KdlIdentifier::from_text(alloc, name).expect(rt, "memory");
+    match node.push(KdlEntry::new_prop(key, value)) {
+        Ok(()) => (),
+        Err(_) => panic!(rt; "memory"),
+    }
+}
+
+/// Puts the value before the argument at the index, a place that is there.
+fn add_argument(rt: &impl Abort, node: &mut KdlNode, index: usize, value: KdlValue) {
     match insert_argument(node, index, value) {
-        Ok(true) => Ok(()),
-        Ok(false) => Err(Fail::from("no such place")),
-        Err(_) => Err(Fail::from("no memory")),
+        Ok(true) => (),
+        Ok(false) => panic!(rt; "no such place"),
+        Err(_) => panic!(rt; "memory"),
     }
 }
 
@@ -76,230 +105,233 @@ fn check_the_last_of_two_is_replaced_and_the_first_removed(
     rt: &impl Abort,
     alloc: Global,
     foo: &mut KdlNode,
-) -> Result<(), Fail> {
-    let old = set(alloc, foo, "x", KdlValue::from(3))?;
-    assert_eq!(rt; old.as_str(), " x=2");
-    prints(rt, alloc, foo, "foo x=1 x=3\n")?;
-    let old = take(alloc, foo, "x")?;
-    assert_eq!(rt; old.as_str(), " x=1");
-    prints(rt, alloc, foo, "foo x=3\n")?;
-    let old = take(alloc, foo, "y")?;
-    assert_eq!(rt; old.as_str(), "");
-    prints(rt, alloc, foo, "foo x=3\n")
+) {
+    sets(rt, alloc, foo, "x", KdlValue::from(3), " x=2");
+    prints(rt, alloc, foo, "foo x=1 x=3\n");
+    takes(rt, alloc, foo, "x", " x=1");
+    prints(rt, alloc, foo, "foo x=3\n");
+    takes(rt, alloc, foo, "y", "");
+    prints(rt, alloc, foo, "foo x=3\n");
 }
 
 #[test]
-fn the_last_of_two_is_replaced_and_the_first_removed(rt: HostRuntime) -> Result<(), Fail> {
+fn the_last_of_two_is_replaced_and_the_first_removed(rt: HostRuntime) {
     let alloc = rt.alloc();
-    check_the_last_of_two_is_replaced_and_the_first_removed(
-        &rt,
-        alloc,
-        &mut node(alloc, "foo x=1 x=2\n")?,
-    )
+    let mut foo = node(&rt, alloc, "foo x=1 x=2\n");
+    check_the_last_of_two_is_replaced_and_the_first_removed(&rt, alloc, &mut foo);
+}
+
+/// The last property of that name is this whole number.
+fn has_whole_property(rt: &impl Abort, node: &KdlNode, name: &str, value: i128) {
+    let found = property(node, name).expect(rt, "no property");
+    assert_eq!(rt; found.as_integer(), Some(value));
 }
 
 fn check_two_properties_are_pushed_under_one_name(
     rt: &impl Abort,
     alloc: Global,
     foo: &mut KdlNode,
-) -> Result<(), Fail> {
-    add_property(alloc, foo, "x", KdlValue::from(1))?;
-    add_property(alloc, foo, "x", KdlValue::from(2))?;
-    let value = property(foo, "x").ok_or("no property")?;
-    assert_eq!(rt; value.as_integer(), Some(2));
+) {
+    add_property(rt, alloc, foo, "x", KdlValue::from(1));
+    add_property(rt, alloc, foo, "x", KdlValue::from(2));
+    has_whole_property(rt, foo, "x", 2);
     assert!(rt; property(foo, "y").is_none());
-    let old = set(alloc, foo, "x", KdlValue::from(3))?;
-    assert_eq!(rt; old.as_str(), "x=2");
-    let old = take(alloc, foo, "x")?;
-    assert_eq!(rt; old.as_str(), "x=1");
-    prints(rt, alloc, foo, "foo x=3\n")
+    sets(rt, alloc, foo, "x", KdlValue::from(3), "x=2");
+    takes(rt, alloc, foo, "x", "x=1");
+    prints(rt, alloc, foo, "foo x=3\n");
 }
 
 #[test]
-fn two_properties_are_pushed_under_one_name(rt: HostRuntime) -> Result<(), Fail> {
+fn two_properties_are_pushed_under_one_name(rt: HostRuntime) {
     let alloc = rt.alloc();
-    check_two_properties_are_pushed_under_one_name(&rt, alloc, &mut built(alloc, "foo")?)
+    let mut foo = built(&rt, alloc, "foo");
+    check_two_properties_are_pushed_under_one_name(&rt, alloc, &mut foo);
 }
 
-fn check_names_are_compared_by_value(
-    rt: &impl Abort,
-    alloc: Global,
-    n: &mut KdlNode,
-) -> Result<(), Fail> {
-    let old = set(alloc, n, "x", KdlValue::from(3))?;
-    assert_eq!(rt; old.as_str(), " #\"x\"#=2");
-    prints(rt, alloc, n, "n \"x\"=1 x=3")?;
-    let old = take(alloc, n, "x")?;
-    assert_eq!(rt; old.as_str(), " \"x\"=1");
-    prints(rt, alloc, n, "n x=3")
+fn check_names_are_compared_by_value(rt: &impl Abort, alloc: Global, n: &mut KdlNode) {
+    sets(rt, alloc, n, "x", KdlValue::from(3), " #\"x\"#=2");
+    prints(rt, alloc, n, "n \"x\"=1 x=3");
+    takes(rt, alloc, n, "x", " \"x\"=1");
+    prints(rt, alloc, n, "n x=3");
 }
 
 #[test]
-fn names_are_compared_by_value(rt: HostRuntime) -> Result<(), Fail> {
+fn names_are_compared_by_value(rt: HostRuntime) {
     let alloc = rt.alloc();
-    check_names_are_compared_by_value(&rt, alloc, &mut node(alloc, "n \"x\"=1 #\"x\"#=2")?)
+    let mut n = node(&rt, alloc, "n \"x\"=1 #\"x\"#=2");
+    check_names_are_compared_by_value(&rt, alloc, &mut n);
 }
 
-fn check_the_only_property_is_removed(
-    rt: &impl Abort,
-    alloc: Global,
-    n: &mut KdlNode,
-) -> Result<(), Fail> {
-    let old = take(alloc, n, "x")?;
-    assert_eq!(rt; old.as_str(), " x=1");
+fn check_the_only_property_is_removed(rt: &impl Abort, alloc: Global, n: &mut KdlNode) {
+    takes(rt, alloc, n, "x", " x=1");
     assert!(rt; n.is_empty());
     assert_eq!(rt; n.len(), 0);
-    prints(rt, alloc, n, "n")
+    prints(rt, alloc, n, "n");
 }
 
 #[test]
-fn the_only_property_is_removed(rt: HostRuntime) -> Result<(), Fail> {
+fn the_only_property_is_removed(rt: HostRuntime) {
     let alloc = rt.alloc();
-    check_the_only_property_is_removed(&rt, alloc, &mut node(alloc, "n x=1")?)
+    let mut n = node(&rt, alloc, "n x=1");
+    check_the_only_property_is_removed(&rt, alloc, &mut n);
 }
 
-fn check_a_property_without_a_name_takes_the_key(
+/// Sets a property of that name and that type.
+fn sets_typed(
     rt: &impl Abort,
     alloc: Global,
-    n: &mut KdlNode,
-) -> Result<(), Fail> {
-    let old = set(alloc, n, "x", KdlValue::from(2))?;
-    assert_eq!(rt; old.as_str(), " x=1");
-    prints(rt, alloc, n, "n x=2")?;
-    let key = KdlIdentifier::from_text(alloc, "a b")?;
-    let ty = KdlIdentifier::from_text(alloc, "u8")?;
-    assert!(rt; set_typed(n, key, ty, KdlValue::from(7)).is_ok());
-    prints(rt, alloc, n, "n x=2 \"a b\"=(u8)7")
+    node: &mut KdlNode,
+    name: &str,
+    ty: &str,
+    value: KdlValue,
+) {
+    let key = KdlIdentifier::from_text(alloc, name).expect(rt, "memory");
+    let ty = KdlIdentifier::from_text(alloc, ty).expect(rt, "memory");
+    assert!(rt; set_typed(node, key, ty, value).is_ok());
+}
+
+fn check_a_property_without_a_name_takes_the_key(rt: &impl Abort, alloc: Global, n: &mut KdlNode) {
+    sets(rt, alloc, n, "x", KdlValue::from(2), " x=1");
+    prints(rt, alloc, n, "n x=2");
+    sets_typed(rt, alloc, n, "a b", "u8", KdlValue::from(7));
+    prints(rt, alloc, n, "n x=2 \"a b\"=(u8)7");
 }
 
 #[test]
-fn a_property_without_a_name_takes_the_key(rt: HostRuntime) -> Result<(), Fail> {
+fn a_property_without_a_name_takes_the_key(rt: HostRuntime) {
     let alloc = rt.alloc();
-    check_a_property_without_a_name_takes_the_key(&rt, alloc, &mut node(alloc, "n x=1")?)
+    let mut n = node(&rt, alloc, "n x=1");
+    check_a_property_without_a_name_takes_the_key(&rt, alloc, &mut n);
 }
 
-fn check_arguments_are_put_in_by_their_index(
-    rt: &impl Abort,
-    alloc: Global,
-    foo: &mut KdlNode,
-) -> Result<(), Fail> {
-    add(foo, KdlValue::from_text(alloc, "pos0")?)?;
-    let old = set(alloc, foo, "keyword", KdlValue::from(6))?;
-    assert_eq!(rt; old.as_str(), "");
-    add(foo, KdlValue::from_text(alloc, "pos1")?)?;
-    assert!(rt; insert_first(foo, KdlValue::from_text(alloc, "inserted0")?).is_ok());
-    add_argument(foo, 2, KdlValue::from_text(alloc, "inserted1")?)?;
+fn check_arguments_are_put_in_by_their_index(rt: &impl Abort, alloc: Global, foo: &mut KdlNode) {
+    add(rt, foo, string(rt, alloc, "pos0"));
+    sets(rt, alloc, foo, "keyword", KdlValue::from(6), "");
+    add(rt, foo, string(rt, alloc, "pos1"));
+    assert!(rt; insert_first(foo, string(rt, alloc, "inserted0")).is_ok());
+    add_argument(rt, foo, 2, string(rt, alloc, "inserted1"));
     let printed = "foo inserted0 pos0 keyword=6 inserted1 pos1\n";
-    prints(rt, alloc, foo, printed)?;
+    prints(rt, alloc, foo, printed);
     assert_eq!(rt; foo.len(), 5);
-    Ok(())
 }
 
 #[test]
-fn arguments_are_put_in_by_their_index(rt: HostRuntime) -> Result<(), Fail> {
+fn arguments_are_put_in_by_their_index(rt: HostRuntime) {
     let alloc = rt.alloc();
-    check_arguments_are_put_in_by_their_index(&rt, alloc, &mut built(alloc, "foo")?)
+    let mut foo = built(&rt, alloc, "foo");
+    check_arguments_are_put_in_by_their_index(&rt, alloc, &mut foo);
 }
 
 #[test]
-fn an_argument_is_put_in_behind_a_property(rt: HostRuntime) -> Result<(), Fail> {
+fn an_argument_is_put_in_behind_a_property(rt: HostRuntime) {
     let alloc = rt.alloc();
-    let mut n = node(alloc, "n a k=1")?;
-    add_argument(&mut n, 1, KdlValue::from_text(alloc, "b")?)?;
-    prints(&rt, alloc, &n, "n a k=1 b")
+    let mut n = node(&rt, alloc, "n a k=1");
+    add_argument(&rt, &mut n, 1, string(&rt, alloc, "b"));
+    prints(&rt, alloc, &n, "n a k=1 b");
 }
 
-fn check_arguments_are_removed_by_their_index(
-    rt: &impl Abort,
-    alloc: Global,
-    n: &mut KdlNode,
-) -> Result<(), Fail> {
-    let old = remove_argument(n, 1).ok_or("no argument")?;
-    assert_eq!(rt; old.to_string(alloc)?.as_str(), " 3");
+/// Takes out the argument at the index, which is there and prints this text.
+fn takes_argument(rt: &impl Abort, alloc: Global, node: &mut KdlNode, index: usize, text: &str) {
+    let old = remove_argument(node, index).expect(rt, "no argument");
+    let printed = old.to_string(alloc).expect(rt, "memory");
+    assert_eq!(rt; printed.as_str(), text);
+}
+
+fn check_arguments_are_removed_by_their_index(rt: &impl Abort, alloc: Global, n: &mut KdlNode) {
+    takes_argument(rt, alloc, n, 1, " 3");
     assert!(rt; remove_argument(n, 1).is_none());
-    prints(rt, alloc, n, "n 1 k=2")
+    prints(rt, alloc, n, "n 1 k=2");
 }
 
 #[test]
-fn arguments_are_removed_by_their_index(rt: HostRuntime) -> Result<(), Fail> {
+fn arguments_are_removed_by_their_index(rt: HostRuntime) {
     let alloc = rt.alloc();
-    check_arguments_are_removed_by_their_index(&rt, alloc, &mut node(alloc, "n 1 k=2 3")?)
+    let mut n = node(&rt, alloc, "n 1 k=2 3");
+    check_arguments_are_removed_by_their_index(&rt, alloc, &mut n);
 }
 
-fn check_entries_are_kept_in_order(
-    rt: &impl Abort,
-    alloc: Global,
-    n: &mut KdlNode,
-) -> Result<(), Fail> {
+fn check_entries_are_kept_in_order(rt: &impl Abort, alloc: Global, n: &mut KdlNode) {
     n.retain(|entry| entry.name().is_none());
-    prints(rt, alloc, n, "n 1 3")?;
+    prints(rt, alloc, n, "n 1 3");
     n.clear();
     assert!(rt; n.is_empty());
-    prints(rt, alloc, n, "n")
+    prints(rt, alloc, n, "n");
 }
 
 #[test]
-fn entries_are_kept_in_order(rt: HostRuntime) -> Result<(), Fail> {
+fn entries_are_kept_in_order(rt: HostRuntime) {
     let alloc = rt.alloc();
-    check_entries_are_kept_in_order(&rt, alloc, &mut node(alloc, "n 1 k=2 3")?)
+    let mut n = node(&rt, alloc, "n 1 k=2 3");
+    check_entries_are_kept_in_order(&rt, alloc, &mut n);
 }
 
-fn check_entries_are_sorted(rt: &impl Abort, alloc: Global, n: &mut KdlNode) -> Result<(), Fail> {
-    n.sort_by_key(|entry| entry.value().as_integer())?;
-    prints(rt, alloc, n, "n c=0 b=1 a=1")?;
-    n.sort_by(|a, b| b.value().cmp(a.value()))?;
-    prints(rt, alloc, n, "n b=1 a=1 c=0")
+fn check_entries_are_sorted(rt: &impl Abort, alloc: Global, n: &mut KdlNode) {
+    n.sort_by_key(|entry| entry.value().as_integer())
+        .expect(rt, "memory");
+    prints(rt, alloc, n, "n c=0 b=1 a=1");
+    n.sort_by(|a, b| b.value().cmp(a.value()))
+        .expect(rt, "memory");
+    prints(rt, alloc, n, "n b=1 a=1 c=0");
 }
 
 #[test]
-fn entries_are_sorted(rt: HostRuntime) -> Result<(), Fail> {
+fn entries_are_sorted(rt: HostRuntime) {
     let alloc = rt.alloc();
-    check_entries_are_sorted(&rt, alloc, &mut node(alloc, "n b=1 a=1 c=0")?)
+    let mut n = node(&rt, alloc, "n b=1 a=1 c=0");
+    check_entries_are_sorted(&rt, alloc, &mut n);
+}
+
+/// The entry of a text.
+fn entry(rt: &impl Abort, alloc: Global, text: &str) -> KdlEntry {
+    match KdlEntry::parse(alloc, text) {
+        Ok(entry) => entry,
+        Err(_) => panic!(rt; "{text:?} is refused"),
+    }
 }
 
 /// Puts the entry of the text in the place of the one there.
-fn exchange(alloc: Global, node: &mut KdlNode, at: usize, text: &str) -> Result<(), Fail> {
-    let entry = node.entries_mut().get_mut(at).ok_or("no entry")?;
-    *entry = KdlEntry::parse(alloc, text)?;
-    Ok(())
+fn exchange(rt: &impl Abort, alloc: Global, node: &mut KdlNode, at: usize, text: &str) {
+    let Some(place) = node.entries_mut().get_mut(at) else {
+        panic!(rt; "no entry");
+    };
+    *place = entry(rt, alloc, text);
 }
 
-fn check_one_entry_is_exchanged_and_no_other_byte(
-    rt: &impl Abort,
-    alloc: Global,
-    a: &mut KdlNode,
-) -> Result<(), Fail> {
-    let old = set(alloc, a, "b", KdlValue::from_text(alloc, "x y")?)?;
-    assert_eq!(rt; old.as_str(), " b=2");
-    prints(rt, alloc, a, "a 1 b=\"x y\" // c\n")?;
-    assert_eq!(rt; node(alloc, "a 1 b=\"x y\" // c\n")?.len(), 2);
-    exchange(alloc, a, 1, " b=0x3")?;
-    prints(rt, alloc, a, "a 1 b=0x3 // c\n")
+/// The one node of the text has so many entries.
+fn has_entries(rt: &impl Abort, alloc: Global, text: &str, count: usize) {
+    let node = node(rt, alloc, text);
+    assert_eq!(rt; node.len(), count);
+}
+
+fn check_one_entry_is_exchanged_and_no_other_byte(rt: &impl Abort, alloc: Global, a: &mut KdlNode) {
+    sets(rt, alloc, a, "b", string(rt, alloc, "x y"), " b=2");
+    prints(rt, alloc, a, "a 1 b=\"x y\" // c\n");
+    has_entries(rt, alloc, "a 1 b=\"x y\" // c\n", 2);
+    exchange(rt, alloc, a, 1, " b=0x3");
+    prints(rt, alloc, a, "a 1 b=0x3 // c\n");
 }
 
 #[test]
-fn one_entry_is_exchanged_and_no_other_byte(rt: HostRuntime) -> Result<(), Fail> {
+fn one_entry_is_exchanged_and_no_other_byte(rt: HostRuntime) {
     let alloc = rt.alloc();
-    check_one_entry_is_exchanged_and_no_other_byte(&rt, alloc, &mut node(alloc, "a 1 b=2 // c\n")?)
+    let mut a = node(&rt, alloc, "a 1 b=2 // c\n");
+    check_one_entry_is_exchanged_and_no_other_byte(&rt, alloc, &mut a);
 }
 
-fn check_a_value_is_set_and_its_spelling_cleared(
-    rt: &impl Abort,
-    alloc: Global,
-    n: &mut KdlNode,
-) -> Result<(), Fail> {
+fn check_a_value_is_set_and_its_spelling_cleared(rt: &impl Abort, alloc: Global, n: &mut KdlNode) {
     for entry in n.entries_mut().iter_mut() {
         entry.set_value(KdlValue::from(5));
     }
-    prints(rt, alloc, n, "n 0x10")?;
+    prints(rt, alloc, n, "n 0x10");
     for entry in n.entries_mut().iter_mut() {
         entry.clear_format();
     }
-    prints(rt, alloc, n, "n 5")
+    prints(rt, alloc, n, "n 5");
 }
 
 #[test]
-fn a_value_is_set_and_its_spelling_cleared(rt: HostRuntime) -> Result<(), Fail> {
+fn a_value_is_set_and_its_spelling_cleared(rt: HostRuntime) {
     let alloc = rt.alloc();
-    check_a_value_is_set_and_its_spelling_cleared(&rt, alloc, &mut node(alloc, "n 0x10")?)
+    let mut n = node(&rt, alloc, "n 0x10");
+    check_a_value_is_set_and_its_spelling_cleared(&rt, alloc, &mut n);
 }

@@ -5,7 +5,6 @@ use std::alloc::Global;
 use std::cmp::Ordering;
 use std::hash::{DefaultHasher, Hash, Hasher};
 use std::process::Abort;
-use std::test::Fail;
 
 const ELSEWHERE: SourceSpan = SourceSpan { offset: 40, len: 2 };
 
@@ -15,76 +14,126 @@ fn hash_of<T: Hash>(value: &T) -> u64 {
     state.finish()
 }
 
+/// A copy of the text.
+fn text(rt: &impl Abort, alloc: Global, text: &str) -> String {
+    String::from_str(alloc, text).expect(rt, "memory")
+}
+
+/// The float of a text.
+fn float(rt: &impl Abort, alloc: Global, text: &str) -> KdlFloat {
+    KdlFloat::new(alloc, text).expect(rt, "no float")
+}
+
+/// The string value of a text.
+fn string(rt: &impl Abort, alloc: Global, text: &str) -> KdlValue {
+    KdlValue::from_text(alloc, text).expect(rt, "memory")
+}
+
+/// An identifier of that value.
+fn identifier(rt: &impl Abort, alloc: Global, value: &str) -> KdlIdentifier {
+    KdlIdentifier::from_text(alloc, value).expect(rt, "memory")
+}
+
+/// The document of a text.
+fn read(rt: &impl Abort, alloc: Global, text: &str) -> KdlDocument {
+    KdlDocument::parse(alloc, text).expect(rt, "no document")
+}
+
 /// The first node of a text.
-fn node(alloc: Global, text: &str) -> Result<KdlNode, Fail> {
-    let document = KdlDocument::parse(alloc, text)?;
+fn node(rt: &impl Abort, alloc: Global, text: &str) -> KdlNode {
+    let document = read(rt, alloc, text);
     match document.nodes() {
-        [node, ..] => Ok(node.clone()?),
-        [] => Err(Fail::from("no node")),
+        [node, ..] => node.clone().expect(rt, "memory"),
+        [] => panic!(rt; "no node"),
     }
 }
 
 /// The first entry of the first node of a text.
-fn entry(alloc: Global, text: &str) -> Result<KdlEntry, Fail> {
-    match node(alloc, text)?.entries() {
-        [entry, ..] => Ok(entry.clone()?),
-        [] => Err(Fail::from("no entry")),
+fn entry(rt: &impl Abort, alloc: Global, text: &str) -> KdlEntry {
+    match node(rt, alloc, text).entries() {
+        [entry, ..] => entry.clone().expect(rt, "memory"),
+        [] => panic!(rt; "no entry"),
     }
 }
 
-#[test]
-fn floats_by_their_texts(rt: HostRuntime) -> Result<(), Fail> {
-    let alloc = rt.alloc();
-    let short = KdlFloat::new(alloc, "1.03e2")?;
-    let long = KdlFloat::new(alloc, "103.0")?;
-    assert!(rt; short != long);
-    assert_eq!(rt; short.cmp(&long), Ordering::Less);
-    let again = KdlFloat::new(alloc, "103.0")?;
-    assert!(rt; again == long);
-    assert_eq!(rt; again.cmp(&long), Ordering::Equal);
-    assert_eq!(rt; hash_of(&again), hash_of(&long));
-    let nan = KdlFloat::new(alloc, "#nan")?;
-    assert!(rt; nan == KdlFloat::new(alloc, "#nan")?);
-    Ok(())
+/// The entry prints the text.
+fn prints(rt: &impl Abort, alloc: Global, entry: &KdlEntry, text: &str) {
+    assert_eq!(rt; entry.to_string(alloc).expect(rt, "memory").as_str(), text);
+}
+
+fn check_floats_by_their_texts(rt: &impl Abort, short: &KdlFloat, long: &KdlFloat) {
+    assert!(rt; *short != *long);
+    assert_eq!(rt; short.cmp(long), Ordering::Less);
+}
+
+fn check_floats_of_one_text(rt: &impl Abort, again: &KdlFloat, long: &KdlFloat) {
+    assert!(rt; *again == *long);
+    assert_eq!(rt; again.cmp(long), Ordering::Equal);
+    assert_eq!(rt; hash_of(again), hash_of(long));
 }
 
 #[test]
-fn values_of_other_kinds_differ(rt: HostRuntime) -> Result<(), Fail> {
+fn floats_by_their_texts(rt: HostRuntime) {
     let alloc = rt.alloc();
-    let values = vec![in alloc;
-        KdlValue::from_text(alloc, "1")?,
+    let long = float(&rt, alloc, "103.0");
+    check_floats_by_their_texts(&rt, &float(&rt, alloc, "1.03e2"), &long);
+    check_floats_of_one_text(&rt, &float(&rt, alloc, "103.0"), &long);
+    assert!(rt; float(&rt, alloc, "#nan") == float(&rt, alloc, "#nan"));
+}
+
+/// A value of each kind.
+fn kinds(rt: &impl Abort, alloc: Global) -> Vec<KdlValue> {
+    vec![in alloc;
+        string(rt, alloc, "1"),
         KdlValue::from(1),
-        KdlValue::from(KdlFloat::new(alloc, "1.0")?),
+        KdlValue::from(float(rt, alloc, "1.0")),
         KdlValue::from(true),
         KdlValue::Null,
-    ]?;
+    ]
+    .expect(rt, "memory")
+}
+
+fn check_values_of_other_kinds_differ(rt: &impl Abort, values: &[KdlValue]) {
     for (i, a) in values.iter().enumerate() {
         for (j, b) in values.iter().enumerate() {
             assert_eq!(rt; a == b, i == j);
             assert_eq!(rt; hash_of(a) == hash_of(b), i == j);
         }
     }
-    let text = KdlValue::from_text(alloc, "a")?;
-    let same = KdlValue::from_text(alloc, "a")?;
-    assert_eq!(rt; hash_of(&text), hash_of(&same));
-    Ok(())
 }
 
 #[test]
-fn identifiers_by_value_and_spelling(rt: HostRuntime) -> Result<(), Fail> {
+fn values_of_other_kinds_differ(rt: HostRuntime) {
     let alloc = rt.alloc();
-    let name = KdlIdentifier::from_text(alloc, "a")?;
-    let mut other = KdlIdentifier::from_text(alloc, "a")?;
+    check_values_of_other_kinds_differ(&rt, kinds(&rt, alloc).as_slice());
+    let text = string(&rt, alloc, "a");
+    let same = string(&rt, alloc, "a");
+    assert_eq!(rt; hash_of(&text), hash_of(&same));
+}
+
+fn check_identifiers_by_value_and_spelling(
+    rt: &impl Abort,
+    alloc: Global,
+    name: &KdlIdentifier,
+    other: &mut KdlIdentifier,
+) {
     other.set_span(ELSEWHERE);
-    assert!(rt; other == name);
-    assert_eq!(rt; hash_of(&other), hash_of(&name));
-    other.set_repr(String::from_str(alloc, "\"a\"")?);
-    assert!(rt; other != name);
+    assert!(rt; *other == *name);
+    assert_eq!(rt; hash_of(other), hash_of(name));
+    other.set_repr(text(rt, alloc, "\"a\""));
+    assert!(rt; *other != *name);
     other.clear_format();
-    assert!(rt; other == name);
-    other.set_value(String::from_str(alloc, "b")?);
-    assert!(rt; other != name);
-    Ok(())
+    assert!(rt; *other == *name);
+    other.set_value(text(rt, alloc, "b"));
+    assert!(rt; *other != *name);
+}
+
+#[test]
+fn identifiers_by_value_and_spelling(rt: HostRuntime) {
+    let alloc = rt.alloc();
+    let name = identifier(&rt, alloc, "a");
+    let mut other = identifier(&rt, alloc, "a");
+    check_identifiers_by_value_and_spelling(&rt, alloc, &name, &mut other);
 }
 
 fn check_entries_by_their_spellings(
@@ -104,54 +153,54 @@ fn check_entries_by_their_spellings(
 }
 
 #[test]
-fn entries_by_their_spellings(rt: HostRuntime) -> Result<(), Fail> {
+fn entries_by_their_spellings(rt: HostRuntime) {
     let alloc = rt.alloc();
-    let mut decimal = entry(alloc, "n 16")?;
-    check_entries_by_their_spellings(&rt, &mut entry(alloc, "n 0x10")?, &mut decimal);
-    Ok(())
+    let mut decimal = entry(&rt, alloc, "n 16");
+    check_entries_by_their_spellings(&rt, &mut entry(&rt, alloc, "n 0x10"), &mut decimal);
 }
 
-fn check_a_new_value_under_the_old_spelling(
-    rt: &impl Abort,
-    alloc: Global,
-    entry: &mut KdlEntry,
-) -> Result<(), Fail> {
+fn check_a_new_value_under_the_old_spelling(rt: &impl Abort, alloc: Global, entry: &mut KdlEntry) {
     entry.set_value(KdlValue::from(5));
     assert_eq!(rt; entry.value().as_integer(), Some(5));
-    assert_eq!(rt; entry.to_string(alloc)?.as_str(), " 0x10");
+    prints(rt, alloc, entry, " 0x10");
     entry.clear_format();
-    assert_eq!(rt; entry.to_string(alloc)?.as_str(), "5");
-    Ok(())
+    prints(rt, alloc, entry, "5");
 }
 
 #[test]
-fn a_new_value_under_the_old_spelling(rt: HostRuntime) -> Result<(), Fail> {
+fn a_new_value_under_the_old_spelling(rt: HostRuntime) {
     let alloc = rt.alloc();
-    check_a_new_value_under_the_old_spelling(&rt, alloc, &mut entry(alloc, "n 0x10")?)
+    check_a_new_value_under_the_old_spelling(&rt, alloc, &mut entry(&rt, alloc, "n 0x10"));
 }
 
-#[test]
-fn nodes_by_their_leading_texts(rt: HostRuntime) -> Result<(), Fail> {
-    let alloc = rt.alloc();
-    let first = node(alloc, "n 1")?;
-    let mut same = node(alloc, "n 1")?;
+fn check_nodes_but_for_their_spans(rt: &impl Abort, first: &KdlNode, same: &mut KdlNode) {
     same.set_span(ELSEWHERE);
-    assert!(rt; same == first);
-    assert_eq!(rt; hash_of(&same), hash_of(&first));
-    let below = node(alloc, "\nn 1")?;
-    assert!(rt; below != first);
-    Ok(())
+    assert!(rt; *same == *first);
+    assert_eq!(rt; hash_of(same), hash_of(first));
 }
 
 #[test]
-fn documents_but_for_their_spans(rt: HostRuntime) -> Result<(), Fail> {
+fn nodes_by_their_leading_texts(rt: HostRuntime) {
     let alloc = rt.alloc();
-    let first = KdlDocument::parse(alloc, "n 1\n")?;
-    let mut same = KdlDocument::parse(alloc, "n 1\n")?;
+    let first = node(&rt, alloc, "n 1");
+    check_nodes_but_for_their_spans(&rt, &first, &mut node(&rt, alloc, "n 1"));
+    assert!(rt; node(&rt, alloc, "\nn 1") != first);
+}
+
+fn check_documents_but_for_their_spans(
+    rt: &impl Abort,
+    first: &KdlDocument,
+    same: &mut KdlDocument,
+) {
     same.set_span(ELSEWHERE);
-    assert!(rt; same == first);
-    assert_eq!(rt; hash_of(&same), hash_of(&first));
-    let other = KdlDocument::parse(alloc, "n 1\n\n")?;
-    assert!(rt; other != first);
-    Ok(())
+    assert!(rt; *same == *first);
+    assert_eq!(rt; hash_of(same), hash_of(first));
+}
+
+#[test]
+fn documents_but_for_their_spans(rt: HostRuntime) {
+    let alloc = rt.alloc();
+    let first = read(&rt, alloc, "n 1\n");
+    check_documents_but_for_their_spans(&rt, &first, &mut read(&rt, alloc, "n 1\n"));
+    assert!(rt; read(&rt, alloc, "n 1\n\n") != first);
 }

@@ -8,7 +8,6 @@ ghost use Rattle.std.specs.Prelude.{◌≡◌, IsSome, OnErr, OnOk, option_map, 
 use kdl::{KdlDocument, KdlEntry, KdlNode, KdlValue, NodeKey};
 use std::alloc::{AllocError, Global};
 use std::process::Abort;
-use std::test::Fail;
 
 /// Writes the value of the last property of that name, or pushes such a property.
 fn set_property(node: &mut KdlNode, name: &str, value: KdlValue) -> Result<(), AllocError>
@@ -57,21 +56,26 @@ fn first(node: &KdlNode) -> Option<&KdlEntry>
 }
 
 /// A copy of the first node of a text.
-fn node_of(alloc: Global, text: &str) -> Result<KdlNode, Fail> {
-    let document = KdlDocument::parse(alloc, text)?;
+fn node_of(rt: &impl Abort, alloc: Global, text: &str) -> KdlNode {
+    let document = KdlDocument::parse(alloc, text).expect(rt, "no document");
     match document.nodes().first() {
-        Some(node) => Ok(node.clone()?),
-        None => Err(Fail::from("no node")),
+        Some(node) => node.clone().expect(rt, "memory"),
+        None => panic!(rt; "no node"),
     }
 }
 
-fn key(alloc: Global, name: &str) -> Result<NodeKey, Fail> {
-    Ok(NodeKey::from_text(alloc, name)?)
+fn key(rt: &impl Abort, alloc: Global, name: &str) -> NodeKey {
+    NodeKey::from_text(alloc, name).expect(rt, "memory")
 }
 
-fn prints(rt: &impl Abort, alloc: Global, node: &KdlNode, text: &str) -> Result<(), Fail> {
-    assert_eq!(rt; node.to_string(alloc)?.as_str(), text);
-    Ok(())
+/// The node prints the text.
+fn prints(rt: &impl Abort, alloc: Global, node: &KdlNode, text: &str) {
+    assert_eq!(rt; node.to_string(alloc).expect(rt, "memory").as_str(), text);
+}
+
+/// The entry prints the text.
+fn entry_prints(rt: &impl Abort, alloc: Global, entry: &KdlEntry, text: &str) {
+    assert_eq!(rt; entry.to_string(alloc).expect(rt, "memory").as_str(), text);
 }
 
 fn integer(value: Option<&KdlValue>) -> Option<i128> {
@@ -82,152 +86,133 @@ fn check_names_find_the_last_and_places_count_arguments(
     rt: &impl Abort,
     alloc: Global,
     node: &KdlNode,
-) -> Result<(), Fail> {
-    assert_eq!(rt; integer(node.get(key(alloc, "x")?)), Some(2));
-    assert_eq!(rt; integer(node.get(key(alloc, "y")?)), Some(3));
-    assert!(rt; node.get(key(alloc, "z")?).is_none());
+) {
+    assert_eq!(rt; integer(node.get(key(rt, alloc, "x"))), Some(2));
+    assert_eq!(rt; integer(node.get(key(rt, alloc, "y"))), Some(3));
+    assert!(rt; node.get(key(rt, alloc, "z")).is_none());
     assert_eq!(rt; integer(node.get(NodeKey::from(0))), Some(7));
     assert_eq!(rt; integer(node.get(NodeKey::Index(1))), Some(8));
     assert!(rt; node.get(NodeKey::Index(2)).is_none());
-    let last = node.entry(key(alloc, "x")?).ok_or("no entry")?;
-    assert_eq!(rt; last.to_string(alloc)?.as_str(), " \"x\"=2");
+    let last = node.entry(key(rt, alloc, "x")).expect(rt, "no entry");
+    entry_prints(rt, alloc, last, " \"x\"=2");
     assert!(rt; node.entry(NodeKey::Index(2)).is_none());
-    Ok(())
 }
 
 #[test]
-fn names_find_the_last_and_places_count_arguments(rt: HostRuntime) -> Result<(), Fail> {
+fn names_find_the_last_and_places_count_arguments(rt: HostRuntime) {
     let alloc = rt.alloc();
     check_names_find_the_last_and_places_count_arguments(
         &rt,
         alloc,
-        &node_of(alloc, "n x=1 7 \"x\"=2 y=3 8")?,
-    )
+        &node_of(&rt, alloc, "n x=1 7 \"x\"=2 y=3 8"),
+    );
 }
 
-fn check_values_by_index(rt: &impl Abort, alloc: Global, node: &mut KdlNode) -> Result<(), Fail> {
+fn check_values_by_index(rt: &impl Abort, alloc: Global, node: &mut KdlNode) {
     if node.get(NodeKey::Index(0)).is_some() {
         set_first(node, KdlValue::from(6));
     }
-    prints(rt, alloc, node, "foo x=1 5 x=2")?;
+    prints(rt, alloc, node, "foo x=1 5 x=2");
     assert_eq!(rt; integer(node.get(NodeKey::Index(0))), Some(6));
-    Ok(())
 }
 
 #[test]
-fn values_by_index(rt: HostRuntime) -> Result<(), Fail> {
+fn values_by_index(rt: HostRuntime) {
     let alloc = rt.alloc();
-    check_values_by_index(&rt, alloc, &mut node_of(alloc, "foo x=1 5 x=2")?)
+    check_values_by_index(&rt, alloc, &mut node_of(&rt, alloc, "foo x=1 5 x=2"));
 }
 
-fn check_the_last_property_or_a_null_one(
-    rt: &impl Abort,
-    alloc: Global,
-    node: &mut KdlNode,
-) -> Result<(), Fail> {
-    set_property(node, "x", KdlValue::from(9))?;
+fn check_the_last_property_or_a_null_one(rt: &impl Abort, alloc: Global, node: &mut KdlNode) {
+    set_property(node, "x", KdlValue::from(9)).expect(rt, "memory");
     assert_eq!(rt; node.entries().len(), 2);
-    assert_eq!(rt; integer(node.get(key(alloc, "x")?)), Some(9));
-    prints(rt, alloc, node, "n x=1 x=2")?;
-    let value = node.get_or_null_mut("y")?;
+    assert_eq!(rt; integer(node.get(key(rt, alloc, "x"))), Some(9));
+    prints(rt, alloc, node, "n x=1 x=2");
+    let value = node.get_or_null_mut("y").expect(rt, "memory");
     assert!(rt; value.is_null());
-    prints(rt, alloc, node, "n x=1 x=2 y=#null")?;
-    let value = node.get_or_null_mut("y")?;
+    prints(rt, alloc, node, "n x=1 x=2 y=#null");
+    let value = node.get_or_null_mut("y").expect(rt, "memory");
     *value = KdlValue::from(4);
-    prints(rt, alloc, node, "n x=1 x=2 y=4")
+    prints(rt, alloc, node, "n x=1 x=2 y=4");
 }
 
 #[test]
-fn the_last_property_or_a_null_one(rt: HostRuntime) -> Result<(), Fail> {
+fn the_last_property_or_a_null_one(rt: HostRuntime) {
     let alloc = rt.alloc();
-    check_the_last_property_or_a_null_one(&rt, alloc, &mut node_of(alloc, "n x=1 x=2")?)
+    check_the_last_property_or_a_null_one(&rt, alloc, &mut node_of(&rt, alloc, "n x=1 x=2"));
 }
 
 fn check_the_spelling_stays_until_it_is_cleared(
     rt: &impl Abort,
     alloc: Global,
     node: &mut KdlNode,
-) -> Result<(), Fail> {
-    let value = node.get_mut(NodeKey::Index(0)).ok_or("no value")?;
+) {
+    let value = node.get_mut(NodeKey::Index(0)).expect(rt, "no value");
     *value = KdlValue::from(5);
-    prints(rt, alloc, node, "n 0x10")?;
+    prints(rt, alloc, node, "n 0x10");
     clear_format(node, NodeKey::Index(0));
-    prints(rt, alloc, node, "n 5")?;
+    prints(rt, alloc, node, "n 5");
     forget(node, NodeKey::Index(0));
-    prints(rt, alloc, node, "n #null")
+    prints(rt, alloc, node, "n #null");
 }
 
 #[test]
-fn the_spelling_stays_until_it_is_cleared(rt: HostRuntime) -> Result<(), Fail> {
+fn the_spelling_stays_until_it_is_cleared(rt: HostRuntime) {
     let alloc = rt.alloc();
-    check_the_spelling_stays_until_it_is_cleared(&rt, alloc, &mut node_of(alloc, "n 0x10")?)
+    check_the_spelling_stays_until_it_is_cleared(&rt, alloc, &mut node_of(&rt, alloc, "n 0x10"));
 }
 
-fn check_an_entry_exchanged_for_a_parsed_one(
-    rt: &impl Abort,
-    alloc: Global,
-    node: &mut KdlNode,
-) -> Result<(), Fail> {
-    let entry = node.entry_mut(key(alloc, "b")?).ok_or("no entry")?;
-    *entry = KdlEntry::parse(alloc, " b=0x3")?;
-    prints(rt, alloc, node, "a 1 b=0x3 // c\n")
+fn check_an_entry_exchanged_for_a_parsed_one(rt: &impl Abort, alloc: Global, node: &mut KdlNode) {
+    let entry = node.entry_mut(key(rt, alloc, "b")).expect(rt, "no entry");
+    *entry = KdlEntry::parse(alloc, " b=0x3").expect(rt, "no entry");
+    prints(rt, alloc, node, "a 1 b=0x3 // c\n");
 }
 
 #[test]
-fn an_entry_exchanged_for_a_parsed_one(rt: HostRuntime) -> Result<(), Fail> {
+fn an_entry_exchanged_for_a_parsed_one(rt: HostRuntime) {
     let alloc = rt.alloc();
-    check_an_entry_exchanged_for_a_parsed_one(&rt, alloc, &mut node_of(alloc, "a 1 b=2 // c\n")?)
+    let mut node = node_of(&rt, alloc, "a 1 b=2 // c\n");
+    check_an_entry_exchanged_for_a_parsed_one(&rt, alloc, &mut node);
 }
 
-fn check_an_iterator_over_entries(
-    rt: &impl Abort,
-    alloc: Global,
-    node: &mut KdlNode,
-) -> Result<(), Fail> {
+fn check_an_iterator_over_entries(rt: &impl Abort, alloc: Global, node: &mut KdlNode) {
     assert_eq!(rt; node.iter().size_hint(), (2, Some(2)));
     assert_eq!(rt; first(node).and_then(|e| e.value().as_integer()), Some(1));
     for entry in node.iter_mut() {
         entry.set_value(KdlValue::from(true));
         entry.clear_format();
     }
-    prints(rt, alloc, node, "n #true k=#true { a; b; }")
+    prints(rt, alloc, node, "n #true k=#true { a; b; }");
 }
 
 #[test]
-fn an_iterator_over_entries(rt: HostRuntime) -> Result<(), Fail> {
+fn an_iterator_over_entries(rt: HostRuntime) {
     let alloc = rt.alloc();
-    check_an_iterator_over_entries(&rt, alloc, &mut node_of(alloc, "n 1 k=2 { a; b; }")?)
+    check_an_iterator_over_entries(&rt, alloc, &mut node_of(&rt, alloc, "n 1 k=2 { a; b; }"));
 }
 
-fn check_an_iterator_over_children(
-    rt: &impl Abort,
-    alloc: Global,
-    node: &mut KdlNode,
-) -> Result<(), Fail> {
+fn check_an_iterator_over_children(rt: &impl Abort, alloc: Global, node: &mut KdlNode) {
     assert_eq!(rt; node.iter_children().size_hint(), (2, Some(2)));
     let mut children = node.iter_children_mut();
     assert_eq!(rt; children.size_hint(), (2, Some(2)));
-    let child = children.next().ok_or("no child")?;
-    child.get_or_null_mut("c")?;
+    let child = children.next().expect(rt, "no child");
+    child.get_or_null_mut("c").expect(rt, "memory");
     assert_eq!(rt; children.size_hint(), (1, Some(1)));
     drop(children);
-    prints(rt, alloc, node, "n 1 k=2 { a c=#null; b; }")?;
+    prints(rt, alloc, node, "n 1 k=2 { a c=#null; b; }");
     let names = node.iter_children().map(|n| n.name().value().len()).count();
     assert_eq!(rt; names, 2);
-    Ok(())
 }
 
 #[test]
-fn an_iterator_over_children(rt: HostRuntime) -> Result<(), Fail> {
+fn an_iterator_over_children(rt: HostRuntime) {
     let alloc = rt.alloc();
-    check_an_iterator_over_children(&rt, alloc, &mut node_of(alloc, "n 1 k=2 { a; b; }")?)
+    check_an_iterator_over_children(&rt, alloc, &mut node_of(&rt, alloc, "n 1 k=2 { a; b; }"));
 }
 
 #[test]
-fn no_children_without_a_block(rt: HostRuntime) -> Result<(), Fail> {
-    let mut bare = node_of(rt.alloc(), "n")?;
+fn no_children_without_a_block(rt: HostRuntime) {
+    let mut bare = node_of(&rt, rt.alloc(), "n");
     assert!(rt; bare.iter_children().next().is_none());
     assert!(rt; bare.iter_children_mut().next().is_none());
     assert_eq!(rt; bare.iter_children_mut().size_hint(), (0, Some(0)));
-    Ok(())
 }

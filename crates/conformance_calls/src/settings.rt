@@ -3,36 +3,47 @@
 use kdl::{KdlDocument, KdlEntry, KdlNode, KdlValue, NodeKey};
 use std::alloc::Global;
 use std::process::Abort;
-use std::test::Fail;
 
 /// Gives the node a property of that name, in the place of the last one there.
-fn put(alloc: Global, node: &mut KdlNode, name: &str, value: KdlValue) -> Result<(), Fail> {
-    let key = NodeKey::from_text(alloc, name)?;
+fn put(rt: &impl Abort, alloc: Global, node: &mut KdlNode, name: &str, value: KdlValue) {
+    let Ok(key) = NodeKey::from_text(alloc, name) else {
+        panic!(rt; "no memory");
+    };
     match node.insert(key, KdlEntry::new(value)) {
-        Ok(_) => Ok(()),
-        Err(_) => Err(Fail::from("no memory")),
+        Ok(_) => {}
+        Err(_) => panic!(rt; "no memory"),
     }
 }
 
 /// Gives each node of that name the port.
-fn set_port(alloc: Global, document: &mut KdlDocument, name: &str, port: i128) -> Result<(), Fail> {
+fn set_port(rt: &impl Abort, alloc: Global, document: &mut KdlDocument, name: &str, port: i128) {
     for node in document.nodes_mut().iter_mut() {
         if node.name().value() == name {
-            put(alloc, node, "port", KdlValue::from(port))?;
+            put(rt, alloc, node, "port", KdlValue::from(port));
         }
     }
-    Ok(())
+}
+
+/// The document prints the text once each server has the port.
+fn prints_with_port(
+    rt: &impl Abort,
+    alloc: Global,
+    document: &mut KdlDocument,
+    port: i128,
+    text: &str,
+) {
+    set_port(rt, alloc, document, "server", port);
+    let printed = document.to_string(alloc).expect(rt, "memory");
+    assert_eq!(rt; printed.as_str(), text);
 }
 
 #[test]
-fn one_setting_of_a_commented_file_is_changed(rt: HostRuntime) -> Result<(), Fail> {
+fn one_setting_of_a_commented_file_is_changed(rt: HostRuntime) {
     let alloc = rt.alloc();
     let text =
         "// Who may connect.\nserver \"main\"  port=0x1F90 /* the old one */ tls=#true {\n    allow \"10.0.0.0/8\" // the office\n}\n\n/-debug level=3\nlog  file=#\"C:\\log\"#\n";
     let changed =
         "// Who may connect.\nserver \"main\" port=8443 /* the old one */ tls=#true {\n    allow \"10.0.0.0/8\" // the office\n}\n\n/-debug level=3\nlog  file=#\"C:\\log\"#\n";
-    let mut document = KdlDocument::parse(alloc, text)?;
-    set_port(alloc, &mut document, "server", 8443)?;
-    assert_eq!(rt; document.to_string(alloc)?.as_str(), changed);
-    Ok(())
+    let mut document = KdlDocument::parse(alloc, text).expect(&rt, "no document");
+    prints_with_port(&rt, alloc, &mut document, 8443, changed);
 }

@@ -4,110 +4,122 @@ use kdl::{FloatFailure, KdlEntry, KdlEntryFormat, KdlFloat, KdlIdentifier, KdlVa
 use std::alloc::Global;
 use std::cmp::Ordering;
 use std::process::Abort;
-use std::test::Fail;
 
-fn string(alloc: Global, text: &str) -> Result<KdlValue, Fail> {
-    Ok(KdlValue::from_text(alloc, text)?)
+/// A copy of the text.
+fn text(rt: &impl Abort, alloc: Global, text: &str) -> String {
+    String::from_str(alloc, text).expect(rt, "memory")
 }
 
-fn float(alloc: Global, text: &str) -> Result<KdlValue, Fail> {
-    Ok(KdlValue::from(KdlFloat::new(alloc, text)?))
+fn string(rt: &impl Abort, alloc: Global, text: &str) -> KdlValue {
+    KdlValue::from_text(alloc, text).expect(rt, "memory")
+}
+
+fn float(rt: &impl Abort, alloc: Global, text: &str) -> KdlValue {
+    KdlValue::from(KdlFloat::new(alloc, text).expect(rt, "no float"))
+}
+
+fn identifier(rt: &impl Abort, alloc: Global, value: &str) -> KdlIdentifier {
+    KdlIdentifier::from_text(alloc, value).expect(rt, "memory")
 }
 
 /// The value prints the text.
-fn prints(rt: &impl Abort, alloc: Global, value: &KdlValue, text: &str) -> Result<(), Fail> {
-    let printed = value.to_string(alloc)?;
+fn prints(rt: &impl Abort, alloc: Global, value: &KdlValue, text: &str) {
+    let printed = value.to_string(alloc).expect(rt, "memory");
     assert_eq!(rt; printed.as_str(), text);
-    Ok(())
 }
 
 /// The string is printed as the spelling.
-fn spells(rt: &impl Abort, alloc: Global, text: &str, spelling: &str) -> Result<(), Fail> {
-    prints(rt, alloc, &string(alloc, text)?, spelling)
+fn spells(rt: &impl Abort, alloc: Global, text: &str, spelling: &str) {
+    prints(rt, alloc, &string(rt, alloc, text), spelling);
 }
 
 /// The whole number prints the text.
-fn number_prints(rt: &impl Abort, alloc: Global, number: i128, text: &str) -> Result<(), Fail> {
-    prints(rt, alloc, &KdlValue::from(number), text)
+fn number_prints(rt: &impl Abort, alloc: Global, number: i128, text: &str) {
+    prints(rt, alloc, &KdlValue::from(number), text);
 }
 
 /// The float of the text prints it.
-fn float_prints(rt: &impl Abort, alloc: Global, text: &str) -> Result<(), Fail> {
-    prints(rt, alloc, &float(alloc, text)?, text)
+fn float_prints(rt: &impl Abort, alloc: Global, text: &str) {
+    prints(rt, alloc, &float(rt, alloc, text), text);
 }
 
 #[test]
-fn printed_numbers(rt: HostRuntime) -> Result<(), Fail> {
+fn printed_numbers(rt: HostRuntime) {
     let alloc = rt.alloc();
-    number_prints(&rt, alloc, -17, "-17")?;
+    number_prints(&rt, alloc, -17, "-17");
     let least = "-170141183460469231731687303715884105728";
-    number_prints(&rt, alloc, i128::MIN, least)?;
-    float_prints(&rt, alloc, "-0.5E-3")?;
-    float_prints(&rt, alloc, "#-inf")
+    number_prints(&rt, alloc, i128::MIN, least);
+    float_prints(&rt, alloc, "-0.5E-3");
+    float_prints(&rt, alloc, "#-inf");
 }
 
 #[test]
-fn printed_keywords(rt: HostRuntime) -> Result<(), Fail> {
+fn printed_keywords(rt: HostRuntime) {
     let alloc = rt.alloc();
-    prints(&rt, alloc, &KdlValue::from(true), "#true")?;
-    prints(&rt, alloc, &KdlValue::from(false), "#false")?;
-    prints(&rt, alloc, &KdlValue::Null, "#null")?;
-    prints(&rt, alloc, &KdlValue::from(None), "#null")?;
-    prints(&rt, alloc, &KdlValue::from(Some(KdlValue::from(1))), "1")
+    prints(&rt, alloc, &KdlValue::from(true), "#true");
+    prints(&rt, alloc, &KdlValue::from(false), "#false");
+    prints(&rt, alloc, &KdlValue::Null, "#null");
+    prints(&rt, alloc, &KdlValue::from(None), "#null");
+    prints(&rt, alloc, &KdlValue::from(Some(KdlValue::from(1))), "1");
 }
 
 #[test]
-fn printed_strings(rt: HostRuntime) -> Result<(), Fail> {
+fn printed_strings(rt: HostRuntime) {
     let alloc = rt.alloc();
-    spells(&rt, alloc, "foo", "foo")?;
-    spells(&rt, alloc, "\u{85}", "\"\\u{85}\"")?;
-    spells(&rt, alloc, "\u{7f}", "\"\\u{7f}\"")?;
-    spells(&rt, alloc, "\u{feff}", "\"\\u{feff}\"")?;
-    spells(&rt, alloc, "-.5", "\"-.5\"")?;
-    spells(&rt, alloc, "-inf", "\"-inf\"")?;
-    spells(&rt, alloc, "true", "\"true\"")?;
-    spells(&rt, alloc, "", "\"\"")?;
-    spells(&rt, alloc, "1a", "\"1a\"")?;
-    spells(&rt, alloc, "foo\n", "\"foo\\n\"")?;
-    spells(&rt, alloc, "a\r\tb", "\"a\\r\\tb\"")?;
-    spells(&rt, alloc, "\u{8}\u{c}", "\"\\b\\f\"")?;
-    spells(&rt, alloc, "m\"eh\\", "\"m\\\"eh\\\\\"")?;
-    spells(&rt, alloc, "+.", "+.")?;
-    spells(&rt, alloc, "\u{fc}ber", "\u{fc}ber")
+    spells(&rt, alloc, "foo", "foo");
+    spells(&rt, alloc, "\u{85}", "\"\\u{85}\"");
+    spells(&rt, alloc, "\u{7f}", "\"\\u{7f}\"");
+    spells(&rt, alloc, "\u{feff}", "\"\\u{feff}\"");
+    spells(&rt, alloc, "-.5", "\"-.5\"");
+    spells(&rt, alloc, "-inf", "\"-inf\"");
+    spells(&rt, alloc, "true", "\"true\"");
+    spells(&rt, alloc, "", "\"\"");
+    spells(&rt, alloc, "1a", "\"1a\"");
+    spells(&rt, alloc, "foo\n", "\"foo\\n\"");
+    spells(&rt, alloc, "a\r\tb", "\"a\\r\\tb\"");
+    spells(&rt, alloc, "\u{8}\u{c}", "\"\\b\\f\"");
+    spells(&rt, alloc, "m\"eh\\", "\"m\\\"eh\\\\\"");
+    spells(&rt, alloc, "+.", "+.");
+    spells(&rt, alloc, "\u{fc}ber", "\u{fc}ber");
 }
 
-#[test]
-fn ordered_values(rt: HostRuntime) -> Result<(), Fail> {
-    let alloc = rt.alloc();
-    let values = vec![in alloc;
-        string(alloc, "b")?,
+/// Values in their order.
+fn ascending(rt: &impl Abort, alloc: Global) -> Vec<KdlValue> {
+    vec![in alloc;
+        string(rt, alloc, "b"),
         KdlValue::from(-5),
         KdlValue::from(3),
-        float(alloc, "10.0")?,
-        float(alloc, "9.0")?,
+        float(rt, alloc, "10.0"),
+        float(rt, alloc, "9.0"),
         KdlValue::from(false),
         KdlValue::from(true),
         KdlValue::Null,
-    ]?;
+    ]
+    .expect(rt, "memory")
+}
+
+fn check_ordered_values(rt: &impl Abort, values: &[KdlValue]) {
     for (i, a) in values.iter().enumerate() {
         for (j, b) in values.iter().enumerate() {
             assert_eq!(rt; a.cmp(b), i.cmp(&j));
             assert_eq!(rt; a == b, i == j);
         }
     }
-    assert_eq!(rt;
-        string(alloc, "b")?.cmp(&string(alloc, "ab")?),
-        Ordering::Greater
-    );
-    Ok(())
 }
 
 #[test]
-fn a_string(rt: HostRuntime) -> Result<(), Fail> {
-    let text = string(rt.alloc(), "a")?;
+fn ordered_values(rt: HostRuntime) {
+    let alloc = rt.alloc();
+    check_ordered_values(&rt, ascending(&rt, alloc).as_slice());
+    let b = string(&rt, alloc, "b");
+    assert_eq!(rt; b.cmp(&string(&rt, alloc, "ab")), Ordering::Greater);
+}
+
+#[test]
+fn a_string(rt: HostRuntime) {
+    let text = string(&rt, rt.alloc(), "a");
     assert!(rt; text.is_string() && !text.is_null());
     assert_eq!(rt; text.as_string(), Some("a"));
-    Ok(())
 }
 
 #[test]
@@ -117,13 +129,18 @@ fn a_whole_number(rt: HostRuntime) {
     assert_eq!(rt; whole.as_integer(), Some(3));
 }
 
+/// A copy of the value equals it.
+fn is_copied(rt: &impl Abort, value: &KdlValue) {
+    assert!(rt; value.clone().expect(rt, "memory") == *value);
+}
+
 #[test]
-fn a_decimal(rt: HostRuntime) -> Result<(), Fail> {
-    let decimal = float(rt.alloc(), "3.0")?;
+fn a_decimal(rt: HostRuntime) {
+    let decimal = float(&rt, rt.alloc(), "3.0");
     assert!(rt; decimal.is_float() && !decimal.is_integer());
     assert_eq!(rt; decimal.as_float().map(|f| f.as_str()), Some("3.0"));
-    assert!(rt; decimal.clone()? == decimal && decimal != KdlValue::from(3));
-    Ok(())
+    is_copied(&rt, &decimal);
+    assert!(rt; decimal != KdlValue::from(3));
 }
 
 #[test]
@@ -161,74 +178,76 @@ fn float_texts(rt: HostRuntime) {
     }
 }
 
-#[test]
-fn float_failures(rt: HostRuntime) -> Result<(), Fail> {
-    let alloc = rt.alloc();
-    assert_eq!(rt;
-        FloatFailure::NotAFloat.to_string(alloc)?.as_str(),
-        "not a KDL float"
-    );
-    assert_eq!(rt;
-        FloatFailure::Memory.to_string(alloc)?.as_str(),
-        "out of memory"
-    );
-    Ok(())
+/// The failure prints the text.
+fn failure_prints(rt: &impl Abort, alloc: Global, failure: FloatFailure, text: &str) {
+    let printed = failure.to_string(alloc).expect(rt, "memory");
+    assert_eq!(rt; printed.as_str(), text);
 }
 
 #[test]
-fn identifiers(rt: HostRuntime) -> Result<(), Fail> {
+fn float_failures(rt: HostRuntime) {
     let alloc = rt.alloc();
-    let mut name = KdlIdentifier::from_text(alloc, "\u{e9}")?;
-    assert_eq!(rt; name.len(alloc)?, 2);
-    name.set_repr(String::from_str(alloc, "\"\\u{e9}\"")?);
-    assert_eq!(rt; name.len(alloc)?, 8);
+    failure_prints(&rt, alloc, FloatFailure::NotAFloat, "not a KDL float");
+    failure_prints(&rt, alloc, FloatFailure::Memory, "out of memory");
+}
+
+fn check_identifiers(rt: &impl Abort, alloc: Global, name: &mut KdlIdentifier) {
+    assert_eq!(rt; name.len(alloc).expect(rt, "memory"), 2);
+    name.set_repr(text(rt, alloc, "\"\\u{e9}\""));
+    assert_eq!(rt; name.len(alloc).expect(rt, "memory"), 8);
     name.autoformat();
     assert!(rt; name.repr().is_none());
-    assert!(rt; !KdlIdentifier::from_text(alloc, "")?.is_empty(alloc)?);
-    Ok(())
+}
+
+#[test]
+fn identifiers(rt: HostRuntime) {
+    let alloc = rt.alloc();
+    check_identifiers(&rt, alloc, &mut identifier(&rt, alloc, "\u{e9}"));
+    let is_empty = identifier(&rt, alloc, "").is_empty(alloc);
+    assert!(rt; !is_empty.expect(&rt, "memory"));
 }
 
 /// The texts around `k=(t)1`.
-fn format(alloc: Global) -> Result<KdlEntryFormat, Fail> {
+fn format(rt: &impl Abort, alloc: Global) -> KdlEntryFormat {
     let mut format = KdlEntryFormat::new(alloc);
-    format.leading.push_str("  ")?;
-    format.value_repr.push_str("0x1")?;
-    format.after_eq.push_str(" ")?;
-    format.trailing.push_str(" ")?;
-    Ok(format)
+    format.leading.push_str("  ").expect(rt, "memory");
+    format.value_repr.push_str("0x1").expect(rt, "memory");
+    format.after_eq.push_str(" ").expect(rt, "memory");
+    format.trailing.push_str(" ").expect(rt, "memory");
+    format
 }
 
 /// The entry `k=(t)1`, with a format.
-fn property(alloc: Global) -> Result<KdlEntry, Fail> {
-    let key = KdlIdentifier::from_text(alloc, "k")?;
-    let ty = KdlIdentifier::from_text(alloc, "t")?;
-    let format = format(alloc)?;
+fn property(rt: &impl Abort, alloc: Global) -> KdlEntry {
+    let key = identifier(rt, alloc, "k");
+    let ty = identifier(rt, alloc, "t");
+    let format = format(rt, alloc);
     let mut entry = KdlEntry::from((key, KdlValue::from(1)));
     entry.set_ty(ty);
     entry.set_format(format);
-    Ok(entry)
+    entry
 }
 
-fn entry_prints(rt: &impl Abort, alloc: Global, entry: &KdlEntry, text: &str) -> Result<(), Fail> {
-    assert_eq!(rt; entry.to_string(alloc)?.as_str(), text);
-    assert_eq!(rt; entry.len(alloc)?, text.len());
-    assert_eq!(rt; entry.is_empty(alloc)?, text.is_empty());
-    Ok(())
+/// The entry prints the text, and has its length.
+fn entry_prints(rt: &impl Abort, alloc: Global, entry: &KdlEntry, text: &str) {
+    assert_eq!(rt; entry.to_string(alloc).expect(rt, "memory").as_str(), text);
+    assert_eq!(rt; entry.len(alloc).expect(rt, "memory"), text.len());
+    assert_eq!(rt; entry.is_empty(alloc).expect(rt, "memory"), text.is_empty());
 }
 
-fn check_entries(rt: &impl Abort, alloc: Global, entry: &mut KdlEntry) -> Result<(), Fail> {
-    entry_prints(rt, alloc, entry, "  k= (t)0x1 ")?;
+fn check_entries(rt: &impl Abort, alloc: Global, entry: &mut KdlEntry) {
+    entry_prints(rt, alloc, entry, "  k= (t)0x1 ");
     entry.keep_format();
     entry.autoformat();
-    entry_prints(rt, alloc, entry, "  k=(t)0x1")?;
+    entry_prints(rt, alloc, entry, "  k=(t)0x1");
     entry.autoformat();
-    entry_prints(rt, alloc, entry, "k=(t)1")
+    entry_prints(rt, alloc, entry, "k=(t)1");
 }
 
 #[test]
-fn entries(rt: HostRuntime) -> Result<(), Fail> {
+fn entries(rt: HostRuntime) {
     let alloc = rt.alloc();
-    check_entries(&rt, alloc, &mut property(alloc)?)
+    check_entries(&rt, alloc, &mut property(&rt, alloc));
 }
 
 fn check_formats_count(rt: &impl Abort, entry: &mut KdlEntry, other: &mut KdlEntry) {
@@ -242,32 +261,31 @@ fn check_formats_count(rt: &impl Abort, entry: &mut KdlEntry, other: &mut KdlEnt
 }
 
 #[test]
-fn formats_count(rt: HostRuntime) -> Result<(), Fail> {
+fn formats_count(rt: HostRuntime) {
     let alloc = rt.alloc();
-    check_formats_count(&rt, &mut property(alloc)?, &mut property(alloc)?);
-    Ok(())
+    check_formats_count(&rt, &mut property(&rt, alloc), &mut property(&rt, alloc));
 }
 
-fn check_lent_parts(rt: &impl Abort, alloc: Global, entry: &mut KdlEntry) -> Result<(), Fail> {
+fn check_lent_parts(rt: &impl Abort, alloc: Global, entry: &mut KdlEntry) {
     if let Some(name) = entry.name_mut() {
-        name.set_value(String::from_str(alloc, "key")?);
+        name.set_value(text(rt, alloc, "key"));
     }
     if let Some(ty) = entry.ty_mut() {
-        ty.set_value(String::from_str(alloc, "type")?);
+        ty.set_value(text(rt, alloc, "type"));
     }
     if let Some(format) = entry.format_mut() {
-        format.after_ty.push_str(" ")?;
+        format.after_ty.push_str(" ").expect(rt, "memory");
     }
     *entry.value_mut() = KdlValue::Null;
-    entry_prints(rt, alloc, entry, "  key= (type) 0x1 ")?;
+    entry_prints(rt, alloc, entry, "  key= (type) 0x1 ");
     entry.clear_format();
-    entry_prints(rt, alloc, entry, "key=(type)#null")
+    entry_prints(rt, alloc, entry, "key=(type)#null");
 }
 
 #[test]
-fn lent_parts(rt: HostRuntime) -> Result<(), Fail> {
+fn lent_parts(rt: HostRuntime) {
     let alloc = rt.alloc();
-    check_lent_parts(&rt, alloc, &mut property(alloc)?)
+    check_lent_parts(&rt, alloc, &mut property(&rt, alloc));
 }
 
 #[test]
