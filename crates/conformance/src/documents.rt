@@ -1,7 +1,8 @@
 //! Documents: what is read, what is refused, and that a document prints its text.
 
 use crate::reading::{
-    has_ends, has_margins, has_places, is_called, is_string, is_whole, lone_entry, lone_node, read,
+    expects_the_end, has_ends, has_margins, has_places, is_called, is_string, is_whole,
+    lone_diagnostic, lone_entry, lone_node, read,
 };
 use conformance_text::characters::{NEWLINES, SPACES};
 use kdl::{KdlDocument, KdlError, KdlNode, ParseFailure, Severity};
@@ -19,16 +20,10 @@ fn refuse(rt: &impl Abort, alloc: Global, text: &str) {
 
 /// The error has the text, and one diagnostic.
 fn tells(rt: &impl Abort, error: &KdlError, text: &str) {
-    assert_eq!(rt; error.input.as_str(), text);
-    assert_eq!(rt; error.diagnostics.len(), 1);
-    for diagnostic in &error.diagnostics {
-        let message = diagnostic.message.as_ref().map_or("", |m| m.as_str());
-        assert_eq!(rt; message, "Expected end of document");
-        let label = diagnostic.label.as_ref().map_or("", |m| m.as_str());
-        assert_eq!(rt; label, "not EOF");
-        assert!(rt; diagnostic.help.is_none());
-        assert_eq!(rt; diagnostic.severity, Severity::Error);
-    }
+    let diagnostic = lone_diagnostic(rt, error, text);
+    expects_the_end(rt, diagnostic);
+    assert!(rt; diagnostic.help.is_none());
+    assert_eq!(rt; diagnostic.severity, Severity::Error);
 }
 
 fn check_three_arguments(rt: &impl Abort, node: &KdlNode) {

@@ -1,8 +1,9 @@
 //! Nodes that are a whole text: what is read, what is refused and where, and that a node prints its text.
 
 use crate::reading::{
-    around_block, block, ends, fill, has_around_block, has_ends, has_margins, has_node_type_places,
-    has_places, is_called, is_range, lone_entry, lone_node, range,
+    around_block, block, ends, expects_the_end, fill, has_around_block, has_ends, has_margins,
+    has_node_type_places, has_places, is_called, is_range, lone_diagnostic, lone_entry, lone_node,
+    range,
 };
 use conformance_text::characters::NEWLINES;
 use kdl::{KdlDocument, KdlError, KdlNode, ParseFailure, SourceSpan};
@@ -38,15 +39,9 @@ fn refused_at(rt: &impl Abort, alloc: Global, text: &str, offset: usize, len: us
 
 /// The error has the text, and one diagnostic, which is at the span.
 fn tells(rt: &impl Abort, error: &KdlError, text: &str, span: SourceSpan) {
-    assert_eq!(rt; error.input.as_str(), text);
-    assert_eq!(rt; error.diagnostics.len(), 1);
-    for diagnostic in &error.diagnostics {
-        assert_eq!(rt; diagnostic.span, span);
-        let message = diagnostic.message.as_ref().map_or("", |m| m.as_str());
-        assert_eq!(rt; message, "Expected end of document");
-        let label = diagnostic.label.as_ref().map_or("", |m| m.as_str());
-        assert_eq!(rt; label, "not EOF");
-    }
+    let diagnostic = lone_diagnostic(rt, error, text);
+    expects_the_end(rt, diagnostic);
+    assert_eq!(rt; diagnostic.span, span);
 }
 
 /// The text is read, with these texts before the node and behind its terminator, and this terminator.
@@ -59,11 +54,15 @@ fn stands(
     trailing: &str,
 ) {
     let node = read(rt, alloc, text);
-    assert_eq!(rt; node.name().value(), "n", "{text:?}");
-    let (before, _, end) = ends(&node);
-    assert_eq!(rt; before, leading, "{text:?}");
-    assert_eq!(rt; end, terminator, "{text:?}");
-    assert_eq!(rt; around_block(&node).1, trailing, "{text:?}");
+    is_called(rt, Some(node.name()), "n");
+    check_ends(rt, &node, leading, terminator, trailing);
+}
+
+/// These texts stand before the node and behind its terminator, which is this one.
+fn check_ends(rt: &impl Abort, node: &KdlNode, leading: &str, terminator: &str, trailing: &str) {
+    let (before, _, end) = ends(node);
+    assert_eq!(rt; (before, end), (leading, terminator));
+    assert_eq!(rt; around_block(node).1, trailing);
 }
 
 #[test]

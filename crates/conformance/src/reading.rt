@@ -2,7 +2,10 @@
 
 use crate::reprinted;
 use conformance_text::characters::filled;
-use kdl::{KdlDocument, KdlEntry, KdlError, KdlIdentifier, KdlNode, ParseFailure, SourceSpan};
+use kdl::{
+    KdlDiagnostic, KdlDocument, KdlEntry, KdlError, KdlIdentifier, KdlNode, ParseFailure,
+    SourceSpan,
+};
 use std::alloc::Global;
 use std::process::Abort;
 
@@ -42,6 +45,29 @@ fn tells_where(rt: &impl Abort, error: &KdlError, text: &str) {
         assert!(rt; text.is_char_boundary(start), "{text:?} at {start}");
         assert!(rt; text.is_char_boundary(end), "{text:?} at {end}");
     }
+}
+
+/// The one diagnostic of an error, which has the text.
+pub fn lone_diagnostic<'a>(rt: &impl Abort, error: &'a KdlError, text: &str) -> &'a KdlDiagnostic {
+    assert_eq!(rt; error.input.as_str(), text);
+    let [diagnostic] = error.diagnostics.as_slice() else {
+        panic!(rt; "not one diagnostic");
+    };
+    diagnostic
+}
+
+/// A text that may be absent.
+fn said(text: &Option<String>) -> &str {
+    match text {
+        Some(text) => text.as_str(),
+        None => "none",
+    }
+}
+
+/// The diagnostic says that the text does not end where a document does.
+pub fn expects_the_end(rt: &impl Abort, diagnostic: &KdlDiagnostic) {
+    assert_eq!(rt; said(&diagnostic.message), "Expected end of document");
+    assert_eq!(rt; said(&diagnostic.label), "not EOF");
 }
 
 /// Whether the text is a document. One that is read prints the text; one that is refused tells where.

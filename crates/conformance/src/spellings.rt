@@ -1,6 +1,6 @@
 //! Strings in their five spellings, and numbers in their four bases.
 
-use crate::reading::{is_argument, joined, lone_entry, lone_node, read, refuse};
+use crate::reading::{is_argument, joined, lone_diagnostic, lone_entry, lone_node, read, refuse};
 use kdl::{KdlError, KdlIdentifier, KdlValue, ParseFailure, SourceSpan};
 use std::alloc::Global;
 use std::process::Abort;
@@ -40,17 +40,14 @@ fn refused_at(rt: &impl Abort, alloc: Global, text: &str, offset: usize, len: us
     match KdlIdentifier::parse(alloc, text) {
         Ok(_) => panic!(rt; "{text:?} is read"),
         Err(ParseFailure::Memory) => panic!(rt; "{text:?} wants memory"),
-        Err(ParseFailure::Syntax(error)) => tells_where(rt, &error, text, offset, len),
+        Err(ParseFailure::Syntax(error)) => tells(rt, &error, text, SourceSpan { offset, len }),
     }
 }
 
 /// The error has the text, and one diagnostic, which is at the span.
-fn tells_where(rt: &impl Abort, error: &KdlError, text: &str, offset: usize, len: usize) {
-    assert_eq!(rt; error.input.as_str(), text);
-    assert_eq!(rt; error.diagnostics.len(), 1);
-    for diagnostic in &error.diagnostics {
-        assert_eq!(rt; diagnostic.span, SourceSpan { offset, len });
-    }
+fn tells(rt: &impl Abort, error: &KdlError, text: &str, span: SourceSpan) {
+    let diagnostic = lone_diagnostic(rt, error, text);
+    assert_eq!(rt; diagnostic.span, span);
 }
 
 /// The text is one argument of a node, and this whole number is its value.
