@@ -11,17 +11,11 @@ mod blocks;
 #[cfg(test)]
 mod documents;
 #[cfg(test)]
-mod errors;
-#[cfg(test)]
 mod newline_rows;
 #[cfg(test)]
 mod nodes;
 #[cfg(test)]
 mod reading;
-#[cfg(test)]
-mod spellings;
-#[cfg(test)]
-mod steps;
 #[cfg(test)]
 mod trivia_rows;
 #[cfg(test)]

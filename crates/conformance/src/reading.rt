@@ -1,7 +1,7 @@
 //! What the tests of documents share: a text that is read or refused, its nodes, and their places.
 
 use crate::reprinted;
-use conformance_text::characters::filled;
+use conformance_text::characters;
 use kdl::{
     KdlDiagnostic, KdlDocument, KdlEntry, KdlError, KdlIdentifier, KdlNode, ParseFailure,
     SourceSpan,
@@ -203,15 +203,7 @@ pub fn nested(
     closing: &str,
     depth: usize,
 ) -> String {
-    let mut text = String::new(alloc);
-    for _ in 0..depth {
-        text.push_str(opening).expect(rt, "memory");
-    }
-    text.push_str(middle).expect(rt, "memory");
-    for _ in 0..depth {
-        text.push_str(closing).expect(rt, "memory");
-    }
-    text
+    characters::nested(alloc, opening, middle, closing, depth).expect(rt, "memory")
 }
 
 /// The two texts, one behind the other.
@@ -221,7 +213,7 @@ pub fn joined(rt: &impl Abort, alloc: Global, front: &str, text: &str) -> String
 
 /// The pattern with the text in the place of each `~`.
 pub fn fill(rt: &impl Abort, alloc: Global, pattern: &str, text: &str) -> String {
-    filled(alloc, pattern, text).expect(rt, "memory")
+    characters::filled(alloc, pattern, text).expect(rt, "memory")
 }
 
 /// The span has this start and this end.

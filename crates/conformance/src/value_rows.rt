@@ -49,6 +49,7 @@ fn whole_numbers(rt: HostRuntime) {
         ("0x7fffffffffffffffffffffffffffffff", i128::MAX),
         ("0o12_34", 668),
         ("0xdead_beef123", 15302363377955),
+        ("0xDEADbeef", 3735928559),
         ("0B1_0", 2),
         ("1__0_", 10),
         ("+007", 7),
@@ -97,11 +98,12 @@ fn floats(rt: HostRuntime) {
 }
 
 /// The strings of the table that are written on one line or many, with their values.
-const STRINGS: [(&str, &str); 24] = [
+const STRINGS: [(&str, &str); 26] = [
     ("-inf", "-inf"),
     ("+.", "+."),
     ("..5", "..5"),
     ("_1234", "_1234"),
+    ("_1234.56", "_1234.56"),
     ("-", "-"),
     ("--flag", "--flag"),
     ("<>&*|!?,:", "<>&*|!?,:"),
@@ -116,6 +118,7 @@ const STRINGS: [(&str, &str); 24] = [
     ("##\"a\"#b\"##", "a\"#b"),
     ("\"\"\"\n\"\"\"", ""),
     ("\"\"\"\n \\sx\n \"\"\"", " x"),
+    ("\"\"\"\n \t \\\n          \n \t \"\"\"", ""),
     ("\"\"\"\n  a \\\n  b\n  \"\"\"", "a b"),
     ("\"\"\"\na\"b\"\"c\n\"\"\"", "a\"b\"\"c"),
     (

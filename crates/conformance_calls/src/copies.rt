@@ -1,5 +1,6 @@
 //! Each copy has what its source has, and each conversion what it was made of.
 
+use crate::reading::{identifier, node, prints, read, text};
 use kdl::{
     KdlDiagnostic, KdlDocument, KdlDocumentFormat, KdlEntry, KdlEntryFormat, KdlError, KdlFloat,
     KdlIdentifier, KdlNode, KdlNodeFormat, KdlValue, ParseFailure, Severity, SourceSpan,
@@ -10,14 +11,9 @@ use std::rc::RcStr;
 
 const SPAN: SourceSpan = SourceSpan { offset: 3, len: 2 };
 
-/// The text, owned.
-fn text(rt: &impl Abort, alloc: Global, text: &str) -> String {
-    String::from_str(alloc, text).expect(rt, "memory")
-}
-
 /// An identifier with a spelling and a span.
 fn spelled(rt: &impl Abort, alloc: Global, value: &str, repr: &str) -> KdlIdentifier {
-    let mut identifier = KdlIdentifier::from_text(alloc, value).expect(rt, "memory");
+    let mut identifier = identifier(rt, alloc, value);
     identifier.set_repr(text(rt, alloc, repr));
     identifier.set_span(SPAN);
     identifier
@@ -47,61 +43,19 @@ fn property(rt: &impl Abort, alloc: Global) -> KdlEntry {
     entry
 }
 
-/// The float prints this text.
-fn float_prints(rt: &impl Abort, alloc: Global, float: &KdlFloat, text: &str) {
-    let printed = float.to_string(alloc).expect(rt, "memory");
-    assert_eq!(rt; printed.as_str(), text);
-}
-
-/// The value prints this text.
-fn value_prints(rt: &impl Abort, alloc: Global, value: &KdlValue, text: &str) {
-    let printed = value.to_string(alloc).expect(rt, "memory");
-    assert_eq!(rt; printed.as_str(), text);
-}
-
-/// The identifier prints this text.
-fn name_prints(rt: &impl Abort, alloc: Global, name: &KdlIdentifier, text: &str) {
-    let printed = name.to_string(alloc).expect(rt, "memory");
-    assert_eq!(rt; printed.as_str(), text);
-}
-
-/// The entry prints this text.
-fn entry_prints(rt: &impl Abort, alloc: Global, entry: &KdlEntry, text: &str) {
-    let printed = entry.to_string(alloc).expect(rt, "memory");
-    assert_eq!(rt; printed.as_str(), text);
-}
-
-/// The node prints this text.
-fn node_prints(rt: &impl Abort, alloc: Global, node: &KdlNode, text: &str) {
-    let printed = node.to_string(alloc).expect(rt, "memory");
-    assert_eq!(rt; printed.as_str(), text);
-}
-
-/// The diagnostic prints this text.
-fn diagnostic_prints(rt: &impl Abort, alloc: Global, diagnostic: &KdlDiagnostic, text: &str) {
-    let printed = diagnostic.to_string(alloc).expect(rt, "memory");
-    assert_eq!(rt; printed.as_str(), text);
-}
-
-/// The failure prints this text.
-fn failure_prints(rt: &impl Abort, alloc: Global, failure: &ParseFailure, text: &str) {
-    let printed = failure.to_string(alloc).expect(rt, "memory");
-    assert_eq!(rt; printed.as_str(), text);
-}
-
 /// A copy of the float equals it and has this text, which the float prints.
 fn float_is_copied(rt: &impl Abort, alloc: Global, float: &KdlFloat, text: &str) {
     let copy = float.clone().expect(rt, "memory");
     assert!(rt; copy == *float);
     assert_eq!(rt; copy.as_str(), text);
-    float_prints(rt, alloc, float, text);
+    prints(rt, alloc, float, text);
 }
 
 /// A copy of the value equals it, and prints this text.
 fn value_is_copied(rt: &impl Abort, alloc: Global, value: &KdlValue, text: &str) {
     let copy = value.clone().expect(rt, "memory");
     assert!(rt; copy == *value);
-    value_prints(rt, alloc, &copy, text);
+    prints(rt, alloc, &copy, text);
 }
 
 #[test]
@@ -128,7 +82,7 @@ fn is_value_of(rt: &impl Abort, alloc: Global, value: &KdlValue, text: &str) {
 fn is_plain(rt: &impl Abort, alloc: Global, name: &KdlIdentifier, value: &str, printed: &str) {
     assert_eq!(rt; name.value(), value);
     assert!(rt; name.repr().is_none());
-    name_prints(rt, alloc, name, printed);
+    prints(rt, alloc, name, printed);
 }
 
 /// The identifier becomes this text.
@@ -157,7 +111,7 @@ fn check_identifiers_are_copied(
     assert_eq!(rt; copy.value(), "a b");
     assert_eq!(rt; copy.repr(), Some("\"a\\sb\""));
     assert_eq!(rt; copy.span(), SPAN);
-    name_prints(rt, alloc, copy, "\"a\\sb\"");
+    prints(rt, alloc, copy, "\"a\\sb\"");
     assert_eq!(rt; copy.len(alloc).expect(rt, "memory"), 6);
 }
 
@@ -174,6 +128,8 @@ fn identifiers_are_copied(rt: HostRuntime) {
     let copy = name.clone().expect(&rt, "memory");
     check_identifiers_are_copied(&rt, alloc, &name, &copy);
     is_blank(&rt, alloc, &spelled(&rt, alloc, "a", ""));
+    drop(name);
+    drop(copy);
 }
 
 /// A copy of the format equals it, and has the texts of the entry above.
@@ -183,12 +139,13 @@ fn format_of_the_property_is_copied(rt: &impl Abort, format: &KdlEntryFormat) {
     assert_eq!(rt; again.leading.as_str(), " \\\n ");
     assert_eq!(rt; again.trailing.as_str(), "\t\\\n");
     assert_eq!(rt; again.value_repr.as_str(), "0xDEADbeef");
+    drop(again);
 }
 
 fn check_entries_are_copied(rt: &impl Abort, alloc: Global, entry: &KdlEntry, copy: &KdlEntry) {
     assert!(rt; *copy == *entry);
     let printed = " \\\n \"foo\"=(\"m\\\"eh\")0xDEADbeef\t\\\n";
-    entry_prints(rt, alloc, copy, printed);
+    prints(rt, alloc, copy, printed);
     assert_eq!(rt; copy.len(alloc).expect(rt, "memory"), 32);
     assert_eq!(rt; copy.span(), SourceSpan { offset: 0, len: 32 });
     assert_eq!(rt; copy.name().map(|name| name.value()), Some("foo"));
@@ -203,6 +160,8 @@ fn entries_are_copied(rt: HostRuntime) {
     let entry = property(&rt, alloc);
     let copy = entry.clone().expect(&rt, "memory");
     check_entries_are_copied(&rt, alloc, &entry, &copy);
+    drop(entry);
+    drop(copy);
 }
 
 fn check_an_entry_whose_format_is_empty(rt: &impl Abort, alloc: Global, blank: &mut KdlEntry) {
@@ -216,6 +175,7 @@ fn an_entry_whose_format_is_empty(rt: HostRuntime) {
     let alloc = rt.alloc();
     let mut blank = KdlEntry::new(KdlValue::Null);
     check_an_entry_whose_format_is_empty(&rt, alloc, &mut blank);
+    drop(blank);
 }
 
 /// A copy of the format has the texts of the node below, and is no new format.
@@ -225,6 +185,7 @@ fn format_of_the_node_is_copied(rt: &impl Abort, alloc: Global, format: &KdlNode
     assert_eq!(rt; format.before_terminator.as_str(), " ");
     assert_eq!(rt; format.terminator.as_str(), ";");
     assert!(rt; format != KdlNodeFormat::new(alloc));
+    drop(format);
 }
 
 fn check_nodes_and_their_formats_are_copied(
@@ -234,17 +195,9 @@ fn check_nodes_and_their_formats_are_copied(
     copy: &KdlNode,
 ) {
     assert!(rt; *copy == *node);
-    node_prints(rt, alloc, copy, " \n\"a b\"  1 ;");
+    prints(rt, alloc, copy, " \n\"a b\"  1 ;");
     let format = copy.format().expect(rt, "no format");
     format_of_the_node_is_copied(rt, alloc, format);
-}
-
-/// The node of a text.
-fn node(rt: &impl Abort, alloc: Global, text: &str) -> KdlNode {
-    match KdlNode::parse(alloc, text) {
-        Ok(node) => node,
-        Err(_) => panic!(rt; "{text:?} is refused"),
-    }
 }
 
 #[test]
@@ -253,6 +206,8 @@ fn nodes_and_their_formats_are_copied(rt: HostRuntime) {
     let node = node(&rt, alloc, " \n\"a b\"  1 ;");
     let copy = node.clone().expect(&rt, "memory");
     check_nodes_and_their_formats_are_copied(&rt, alloc, &node, &copy);
+    drop(node);
+    drop(copy);
 }
 
 fn check_formats_of_documents_are_copied(rt: &impl Abort, alloc: Global, document: &KdlDocument) {
@@ -261,20 +216,13 @@ fn check_formats_of_documents_are_copied(rt: &impl Abort, alloc: Global, documen
     assert_eq!(rt; around.leading.as_str(), "");
     assert_eq!(rt; around.trailing.as_str(), "\n");
     assert!(rt; around != KdlDocumentFormat::new(alloc));
-}
-
-/// The document of a text.
-fn document(rt: &impl Abort, alloc: Global, text: &str) -> KdlDocument {
-    match KdlDocument::parse(alloc, text) {
-        Ok(document) => document,
-        Err(_) => panic!(rt; "{text:?} is refused"),
-    }
+    drop(around);
 }
 
 #[test]
 fn formats_of_documents_are_copied(rt: HostRuntime) {
     let alloc = rt.alloc();
-    check_formats_of_documents_are_copied(&rt, alloc, &document(&rt, alloc, "n ;\n"));
+    check_formats_of_documents_are_copied(&rt, alloc, &read(&rt, alloc, "n ;\n"));
 }
 
 /// A diagnostic of a text, with all its parts.
@@ -308,7 +256,7 @@ fn check_diagnostics_are_copied(
     copy: &KdlDiagnostic,
 ) {
     assert!(rt; *copy == *diagnostic);
-    diagnostic_prints(rt, alloc, copy, "message");
+    prints(rt, alloc, copy, "message");
     assert_eq!(rt; copy.input.as_str(), "n }");
     assert_eq!(rt; copy.severity, Severity::Warning);
     diagnostic.span = SourceSpan { offset: 3, len: 1 };
@@ -321,6 +269,8 @@ fn diagnostics_are_copied(rt: HostRuntime) {
     let mut diagnostic = diagnostic(&rt, alloc);
     let copy = diagnostic.clone().expect(&rt, "memory");
     check_diagnostics_are_copied(&rt, alloc, &mut diagnostic, &copy);
+    drop(diagnostic);
+    drop(copy);
 }
 
 fn check_errors_are_copied(rt: &impl Abort, error: &KdlError, copy: &KdlError) {
@@ -333,6 +283,8 @@ fn errors_are_copied(rt: HostRuntime) {
     let error = error(&rt, rt.alloc());
     let copy = error.clone().expect(&rt, "memory");
     check_errors_are_copied(&rt, &error, &copy);
+    drop(error);
+    drop(copy);
 }
 
 fn check_failures_are_copied(
@@ -343,7 +295,7 @@ fn check_failures_are_copied(
 ) {
     assert!(rt; *copy == *failure);
     assert!(rt; *copy != ParseFailure::Memory);
-    failure_prints(rt, alloc, copy, "Failed to parse KDL document");
+    prints(rt, alloc, copy, "Failed to parse KDL document");
 }
 
 #[test]
@@ -352,4 +304,6 @@ fn failures_are_copied(rt: HostRuntime) {
     let failure = ParseFailure::Syntax(error(&rt, alloc));
     let copy = failure.clone().expect(&rt, "memory");
     check_failures_are_copied(&rt, alloc, &failure, &copy);
+    drop(failure);
+    drop(copy);
 }

@@ -1,23 +1,13 @@
 //! What equality, order and hash regard, and that they ignore spans.
 
+use crate::hash_of;
+use crate::reading::{identifier, node, prints, read, text};
 use kdl::{KdlDocument, KdlEntry, KdlFloat, KdlIdentifier, KdlNode, KdlValue, SourceSpan};
 use std::alloc::Global;
 use std::cmp::Ordering;
-use std::hash::{DefaultHasher, Hash, Hasher};
 use std::process::Abort;
 
 const ELSEWHERE: SourceSpan = SourceSpan { offset: 40, len: 2 };
-
-fn hash_of<T: Hash>(value: &T) -> u64 {
-    let mut state = DefaultHasher::new();
-    value.hash(&mut state);
-    state.finish()
-}
-
-/// A copy of the text.
-fn text(rt: &impl Abort, alloc: Global, text: &str) -> String {
-    String::from_str(alloc, text).expect(rt, "memory")
-}
 
 /// The float of a text.
 fn float(rt: &impl Abort, alloc: Global, text: &str) -> KdlFloat {
@@ -29,36 +19,12 @@ fn string(rt: &impl Abort, alloc: Global, text: &str) -> KdlValue {
     KdlValue::from_text(alloc, text).expect(rt, "memory")
 }
 
-/// An identifier of that value.
-fn identifier(rt: &impl Abort, alloc: Global, value: &str) -> KdlIdentifier {
-    KdlIdentifier::from_text(alloc, value).expect(rt, "memory")
-}
-
-/// The document of a text.
-fn read(rt: &impl Abort, alloc: Global, text: &str) -> KdlDocument {
-    KdlDocument::parse(alloc, text).expect(rt, "no document")
-}
-
-/// The first node of a text.
-fn node(rt: &impl Abort, alloc: Global, text: &str) -> KdlNode {
-    let document = read(rt, alloc, text);
-    match document.nodes() {
-        [node, ..] => node.clone().expect(rt, "memory"),
-        [] => panic!(rt; "no node"),
-    }
-}
-
-/// The first entry of the first node of a text.
+/// The first entry of the node of a text.
 fn entry(rt: &impl Abort, alloc: Global, text: &str) -> KdlEntry {
     match node(rt, alloc, text).entries() {
         [entry, ..] => entry.clone().expect(rt, "memory"),
         [] => panic!(rt; "no entry"),
     }
-}
-
-/// The entry prints the text.
-fn prints(rt: &impl Abort, alloc: Global, entry: &KdlEntry, text: &str) {
-    assert_eq!(rt; entry.to_string(alloc).expect(rt, "memory").as_str(), text);
 }
 
 fn check_floats_by_their_texts(rt: &impl Abort, short: &KdlFloat, long: &KdlFloat) {

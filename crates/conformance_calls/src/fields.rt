@@ -1,22 +1,12 @@
 //! The parts of nodes and documents, set and changed in place, and what built ones print.
 
-use kdl::{
-    KdlDocument, KdlDocumentFormat, KdlEntry, KdlIdentifier, KdlNode, KdlNodeFormat, KdlValue,
-    SourceSpan,
-};
+use crate::hash_of;
+use crate::reading::{identifier, prints, read, text};
+use kdl::{KdlDocument, KdlDocumentFormat, KdlEntry, KdlNode, KdlNodeFormat, KdlValue, SourceSpan};
 use std::alloc::Global;
-use std::hash::{DefaultHasher, Hash, Hasher};
 use std::process::Abort;
 
 const ELSEWHERE: SourceSpan = SourceSpan { offset: 40, len: 2 };
-
-fn text(rt: &impl Abort, alloc: Global, text: &str) -> String {
-    String::from_str(alloc, text).expect(rt, "memory")
-}
-
-fn identifier(rt: &impl Abort, alloc: Global, value: &str) -> KdlIdentifier {
-    KdlIdentifier::from_text(alloc, value).expect(rt, "memory")
-}
 
 /// A new node of that name.
 fn built(rt: &impl Abort, alloc: Global, name: &str) -> KdlNode {
@@ -29,11 +19,6 @@ fn formless(rt: &impl Abort, alloc: Global, name: &str) -> KdlNode {
     let mut node = built(rt, alloc, name);
     node.clear_format();
     node
-}
-
-/// The document of a text.
-fn read(rt: &impl Abort, alloc: Global, text: &str) -> KdlDocument {
-    KdlDocument::parse(alloc, text).expect(rt, "no document")
 }
 
 /// The first node of a text.
@@ -64,26 +49,12 @@ fn push(rt: &impl Abort, document: &mut KdlDocument, node: KdlNode) {
     document.nodes_mut().push(node).expect(rt, "memory");
 }
 
-/// The node prints the text.
-fn prints(rt: &impl Abort, alloc: Global, node: &KdlNode, text: &str) {
-    assert_eq!(rt; node.to_string(alloc).expect(rt, "memory").as_str(), text);
-}
-
 /// The document prints the text, and has its length.
 fn document_prints(rt: &impl Abort, alloc: Global, document: &KdlDocument, text: &str) {
-    assert_eq!(rt;
-        document.to_string(alloc).expect(rt, "memory").as_str(),
-        text
-    );
+    prints(rt, alloc, document, text);
     assert_eq!(rt; document.len(alloc).expect(rt, "memory"), text.len());
     let is_empty = document.is_empty(alloc).expect(rt, "memory");
     assert_eq!(rt; is_empty, text.is_empty());
-}
-
-fn hash_of<T: Hash>(value: &T) -> u64 {
-    let mut state = DefaultHasher::new();
-    value.hash(&mut state);
-    state.finish()
 }
 
 fn check_a_new_node(rt: &impl Abort, alloc: Global, node: &mut KdlNode) {

@@ -1,23 +1,22 @@
-//! Tests of the calls on values, identifiers, entries, nodes and documents, against worked examples: what no contract
-//! says.
+//! Tests of the calls on nodes and documents, and of what items share, against worked examples: what no contract says.
 #![tactic(auto)]
 
-pub mod callers;
+use std::hash::{DefaultHasher, Hash, Hasher};
+
 #[cfg(test)]
 mod copies;
-#[cfg(test)]
-mod document_lookups;
-#[cfg(test)]
-mod edits;
-#[cfg(test)]
-mod entries;
 #[cfg(test)]
 mod equality;
 #[cfg(test)]
 mod fields;
 #[cfg(test)]
-mod lookups;
+mod reading;
 #[cfg(test)]
-mod settings;
-#[cfg(test)]
-mod values;
+mod steps;
+
+/// The hash of a value.
+pub fn hash_of<T: Hash>(value: &T) -> u64 {
+    let mut state = DefaultHasher::new();
+    value.hash(&mut state);
+    state.finish()
+}

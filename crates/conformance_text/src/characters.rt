@@ -1,5 +1,5 @@
 //! The spaces, the newlines and the characters that stand in comments alone (KDL 2.0.0, Whitespace, Newline,
-//! Disallowed Literal Code Points), and patterns that are filled with them.
+//! Disallowed Literal Code Points), patterns that are filled with them, and nested texts.
 
 use std::alloc::{AllocError, Global};
 
@@ -37,4 +37,23 @@ pub fn filled(alloc: Global, pattern: &str, text: &str) -> Result<String, AllocE
         }
     }
     Ok(filled)
+}
+
+/// The opening so many times, the middle, and the closing so many times.
+pub fn nested(
+    alloc: Global,
+    opening: &str,
+    middle: &str,
+    closing: &str,
+    depth: usize,
+) -> Result<String, AllocError> {
+    let mut text = String::new(alloc);
+    for _ in 0..depth {
+        text.push_str(opening)?;
+    }
+    text.push_str(middle)?;
+    for _ in 0..depth {
+        text.push_str(closing)?;
+    }
+    Ok(text)
 }

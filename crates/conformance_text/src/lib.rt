@@ -1,4 +1,4 @@
-//! Tests of the text layer and of the lexer, against worked examples: what no contract says.
+//! Tests of the text layer, against worked examples: what no contract says.
 #![tactic(auto)]
 
 pub mod characters;
@@ -6,7 +6,5 @@ pub mod characters;
 mod numbers;
 #[cfg(test)]
 mod strings;
-#[cfg(test)]
-mod tokens;
 #[cfg(test)]
 mod trivia;

@@ -49,5 +49,7 @@ pub fn build<'a, N: ParsedNode>(
     ensures counts { raise lexer.old.steps 0 ≤ raise lexer.new.steps 0 }
 {
     let mut builder = Builder::new(alloc, whole, lexer.checkpoint());
-    build_with(alloc, &mut builder, lexer)
+    let answer = build_with(alloc, &mut builder, lexer);
+    drop(builder);
+    answer
 }

@@ -107,7 +107,9 @@ impl KdlNode {
         ensures rest { self.new ≡ with_entries self.old (out-KdlNode self.new).entries }
         ensures value { result ≡ there (removed_place key (out-KdlNode self.old).entries.items) (out-KdlNode self.old).entries.items }
     {
-        match place_to_remove(&self.entries, &key) {
+        let at = place_to_remove(&self.entries, &key);
+        drop(key);
+        match at {
             Some(at) => Some(self.remove_at(at)),
             None => None,
         }

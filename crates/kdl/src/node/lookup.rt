@@ -20,7 +20,9 @@ impl KdlNode {
     pub fn entry(&self, key: NodeKey) -> Option<&KdlEntry>
         ensures { option_map (λ e. e.now) result ≡ entry_there (key_place key self.now) self.now }
     {
-        match place(&self.entries, &key) {
+        let at = place(&self.entries, &key);
+        drop(key);
+        match at {
             Some(at) => Some(&self.entries[at]),
             None => None,
         }
@@ -31,7 +33,9 @@ impl KdlNode {
     pub fn get(&self, key: NodeKey) -> Option<&KdlValue>
         ensures { option_map (λ v. value_tree v.now) result ≡ value_there (key_place key self.now) self.now }
     {
-        match place(&self.entries, &key) {
+        let at = place(&self.entries, &key);
+        drop(key);
+        match at {
             Some(at) => Some(self.entries[at].value()),
             None => None,
         }
@@ -56,7 +60,9 @@ impl KdlNode {
         ensures* writes_back { sem 𝓛 (LendsIf the_row entry_row self.entry result (with_entry_there (key_place key self.old) self.old) self.old) }
         ensures value { option_map (λ e. e.now) result ≡ entry_there (key_place key self.old) self.old }
     {
-        match place(&self.entries, &key) {
+        let at = place(&self.entries, &key);
+        drop(key);
+        match at {
             Some(at) => Some(&mut self.entries[at]),
             None => None,
         }
@@ -68,7 +74,9 @@ impl KdlNode {
         ensures* writes_back { sem 𝓛 (LendsIf the_row value_row self.entry result (with_value_there (key_place key self.old) self.old) self.old) }
         ensures value { option_map (λ v. v.now) result ≡ option_map (λ e. e.value) (entry_there (key_place key self.old) self.old) }
     {
-        match place(&self.entries, &key) {
+        let at = place(&self.entries, &key);
+        drop(key);
+        match at {
             Some(at) => Some(self.value_at_mut(at)),
             None => None,
         }

@@ -32,8 +32,13 @@ fn only_node(text: &str, nodes: Vec<KdlNode>) -> Result<KdlNode, LexFailure>
         })));
     };
     if let Some(second) = rest.next() {
-        return Err(LexFailure::Faulty(fault_at(second.span())));
+        let span = second.span();
+        drop(second);
+        drop(node);
+        drop(rest);
+        return Err(LexFailure::Faulty(fault_at(span)));
     }
+    drop(rest);
     Ok(node)
 }
 
@@ -47,7 +52,11 @@ fn alone(alloc: Global, text: &str, node: KdlNode, trailing: String) -> Result<K
             let len = text.len();
             Ok(node.alone(trailing, SourceSpan { offset: 0, len }))
         }
-        Err(failure) => Err(failure),
+        Err(failure) => {
+            drop(node);
+            drop(trailing);
+            Err(failure)
+        }
     }
 }
 

@@ -25,6 +25,7 @@ use kdl_entry::items::item::{Item, Stage, TypeParts, empty, entry_from, span_at,
 use kdl_text::chars::Checkpoint;
 use kdl_text::span::SourceSpan;
 use std::alloc::{AllocError, Global};
+use std::mem;
 
 /// Puts the item behind the others. A full list doubles, from one on.
 #[inline]
@@ -37,6 +38,15 @@ pub(super) fn add<T: Drop>(items: &mut Vec<T>, item: T) -> Result<(), AllocError
     }
     items.push(item)?;
     Ok(())
+}
+
+/// Puts the value in the place, and drops the one that was there. An assignment does the same; as a call, what is
+/// dropped stands in one proof, and not at each place.
+#[inline]
+pub(super) fn put<T: Drop>(place: &mut T, value: T)
+    ensures { place.new ≡ value }
+{
+    drop(mem::replace(place, value));
 }
 
 /// The string that waits becomes an argument of the node under way.
@@ -112,59 +122,67 @@ pub(super) fn node_from<N: ParsedNode>(
     )
 }
 
-/// The node that ends at `start`, with its terminator, where it counts.
+/// The node under way, taken out, which ends at `start`, with its terminator, where it counts.
 pub(super) fn ended_node<'a, N: ParsedNode>(
     alloc: Global,
     lexer: &mut Lexer<'a>,
     whole: &Checkpoint<'a>,
     from: &Checkpoint<'a>,
-    under: Option<Under<'a>>,
+    under: &mut Option<Under<'a>>,
     start: &Checkpoint<'a>,
     end: &Checkpoint<'a>,
 ) -> Result<Option<N>, AllocError>
     requires from { Ahead from.now start.now }
     requires token { Ahead start.now end.now }
-    ensures is { IfOk result (λ o. option_map N.tree o ≡ machine.closed whole.now.rest (option_map under_view under.entry) no_children [] (between from.now.rest start.now.rest) (between start.now.rest end.now.rest) start.now.rest) }
+    ensures is { IfOk result (λ o. option_map N.tree o ≡ machine.closed whole.now.rest (option_map under_view under.old) no_children [] (between from.now.rest start.now.rest) (between start.now.rest end.now.rest) start.now.rest) }
+    ensures taken { OnOk result (under.new ≡ None) }
     ensures stays { Stays lexer.old lexer.new }
-    ensures sliced { OnOk result (Sliced (bytes from.now.rest) (up_to under.entry (bytes from.now.rest) (bytes end.now.rest)) lexer.old lexer.new) }
+    ensures sliced { OnOk result (Sliced (bytes from.now.rest) (up_to under.old (bytes from.now.rest) (bytes end.now.rest)) lexer.old lexer.new) }
 {
-    let Some(under) = under else {
+    if under.is_none() {
         return Ok(None);
-    };
+    }
     let before = text_between(alloc, lexer, from, start)?;
     let terminator = text_between(alloc, lexer, start, end)?;
+    let Some(under) = under.take() else {
+        return Ok(None);
+    };
     let span = span_at(whole, &under.start, start);
     Ok(Some(node_from(alloc, under, None, empty(alloc), before, terminator, span)))
 }
 
-/// The node with its block that ends at `start`, with its terminator, where it counts.
+/// The node with its block, taken out, which ends at `start`, with its terminator, where it counts.
 pub(super) fn ended_kept<'a, N: ParsedNode>(
     alloc: Global,
     lexer: &mut Lexer<'a>,
     whole: &Checkpoint<'a>,
     from: &Checkpoint<'a>,
-    kept: Option<Kept<'a, N>>,
+    kept: &mut Option<Kept<'a, N>>,
     start: &Checkpoint<'a>,
     end: &Checkpoint<'a>,
 ) -> Result<Option<N>, AllocError>
     requires from { Ahead from.now start.now }
     requires token { Ahead start.now end.now }
-    ensures is { IfOk result (λ o. option_map N.tree o ≡ machine.closed_kept whole.now.rest (option_map (kept_view N.tree) kept.entry) (between from.now.rest start.now.rest) (between start.now.rest end.now.rest) start.now.rest) }
+    ensures is { IfOk result (λ o. option_map N.tree o ≡ machine.closed_kept whole.now.rest (option_map (kept_view N.tree) kept.old) (between from.now.rest start.now.rest) (between start.now.rest end.now.rest) start.now.rest) }
+    ensures taken { OnOk result (kept.new ≡ None) }
     ensures stays { Stays lexer.old lexer.new }
-    ensures sliced { OnOk result (Sliced (bytes from.now.rest) (up_to kept.entry (bytes from.now.rest) (bytes end.now.rest)) lexer.old lexer.new) }
+    ensures sliced { OnOk result (Sliced (bytes from.now.rest) (up_to kept.old (bytes from.now.rest) (bytes end.now.rest)) lexer.old lexer.new) }
 {
+    if kept.is_none() {
+        return Ok(None);
+    }
+    let later = text_between(alloc, lexer, from, start)?;
+    let terminator = text_between(alloc, lexer, start, end)?;
     let Some(
         Kept {
             under,
             before,
             block,
         },
-    ) = kept
+    ) = kept.take()
     else {
         return Ok(None);
     };
-    let later = text_between(alloc, lexer, from, start)?;
-    let terminator = text_between(alloc, lexer, start, end)?;
     let span = span_at(whole, &under.start, start);
     Ok(Some(node_from(alloc, under, Some(block), before, later, terminator, span)))
 }

@@ -17,7 +17,7 @@ ghost use Rattle.kdl_parser.specs.declared.builder.Phase.{Phase};
 ghost use Rattle.kdl_parser.specs.declared.builder.Waiting.{Waiting};
 ghost use Rattle.std.specs.Prelude.{◌≡◌, if◌then◌else◌, [], ◌∷◌, Some, None, true, false, OnOk, option_map};
 
-use super::content::{add, ended_kept, ended_node, is_entry, push_node, settle, with_block};
+use super::content::{add, ended_kept, ended_node, is_entry, push_node, put, settle, with_block};
 use super::{Builder, Frame, Phase, Under, Waiting, WaitingWord};
 use crate::parts::ParsedNode;
 use kdl_entry::items::item::{
@@ -58,8 +58,8 @@ impl<'a, N: ParsedNode> Builder<'a, N> {
         ensures unsliced { OnOk result (unsliced self.new ≡ bytes self.new.from.rest) }
     {
         self.settle_word(alloc)?;
-        let under = self.under.take();
-        let counts = under.is_some();
+        let counts = self.under.is_some();
+        let under = &mut self.under;
         let node = ended_node(alloc, lexer, &self.whole, &self.from, under, start, end)?;
         push_node(&mut self.nodes, node)?;
         if counts {
@@ -85,8 +85,8 @@ impl<'a, N: ParsedNode> Builder<'a, N> {
         ensures sliced { OnOk result (Sliced (bytes self.old.from.rest) (bytes self.new.from.rest) lexer.old lexer.new) }
         ensures unsliced { OnOk result (unsliced self.new ≡ bytes self.new.from.rest) }
     {
-        let kept = self.kept.take();
-        let counts = kept.is_some();
+        let counts = self.kept.is_some();
+        let kept = &mut self.kept;
         let node = ended_kept(alloc, lexer, &self.whole, &self.from, kept, start, end)?;
         push_node(&mut self.nodes, node)?;
         if counts {
@@ -113,16 +113,16 @@ impl<'a, N: ParsedNode> Builder<'a, N> {
         ensures sliced { OnOk result (Sliced (bytes self.old.from.rest) (unsliced self.new) lexer.old lexer.new) }
     {
         self.settle_word(alloc)?;
-        let under = self.under.take();
         self.phase = Phase::Gap;
-        if under.is_some() {
+        if self.under.is_some() {
             let before = text_between(alloc, lexer, &self.from, start)?;
+            let under = self.under.take();
             let nodes = mem::replace(&mut self.nodes, Some(Vec::new(alloc)));
             self.frames.push(Frame::Block(under, before, nodes))?;
             self.from = end.copied();
         } else {
             let nodes = self.nodes.take();
-            self.frames.push(Frame::Block(under, empty(alloc), nodes))?;
+            self.frames.push(Frame::Block(None, empty(alloc), nodes))?;
         }
         Ok(())
     }
@@ -178,7 +178,7 @@ impl<'a, N: ParsedNode> Builder<'a, N> {
         let inner = mem::replace(&mut self.nodes, nodes);
         self.phase = Phase::Behind;
         if under.is_some() {
-            self.kept = with_block(
+            let kept = with_block(
                 alloc,
                 lexer,
                 &self.whole,
@@ -188,10 +188,14 @@ impl<'a, N: ParsedNode> Builder<'a, N> {
                 inner,
                 start,
             )?;
+            put(&mut self.kept, kept);
             self.from = end.copied();
             return Ok(());
         }
-        self.kept = None;
+        drop(under);
+        drop(before);
+        drop(inner);
+        put(&mut self.kept, None);
         Ok(())
     }
 
@@ -216,15 +220,15 @@ impl<'a, N: ParsedNode> Builder<'a, N> {
                 alloc, lexer, under, before, nodes, start, end,
             )?),
             Some(Frame::DroppedBlock(under, nodes)) => {
-                self.under = under;
-                self.waiting = Waiting::Nothing;
-                self.nodes = nodes;
+                put(&mut self.under, under);
+                put(&mut self.waiting, Waiting::Nothing);
+                put(&mut self.nodes, nodes);
                 self.phase = Phase::Later;
                 Ok(())
             }
             Some(Frame::LaterBlock(kept, nodes)) => {
-                self.kept = kept;
-                self.nodes = nodes;
+                put(&mut self.kept, kept);
+                put(&mut self.nodes, nodes);
                 self.phase = Phase::Behind;
                 Ok(())
             }
@@ -252,10 +256,13 @@ impl<'a, N: ParsedNode> Builder<'a, N> {
         ensures stays { Stays lexer.old lexer.new }
         ensures sliced { OnOk result (Sliced (if kept then bytes start.now.rest else bytes self.old.from.rest) (unsliced self.new) lexer.old lexer.new) }
     {
-        self.waiting = Waiting::Nothing;
+        put(&mut self.waiting, Waiting::Nothing);
         self.phase = Phase::Fresh;
-        self.under = None;
+        put(&mut self.under, None);
         if !kept {
+            drop(leading);
+            drop(ty);
+            drop(value);
             return Ok(());
         }
         self.from = end.copied();
@@ -293,9 +300,13 @@ impl<'a, N: ParsedNode> Builder<'a, N> {
         ensures stays { Stays lexer.old lexer.new }
         ensures sliced { OnOk result (Sliced (if kept then up_to self.old.under (bytes self.old.from.rest) (bytes start.now.rest) else bytes self.old.from.rest) (unsliced self.new) lexer.old lexer.new) }
     {
-        self.waiting = Waiting::Nothing;
+        put(&mut self.waiting, Waiting::Nothing);
         self.phase = Phase::Fresh;
         if !kept {
+            drop(leading);
+            drop(key);
+            drop(ty);
+            drop(value);
             return Ok(());
         }
         if let Some(under) = &mut self.under {
@@ -529,6 +540,7 @@ impl<'a, N: ParsedNode> Builder<'a, N> {
                 end,
             )?);
         }
+        drop(key);
         Ok(self.begin_node(
             alloc,
             lexer,

@@ -7,5 +7,5 @@ use Rattle.kdl.proofs.node.KdlNode.entry_mut.Goals as goal
 
 pub returns-in-Some : goal.returns-in-Some
 returns-in-Some c =
-    let found = sym c.in-Some.is ∙ c.place.ensures.place ∙ ap (place_of c.args.key) c.deref.ensures.value in
+    let found = sym c.in-Some.is ∙ c.place-at.ensures.place ∙ ap (place_of c.args.key) c.deref.ensures.value in
     (ap (λ o. inl (c.index_mut.result.ghost_name, λ e. with_entry_there o c.args.self.now e)) found, record { writes_back = tt; value = found_at _ _ c.in-Some.at _ found (slice_get_read _ (length c.deref.result.now) _ _ (ap length c.deref.ensures.value) c.in-Some.ensures.bound c.index_mut.ensures.value) })

@@ -10,7 +10,7 @@ returns-in_default c =
 pub returns-in-Some-next : goal.returns-in-Some-next
 returns-in-Some-next c =
     two_told (chars c.args.text.now) c.requires.0 c.args.nodes.items _ c.in-Some.node c.in-Some-next.second c.fault_at-in-Some-next.result c.requires.1
-    (sym c.into_iter-rest.ensures.rest ∙ c.in-Some.ensures.cases.0 ∙ ap (λ z. c.in-Some.node ∷ z) c.in-Some-next.ensures.cases.0) (c.fault_at-in-Some-next.ensures ∙ c.span.ensures)
+    (sym c.into_iter-rest.ensures.rest ∙ c.in-Some.ensures.cases.0 ∙ ap (λ z. c.in-Some.node ∷ z) c.in-Some-next.ensures.cases.0) (c.fault_at-in-Some-next.ensures ∙ c.span-span.ensures)
 
 pub returns : goal.returns
 returns c =

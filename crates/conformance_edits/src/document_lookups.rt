@@ -3,6 +3,7 @@
 ghost use Rattle.kdl.specs.declared.document.KdlDocument.{out-KdlDocument};
 ghost use Rattle.std.specs.Prelude.{◌≡◌};
 
+use crate::reading::{integer, prints, read};
 use kdl::{KdlDocument, KdlValue, NodeKey};
 use std::alloc::Global;
 use std::process::Abort;
@@ -14,24 +15,6 @@ fn forget(document: &mut KdlDocument, name: &str)
     if let Some(value) = document.get_arg_mut(name) {
         *value = KdlValue::Null;
     }
-}
-
-/// The document of a text.
-fn read(rt: &impl Abort, alloc: Global, text: &str) -> KdlDocument {
-    match KdlDocument::parse(alloc, text) {
-        Ok(document) => document,
-        Err(_) => panic!(rt; "{text:?} is refused"),
-    }
-}
-
-/// The document prints this text.
-fn prints(rt: &impl Abort, alloc: Global, document: &KdlDocument, text: &str) {
-    let printed = document.to_string(alloc).expect(rt, "memory");
-    assert_eq!(rt; printed.as_str(), text);
-}
-
-fn integer(value: Option<&KdlValue>) -> Option<i128> {
-    value.and_then(|v| v.as_integer())
 }
 
 fn check_the_first_node_of_a_name(rt: &impl Abort, document: &KdlDocument) {

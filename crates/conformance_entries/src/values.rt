@@ -1,6 +1,8 @@
 //! Values, identifiers and entries: printed texts, the order of values, and which texts are floats.
 
-use kdl::{FloatFailure, KdlEntry, KdlEntryFormat, KdlFloat, KdlIdentifier, KdlValue};
+use crate::reading::prints;
+use kdl_entry::{KdlEntry, KdlEntryFormat, KdlFloat, KdlIdentifier, KdlValue};
+use kdl_text::error::FloatFailure;
 use std::alloc::Global;
 use std::cmp::Ordering;
 use std::process::Abort;
@@ -20,12 +22,6 @@ fn float(rt: &impl Abort, alloc: Global, text: &str) -> KdlValue {
 
 fn identifier(rt: &impl Abort, alloc: Global, value: &str) -> KdlIdentifier {
     KdlIdentifier::from_text(alloc, value).expect(rt, "memory")
-}
-
-/// The value prints the text.
-fn prints(rt: &impl Abort, alloc: Global, value: &KdlValue, text: &str) {
-    let printed = value.to_string(alloc).expect(rt, "memory");
-    assert_eq!(rt; printed.as_str(), text);
 }
 
 /// The string is printed as the spelling.
@@ -178,17 +174,11 @@ fn float_texts(rt: HostRuntime) {
     }
 }
 
-/// The failure prints the text.
-fn failure_prints(rt: &impl Abort, alloc: Global, failure: FloatFailure, text: &str) {
-    let printed = failure.to_string(alloc).expect(rt, "memory");
-    assert_eq!(rt; printed.as_str(), text);
-}
-
 #[test]
 fn float_failures(rt: HostRuntime) {
     let alloc = rt.alloc();
-    failure_prints(&rt, alloc, FloatFailure::NotAFloat, "not a KDL float");
-    failure_prints(&rt, alloc, FloatFailure::Memory, "out of memory");
+    prints(&rt, alloc, &FloatFailure::NotAFloat, "not a KDL float");
+    prints(&rt, alloc, &FloatFailure::Memory, "out of memory");
 }
 
 fn check_identifiers(rt: &impl Abort, alloc: Global, name: &mut KdlIdentifier) {
@@ -230,7 +220,7 @@ fn property(rt: &impl Abort, alloc: Global) -> KdlEntry {
 
 /// The entry prints the text, and has its length.
 fn entry_prints(rt: &impl Abort, alloc: Global, entry: &KdlEntry, text: &str) {
-    assert_eq!(rt; entry.to_string(alloc).expect(rt, "memory").as_str(), text);
+    prints(rt, alloc, entry, text);
     assert_eq!(rt; entry.len(alloc).expect(rt, "memory"), text.len());
     assert_eq!(rt; entry.is_empty(alloc).expect(rt, "memory"), text.is_empty());
 }
@@ -247,7 +237,9 @@ fn check_entries(rt: &impl Abort, alloc: Global, entry: &mut KdlEntry) {
 #[test]
 fn entries(rt: HostRuntime) {
     let alloc = rt.alloc();
-    check_entries(&rt, alloc, &mut property(&rt, alloc));
+    let mut entry = property(&rt, alloc);
+    check_entries(&rt, alloc, &mut entry);
+    drop(entry);
 }
 
 fn check_formats_count(rt: &impl Abort, entry: &mut KdlEntry, other: &mut KdlEntry) {
@@ -263,7 +255,11 @@ fn check_formats_count(rt: &impl Abort, entry: &mut KdlEntry, other: &mut KdlEnt
 #[test]
 fn formats_count(rt: HostRuntime) {
     let alloc = rt.alloc();
-    check_formats_count(&rt, &mut property(&rt, alloc), &mut property(&rt, alloc));
+    let mut entry = property(&rt, alloc);
+    let mut other = property(&rt, alloc);
+    check_formats_count(&rt, &mut entry, &mut other);
+    drop(entry);
+    drop(other);
 }
 
 fn check_lent_parts(rt: &impl Abort, alloc: Global, entry: &mut KdlEntry) {
@@ -285,10 +281,14 @@ fn check_lent_parts(rt: &impl Abort, alloc: Global, entry: &mut KdlEntry) {
 #[test]
 fn lent_parts(rt: HostRuntime) {
     let alloc = rt.alloc();
-    check_lent_parts(&rt, alloc, &mut property(&rt, alloc));
+    let mut entry = property(&rt, alloc);
+    check_lent_parts(&rt, alloc, &mut entry);
+    drop(entry);
 }
 
 #[test]
 fn no_name_to_lend(rt: HostRuntime) {
-    assert!(rt; KdlEntry::from(KdlValue::Null).name_mut().is_none());
+    let mut entry = KdlEntry::from(KdlValue::Null);
+    assert!(rt; entry.name_mut().is_none());
+    drop(entry);
 }

@@ -1,30 +1,14 @@
 //! Entries of a node put in, taken out, kept and sorted, and what the node prints then.
 
 use crate::callers::{insert_argument, insert_first, property, remove_argument, set_typed};
-use kdl::{KdlDocument, KdlEntry, KdlIdentifier, KdlNode, KdlValue, NodeKey};
+use crate::reading::{identifier, node, prints};
+use kdl::{KdlEntry, KdlIdentifier, KdlNode, KdlValue, NodeKey};
 use std::alloc::Global;
 use std::process::Abort;
 
-/// The document of a text.
-fn read(rt: &impl Abort, alloc: Global, text: &str) -> KdlDocument {
-    match KdlDocument::parse(alloc, text) {
-        Ok(document) => document,
-        Err(_) => panic!(rt; "{text:?} is refused"),
-    }
-}
-
-/// A copy of the one node of the text.
-fn node(rt: &impl Abort, alloc: Global, text: &str) -> KdlNode {
-    let document = read(rt, alloc, text);
-    let [node] = document.nodes() else {
-        panic!(rt; "not one node");
-    };
-    node.clone().expect(rt, "memory")
-}
-
 /// A new node of that name.
 fn built(rt: &impl Abort, alloc: Global, name: &str) -> KdlNode {
-    let name = KdlIdentifier::from_text(alloc, name).expect(rt, "memory");
+    let name = identifier(rt, alloc, name);
     KdlNode::new(name).expect(rt, "memory")
 }
 
@@ -33,19 +17,10 @@ fn string(rt: &impl Abort, alloc: Global, text: &str) -> KdlValue {
     KdlValue::from_text(alloc, text).expect(rt, "memory")
 }
 
-/// The node prints this text.
-fn prints(rt: &impl Abort, alloc: Global, node: &KdlNode, text: &str) {
-    let printed = node.to_string(alloc).expect(rt, "memory");
-    assert_eq!(rt; printed.as_str(), text);
-}
-
 /// The entry prints this text; where there is none, the text is empty.
 fn old_prints(rt: &impl Abort, alloc: Global, old: Option<&KdlEntry>, text: &str) {
     match old {
-        Some(old) => {
-            let printed = old.to_string(alloc).expect(rt, "memory");
-            assert_eq!(rt; printed.as_str(), text);
-        }
+        Some(old) => prints(rt, alloc, old, text),
         None => assert_eq!(rt; "", text),
     }
 }
@@ -59,8 +34,8 @@ fn sets(
     value: KdlValue,
     text: &str,
 ) {
-    let key = KdlIdentifier::from_text(alloc, name).expect(rt, "memory");
-    match node.insert(NodeKey::Key(key), KdlEntry::new(value)) {
+    let key = NodeKey::Key(identifier(rt, alloc, name));
+    match node.insert(key, KdlEntry::new(value)) {
         Ok(old) => old_prints(rt, alloc, old.as_ref(), text),
         Err(_) => panic!(rt; "memory"),
     }
@@ -68,10 +43,7 @@ fn sets(
 
 /// Takes out the first property of that name, which prints this text.
 fn takes(rt: &impl Abort, alloc: Global, node: &mut KdlNode, name: &str, text: &str) {
-    let Ok(key) = NodeKey::from_text(alloc, name) else {
-        panic!(rt; "memory");
-    };
-    let old = node.remove(key);
+    let old = node.remove(NodeKey::Key(identifier(rt, alloc, name)));
     old_prints(rt, alloc, old.as_ref(), text);
 }
 
@@ -85,7 +57,7 @@ fn add(rt: &impl Abort, node: &mut KdlNode, value: KdlValue) {
 
 /// Puts a property behind the other entries.
 fn add_property(rt: &impl Abort, alloc: Global, node: &mut KdlNode, name: &str, value: KdlValue) {
-    let key = KdlIdentifier::from_text(alloc, name).expect(rt, "memory");
+    let key = identifier(rt, alloc, name);
     match node.push(KdlEntry::new_prop(key, value)) {
         Ok(()) => (),
         Err(_) => panic!(rt; "memory"),
@@ -185,7 +157,7 @@ fn sets_typed(
     ty: &str,
     value: KdlValue,
 ) {
-    let key = KdlIdentifier::from_text(alloc, name).expect(rt, "memory");
+    let key = identifier(rt, alloc, name);
     let ty = KdlIdentifier::from_text(alloc, ty).expect(rt, "memory");
     assert!(rt; set_typed(node, key, ty, value).is_ok());
 }

@@ -1,6 +1,9 @@
 //! Entries that are a whole text: what is read, what is refused and where, and that an entry prints its text.
 
-use kdl::{KdlEntry, ParseFailure, SourceSpan};
+use crate::reading::{prints, tells};
+use kdl_entry::KdlEntry;
+use kdl_text::error::ParseFailure;
+use kdl_text::span::SourceSpan;
 use std::alloc::Global;
 use std::process::Abort;
 
@@ -9,23 +12,21 @@ fn read(rt: &impl Abort, alloc: Global, text: &str) -> KdlEntry {
     match KdlEntry::parse(alloc, text) {
         Ok(entry) => {
             prints(rt, alloc, &entry, text);
+            spans(rt, &entry, text);
             entry
         }
-        Err(_) => panic!(rt; "{text:?} is refused"),
+        Err(ParseFailure::Memory) => panic!(rt; "{text:?} wants memory"),
+        Err(ParseFailure::Syntax(_)) => panic!(rt; "{text:?} is refused"),
     }
 }
 
-/// The entry prints the text, and the text is its span.
-fn prints(rt: &impl Abort, alloc: Global, entry: &KdlEntry, text: &str) {
-    let printed = entry.to_string(alloc).expect(rt, "memory");
-    assert_eq!(rt; printed.as_str(), text);
-    assert_eq!(rt;
-        entry.span(),
-        SourceSpan {
-            offset: 0,
-            len: text.len()
-        }
-    );
+/// The text is the entry's span.
+fn spans(rt: &impl Abort, entry: &KdlEntry, text: &str) {
+    let whole = SourceSpan {
+        offset: 0,
+        len: text.len(),
+    };
+    assert_eq!(rt; entry.span(), whole);
 }
 
 /// The text stands for a whole number.
@@ -33,30 +34,36 @@ fn reads_integer(rt: &impl Abort, alloc: Global, text: &str, value: i128) {
     let entry = read(rt, alloc, text);
     assert_eq!(rt; entry.value().as_integer(), Some(value));
     assert!(rt; entry.name().is_none() && entry.ty().is_none());
+    drop(entry);
 }
 
-/// The text stands for a float of this text.
+/// The text stands for a float of this text, which the value prints.
 fn reads_float(rt: &impl Abort, alloc: Global, text: &str, value: &str) {
     let entry = read(rt, alloc, text);
     assert_eq!(rt; entry.value().as_float().map(|f| f.as_str()), Some(value));
+    prints(rt, alloc, entry.value(), value);
+    drop(entry);
 }
 
 /// The text stands for null.
 fn reads_null(rt: &impl Abort, alloc: Global, text: &str) {
     let entry = read(rt, alloc, text);
     assert!(rt; entry.value().is_null());
+    drop(entry);
 }
 
 /// The text stands for a truth value.
 fn reads_bool(rt: &impl Abort, alloc: Global, text: &str, value: bool) {
     let entry = read(rt, alloc, text);
     assert_eq!(rt; entry.value().as_bool(), Some(value));
+    drop(entry);
 }
 
 /// The text stands for a string.
 fn reads_string(rt: &impl Abort, alloc: Global, text: &str, value: &str) {
     let entry = read(rt, alloc, text);
     assert_eq!(rt; entry.value().as_string(), Some(value));
+    drop(entry);
 }
 
 /// The text is refused, and the one diagnostic is at the span.
@@ -64,17 +71,7 @@ fn refused_at(rt: &impl Abort, alloc: Global, text: &str, offset: usize, len: us
     match KdlEntry::parse(alloc, text) {
         Ok(_) => panic!(rt; "{text:?} is read"),
         Err(ParseFailure::Memory) => panic!(rt; "{text:?} wants memory"),
-        Err(ParseFailure::Syntax(error)) => {
-            assert_eq!(rt; error.input.as_str(), text);
-            assert_eq!(rt; error.diagnostics.len(), 1);
-            for diagnostic in &error.diagnostics {
-                assert_eq!(rt; diagnostic.span, SourceSpan { offset, len });
-                let message = diagnostic.message.as_ref().map_or("", |m| m.as_str());
-                assert_eq!(rt; message, "Expected end of document");
-                let label = diagnostic.label.as_ref().map_or("", |m| m.as_str());
-                assert_eq!(rt; label, "not EOF");
-            }
-        }
+        Err(ParseFailure::Syntax(error)) => tells(rt, &error, text, SourceSpan { offset, len }),
     }
 }
 
@@ -123,18 +120,21 @@ fn key_places(entry: &KdlEntry) -> (&str, &str) {
 fn stands(rt: &impl Abort, alloc: Global, text: &str, leading: &str, trailing: &str, repr: &str) {
     let entry = read(rt, alloc, text);
     assert_eq!(rt; places(&entry), (leading, trailing, repr));
+    drop(entry);
 }
 
 /// The text is read as a property of that name.
 fn is_named(rt: &impl Abort, alloc: Global, text: &str, name: &str) {
     let entry = read(rt, alloc, text);
     assert_eq!(rt; entry.name().map(|name| name.value()), Some(name));
+    drop(entry);
 }
 
 /// The text is read as a property, with these texts around its `=`.
 fn key_stands(rt: &impl Abort, alloc: Global, text: &str, before: &str, behind: &str) {
     let entry = read(rt, alloc, text);
     assert_eq!(rt; key_places(&entry), (before, behind));
+    drop(entry);
 }
 
 /// The text is read with this type, and with these texts around its name and behind its `)`.
@@ -142,6 +142,7 @@ fn is_typed(rt: &impl Abort, alloc: Global, text: &str, ty: &str, around: (&str,
     let entry = read(rt, alloc, text);
     assert_eq!(rt; entry.ty().map(|ty| ty.value()), Some(ty));
     assert_eq!(rt; type_places(&entry), around);
+    drop(entry);
 }
 
 #[test]
@@ -223,7 +224,9 @@ fn check_a_property_with_all_its_places(rt: &impl Abort, entry: &KdlEntry) {
 #[test]
 fn a_property_with_all_its_places(rt: HostRuntime) {
     let text = " \\\n \"foo\"=(\"m\\\"eh\")0xDEADbeef\t\\\n";
-    check_a_property_with_all_its_places(&rt, &read(&rt, rt.alloc(), text));
+    let entry = read(&rt, rt.alloc(), text);
+    check_a_property_with_all_its_places(&rt, &entry);
+    drop(entry);
 }
 
 #[test]

@@ -5,7 +5,8 @@ ghost use Rattle.kdl.specs.declared.node.KdlNode.{out-KdlNode};
 ghost use Rattle.kdl_parts.specs.declared.key.NodeKey.TheVariants.{Index as at_index};
 ghost use Rattle.std.specs.Prelude.{◌≡◌, IsSome, OnErr, OnOk, option_map, slice_get};
 
-use kdl::{KdlDocument, KdlEntry, KdlNode, KdlValue, NodeKey};
+use crate::reading::{integer, key, node, prints};
+use kdl::{KdlEntry, KdlNode, KdlValue, NodeKey};
 use std::alloc::{AllocError, Global};
 use std::process::Abort;
 
@@ -55,33 +56,6 @@ fn first(node: &KdlNode) -> Option<&KdlEntry>
     entries.next()
 }
 
-/// A copy of the first node of a text.
-fn node_of(rt: &impl Abort, alloc: Global, text: &str) -> KdlNode {
-    let document = KdlDocument::parse(alloc, text).expect(rt, "no document");
-    match document.nodes().first() {
-        Some(node) => node.clone().expect(rt, "memory"),
-        None => panic!(rt; "no node"),
-    }
-}
-
-fn key(rt: &impl Abort, alloc: Global, name: &str) -> NodeKey {
-    NodeKey::from_text(alloc, name).expect(rt, "memory")
-}
-
-/// The node prints the text.
-fn prints(rt: &impl Abort, alloc: Global, node: &KdlNode, text: &str) {
-    assert_eq!(rt; node.to_string(alloc).expect(rt, "memory").as_str(), text);
-}
-
-/// The entry prints the text.
-fn entry_prints(rt: &impl Abort, alloc: Global, entry: &KdlEntry, text: &str) {
-    assert_eq!(rt; entry.to_string(alloc).expect(rt, "memory").as_str(), text);
-}
-
-fn integer(value: Option<&KdlValue>) -> Option<i128> {
-    value.and_then(|v| v.as_integer())
-}
-
 fn check_names_find_the_last_and_places_count_arguments(
     rt: &impl Abort,
     alloc: Global,
@@ -94,7 +68,7 @@ fn check_names_find_the_last_and_places_count_arguments(
     assert_eq!(rt; integer(node.get(NodeKey::Index(1))), Some(8));
     assert!(rt; node.get(NodeKey::Index(2)).is_none());
     let last = node.entry(key(rt, alloc, "x")).expect(rt, "no entry");
-    entry_prints(rt, alloc, last, " \"x\"=2");
+    prints(rt, alloc, last, " \"x\"=2");
     assert!(rt; node.entry(NodeKey::Index(2)).is_none());
 }
 
@@ -104,7 +78,7 @@ fn names_find_the_last_and_places_count_arguments(rt: HostRuntime) {
     check_names_find_the_last_and_places_count_arguments(
         &rt,
         alloc,
-        &node_of(&rt, alloc, "n x=1 7 \"x\"=2 y=3 8"),
+        &node(&rt, alloc, "n x=1 7 \"x\"=2 y=3 8"),
     );
 }
 
@@ -119,7 +93,7 @@ fn check_values_by_index(rt: &impl Abort, alloc: Global, node: &mut KdlNode) {
 #[test]
 fn values_by_index(rt: HostRuntime) {
     let alloc = rt.alloc();
-    check_values_by_index(&rt, alloc, &mut node_of(&rt, alloc, "foo x=1 5 x=2"));
+    check_values_by_index(&rt, alloc, &mut node(&rt, alloc, "foo x=1 5 x=2"));
 }
 
 fn check_the_last_property_or_a_null_one(rt: &impl Abort, alloc: Global, node: &mut KdlNode) {
@@ -138,7 +112,7 @@ fn check_the_last_property_or_a_null_one(rt: &impl Abort, alloc: Global, node: &
 #[test]
 fn the_last_property_or_a_null_one(rt: HostRuntime) {
     let alloc = rt.alloc();
-    check_the_last_property_or_a_null_one(&rt, alloc, &mut node_of(&rt, alloc, "n x=1 x=2"));
+    check_the_last_property_or_a_null_one(&rt, alloc, &mut node(&rt, alloc, "n x=1 x=2"));
 }
 
 fn check_the_spelling_stays_until_it_is_cleared(
@@ -158,7 +132,7 @@ fn check_the_spelling_stays_until_it_is_cleared(
 #[test]
 fn the_spelling_stays_until_it_is_cleared(rt: HostRuntime) {
     let alloc = rt.alloc();
-    check_the_spelling_stays_until_it_is_cleared(&rt, alloc, &mut node_of(&rt, alloc, "n 0x10"));
+    check_the_spelling_stays_until_it_is_cleared(&rt, alloc, &mut node(&rt, alloc, "n 0x10"));
 }
 
 fn check_an_entry_exchanged_for_a_parsed_one(rt: &impl Abort, alloc: Global, node: &mut KdlNode) {
@@ -170,7 +144,7 @@ fn check_an_entry_exchanged_for_a_parsed_one(rt: &impl Abort, alloc: Global, nod
 #[test]
 fn an_entry_exchanged_for_a_parsed_one(rt: HostRuntime) {
     let alloc = rt.alloc();
-    let mut node = node_of(&rt, alloc, "a 1 b=2 // c\n");
+    let mut node = node(&rt, alloc, "a 1 b=2 // c\n");
     check_an_entry_exchanged_for_a_parsed_one(&rt, alloc, &mut node);
 }
 
@@ -187,7 +161,7 @@ fn check_an_iterator_over_entries(rt: &impl Abort, alloc: Global, node: &mut Kdl
 #[test]
 fn an_iterator_over_entries(rt: HostRuntime) {
     let alloc = rt.alloc();
-    check_an_iterator_over_entries(&rt, alloc, &mut node_of(&rt, alloc, "n 1 k=2 { a; b; }"));
+    check_an_iterator_over_entries(&rt, alloc, &mut node(&rt, alloc, "n 1 k=2 { a; b; }"));
 }
 
 fn check_an_iterator_over_children(rt: &impl Abort, alloc: Global, node: &mut KdlNode) {
@@ -206,12 +180,12 @@ fn check_an_iterator_over_children(rt: &impl Abort, alloc: Global, node: &mut Kd
 #[test]
 fn an_iterator_over_children(rt: HostRuntime) {
     let alloc = rt.alloc();
-    check_an_iterator_over_children(&rt, alloc, &mut node_of(&rt, alloc, "n 1 k=2 { a; b; }"));
+    check_an_iterator_over_children(&rt, alloc, &mut node(&rt, alloc, "n 1 k=2 { a; b; }"));
 }
 
 #[test]
 fn no_children_without_a_block(rt: HostRuntime) {
-    let mut bare = node_of(&rt, rt.alloc(), "n");
+    let mut bare = node(&rt, rt.alloc(), "n");
     assert!(rt; bare.iter_children().next().is_none());
     assert!(rt; bare.iter_children_mut().next().is_none());
     assert_eq!(rt; bare.iter_children_mut().size_hint(), (0, Some(0)));

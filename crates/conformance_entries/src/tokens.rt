@@ -1,33 +1,12 @@
 //! Small texts, cut into tokens.
 
-use kdl_entry::KdlValue;
-use kdl_entry::items::{FaultKind, LexFailure, Lexer, TokenKind};
+use crate::letter;
+use kdl_entry::items::{FaultKind, LexFailure, Lexer};
 use kdl_text::chars::Steps;
 use kdl_text::numbers::NumberFault;
 use kdl_text::strings::StringFault;
 use std::alloc::{AllocError, Global};
 use std::test::Fail;
-
-/// A letter for each kind of token.
-fn letter(kind: &TokenKind) -> char {
-    match kind {
-        TokenKind::Space => '_',
-        TokenKind::Newline => 'n',
-        TokenKind::Slashdash => '-',
-        TokenKind::String(_) => 's',
-        TokenKind::Value(KdlValue::Integer(_)) => 'i',
-        TokenKind::Value(KdlValue::Float(_)) => 'f',
-        TokenKind::Value(KdlValue::Bool(_)) => 'b',
-        TokenKind::Value(_) => 'v',
-        TokenKind::Left => '(',
-        TokenKind::Right => ')',
-        TokenKind::Opening => '{',
-        TokenKind::Closing => '}',
-        TokenKind::Equals => '=',
-        TokenKind::Semicolon => ';',
-        TokenKind::Mark => 'm',
-    }
-}
 
 /// The letters of the text's tokens, and `!` in place of a fault.
 fn cut(alloc: Global, text: &str) -> Result<String, AllocError> {

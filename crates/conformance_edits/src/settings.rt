@@ -1,14 +1,13 @@
 //! One setting of a file that people keep is changed, and all else stays as it is, byte for byte.
 
+use crate::reading::{identifier, prints, read};
 use kdl::{KdlDocument, KdlEntry, KdlNode, KdlValue, NodeKey};
 use std::alloc::Global;
 use std::process::Abort;
 
 /// Gives the node a property of that name, in the place of the last one there.
 fn put(rt: &impl Abort, alloc: Global, node: &mut KdlNode, name: &str, value: KdlValue) {
-    let Ok(key) = NodeKey::from_text(alloc, name) else {
-        panic!(rt; "no memory");
-    };
+    let key = NodeKey::Key(identifier(rt, alloc, name));
     match node.insert(key, KdlEntry::new(value)) {
         Ok(_) => {}
         Err(_) => panic!(rt; "no memory"),
@@ -33,8 +32,7 @@ fn prints_with_port(
     text: &str,
 ) {
     set_port(rt, alloc, document, "server", port);
-    let printed = document.to_string(alloc).expect(rt, "memory");
-    assert_eq!(rt; printed.as_str(), text);
+    prints(rt, alloc, document, text);
 }
 
 #[test]
@@ -44,6 +42,6 @@ fn one_setting_of_a_commented_file_is_changed(rt: HostRuntime) {
         "// Who may connect.\nserver \"main\"  port=0x1F90 /* the old one */ tls=#true {\n    allow \"10.0.0.0/8\" // the office\n}\n\n/-debug level=3\nlog  file=#\"C:\\log\"#\n";
     let changed =
         "// Who may connect.\nserver \"main\" port=8443 /* the old one */ tls=#true {\n    allow \"10.0.0.0/8\" // the office\n}\n\n/-debug level=3\nlog  file=#\"C:\\log\"#\n";
-    let mut document = KdlDocument::parse(alloc, text).expect(&rt, "no document");
+    let mut document = read(&rt, alloc, text);
     prints_with_port(&rt, alloc, &mut document, 8443, changed);
 }

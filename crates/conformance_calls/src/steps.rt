@@ -1,6 +1,6 @@
 //! Counted steps: what the parse of a text takes, and where the count goes on.
 
-use crate::reading::nested;
+use conformance_text::characters::nested;
 use kdl::{KdlDocument, ParseFailure, Steps};
 use std::alloc::Global;
 use std::process::Abort;
@@ -44,11 +44,11 @@ fn small_texts(rt: HostRuntime) {
 #[test]
 fn long_strings(rt: HostRuntime) {
     let alloc = rt.alloc();
-    let quotes = nested(&rt, alloc, "\"###", "", "", 100000);
+    let quotes = nested(alloc, "\"###", "", "", 100000).expect(&rt, "memory");
     let text = format!(in alloc; "n ####\"{quotes}\"####").expect(&rt, "memory");
     takes(&rt, alloc, &text, 400012);
-    let newlines = nested(&rt, alloc, "\n", "", "", 1000);
-    let spaces = nested(&rt, alloc, " ", "", "", 20);
+    let newlines = nested(alloc, "\n", "", "", 1000).expect(&rt, "memory");
+    let spaces = nested(alloc, " ", "", "", 20).expect(&rt, "memory");
     let text = format!(in alloc; "n \"\"\"\n{newlines}{spaces}\"\"\"").expect(&rt, "memory");
     takes(&rt, alloc, &text, 1029);
 }
@@ -63,7 +63,7 @@ fn three_hundred_deep(rt: HostRuntime) {
         ("/*", "", "*/", 1200),
     ];
     for (opening, middle, closing, bytes) in rows {
-        let text = nested(&rt, alloc, opening, middle, closing, 300);
+        let text = nested(alloc, opening, middle, closing, 300).expect(&rt, "memory");
         takes(&rt, alloc, &text, bytes);
     }
 }
@@ -71,9 +71,9 @@ fn three_hundred_deep(rt: HostRuntime) {
 #[test]
 fn blocks_a_hundred_thousand_deep(rt: HostRuntime) {
     let alloc = rt.alloc();
-    let open = nested(&rt, alloc, "a {", "", "", 100000);
+    let open = nested(alloc, "a {", "", "", 100000).expect(&rt, "memory");
     assert!(rt; !is_document(&rt, alloc, &open, &mut Steps::new()));
-    let dropped = nested(&rt, alloc, "a /-{", "a", "}", 100000);
+    let dropped = nested(alloc, "a /-{", "a", "}", 100000).expect(&rt, "memory");
     takes(&rt, alloc, &dropped, 600001);
 }
 

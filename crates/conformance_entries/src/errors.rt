@@ -1,0 +1,39 @@
+//! What the error types print.
+
+use crate::reading::prints;
+use kdl_entry::KdlEntry;
+use kdl_text::error::{KdlDiagnostic, ParseFailure};
+use kdl_text::span::{Severity, SourceSpan};
+use std::rc::RcStr;
+
+#[test]
+fn errors_print(rt: HostRuntime) {
+    let alloc = rt.alloc();
+    let Err(ParseFailure::Syntax(error)) = KdlEntry::parse(alloc, ";") else {
+        panic!(rt; "not refused");
+    };
+    prints(&rt, alloc, &error, "Failed to parse KDL document");
+    for diagnostic in &error.diagnostics {
+        prints(&rt, alloc, diagnostic, "Expected end of document");
+    }
+    let failure = ParseFailure::Syntax(error);
+    prints(&rt, alloc, &failure, "Failed to parse KDL document");
+    prints(&rt, alloc, &ParseFailure::Memory, "out of memory");
+    drop(failure);
+}
+
+#[test]
+fn a_diagnostic_without_a_message(rt: HostRuntime) {
+    let alloc = rt.alloc();
+    let diagnostic = KdlDiagnostic {
+        input: RcStr::from_str(alloc, "a").expect(&rt, "memory"),
+        span: SourceSpan { offset: 0, len: 1 },
+        message: None,
+        label: None,
+        help: None,
+        severity: Severity::default(),
+    };
+    prints(&rt, alloc, &diagnostic, "Unexpected error");
+    assert_eq!(rt; diagnostic.severity, Severity::Error);
+    drop(diagnostic);
+}
