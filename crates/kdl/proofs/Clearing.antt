@@ -4,7 +4,7 @@ use Rattle.kdl.specs.Cleared.{cleared_node, cleared_nodes}
 use Rattle.kdl_grammar.specs.Tree.{Node, nodes_of}
 use Rattle.kdl.specs.Tree.{node_tree, nodes_tree}
 use Rattle.kdl.specs.declared.node.KdlNode.{KdlNode}
-use Rattle.kdl.proofs.Loops.{Changed, changed_all}
+use Rattle.kdl_parts.proofs.Loops.{Changed, changed_all}
 
 pub all_cleared : (ns : List Node) → nodes_of (map cleared_node ns) ≡ cleared_nodes (nodes_of ns)
 all_cleared [] = refl

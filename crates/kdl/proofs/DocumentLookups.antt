@@ -15,12 +15,11 @@ use Rattle.kdl_entry.specs.Data.{Value}
 use Rattle.kdl_entry.specs.Tree.{identifier_tree, value_tree}
 use Rattle.kdl_entry.specs.declared.entry.KdlEntry.{KdlEntry}
 use Rattle.kdl_entry.specs.declared.identifier.KdlIdentifier.{KdlIdentifier}
-use Rattle.kdl.specs.DocumentLookups.{argument_place, argument_value, arguments, dash_arguments, first_argument, is_node_named}
+use Rattle.kdl.specs.DocumentLookups.{argument_place, argument_value, dash_arguments, first_argument, is_node_named}
 use Rattle.kdl_parts.specs.EntryLists.{is_argument, same_text}
 use Rattle.kdl.specs.Lookups.{value_there}
 use Rattle.kdl.specs.declared.node.KdlNode.{KdlNode, out-KdlNode}
-use Rattle.kdl_parts.proofs.EntryPlaces.{same_bytes}
-use Rattle.kdl.proofs.Lookups.{found_at}
+use Rattle.kdl_parts.proofs.EntryPlaces.{found_at, same_bytes}
 
 -- a node whose name's text was compared
 pub named_compared : (n : KdlNode) (k : KdlIdentifier) (b s : List ℕ) → k ≡ (out-KdlNode n).name → IsUtf8 b → chars b ≡ (identifier_tree k).value → same_text b s ≡ is_node_named s n
@@ -57,13 +56,6 @@ no_entry (Some x) e = absurd (none-some _ e)
 -- the node that is found has no argument
 pub argument_absent : (p : KdlNode → Bool) (ns : List KdlNode) (i : ℕ) (n : KdlNode) → Some i ≡ position p ns → slice_get ns i ≡ Some n → None ≡ argument_value n → option_and_then first_argument (find p ns) ≡ None
 argument_absent p ns i n e h a = ap (option_and_then first_argument) (sym (found_is p ns i n e h)) ∙ no_entry (first_argument n) a
-
-arguments_most : (es : List KdlEntry) → length (arguments es) ≤ length es
-arguments_most es = omega (arith, length-map (filter is_argument es) (λ e. value_tree e.value), length-filter is_argument es, count_by-le-length is_argument es)
-
--- no more arguments than entries
-pub arguments_within : (s : List Value) (es : List KdlEntry) (n : ℕ) → arguments es ≡ s → n ≡ length es → length s ≤ n
-arguments_within s es n e h = rw (← e, h) (arguments_most es)
 
 cons_most : {A : Type 0} (o : Option A) (xs : List A) (n : ℕ) → length xs ≤ n → length (cons_option o xs) ≤ suc n
 cons_most None xs n h = omega arith

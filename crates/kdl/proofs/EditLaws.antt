@@ -10,9 +10,9 @@ use Rattle.kdl_entry.specs.declared.identifier.KdlIdentifier.{KdlIdentifier}
 use Rattle.kdl_entry.specs.declared.entry.KdlEntry.{KdlEntry}
 use Rattle.kdl.specs.Change.{with_entries, with_entry}
 use Rattle.kdl.specs.EditLaw.{head_of, tail_of, tree_entries, PrintsInstead, PrintsAtPlace, EntriesExchanged, EntryExchanged, FormedPiece, NodesExchanged, NodeExchanged, document_before, document_behind}
-use Rattle.kdl.specs.Edits.{under, put_for, put_before, there, replaced_place, inserted, IsInserted}
-use Rattle.kdl_parts.specs.EntryLists.{property, sought, place_of}
-use Rattle.kdl_grammar.specs.Print.{print_head, head_text, print_tail, before_block, after_brace, before_brace, end_text, format_of, print_piece, print_pieces, print_node, print_nodes, print_document, leading_text, trailing_text}
+use Rattle.kdl_parts.specs.Edits.{under, put_for, replaced_place, IsInserted}
+use Rattle.kdl_parts.specs.EntryLists.{sought, place_of}
+use Rattle.kdl_grammar.specs.Print.{print_head, print_tail, before_block, after_brace, before_brace, end_text, format_of, print_piece, print_pieces, print_node, print_nodes, print_document, leading_text, trailing_text}
 use Rattle.kdl_grammar.specs.Tree.{Head, NodeFormat, Node, node, Children, no_children, children, children_of}
 use Rattle.kdl.specs.Tree.{node_tree, nodes_tree, document_tree, head_tree}
 use Rattle.kdl_parts.specs.Formats.{document_format_tree, node_format_tree}
@@ -22,14 +22,11 @@ use Rattle.kdl.specs.declared.node.KdlNode.{KdlNode}
 use Rattle.kdl_parts.specs.declared.key.NodeKey.{NodeKey}
 use Rattle.kdl_parts.specs.declared.key.NodeKey.TheVariants.{Key, Index}
 use Rattle.kdl.proofs.Printing.{print_nodes-join}
+use Rattle.kdl_parts.proofs.EntryEdits.{set_around}
 use Rattle.kdl_parts.proofs.Printing.{print_pieces-append}
 use Rattle.kdl.proofs.Trees.{NodeFields, node_of, document_tree_out, document_tree_roll, node_tree_out, node_tree_roll, nodes_tree-append}
 
--- the head does not look at the entries; the tail does not where there is a format
-head_same : (h : Head) (es : List Entry) (o : Option NodeFormat) (depth : ℕ) → head_text (record h { entries = es }) o depth ≡ head_text h o depth
-head_same h es None depth = refl
-head_same h es (Some f) depth = refl
-
+-- the tail does not look at the entries where there is a format
 before_same : (o : Option NodeFormat) (es fs : List Entry) → IsSome o → before_block o es ≡ before_block o fs
 before_same None es fs s = absurd (cc)
 before_same (Some f) es fs s = refl
@@ -48,8 +45,7 @@ fields_exchanged x v s depth =
     let h = head_tree x in
     let es = map entry_tree v.items in
     let k = children_of (option_map document_tree x.children) in
-    ap (λ z. z ++ print_pieces es ++ print_tail (record h { entries = es }) k depth) (head_same h es h.format depth)
-    ∙ ap (λ z. print_head h depth ++ print_pieces es ++ z) (tail_same h es k depth (formed node_format_tree x.format s))
+    ap (λ z. print_head h depth ++ print_pieces es ++ z) (tail_same h es k depth (formed node_format_tree x.format s))
 
 pub entries_exchanged : EntriesExchanged
 entries_exchanged n v s depth =
@@ -73,10 +69,6 @@ at_place n m i e es k p depth =
 
 itself : (n : Node) → PrintsInstead n (tree_entries n) n
 itself (node h k) depth = refl
-
--- a list around its element at i
-pub set_around : {A : Type 0} (xs : List A) (i : ℕ) (y : A) → i < length xs → set xs i y ≡ take i xs ++ (y ∷ drop (i + 1) xs)
-set_around xs i y h = set_split xs i y h ∙ ap (λ k. take i xs ++ (y ∷ drop k xs)) (sym (add-one i))
 
 around : {A : Type 0} (xs : List A) (i : ℕ) (x y : A) → slice_get xs i ≡ Some x → set xs i y ≡ take i xs ++ (y ∷ drop (i + 1) xs)
 around xs i x y h = set_around xs i y (slice_get_within xs i x h)
@@ -161,67 +153,14 @@ entries_same n m r h =
     ∙ ap (λ z. node (record (head_tree (out-KdlNode n)) { entries = map entry_tree z }) (children_of (option_map document_tree (out-KdlNode n).children))) h
     ∙ sym (node_tree_out n)
 
-pub refused_same : {T E : Type 0} (r : Result T E) (n m : KdlNode) (es : List KdlEntry) → (out-KdlNode m).entries.items ≡ (if is_ok r then es else (out-KdlNode n).entries.items)
-    → m ≡ with_entries n (out-KdlNode m).entries → OnErr r (node_tree m ≡ node_tree n)
-refused_same (Ok a) n m es h s = tt
-refused_same (Err e) n m es h s = entries_same n m s h
+-- the same where a call that failed left the entries as they were
+pub refused_same : {T E : Type 0} (r : Result T E) (n m : KdlNode) → OnErr r ((out-KdlNode m).entries.items ≡ (out-KdlNode n).entries.items) → m ≡ with_entries n (out-KdlNode m).entries → OnErr r (node_tree m ≡ node_tree n)
+refused_same (Ok a) n m h s = tt
+refused_same (Err e) n m h s = entries_same n m s h
 
--- what a successful insertion leaves, and what it prints
-pub insert_done : {T E : Type 0} (r : Result T E) (key : NodeKey) (e f : KdlEntry) (n m : KdlNode) → entry_tree f ≡ under (sought key) (entry_tree e)
-    → (out-KdlNode m).entries.items ≡ (if is_ok r then inserted key f (out-KdlNode n).entries.items else (out-KdlNode n).entries.items)
-    → OnOk r (IsInserted key e (out-KdlNode n).entries.items (out-KdlNode m).entries.items)
-insert_done (Ok a) key e f n m t h = record { entry = f; tree = t; items = h }
-insert_done (Err a) key e f n m t h = tt
-
+-- what a successful insertion prints
 pub insert_prints : {T E : Type 0} (r : Result T E) (key : NodeKey) (e : KdlEntry) (n m : KdlNode) → OnOk r (IsInserted key e (out-KdlNode n).entries.items (out-KdlNode m).entries.items)
     → m ≡ with_entries n (out-KdlNode m).entries
     → OnOk r (IsSome (out-KdlNode n).format → IfSome (replaced_place key (out-KdlNode n).entries.items) (λ i. PrintsAtPlace (node_tree n) i (under (sought key) (entry_tree e)) (node_tree m)))
 insert_prints (Ok a) key e n m d s = λ f. inserted_prints key e n m d s f
 insert_prints (Err a) key e n m d s = tt
-
--- the name that an entry takes
-pub own_name : {A : Type 0} (f : A → Identifier) (o : Option A) (e : Entry) (k : Identifier) → option_map f o ≡ e.name → is_some o ≡ true → e ≡ under (property k) e
-own_name f None e k h t = absurd (cc)
-own_name f (Some a) e k h t =
-    let q : e.name ≡ Some (unwrap_or e.name k) = sym h ∙ ap (λ o. Some (unwrap_or o k)) h in
-    ap (λ o. record e { name = o }) q
-
-pub given_name : {A : Type 0} (f : A → Identifier) (o : Option A) (e : Entry) (k : Identifier) → option_map f o ≡ e.name → is_some o ≡ false → record e { name = Some k } ≡ under (property k) e
-given_name f None e k h t = ap (λ o. record e { name = Some (unwrap_or o k) }) h
-given_name f (Some a) e k h t = absurd (cc)
-
--- an insertion by name, and by index, by the place that was found
-pub key_put : (key : NodeKey) (k : KdlIdentifier) (o : Option ℕ) (f : KdlEntry) (es : List KdlEntry) → key ≡ Key k → o ≡ place_of key es → put_for o f es ≡ inserted key f es
-key_put key k o f es e p = rw (p, e) refl
-
-pub index_put : (key : NodeKey) (i : ℕ) (o : Option ℕ) (f : KdlEntry) (es : List KdlEntry) → key ≡ Index i → o ≡ place_of key es → put_before o f es ≡ inserted key f es
-index_put key i o f es e p = rw (p, e) refl
-
-pub key_replaced : (key : NodeKey) (k : KdlIdentifier) (o : Option ℕ) (es : List KdlEntry) → key ≡ Key k → o ≡ place_of key es → there o es ≡ there (replaced_place key es) es
-key_replaced key k o es e p = rw (p, e) refl
-
-pub index_replaced : (key : NodeKey) (i : ℕ) (es : List KdlEntry) → key ≡ Index i → None ≡ there (replaced_place key es) es
-index_replaced key i es e = rw e refl
-
-pub key_succeeds : {T E : Type 0} (r : Result T E) (key : NodeKey) (k : KdlIdentifier) (o : Option ℕ) (es : List KdlEntry) → key ≡ Key k → o ≡ place_of key es → (IsSome o → IsOk r) → IsSome (replaced_place key es) → IsOk r
-key_succeeds r key k o es e p = rw (p, e) (λ f. f)
-
-pub index_succeeds : {T E : Type 0} (r : Result T E) (key : NodeKey) (i : ℕ) (es : List KdlEntry) → key ≡ Index i → IsSome (replaced_place key es) → IsOk r
-index_succeeds r key i es e = rw e (λ h. absurd (cc))
-
-pub key_under : (key : NodeKey) (k : KdlIdentifier) (f : KdlEntry) (t : Entry) → key ≡ Key k → entry_tree f ≡ under (property (identifier_tree k)) t → entry_tree f ≡ under (sought key) t
-key_under key k f t e h = rw e h
-
-pub index_under : (key : NodeKey) (i : ℕ) (t : Entry) → key ≡ Index i → t ≡ under (sought key) t
-index_under key i t e = rw e refl
-
-pub if_ok_same : {T E : Type 0} (r : Result T E) (xs ys zs old : List KdlEntry) → xs ≡ (if is_ok r then ys else old) → ys ≡ zs → xs ≡ (if is_ok r then zs else old)
-if_ok_same r xs ys zs old h e = h ∙ ap (λ z. if is_ok r then z else old) e
-
-pub replaced_is : {A E : Type 0} (r : Result A E) (x y : A) → IfOk r (λ e. e ≡ x) → x ≡ y → IfOk r (λ e. e ≡ y)
-replaced_is (Ok a) x y h k = h ∙ k
-replaced_is (Err a) x y h k = tt
-
-pub back_is : {T E : Type 0} (first : E → KdlEntry) (r : Result T E) (f : KdlEntry) (t : Entry) → IfErr r (λ e. first e ≡ f) → entry_tree f ≡ t → IfErr r (λ e. entry_tree (first e) ≡ t)
-back_is first (Ok a) f t h k = tt
-back_is first (Err e) f t h k = ap entry_tree h ∙ k

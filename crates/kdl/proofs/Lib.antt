@@ -5,7 +5,6 @@ pub mod EditedOutcomes
 pub mod Equality
 pub mod LeadingMark
 pub mod Lookups
-pub mod Loops
 pub mod NodeTexts
 pub mod Outcomes
 pub mod Printing

@@ -7,18 +7,12 @@ use Rattle.kdl_entry.specs.Data.{null}
 use Rattle.kdl_entry.specs.Tree.{Entry, value_tree, or_null}
 use Rattle.kdl_entry.specs.declared.entry.KdlEntry.{KdlEntry}
 use Rattle.kdl_entry.specs.declared.value.KdlValue.{KdlValue}
-use Rattle.kdl.specs.Change.{set_value_at, with_entries, with_value}
+use Rattle.kdl.specs.Change.{with_entries, with_value}
+use Rattle.kdl_parts.specs.Written.{set_value_at}
+use Rattle.kdl_parts.proofs.EntryPlaces.{set_value_is}
 use Rattle.kdl.specs.Lookups.{entries_of, value_there, HasProperty, HasWritten, IsPushed}
 use Rattle.kdl.specs.declared.document.KdlDocument.TheViews.{out-KdlNode, roll-KdlNode, out-roll-KdlNode}
 use Rattle.kdl.specs.declared.node.KdlNode.{KdlNode}
-
--- what stands at a place that was found
-pub found_at : {A : Type 0} (xs : List A) (o : Option ℕ) (i : ℕ) (x : A) → Some i ≡ o → slice_get xs i ≡ Some x → Some x ≡ option_and_then (λ k. slice_get xs k) o
-found_at xs o i x e h = rw (← e, h) refl
-
--- the value of the entry at i is exchanged
-pub set_value_is : (v : Vec KdlEntry Global) (i : ℕ) (e : KdlEntry) → slice_get v.items i ≡ Some e → (w : KdlValue) → with_item v i (record e { value = w }) ≡ set_value_at v i w
-set_value_is v i e h w = rw (h, set_value_at) refl
 
 -- a node with other entries has those
 pub with_entries_out : (n : KdlNode) (v : Vec KdlEntry Global) → (out-KdlNode (with_entries n v)).entries ≡ v

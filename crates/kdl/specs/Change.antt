@@ -1,13 +1,12 @@
 -- A node or a document with one field changed.
 use denote.RattleType.{RattleType}
-use Rattle.std.specs.Prelude.{ℕ, Option, Some, None, Vec, slice_get}
+use Rattle.std.specs.Prelude.{ℕ, Option, Vec}
 use Rattle.std.specs.Vec.{with_item}
 use Rattle.std.specs.contracts.alloc.Global as global
 use Rattle.std.specs.contracts.impls.GlobalAllocator.TheImpl.{ghosts}
 use Rattle.std.specs.contracts.option.Option as option
 use Rattle.std.specs.contracts.vec.Vec as vec
 use Rattle.std.specs.declared.alloc.Global.{Global}
-use Rattle.kdl_entry.specs.contracts.entry.KdlEntry as entry
 use Rattle.kdl_entry.specs.contracts.identifier.KdlIdentifier as identifier
 use Rattle.kdl_entry.specs.declared.entry.KdlEntry.{KdlEntry}
 use Rattle.kdl_entry.specs.declared.identifier.KdlIdentifier.{KdlIdentifier}
@@ -17,6 +16,7 @@ use Rattle.kdl.specs.contracts.node.KdlNode as node
 use Rattle.kdl.specs.declared.node.KdlNode.{KdlNode}
 use Rattle.kdl_parts.specs.declared.format.KdlNodeFormat.{KdlNodeFormat}
 use Rattle.kdl.specs.declared.document.KdlDocument.{KdlDocument}
+use Rattle.kdl_parts.specs.Written.{set_value_at}
 use Rattle.kdl_parts.specs.declared.format.KdlDocumentFormat.{KdlDocumentFormat}
 use Rattle.kdl.specs.declared.document.KdlDocument.TheViews.{out-KdlDocument, out-KdlNode, roll-KdlDocument, roll-KdlNode}
 
@@ -49,17 +49,11 @@ with_entry n i e = with_entries n (with_item (out-KdlNode n).entries i e)
 abbrev pub with_node : KdlDocument → ℕ → KdlNode → KdlDocument
 with_node d i n = with_nodes d (with_item (out-KdlDocument d).nodes i n)
 
-abbrev pub set_value_at : Vec KdlEntry Global → ℕ → KdlValue → Vec KdlEntry Global
-set_value_at v i w = elim (slice_get v.items i) [ None ↦ v | Some e ↦ with_item v i (record e { value = w }) ]
-
 -- with the value of the entry at i exchanged
 abbrev pub with_value : KdlNode → ℕ → KdlValue → KdlNode
 with_value n i w = with_entries n (set_value_at (out-KdlNode n).entries i w)
 
--- how the logic holds the lists of entries and of nodes, and a child block
-abbrev pub entries_row : RattleType
-entries_row = vec.the_row entry.the_row global.the_row ghosts
-
+-- how the logic holds a list of nodes, a child block and a type
 abbrev pub nodes_row : RattleType
 nodes_row = vec.the_row node.the_row global.the_row ghosts
 

@@ -1,12 +1,12 @@
 -- What look-ups in a document give, and what a document is once what they lent was written.
 use Rattle.std.specs.List.{filter, filter_map, find}
-use Rattle.std.specs.Prelude.{ℕ, Bool, List, [], Option, Some, None, codes, map, option_and_then, option_map, position, slice_get, string_bytes}
+use Rattle.std.specs.Prelude.{ℕ, Bool, List, [], Option, Some, None, codes, option_and_then, option_map, position, slice_get, string_bytes}
 use Rattle.kdl_entry.specs.Data.{Value}
 use Rattle.kdl_entry.specs.Tree.{value_tree}
 use Rattle.kdl_entry.specs.declared.entry.KdlEntry.{KdlEntry}
 use Rattle.kdl_entry.specs.declared.value.KdlValue.{KdlValue}
 use Rattle.kdl.specs.Change.{with_node}
-use Rattle.kdl_parts.specs.EntryLists.{is_argument, nth_place, same_text}
+use Rattle.kdl_parts.specs.EntryLists.{arguments, is_argument, nth_place, same_text}
 use Rattle.kdl.specs.Iterators.{child_nodes}
 use Rattle.kdl.specs.Lookups.{entries_of, entry_there, with_value_there}
 use Rattle.kdl.specs.declared.document.KdlDocument.{KdlDocument, out-KdlDocument}
@@ -57,10 +57,6 @@ with_argument_in d i (Some n) w = with_node d i (with_value_there (argument_plac
 abbrev pub with_argument_there : Option ℕ → KdlDocument → KdlValue → KdlDocument
 with_argument_there None d w = d
 with_argument_there (Some i) d w = with_argument_in d i (slice_get (nodes_of d) i) w
-
--- the values of the arguments among entries, in order
-abbrev pub arguments : List KdlEntry → List Value
-arguments es = map (λ e. value_tree e.value) (filter is_argument es)
 
 -- the values of the arguments of a node, none where there is no node
 abbrev pub arguments_of : Option KdlNode → List Value

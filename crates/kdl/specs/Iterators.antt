@@ -1,13 +1,11 @@
--- What the iterators over the entries and the children of a node have left, and what the node is once they lent.
-use base.Fml.{GName}
+-- What the iterator over the children of a node has left, and what the node is once its entries are written.
 use Rattle.std.specs.Prelude.{List, [], Option, Some, None}
-use Rattle.std.specs.Slice.Iter.{iter_mut_rest, iter_mut_name}
+use Rattle.std.specs.Slice.Iter.{iter_mut_rest}
 use Rattle.std.specs.Vec.{with_items}
 use Rattle.kdl_entry.specs.declared.entry.KdlEntry.{KdlEntry}
 use Rattle.kdl.specs.Change.{with_entries}
 use Rattle.kdl.specs.declared.document.KdlDocument.{KdlDocument, out-KdlDocument}
 use Rattle.kdl.specs.declared.node.KdlNode.{KdlNode, out-KdlNode}
-use Rattle.kdl.specs.declared.node.iter.EntryIterMut.{EntryIterMut}
 use Rattle.kdl.specs.declared.node.iter.ChildrenIterMut.{ChildrenIterMut}
 
 abbrev pub nodes_in : Option KdlDocument → List KdlNode
@@ -17,14 +15,6 @@ nodes_in (Some d) = (out-KdlDocument d).nodes.items
 -- the nodes of a child block, none without one
 abbrev pub child_nodes : KdlNode → List KdlNode
 child_nodes n = nodes_in (out-KdlNode n).children
-
--- the entries that are still to come
-abbrev pub entries_left : EntryIterMut → List KdlEntry
-entries_left it = iter_mut_rest it.entries
-
--- the name of the loan
-abbrev pub entries_name : EntryIterMut → GName
-entries_name it = iter_mut_name it.entries
 
 -- the children that are still to come
 abbrev pub nodes_left : ChildrenIterMut → List KdlNode

@@ -1,7 +1,6 @@
 pub mod Answered
 pub mod Change
 pub mod EditLaw
-pub mod Edits
 pub mod Cleared
 pub mod DocumentLookups
 pub mod Iterators

@@ -1,12 +1,13 @@
 -- What look-ups in a node give, and what a node is once what they lent was written.
-use Rattle.std.specs.Prelude.{◌≡◌, ℕ, List, [], ◌∷◌, ◌++◌, Option, Some, None, option_map, option_and_then, length, slice_get}
+use Rattle.std.specs.Prelude.{◌≡◌, ℕ, List, [], ◌∷◌, ◌++◌, Option, Some, None, option_map, length}
 use Rattle.std.specs.Str.{chars}
 use Rattle.kdl_entry.specs.Data.{Value, null}
 use Rattle.kdl_entry.specs.Tree.{entry_tree, value_tree, plain_entry, plain_identifier}
 use Rattle.kdl_entry.specs.declared.entry.KdlEntry.{KdlEntry}
 use Rattle.kdl_entry.specs.declared.value.KdlValue.{KdlValue}
-use Rattle.kdl.specs.Change.{with_entries, with_entry, with_value}
-use Rattle.kdl_parts.specs.EntryLists.{place_of, last_place, has_name}
+use Rattle.kdl.specs.Change.{with_entries, with_value}
+use Rattle.kdl_parts.specs.EntryLists.{place_of, last_place, has_name, there}
+use Rattle.kdl_parts.specs.Written.{set_entry_there, set_value_there}
 use Rattle.kdl_parts.specs.declared.key.NodeKey.{NodeKey}
 use Rattle.kdl.specs.declared.node.KdlNode.{KdlNode, out-KdlNode}
 
@@ -24,7 +25,7 @@ key_place k n = place_of k (entries_of n)
 
 -- the entry at a place that was found
 abbrev pub entry_there : Option ℕ → KdlNode → Option KdlEntry
-entry_there place n = option_and_then (λ i. slice_get (entries_of n) i) place
+entry_there place n = there place (entries_of n)
 
 -- the value of the entry at a place that was found
 abbrev pub value_there : Option ℕ → KdlNode → Option Value
@@ -32,13 +33,11 @@ value_there place n = option_map (λ e. value_tree e.value) (entry_there place n
 
 -- the node with the entry at a place that was found exchanged, and all else as it was
 abbrev pub with_entry_there : Option ℕ → KdlNode → KdlEntry → KdlNode
-with_entry_there None n e = n
-with_entry_there (Some i) n e = with_entry n i e
+with_entry_there place n e = with_entries n (set_entry_there place (out-KdlNode n).entries e)
 
 -- the node with the value of the entry at a place that was found exchanged, and all else as it was
 abbrev pub with_value_there : Option ℕ → KdlNode → KdlValue → KdlNode
-with_value_there None n w = n
-with_value_there (Some i) n w = with_value n i w
+with_value_there place n w = with_entries n (set_value_there place (out-KdlNode n).entries w)
 
 -- m is n with a property of that name and value behind its entries, and all else as it was
 pub record IsPushed (s : List ℕ) (w : Value) (n m : KdlNode) : Type 0 where

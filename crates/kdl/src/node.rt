@@ -1,9 +1,9 @@
 //! Nodes.
 
 ghost use Rattle.kdl_grammar.specs.Tree.{node, children_of};
-ghost use Rattle.kdl.specs.Tree.{head_tree, node_tree, document_tree};
+ghost use Rattle.kdl.specs.Tree.{node_tree, document_tree};
 ghost use Rattle.kdl.specs.NodeText.{alone};
-ghost use Rattle.kdl_grammar.specs.Print.{print_node, print_head};
+ghost use Rattle.kdl_grammar.specs.Print.{print_node};
 ghost use Rattle.kdl.specs.Same.{same_node};
 ghost use Rattle.kdl.specs.declared.node.KdlNode.{out-KdlNode};
 ghost use Rattle.kdl_entry.specs.Tree.{identifier_tree, entry_tree, text_of};
@@ -19,9 +19,9 @@ mod lookup;
 mod parsed;
 
 use crate::document::KdlDocument;
-use kdl_entry::{KdlEntry, KdlIdentifier, write_text, write_type};
+use kdl_entry::{KdlEntry, KdlIdentifier};
 use kdl_parts::KdlNodeFormat;
-use kdl_parts::print::{write_before_block, write_end, write_pieces, write_spaces};
+use kdl_parts::print::{write_before_block, write_end, write_head, write_pieces};
 use kdl_text::span::SourceSpan;
 use std::alloc::{AllocError, Global};
 use std::fmt;
@@ -116,7 +116,7 @@ impl KdlNode {
     ) -> fmt::Result
         ensures { WritesOnOk W.write_str_gives f.old result (encode_utf8_all (print_node (node_tree self.now) depth)) f.new }
     {
-        self.write_head(depth, f)?;
+        write_head(&self.ty, &self.name, &self.format, depth, f)?;
         write_pieces(&self.entries, f)?;
         if let Some(children) = &self.children {
             write_before_block(&self.format, &self.entries, f)?;
@@ -124,26 +124,6 @@ impl KdlNode {
             return write_end(&self.format, f);
         }
         write_end(&self.format, f)
-    }
-
-    /// Writes the leading text, the type and the name.
-    #[tactic(auto, using(kdl_parts::proofs::Writing::writes))]
-    fn write_head<W: fmt::Write>(&self, depth: usize, f: &mut fmt::Formatter<W>) -> fmt::Result
-        ensures { WritesOnOk W.write_str_gives f.old result (encode_utf8_all (print_head (head_tree (out-KdlNode self.now)) depth)) f.new }
-    {
-        match &self.format {
-            Some(format) => {
-                write_text(&format.leading, f)?;
-                write_type(&self.ty, &format.before_ty_name, &format.after_ty_name, f)?;
-                write_text(&format.after_ty, f)?;
-                write!(f, "{}", self.name)
-            }
-            None => {
-                write_spaces(depth, f)?;
-                write_type(&self.ty, "", "", f)?;
-                write!(f, "{}", self.name)
-            }
-        }
     }
 }
 

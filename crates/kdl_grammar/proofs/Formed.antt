@@ -153,7 +153,7 @@ replaces exact whole h k (laid_head y i es) (m, c, f) = subst (λ (z : Head). Ca
 tail_of : Option NodeFormat → List Entry → Document → ℕ → Text
 tail_of o es d depth = before_block o es ++ (123 ∷ after_brace (format_of d)) ++ print_document d (depth + 1) ++ before_brace (format_of d) depth ++ (125 ∷ end_text o)
 
-head_printed : (h : Head) (o : Option NodeFormat) (depth : ℕ) → head_text (formed_head h) o depth ≡ head_text h o depth
+head_printed : (h : Head) (o : Option NodeFormat) (depth : ℕ) → head_text (formed_head h).ty (formed_head h).name o depth ≡ head_text h.ty h.name o depth
 head_printed h None depth = rw (formed_type h.ty [] []) refl
 head_printed h (Some f) depth = rw (formed_type h.ty f.before_ty_name f.after_ty_name) refl
 

@@ -1,7 +1,7 @@
 -- What nodes and documents print.
 use Rattle.std.specs.Prelude.{ℕ, ◌*◌, ◌+◌, Bool, true, false, not, List, [], ◌∷◌, ◌++◌, replicate, Option, Some, None, is_none}
 use Rattle.kdl_text.specs.Chars.{Text}
-use Rattle.kdl_entry.specs.Tree.{EntryFormat, Entry}
+use Rattle.kdl_entry.specs.Tree.{Identifier, EntryFormat, Entry}
 use Rattle.kdl_entry.specs.Print.{print_identifier, print_type, print_entry}
 use Rattle.kdl_grammar.specs.Tree.{NodeFormat, DocumentFormat, Head, Node, node, Children, no_children, children, Document, document, Nodes, none, first}
 
@@ -24,13 +24,13 @@ print_pieces [] = []
 print_pieces (e ∷ es) = print_piece e ++ print_pieces es
 
 -- from the leading text to the name
-abbrev pub head_text : Head → Option NodeFormat → ℕ → Text
-head_text h None depth = spaces depth ++ print_type h.ty [] [] ++ print_identifier h.name
-head_text h (Some f) depth = f.leading ++ print_type h.ty f.before_ty_name f.after_ty_name ++ f.after_ty ++ print_identifier h.name
+abbrev pub head_text : Option Identifier → Identifier → Option NodeFormat → ℕ → Text
+head_text ty name None depth = spaces depth ++ print_type ty [] [] ++ print_identifier name
+head_text ty name (Some f) depth = f.leading ++ print_type ty f.before_ty_name f.after_ty_name ++ f.after_ty ++ print_identifier name
 
 -- what a node prints before its entries, at a depth
 abbrev pub print_head : Head → ℕ → Text
-print_head h depth = head_text h h.format depth
+print_head h depth = head_text h.ty h.name h.format depth
 
 -- whether the last entry has a format
 abbrev pub last_has_format : List Entry → Bool

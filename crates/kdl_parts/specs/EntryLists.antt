@@ -1,9 +1,11 @@
 -- Where look-ups find an entry.
-use Rattle.std.specs.Prelude.{ℕ, zero, suc, List, [], ◌∷◌, Bool, true, false, ◌==◌, Option, Some, None, option_map, is_none, string_bytes, position}
+use Rattle.std.specs.List.{filter}
+use Rattle.std.specs.Prelude.{ℕ, zero, suc, List, [], ◌∷◌, Bool, true, false, ◌==◌, Option, Some, None, map, option_map, option_and_then, is_none, slice_get, string_bytes, position}
 use Rattle.std.specs.Cmp.Lexicographic.{pointwise}
 use Rattle.kdl_entry.specs.declared.entry.KdlEntry.{KdlEntry}
 use Rattle.kdl_entry.specs.declared.identifier.KdlIdentifier.{KdlIdentifier}
-use Rattle.kdl_entry.specs.Tree.{Identifier, identifier_tree}
+use Rattle.kdl_entry.specs.Data.{Value}
+use Rattle.kdl_entry.specs.Tree.{Identifier, identifier_tree, value_tree}
 use Rattle.kdl_parts.specs.declared.key.NodeKey.{NodeKey}
 use Rattle.kdl_parts.specs.declared.key.NodeKey.TheVariants.{Key, Index}
 
@@ -64,3 +66,11 @@ place_of (Index n) es = nth_place is_argument es n
 abbrev pub removed_place : NodeKey → List KdlEntry → Option ℕ
 removed_place (Key k) es = position (has_name (string_bytes k.value)) es
 removed_place (Index n) es = nth_place is_argument es n
+
+-- what stands at a place that was found
+abbrev pub there : {A : Type 0} → Option ℕ → List A → Option A
+there o xs = option_and_then (λ i. slice_get xs i) o
+
+-- the values of the arguments among entries, in order
+abbrev pub arguments : List KdlEntry → List Value
+arguments es = map (λ e. value_tree e.value) (filter is_argument es)

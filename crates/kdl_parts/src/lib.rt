@@ -1,9 +1,12 @@
 //! What nodes and documents are made of but for themselves: the texts around them, and the lists of their entries.
 #![tactic(auto)]
 
+pub mod edit;
 pub mod format;
+pub mod iter;
 pub mod key;
 pub mod laws;
+pub mod lookup;
 pub mod places;
 pub mod print;
 

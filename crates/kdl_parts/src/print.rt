@@ -1,14 +1,14 @@
 //! Parts of the printed text.
 
-ghost use Rattle.kdl_grammar.specs.Print.{after_brace, before_block, before_brace, end_text, last_has_format, leading_text, print_piece, print_pieces, spaces, trailing_text};
+ghost use Rattle.kdl_grammar.specs.Print.{after_brace, before_block, before_brace, end_text, head_text, last_has_format, leading_text, print_piece, print_pieces, spaces, trailing_text};
 ghost use Rattle.kdl_parts.specs.Formats.{document_format_tree, node_format_tree};
-ghost use Rattle.kdl_entry.specs.Tree.{entry_tree};
+ghost use Rattle.kdl_entry.specs.Tree.{entry_tree, identifier_tree};
 ghost use Rattle.std.specs.Fmt.{WritesOnOk};
 ghost use Rattle.std.specs.Prelude.{◌≡◌, ◌++◌, [], ◌∷◌, map, option_map};
 ghost use Rattle.std.specs.Str.{encode_utf8_all};
 
 use crate::format::{KdlDocumentFormat, KdlNodeFormat};
-use kdl_entry::{KdlEntry, write_text};
+use kdl_entry::{KdlEntry, KdlIdentifier, write_text, write_type};
 use std::fmt;
 
 /// Writes the indentation at a depth: four spaces for each level.
@@ -20,6 +20,32 @@ pub fn write_spaces<W: fmt::Write>(depth: usize, f: &mut fmt::Formatter<W>) -> f
         f.write_str("    ")?;
     }
     Ok(())
+}
+
+/// Writes what stands before the entries of a node at a depth: the leading text, the type and the name.
+#[tactic(auto, using(crate::proofs::Writing::writes))]
+pub fn write_head<W: fmt::Write>(
+    ty: &Option<KdlIdentifier>,
+    name: &KdlIdentifier,
+    format: &Option<KdlNodeFormat>,
+    depth: usize,
+    f: &mut fmt::Formatter<W>,
+) -> fmt::Result
+    ensures { WritesOnOk W.write_str_gives f.old result (encode_utf8_all (head_text (option_map identifier_tree ty.now) (identifier_tree name.now) (option_map node_format_tree format.now) depth)) f.new }
+{
+    match format {
+        Some(format) => {
+            write_text(&format.leading, f)?;
+            write_type(ty, &format.before_ty_name, &format.after_ty_name, f)?;
+            write_text(&format.after_ty, f)?;
+            write!(f, "{name}")
+        }
+        None => {
+            write_spaces(depth, f)?;
+            write_type(ty, "", "", f)?;
+            write!(f, "{name}")
+        }
+    }
 }
 
 /// Writes the entries of a node.

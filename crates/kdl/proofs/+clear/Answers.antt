@@ -3,7 +3,7 @@ use Rattle.kdl.specs.Cleared.{cleared_node}
 use Rattle.kdl.specs.Tree.{node_tree}
 use Rattle.kdl.specs.declared.document.KdlDocument.TheViews.{the_lemmas}
 use Rattle.kdl.proofs.Clearing.{nodes_cleared}
-use Rattle.kdl.proofs.Loops.{changed_more}
+use Rattle.kdl_parts.proofs.Loops.{changed_more}
 use Rattle.kdl.proofs.+clear.Goals as goal
 
 pub document::fields::clear_nodes-loop-node-preserved : goal.document::fields::clear_nodes-loop-node-preserved

@@ -1,7 +1,7 @@
 use Rattle.std.proofs.Common.{map}
 use Rattle.kdl.specs.Cleared.{cleared_node}
 use Rattle.kdl.specs.Tree.{node_tree}
-use Rattle.kdl.proofs.Loops.{Changed}
+use Rattle.kdl_parts.proofs.Loops.{Changed}
 use Rattle.kdl.proofs.+clear.Given as goal
 
 abbrev pub invariant-document::fields::clear_nodes-loop-node : goal.invariant-document::fields::clear_nodes-loop-node

@@ -1,6 +1,6 @@
 //! The iterators over the arguments of a node, and of its children named `-`.
 
-ghost use Rattle.kdl.specs.DocumentLookups.{arguments, arguments_of, dash_arguments, dash_arguments_of, node_named};
+ghost use Rattle.kdl.specs.DocumentLookups.{arguments_of, dash_arguments, dash_arguments_of, node_named};
 ghost use Rattle.kdl.specs.Iterators.{child_nodes};
 ghost use Rattle.kdl_entry.specs.Tree.{value_tree};
 ghost use Rattle.std.specs.Iterator.{UpTo, at_most};
@@ -12,9 +12,9 @@ ghost use Rattle.std.specs.Slice.Iter.{iter_rest};
 use crate::document::KdlDocument;
 use crate::document::lookup::is_named;
 use crate::node::KdlNode;
-use kdl_entry::{KdlEntry, KdlValue};
+use kdl_entry::KdlValue;
 use kdl_parts::NodeKey;
-use kdl_parts::places::is_unnamed;
+use kdl_parts::iter::{ArgsIter, args_iter};
 use std::marker::Model;
 use std::slice;
 
@@ -24,10 +24,8 @@ impl KdlDocument {
         ensures { result ≡ arguments_of (node_named name.now self.now) }
     {
         match self.get(name) {
-            Some(node) => ArgsIter {
-                entries: node.entries().iter(),
-            },
-            None => ArgsIter { entries: [].iter() },
+            Some(node) => args_iter(node.entries()),
+            None => args_iter(&[]),
         }
     }
 
@@ -55,18 +53,6 @@ fn children(node: &KdlNode) -> &[KdlNode]
     }
 }
 
-/// The value of the next argument.
-fn next_argument<'a>(entries: &mut slice::Iter<'a, KdlEntry>) -> Option<&'a KdlValue>
-    ensures { TakesFirst (λ v. value_tree v.now) (arguments (iter_rest entries.old)) result (arguments (iter_rest entries.new)) }
-{
-    while let Some(entry) = entries.next() {
-        if is_unnamed(entry) {
-            return Some(entry.value());
-        }
-    }
-    None
-}
-
 /// The value of the first argument of the next node that is named `-` and has one.
 fn next_dash_argument<'a>(nodes: &mut slice::Iter<'a, KdlNode>) -> Option<&'a KdlValue>
     ensures { TakesFirst (λ v. value_tree v.now) (dash_arguments (iter_rest nodes.old)) result (dash_arguments (iter_rest nodes.new)) }
@@ -79,44 +65,6 @@ fn next_dash_argument<'a>(nodes: &mut slice::Iter<'a, KdlNode>) -> Option<&'a Kd
         }
     }
     None
-}
-
-/// The values of a node's arguments, in order.
-#[derive(Drop)]
-pub struct ArgsIter<'a> {
-    entries: slice::Iter<'a, KdlEntry>,
-}
-
-impl<'a> Model for ArgsIter<'a> {
-    ghost use Rattle.kdl.specs.DocumentLookups.{arguments};
-    ghost use Rattle.kdl_entry.specs.Data.{Value as Data};
-    ghost use Rattle.std.specs.Prelude.{List};
-    ghost use Rattle.std.specs.Slice.Iter.{iter_rest};
-
-    ghost Value = { List Data };
-
-    ghost view = { λ a. arguments (iter_rest a.entries) };
-}
-
-impl<'a> Iterator for ArgsIter<'a> {
-    type Item = &'a KdlValue;
-
-    ghost next_gives = { TakesFirst (λ v. value_tree v.now) };
-
-    ghost remaining = { λ s. at_most (length s) };
-
-    fn next(&mut self) -> Option<&'a KdlValue> {
-        next_argument(&mut self.entries)
-    }
-
-    /// At most as many as entries are left.
-    fn size_hint(&self) -> (usize, Option<usize>)
-        ensures lower { IsWithinCount result.0 (at_most (length self.now)) }
-        ensures upper { IfSome result.1 (UpTo (at_most (length self.now))) }
-        ensures bounded { IsSome result.1 }
-    {
-        (0, Some(self.entries.len()))
-    }
 }
 
 /// The values of the first arguments of a node's children named `-`, in order.

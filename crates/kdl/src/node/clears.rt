@@ -3,12 +3,11 @@
 ghost use Rattle.kdl.specs.Cleared.{cleared_node, cleared_children};
 ghost use Rattle.kdl_grammar.specs.Tree.{children_of};
 ghost use Rattle.kdl.specs.Tree.{node_tree, document_tree};
-ghost use Rattle.kdl_entry.specs.Tree.{entry_tree, cleared};
-ghost use Rattle.std.specs.Prelude.{◌≡◌, map, option_map};
+ghost use Rattle.std.specs.Prelude.{◌≡◌, option_map};
 
 use crate::document::KdlDocument;
 use crate::node::KdlNode;
-use kdl_entry::KdlEntry;
+use kdl_parts::edit::clear_formats;
 
 impl KdlNode {
     /// Drops the node's format, the spelling of its name, the formats and spellings of its entries, and likewise those
@@ -19,7 +18,7 @@ impl KdlNode {
     {
         self.clear_format();
         self.name.clear_format();
-        clear_entries(&mut self.entries);
+        clear_formats(&mut self.entries);
         clear_block(&mut self.children);
     }
 }
@@ -31,14 +30,5 @@ fn clear_block(children: &mut Option<KdlDocument>)
 {
     if let Some(children) = children {
         children.clear_format_recursive();
-    }
-}
-
-/// Drops the formats and spellings of entries.
-fn clear_entries(entries: &mut Vec<KdlEntry>)
-    ensures { map entry_tree entries.new.items ≡ map cleared (map entry_tree entries.old.items) }
-{
-    for entry in entries.iter_mut() {
-        entry.clear_format();
     }
 }

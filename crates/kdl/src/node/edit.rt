@@ -1,26 +1,25 @@
 //! Edits of a node's entries.
 
-ghost use Rattle.kdl.specs.Change.{with_entries, entries_row};
+ghost use Rattle.kdl.specs.Change.{with_entries};
 ghost use Rattle.kdl.specs.EditLaw.{PrintsAtPlace};
-ghost use Rattle.kdl.specs.Edits.{GoesUnder, HasArgumentAt, HasRoomAt, IsInserted, put_before, put_for, removed, replaced_place, there, under};
-ghost use Rattle.kdl_parts.specs.EntryLists.{property, removed_place, sought};
+ghost use Rattle.kdl_parts.specs.Edits.{GoesUnder, HasArgumentAt, HasRoomAt, IsInserted, removed, replaced_place, under};
+ghost use Rattle.kdl_parts.specs.EntryLists.{removed_place, sought, there};
+ghost use Rattle.kdl_parts.specs.Written.{entries_row};
 ghost use Rattle.kdl.specs.Tree.{node_tree};
 ghost use Rattle.kdl.specs.contracts.node.KdlNode.{the_row};
 ghost use Rattle.kdl.specs.declared.node.KdlNode.{out-KdlNode};
-ghost use Rattle.kdl_entry.specs.Tree.{entry_tree, identifier_tree};
+ghost use Rattle.kdl_entry.specs.Tree.{entry_tree};
 ghost use Rattle.std.specs.Borrow.{Lends, sem};
 ghost use Rattle.std.specs.Fn.{CalledAt};
 ghost use Rattle.std.specs.List.Retain.{IsFiltered};
 ghost use Rattle.std.specs.List.Sorted.{IsPermutation, IsSortedByClosure, IsSortedByKeyClosure, IsStableByClosure, IsStableByKeyClosure};
-ghost use Rattle.std.specs.Prelude.{◌≡◌, ◌==◌, ◌<◌, ◌≤◌, ◌+◌, [], ◌∷◌, ◌++◌, if◌then◌else◌, IfErr, IfOk, IfSome, IsSome, IsOk, OnErr, OnOk, Some, drop, is_ok, length, slice_get, take};
+ghost use Rattle.std.specs.Prelude.{◌≡◌, ◌==◌, [], ◌∷◌, ◌++◌, if◌then◌else◌, IfErr, IfOk, IfSome, IsSome, IsOk, OnErr, OnOk, is_ok, length};
 
 use crate::node::KdlNode;
-use kdl_entry::{KdlEntry, KdlIdentifier};
-use kdl_parts::NodeKey;
-use kdl_parts::places::{place, place_to_remove};
+use kdl_entry::KdlEntry;
+use kdl_parts::{NodeKey, edit};
 use std::alloc::AllocError;
 use std::cmp::Ordering;
-use std::mem;
 
 impl KdlNode {
     /// The number of entries.
@@ -56,17 +55,14 @@ impl KdlNode {
 
     /// Puts the entry behind the others. Fails where memory is wanting: then the entry comes back, and the node is as
     /// it was.
-    #[tactic(auto, using(crate::proofs::EditLaws::entries_same))]
+    #[tactic(auto, using(crate::proofs::EditLaws::refused_same))]
     pub fn push(&mut self, entry: KdlEntry) -> Result<(), (KdlEntry, AllocError)>
         ensures items { (out-KdlNode self.new).entries.items ≡ (if is_ok result then (out-KdlNode self.old).entries.items ++ (entry ∷ []) else (out-KdlNode self.old).entries.items) }
         ensures rest { self.new ≡ with_entries self.old (out-KdlNode self.new).entries }
         ensures back { IfErr result (λ e. e.0 ≡ entry) }
         ensures refused { OnErr result (node_tree self.new ≡ node_tree self.old) }
     {
-        match self.entries.push(entry) {
-            Ok(()) => Ok(()),
-            Err(refused) => Err((refused.value, AllocError)),
-        }
+        edit::push(&mut self.entries, entry)
     }
 
     /// Puts the entry in under the key. Under a name, an entry without a name takes it; the last property whose name
@@ -92,11 +88,7 @@ impl KdlNode {
         ensures back { IfErr result (λ e. entry_tree e.0 ≡ under (sought key) (entry_tree entry)) }
         ensures refused { OnErr result (node_tree self.new ≡ node_tree self.old) }
     {
-        let at = place(&self.entries, &key);
-        match key {
-            NodeKey::Key(name) => self.put_for(at, named(entry, name)),
-            NodeKey::Index(_) => self.put_before(at, entry),
-        }
+        edit::insert(&mut self.entries, key, entry)
     }
 
     /// Takes out and hands back the first property whose name has the key's value, or the argument at the key's place
@@ -107,12 +99,7 @@ impl KdlNode {
         ensures rest { self.new ≡ with_entries self.old (out-KdlNode self.new).entries }
         ensures value { result ≡ there (removed_place key (out-KdlNode self.old).entries.items) (out-KdlNode self.old).entries.items }
     {
-        let at = place_to_remove(&self.entries, &key);
-        drop(key);
-        match at {
-            Some(at) => Some(self.remove_at(at)),
-            None => None,
-        }
+        edit::remove(&mut self.entries, key)
     }
 
     /// Keeps, in order, the entries for which `keep` answers true. It is asked once for each entry, in order. All else
@@ -153,97 +140,4 @@ impl KdlNode {
     {
         self.entries.sort_by_key(f)
     }
-}
-
-impl KdlNode {
-    /// Puts the entry in the place of the one there and hands that back, or puts it last where no place is given.
-    fn put_for(
-        &mut self,
-        at: Option<usize>,
-        entry: KdlEntry,
-    ) -> Result<Option<KdlEntry>, (KdlEntry, AllocError)>
-        requires { IfSome at (λ i. i < length (out-KdlNode self.old).entries.items) }
-        ensures items { (out-KdlNode self.new).entries.items ≡ (if is_ok result then put_for at entry (out-KdlNode self.old).entries.items else (out-KdlNode self.old).entries.items) }
-        ensures rest { self.new ≡ with_entries self.old (out-KdlNode self.new).entries }
-        ensures replaced { IfOk result (λ e. e ≡ there at (out-KdlNode self.old).entries.items) }
-        ensures succeeds { IsSome at → IsOk result }
-        ensures back { IfErr result (λ e. e.0 ≡ entry) }
-    {
-        match at {
-            Some(at) => Ok(Some(self.replace_at(at, entry))),
-            None => {
-                self.push(entry)?;
-                Ok(None)
-            }
-        }
-    }
-
-    /// Puts the entry before the one at that place, or last where no place is given.
-    fn put_before(
-        &mut self,
-        at: Option<usize>,
-        entry: KdlEntry,
-    ) -> Result<Option<KdlEntry>, (KdlEntry, AllocError)>
-        requires { IfSome at (λ i. i < length (out-KdlNode self.old).entries.items) }
-        ensures items { (out-KdlNode self.new).entries.items ≡ (if is_ok result then put_before at entry (out-KdlNode self.old).entries.items else (out-KdlNode self.old).entries.items) }
-        ensures rest { self.new ≡ with_entries self.old (out-KdlNode self.new).entries }
-        ensures replaced { IfOk result (λ e. e ≡ None) }
-        ensures back { IfErr result (λ e. e.0 ≡ entry) }
-    {
-        match at {
-            Some(at) => {
-                self.insert_at(at, entry)?;
-                Ok(None)
-            }
-            None => {
-                self.push(entry)?;
-                Ok(None)
-            }
-        }
-    }
-
-    /// Exchanges the entry at that place, and hands back the one that was there.
-    fn replace_at(&mut self, at: usize, entry: KdlEntry) -> KdlEntry
-        requires { at < length (out-KdlNode self.old).entries.items }
-        ensures items { (out-KdlNode self.new).entries.items ≡ take at (out-KdlNode self.old).entries.items ++ (entry ∷ drop (at + 1) (out-KdlNode self.old).entries.items) }
-        ensures rest { self.new ≡ with_entries self.old (out-KdlNode self.new).entries }
-        ensures value { slice_get (out-KdlNode self.old).entries.items at ≡ Some result }
-    {
-        mem::replace(&mut self.entries[at], entry)
-    }
-
-    /// Puts the entry before the one at that place.
-    fn insert_at(&mut self, at: usize, entry: KdlEntry) -> Result<(), (KdlEntry, AllocError)>
-        requires { at ≤ length (out-KdlNode self.old).entries.items }
-        ensures items { (out-KdlNode self.new).entries.items ≡ (if is_ok result then take at (out-KdlNode self.old).entries.items ++ (entry ∷ drop at (out-KdlNode self.old).entries.items) else (out-KdlNode self.old).entries.items) }
-        ensures rest { self.new ≡ with_entries self.old (out-KdlNode self.new).entries }
-        ensures back { IfErr result (λ e. e.0 ≡ entry) }
-    {
-        match self.entries.insert(at, entry) {
-            Ok(()) => Ok(()),
-            Err(refused) => Err((refused.value, AllocError)),
-        }
-    }
-
-    /// Takes out the entry at that place.
-    fn remove_at(&mut self, at: usize) -> KdlEntry
-        requires { at < length (out-KdlNode self.old).entries.items }
-        ensures items { (out-KdlNode self.new).entries.items ≡ take at (out-KdlNode self.old).entries.items ++ drop (at + 1) (out-KdlNode self.old).entries.items }
-        ensures rest { self.new ≡ with_entries self.old (out-KdlNode self.new).entries }
-        ensures value { slice_get (out-KdlNode self.old).entries.items at ≡ Some result }
-    {
-        self.entries.remove(at)
-    }
-}
-
-/// The entry, with the key for its name where it has none.
-fn named(mut entry: KdlEntry, key: KdlIdentifier) -> KdlEntry
-    ensures { entry_tree result ≡ under (property (identifier_tree key)) (entry_tree entry) }
-{
-    let has_name = entry.name().is_some();
-    if has_name {
-        return entry;
-    }
-    entry.set_name(Some(key));
-    entry
 }

@@ -1,8 +1,9 @@
 //! The iterators over the entries and the children of a node.
 
-ghost use Rattle.kdl.specs.Iterators.{child_nodes, entries_left, entries_name, nodes_in, nodes_left, with_written_entries};
+ghost use Rattle.kdl.specs.Iterators.{child_nodes, nodes_in, nodes_left, with_written_entries};
 ghost use Rattle.kdl.specs.Lookups.{entries_of};
 ghost use Rattle.kdl.specs.contracts.node.KdlNode.{the_row as node_row};
+ghost use Rattle.kdl_parts.specs.Iterators.{entries_left, entries_name};
 ghost use Rattle.std.specs.Borrow.{Array, follows, sem};
 ghost use Rattle.std.specs.Iterator.{UpTo, at_most};
 ghost use Rattle.std.specs.Iterator.SizeHint.{IsWithinCount};
@@ -12,7 +13,7 @@ ghost use Rattle.std.specs.Slice.Iter.{iter_mut_rest};
 
 use crate::document::KdlDocument;
 use crate::node::KdlNode;
-use kdl_entry::KdlEntry;
+use kdl_parts::iter::{EntryIter, EntryIterMut, entry_iter, entry_iter_mut};
 use std::marker::Model;
 use std::slice;
 
@@ -23,9 +24,7 @@ impl KdlNode {
     pub fn iter(&self) -> EntryIter<'_>
         ensures { result ≡ entries_of self.now }
     {
-        EntryIter {
-            entries: self.entries.iter(),
-        }
+        entry_iter(&self.entries)
     }
 
     /// The entries, in order, to be changed in place.
@@ -33,9 +32,7 @@ impl KdlNode {
         ensures* writes_back { sem 𝓛 (follows node_row (Array entry_row 0) self.entry.ghost_name (entries_name result) (with_written_entries self.old)) }
         ensures left { entries_left result ≡ entries_of self.old }
     {
-        EntryIterMut {
-            entries: self.entries.iter_mut(),
-        }
+        entry_iter_mut(&mut self.entries)
     }
 
     /// The children, in order; none without a child block.
@@ -66,74 +63,6 @@ fn lent_nodes(children: &mut Option<KdlDocument>) -> Option<slice::IterMut<'_, K
 {
     let children = children.as_mut()?;
     Some(children.iter_nodes_mut())
-}
-
-/// The entries of a node, in order.
-#[derive(Drop)]
-pub struct EntryIter<'a> {
-    entries: slice::Iter<'a, KdlEntry>,
-}
-
-impl<'a> Model for EntryIter<'a> {
-    ghost use Rattle.std.specs.Prelude.{List};
-    ghost use Rattle.std.specs.Slice.Iter.{iter_rest};
-    ghost use Rattle.kdl_entry.specs.declared.entry.KdlEntry.{KdlEntry};
-
-    ghost Value = { List KdlEntry };
-
-    ghost view = { λ a. iter_rest a.entries };
-}
-
-impl<'a> Iterator for EntryIter<'a> {
-    ghost use Rattle.std.specs.Map.Iter.{TakesFirst, deref};
-
-    type Item = &'a KdlEntry;
-
-    ghost next_gives = { TakesFirst deref };
-
-    ghost remaining = { λ s. at_most (length s) };
-
-    fn next(&mut self) -> Option<&'a KdlEntry> {
-        self.entries.next()
-    }
-
-    /// How many entries are left.
-    fn size_hint(&self) -> (usize, Option<usize>)
-        ensures lower { IsWithinCount result.0 (at_most (length self.now)) }
-        ensures upper { IfSome result.1 (UpTo (at_most (length self.now))) }
-        ensures value { result ≡ (length self.now, Some (length self.now)) }
-    {
-        let len = self.entries.len();
-        (len, Some(len))
-    }
-}
-
-/// The entries of a node, in order, each to be changed in place.
-#[derive(Drop)]
-pub struct EntryIterMut<'a> {
-    entries: slice::IterMut<'a, KdlEntry>,
-}
-
-impl<'a> Iterator for EntryIterMut<'a> {
-    type Item = &'a mut KdlEntry;
-
-    ghost next_gives = { λ s r t. TakesFirst (λ e. e.now) (entries_left s) r (entries_left t) };
-
-    ghost remaining = { λ s. at_most (length (entries_left s)) };
-
-    fn next(&mut self) -> Option<&'a mut KdlEntry> {
-        self.entries.next()
-    }
-
-    /// How many entries are left.
-    fn size_hint(&self) -> (usize, Option<usize>)
-        ensures lower { IsWithinCount result.0 (at_most (length (entries_left self.now))) }
-        ensures upper { IfSome result.1 (UpTo (at_most (length (entries_left self.now)))) }
-        ensures value { result ≡ (length (entries_left self.now), Some (length (entries_left self.now))) }
-    {
-        let left = self.entries.len();
-        (left, Some(left))
-    }
 }
 
 /// The children of a node, in order.

@@ -1,16 +1,16 @@
 //! Look-ups of entries by the name of a property, or by the place of an argument.
 
-ghost use Rattle.kdl.specs.Change.{with_value};
 ghost use Rattle.kdl.specs.Lookups.{entries_of, entry_there, key_place, property_place, value_there, with_entry_there, with_value_there, HasProperty, HasSameEntries, HasWritten};
 ghost use Rattle.kdl_parts.specs.declared.key.NodeKey.TheVariants.{Index as at_index};
 ghost use Rattle.kdl_entry.specs.Tree.{or_null, value_tree};
 ghost use Rattle.std.specs.Borrow.{Lends, LendsIf, LendsSoOk, sem};
-ghost use Rattle.std.specs.Prelude.{◌≡◌, ◌<◌, IfErr, IfOk, IsSome, Some, is_some, length, option_map, slice_get};
+ghost use Rattle.std.specs.Prelude.{◌≡◌, ◌<◌, IfErr, IfOk, IsSome, Some, is_some, length, option_map};
 
 use crate::node::KdlNode;
 use kdl_entry::{KdlEntry, KdlIdentifier, KdlValue};
-use kdl_parts::NodeKey;
-use kdl_parts::places::{last_property, nth_argument, place};
+use kdl_parts::lookup::value_at_mut;
+use kdl_parts::places::{last_property, nth_argument};
+use kdl_parts::{NodeKey, lookup};
 use std::alloc::AllocError;
 use std::ops::{Index, IndexMut};
 
@@ -20,12 +20,7 @@ impl KdlNode {
     pub fn entry(&self, key: NodeKey) -> Option<&KdlEntry>
         ensures { option_map (λ e. e.now) result ≡ entry_there (key_place key self.now) self.now }
     {
-        let at = place(&self.entries, &key);
-        drop(key);
-        match at {
-            Some(at) => Some(&self.entries[at]),
-            None => None,
-        }
+        lookup::entry(&self.entries, key)
     }
 
     /// The value of the entry that the key finds: of the last property whose name has the key's value, or of the
@@ -33,12 +28,7 @@ impl KdlNode {
     pub fn get(&self, key: NodeKey) -> Option<&KdlValue>
         ensures { option_map (λ v. value_tree v.now) result ≡ value_there (key_place key self.now) self.now }
     {
-        let at = place(&self.entries, &key);
-        drop(key);
-        match at {
-            Some(at) => Some(self.entries[at].value()),
-            None => None,
-        }
+        lookup::value(&self.entries, key)
     }
 
     /// Whether the node has a property of that name. The name's value counts, not its spelling. Then `node[name]` is
@@ -60,12 +50,7 @@ impl KdlNode {
         ensures* writes_back { sem 𝓛 (LendsIf the_row entry_row self.entry result (with_entry_there (key_place key self.old) self.old) self.old) }
         ensures value { option_map (λ e. e.now) result ≡ entry_there (key_place key self.old) self.old }
     {
-        let at = place(&self.entries, &key);
-        drop(key);
-        match at {
-            Some(at) => Some(&mut self.entries[at]),
-            None => None,
-        }
+        lookup::entry_mut(&mut self.entries, key)
     }
 
     /// The value that `get` gives, to be changed in place. The entry's format, with the spelling of the value, and all
@@ -74,12 +59,7 @@ impl KdlNode {
         ensures* writes_back { sem 𝓛 (LendsIf the_row value_row self.entry result (with_value_there (key_place key self.old) self.old) self.old) }
         ensures value { option_map (λ v. v.now) result ≡ option_map (λ e. e.value) (entry_there (key_place key self.old) self.old) }
     {
-        let at = place(&self.entries, &key);
-        drop(key);
-        match at {
-            Some(at) => Some(self.value_at_mut(at)),
-            None => None,
-        }
+        lookup::value_mut(&mut self.entries, key)
     }
 
     /// The value of the last property of that name, to be changed in place; a property of that name with the value null
@@ -89,7 +69,7 @@ impl KdlNode {
         ensures value { IfOk result (λ v. value_tree v.now ≡ or_null (value_there (property_place name.now self.old) self.old)) }
     {
         let at = self.property_or_null(name)?;
-        Ok(self.value_at_mut(at))
+        Ok(value_at_mut(&mut self.entries, at))
     }
 
     /// The place of the last property of that name, after a null one was pushed where there was none.
@@ -106,15 +86,6 @@ impl KdlNode {
         let at = self.entries.len();
         self.entries.push(KdlEntry::new_prop(key, KdlValue::Null))?;
         Ok(at)
-    }
-
-    /// The value of the entry at that place, to be changed in place.
-    fn value_at_mut(&mut self, at: usize) -> &mut KdlValue
-        requires { at < length (entries_of self.old) }
-        ensures* writes_back { sem 𝓛 (Lends the_row value_row self.entry result (with_value self.old at)) }
-        ensures value { option_map (λ e. e.value) (slice_get (entries_of self.old) at) ≡ Some result.now }
-    {
-        self.entries[at].value_mut()
     }
 }
 
@@ -161,7 +132,7 @@ impl IndexMut<usize> for KdlNode {
         ensures value { option_map (λ e. e.value) (entry_there (key_place (at_index index) self.old) self.old) ≡ Some result.now }
     {
         match nth_argument(&self.entries, index) {
-            Some(at) => self.value_at_mut(at),
+            Some(at) => value_at_mut(&mut self.entries, at),
             None => unreachable!(),
         }
     }

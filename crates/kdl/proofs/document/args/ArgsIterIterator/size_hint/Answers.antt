@@ -1,6 +1,0 @@
-use Rattle.std.specs.Slice.Iter.{iter_rest}
-use Rattle.kdl.proofs.DocumentLookups.{arguments_within}
-use Rattle.kdl.proofs.document.args.ArgsIterIterator.size_hint.Goals as goal
-
-pub returns-clause-upper : goal.returns-clause-upper
-returns-clause-upper c = (tt, arguments_within c.args.self.now (iter_rest c.self.inside.entries) c.len.result c.self.view_is c.len.ensures.value)

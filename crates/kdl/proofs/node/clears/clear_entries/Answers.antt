@@ -1,7 +1,0 @@
-use Rattle.std.proofs.Common.{arith}
-use Rattle.kdl_entry.specs.Tree.{entry_tree, cleared}
-use Rattle.kdl.proofs.Loops.{changed_more}
-use Rattle.kdl.proofs.node.clears.clear_entries.Goals as goal
-
-pub loop-entry-preserved : goal.loop-entry-preserved
-loop-entry-preserved c = changed_more entry_tree cleared c.loop-entry.entry-items c.loop-entry.entry-index c.clear_format.new.self c.entry-item.result _ (omega arith) c.clear_format.ensures c.loop-entry.invariant

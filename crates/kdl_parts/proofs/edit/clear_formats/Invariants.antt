@@ -1,0 +1,7 @@
+use Rattle.std.proofs.Common.{map}
+use Rattle.kdl_entry.specs.Tree.{entry_tree, cleared}
+use Rattle.kdl_parts.proofs.Loops.{Changed}
+use Rattle.kdl_parts.proofs.edit.clear_formats.Given as goal
+
+abbrev pub invariant-loop-entry : goal.invariant-loop-entry
+invariant-loop-entry l = Changed entry_tree cleared l.entry-items l.entry-index (map entry_tree l.initial.entry-items)

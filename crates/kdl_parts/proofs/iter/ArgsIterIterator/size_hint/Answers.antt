@@ -1,0 +1,6 @@
+use Rattle.std.specs.Slice.Iter.{iter_rest}
+use Rattle.kdl_parts.proofs.EntryPlaces.{arguments_within}
+use Rattle.kdl_parts.proofs.iter.ArgsIterIterator.size_hint.Goals as goal
+
+pub returns-clause-upper : goal.returns-clause-upper
+returns-clause-upper c = (tt, arguments_within c.args.self.now (iter_rest c.self.inside.entries) c.len.result c.self.view_is c.len.ensures.value)

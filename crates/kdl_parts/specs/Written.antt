@@ -1,0 +1,29 @@
+-- A list of entries in memory once what was lent of it is written.
+use denote.RattleType.{RattleType}
+use Rattle.std.specs.Prelude.{ℕ, Option, Some, None, Vec, slice_get}
+use Rattle.std.specs.Vec.{with_item}
+use Rattle.std.specs.contracts.alloc.Global as global
+use Rattle.std.specs.contracts.impls.GlobalAllocator.TheImpl.{ghosts}
+use Rattle.std.specs.contracts.vec.Vec as vec
+use Rattle.std.specs.declared.alloc.Global.{Global}
+use Rattle.kdl_entry.specs.contracts.entry.KdlEntry as entry
+use Rattle.kdl_entry.specs.declared.entry.KdlEntry.{KdlEntry}
+use Rattle.kdl_entry.specs.declared.value.KdlValue.{KdlValue}
+
+-- how the logic holds a list of entries
+abbrev pub entries_row : RattleType
+entries_row = vec.the_row entry.the_row global.the_row ghosts
+
+-- with the entry at a place that was found exchanged
+abbrev pub set_entry_there : Option ℕ → Vec KdlEntry Global → KdlEntry → Vec KdlEntry Global
+set_entry_there None v e = v
+set_entry_there (Some i) v e = with_item v i e
+
+-- with the value of the entry at i exchanged
+abbrev pub set_value_at : Vec KdlEntry Global → ℕ → KdlValue → Vec KdlEntry Global
+set_value_at v i w = elim (slice_get v.items i) [ None ↦ v | Some e ↦ with_item v i (record e { value = w }) ]
+
+-- with the value of the entry at a place that was found exchanged
+abbrev pub set_value_there : Option ℕ → Vec KdlEntry Global → KdlValue → Vec KdlEntry Global
+set_value_there None v w = v
+set_value_there (Some i) v w = set_value_at v i w

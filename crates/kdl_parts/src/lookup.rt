@@ -1,0 +1,71 @@
+//! Look-ups among the entries of a node, by the name of a property or by the place of an argument.
+
+ghost use Rattle.kdl_parts.specs.EntryLists.{place_of, there};
+ghost use Rattle.kdl_parts.specs.Written.{entries_row, set_entry_there, set_value_at, set_value_there};
+ghost use Rattle.kdl_entry.specs.Tree.{value_tree};
+ghost use Rattle.kdl_entry.specs.contracts.entry.KdlEntry.{the_row as entry_row};
+ghost use Rattle.kdl_entry.specs.contracts.value.KdlValue.{the_row as value_row};
+ghost use Rattle.std.specs.Borrow.{Lends, LendsIf, sem};
+ghost use Rattle.std.specs.Prelude.{◌≡◌, ◌<◌, Some, length, option_map, slice_get};
+
+use crate::key::NodeKey;
+use crate::places::place;
+use kdl_entry::{KdlEntry, KdlValue};
+
+/// The entry that the key finds: the last property whose name has the key's value, or the argument at the key's place
+/// among the arguments.
+pub fn entry(entries: &[KdlEntry], key: NodeKey) -> Option<&KdlEntry>
+    ensures { option_map (λ e. e.now) result ≡ there (place_of key entries.now) entries.now }
+{
+    let at = place(entries, &key);
+    drop(key);
+    match at {
+        Some(at) => Some(&entries[at]),
+        None => None,
+    }
+}
+
+/// The value of the entry that the key finds.
+pub fn value(entries: &[KdlEntry], key: NodeKey) -> Option<&KdlValue>
+    ensures { option_map (λ v. value_tree v.now) result ≡ option_map (λ e. value_tree e.value) (there (place_of key entries.now) entries.now) }
+{
+    match entry(entries, key) {
+        Some(entry) => Some(entry.value()),
+        None => None,
+    }
+}
+
+/// The entry that the key finds, to be changed in place. All else stays as it is.
+pub fn entry_mut(entries: &mut Vec<KdlEntry>, key: NodeKey) -> Option<&mut KdlEntry>
+    ensures* writes_back { sem 𝓛 (LendsIf entries_row entry_row entries.entry result (set_entry_there (place_of key entries.old.items) entries.old) entries.old) }
+    ensures value { option_map (λ e. e.now) result ≡ there (place_of key entries.old.items) entries.old.items }
+{
+    let at = place(entries, &key);
+    drop(key);
+    match at {
+        Some(at) => Some(&mut entries[at]),
+        None => None,
+    }
+}
+
+/// The value of the entry that the key finds, to be changed in place. All else stays as it is.
+pub fn value_mut(entries: &mut Vec<KdlEntry>, key: NodeKey) -> Option<&mut KdlValue>
+    ensures* writes_back { sem 𝓛 (LendsIf entries_row value_row entries.entry result (set_value_there (place_of key entries.old.items) entries.old) entries.old) }
+    ensures value { option_map (λ v. v.now) result ≡ option_map (λ e. e.value) (there (place_of key entries.old.items) entries.old.items) }
+{
+    let at = place(entries, &key);
+    drop(key);
+    match at {
+        Some(at) => Some(value_at_mut(entries, at)),
+        None => None,
+    }
+}
+
+/// The value of the entry at that place, to be changed in place. All else stays as it is.
+pub fn value_at_mut(entries: &mut Vec<KdlEntry>, at: usize) -> &mut KdlValue
+    requires { at < length entries.old.items }
+    ensures* writes_back { sem 𝓛 (Lends entries_row value_row entries.entry result (set_value_at entries.old at)) }
+    ensures value { option_map (λ e. e.value) (slice_get entries.old.items at) ≡ Some result.now }
+{
+    entries[at].value_mut()
+}
