@@ -11,7 +11,7 @@ use Rattle.kdl_entry.specs.contracts.entry.KdlEntry as entry
 use Rattle.kdl_entry.specs.contracts.identifier.KdlIdentifier as identifier
 use Rattle.kdl_entry.specs.declared.entry.KdlEntry.{KdlEntry}
 use Rattle.kdl_entry.specs.declared.identifier.KdlIdentifier.{KdlIdentifier}
-use Rattle.kdl_entry.specs.declared.value.KdlValue.{KdlValue}
+use Rattle.kdl_value.specs.declared.value.KdlValue.{KdlValue}
 use Rattle.kdl.specs.contracts.document.KdlDocument as document
 use Rattle.kdl.specs.contracts.node.KdlNode as node
 use Rattle.kdl.specs.declared.node.KdlNode.{KdlNode}
