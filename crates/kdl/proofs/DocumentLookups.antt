@@ -11,8 +11,9 @@ use Rattle.std.specs.List.{cons_option, filter, filter_map, find, position_or_le
 use Rattle.std.specs.Option.{IsSome}
 use Rattle.std.specs.Prelude.{codes}
 use Rattle.std.specs.Str.{IsUtf8, chars}
-use Rattle.kdl_entry.specs.Data.{Value}
-use Rattle.kdl_entry.specs.Tree.{identifier_tree, value_tree}
+use Rattle.kdl_value.specs.Data.{Value}
+use Rattle.kdl_value.specs.Tree.{value_tree}
+use Rattle.kdl_entry.specs.Tree.{identifier_tree}
 use Rattle.kdl_entry.specs.declared.entry.KdlEntry.{KdlEntry}
 use Rattle.kdl_entry.specs.declared.identifier.KdlIdentifier.{KdlIdentifier}
 use Rattle.kdl.specs.DocumentLookups.{argument_place, argument_value, dash_arguments, first_argument, is_node_named}

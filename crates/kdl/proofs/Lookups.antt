@@ -3,10 +3,11 @@ use Rattle.std.proofs.Common.{◌≡◌, ℕ, List, [], ◌∷◌, ◌++◌, len
 use Rattle.std.proofs.Math.Seq.{set-append_seam, get_or-append_seam}
 use Rattle.std.proofs.lemmas.Option.{none-some, slice_get_read}
 use Rattle.std.specs.Vec.{with_item}
-use Rattle.kdl_entry.specs.Data.{null}
-use Rattle.kdl_entry.specs.Tree.{Entry, value_tree, or_null}
+use Rattle.kdl_value.specs.Data.{null}
+use Rattle.kdl_value.specs.Tree.{value_tree, or_null}
+use Rattle.kdl_entry.specs.Tree.{Entry}
 use Rattle.kdl_entry.specs.declared.entry.KdlEntry.{KdlEntry}
-use Rattle.kdl_entry.specs.declared.value.KdlValue.{KdlValue}
+use Rattle.kdl_value.specs.declared.value.KdlValue.{KdlValue}
 use Rattle.kdl.specs.Change.{with_entries, with_value}
 use Rattle.kdl_parts.specs.Written.{set_value_at}
 use Rattle.kdl_parts.proofs.EntryPlaces.{set_value_is}

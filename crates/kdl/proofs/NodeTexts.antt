@@ -31,7 +31,7 @@ use Rattle.kdl_grammar.proofs.Erased.{sound_runs}
 use Rattle.kdl_grammar.proofs.LaidPrinted.{node_text_printed}
 use Rattle.kdl_grammar.proofs.LawProofs.{one_node}
 use Rattle.kdl.proofs.Trees.{node_tree_out}
-use Rattle.kdl_entry.specs.Tree.{text_of}
+use Rattle.kdl_value.specs.Tree.{text_of}
 use Rattle.kdl_parser.specs.Answered.{BuildAnswers}
 use Rattle.kdl_parser.specs.Building.{EndsIn}
 use Rattle.kdl_parser.specs.LineSpaces.{EndInLineSpaces}

@@ -10,7 +10,7 @@ use Rattle.std.specs.declared.alloc.Global.{Global}
 use Rattle.kdl_entry.specs.contracts.identifier.KdlIdentifier as identifier
 use Rattle.kdl_entry.specs.declared.entry.KdlEntry.{KdlEntry}
 use Rattle.kdl_entry.specs.declared.identifier.KdlIdentifier.{KdlIdentifier}
-use Rattle.kdl_entry.specs.declared.value.KdlValue.{KdlValue}
+use Rattle.kdl_value.specs.declared.value.KdlValue.{KdlValue}
 use Rattle.kdl.specs.contracts.document.KdlDocument as document
 use Rattle.kdl.specs.contracts.node.KdlNode as node
 use Rattle.kdl.specs.declared.node.KdlNode.{KdlNode}

@@ -1,10 +1,10 @@
 -- What look-ups in a document give, and what a document is once what they lent was written.
 use Rattle.std.specs.List.{filter, filter_map, find}
 use Rattle.std.specs.Prelude.{ℕ, Bool, List, [], Option, Some, None, codes, option_and_then, option_map, position, slice_get, string_bytes}
-use Rattle.kdl_entry.specs.Data.{Value}
-use Rattle.kdl_entry.specs.Tree.{value_tree}
+use Rattle.kdl_value.specs.Data.{Value}
+use Rattle.kdl_value.specs.Tree.{value_tree}
 use Rattle.kdl_entry.specs.declared.entry.KdlEntry.{KdlEntry}
-use Rattle.kdl_entry.specs.declared.value.KdlValue.{KdlValue}
+use Rattle.kdl_value.specs.declared.value.KdlValue.{KdlValue}
 use Rattle.kdl.specs.Change.{with_node}
 use Rattle.kdl_parts.specs.EntryLists.{arguments, is_argument, nth_place, same_text}
 use Rattle.kdl.specs.Iterators.{child_nodes}

@@ -1,10 +1,11 @@
 -- What look-ups in a node give, and what a node is once what they lent was written.
 use Rattle.std.specs.Prelude.{◌≡◌, ℕ, List, [], ◌∷◌, ◌++◌, Option, Some, None, option_map, length}
 use Rattle.std.specs.Str.{chars}
-use Rattle.kdl_entry.specs.Data.{Value, null}
-use Rattle.kdl_entry.specs.Tree.{entry_tree, value_tree, plain_entry, plain_identifier}
+use Rattle.kdl_value.specs.Data.{Value, null}
+use Rattle.kdl_value.specs.Tree.{value_tree}
+use Rattle.kdl_entry.specs.Tree.{entry_tree, plain_entry, plain_identifier}
 use Rattle.kdl_entry.specs.declared.entry.KdlEntry.{KdlEntry}
-use Rattle.kdl_entry.specs.declared.value.KdlValue.{KdlValue}
+use Rattle.kdl_value.specs.declared.value.KdlValue.{KdlValue}
 use Rattle.kdl.specs.Change.{with_entries, with_value}
 use Rattle.kdl_parts.specs.EntryLists.{place_of, last_place, has_name, there}
 use Rattle.kdl_parts.specs.Written.{set_entry_there, set_value_there}

@@ -6,7 +6,7 @@ use Rattle.std.specs.Prelude.{String, string_bytes}
 use Rattle.std.specs.Str.{chars}
 use Rattle.std.specs.declared.alloc.Global.{Global}
 use Rattle.kdl_entry.specs.Items.{between}
-use Rattle.kdl_entry.specs.Tree.{text_of}
+use Rattle.kdl_value.specs.Tree.{text_of}
 use Rattle.kdl_text.specs.Chars.{Text}
 use Rattle.kdl_text.specs.Here.{Spot, Ahead}
 

@@ -14,7 +14,7 @@ use Rattle.kdl_text.specs.Trivia.Break.{newline as break_newline, comment as bre
 use Rattle.kdl_text.proofs.Ends.{End, here, also}
 use Rattle.kdl_text.proofs.TriviaDet.{node_space_det, break_det, newline_no_space}
 use Rattle.kdl_text.proofs.TriviaPieces.{EndOf, node_space_end, break_end, node_space_shorter, break_shorter}
-use Rattle.kdl_entry.specs.Data.{Value}
+use Rattle.kdl_value.specs.Data.{Value}
 use Rattle.kdl_entry.specs.Entries.{StringPiece, PlainPiece}
 use Rattle.kdl_entry.specs.Tokens.{Token, space, newline, slashdash, string, value, left, right, opening, closing, equals, semicolon, mark, BeginsToken, t_space, t_newline, t_slashdash, t_string, t_value, t_left, t_right, t_opening, t_closing, t_equals, t_semicolon, t_mark, Lexes, done, next}
 use Rattle.kdl_entry.proofs.StringPieces.{begins_piece, string_det, string_begins, string_end, string_shorter, string_or_plain, plain_det, plain_begins, plain_end, plain_shorter}

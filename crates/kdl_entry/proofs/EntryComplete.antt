@@ -5,7 +5,7 @@ use Rattle.kdl_text.specs.Chars.Star.{none as no_star, more}
 use Rattle.kdl_text.specs.Trivia.{NodeSpace, LineSpace, slashdash}
 use Rattle.kdl_text.proofs.Ends.{End, then, end_star}
 use Rattle.kdl_entry.specs.Data as data'
-use Rattle.kdl_entry.specs.Data.{Value, text}
+use Rattle.kdl_value.specs.Data.{Value, text}
 use Rattle.kdl_entry.specs.Entries.{IsString, string as a_string', IsPlainValue, a_string, a_plain, parens, MaybeType, untyped, typed, value as a_value, IsEntry, property, argument, DroppedFirst, dropped_first, BeforeEntry, before_entry, IsEntryText, entry_text}
 use Rattle.kdl_entry.specs.EntryMachine.{Word, State, ahead, marked, under, dropped, word, done, opened_item, word_at, made, argument_of, step, ended, Runs, stops, reads, AnswersEntry}
 use Rattle.kdl_entry.specs.Items.{between, TypeParts, KeyParts, type_of, before_name, after_name, behind_type, identifier_at, Stage, opened, named, closed, keyed, Item}

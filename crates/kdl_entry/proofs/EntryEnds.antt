@@ -4,7 +4,8 @@ use Rattle.kdl_text.specs.Chars.{Text, Star, Plus, plus}
 use Rattle.kdl_text.specs.Trivia.{NodeSpace, LineSpace, Slashdash}
 use Rattle.kdl_text.proofs.Ends.{End, here, also, then, past, end_star}
 use Rattle.kdl_text.proofs.TriviaPieces.{node_space_end, line_space_end, slashdash_end}
-use Rattle.kdl_entry.specs.Data.{Value, Entry}
+use Rattle.kdl_value.specs.Data.{Value}
+use Rattle.kdl_entry.specs.Data.{Entry}
 use Rattle.kdl_entry.specs.Entries.{IsString, string, IsPlainValue, a_string, a_plain, IsType, parens, MaybeType, untyped, typed, IsValue, value, IsEntry, property, argument}
 use Rattle.kdl_entry.specs.Places.{DroppedEntry, dropped}
 use Rattle.kdl_entry.proofs.Cutting.{end_of}

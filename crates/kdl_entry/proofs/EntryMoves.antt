@@ -7,7 +7,7 @@ use Rattle.kdl_text.specs.Trivia.{Parts, close, nested, block, Line, LineComment
 use Rattle.kdl_text.specs.declared.span.SourceSpan.{SourceSpan}
 use Rattle.kdl_text.proofs.ValueEnds.{value_end_no_identifier}
 use Rattle.kdl_entry.specs.Data as data'
-use Rattle.kdl_entry.specs.Data.{Value}
+use Rattle.kdl_value.specs.Data.{Value}
 use Rattle.kdl_entry.specs.Entries.{IsString, string, IsPlainValue, a_string, a_plain, IsType, parens, MaybeType, untyped, typed, IsValue, value, IsEntry, property, argument}
 use Rattle.kdl_entry.specs.Laid.{LaidIdentifier, spelled, LaidType, no_type, a_type, no_key, a_key, LaidItem, item}
 use Rattle.kdl_entry.specs.Places.{Is, DroppedEntry, dropped, EntryLeading, leading}

@@ -4,7 +4,7 @@ use Rattle.kdl_text.specs.Chars.{Text, Star, Plus, plus}
 use Rattle.kdl_text.specs.Chars.Star.{none as no_star, more}
 use Rattle.kdl_text.specs.Trivia.{NodeSpace, LineSpace, slashdash, ValueEnd}
 use Rattle.kdl_entry.specs.Data as data'
-use Rattle.kdl_entry.specs.Data.{Value, text}
+use Rattle.kdl_value.specs.Data.{Value}
 use Rattle.kdl_entry.specs.Entries.{IsString, string as a_string', IsPlainValue, a_string, a_plain, parens, untyped, typed, IsValue, value as a_value, IsEntry, property, argument, DroppedFirst, dropped_first, before_entry, IsEntryText, entry_text}
 use Rattle.kdl_entry.specs.EntryMachine.{Word, State, ahead, marked, under, dropped, word, done, given, came, step, Runs, stops, reads, AnswersEntry}
 use Rattle.kdl_entry.specs.Items.{TypeParts, KeyParts, Stage, opened, named, closed, keyed, Item, Answer, named_at, closed_at, emptied, if_valued}

@@ -11,7 +11,7 @@ use Rattle.kdl_text.proofs.Going.{bytes-append}
 use Rattle.kdl_entry.specs.Building.{Stays}
 use Rattle.kdl_entry.specs.EntryMachine.{State, ahead, marked, under, dropped, word, done, came, step, finish, Runs, stops, reads, AnswersEntry, given}
 use Rattle.kdl_entry.specs.EntryReading.{Answers, EndsIn, Ended, Same, Stands, Stepped}
-use Rattle.kdl_entry.specs.Data.{Value}
+use Rattle.kdl_value.specs.Data.{Value}
 use Rattle.kdl_entry.specs.Handed.{Cuts, one, spaces, NoToken, IsFaultAt, HandsOut, Lexed, kind_view}
 use Rattle.kdl_entry.specs.Items.{Stage, opened, named, closed, keyed, Item, Answer, TypeParts, KeyParts, named_at, closed_at, reopened, if_valued}
 use Rattle.kdl_entry.specs.Items as items

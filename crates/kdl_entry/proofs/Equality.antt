@@ -1,34 +1,18 @@
--- What `==` means, on trees.
-use mathlib.Core.Bool.{beq}
-use Rattle.std.proofs.Common.{◌≡◌, Bool, true, false, Option, Some, None, option_map, String, string_bytes, ap, sym, ◌∙◌, refl, Global}
-use Rattle.std.proofs.lemmas.Slice.Eq.{bytes_eq-Decides}
-use Rattle.std.proofs.lemmas.Str.{IsUtf8-string_bytes, encodes-chars}
+-- What `==` of identifiers and entries means, on trees.
+use Rattle.std.proofs.Common.{◌≡◌, Bool, Option, Some, None, option_map, ap, sym, ◌∙◌, refl}
 use Rattle.std.specs.Bool.{Decides}
 use Rattle.std.specs.Option.{option_eq}
-use Rattle.std.specs.Str.{chars, encode_utf8_all}
 use Rattle.std.specs.String.{string_eq}
-use Rattle.std.proofs.lemmas.Bool.Decides.{Decides-and, Decides-like, Decides-int_eq}
-use Rattle.kdl_entry.specs.Tree.{Identifier, text_of, float_text_of, value_tree, identifier_tree, entry_tree, entry_format_tree, without_span, without_spans}
-use Rattle.kdl_entry.specs.declared.float.KdlFloat.{KdlFloat}
-use Rattle.kdl_entry.specs.declared.value.KdlValue.{KdlValue}
-use Rattle.kdl_entry.specs.declared.value.KdlValue.TheVariants.{String as StringValue, Integer, Float as FloatValue, Bool as BoolValue, Null}
+use Rattle.std.proofs.lemmas.Bool.Decides.{Decides-and, Decides-like}
+use Rattle.kdl_value.proofs.Equality.{text_decides, truth_decides, value_decides}
+use Rattle.kdl_value.specs.Tree.{text_of}
+use Rattle.kdl_entry.specs.Tree.{Identifier, identifier_tree, entry_tree, entry_format_tree, without_span, without_spans}
 use Rattle.kdl_entry.specs.declared.identifier.KdlIdentifier.{KdlIdentifier}
 use Rattle.kdl_entry.specs.declared.entry.KdlEntry.{KdlEntry}
 use Rattle.kdl_entry.specs.declared.entry.KdlEntryFormat.{KdlEntryFormat}
 use Rattle.kdl_entry.specs.contracts.entry.KdlEntryPartialEq.TheImpl as entry_impl
 use Rattle.kdl_entry.specs.contracts.entry.KdlEntryFormatPartialEq.TheImpl as format_impl
-use Rattle.kdl_entry.specs.contracts.float.KdlFloatPartialEq.TheImpl as float_impl
-use Rattle.kdl_entry.specs.contracts.value.KdlValuePartialEq.TheImpl as value_impl
 use Rattle.kdl_entry.specs.contracts.identifier.KdlIdentifierPartialEq.TheImpl as identifier_impl
-
-pub same_bytes : (s t : String Global) → text_of s ≡ text_of t → string_bytes s ≡ string_bytes t
-same_bytes s t e = sym (encodes-chars _ (IsUtf8-string_bytes s)) ∙ ap encode_utf8_all e ∙ encodes-chars _ (IsUtf8-string_bytes t)
-
--- texts in memory are equal exactly where their characters are
-pub text_decides : (s t : String Global) → Decides (string_eq s t) (text_of s ≡ text_of t)
-text_decides s t =
-    let d = bytes_eq-Decides (string_bytes s) (string_bytes t) in
-    (λ e. ap chars (d.0 e), λ e. d.1 (same_bytes s t e))
 
 -- options are equal exactly where what they hold is
 pub option_decides : {A B : Type 0} (eq : A → A → Bool) (f : A → B) → ((x y : A) → Decides (eq x y) (f x ≡ f y))
@@ -37,26 +21,6 @@ option_decides eq f d None None = (λ e. refl, λ e. refl)
 option_decides eq f d None (Some y) = (λ e. cc, λ e. cc)
 option_decides eq f d (Some x) None = (λ e. cc, λ e. cc)
 option_decides eq f d (Some x) (Some y) = (λ e. ap (λ z. Some z) ((d x y).0 e), λ e. (d x y).1 (cc))
-
--- floats are equal exactly where their texts are
-pub float_decides : (f g : KdlFloat) → Decides (float_impl.ghosts.eq f g) (float_text_of f ≡ float_text_of g)
-float_decides f g = text_decides f.text g.text
-
--- truth values and marks
-truth_decides : (a b : Bool) → Decides (beq a b) (a ≡ b)
-truth_decides true true = (λ e. refl, λ e. refl)
-truth_decides true false = (λ e. cc, λ e. cc)
-truth_decides false true = (λ e. cc, λ e. cc)
-truth_decides false false = (λ e. refl, λ e. refl)
-
--- values are equal exactly where they are of one kind and say the same
-pub value_decides : (v w : KdlValue) → Decides (value_impl.ghosts.eq v w) (value_tree v ≡ value_tree w)
-value_decides (StringValue s) (StringValue t) = Decides-like _ (λ e. cc) (λ e. cc) (text_decides s t)
-value_decides (Integer y) (Integer z) = Decides-like _ (λ e. cc) (λ e. cc) (Decides-int_eq y z)
-value_decides (FloatValue f) (FloatValue g) = Decides-like _ (λ e. cc) (λ e. cc) (float_decides f g)
-value_decides (BoolValue a) (BoolValue b) = Decides-like _ (λ e. cc) (λ e. cc) (truth_decides a b)
-value_decides Null Null = (λ e. refl, λ e. refl)
-value_decides _ _ = (λ e. cc, λ e. cc)
 
 -- identifiers are equal exactly where all but their spans is
 pub identifier_decides : (i j : KdlIdentifier) → Decides (identifier_impl.ghosts.eq i j) (without_span (identifier_tree i) ≡ without_span (identifier_tree j))

@@ -2,9 +2,10 @@
 use Rattle.std.proofs.Common.{◌≡◌, [], ◌∷◌, ◌++◌, Option, Some, None, option_map, refl, ap, ◌∙◌, append-nil}
 use Rattle.kdl_text.specs.Chars.{Text}
 use Rattle.kdl_text.specs.declared.span.SourceSpan.{SourceSpan}
-use Rattle.kdl_entry.specs.Data.{Value}
+use Rattle.kdl_value.specs.Data.{Value}
 use Rattle.kdl_entry.specs.Formless.{formed_identifier, formed}
-use Rattle.kdl_entry.specs.Print.{print_type, print_key, print_value, print_entry}
+use Rattle.kdl_value.specs.Print.{print_value}
+use Rattle.kdl_entry.specs.Print.{print_type, print_key, print_entry}
 use Rattle.kdl_entry.specs.Tree.{Identifier, EntryFormat, Entry, entry_data}
 
 no_places : (a v : Text) → 32 ∷ (((a ++ []) ++ v) ++ []) ≡ 32 ∷ (a ++ v)

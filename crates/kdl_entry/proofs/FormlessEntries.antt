@@ -5,13 +5,15 @@ use Rattle.std.specs.List.{list_all}
 use Rattle.kdl_text.specs.Chars.{Text, is_scalar, is_space, Star, plus}
 use Rattle.kdl_text.specs.Trivia.{NodeSpace, Ws, ValueEnd}
 use Rattle.kdl_entry.specs.Data as data'
-use Rattle.kdl_entry.specs.Data.{Value}
+use Rattle.kdl_value.specs.Data.{Value}
 use Rattle.kdl_entry.specs.Entries.{IsString, IsPlainValue, IsEntry, IsEntryText, entry_text, before_entry, IsIdentifierText}
-use Rattle.kdl_entry.specs.Formless.{IsWellFormed, IsFormless, formed_identifier, formed, FormlessReadsBack}
+use Rattle.kdl_value.specs.WellFormed.{IsWellFormed}
+use Rattle.kdl_entry.specs.Formless.{IsFormless, formed_identifier, formed, FormlessReadsBack}
 use Rattle.kdl_entry.specs.Laid.{LaidIdentifier, spelled as spelled_as, LaidType, no_type, a_type, LaidKey, no_key, a_key, LaidItem, item, LaidEntry, laid_entry}
 use Rattle.kdl_entry.specs.Places.{Is, EntryLeading, leading}
-use Rattle.kdl_entry.specs.Print.{print_identifier, print_value, print_entry}
-use Rattle.kdl_entry.specs.Spelled.{spelled}
+use Rattle.kdl_value.specs.Print.{print_value}
+use Rattle.kdl_entry.specs.Print.{print_identifier, print_entry}
+use Rattle.kdl_value.specs.Spelled.{spelled}
 use Rattle.kdl_entry.specs.Tree.{Identifier, unspelled, cleared, Entry, entry_data}
 use Rattle.kdl_entry.proofs.Derivation.{item_of}
 use Rattle.kdl_entry.proofs.EntryMoves.{marks}

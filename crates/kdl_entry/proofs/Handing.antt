@@ -41,9 +41,9 @@ use Rattle.kdl_text.proofs.Slices.{moves_ran}
 use Rattle.kdl_text.proofs.TriviaPieces.{break_shorter}
 use Rattle.kdl_text.proofs.WholeNumbers.{number_not_bare}
 use Rattle.kdl_text.proofs.Decimals.{number_begins}
-use Rattle.kdl_entry.specs.Data.{Value, integer, float}
-use Rattle.kdl_entry.specs.Tree.{value_tree}
-use Rattle.kdl_entry.specs.declared.value.KdlValue.{KdlValue}
+use Rattle.kdl_value.specs.Data.{Value, integer, float}
+use Rattle.kdl_value.specs.Tree.{value_tree}
+use Rattle.kdl_value.specs.declared.value.KdlValue.{KdlValue}
 use Rattle.kdl_entry.specs.Entries.{StringPiece, bare, quoted, raw, PlainPiece, number, keyword, keyword_value}
 use Rattle.kdl_entry.specs.Entries as entries
 use Rattle.kdl_entry.specs.Handed.{Cuts, one, spaces, NoToken, ReadsKind, Passes, IsFaultAt, IsMark, is_single, kind_view}
@@ -55,7 +55,7 @@ use Rattle.kdl_entry.specs.declared.items.lexer.TokenKind.{TokenKind}
 use Rattle.kdl_entry.proofs.Cutting.{no_piece, no_slash, no_backslash, no_alien, Alien}
 use Rattle.kdl_entry.proofs.Fronts.{no_quote, number_identifier}
 use Rattle.kdl_entry.proofs.Fitting.{number_fits}
-use Rattle.kdl_entry.proofs.FloatTexts.{decimal_float as read_float}
+use Rattle.kdl_value.proofs.FloatTexts.{decimal_float as read_float}
 use Rattle.kdl_entry.proofs.StringPieces.{begins_piece, keyword_front, plain_shorter}
 
 first_is : (s : Text) (c : ℕ) → first s ≡ Some c → s ≡ c ∷ tail s

@@ -16,7 +16,8 @@ use Rattle.kdl_entry.specs.Laid.{LaidIdentifier, LaidIdentifierText, spelled}
 use Rattle.kdl_entry.specs.Places.{Is}
 use Rattle.kdl_entry.specs.Tokens as tokens
 use Rattle.kdl_entry.specs.Tokens.{BeginsToken, t_space, t_string}
-use Rattle.kdl_entry.specs.Tree.{Identifier, text_of}
+use Rattle.kdl_value.specs.Tree.{text_of}
+use Rattle.kdl_entry.specs.Tree.{Identifier}
 use Rattle.kdl_entry.specs.declared.items.lexer.Fault.{Fault}
 use Rattle.kdl_entry.specs.declared.items.lexer.LexFailure.{LexFailure}
 use Rattle.kdl_entry.specs.declared.items.lexer.LexFailure.TheVariants.{Faulty, Memory}

@@ -1,6 +1,5 @@
 pub mod Between
 pub mod Built
-pub mod Comparing
 pub mod Counting
 pub mod Cutting
 pub mod Derivation
@@ -12,10 +11,7 @@ pub mod EntryMoves
 pub mod EntrySound
 pub mod EntryTurns
 pub mod Equality
-pub mod Escapes
 pub mod Fitting
-pub mod FloatDecides
-pub mod FloatTexts
 pub mod FormedPrinted
 pub mod FormlessEntries
 pub mod Fronts
@@ -24,15 +20,11 @@ pub mod IdentifierAnswering
 pub mod IdentifierTurns
 pub mod LaidPrinted
 pub mod LeafEnds
-pub mod NumbersReadBack
 pub mod PieceMoves
 pub mod Placing
-pub mod Printing
 pub mod Puts
-pub mod ReadsBack
 pub mod Refusals
 pub mod Respanned
-pub mod Spellings
 pub mod Standing
 pub mod StringMoves
 pub mod StringPieces

@@ -8,7 +8,7 @@ use Rattle.kdl_text.specs.Here.{first}
 use Rattle.kdl_text.specs.Numbers.{is_digit_of, is_part, Sign, BaseMark, base_of, marked, Digits, Integer, integer, WholeNumber, whole, Fraction, Exponent, is_exponent_mark, DecimalPart, part, Decimal, decimal, IsNumber, is_whole, is_decimal, NumberValue, IsKeyword, keyword as a_keyword, keyword_text}
 use Rattle.kdl_text.specs.declared.numbers.Keyword.{Keyword}
 use Rattle.kdl_text.specs.declared.numbers.Keyword.TheVariants.{True, False, Null, Infinity, NegativeInfinity, NotANumber}
-use Rattle.kdl_entry.specs.Data.{Value}
+use Rattle.kdl_value.specs.Data.{Value}
 use Rattle.kdl_entry.specs.Entries.{PlainPiece, number, keyword}
 use Rattle.kdl_entry.proofs.Puts.{stands, also, joined, before, same, same_piece, starts_first, Alike, both_end, alike_put, MoveAlike, MovePiece}
 

@@ -13,7 +13,7 @@ use Rattle.kdl_text.proofs.Ends.{End}
 use Rattle.kdl_text.proofs.Keywords.{keyword_det, keyword_begins}
 use Rattle.kdl_text.proofs.Determined.{is_quoted_det, is_quoted_begins, is_quoted_shorter, is_raw_det, is_raw_begins, is_raw_shorter}
 use Rattle.kdl_text.proofs.WholeNumbers.{number_not_bare}
-use Rattle.kdl_entry.specs.Data.{Value}
+use Rattle.kdl_value.specs.Data.{Value}
 use Rattle.kdl_entry.specs.Entries.{StringPiece, bare, quoted, raw, PlainPiece, number, keyword, number_value, keyword_value}
 use Rattle.kdl_entry.proofs.Fronts.{no_quote, number_identifier}
 use Rattle.kdl_entry.proofs.LeafEnds.{any_number_end, keyword_end}

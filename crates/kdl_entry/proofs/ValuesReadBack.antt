@@ -12,15 +12,15 @@ use Rattle.kdl_text.specs.declared.numbers.Keyword.{Keyword}
 use Rattle.kdl_text.specs.declared.numbers.Keyword.TheVariants.{True, False, Null, Infinity, NegativeInfinity, NotANumber}
 use Rattle.kdl_text.proofs.Bares.{bare_begins}
 use Rattle.kdl_text.proofs.ValueEnds.{value_end_no_identifier}
-use Rattle.kdl_entry.specs.Data.{Value, text, integer, float, truth, null}
+use Rattle.kdl_value.specs.Data.{Value, text, integer, float, truth, null}
 use Rattle.kdl_entry.specs.Entries.{StringPiece, bare, quoted, IsString, string, PlainPiece, number, keyword, keyword_value, IsPlainValue, a_string, a_plain}
-use Rattle.kdl_entry.specs.Formless.{IsWellFormed}
-use Rattle.kdl_entry.specs.Print.{print_value}
-use Rattle.kdl_entry.specs.Spelled.{char_text, escape_letter, escaped, prints_bare, spelled, StandsFor}
-use Rattle.kdl_entry.proofs.NumbersReadBack.{printed_number}
+use Rattle.kdl_value.specs.WellFormed.{IsWellFormed}
+use Rattle.kdl_value.specs.Print.{print_value}
+use Rattle.kdl_value.specs.Spelled.{char_text, escape_letter, escaped, prints_bare, spelled, StandsFor}
+use Rattle.kdl_value.proofs.NumbersReadBack.{printed_number}
 use Rattle.kdl_entry.proofs.PieceMoves.{move_plain_piece}
 use Rattle.kdl_entry.proofs.Puts.{same_piece}
-use Rattle.kdl_entry.proofs.ReadsBack.{spelled_alone}
+use Rattle.kdl_value.proofs.ReadsBack.{spelled_alone}
 use Rattle.kdl_entry.proofs.StringMoves.{move_piece, value_end_no_quote}
 
 no_quote : (c : ℕ) → is_identifier_char c ≡ true → (c == 34) ≡ false

@@ -4,7 +4,8 @@ use Rattle.kdl_text.specs.Here.{Here, Spot, raise}
 use Rattle.kdl_entry.specs.Handed.{IsFaultAt}
 use Rattle.kdl_entry.specs.Items as items
 use Rattle.kdl_entry.specs.Items.{Answer, goes, gives, refuses}
-use Rattle.kdl_entry.specs.Tree.{identifier_tree, value_tree, text_of}
+use Rattle.kdl_value.specs.Tree.{value_tree, text_of}
+use Rattle.kdl_entry.specs.Tree.{identifier_tree}
 use Rattle.kdl_entry.specs.declared.items.item.Given.{Given}
 use Rattle.kdl_entry.specs.declared.items.item.Item.{Item}
 use Rattle.kdl_entry.specs.declared.items.item.KeyParts.{KeyParts}

@@ -9,7 +9,8 @@ use Rattle.kdl_text.specs.Raw.{IsRaw}
 use Rattle.kdl_text.specs.Trivia.{NodeSpace, LineSpace, Slashdash, ValueEnd}
 use Rattle.kdl_text.specs.declared.numbers.Keyword.{Keyword}
 use Rattle.kdl_text.specs.declared.numbers.Keyword.TheVariants.{True, False, Null, Infinity, NegativeInfinity, NotANumber}
-use Rattle.kdl_entry.specs.Data.{Value, text, integer, float, truth, null, Entry}
+use Rattle.kdl_value.specs.Data.{Value, text, integer, float, truth, null}
+use Rattle.kdl_entry.specs.Data.{Entry}
 
 -- one of the spellings of a string: bare, quoted or raw, on one line or many
 pub data StringPiece : Text → Text → Text → Type 0 where

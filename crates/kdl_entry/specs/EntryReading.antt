@@ -7,7 +7,8 @@ use Rattle.kdl_entry.specs.Building.{item_view}
 use Rattle.kdl_entry.specs.EntryMachine as machine
 use Rattle.kdl_entry.specs.EntryMachine.{AnswersEntry, Runs, under, word, done}
 use Rattle.kdl_entry.specs.Handed.{IsFaultAt}
-use Rattle.kdl_entry.specs.Tree.{entry_tree, text_of}
+use Rattle.kdl_value.specs.Tree.{text_of}
+use Rattle.kdl_entry.specs.Tree.{entry_tree}
 use Rattle.kdl_entry.specs.Tree as tree
 use Rattle.kdl_entry.specs.declared.entry.KdlEntry.{KdlEntry}
 use Rattle.kdl_entry.specs.declared.items.entries.State.{State}

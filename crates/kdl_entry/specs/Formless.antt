@@ -1,22 +1,13 @@
 -- Entries without format and spelling, and the form in which they stand in a node.
-use Rattle.std.specs.Prelude.{◌≡◌, true, [], ◌∷◌, Option, Some, None, option_map, IfSome, FitsSigned}
-use Rattle.std.specs.Int.{w128}
+use Rattle.std.specs.Prelude.{◌≡◌, true, [], ◌∷◌, Option, Some, None, option_map, IfSome}
 use Rattle.std.specs.List.{list_all}
 use Rattle.kdl_text.specs.Chars.{Text, is_scalar}
-use Rattle.kdl_text.specs.Numbers.{FloatText}
-use Rattle.kdl_entry.specs.Data.{Value, text, integer, float, truth, null}
 use Rattle.kdl_entry.specs.Entries.{IsIdentifierText, IsEntryText}
-use Rattle.kdl_entry.specs.Print.{print_identifier, print_value, print_entry}
-use Rattle.kdl_entry.specs.Spelled.{spelled}
+use Rattle.kdl_value.specs.Print.{print_value}
+use Rattle.kdl_entry.specs.Print.{print_identifier, print_entry}
+use Rattle.kdl_value.specs.Spelled.{spelled}
+use Rattle.kdl_value.specs.WellFormed.{IsWellFormed}
 use Rattle.kdl_entry.specs.Tree.{Identifier, EntryFormat, empty_format, Entry, cleared, entry_data}
-
--- a value that memory can hold: a text of Unicode scalar values, a whole number of 128 bits with a sign, the text of a float, a truth value, or null
-abbrev pub IsWellFormed : Value → Type 0
-IsWellFormed (text s) = list_all is_scalar s ≡ true
-IsWellFormed (integer z) = FitsSigned w128 z
-IsWellFormed (float s) = FloatText s
-IsWellFormed (truth b) = Unit {0}
-IsWellFormed null = Unit {0}
 
 -- an entry without format and spelling; its key and its type are of Unicode scalar values, and its value is such a one
 pub record IsFormless (e : Entry) : Type 0 where

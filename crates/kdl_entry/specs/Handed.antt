@@ -6,7 +6,7 @@ use Rattle.kdl_text.specs.Reading.{Costs}
 use Rattle.kdl_text.specs.Trivia.{NodeSpace}
 use Rattle.kdl_text.specs.declared.strings.StringFailure.{StringFailure}
 use Rattle.kdl_text.specs.declared.strings.StringFailure.TheVariants.{Fault as StringFaulty, Memory as StringMemory}
-use Rattle.kdl_entry.specs.Tree.{value_tree, text_of}
+use Rattle.kdl_value.specs.Tree.{value_tree, text_of}
 use Rattle.kdl_entry.specs.Tokens as tokens
 use Rattle.kdl_entry.specs.Tokens.{BeginsToken}
 use Rattle.kdl_entry.specs.declared.items.lexer.TokenKind.{TokenKind}

@@ -3,7 +3,7 @@
 use Rattle.std.specs.Prelude.{◌-◌, Bool, true, false, [], Option, Some, None, length, take}
 use Rattle.kdl_text.specs.Chars.{Text}
 use Rattle.kdl_text.specs.declared.span.SourceSpan.{SourceSpan}
-use Rattle.kdl_entry.specs.Data.{Value, text}
+use Rattle.kdl_value.specs.Data.{Value, text}
 use Rattle.kdl_entry.specs.Places.{span_of}
 use Rattle.kdl_entry.specs.Tokens.{Token, space, string, value, left, right}
 use Rattle.kdl_entry.specs.Tree.{Identifier, plain_identifier, Entry}

@@ -4,7 +4,7 @@ use Rattle.std.specs.Prelude.{Bool, true, false, [], ◌∷◌, Option, Some, No
 use Rattle.kdl_text.specs.Chars.{Text, Star}
 use Rattle.kdl_text.specs.Trivia.{NodeSpace, LineSpace}
 use Rattle.kdl_text.specs.declared.span.SourceSpan.{SourceSpan}
-use Rattle.kdl_entry.specs.Data.{Value}
+use Rattle.kdl_value.specs.Data.{Value}
 use Rattle.kdl_entry.specs.Entries.{IsString, IsPlainValue, BeforeEntry}
 use Rattle.kdl_entry.specs.Places.{Is, EntryLeading, Spanned, span_of}
 use Rattle.kdl_entry.specs.Tree.{Identifier, Entry}

@@ -4,17 +4,14 @@ pub mod Data
 pub mod Entries
 pub mod EntryMachine
 pub mod EntryReading
-pub mod Floats
 pub mod Formless
 pub mod Handed
 pub mod IdentifierReading
 pub mod Items
 pub mod Laid
 pub mod Laws
-pub mod Order
 pub mod Places
 pub mod Print
 pub mod Refused
-pub mod Spelled
 pub mod Tokens
 pub mod Tree

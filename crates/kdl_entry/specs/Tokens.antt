@@ -2,7 +2,7 @@
 use Rattle.std.specs.Prelude.{List, [], ◌∷◌}
 use Rattle.kdl_text.specs.Chars.{Text}
 use Rattle.kdl_text.specs.Trivia.{NodeSpace, Break}
-use Rattle.kdl_entry.specs.Data.{Value}
+use Rattle.kdl_value.specs.Data.{Value}
 use Rattle.kdl_entry.specs.Entries.{StringPiece, PlainPiece}
 
 -- a node-space, a break, `/-`, a string, a number or keyword, `( ) { } = ;`, and U+FEFF

@@ -1,15 +1,16 @@
 //! Entries: the arguments and properties of nodes.
 
 ghost use Rattle.kdl_entry.specs.Print.{print_entry};
-ghost use Rattle.kdl_entry.specs.Tree.{entry_tree, entry_format_tree, identifier_tree, value_tree, empty_format, plain_entry, unspelled, cleared, marked, kept, autoformatted_format, autoformatted};
+ghost use Rattle.kdl_value.specs.Tree.{value_tree};
+ghost use Rattle.kdl_entry.specs.Tree.{entry_tree, entry_format_tree, identifier_tree, empty_format, plain_entry, unspelled, cleared, marked, kept, autoformatted_format, autoformatted};
 ghost use Rattle.kdl_text.specs.Here.{bytes};
 ghost use Rattle.std.specs.Prelude.{◌≡◌, ◌↔◌, IsTrue, IfOk, [], None, Some, option_map};
 ghost use Rattle.std.specs.Str.{encode_utf8_all};
 
 use crate::identifier::KdlIdentifier;
-use crate::print::{write_key, write_text, write_type};
-use crate::value::KdlValue;
+use crate::print::{write_key, write_type};
 use kdl_text::span::SourceSpan;
+use kdl_value::{KdlValue, write_text};
 use std::alloc::{AllocError, Global};
 use std::fmt;
 use std::fmt::{Display, Formatter, Write};
@@ -127,7 +128,7 @@ impl KdlEntry {
     ghost use Rattle.kdl_entry.specs.contracts.entry.KdlEntry.{the_row};
     ghost use Rattle.kdl_entry.specs.contracts.entry.KdlEntryFormat.{the_row as format_row};
     ghost use Rattle.kdl_entry.specs.contracts.identifier.KdlIdentifier.{the_row as identifier_row};
-    ghost use Rattle.kdl_entry.specs.contracts.value.KdlValue.{the_row as value_row};
+    ghost use Rattle.kdl_value.specs.contracts.value.KdlValue.{the_row as value_row};
     ghost use Rattle.std.specs.Borrow.{Lends, LendsIf, sem};
 
     /// An argument without a type and a format, with the span 0 of length 0.
@@ -322,7 +323,8 @@ impl KdlEntry {
 }
 
 impl From<KdlValue> for KdlEntry {
-    ghost use Rattle.kdl_entry.specs.Tree.{entry_tree, value_tree, plain_entry};
+    ghost use Rattle.kdl_value.specs.Tree.{value_tree};
+    ghost use Rattle.kdl_entry.specs.Tree.{entry_tree, plain_entry};
     ghost use Rattle.std.specs.Prelude.{◌≡◌, None};
 
     ghost from_gives = { λ v e. entry_tree e ≡ plain_entry None (value_tree v) };
@@ -333,7 +335,8 @@ impl From<KdlValue> for KdlEntry {
 }
 
 impl From<(KdlIdentifier, KdlValue)> for KdlEntry {
-    ghost use Rattle.kdl_entry.specs.Tree.{entry_tree, identifier_tree, value_tree, plain_entry};
+    ghost use Rattle.kdl_value.specs.Tree.{value_tree};
+    ghost use Rattle.kdl_entry.specs.Tree.{entry_tree, identifier_tree, plain_entry};
     ghost use Rattle.std.specs.Prelude.{◌≡◌, Some};
 
     ghost from_gives = { λ p e. entry_tree e ≡ plain_entry (Some (identifier_tree p.0)) (value_tree p.1) };

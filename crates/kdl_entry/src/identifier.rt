@@ -1,16 +1,16 @@
 //! Identifiers: the names of nodes and properties, and types.
 
 ghost use Rattle.kdl_entry.specs.Print.{print_identifier};
-ghost use Rattle.kdl_entry.specs.Tree.{identifier_tree, plain_identifier, text_of, unspelled};
+ghost use Rattle.kdl_value.specs.Tree.{text_of};
+ghost use Rattle.kdl_entry.specs.Tree.{identifier_tree, plain_identifier, unspelled};
 ghost use Rattle.kdl_text.specs.Here.{bytes};
 ghost use Rattle.std.specs.Prelude.{◌≡◌, ◌↔◌, IsTrue, IfOk, [], Some, option_map};
 ghost use Rattle.std.specs.Str.{chars, encode_utf8_all};
 ghost use Rattle.std.specs.String.{string_vec};
 ghost use Rattle.std.specs.Vec.{vec_allocator};
 
-use crate::print::write_text;
-use crate::spelled::write_spelled;
 use kdl_text::span::SourceSpan;
+use kdl_value::{write_spelled, write_text};
 use std::alloc::{AllocError, Global};
 use std::fmt;
 
@@ -128,7 +128,8 @@ impl KdlIdentifier {
 }
 
 impl From<String> for KdlIdentifier {
-    ghost use Rattle.kdl_entry.specs.Tree.{identifier_tree, plain_identifier, text_of};
+    ghost use Rattle.kdl_value.specs.Tree.{text_of};
+    ghost use Rattle.kdl_entry.specs.Tree.{identifier_tree, plain_identifier};
     ghost use Rattle.std.specs.Prelude.{◌≡◌};
 
     ghost from_gives = { λ s i. identifier_tree i ≡ plain_identifier (text_of s) };
@@ -143,7 +144,8 @@ impl From<String> for KdlIdentifier {
 }
 
 impl From<KdlIdentifier> for String {
-    ghost use Rattle.kdl_entry.specs.Tree.{identifier_tree, text_of};
+    ghost use Rattle.kdl_value.specs.Tree.{text_of};
+    ghost use Rattle.kdl_entry.specs.Tree.{identifier_tree};
     ghost use Rattle.std.specs.Prelude.{◌≡◌};
 
     ghost from_gives = { λ i s. text_of s ≡ (identifier_tree i).value };

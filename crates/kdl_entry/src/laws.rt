@@ -1,28 +1,17 @@
-//! What `==`, the order and hashes mean, that printed strings read back, and the laws of the written grammar.
+//! What `==` and hashes mean, that printed entries read back, and the laws of the written grammar.
 
 ghost use Rattle.kdl_entry.specs.Laws.{OneIdentifier, OneEntry, LaidIdentifierIsDerived, LaidEntryIsDerived, TextsAreLaid, OneEntryAnswer, EntryAnswers};
-ghost use Rattle.kdl_entry.specs.Order.{text_order, value_order};
-ghost use Rattle.kdl_entry.specs.Floats.{DecimalsAreFloats};
-ghost use Rattle.kdl_entry.specs.Formless.{IsFormless, IsWellFormed, FormlessReadsBack};
-ghost use Rattle.kdl_entry.specs.Spelled.{SpelledReadsBack, SpelledReadsBackBefore};
-ghost use Rattle.kdl_entry.specs.Tree.{identifier_tree, entry_tree, value_tree, float_text_of, entry_format_tree, cleared, without_span, without_spans};
-ghost use Rattle.std.specs.Cmp.{IsTotalOrder};
-ghost use Rattle.std.specs.Int.{w128};
-ghost use Rattle.std.specs.Prelude.{◌≡◌, IsTrue, ◌↔◌, FitsSigned, fold};
+ghost use Rattle.kdl_entry.specs.Formless.{IsFormless, FormlessReadsBack};
+ghost use Rattle.kdl_entry.specs.Tree.{identifier_tree, entry_tree, entry_format_tree, cleared, without_span, without_spans};
+ghost use Rattle.std.specs.Prelude.{◌≡◌, IsTrue, ◌↔◌, fold};
 
 use crate::entry::{KdlEntry, KdlEntryFormat};
-use crate::float::KdlFloat;
 use crate::identifier::KdlIdentifier;
-use crate::value::KdlValue;
-use std::cmp::Ordering;
+pub use kdl_value::laws::{
+    compare_floats, compare_values, decimals_are_floats, equal_floats, equal_values, hash_floats,
+    hash_values, spelled_reads_back, values_are_ordered, values_are_well_formed,
+};
 use std::hash::{Hash, Hasher};
-
-/// Every printed string is one string, bare or between quotes, that stands for what was printed: alone, and before any
-/// text that no identifier character begins.
-pub fn spelled_reads_back()
-    ensures alone { SpelledReadsBack }
-    ensures before { SpelledReadsBackBefore }
-{}
 
 /// A printed string is an identifier with that string, and what an entry without format and spelling prints is an entry
 /// with its data.
@@ -31,41 +20,12 @@ pub fn formless_reads_back()
     ensures { FormlessReadsBack }
 {}
 
-// A number has 128 bits with a sign.
-fn number_fits(number: i128)
-    ensures { FitsSigned w128 number }
-{}
-
-/// Every value in memory is well formed: its text is of Unicode scalar values, its whole number has 128 bits with a
-/// sign, its float's text is a float's.
-pub fn values_are_well_formed(value: &KdlValue)
-    ensures { IsWellFormed (value_tree value.now) }
-{
-    if let KdlValue::Integer(number) = value {
-        number_fits(*number);
-    }
-}
-
 /// An entry in memory that has neither a format nor a spelling is one without form, with well-formed data.
 pub fn cleared_is_formless(entry: &KdlEntry)
     requires { cleared (entry_tree entry.now) ≡ entry_tree entry.now }
     ensures { IsFormless (entry_tree entry.now) }
 {
     values_are_well_formed(entry.value());
-}
-
-/// Two floats are equal exactly where their texts are.
-pub fn equal_floats(a: &KdlFloat, b: &KdlFloat) -> bool
-    ensures { IsTrue result ↔ (float_text_of a.now ≡ float_text_of b.now) }
-{
-    a == b
-}
-
-/// Two values are equal exactly where they are of one kind and say the same.
-pub fn equal_values(a: &KdlValue, b: &KdlValue) -> bool
-    ensures { IsTrue result ↔ (value_tree a.now ≡ value_tree b.now) }
-{
-    a == b
 }
 
 /// Two formats are equal exactly where all their texts and their marks are.
@@ -100,48 +60,6 @@ pub fn unambiguous_identifier()
 pub fn unambiguous_entry()
     ensures { OneEntry }
 {}
-/// Floats are ordered by their texts.
-pub fn compare_floats(a: &KdlFloat, b: &KdlFloat) -> Ordering
-    ensures order { result ≡ text_order (float_text_of a.now) (float_text_of b.now) }
-    ensures equal { (result ≡ Ordering.Equal) ↔ (float_text_of a.now ≡ float_text_of b.now) }
-{
-    a.cmp(b)
-}
-
-/// Values are ordered by their kinds, and within a kind by what they hold; equal ones are those that `==` finds equal.
-pub fn compare_values(a: &KdlValue, b: &KdlValue) -> Ordering
-    ensures order { result ≡ value_order (value_tree a.now) (value_tree b.now) }
-    ensures equal { (result ≡ Ordering.Equal) ↔ (value_tree a.now ≡ value_tree b.now) }
-{
-    a.cmp(b)
-}
-
-/// The order of values is total.
-pub fn values_are_ordered()
-    ensures { IsTotalOrder ⟦<KdlValue as Ord>⟧.cmp }
-{}
-
-/// Equal floats leave equal hashers equal: into both goes what the hash of the first writes.
-pub fn hash_floats<H: Hasher>(a: &KdlFloat, b: &KdlFloat, one: &mut H, other: &mut H)
-    requires { float_text_of a.now ≡ float_text_of b.now }
-    ensures first { one.new ≡ fold H.write one.old (⟦<KdlFloat as Hash>⟧.hash_input a.now) }
-    ensures second { other.new ≡ fold H.write other.old (⟦<KdlFloat as Hash>⟧.hash_input a.now) }
-    ensures equal { one.old ≡ other.old → one.new ≡ other.new }
-{
-    a.hash(one);
-    b.hash(other);
-}
-
-/// Equal values leave equal hashers equal: into both goes what the hash of the first writes.
-pub fn hash_values<H: Hasher>(a: &KdlValue, b: &KdlValue, one: &mut H, other: &mut H)
-    requires { value_tree a.now ≡ value_tree b.now }
-    ensures first { one.new ≡ fold H.write one.old (⟦<KdlValue as Hash>⟧.hash_input a.now) }
-    ensures second { other.new ≡ fold H.write other.old (⟦<KdlValue as Hash>⟧.hash_input a.now) }
-    ensures equal { one.old ≡ other.old → one.new ≡ other.new }
-{
-    a.hash(one);
-    b.hash(other);
-}
 
 /// Equal formats leave equal hashers equal: into both goes what the hash of the first writes.
 pub fn hash_formats<H: Hasher>(a: &KdlEntryFormat, b: &KdlEntryFormat, one: &mut H, other: &mut H)
@@ -175,11 +93,6 @@ pub fn hash_entries<H: Hasher>(a: &KdlEntry, b: &KdlEntry, one: &mut H, other: &
     a.hash(one);
     b.hash(other);
 }
-
-/// What a decimal in a text stands for is a float's text.
-pub fn decimals_are_floats()
-    ensures { DecimalsAreFloats }
-{}
 
 /// Where an identifier is laid as a whole text, the text is one with its value, and it is what the identifier prints.
 #[tactic(auto, using(crate::proofs::TextLaws::laid_identifier_is_derived))]

@@ -7,7 +7,7 @@ use Rattle.kdl_text.specs.declared.span.SourceSpan.{SourceSpan}
 use Rattle.kdl_text.proofs.Ends.{then, end_star}
 use Rattle.kdl_text.proofs.Stars.{snoc}
 use Rattle.kdl_entry.specs.Data as entry_data'
-use Rattle.kdl_entry.specs.Data.{Value, text}
+use Rattle.kdl_value.specs.Data.{Value, text}
 use Rattle.kdl_entry.specs.Entries.{IsString, string as a_string', PlainPiece, IsPlainValue, a_string, a_plain, parens, MaybeType, untyped, typed as a_typed, value as a_value, IsEntry, property as a_property, argument}
 use Rattle.kdl_entry.specs.Laid.{LaidIdentifier, spelled, LaidType, no_type, a_type, no_key, a_key, LaidItem, item, laid_entry}
 use Rattle.kdl_entry.specs.Places.{Is, DroppedEntry, leading as an_entry_leading, span_of}

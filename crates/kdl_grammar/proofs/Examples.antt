@@ -7,7 +7,7 @@ use Rattle.kdl_text.specs.Bare.{is_bare}
 use Rattle.kdl_text.specs.Numbers.{is_digit_of, is_part, marked as base_marked, fits}
 use Rattle.kdl_text.specs.Trivia.{NodeSpace, Break}
 use Rattle.kdl_entry.specs.Data as entry_data'
-use Rattle.kdl_entry.specs.Data.{Value, text, integer, truth}
+use Rattle.kdl_value.specs.Data.{Value, text, integer, truth}
 use Rattle.kdl_entry.specs.Entries.{StringPiece, PlainPiece}
 use Rattle.kdl_entry.specs.Tokens.{Token, space, newline, slashdash, string, value, left, right, opening, closing, equals, semicolon, mark, BeginsToken, t_space, t_newline, t_slashdash, t_string, t_value, t_left, t_right, t_opening, t_closing, t_equals, t_semicolon, t_mark}
 use Rattle.kdl_entry.proofs.Cutting.{token_det, no_token}

@@ -3,7 +3,8 @@ use Rattle.std.proofs.Common.{◌≡◌, ◌⊎◌, inl, inr, Bool, true, false,
 use Rattle.kdl_text.specs.Chars.{Text, Star, plus}
 use Rattle.kdl_text.specs.Chars.Star.{none as no_star, more}
 use Rattle.kdl_text.specs.Trivia.{NodeSpace, Break, newline as b_newline, comment as b_comment, LineSpace, slashdash, ValueEnd}
-use Rattle.kdl_entry.specs.Data.{Value, text, Entry}
+use Rattle.kdl_value.specs.Data.{Value, text}
+use Rattle.kdl_entry.specs.Data.{Entry}
 use Rattle.kdl_entry.specs.Entries.{StringPiece, IsString, string as a_string', PlainPiece, IsPlainValue, a_string, a_plain, parens, untyped, typed, IsValue, value as a_value, IsEntry, property as a_property, argument}
 use Rattle.kdl_entry.specs.Tokens.{Token, string, value, left, mark, t_space, t_newline, t_slashdash, t_string, t_value, t_left, t_right, t_opening, t_closing, t_equals, t_semicolon, t_mark, Lexes, done, next}
 use Rattle.kdl_entry.proofs.Cutting.{may_end, value_end}

@@ -14,7 +14,7 @@ use Rattle.kdl_text.specs.declared.numbers.Keyword.TheVariants.{True, False, Nul
 use Rattle.kdl_text.proofs.Bares.{bare_begins}
 use Rattle.kdl_text.proofs.Decimals.{number_begins}
 use Rattle.kdl_text.proofs.Determined.{is_quoted_begins, is_raw_begins, is_raw_front}
-use Rattle.kdl_entry.specs.Data.{text, float, truth, null}
+use Rattle.kdl_value.specs.Data.{text, float, truth, null}
 use Rattle.kdl_entry.specs.Entries.{StringPiece, bare, quoted, raw, PlainPiece, number, keyword, keyword_value}
 use Rattle.kdl_entry.specs.Tokens.{Token, string, value, BeginsToken, t_space, t_newline, t_string, t_value}
 use Rattle.kdl_entry.proofs.StringPieces.{keyword_front}

@@ -3,7 +3,8 @@ use Rattle.std.proofs.Common.{Bool, true, false, ◌||◌, List, Option, refl}
 use Rattle.kdl_text.specs.Chars.{Text, Star, plus}
 use Rattle.kdl_text.specs.Chars.Star.{more}
 use Rattle.kdl_text.specs.Trivia.{NodeSpace, ValueEnd}
-use Rattle.kdl_entry.specs.Data.{Value, Entry}
+use Rattle.kdl_value.specs.Data.{Value}
+use Rattle.kdl_entry.specs.Data.{Entry}
 use Rattle.kdl_entry.specs.Entries.{IsString, string, IsPlainValue, a_string, a_plain, parens, MaybeType, untyped, typed, IsValue, value, IsEntry, property, argument}
 use Rattle.kdl_grammar.specs.Data.{Node, Children, Nodes}
 use Rattle.kdl_grammar.specs.Grammar.{Spaces, IsNode, named, AfterName, kept_entry, dropped_entry, Blocks, dropped_block, block, no_block, AfterBlock, dropped_later, no_more, Gap, no_gap, line_space, dropped_node, AreNodes, last_gap, node_then, IsBlock, braces, IsDocument, IsNodeText, node_text}

@@ -3,7 +3,7 @@
 -- A `None` in the place of a node or of nodes is inside what counts for nothing, of which nothing is built.
 use Rattle.std.specs.Prelude.{◌≡◌, Bool, true, false, List, [], ◌∷◌, ◌++◌, Option, Some, None}
 use Rattle.kdl_text.specs.Chars.{Text}
-use Rattle.kdl_entry.specs.Data.{Value, text}
+use Rattle.kdl_value.specs.Data.{Value, text}
 use Rattle.kdl_entry.specs.Tokens.{Token, space, newline, slashdash, string, value, left, right, opening, closing, equals, semicolon, BeginsToken}
 use Rattle.kdl_entry.specs.Items.{between, TypeParts, KeyParts, type_of, before_name, after_name, behind_type, identifier_at, entry_at}
 use Rattle.kdl_entry.specs.Places.{span_of}

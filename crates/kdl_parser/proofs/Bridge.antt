@@ -1,7 +1,7 @@
 -- In an item the machine's step is the item's own.
 use Rattle.std.proofs.Common.{◌≡◌, Bool, true, false, List, Option, Some, None, option_map, refl, ap, ◌∙◌}
 use Rattle.kdl_text.specs.Chars.{Text}
-use Rattle.kdl_entry.specs.Data.{Value}
+use Rattle.kdl_value.specs.Data.{Value}
 use Rattle.kdl_entry.specs.Items as items
 use Rattle.kdl_entry.specs.Items.{TypeParts, KeyParts, Stage, opened, named, closed, keyed, goes, gives, refuses}
 use Rattle.kdl_entry.specs.Tokens.{Token, space}

@@ -7,7 +7,7 @@ use Rattle.kdl_text.proofs.Going.{bytes-append}
 use Rattle.kdl_text.proofs.Runs.{length-bytes}
 use Rattle.kdl_entry.specs.Building.{Stays}
 use Rattle.kdl_entry.specs.Counted.{Sliced}
-use Rattle.kdl_entry.specs.Data.{Value}
+use Rattle.kdl_value.specs.Data.{Value}
 use Rattle.kdl_entry.specs.Handed.{HandsOut}
 use Rattle.kdl_entry.specs.Items as items
 use Rattle.kdl_entry.specs.Items.{goes, gives, opened, named, closed, keyed}

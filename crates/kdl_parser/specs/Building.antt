@@ -5,12 +5,13 @@ use Rattle.std.specs.declared.vec.Vec.{Vec}
 use Rattle.kdl_text.specs.Chars.{Text}
 use Rattle.kdl_text.specs.Here.{Spot}
 use Rattle.kdl_entry.specs.Building.{type_view, item_view}
-use Rattle.kdl_entry.specs.Data.{text}
+use Rattle.kdl_value.specs.Data.{text}
 use Rattle.kdl_entry.specs.Handed.{IsFaultAt}
 use Rattle.kdl_entry.specs.Items as items
 use Rattle.kdl_entry.specs.Items.{KeyParts, Stage, opened, named, closed, keyed, goes, gives, refuses, entry_at}
 use Rattle.kdl_entry.specs.Places.{span_of}
-use Rattle.kdl_entry.specs.Tree.{Identifier, identifier_tree, plain_identifier, Entry, entry_tree, text_of}
+use Rattle.kdl_value.specs.Tree.{text_of}
+use Rattle.kdl_entry.specs.Tree.{Identifier, identifier_tree, plain_identifier, Entry, entry_tree}
 use Rattle.kdl_entry.specs.declared.items.lexer.LexFailure.{LexFailure}
 use Rattle.kdl_entry.specs.declared.items.lexer.LexFailure.TheVariants.{Faulty, Memory}
 use Rattle.kdl_grammar.specs.Machine as machine

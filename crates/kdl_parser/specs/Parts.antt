@@ -2,7 +2,8 @@
 use Rattle.std.specs.Prelude.{List, [], Some, map, option_map}
 use Rattle.kdl_entry.specs.Building.{type_view}
 use Rattle.kdl_entry.specs.Items.{type_of, before_name, after_name, behind_type}
-use Rattle.kdl_entry.specs.Tree.{identifier_tree, entry_tree, text_of}
+use Rattle.kdl_value.specs.Tree.{text_of}
+use Rattle.kdl_entry.specs.Tree.{identifier_tree, entry_tree}
 use Rattle.kdl_grammar.specs.Laid.{node_format}
 use Rattle.kdl_grammar.specs.Tree.{Node, node, Document, document, Nodes, nodes_of, children_of}
 use Rattle.kdl_parser.specs.declared.parts.DocumentParts.{DocumentParts}

@@ -8,7 +8,7 @@ ghost use Rattle.kdl_parser.specs.Counted.{unsliced};
 ghost use Rattle.kdl_grammar.specs.Tree.{node};
 ghost use Rattle.kdl_entry.specs.Building.{Stays};
 ghost use Rattle.kdl_entry.specs.Counted.{Sliced};
-ghost use Rattle.kdl_entry.specs.Data.{text};
+ghost use Rattle.kdl_value.specs.Data.{text};
 ghost use Rattle.kdl_entry.specs.Handed.{kind_view};
 ghost use Rattle.kdl_entry.specs.Items.{between};
 ghost use Rattle.kdl_text.specs.Here.{Ahead, bytes, raise};

@@ -9,11 +9,12 @@ use Rattle.std.specs.Str.{IsUtf8, chars}
 use Rattle.std.specs.Vec.{with_item}
 use lib.Utf8.{encodes}
 use Rattle.kdl_text.specs.Chars.{Text}
-use Rattle.kdl_entry.specs.Data.{Value}
-use Rattle.kdl_entry.specs.Tree.{Identifier, identifier_tree, value_tree}
+use Rattle.kdl_value.specs.Data.{Value}
+use Rattle.kdl_value.specs.Tree.{value_tree}
+use Rattle.kdl_entry.specs.Tree.{Identifier, identifier_tree}
 use Rattle.kdl_entry.specs.declared.entry.KdlEntry.{KdlEntry}
 use Rattle.kdl_entry.specs.declared.identifier.KdlIdentifier.{KdlIdentifier}
-use Rattle.kdl_entry.specs.declared.value.KdlValue.{KdlValue}
+use Rattle.kdl_value.specs.declared.value.KdlValue.{KdlValue}
 use Rattle.kdl_parts.specs.EntryLists.{arguments, is_argument, later, last_place, nth_place, same_text, is_name}
 use Rattle.kdl_parts.specs.Written.{set_value_at}
 

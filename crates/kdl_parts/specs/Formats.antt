@@ -1,6 +1,6 @@
 -- The texts around nodes and documents, as characters.
 use Rattle.std.specs.Prelude.{[], ◌∷◌}
-use Rattle.kdl_entry.specs.Tree.{text_of}
+use Rattle.kdl_value.specs.Tree.{text_of}
 use Rattle.kdl_grammar.specs.Tree.{NodeFormat, DocumentFormat}
 use Rattle.kdl_parts.specs.declared.format.KdlDocumentFormat.{KdlDocumentFormat}
 use Rattle.kdl_parts.specs.declared.format.KdlNodeFormat.{KdlNodeFormat}

@@ -8,7 +8,7 @@ use Rattle.std.specs.contracts.vec.Vec as vec
 use Rattle.std.specs.declared.alloc.Global.{Global}
 use Rattle.kdl_entry.specs.contracts.entry.KdlEntry as entry
 use Rattle.kdl_entry.specs.declared.entry.KdlEntry.{KdlEntry}
-use Rattle.kdl_entry.specs.declared.value.KdlValue.{KdlValue}
+use Rattle.kdl_value.specs.declared.value.KdlValue.{KdlValue}
 
 -- how the logic holds a list of entries
 abbrev pub entries_row : RattleType

@@ -1,6 +1,6 @@
 //! The texts around nodes and documents.
 
-ghost use Rattle.kdl_entry.specs.Tree.{text_of};
+ghost use Rattle.kdl_value.specs.Tree.{text_of};
 ghost use Rattle.kdl_grammar.specs.Laid.{marked_format};
 ghost use Rattle.kdl_parts.specs.Formats.{document_format_tree, ended_format, node_format_tree};
 ghost use Rattle.std.specs.Prelude.{◌≡◌, ◌++◌, [], ◌∷◌, IfOk, option_map};

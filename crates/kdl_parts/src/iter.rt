@@ -3,7 +3,7 @@
 ghost use Rattle.kdl_parts.specs.EntryLists.{arguments};
 ghost use Rattle.kdl_parts.specs.Iterators.{entries_left, entries_name};
 ghost use Rattle.kdl_parts.specs.Written.{entries_row};
-ghost use Rattle.kdl_entry.specs.Tree.{value_tree};
+ghost use Rattle.kdl_value.specs.Tree.{value_tree};
 ghost use Rattle.kdl_entry.specs.contracts.entry.KdlEntry.{the_row as entry_row};
 ghost use Rattle.std.specs.Borrow.{Array, follows, sem};
 ghost use Rattle.std.specs.Iterator.{UpTo, at_most};
@@ -134,7 +134,7 @@ pub struct ArgsIter<'a> {
 
 impl<'a> Model for ArgsIter<'a> {
     ghost use Rattle.kdl_parts.specs.EntryLists.{arguments};
-    ghost use Rattle.kdl_entry.specs.Data.{Value as Data};
+    ghost use Rattle.kdl_value.specs.Data.{Value as Data};
     ghost use Rattle.std.specs.Prelude.{List};
     ghost use Rattle.std.specs.Slice.Iter.{iter_rest};
 

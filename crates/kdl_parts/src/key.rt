@@ -1,7 +1,8 @@
 //! What an entry of a node is looked up by.
 
 ghost use Rattle.kdl_parts.specs.EntryLists.{sought, property, argument};
-ghost use Rattle.kdl_entry.specs.Tree.{plain_identifier, text_of};
+ghost use Rattle.kdl_value.specs.Tree.{text_of};
+ghost use Rattle.kdl_entry.specs.Tree.{plain_identifier};
 ghost use Rattle.std.specs.Prelude.{◌≡◌, IfOk};
 ghost use Rattle.std.specs.Str.{chars};
 

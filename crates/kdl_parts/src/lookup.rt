@@ -2,9 +2,9 @@
 
 ghost use Rattle.kdl_parts.specs.EntryLists.{place_of, there};
 ghost use Rattle.kdl_parts.specs.Written.{entries_row, set_entry_there, set_value_at, set_value_there};
-ghost use Rattle.kdl_entry.specs.Tree.{value_tree};
+ghost use Rattle.kdl_value.specs.Tree.{value_tree};
 ghost use Rattle.kdl_entry.specs.contracts.entry.KdlEntry.{the_row as entry_row};
-ghost use Rattle.kdl_entry.specs.contracts.value.KdlValue.{the_row as value_row};
+ghost use Rattle.kdl_value.specs.contracts.value.KdlValue.{the_row as value_row};
 ghost use Rattle.std.specs.Borrow.{Lends, LendsIf, sem};
 ghost use Rattle.std.specs.Prelude.{◌≡◌, ◌<◌, Some, length, option_map, slice_get};
 

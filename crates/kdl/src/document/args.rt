@@ -2,7 +2,7 @@
 
 ghost use Rattle.kdl.specs.DocumentLookups.{arguments_of, dash_arguments, dash_arguments_of, node_named};
 ghost use Rattle.kdl.specs.Iterators.{child_nodes};
-ghost use Rattle.kdl_entry.specs.Tree.{value_tree};
+ghost use Rattle.kdl_value.specs.Tree.{value_tree};
 ghost use Rattle.std.specs.Iterator.{UpTo, at_most};
 ghost use Rattle.std.specs.Iterator.SizeHint.{IsWithinCount};
 ghost use Rattle.std.specs.Map.Iter.{TakesFirst};
@@ -75,7 +75,7 @@ pub struct DashArgsIter<'a> {
 
 impl<'a> Model for DashArgsIter<'a> {
     ghost use Rattle.kdl.specs.DocumentLookups.{dash_arguments};
-    ghost use Rattle.kdl_entry.specs.Data.{Value as Data};
+    ghost use Rattle.kdl_value.specs.Data.{Value as Data};
     ghost use Rattle.std.specs.Prelude.{List};
     ghost use Rattle.std.specs.Slice.Iter.{iter_rest};
 

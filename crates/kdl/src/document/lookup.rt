@@ -3,8 +3,8 @@
 ghost use Rattle.kdl.specs.DocumentLookups.{argument_named, argument_place, first_argument, is_node_named, node_named, node_place, with_argument_there, with_node_there};
 ghost use Rattle.kdl.specs.contracts.document.KdlDocument.{the_row};
 ghost use Rattle.kdl.specs.contracts.node.KdlNode.{the_row as node_row};
-ghost use Rattle.kdl_entry.specs.Tree.{value_tree};
-ghost use Rattle.kdl_entry.specs.contracts.value.KdlValue.{the_row as value_row};
+ghost use Rattle.kdl_value.specs.Tree.{value_tree};
+ghost use Rattle.kdl_value.specs.contracts.value.KdlValue.{the_row as value_row};
 ghost use Rattle.std.specs.Borrow.{LendsIf, sem};
 ghost use Rattle.std.specs.List.{find};
 ghost use Rattle.std.specs.Prelude.{◌≡◌, ◌<◌, IfNone, IfSome, IsSome, None, Some, length, option_and_then, option_map, position, slice_get};

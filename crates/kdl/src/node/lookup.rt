@@ -2,7 +2,7 @@
 
 ghost use Rattle.kdl.specs.Lookups.{entries_of, entry_there, key_place, property_place, value_there, with_entry_there, with_value_there, HasProperty, HasSameEntries, HasWritten};
 ghost use Rattle.kdl_parts.specs.declared.key.NodeKey.TheVariants.{Index as at_index};
-ghost use Rattle.kdl_entry.specs.Tree.{or_null, value_tree};
+ghost use Rattle.kdl_value.specs.Tree.{or_null, value_tree};
 ghost use Rattle.std.specs.Borrow.{Lends, LendsIf, LendsSoOk, sem};
 ghost use Rattle.std.specs.Prelude.{◌≡◌, ◌<◌, IfErr, IfOk, IsSome, Some, is_some, length, option_map};
 
@@ -43,7 +43,7 @@ impl KdlNode {
 impl KdlNode {
     ghost use Rattle.kdl.specs.contracts.node.KdlNode.{the_row};
     ghost use Rattle.kdl_entry.specs.contracts.entry.KdlEntry.{the_row as entry_row};
-    ghost use Rattle.kdl_entry.specs.contracts.value.KdlValue.{the_row as value_row};
+    ghost use Rattle.kdl_value.specs.contracts.value.KdlValue.{the_row as value_row};
 
     /// The entry that `entry` gives, to be changed in place. All else stays as it is.
     pub fn entry_mut(&mut self, key: NodeKey) -> Option<&mut KdlEntry>
@@ -124,7 +124,7 @@ impl<'q> Index<&'q str> for KdlNode {
 /// The value that `node[index]` gives, to be changed in place. All else stays as it is.
 impl IndexMut<usize> for KdlNode {
     ghost use Rattle.kdl.specs.contracts.node.KdlNode.{the_row};
-    ghost use Rattle.kdl_entry.specs.contracts.value.KdlValue.{the_row as value_row};
+    ghost use Rattle.kdl_value.specs.contracts.value.KdlValue.{the_row as value_row};
 
     fn index_mut(&mut self, index: usize) -> &mut KdlValue
         requires { IsSome (key_place (at_index index) self.old) }

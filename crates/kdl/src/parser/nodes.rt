@@ -2,7 +2,7 @@
 
 ghost use Rattle.kdl.specs.NodeText.{Reads, ReadsNodes, IsOnly, NodeAnswers};
 ghost use Rattle.kdl.specs.Tree.{node_tree, nodes_tree};
-ghost use Rattle.kdl_entry.specs.Tree.{text_of};
+ghost use Rattle.kdl_value.specs.Tree.{text_of};
 ghost use Rattle.kdl_grammar.specs.Tree.{DocumentFormat, none, first};
 ghost use Rattle.kdl_parser.specs.Parts.{document_by};
 ghost use Rattle.kdl_text.specs.Chars.{Text};

@@ -6,7 +6,8 @@ ghost use Rattle.kdl_entry.specs.EntryMachine.{argument_of, ended, finish, keyed
 ghost use Rattle.kdl_entry.specs.EntryReading.{word_view, state_view, Answers, Stands, Stepped, Ended};
 ghost use Rattle.kdl_entry.specs.Handed.{kind_view};
 ghost use Rattle.kdl_entry.specs.Items.{between};
-ghost use Rattle.kdl_entry.specs.Tree.{entry_tree, identifier_tree, text_of, value_tree};
+ghost use Rattle.kdl_value.specs.Tree.{text_of, value_tree};
+ghost use Rattle.kdl_entry.specs.Tree.{entry_tree, identifier_tree};
 ghost use Rattle.kdl_text.specs.Here.{Ahead};
 ghost use Rattle.std.specs.Prelude.{◌≡◌, [], Some, None, true, false, IfOk};
 ghost use Rattle.std.specs.Str.{chars};
@@ -16,10 +17,10 @@ use super::lexer::{LexFailure, Lexer, Token, TokenKind};
 use super::refusal::failure;
 use crate::entry::KdlEntry;
 use crate::identifier::KdlIdentifier;
-use crate::value::KdlValue;
 use kdl_text::chars::{Checkpoint, Steps};
 use kdl_text::error::ParseFailure;
 use kdl_text::span::SourceSpan;
+use kdl_value::KdlValue;
 use std::alloc::{AllocError, Global};
 
 /// The span of an entry whose text has not come to its end.

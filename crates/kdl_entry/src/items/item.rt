@@ -8,16 +8,17 @@ ghost use Rattle.kdl_entry.specs.Handed.{kind_view, IsFaultAt};
 ghost use Rattle.kdl_entry.specs.Items as spec;
 ghost use Rattle.kdl_entry.specs.Items.{between, entry_at, identifier_at};
 ghost use Rattle.kdl_entry.specs.Places.{span_of};
-ghost use Rattle.kdl_entry.specs.Tree.{entry_tree, identifier_tree, value_tree, text_of};
+ghost use Rattle.kdl_value.specs.Tree.{value_tree, text_of};
+ghost use Rattle.kdl_entry.specs.Tree.{entry_tree, identifier_tree};
 ghost use Rattle.kdl_text.specs.Here.{Ahead, bytes};
 ghost use Rattle.std.specs.Prelude.{◌≡◌, if◌then◌else◌, [], Some, None, true, false, IfOk, OnOk, option_map};
 
 use super::lexer::{Fault, FaultKind, LexFailure, Lexer, TokenKind};
 use crate::entry::{KdlEntry, KdlEntryFormat};
 use crate::identifier::KdlIdentifier;
-use crate::value::KdlValue;
 use kdl_text::chars::Checkpoint;
 use kdl_text::span::SourceSpan;
+use kdl_value::KdlValue;
 use std::alloc::{AllocError, Global};
 use std::mem;
 

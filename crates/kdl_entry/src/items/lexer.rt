@@ -2,10 +2,10 @@
 //!
 //! A token is told by its first character, and at most the one behind it. A run of spaces is one token.
 
-ghost use Rattle.kdl_entry.specs.Data as data';
+ghost use Rattle.kdl_value.specs.Data as data';
 ghost use Rattle.kdl_entry.specs.Entries as spec;
 ghost use Rattle.kdl_entry.specs.Handed.{Lexed, LexCosts, ReadsKind, IsFaultAt, Passes, IsMark};
-ghost use Rattle.kdl_entry.specs.Tree.{value_tree};
+ghost use Rattle.kdl_value.specs.Tree.{value_tree};
 ghost use Rattle.kdl_entry.specs.declared.items.lexer.LexFailure.TheVariants.{Memory};
 ghost use Rattle.kdl_text.specs.Chars.{starts, is_identifier_char};
 ghost use Rattle.kdl_text.specs.Numbers as numbers;
@@ -16,8 +16,6 @@ ghost use Rattle.kdl_text.specs.TriviaReading.{PieceCosts};
 ghost use Rattle.std.specs.Prelude.{◌≡◌, ◌++◌, ◌==◌, ◌||◌, true, false, Some, None, IfOk};
 ghost use Rattle.std.specs.Str.{chars};
 
-use crate::float::KdlFloat;
-use crate::value::KdlValue;
 use kdl_text::chars::{
     Checkpoint, Class, Cursor, Piece, Steps, is_digit, is_identifier_char, is_newline_char,
     is_sign, is_space, newline,
@@ -28,6 +26,7 @@ use kdl_text::numbers::{
 use kdl_text::span::SourceSpan;
 use kdl_text::strings::{StringFailure, StringFault, bare_string, quoted_string, raw_string};
 use kdl_text::trivia::{SlashRead, TriviaFault, escline, slash};
+use kdl_value::{KdlFloat, KdlValue};
 use std::alloc::{AllocError, AllocFailed, Global};
 use std::marker::Model;
 

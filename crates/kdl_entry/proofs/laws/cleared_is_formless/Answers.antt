@@ -1,6 +1,6 @@
 use Rattle.std.proofs.Common.{subst}
-use Rattle.kdl_entry.specs.Data.{Value}
-use Rattle.kdl_entry.specs.Formless.{IsWellFormed}
+use Rattle.kdl_value.specs.Data.{Value}
+use Rattle.kdl_value.specs.WellFormed.{IsWellFormed}
 use Rattle.kdl_entry.proofs.WellFormed.{name_scalars}
 use Rattle.kdl_entry.proofs.laws.cleared_is_formless.Goals as goal
 

@@ -1,6 +1,6 @@
 use Rattle.std.proofs.Common.{[], ap, refl, subst}
 use Rattle.std.specs.Str.{chars}
-use Rattle.kdl_entry.specs.Tree.{text_of}
+use Rattle.kdl_value.specs.Tree.{text_of}
 use Rattle.kdl_text.specs.Chars.{Text, Star}
 use Rattle.kdl_text.specs.Trivia.{LineSpace}
 use Rattle.kdl.specs.Tree.{node_tree}

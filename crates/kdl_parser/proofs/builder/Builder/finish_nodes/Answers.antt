@@ -1,5 +1,5 @@
 use Rattle.std.proofs.Common.{ap, sym}
-use Rattle.kdl_entry.specs.Tree.{text_of}
+use Rattle.kdl_value.specs.Tree.{text_of}
 use Rattle.kdl_parser.specs.Building.{nodes_view}
 use Rattle.kdl_parser.specs.Parts.{nodes_tree, document_by}
 use Rattle.kdl_parser.proofs.Views.{one_open, all_closed}

@@ -1,7 +1,0 @@
-use Rattle.std.proofs.Common.{rules}
-use Rattle.std.proofs.Output.{has_written_of_eq}
-use Rattle.kdl_entry.proofs.Printing.{signed_bytes}
-use Rattle.kdl_entry.proofs.print.write_integer.Goals as goal
-
-pub returns : goal.returns
-returns g c plain ok = has_written_of_eq _ _ _ _ _ (signed_bytes c.args.x c.ranges.x.sfits) (search rules)

@@ -1,0 +1,10 @@
+pub mod Comparing
+pub mod Equality
+pub mod Escapes
+pub mod FloatDecides
+pub mod FloatTexts
+pub mod NumbersReadBack
+pub mod Printing
+pub mod ReadsBack
+pub mod Spellings
+pub mod WellFormed

@@ -1,0 +1,79 @@
+//! Floats, by their texts.
+
+ghost use Rattle.kdl_text.specs.Numbers.{FloatText};
+ghost use Rattle.std.specs.Prelude.{◌≡◌, ◌↔◌, IfOk, IsErrOf, Some, string_bytes};
+ghost use Rattle.std.specs.Str.{chars, encode_utf8_all};
+
+use crate::print::write_text;
+use kdl_text::error::FloatFailure;
+use kdl_text::numbers::is_float_text;
+use std::alloc::{AllocError, Global};
+use std::fmt;
+
+/// A decimal or a number that no digits write, by its text (KDL 2.0.0, Number, Keyword Numbers).
+///
+/// Floats are equal where their texts are, and are ordered by the bytes of their texts.
+#[derive(PartialEq, Eq, PartialOrd, Ord, Hash, Debug, Drop)]
+pub struct KdlFloat {
+    text: String,
+    ghost is_float: { ∥ FloatText (chars (string_bytes text)) ∥₁ },
+}
+
+impl KdlFloat {
+    ghost use Rattle.kdl_value.specs.Tree.{float_text_of, text_of};
+
+    /// A float with a copy of the text: a decimal without `_`, or one of `#inf`, `#-inf` and `#nan`.
+    /// Any other text is `NotAFloat`; `Memory` where a request for memory was refused.
+    pub fn new(alloc: Global, text: &str) -> Result<KdlFloat, FloatFailure>
+        ensures kept { IfOk result (λ f. float_text_of f ≡ chars text.now) }
+        ensures float { IfOk result (λ f. FloatText (chars text.now)) }
+        ensures refused { IsErrOf result FloatFailure.NotAFloat ↔ (¬ FloatText (chars text.now)) }
+    {
+        if !is_float_text(text) {
+            return Err(FloatFailure::NotAFloat);
+        }
+        match String::from_str(alloc, text) {
+            Ok(text) => Ok(KdlFloat { text }),
+            Err(_) => Err(FloatFailure::Memory),
+        }
+    }
+
+    /// A float as it was read: its text, which is a float's.
+    pub fn parsed(text: String) -> KdlFloat
+        requires { FloatText (text_of text) }
+        ensures { float_text_of result ≡ text_of text }
+    {
+        KdlFloat { text }
+    }
+
+    /// The text.
+    pub fn as_str(&self) -> &str
+        ensures { chars result.now ≡ float_text_of self.now }
+    {
+        self.text.as_str()
+    }
+}
+
+impl Clone for KdlFloat {
+    ghost use Rattle.kdl_value.specs.Tree.{float_text_of};
+    ghost use Rattle.std.specs.Prelude.{◌≡◌};
+
+    ghost is_clone = { λ f g. float_text_of g ≡ float_text_of f };
+
+    fn clone(&self) -> Result<KdlFloat, AllocError> {
+        Ok(KdlFloat {
+            text: self.text.clone()?,
+        })
+    }
+}
+
+/// The text.
+impl fmt::Display for KdlFloat {
+    ghost use Rattle.kdl_value.specs.Tree.{float_text_of};
+
+    ghost output = { λ f. Some (encode_utf8_all (float_text_of f)) };
+
+    fn fmt<W: fmt::Write>(&self, f: &mut fmt::Formatter<W>) -> fmt::Result {
+        write_text(self.text.as_str(), f)
+    }
+}

@@ -1,0 +1,13 @@
+//! The values of KDL 2: strings, whole numbers, floats, truth values and null, and how they are printed.
+#![tactic(auto)]
+
+mod float;
+pub mod laws;
+mod print;
+mod spelled;
+mod value;
+
+pub use float::KdlFloat;
+pub use print::{write_char, write_text};
+pub use spelled::write_spelled;
+pub use value::KdlValue;

@@ -1,0 +1,194 @@
+//! The spelling in which a string is printed.
+
+ghost use Rattle.kdl_value.specs.Spelled as spec;
+ghost use Rattle.kdl_value.specs.Spelled.{PlainRun};
+ghost use Rattle.kdl_text.specs.Bare as bare;
+ghost use Rattle.kdl_text.specs.Chars as class;
+ghost use Rattle.std.specs.Char.{IsScalar, is_ascii};
+ghost use Rattle.std.specs.Fmt.{WritesOnOk};
+ghost use Rattle.std.specs.List.{list_all};
+ghost use Rattle.std.specs.Prelude.{◌≡◌, ◌++◌, ◌∷◌, [], ◌<◌, ◌≤◌, true, length, MatchOption, IfSome, encode_utf8};
+ghost use Rattle.std.specs.Str.{chars, bytes_eq, encode_utf8_all, IsUtf8};
+
+use crate::print::write_text;
+use kdl_text::chars::{is_banned, is_digit, is_identifier_char, is_newline_char};
+use std::fmt;
+use std::fmt::{Formatter, Write};
+
+/// The first character, and the text behind it.
+#[inline]
+fn next_char(s: &str) -> Option<(char, &str)>
+    ensures cases { MatchOption result (chars s.now ≡ []) (λ p. chars s.now ≡ p.0 ∷ chars p.1.now) }
+    ensures bytes { MatchOption result (s.now ≡ []) (λ p. s.now ≡ encode_utf8 p.0 ++ p.1.now) }
+    ensures text { IfSome result (λ p. IsUtf8 p.1.now) }
+    ensures scalar { IfSome result (λ p. IsScalar p.0) }
+    ensures shorter { IfSome result (λ p. length p.1.now < length s.now) }
+{
+    let mut chars = s.chars();
+    let c = chars.next()?;
+    Some((c, chars.as_str()))
+}
+
+/// Whether each character may stand in a bare string.
+fn all_identifier(s: &str) -> bool
+    ensures { result ≡ list_all class.is_identifier_char (chars s.now) }
+{
+    s.chars().all(|c| is_identifier_char(c))
+}
+
+/// Whether no digit begins the text behind a point.
+fn after_point(s: &str) -> bool
+    ensures { result ≡ bare.after_point (chars s.now) }
+{
+    match next_char(s) {
+        None => true,
+        Some((c, _)) => !is_digit(c),
+    }
+}
+
+/// Whether no number begins the text behind a sign.
+fn after_sign(s: &str) -> bool
+    ensures { result ≡ bare.after_sign (chars s.now) }
+{
+    match next_char(s) {
+        None => true,
+        Some(('.', rest)) => after_point(rest),
+        Some((c, _)) => !is_digit(c),
+    }
+}
+
+/// Whether the text is the word, which is ASCII.
+fn is_text(s: &str, word: &str) -> bool
+    requires { list_all is_ascii word.now ≡ true }
+    ensures { result ≡ bytes_eq (chars s.now) word.now }
+{
+    s == word
+}
+
+/// Whether the text is one of the words that would be taken for keywords without their `#`.
+fn is_excluded(s: &str) -> bool
+    ensures { result ≡ bare.is_excluded (chars s.now) }
+{
+    is_text(s, "true")
+        || is_text(s, "false")
+        || is_text(s, "null")
+        || is_text(s, "inf")
+        || is_text(s, "nan")
+}
+
+/// Whether the text has one of the forms of a bare string, by its front.
+fn bare_form(s: &str) -> bool
+    ensures { result ≡ bare.bare_form (chars s.now) }
+{
+    match next_char(s) {
+        None => false,
+        Some(('+' | '-', rest)) => after_sign(rest),
+        Some(('.', rest)) => after_point(rest),
+        Some((c, _)) => !is_digit(c) && !is_excluded(s),
+    }
+}
+
+/// Whether the text is printed bare.
+#[tactic(auto, unfolding(kdl_text::specs::Bare::is_bare))]
+fn prints_bare(s: &str) -> bool
+    ensures { result ≡ spec.prints_bare (chars s.now) }
+{
+    all_identifier(s) && bare_form(s) && !is_text(s, "-inf")
+}
+
+/// The letter of the short escape of a character, or U+0000 where it has none.
+fn escape_letter(c: char) -> char
+    ensures { result ≡ spec.escape_letter c }
+{
+    match c {
+        '\\' | '"' => c,
+        '\n' => 'n',
+        '\r' => 'r',
+        '\t' => 't',
+        '\u{8}' => 'b',
+        '\u{c}' => 'f',
+        _ => '\0',
+    }
+}
+
+/// Writes a character as it stands between quotes.
+#[tactic(auto, unfolding(crate::specs::Spelled::char_text))]
+fn write_char_text<W: Write>(c: char, f: &mut Formatter<W>) -> fmt::Result
+    ensures { WritesOnOk W.write_str_gives f.old result (encode_utf8_all (spec.char_text c)) f.new }
+{
+    let letter = escape_letter(c);
+    if letter != '\0' {
+        f.write_str("\\")?;
+        f.write_char(letter)
+    } else if is_newline_char(c) || is_banned(c) {
+        let code = u32::from(c);
+        write!(f, "\\u{{{code:x}}}")
+    } else {
+        f.write_char(c)
+    }
+}
+
+/// Whether the character is printed as it is between quotes.
+#[tactic(auto, unfolding(crate::specs::Spelled::char_text))]
+fn is_plain(c: char) -> bool
+    ensures { result ≡ true → spec.char_text c ≡ c ∷ [] }
+{
+    escape_letter(c) == '\0' && !is_newline_char(c) && !is_banned(c)
+}
+
+/// The text behind the longest run of characters that are printed as they are between quotes.
+#[tactic(auto, using(crate::proofs::Escapes::run_begins, crate::proofs::Escapes::run_turn))]
+fn skip_plain(s: &str) -> &str
+    ensures run { PlainRun s.now result.now }
+    ensures shorter { length result.now ≤ length s.now }
+{
+    let mut rest = s;
+    'chars: while let Some((c, next)) = next_char(rest) {
+        if !is_plain(c) {
+            break;
+        }
+        rest = next;
+    }
+    rest
+}
+
+/// The characters of such a run that stand before the rest.
+fn before<'a>(s: &'a str, rest: &str) -> &'a str
+    requires { PlainRun s.now rest.now }
+    ensures parts { chars s.now ≡ chars result.now ++ chars rest.now }
+    ensures as_is { spec.escaped (chars result.now) ≡ chars result.now }
+{
+    &s[..s.len() - rest.len()]
+}
+
+/// Writes a text as it stands between quotes.
+fn write_escaped<W: Write>(s: &str, f: &mut Formatter<W>) -> fmt::Result
+    ensures { WritesOnOk W.write_str_gives f.old result (encode_utf8_all (spec.escaped (chars s.now))) f.new }
+{
+    let mut rest = s;
+    'runs: loop {
+        let next = skip_plain(rest);
+        write_text(before(rest, next), f)?;
+        match next_char(next) {
+            Some((c, behind)) => {
+                write_char_text(c, f)?;
+                rest = behind;
+            }
+            None => return Ok(()),
+        }
+    }
+}
+
+/// Writes a string as it is spelled: bare where that reads back, else between quotes (KDL 2.0.0, String).
+#[tactic(auto, unfolding(crate::specs::Spelled::spelled))]
+pub fn write_spelled<W: Write>(s: &str, f: &mut Formatter<W>) -> fmt::Result
+    ensures { WritesOnOk W.write_str_gives f.old result (encode_utf8_all (spec.spelled (chars s.now))) f.new }
+{
+    if prints_bare(s) {
+        f.write_str(s)
+    } else {
+        f.write_str("\"")?;
+        write_escaped(s, f)?;
+        f.write_str("\"")
+    }
+}
