@@ -2,7 +2,6 @@
 use Rattle.std.proofs.Common.{◌≡◌, ℕ, suc, ◌≤◌, List, [], ◌∷◌, length, Bool, true, false, Option, None, Some, option_and_then, option_map, refl, ap, ◌∙◌, sym, arith, position, cond, slice_get, string_bytes}
 use Rattle.std.proofs.Math.Dec.{ltb}
 use Rattle.std.proofs.lemmas.Bool.{ltb-false}
-use Rattle.std.proofs.lemmas.List.{length-map}
 use Rattle.std.proofs.lemmas.List.Folds.{find_at}
 use Rattle.std.proofs.lemmas.List.Sums.{count_by-le-length, length-filter}
 use Rattle.std.proofs.lemmas.Option.{none-some, slice_get_past}
@@ -17,7 +16,7 @@ use Rattle.kdl_entry.specs.Tree.{identifier_tree}
 use Rattle.kdl_entry.specs.declared.entry.KdlEntry.{KdlEntry}
 use Rattle.kdl_entry.specs.declared.identifier.KdlIdentifier.{KdlIdentifier}
 use Rattle.kdl.specs.DocumentLookups.{argument_place, argument_value, dash_arguments, first_argument, is_node_named}
-use Rattle.kdl_parts.specs.EntryLists.{is_argument, same_text}
+use Rattle.kdl_parts.specs.EntryLists.{same_text}
 use Rattle.kdl.specs.Lookups.{value_there}
 use Rattle.kdl.specs.declared.node.KdlNode.{KdlNode, out-KdlNode}
 use Rattle.kdl_parts.proofs.EntryPlaces.{found_at, same_bytes}

@@ -1,12 +1,11 @@
 -- What is printed where entries or nodes are exchanged, and what edits leave.
-use Rattle.std.proofs.Common.{◌≡◌, ℕ, ◌+◌, ◌<◌, List, ◌∷◌, ◌++◌, map, ap, ◌∙◌, sym, refl, append_assoc, length, take, drop, set, is_some, slice_get, true, false, Option, None, Some, IfSome, IsSome, Result, Ok, Err, IsOk, IfOk, IfErr, OnOk, OnErr, is_ok, if◌then◌else◌, option_map, unwrap_or, Vec, Global, add-one}
-use Rattle.std.proofs.lemmas.List.{map-append, take-map, drop-map, set_split, set-get_or}
+use Rattle.std.proofs.Common.{◌≡◌, ℕ, ◌+◌, List, ◌∷◌, ◌++◌, map, ap, ◌∙◌, sym, refl, append_assoc, take, drop, set, slice_get, Option, None, Some, IfSome, IsSome, Result, Ok, Err, OnOk, OnErr, option_map, Vec, Global}
+use Rattle.std.proofs.lemmas.List.{map-append, take-map, drop-map, set-get_or}
 use Rattle.std.proofs.lemmas.Option.{slice_get_within, get_or_from_slice_get}
 use Rattle.std.specs.Vec.{with_item}
 use Rattle.kdl_text.specs.Chars.{Text}
 use Rattle.kdl_entry.specs.Print.{print_entry}
-use Rattle.kdl_entry.specs.Tree.{Identifier, Entry, entry_tree, identifier_tree}
-use Rattle.kdl_entry.specs.declared.identifier.KdlIdentifier.{KdlIdentifier}
+use Rattle.kdl_entry.specs.Tree.{Entry, entry_tree}
 use Rattle.kdl_entry.specs.declared.entry.KdlEntry.{KdlEntry}
 use Rattle.kdl.specs.Change.{with_entries, with_entry}
 use Rattle.kdl.specs.EditLaw.{head_of, tail_of, tree_entries, PrintsInstead, PrintsAtPlace, EntriesExchanged, EntryExchanged, FormedPiece, NodesExchanged, NodeExchanged, document_before, document_behind}
@@ -129,21 +128,17 @@ node_exchanged d i old new depth h =
       nodes_exchanged d (with_item (out-KdlDocument d).nodes i new) depth ∙ node_at d (set ns i new) i new depth (around ns i old new h),
     )
 
--- a node with other entries, by them
-instead : (n m : KdlNode) → m ≡ with_entries n (out-KdlNode m).entries → IsSome (out-KdlNode n).format → PrintsInstead (node_tree n) (map entry_tree (out-KdlNode m).entries.items) (node_tree m)
-instead n m r s depth = ap (λ z. print_node (node_tree z) depth) r ∙ entries_exchanged n (out-KdlNode m).entries s depth
-
 -- what is printed once an entry stands in the place of another
-put_prints : (o : Option ℕ) (e : KdlEntry) (t : Entry) (n m : KdlNode) → entry_tree e ≡ t → (out-KdlNode m).entries.items ≡ put_for o e (out-KdlNode n).entries.items
-    → m ≡ with_entries n (out-KdlNode m).entries → IsSome (out-KdlNode n).format → IfSome o (λ i. PrintsAtPlace (node_tree n) i t (node_tree m))
-put_prints None e t n m k h r s = tt
-put_prints (Some i) e t n m k h r s =
-    at_place (node_tree n) (node_tree m) i t (map entry_tree (out-KdlNode m).entries.items) (ap (map entry_tree) h ∙ tree_around n i e ∙ ap (λ z. take i (tree_entries (node_tree n)) ++ (z ∷ drop (i + 1) (tree_entries (node_tree n)))) k) (instead n m r s)
+put_prints : (o : Option ℕ) (e : KdlEntry) (t : Entry) (n : KdlNode) (v : Vec KdlEntry Global) → entry_tree e ≡ t → v.items ≡ put_for o e (out-KdlNode n).entries.items → IsSome (out-KdlNode n).format
+    → IfSome o (λ i. PrintsAtPlace (node_tree n) i t (node_tree (with_entries n v)))
+put_prints None e t n v k h s = tt
+put_prints (Some i) e t n v k h s =
+    at_place (node_tree n) (node_tree (with_entries n v)) i t (map entry_tree v.items) (ap (map entry_tree) h ∙ tree_around n i e ∙ ap (λ z. take i (tree_entries (node_tree n)) ++ (z ∷ drop (i + 1) (tree_entries (node_tree n)))) k) (entries_exchanged n v s)
 
-inserted_prints : (key : NodeKey) (e : KdlEntry) (n m : KdlNode) → IsInserted key e (out-KdlNode n).entries.items (out-KdlNode m).entries.items → m ≡ with_entries n (out-KdlNode m).entries
-    → IsSome (out-KdlNode n).format → IfSome (replaced_place key (out-KdlNode n).entries.items) (λ i. PrintsAtPlace (node_tree n) i (under (sought key) (entry_tree e)) (node_tree m))
-inserted_prints (Key k) e n m d r s = put_prints (place_of (Key k) (out-KdlNode n).entries.items) d.entry _ n m d.tree d.items r s
-inserted_prints (Index i) e n m d r s = tt
+inserted_prints : (key : NodeKey) (e : KdlEntry) (n : KdlNode) (v : Vec KdlEntry Global) → IsInserted key e (out-KdlNode n).entries.items v.items → IsSome (out-KdlNode n).format
+    → IfSome (replaced_place key (out-KdlNode n).entries.items) (λ i. PrintsAtPlace (node_tree n) i (under (sought key) (entry_tree e)) (node_tree (with_entries n v)))
+inserted_prints (Key k) e n v d s = put_prints (place_of (Key k) (out-KdlNode n).entries.items) d.entry _ n v d.tree d.items s
+inserted_prints (Index i) e n v d s = tt
 
 -- a node with the entries that it had
 pub entries_same : (n m : KdlNode) → m ≡ with_entries n (out-KdlNode m).entries → (out-KdlNode m).entries.items ≡ (out-KdlNode n).entries.items → node_tree m ≡ node_tree n
@@ -159,8 +154,7 @@ refused_same (Ok a) n m h s = tt
 refused_same (Err e) n m h s = entries_same n m s h
 
 -- what a successful insertion prints
-pub insert_prints : {T E : Type 0} (r : Result T E) (key : NodeKey) (e : KdlEntry) (n m : KdlNode) → OnOk r (IsInserted key e (out-KdlNode n).entries.items (out-KdlNode m).entries.items)
-    → m ≡ with_entries n (out-KdlNode m).entries
-    → OnOk r (IsSome (out-KdlNode n).format → IfSome (replaced_place key (out-KdlNode n).entries.items) (λ i. PrintsAtPlace (node_tree n) i (under (sought key) (entry_tree e)) (node_tree m)))
-insert_prints (Ok a) key e n m d s = λ f. inserted_prints key e n m d s f
-insert_prints (Err a) key e n m d s = tt
+pub insert_prints : {T E : Type 0} (r : Result T E) (key : NodeKey) (e : KdlEntry) (n : KdlNode) (v : Vec KdlEntry Global) → OnOk r (IsInserted key e (out-KdlNode n).entries.items v.items)
+    → OnOk r (IsSome (out-KdlNode n).format → IfSome (replaced_place key (out-KdlNode n).entries.items) (λ i. PrintsAtPlace (node_tree n) i (under (sought key) (entry_tree e)) (node_tree (with_entries n v))))
+insert_prints (Ok a) key e n v d = λ f. inserted_prints key e n v d f
+insert_prints (Err a) key e n v d = tt

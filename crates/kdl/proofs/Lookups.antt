@@ -1,8 +1,7 @@
 -- What look-ups find, and nodes with one entry changed or pushed.
-use Rattle.std.proofs.Common.{◌≡◌, ℕ, List, [], ◌∷◌, ◌++◌, length, length-append, Option, None, Some, option_map, option_and_then, refl, ap, ◌∙◌, sym, arith, slice_get, slice_set, Vec, Global}
+use Rattle.std.proofs.Common.{◌≡◌, ℕ, List, [], ◌∷◌, ◌++◌, length, length-append, Option, None, Some, option_map, refl, ap, ◌∙◌, sym, arith, slice_get, slice_set, Vec, Global}
 use Rattle.std.proofs.Math.Seq.{set-append_seam, get_or-append_seam}
 use Rattle.std.proofs.lemmas.Option.{none-some, slice_get_read}
-use Rattle.std.specs.Vec.{with_item}
 use Rattle.kdl_value.specs.Data.{null}
 use Rattle.kdl_value.specs.Tree.{value_tree, or_null}
 use Rattle.kdl_entry.specs.Tree.{Entry}
