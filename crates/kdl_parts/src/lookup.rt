@@ -1,15 +1,15 @@
 //! Look-ups among the entries of a node, by the name of a property or by the place of an argument.
 
-ghost use Rattle.kdl_parts.specs.EntryLists.{place_of, there};
+ghost use Rattle.kdl_parts.specs.EntryLists.{has_name, is_argument, last_place, nth_place, place_of, there};
 ghost use Rattle.kdl_parts.specs.Written.{entries_row, set_entry_there, set_value_at, set_value_there};
 ghost use Rattle.kdl_value.specs.Tree.{value_tree};
 ghost use Rattle.kdl_entry.specs.contracts.entry.KdlEntry.{the_row as entry_row};
 ghost use Rattle.kdl_value.specs.contracts.value.KdlValue.{the_row as value_row};
 ghost use Rattle.std.specs.Borrow.{Lends, LendsIf, sem};
-ghost use Rattle.std.specs.Prelude.{◌≡◌, ◌<◌, Some, length, option_map, slice_get};
+ghost use Rattle.std.specs.Prelude.{◌≡◌, ◌<◌, IsSome, Some, length, option_map, slice_get};
 
 use crate::key::NodeKey;
-use crate::places::place;
+use crate::places::{last_property, nth_argument, place};
 use kdl_entry::{KdlEntry, KdlValue};
 
 /// The entry that the key finds: the last property whose name has the key's value, or the argument at the key's place
@@ -68,4 +68,38 @@ pub fn value_at_mut(entries: &mut Vec<KdlEntry>, at: usize) -> &mut KdlValue
     ensures value { option_map (λ e. e.value) (slice_get entries.old.items at) ≡ Some result.now }
 {
     entries[at].value_mut()
+}
+
+/// The value of the argument at that place among the arguments, from 0. It has to be there.
+pub fn argument(entries: &[KdlEntry], n: usize) -> &KdlValue
+    requires { IsSome (nth_place is_argument entries.now n) }
+    ensures { option_map (λ e. value_tree e.value) (there (nth_place is_argument entries.now n) entries.now) ≡ Some (value_tree result.now) }
+{
+    match nth_argument(entries, n) {
+        Some(at) => entries[at].value(),
+        None => unreachable!(),
+    }
+}
+
+/// The value of the last property of that name. It has to be there.
+pub fn property<'a>(entries: &'a [KdlEntry], name: &str) -> &'a KdlValue
+    requires { IsSome (last_place (has_name name.now) entries.now) }
+    ensures { option_map (λ e. value_tree e.value) (there (last_place (has_name name.now) entries.now) entries.now) ≡ Some (value_tree result.now) }
+{
+    match last_property(entries, name) {
+        Some(last) => entries[last].value(),
+        None => unreachable!(),
+    }
+}
+
+/// The value that `argument` gives, to be changed in place. All else stays as it is.
+pub fn argument_mut(entries: &mut Vec<KdlEntry>, n: usize) -> &mut KdlValue
+    requires { IsSome (nth_place is_argument entries.old.items n) }
+    ensures* writes_back { sem 𝓛 (Lends entries_row value_row entries.entry result (set_value_there (nth_place is_argument entries.old.items n) entries.old)) }
+    ensures value { option_map (λ e. e.value) (there (nth_place is_argument entries.old.items n) entries.old.items) ≡ Some result.now }
+{
+    match nth_argument(entries, n) {
+        Some(at) => value_at_mut(entries, at),
+        None => unreachable!(),
+    }
 }

@@ -9,7 +9,7 @@ ghost use Rattle.std.specs.Prelude.{◌≡◌, ◌<◌, IfErr, IfOk, IsSome, Som
 use crate::node::KdlNode;
 use kdl_entry::{KdlEntry, KdlIdentifier, KdlValue};
 use kdl_parts::lookup::value_at_mut;
-use kdl_parts::places::{last_property, nth_argument};
+use kdl_parts::places::last_property;
 use kdl_parts::{NodeKey, lookup};
 use std::alloc::AllocError;
 use std::ops::{Index, IndexMut};
@@ -98,10 +98,7 @@ impl Index<usize> for KdlNode {
     ghost index_gives = { λ n i v. value_there (key_place (at_index i) n) n ≡ Some (value_tree v) };
 
     fn index(&self, index: usize) -> &KdlValue {
-        match nth_argument(&self.entries, index) {
-            Some(at) => self.entries[at].value(),
-            None => unreachable!(),
-        }
+        lookup::argument(&self.entries, index)
     }
 }
 
@@ -114,10 +111,7 @@ impl<'q> Index<&'q str> for KdlNode {
     ghost index_gives = { λ n name v. value_there (property_place name.now n) n ≡ Some (value_tree v) };
 
     fn index(&self, name: &'q str) -> &KdlValue {
-        match last_property(&self.entries, name) {
-            Some(at) => self.entries[at].value(),
-            None => unreachable!(),
-        }
+        lookup::property(&self.entries, name)
     }
 }
 
@@ -131,9 +125,6 @@ impl IndexMut<usize> for KdlNode {
         ensures* writes_back { sem 𝓛 (Lends the_row value_row self.entry result (with_value_there (key_place (at_index index) self.old) self.old)) }
         ensures value { option_map (λ e. e.value) (entry_there (key_place (at_index index) self.old) self.old) ≡ Some result.now }
     {
-        match nth_argument(&self.entries, index) {
-            Some(at) => value_at_mut(&mut self.entries, at),
-            None => unreachable!(),
-        }
+        lookup::argument_mut(&mut self.entries, index)
     }
 }
