@@ -9,7 +9,7 @@ use Rattle.kdl_value.specs.Spelled.{spelled}
 use Rattle.kdl_value.specs.WellFormed.{IsWellFormed}
 use Rattle.kdl_entry.specs.Tree.{Identifier, EntryFormat, empty_format, Entry, cleared, entry_data}
 
--- an entry without format and spelling; its key and its type are of Unicode scalar values, and its value is such a one
+-- an entry without format and spelling; its key and its type are of Unicode scalar values, and its value is one that memory can hold
 pub record IsFormless (e : Entry) : Type 0 where
   pub plain : cleared e ≡ e
   pub key : IfSome e.name (λ i. list_all is_scalar i.value ≡ true)
