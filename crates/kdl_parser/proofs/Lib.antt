@@ -1,6 +1,7 @@
 pub mod Bridge
 pub mod Contents
 pub mod Counting
+pub mod Doing
 pub mod Held
 pub mod ItemTurns
 pub mod LineSpaces

@@ -165,6 +165,12 @@ Did o place (Ok x) st = option_map held o ≡ Some (held st)
 Did o place (Err (Faulty fault)) st = (o ≡ None) × IsFaultAt place fault
 Did o place (Err Memory) st = Unit {0}
 
+-- what a step did that is refused at no token, by the machine's state behind it
+abbrev pub Does : {A : Type 0} → State → Result A LexFailure → State → Type 0
+Does want (Ok x) st = st ≡ want
+Does want (Err (Faulty fault)) st = ⊥
+Does want (Err Memory) st = Unit {0}
+
 -- the second text is an end of the first
 abbrev pub EndsIn : Text → Text → Type 0
 EndsIn t s = (p : Text) × (t ≡ p ++ s)

@@ -135,6 +135,7 @@ impl<'a, N: ParsedNode> Builder<'a, N> {
     }
 
     /// A token between nodes.
+    #[tactic(auto, using(crate::proofs::Doing::does_did))]
     fn at_gap(
         &mut self,
         alloc: Global,
@@ -158,14 +159,15 @@ impl<'a, N: ParsedNode> Builder<'a, N> {
                 self.phase = Phase::Marked;
                 Ok(())
             },
-            TokenKind::String(name) => Ok(self.name_node(alloc, lexer, counts, name, start, end)?),
-            TokenKind::Left => Ok(self.open_name(alloc, lexer, counts, start, end)?),
+            TokenKind::String(name) => self.name_node(alloc, lexer, counts, name, start, end),
+            TokenKind::Left => self.open_name(alloc, lexer, counts, start, end),
             TokenKind::Closing => self.close(alloc, lexer, start, end),
             _ => Err(LexFailure::Faulty(misplaced(start))),
         }
     }
 
     /// A token behind `/-` between nodes.
+    #[tactic(auto, using(crate::proofs::Doing::does_did))]
     fn at_marked(
         &mut self,
         alloc: Global,
@@ -184,13 +186,14 @@ impl<'a, N: ParsedNode> Builder<'a, N> {
     {
         match kind {
             TokenKind::Space | TokenKind::Newline => Ok(()),
-            TokenKind::String(name) => Ok(self.name_node(alloc, lexer, false, name, start, end)?),
-            TokenKind::Left => Ok(self.open_name(alloc, lexer, false, start, end)?),
+            TokenKind::String(name) => self.name_node(alloc, lexer, false, name, start, end),
+            TokenKind::Left => self.open_name(alloc, lexer, false, start, end),
             _ => Err(LexFailure::Faulty(misplaced(start))),
         }
     }
 
     /// A token directly behind a name or an entry.
+    #[tactic(auto, using(crate::proofs::Doing::does_did, crate::proofs::Doing::none_sliced))]
     fn at_fresh(
         &mut self,
         alloc: Global,
@@ -212,18 +215,17 @@ impl<'a, N: ParsedNode> Builder<'a, N> {
                 self.phase = Phase::Spaced;
                 Ok(())
             },
-            TokenKind::Newline | TokenKind::Semicolon => Ok(self.end_node(
-                alloc, lexer, start, end,
-            )?),
+            TokenKind::Newline | TokenKind::Semicolon => self.end_node(alloc, lexer, start, end),
             TokenKind::Closing => self.close_node(alloc, lexer, start, end),
-            TokenKind::Opening => Ok(self.open_block(alloc, lexer, start, end)?),
-            TokenKind::Slashdash => Ok(self.mark(alloc)?),
+            TokenKind::Opening => self.open_block(alloc, lexer, start, end),
+            TokenKind::Slashdash => self.mark(alloc),
             TokenKind::Equals => self.open_property(alloc, lexer, start, end),
             _ => Err(LexFailure::Faulty(misplaced(start))),
         }
     }
 
     /// A token behind spaces in a node.
+    #[tactic(auto, using(crate::proofs::Doing::does_did, crate::proofs::Doing::none_sliced))]
     fn at_spaced(
         &mut self,
         alloc: Global,
@@ -242,23 +244,20 @@ impl<'a, N: ParsedNode> Builder<'a, N> {
     {
         match kind {
             TokenKind::Space => Ok(()),
-            TokenKind::Newline | TokenKind::Semicolon => Ok(self.end_node(
-                alloc, lexer, start, end,
-            )?),
+            TokenKind::Newline | TokenKind::Semicolon => self.end_node(alloc, lexer, start, end),
             TokenKind::Closing => self.close_node(alloc, lexer, start, end),
-            TokenKind::Opening => Ok(self.open_block(alloc, lexer, start, end)?),
-            TokenKind::Slashdash => Ok(self.mark(alloc)?),
+            TokenKind::Opening => self.open_block(alloc, lexer, start, end),
+            TokenKind::Slashdash => self.mark(alloc),
             TokenKind::Equals => self.open_property(alloc, lexer, start, end),
-            TokenKind::String(value) => Ok(self.wait(alloc, lexer, value, start, end)?),
-            TokenKind::Value(value) => Ok(self.add_argument(
-                alloc, lexer, true, value, start, end,
-            )?),
-            TokenKind::Left => Ok(self.open_value(alloc, lexer, true, start, end)?),
+            TokenKind::String(value) => self.wait(alloc, lexer, value, start, end),
+            TokenKind::Value(value) => self.add_argument(alloc, lexer, true, value, start, end),
+            TokenKind::Left => self.open_value(alloc, lexer, true, start, end),
             _ => Err(LexFailure::Faulty(misplaced(start))),
         }
     }
 
     /// A token behind a block that counts for nothing, before the node's own.
+    #[tactic(auto, using(crate::proofs::Doing::does_did))]
     fn at_later(
         &mut self,
         alloc: Global,
@@ -277,11 +276,9 @@ impl<'a, N: ParsedNode> Builder<'a, N> {
     {
         match kind {
             TokenKind::Space => Ok(()),
-            TokenKind::Newline | TokenKind::Semicolon => Ok(self.end_node(
-                alloc, lexer, start, end,
-            )?),
+            TokenKind::Newline | TokenKind::Semicolon => self.end_node(alloc, lexer, start, end),
             TokenKind::Closing => self.close_node(alloc, lexer, start, end),
-            TokenKind::Opening => Ok(self.open_block(alloc, lexer, start, end)?),
+            TokenKind::Opening => self.open_block(alloc, lexer, start, end),
             TokenKind::Slashdash => {
                 self.phase = Phase::BlockMark;
                 Ok(())
@@ -291,6 +288,7 @@ impl<'a, N: ParsedNode> Builder<'a, N> {
     }
 
     /// A token behind `/-`, where an entry or a block may follow.
+    #[tactic(auto, using(crate::proofs::Doing::does_did, crate::proofs::Doing::none_sliced))]
     fn at_entry_mark(
         &mut self,
         alloc: Global,
@@ -309,17 +307,16 @@ impl<'a, N: ParsedNode> Builder<'a, N> {
     {
         match kind {
             TokenKind::Space | TokenKind::Newline => Ok(()),
-            TokenKind::String(_) => Ok(self.wait_dropped(alloc)?),
-            TokenKind::Value(value) => Ok(self.add_argument(
-                alloc, lexer, false, value, start, end,
-            )?),
-            TokenKind::Left => Ok(self.open_value(alloc, lexer, false, start, end)?),
-            TokenKind::Opening => Ok(self.open_dropped(alloc)?),
+            TokenKind::String(_) => self.wait_dropped(alloc),
+            TokenKind::Value(value) => self.add_argument(alloc, lexer, false, value, start, end),
+            TokenKind::Left => self.open_value(alloc, lexer, false, start, end),
+            TokenKind::Opening => self.open_dropped(alloc),
             _ => Err(LexFailure::Faulty(misplaced(start))),
         }
     }
 
     /// A token behind `/-`, where a block may follow.
+    #[tactic(auto, using(crate::proofs::Doing::does_did, crate::proofs::Doing::none_sliced))]
     fn at_block_mark(
         &mut self,
         alloc: Global,
@@ -338,12 +335,13 @@ impl<'a, N: ParsedNode> Builder<'a, N> {
     {
         match kind {
             TokenKind::Space | TokenKind::Newline => Ok(()),
-            TokenKind::Opening => Ok(self.open_dropped(alloc)?),
+            TokenKind::Opening => self.open_dropped(alloc),
             _ => Err(LexFailure::Faulty(misplaced(start))),
         }
     }
 
     /// A token behind a node's block.
+    #[tactic(auto, using(crate::proofs::Doing::does_did))]
     fn at_behind(
         &mut self,
         alloc: Global,
@@ -362,9 +360,7 @@ impl<'a, N: ParsedNode> Builder<'a, N> {
     {
         match kind {
             TokenKind::Space => Ok(()),
-            TokenKind::Newline | TokenKind::Semicolon => Ok(self.end_kept(
-                alloc, lexer, start, end,
-            )?),
+            TokenKind::Newline | TokenKind::Semicolon => self.end_kept(alloc, lexer, start, end),
             TokenKind::Closing => self.close_kept(alloc, lexer, start, end),
             TokenKind::Slashdash => {
                 self.phase = Phase::BehindMark;
@@ -375,6 +371,7 @@ impl<'a, N: ParsedNode> Builder<'a, N> {
     }
 
     /// A token behind `/-`, where another block may follow.
+    #[tactic(auto, using(crate::proofs::Doing::does_did, crate::proofs::Doing::none_sliced))]
     fn at_behind_mark(
         &mut self,
         alloc: Global,
@@ -393,7 +390,7 @@ impl<'a, N: ParsedNode> Builder<'a, N> {
     {
         match kind {
             TokenKind::Space | TokenKind::Newline => Ok(()),
-            TokenKind::Opening => Ok(self.open_later()?),
+            TokenKind::Opening => self.open_later(),
             _ => Err(LexFailure::Faulty(misplaced(start))),
         }
     }
@@ -447,7 +444,7 @@ impl<'a, N: ParsedNode> Builder<'a, N> {
     }
 
     /// The document, where the text ends at the place.
-    #[tactic(auto, using(crate::proofs::Origins::between_none, crate::proofs::Origins::origin_ends, crate::proofs::ItemTurns::unfinished))]
+    #[tactic(auto, using(crate::proofs::Origins::between_none, crate::proofs::Origins::origin_ends, crate::proofs::ItemTurns::unfinished, crate::proofs::Doing::unfinished_for_memory))]
     fn finish_at(
         &mut self,
         alloc: Global,

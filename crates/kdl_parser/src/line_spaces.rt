@@ -29,8 +29,12 @@ fn line_spaces(alloc: Global, text: &str) -> Result<(), LexFailure>
     let mut lexer = Lexer::new(text, Steps::new());
     'tokens: while let Some(token) = lexer.next(alloc)? {
         if !is_line_space(&token.kind) {
-            return Err(LexFailure::Faulty(misplaced(&token.start)));
+            let fault = misplaced(&token.start);
+            // A call drops it in one step of the proof, the end of its scope in many.
+            drop(token);
+            return Err(LexFailure::Faulty(fault));
         }
+        drop(token);
     }
     Ok(())
 }

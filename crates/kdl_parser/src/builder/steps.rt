@@ -2,7 +2,7 @@
 
 ghost use Rattle.kdl_grammar.specs.Machine as machine;
 ghost use Rattle.kdl_grammar.specs.Machine.{at};
-ghost use Rattle.kdl_parser.specs.Building.{under_view, kept_view, nodes_view, node_now, frames_view, pending_now, name_slot, entry_slot, item_answer, state_view, held, Did};
+ghost use Rattle.kdl_parser.specs.Building.{under_view, kept_view, nodes_view, node_now, frames_view, pending_now, name_slot, entry_slot, item_answer, state_view, held, Did, Does};
 ghost use Rattle.kdl_parser.specs.Counted.{up_to, unsliced};
 ghost use Rattle.kdl_grammar.specs.Tree.{node, no_children};
 ghost use Rattle.kdl_entry.specs.Building.{type_view, key_view, item_view, Stays};
@@ -49,13 +49,13 @@ impl<'a, N: ParsedNode> Builder<'a, N> {
         lexer: &mut Lexer<'a>,
         start: &Checkpoint<'a>,
         end: &Checkpoint<'a>,
-    ) -> Result<(), AllocError>
+    ) -> Result<(), LexFailure>
         requires from { Ahead self.old.from start.now }
         requires token { Ahead start.now end.now }
-        ensures ended { OnOk result (state_view N.tree self.new ≡ at machine.gap (machine.ended (machine.closed self.old.whole.rest (node_now self.old) no_children [] (between self.old.from.rest start.now.rest) (between start.now.rest end.now.rest) start.now.rest) (nodes_view N.tree self.old.nodes)) (frames_view N.tree self.old) (machine.origin (node_now self.old) self.old.from.rest end.now.rest)) }
+        ensures ended { Does (at machine.gap (machine.ended (machine.closed self.old.whole.rest (node_now self.old) no_children [] (between self.old.from.rest start.now.rest) (between start.now.rest end.now.rest) start.now.rest) (nodes_view N.tree self.old.nodes)) (frames_view N.tree self.old) (machine.origin (node_now self.old) self.old.from.rest end.now.rest)) result (state_view N.tree self.new) }
         ensures whole { self.new.whole ≡ self.old.whole }
         ensures stays { Stays lexer.old lexer.new }
-        ensures sliced { OnOk result (Sliced (bytes self.old.from.rest) (bytes self.new.from.rest) lexer.old lexer.new) }
+        ensures sliced { OnOk result (Sliced (bytes self.old.from.rest) (unsliced self.new) lexer.old lexer.new) }
         ensures unsliced { OnOk result (unsliced self.new ≡ bytes self.new.from.rest) }
     {
         self.settle_word(alloc)?;
@@ -77,13 +77,13 @@ impl<'a, N: ParsedNode> Builder<'a, N> {
         lexer: &mut Lexer<'a>,
         start: &Checkpoint<'a>,
         end: &Checkpoint<'a>,
-    ) -> Result<(), AllocError>
+    ) -> Result<(), LexFailure>
         requires from { Ahead self.old.from start.now }
         requires token { Ahead start.now end.now }
-        ensures ended { OnOk result (state_view N.tree self.new ≡ at machine.gap (machine.ended (machine.closed_kept self.old.whole.rest (option_map (kept_view N.tree) self.old.kept) (between self.old.from.rest start.now.rest) (between start.now.rest end.now.rest) start.now.rest) (nodes_view N.tree self.old.nodes)) (frames_view N.tree self.old) (machine.origin (option_map (kept_view N.tree) self.old.kept) self.old.from.rest end.now.rest)) }
+        ensures ended { Does (at machine.gap (machine.ended (machine.closed_kept self.old.whole.rest (option_map (kept_view N.tree) self.old.kept) (between self.old.from.rest start.now.rest) (between start.now.rest end.now.rest) start.now.rest) (nodes_view N.tree self.old.nodes)) (frames_view N.tree self.old) (machine.origin (option_map (kept_view N.tree) self.old.kept) self.old.from.rest end.now.rest)) result (state_view N.tree self.new) }
         ensures whole { self.new.whole ≡ self.old.whole }
         ensures stays { Stays lexer.old lexer.new }
-        ensures sliced { OnOk result (Sliced (bytes self.old.from.rest) (bytes self.new.from.rest) lexer.old lexer.new) }
+        ensures sliced { OnOk result (Sliced (bytes self.old.from.rest) (unsliced self.new) lexer.old lexer.new) }
         ensures unsliced { OnOk result (unsliced self.new ≡ bytes self.new.from.rest) }
     {
         let counts = self.kept.is_some();
@@ -105,10 +105,10 @@ impl<'a, N: ParsedNode> Builder<'a, N> {
         lexer: &mut Lexer<'a>,
         start: &Checkpoint<'a>,
         end: &Checkpoint<'a>,
-    ) -> Result<(), AllocError>
+    ) -> Result<(), LexFailure>
         requires from { Ahead self.old.from start.now }
         requires token { Ahead start.now end.now }
-        ensures opened { OnOk result (held (state_view N.tree self.new) ≡ held (at machine.gap (machine.inside (node_now self.old)) (machine.in_block (node_now self.old) (between self.old.from.rest start.now.rest) (nodes_view N.tree self.old.nodes) ∷ frames_view N.tree self.old) (machine.origin (node_now self.old) self.old.from.rest end.now.rest))) }
+        ensures did { Did (Some (at machine.gap (machine.inside (node_now self.old)) (machine.in_block (node_now self.old) (between self.old.from.rest start.now.rest) (nodes_view N.tree self.old.nodes) ∷ frames_view N.tree self.old) (machine.origin (node_now self.old) self.old.from.rest end.now.rest))) start.now result (state_view N.tree self.new) }
         ensures whole { self.new.whole ≡ self.old.whole }
         ensures stays { Stays lexer.old lexer.new }
         ensures sliced { OnOk result (Sliced (bytes self.old.from.rest) (unsliced self.new) lexer.old lexer.new) }
@@ -130,8 +130,8 @@ impl<'a, N: ParsedNode> Builder<'a, N> {
 
     /// Opens a block that counts for nothing, before the node's own.
     #[tactic(auto, using(crate::proofs::Views::frame_pushed))]
-    pub(super) fn open_dropped(&mut self, alloc: Global) -> Result<(), AllocError>
-        ensures opened { OnOk result (state_view N.tree self.new ≡ at machine.gap None (machine.in_dropped (node_now self.old) (nodes_view N.tree self.old.nodes) ∷ frames_view N.tree self.old) self.old.from.rest) }
+    pub(super) fn open_dropped(&mut self, alloc: Global) -> Result<(), LexFailure>
+        ensures opened { Does (at machine.gap None (machine.in_dropped (node_now self.old) (nodes_view N.tree self.old.nodes) ∷ frames_view N.tree self.old) self.old.from.rest) result (state_view N.tree self.new) }
         ensures whole { self.new.whole ≡ self.old.whole }
         ensures unsliced { OnOk result (unsliced self.new ≡ bytes self.old.from.rest) }
     {
@@ -145,8 +145,8 @@ impl<'a, N: ParsedNode> Builder<'a, N> {
 
     /// Opens a block that counts for nothing, behind the node's own.
     #[tactic(auto, using(crate::proofs::Views::frame_pushed))]
-    pub(super) fn open_later(&mut self) -> Result<(), AllocError>
-        ensures opened { OnOk result (state_view N.tree self.new ≡ at machine.gap None (machine.in_later (option_map (kept_view N.tree) self.old.kept) (nodes_view N.tree self.old.nodes) ∷ frames_view N.tree self.old) self.old.from.rest) }
+    pub(super) fn open_later(&mut self) -> Result<(), LexFailure>
+        ensures opened { Does (at machine.gap None (machine.in_later (option_map (kept_view N.tree) self.old.kept) (nodes_view N.tree self.old.nodes) ∷ frames_view N.tree self.old) self.old.from.rest) result (state_view N.tree self.new) }
         ensures whole { self.new.whole ≡ self.old.whole }
         ensures unsliced { OnOk result (unsliced self.new ≡ bytes self.old.from.rest) }
     {
@@ -168,10 +168,10 @@ impl<'a, N: ParsedNode> Builder<'a, N> {
         nodes: Option<Vec<N>>,
         start: &Checkpoint<'a>,
         end: &Checkpoint<'a>,
-    ) -> Result<(), AllocError>
+    ) -> Result<(), LexFailure>
         requires from { Ahead self.old.from start.now }
         requires token { Ahead start.now end.now }
-        ensures closed { OnOk result (state_view N.tree self.new ≡ at (machine.kept (machine.with_block self.old.whole.rest (option_map under_view under.entry) (text_of before) (nodes_view N.tree self.old.nodes) (between self.old.from.rest start.now.rest) start.now.rest)) (nodes_view N.tree nodes) (frames_view N.tree self.old) (machine.origin (option_map under_view under.entry) self.old.from.rest end.now.rest)) }
+        ensures closed { Does (at (machine.kept (machine.with_block self.old.whole.rest (option_map under_view under.entry) (text_of before) (nodes_view N.tree self.old.nodes) (between self.old.from.rest start.now.rest) start.now.rest)) (nodes_view N.tree nodes) (frames_view N.tree self.old) (machine.origin (option_map under_view under.entry) self.old.from.rest end.now.rest)) result (state_view N.tree self.new) }
         ensures whole { self.new.whole ≡ self.old.whole }
         ensures stays { Stays lexer.old lexer.new }
         ensures sliced { OnOk result (Sliced (bytes self.old.from.rest) (unsliced self.new) lexer.old lexer.new) }
@@ -201,7 +201,7 @@ impl<'a, N: ParsedNode> Builder<'a, N> {
     }
 
     /// Goes back to the node around the block that ends here.
-    #[tactic(auto, using(crate::proofs::Views::frame_pushed))]
+    #[tactic(auto, using(crate::proofs::Views::frame_pushed, crate::proofs::Doing::does_did))]
     pub(super) fn close(
         &mut self,
         alloc: Global,
@@ -217,9 +217,9 @@ impl<'a, N: ParsedNode> Builder<'a, N> {
         ensures sliced { OnOk result (Sliced (bytes self.old.from.rest) (unsliced self.new) lexer.old lexer.new) }
     {
         match self.frames.pop() {
-            Some(Frame::Block(under, before, nodes)) => Ok(self.close_block(
+            Some(Frame::Block(under, before, nodes)) => self.close_block(
                 alloc, lexer, under, before, nodes, start, end,
-            )?),
+            ),
             Some(Frame::DroppedBlock(under, nodes)) => {
                 put(&mut self.under, under);
                 put(&mut self.waiting, Waiting::Nothing);
@@ -250,9 +250,9 @@ impl<'a, N: ParsedNode> Builder<'a, N> {
         value: KdlValue,
         start: &Checkpoint<'a>,
         end: &Checkpoint<'a>,
-    ) -> Result<(), AllocError>
+    ) -> Result<(), LexFailure>
         requires token { Ahead start.now end.now }
-        ensures named { OnOk result (state_view N.tree self.new ≡ machine.given self.old.whole.rest (name_slot kept (text_of leading) node_start.now.rest) (option_map type_view ty) (value_tree value) None (nodes_view N.tree self.old.nodes) (frames_view N.tree self.old) self.old.from.rest start.now.rest end.now.rest) }
+        ensures named { Does (machine.given self.old.whole.rest (name_slot kept (text_of leading) node_start.now.rest) (option_map type_view ty) (value_tree value) None (nodes_view N.tree self.old.nodes) (frames_view N.tree self.old) self.old.from.rest start.now.rest end.now.rest) result (state_view N.tree self.new) }
         ensures whole { self.new.whole ≡ self.old.whole }
         ensures stays { Stays lexer.old lexer.new }
         ensures sliced { OnOk result (Sliced (if kept then bytes start.now.rest else bytes self.old.from.rest) (unsliced self.new) lexer.old lexer.new) }
@@ -269,13 +269,14 @@ impl<'a, N: ParsedNode> Builder<'a, N> {
         self.from = end.copied();
         if let KdlValue::String(name) = value {
             let name = identifier_between(alloc, lexer, &self.whole, name, start, end)?;
-            self.under = Some(Under {
+            let under = Under {
                 leading,
                 start: node_start.copied(),
                 ty,
                 name,
                 entries: Vec::new(alloc),
-            });
+            };
+            put(&mut self.under, Some(under));
         }
         Ok(())
     }
@@ -294,9 +295,9 @@ impl<'a, N: ParsedNode> Builder<'a, N> {
         value: KdlValue,
         start: &Checkpoint<'a>,
         end: &Checkpoint<'a>,
-    ) -> Result<(), AllocError>
+    ) -> Result<(), LexFailure>
         requires token { Ahead start.now end.now }
-        ensures added { OnOk result (state_view N.tree self.new ≡ machine.given self.old.whole.rest (entry_slot kept (option_map under_view self.old.under) (text_of leading) entry_start.now.rest (option_map key_view key)) (option_map type_view ty) (value_tree value) None (nodes_view N.tree self.old.nodes) (frames_view N.tree self.old) self.old.from.rest start.now.rest end.now.rest) }
+        ensures added { Does (machine.given self.old.whole.rest (entry_slot kept (option_map under_view self.old.under) (text_of leading) entry_start.now.rest (option_map key_view key)) (option_map type_view ty) (value_tree value) None (nodes_view N.tree self.old.nodes) (frames_view N.tree self.old) self.old.from.rest start.now.rest end.now.rest) result (state_view N.tree self.new) }
         ensures whole { self.new.whole ≡ self.old.whole }
         ensures stays { Stays lexer.old lexer.new }
         ensures sliced { OnOk result (Sliced (if kept then up_to self.old.under (bytes self.old.from.rest) (bytes start.now.rest) else bytes self.old.from.rest) (unsliced self.new) lexer.old lexer.new) }
@@ -328,10 +329,10 @@ impl<'a, N: ParsedNode> Builder<'a, N> {
         value: String,
         start: &Checkpoint<'a>,
         end: &Checkpoint<'a>,
-    ) -> Result<(), AllocError>
+    ) -> Result<(), LexFailure>
         requires from { Ahead self.old.from start.now }
         requires token { Ahead start.now end.now }
-        ensures waits { OnOk result (held (state_view N.tree self.new) ≡ held (machine.worded self.old.whole.rest (machine.entry_slot (node_now self.old) (between self.old.from.rest start.now.rest) start.now.rest) (text_of value) (nodes_view N.tree self.old.nodes) (frames_view N.tree self.old) self.old.from.rest start.now.rest end.now.rest)) }
+        ensures did { Did (Some (machine.worded self.old.whole.rest (machine.entry_slot (node_now self.old) (between self.old.from.rest start.now.rest) start.now.rest) (text_of value) (nodes_view N.tree self.old.nodes) (frames_view N.tree self.old) self.old.from.rest start.now.rest end.now.rest)) start.now result (state_view N.tree self.new) }
         ensures whole { self.new.whole ≡ self.old.whole }
         ensures stays { Stays lexer.old lexer.new }
         ensures sliced { OnOk result (Sliced (bytes self.old.from.rest) (unsliced self.new) lexer.old lexer.new) }
@@ -339,17 +340,18 @@ impl<'a, N: ParsedNode> Builder<'a, N> {
         self.settle_word(alloc)?;
         self.phase = Phase::Fresh;
         if self.under.is_none() {
-            self.waiting = Waiting::Dropped;
+            put(&mut self.waiting, Waiting::Dropped);
             return Ok(());
         }
         let leading = text_between(alloc, lexer, &self.from, start)?;
         let repr = text_between(alloc, lexer, start, end)?;
-        self.waiting = Waiting::Word(WaitingWord {
+        let word = WaitingWord {
             leading,
             start: start.copied(),
             value,
             repr,
-        });
+        };
+        put(&mut self.waiting, Waiting::Word(word));
         self.from = end.copied();
         Ok(())
     }
@@ -378,6 +380,7 @@ impl<'a, N: ParsedNode> Builder<'a, N> {
             }
             Waiting::Word(word) => {
                 if self.under.is_none() {
+                    drop(word);
                     self.open_dropped_property(alloc, start, end);
                     return Ok(());
                 }
@@ -424,10 +427,10 @@ impl<'a, N: ParsedNode> Builder<'a, N> {
         counts: bool,
         start: &Checkpoint<'a>,
         end: &Checkpoint<'a>,
-    ) -> Result<(), AllocError>
+    ) -> Result<(), LexFailure>
         requires from { Ahead self.old.from start.now }
         requires token { Ahead start.now end.now }
-        ensures opened { OnOk result (state_view N.tree self.new ≡ at (machine.type_open false (name_slot counts (between self.old.from.rest start.now.rest) start.now.rest) end.now.rest) (nodes_view N.tree self.old.nodes) (frames_view N.tree self.old) self.old.from.rest) }
+        ensures opened { Does (at (machine.type_open false (name_slot counts (between self.old.from.rest start.now.rest) start.now.rest) end.now.rest) (nodes_view N.tree self.old.nodes) (frames_view N.tree self.old) self.old.from.rest) result (state_view N.tree self.new) }
         ensures whole { self.new.whole ≡ self.old.whole }
         ensures stays { Stays lexer.old lexer.new }
         ensures sliced { OnOk result (Sliced (bytes self.old.from.rest) (unsliced self.new) lexer.old lexer.new) }
@@ -451,10 +454,10 @@ impl<'a, N: ParsedNode> Builder<'a, N> {
         counts: bool,
         start: &Checkpoint<'a>,
         end: &Checkpoint<'a>,
-    ) -> Result<(), AllocError>
+    ) -> Result<(), LexFailure>
         requires from { Ahead self.old.from start.now }
         requires token { Ahead start.now end.now }
-        ensures opened { OnOk result (state_view N.tree self.new ≡ at (machine.type_open true (entry_slot counts (node_now self.old) (between self.old.from.rest start.now.rest) start.now.rest None) end.now.rest) (nodes_view N.tree self.old.nodes) (frames_view N.tree self.old) self.old.from.rest) }
+        ensures opened { Does (at (machine.type_open true (entry_slot counts (node_now self.old) (between self.old.from.rest start.now.rest) start.now.rest None) end.now.rest) (nodes_view N.tree self.old.nodes) (frames_view N.tree self.old) self.old.from.rest) result (state_view N.tree self.new) }
         ensures whole { self.new.whole ≡ self.old.whole }
         ensures stays { Stays lexer.old lexer.new }
         ensures sliced { OnOk result (Sliced (bytes self.old.from.rest) (unsliced self.new) lexer.old lexer.new) }
@@ -479,10 +482,10 @@ impl<'a, N: ParsedNode> Builder<'a, N> {
         value: KdlValue,
         start: &Checkpoint<'a>,
         end: &Checkpoint<'a>,
-    ) -> Result<(), AllocError>
+    ) -> Result<(), LexFailure>
         requires from { Ahead self.old.from start.now }
         requires token { Ahead start.now end.now }
-        ensures added { OnOk result (state_view N.tree self.new ≡ machine.given self.old.whole.rest (entry_slot counts (node_now self.old) (between self.old.from.rest start.now.rest) start.now.rest None) None (value_tree value) None (nodes_view N.tree self.old.nodes) (frames_view N.tree self.old) self.old.from.rest start.now.rest end.now.rest) }
+        ensures added { Does (machine.given self.old.whole.rest (entry_slot counts (node_now self.old) (between self.old.from.rest start.now.rest) start.now.rest None) None (value_tree value) None (nodes_view N.tree self.old.nodes) (frames_view N.tree self.old) self.old.from.rest start.now.rest end.now.rest) result (state_view N.tree self.new) }
         ensures whole { self.new.whole ≡ self.old.whole }
         ensures stays { Stays lexer.old lexer.new }
         ensures sliced { OnOk result (Sliced (bytes self.old.from.rest) (unsliced self.new) lexer.old lexer.new) }
@@ -494,13 +497,12 @@ impl<'a, N: ParsedNode> Builder<'a, N> {
                 alloc, lexer, true, leading, start, None, None, value, start, end,
             );
         }
-        self.waiting = Waiting::Nothing;
         self.phase = Phase::Fresh;
         Ok(())
     }
 
     /// A token inside a type, or behind the `=` of a property.
-    #[tactic(auto, using(crate::proofs::Counting::stays_entry, crate::proofs::Counting::item_went, crate::proofs::Counting::entry_given, crate::proofs::Counting::name_given))]
+    #[tactic(auto, using(crate::proofs::Counting::stays_entry, crate::proofs::Counting::item_went, crate::proofs::Counting::entry_given, crate::proofs::Counting::name_given, crate::proofs::Doing::does_did))]
     pub(super) fn at_item(
         &mut self,
         alloc: Global,
@@ -528,7 +530,7 @@ impl<'a, N: ParsedNode> Builder<'a, N> {
         let item_start = self.item.start.copied();
         let kept = self.item.kept;
         if entry {
-            return Ok(self.add_entry(
+            return self.add_entry(
                 alloc,
                 lexer,
                 kept,
@@ -539,10 +541,10 @@ impl<'a, N: ParsedNode> Builder<'a, N> {
                 value,
                 start,
                 end,
-            )?);
+            );
         }
         drop(key);
-        Ok(self.begin_node(
+        self.begin_node(
             alloc,
             lexer,
             kept,
@@ -552,7 +554,7 @@ impl<'a, N: ParsedNode> Builder<'a, N> {
             value,
             start,
             end,
-        )?)
+        )
     }
 
     /// A string that is a node's name.
@@ -564,10 +566,10 @@ impl<'a, N: ParsedNode> Builder<'a, N> {
         name: String,
         start: &Checkpoint<'a>,
         end: &Checkpoint<'a>,
-    ) -> Result<(), AllocError>
+    ) -> Result<(), LexFailure>
         requires from { Ahead self.old.from start.now }
         requires token { Ahead start.now end.now }
-        ensures named { OnOk result (state_view N.tree self.new ≡ machine.given self.old.whole.rest (name_slot counts (between self.old.from.rest start.now.rest) start.now.rest) None (text (text_of name)) None (nodes_view N.tree self.old.nodes) (frames_view N.tree self.old) self.old.from.rest start.now.rest end.now.rest) }
+        ensures named { Does (machine.given self.old.whole.rest (name_slot counts (between self.old.from.rest start.now.rest) start.now.rest) None (text (text_of name)) None (nodes_view N.tree self.old.nodes) (frames_view N.tree self.old) self.old.from.rest start.now.rest end.now.rest) result (state_view N.tree self.new) }
         ensures whole { self.new.whole ≡ self.old.whole }
         ensures stays { Stays lexer.old lexer.new }
         ensures sliced { OnOk result (Sliced (bytes self.old.from.rest) (unsliced self.new) lexer.old lexer.new) }
@@ -591,20 +593,20 @@ impl<'a, N: ParsedNode> Builder<'a, N> {
     }
 
     /// A string behind `/-`, which may be a key.
-    pub(super) fn wait_dropped(&mut self, alloc: Global) -> Result<(), AllocError>
-        ensures waits { OnOk result (state_view N.tree self.new ≡ at (machine.in_node (node_now self.old) (machine.fresh (Some (machine.pending (machine.no_value (node_now self.old)) (plain_identifier []) [])))) (nodes_view N.tree self.old.nodes) (frames_view N.tree self.old) self.old.from.rest) }
+    pub(super) fn wait_dropped(&mut self, alloc: Global) -> Result<(), LexFailure>
+        ensures waits { Does (at (machine.in_node (node_now self.old) (machine.fresh (Some (machine.pending (machine.no_value (node_now self.old)) (plain_identifier []) [])))) (nodes_view N.tree self.old.nodes) (frames_view N.tree self.old) self.old.from.rest) result (state_view N.tree self.new) }
         ensures whole { self.new.whole ≡ self.old.whole }
         ensures unsliced { OnOk result (unsliced self.new ≡ bytes self.old.from.rest) }
     {
         self.settle_word(alloc)?;
-        self.waiting = Waiting::Dropped;
+        put(&mut self.waiting, Waiting::Dropped);
         self.phase = Phase::Fresh;
         Ok(())
     }
 
     /// `/-` in a node, before its block.
-    pub(super) fn mark(&mut self, alloc: Global) -> Result<(), AllocError>
-        ensures marked { OnOk result (state_view N.tree self.new ≡ at (machine.entry_mark (node_now self.old)) (nodes_view N.tree self.old.nodes) (frames_view N.tree self.old) self.old.from.rest) }
+    pub(super) fn mark(&mut self, alloc: Global) -> Result<(), LexFailure>
+        ensures marked { Does (at (machine.entry_mark (node_now self.old)) (nodes_view N.tree self.old.nodes) (frames_view N.tree self.old) self.old.from.rest) result (state_view N.tree self.new) }
         ensures whole { self.new.whole ≡ self.old.whole }
         ensures unsliced { OnOk result (unsliced self.new ≡ bytes self.old.from.rest) }
     {
@@ -614,7 +616,7 @@ impl<'a, N: ParsedNode> Builder<'a, N> {
     }
 
     /// The `}` behind a node without a block.
-    #[tactic(auto, using(crate::proofs::Origins::between_none, crate::proofs::Origins::origin_ends))]
+    #[tactic(auto, using(crate::proofs::Origins::between_none, crate::proofs::Origins::origin_ends, crate::proofs::Doing::failed))]
     pub(super) fn close_node(
         &mut self,
         alloc: Global,
@@ -634,7 +636,7 @@ impl<'a, N: ParsedNode> Builder<'a, N> {
     }
 
     /// The `}` behind a node with a block.
-    #[tactic(auto, using(crate::proofs::Origins::between_none, crate::proofs::Origins::origin_ends))]
+    #[tactic(auto, using(crate::proofs::Origins::between_none, crate::proofs::Origins::origin_ends, crate::proofs::Doing::failed))]
     pub(super) fn close_kept(
         &mut self,
         alloc: Global,
