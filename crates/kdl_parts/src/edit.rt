@@ -3,12 +3,16 @@
 ghost use Rattle.kdl_parts.specs.Edits.{IsInserted, put_before, put_for, removed, replaced_place, under};
 ghost use Rattle.kdl_parts.specs.EntryLists.{property, removed_place, sought, there};
 ghost use Rattle.kdl_entry.specs.Tree.{cleared, entry_tree, identifier_tree};
+ghost use Rattle.std.specs.Fn.{CalledAt};
+ghost use Rattle.std.specs.List.Retain.{IsFiltered};
+ghost use Rattle.std.specs.List.Sorted.{IsPermutation, IsSortedByClosure, IsSortedByKeyClosure, IsStableByClosure, IsStableByKeyClosure};
 ghost use Rattle.std.specs.Prelude.{◌≡◌, ◌<◌, ◌≤◌, ◌+◌, [], ◌∷◌, ◌++◌, if◌then◌else◌, IfErr, IfOk, IfSome, IsSome, IsOk, OnErr, OnOk, None, Some, drop, is_ok, length, map, slice_get, take};
 
 use crate::key::NodeKey;
 use crate::places::{place, place_to_remove};
 use kdl_entry::{KdlEntry, KdlIdentifier};
 use std::alloc::AllocError;
+use std::cmp::Ordering;
 use std::mem;
 
 /// Puts the entry behind the others. Fails where memory is wanting: then the entry comes back, and the entries are as
@@ -59,6 +63,51 @@ pub fn remove(entries: &mut Vec<KdlEntry>, key: NodeKey) -> Option<KdlEntry>
         Some(at) => Some(remove_at(entries, at)),
         None => None,
     }
+}
+
+/// Drops all entries.
+pub fn clear(entries: &mut Vec<KdlEntry>)
+    ensures { entries.new.items ≡ [] }
+{
+    entries.clear();
+}
+
+/// Keeps, in order, the entries for which `keep` answers true. It is asked once for each entry, in order.
+pub fn retain<F: FnMut(&KdlEntry) -> bool>(entries: &mut Vec<KdlEntry>, keep: F)
+    requires { F.IsAlwaysCallable keep }
+    ensures { IsFiltered (CalledAt F.FnMut) keep entries.old.items entries.new.items }
+{
+    entries.retain(keep);
+}
+
+/// Sorts the entries by `compare`, a total preorder; entries that compare as equal keep their order. Fails where memory
+/// is wanting: then the entries are in some order.
+pub fn sort_by<F: FnMut(&KdlEntry, &KdlEntry) -> Ordering>(
+    entries: &mut Vec<KdlEntry>,
+    compare: F,
+) -> Result<(), AllocError>
+    requires { F.IsAlwaysCallable compare }
+    ensures permutation { IsPermutation entries.old.items entries.new.items }
+    ensures sorted { OnOk result (IsSortedByClosure F.FnMut compare entries.new.items) }
+    ensures stable { IsStableByClosure F.FnMut compare entries.old.items entries.new.items }
+{
+    entries.sort_by(compare)
+}
+
+/// Sorts the entries by the key that `f` gives of each; entries with equal keys keep their order. Fails where memory is
+/// wanting: then the entries are in some order.
+pub fn sort_by_key<K: Ord, F: FnMut(&KdlEntry) -> K>(
+    entries: &mut Vec<KdlEntry>,
+    f: F,
+) -> Result<(), AllocError>
+where
+    K: Drop,
+    requires { F.IsAlwaysCallable f }
+    ensures permutation { IsPermutation entries.old.items entries.new.items }
+    ensures sorted { OnOk result (IsSortedByKeyClosure F.FnMut K.cmp f entries.new.items) }
+    ensures stable { IsStableByKeyClosure F.FnMut K.cmp f entries.old.items entries.new.items }
+{
+    entries.sort_by_key(f)
 }
 
 /// Drops the formats and spellings of the entries.

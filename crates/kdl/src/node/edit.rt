@@ -50,7 +50,7 @@ impl KdlNode {
         ensures items { (out-KdlNode self.new).entries.items ≡ [] }
         ensures rest { self.new ≡ with_entries self.old (out-KdlNode self.new).entries }
     {
-        self.entries.clear();
+        edit::clear(&mut self.entries);
     }
 
     /// Puts the entry behind the others. Fails where memory is wanting: then the entry comes back, and the node is as
@@ -109,7 +109,7 @@ impl KdlNode {
         ensures items { IsFiltered (CalledAt F.FnMut) keep (out-KdlNode self.old).entries.items (out-KdlNode self.new).entries.items }
         ensures rest { self.new ≡ with_entries self.old (out-KdlNode self.new).entries }
     {
-        self.entries.retain(keep);
+        edit::retain(&mut self.entries, keep);
     }
 
     /// Sorts the entries by `compare`, a total preorder; entries that compare as equal keep their order. Fails where
@@ -124,7 +124,7 @@ impl KdlNode {
         ensures stable { IsStableByClosure F.FnMut compare (out-KdlNode self.old).entries.items (out-KdlNode self.new).entries.items }
         ensures rest { self.new ≡ with_entries self.old (out-KdlNode self.new).entries }
     {
-        self.entries.sort_by(compare)
+        edit::sort_by(&mut self.entries, compare)
     }
 
     /// Sorts the entries by the key that `f` gives of each; entries with equal keys keep their order. Fails where
@@ -138,6 +138,6 @@ impl KdlNode {
         ensures stable { IsStableByKeyClosure F.FnMut K.cmp f (out-KdlNode self.old).entries.items (out-KdlNode self.new).entries.items }
         ensures rest { self.new ≡ with_entries self.old (out-KdlNode self.new).entries }
     {
-        self.entries.sort_by_key(f)
+        edit::sort_by_key(&mut self.entries, f)
     }
 }
