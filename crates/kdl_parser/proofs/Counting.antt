@@ -1,5 +1,5 @@
 -- What the turns of the loop over the tokens take, and what an item takes.
-use Rattle.std.proofs.Common.{◌≡◌, ℕ, ◌+◌, ◌*◌, ◌≤◌, length, [], ◌++◌, if◌then◌else◌, Bool, true, false, Option, Some, None, is_some, refl, ap, sym, ◌∙◌, arith, length-append}
+use Rattle.std.proofs.Common.{◌≡◌, ℕ, ◌+◌, ◌*◌, ◌≤◌, length, [], ◌++◌, if◌then◌else◌, Bool, true, false, Option, Some, None, Result, Ok, Err, OnOk, is_some, refl, ap, sym, ◌∙◌, arith, length-append}
 use Rattle.kdl_text.specs.Chars.{Text}
 use Rattle.kdl_text.specs.Here.{Here, Spot, Ahead, bytes, raise}
 use Rattle.kdl_text.specs.Reading.{Moves, Costs}
@@ -121,6 +121,17 @@ pub name_given : {A : Type 0} (p : Phase) (kept kept' entry : Bool) (o : Option 
 name_given p kept kept' entry o from item there n a b c e f g x y =
     let y' : Sliced (if kept then there else from) n b c = rw f at y in
     rw (e, g) (name_sliced kept o from item there n a b c x y')
+
+-- the same where it may fail
+pub on_entry_given : {A X E : Type 0} (result : Result X E) (p : Phase) (kept kept' entry : Bool) (o : Option A) (from item there n : ℕ) (a b c : Here) → p ≡ InItem → kept' ≡ kept → entry ≡ true → Sliced item (if kept then there else item) a b
+    → OnOk result (Sliced (if kept' then up_to o from there else from) n b c) → OnOk result (Sliced (unsliced_at p kept entry o from item) n a c)
+on_entry_given (Ok x) p kept kept' entry o from item there n a b c e f g x' y = entry_given p kept kept' entry o from item there n a b c e f g x' y
+on_entry_given (Err x) p kept kept' entry o from item there n a b c e f g x' y = tt
+
+pub on_name_given : {A X E : Type 0} (result : Result X E) (p : Phase) (kept kept' entry : Bool) (o : Option A) (from item there n : ℕ) (a b c : Here) → p ≡ InItem → kept' ≡ kept → entry ≡ false → Sliced item (if kept then there else item) a b
+    → OnOk result (Sliced (if kept' then there else from) n b c) → OnOk result (Sliced (unsliced_at p kept entry o from item) n a c)
+on_name_given (Ok x) p kept kept' entry o from item there n a b c e f g x' y = name_given p kept kept' entry o from item there n a b c e f g x' y
+on_name_given (Err x) p kept kept' entry o from item there n a b c e f g x' y = tt
 
 -- behind what was sliced or not, where nothing more is sliced
 pub begun : (kept : Bool) (from : ℕ) (start end place : Spot) (a : Here) → kept ≡ true → Ahead start end → place ≡ end → Sliced (if kept then bytes start.rest else from) (bytes place.rest) a a

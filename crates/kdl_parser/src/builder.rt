@@ -90,6 +90,14 @@ struct WaitingWord<'a> {
     repr: String,
 }
 
+/// Where a name or an entry begins, and whether it counts. Of what doesn't no text is held.
+#[derive(Drop)]
+struct Slot<'a> {
+    kept: bool,
+    leading: String,
+    start: Checkpoint<'a>,
+}
+
 /// Whether a string waits that may be a key.
 #[derive(Drop)]
 enum Waiting<'a> {

@@ -8,21 +8,22 @@ ghost use Rattle.kdl_grammar.specs.Laid as laid;
 ghost use Rattle.kdl_grammar.specs.Laid.{node_format};
 ghost use Rattle.kdl_grammar.specs.Tree.{node, no_children, children_of};
 ghost use Rattle.kdl_parser.specs.Parts.{nodes_tree, document_by};
-ghost use Rattle.kdl_entry.specs.Building.{type_view, item_view, Stays};
+ghost use Rattle.kdl_entry.specs.Building.{key_view, type_view, item_view, Stays};
 ghost use Rattle.kdl_entry.specs.Counted.{Sliced};
 ghost use Rattle.kdl_entry.specs.Items as items;
-ghost use Rattle.kdl_entry.specs.Items.{between, type_of, before_name, after_name, behind_type};
-ghost use Rattle.kdl_value.specs.Tree.{text_of};
+ghost use Rattle.kdl_entry.specs.Items.{between, entry_at, type_of, before_name, after_name, behind_type};
+ghost use Rattle.kdl_entry.specs.Places.{span_of};
+ghost use Rattle.kdl_value.specs.Tree.{value_tree, text_of};
 ghost use Rattle.kdl_entry.specs.Tree.{identifier_tree, entry_tree};
 ghost use Rattle.kdl_text.specs.Here.{Ahead, bytes};
 ghost use Rattle.kdl_parser.specs.declared.builder.Waiting.{Waiting};
 ghost use Rattle.std.specs.Prelude.{◌≡◌, [], ◌∷◌, ◌++◌, map, Some, None, true, IfOk, OnOk, option_map};
 
-use super::{Kept, Under, Waiting, WaitingWord};
+use super::{Kept, Slot, Under, Waiting, WaitingWord};
 use crate::parts::{DocumentParts, NodeParts, ParsedNode};
-use kdl_entry::KdlValue;
 use kdl_entry::items::Lexer;
-use kdl_entry::items::item::{Item, Stage, TypeParts, empty, entry_from, span_at, text_between};
+use kdl_entry::items::item::{Given, Item, Stage, empty, entry_from, span_at, text_between};
+use kdl_entry::{KdlEntry, KdlValue};
 use kdl_text::chars::Checkpoint;
 use kdl_text::span::SourceSpan;
 use std::alloc::{AllocError, Global};
@@ -79,6 +80,34 @@ pub(super) fn settle<'a>(
         add(&mut under.entries, entry)?;
     }
     Ok(())
+}
+
+/// An entry, whose value stands between two places.
+pub(super) fn entry_between<'a>(
+    alloc: Global,
+    lexer: &mut Lexer<'a>,
+    whole: &Checkpoint<'a>,
+    slot: Slot<'a>,
+    given: Given,
+    start: &Checkpoint<'a>,
+    end: &Checkpoint<'a>,
+) -> Result<KdlEntry, AllocError>
+    requires { Ahead start.now end.now }
+    ensures is { IfOk result (λ e. entry_tree e ≡ entry_at (span_of whole.now.rest slot.entry.start.rest end.now.rest) (text_of slot.entry.leading) (option_map key_view given.key) (option_map type_view given.ty) (value_tree given.value) (between start.now.rest end.now.rest)) }
+    ensures stays { Stays lexer.old lexer.new }
+    ensures sliced { Sliced (bytes start.now.rest) (bytes end.now.rest) lexer.old lexer.new }
+{
+    let repr = match text_between(alloc, lexer, start, end) {
+        Ok(repr) => repr,
+        Err(e) => {
+            drop(slot);
+            drop(given);
+            return Err(e);
+        }
+    };
+    let span = span_at(whole, &slot.start, end);
+    let Given { key, ty, value } = given;
+    Ok(entry_from(alloc, span, slot.leading, key, ty, value, repr))
 }
 
 /// The node of what stands under way, its block and the texts behind its entries.
@@ -269,18 +298,43 @@ pub(super) fn with_block<'a, N: ParsedNode>(
     ensures sliced { OnOk result (Sliced (bytes from.now.rest) (up_to under.entry (bytes from.now.rest) (bytes start.now.rest)) lexer.old lexer.new) }
 {
     let Some(under) = under else {
+        drop(before);
+        drop(nodes);
         return Ok(None);
     };
     let Some(nodes) = nodes else {
+        drop(under);
+        drop(before);
         return Ok(None);
     };
-    let place = text_between(alloc, lexer, from, start)?;
+    let place = match text_between(alloc, lexer, from, start) {
+        Ok(place) => place,
+        Err(e) => {
+            drop(under);
+            drop(before);
+            drop(nodes);
+            return Err(e);
+        }
+    };
     let block = content(alloc, whole, nodes, place, start);
     Ok(Some(Kept {
         under,
         before,
         block,
     }))
+}
+
+/// A value alone, without a type or a key.
+pub(super) fn lone(value: KdlValue) -> Given
+    ensures key { result.key ≡ None }
+    ensures ty { result.ty ≡ None }
+    ensures value { result.value ≡ value }
+{
+    Given {
+        key: None,
+        ty: None,
+        value,
+    }
 }
 
 /// Whether the item is an entry, and not the name of a node.

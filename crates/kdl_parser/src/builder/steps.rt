@@ -18,13 +18,12 @@ ghost use Rattle.kdl_parser.specs.declared.builder.Phase.{Phase};
 ghost use Rattle.kdl_parser.specs.declared.builder.Waiting.{Waiting};
 ghost use Rattle.std.specs.Prelude.{◌≡◌, if◌then◌else◌, [], ◌∷◌, Some, None, true, false, OnOk, option_map};
 
-use super::content::{add, ended_kept, ended_node, is_entry, push_node, put, settle, with_block};
-use super::{Builder, Frame, Phase, Under, Waiting, WaitingWord};
-use crate::parts::ParsedNode;
-use kdl_entry::items::item::{
-    Given, KeyParts, TypeParts, empty, entry_from, identifier_between, misplaced, span_at,
-    text_between,
+use super::content::{
+    add, ended_kept, ended_node, entry_between, is_entry, lone, push_node, put, settle, with_block,
 };
+use super::{Builder, Frame, Phase, Slot, Under, Waiting, WaitingWord};
+use crate::parts::ParsedNode;
+use kdl_entry::items::item::{Given, empty, identifier_between, misplaced, span_at, text_between};
 use kdl_entry::items::{LexFailure, Lexer, TokenKind};
 use kdl_entry::{KdlIdentifier, KdlValue};
 use kdl_text::chars::Checkpoint;
@@ -243,35 +242,38 @@ impl<'a, N: ParsedNode> Builder<'a, N> {
         &mut self,
         alloc: Global,
         lexer: &mut Lexer<'a>,
-        kept: bool,
-        leading: String,
-        node_start: &Checkpoint<'a>,
-        ty: Option<TypeParts>,
-        value: KdlValue,
+        slot: Slot<'a>,
+        given: Given,
         start: &Checkpoint<'a>,
         end: &Checkpoint<'a>,
     ) -> Result<(), LexFailure>
         requires token { Ahead start.now end.now }
-        ensures named { Does (machine.given self.old.whole.rest (name_slot kept (text_of leading) node_start.now.rest) (option_map type_view ty) (value_tree value) None (nodes_view N.tree self.old.nodes) (frames_view N.tree self.old) self.old.from.rest start.now.rest end.now.rest) result (state_view N.tree self.new) }
+        ensures named { Does (machine.given self.old.whole.rest (name_slot slot.entry.kept (text_of slot.entry.leading) slot.entry.start.rest) (option_map type_view given.ty) (value_tree given.value) None (nodes_view N.tree self.old.nodes) (frames_view N.tree self.old) self.old.from.rest start.now.rest end.now.rest) result (state_view N.tree self.new) }
         ensures whole { self.new.whole ≡ self.old.whole }
         ensures stays { Stays lexer.old lexer.new }
-        ensures sliced { OnOk result (Sliced (if kept then bytes start.now.rest else bytes self.old.from.rest) (unsliced self.new) lexer.old lexer.new) }
+        ensures sliced { OnOk result (Sliced (if slot.entry.kept then bytes start.now.rest else bytes self.old.from.rest) (unsliced self.new) lexer.old lexer.new) }
     {
         put(&mut self.waiting, Waiting::Nothing);
         self.phase = Phase::Fresh;
         put(&mut self.under, None);
-        if !kept {
-            drop(leading);
-            drop(ty);
-            drop(value);
+        if !slot.kept {
+            drop(slot);
+            drop(given);
             return Ok(());
         }
         self.from = end.copied();
+        let Slot {
+            leading,
+            start: node_start,
+            ..
+        } = slot;
+        let Given { key, ty, value } = given;
+        drop(key);
         if let KdlValue::String(name) = value {
             let name = identifier_between(alloc, lexer, &self.whole, name, start, end)?;
             let under = Under {
                 leading,
-                start: node_start.copied(),
+                start: node_start,
                 ty,
                 name,
                 entries: Vec::new(alloc),
@@ -287,37 +289,32 @@ impl<'a, N: ParsedNode> Builder<'a, N> {
         &mut self,
         alloc: Global,
         lexer: &mut Lexer<'a>,
-        kept: bool,
-        leading: String,
-        entry_start: &Checkpoint<'a>,
-        key: Option<KeyParts>,
-        ty: Option<TypeParts>,
-        value: KdlValue,
+        slot: Slot<'a>,
+        given: Given,
         start: &Checkpoint<'a>,
         end: &Checkpoint<'a>,
     ) -> Result<(), LexFailure>
         requires token { Ahead start.now end.now }
-        ensures added { Does (machine.given self.old.whole.rest (entry_slot kept (option_map under_view self.old.under) (text_of leading) entry_start.now.rest (option_map key_view key)) (option_map type_view ty) (value_tree value) None (nodes_view N.tree self.old.nodes) (frames_view N.tree self.old) self.old.from.rest start.now.rest end.now.rest) result (state_view N.tree self.new) }
+        ensures added { Does (machine.given self.old.whole.rest (entry_slot slot.entry.kept (option_map under_view self.old.under) (text_of slot.entry.leading) slot.entry.start.rest (option_map key_view given.key)) (option_map type_view given.ty) (value_tree given.value) None (nodes_view N.tree self.old.nodes) (frames_view N.tree self.old) self.old.from.rest start.now.rest end.now.rest) result (state_view N.tree self.new) }
         ensures whole { self.new.whole ≡ self.old.whole }
         ensures stays { Stays lexer.old lexer.new }
-        ensures sliced { OnOk result (Sliced (if kept then up_to self.old.under (bytes self.old.from.rest) (bytes start.now.rest) else bytes self.old.from.rest) (unsliced self.new) lexer.old lexer.new) }
+        ensures sliced { OnOk result (Sliced (if slot.entry.kept then up_to self.old.under (bytes self.old.from.rest) (bytes start.now.rest) else bytes self.old.from.rest) (unsliced self.new) lexer.old lexer.new) }
     {
         put(&mut self.waiting, Waiting::Nothing);
         self.phase = Phase::Fresh;
-        if !kept {
-            drop(leading);
-            drop(key);
-            drop(ty);
-            drop(value);
+        if !slot.kept {
+            drop(slot);
+            drop(given);
             return Ok(());
         }
         if let Some(under) = &mut self.under {
-            let repr = text_between(alloc, lexer, start, end)?;
-            let span = span_at(&self.whole, entry_start, end);
-            let entry = entry_from(alloc, span, leading, key, ty, value, repr);
+            let entry = entry_between(alloc, lexer, &self.whole, slot, given, start, end)?;
             add(&mut under.entries, entry)?;
             self.from = end.copied();
+            return Ok(());
         }
+        drop(slot);
+        drop(given);
         Ok(())
     }
 
@@ -493,16 +490,19 @@ impl<'a, N: ParsedNode> Builder<'a, N> {
         self.settle_word(alloc)?;
         if counts && self.under.is_some() {
             let leading = text_between(alloc, lexer, &self.from, start)?;
-            return self.add_entry(
-                alloc, lexer, true, leading, start, None, None, value, start, end,
-            );
+            let slot = Slot {
+                kept: true,
+                leading,
+                start: start.copied(),
+            };
+            return self.add_entry(alloc, lexer, slot, lone(value), start, end);
         }
         self.phase = Phase::Fresh;
         Ok(())
     }
 
     /// A token inside a type, or behind the `=` of a property.
-    #[tactic(auto, using(crate::proofs::Counting::stays_entry, crate::proofs::Counting::item_went, crate::proofs::Counting::entry_given, crate::proofs::Counting::name_given, crate::proofs::Doing::does_did))]
+    #[tactic(auto, using(crate::proofs::Counting::stays_entry, crate::proofs::Counting::item_went, crate::proofs::Counting::on_entry_given, crate::proofs::Counting::on_name_given, crate::proofs::Doing::does_did))]
     pub(super) fn at_item(
         &mut self,
         alloc: Global,
@@ -520,41 +520,18 @@ impl<'a, N: ParsedNode> Builder<'a, N> {
         ensures sliced { OnOk result (Sliced (unsliced self.old) (unsliced self.new) lexer.old lexer.new) }
     {
         let entry = is_entry(&self.item);
-        let Some(Given { key, ty, value }) = self
-            .item
-            .take(alloc, lexer, &self.whole, kind, start, end)?
-        else {
+        let Some(given) = self.item.take(alloc, lexer, &self.whole, kind, start, end)? else {
             return Ok(());
         };
-        let leading = mem::replace(&mut self.item.leading, empty(alloc));
-        let item_start = self.item.start.copied();
-        let kept = self.item.kept;
+        let slot = Slot {
+            kept: self.item.kept,
+            leading: mem::replace(&mut self.item.leading, empty(alloc)),
+            start: self.item.start.copied(),
+        };
         if entry {
-            return self.add_entry(
-                alloc,
-                lexer,
-                kept,
-                leading,
-                &item_start,
-                key,
-                ty,
-                value,
-                start,
-                end,
-            );
+            return self.add_entry(alloc, lexer, slot, given, start, end);
         }
-        drop(key);
-        self.begin_node(
-            alloc,
-            lexer,
-            kept,
-            leading,
-            &item_start,
-            ty,
-            value,
-            start,
-            end,
-        )
+        self.begin_node(alloc, lexer, slot, given, start, end)
     }
 
     /// A string that is a node's name.
@@ -574,22 +551,23 @@ impl<'a, N: ParsedNode> Builder<'a, N> {
         ensures stays { Stays lexer.old lexer.new }
         ensures sliced { OnOk result (Sliced (bytes self.old.from.rest) (unsliced self.new) lexer.old lexer.new) }
     {
-        let value = KdlValue::String(name);
         if counts {
             let leading = text_between(alloc, lexer, &self.from, start)?;
-            return self.begin_node(alloc, lexer, true, leading, start, None, value, start, end);
+            let slot = Slot {
+                kept: true,
+                leading,
+                start: start.copied(),
+            };
+            let given = lone(KdlValue::String(name));
+            return self.begin_node(alloc, lexer, slot, given, start, end);
         }
-        self.begin_node(
-            alloc,
-            lexer,
-            false,
-            empty(alloc),
-            start,
-            None,
-            value,
-            start,
-            end,
-        )
+        let slot = Slot {
+            kept: false,
+            leading: empty(alloc),
+            start: start.copied(),
+        };
+        let given = lone(KdlValue::String(name));
+        self.begin_node(alloc, lexer, slot, given, start, end)
     }
 
     /// A string behind `/-`, which may be a key.

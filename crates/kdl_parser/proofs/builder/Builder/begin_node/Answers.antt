@@ -2,4 +2,4 @@ use Rattle.kdl_parser.proofs.Counting.{begun}
 use Rattle.kdl_parser.proofs.builder.Builder.begin_node.Goals as goal
 
 pub returns-in_default-clause-sliced : goal.returns-in_default-clause-sliced
-returns-in_default-clause-sliced g c = begun c.args.kept _ c.args.start.now c.args.end.now c.copied-self.result c.args.lexer.now c.if-not-kept.false c.requires.token c.copied-self.ensures
+returns-in_default-clause-sliced g c = begun c.args.slot.kept _ c.args.start.now c.args.end.now c.copied-self.result c.args.lexer.now c.if-not-slot.false c.requires.token c.copied-self.ensures
