@@ -36,7 +36,10 @@ fn sets(
 ) {
     let key = NodeKey::Key(identifier(rt, alloc, name));
     match node.insert(key, KdlEntry::new(value)) {
-        Ok(old) => old_prints(rt, alloc, old.as_ref(), text),
+        Ok(old) => {
+            old_prints(rt, alloc, old.as_ref(), text);
+            drop(old);
+        }
         Err(_) => panic!(rt; "memory"),
     }
 }
@@ -45,6 +48,7 @@ fn sets(
 fn takes(rt: &impl Abort, alloc: Global, node: &mut KdlNode, name: &str, text: &str) {
     let old = node.remove(NodeKey::Key(identifier(rt, alloc, name)));
     old_prints(rt, alloc, old.as_ref(), text);
+    drop(old);
 }
 
 /// Puts an argument behind the other entries.
@@ -66,10 +70,9 @@ fn add_property(rt: &impl Abort, alloc: Global, node: &mut KdlNode, name: &str, 
 
 /// Puts the value before all arguments.
 fn add_first(rt: &impl Abort, node: &mut KdlNode, value: KdlValue) {
-    match insert_first(node, value) {
-        Ok(_) => (),
-        Err(_) => panic!(rt; "memory"),
-    }
+    let inserted = insert_first(node, value);
+    holds(rt, inserted.is_ok(), "memory");
+    drop(inserted);
 }
 
 /// Puts the value before the argument at the index, a place that is there.
@@ -147,7 +150,9 @@ fn sets_typed(
 ) {
     let key = identifier(rt, alloc, name);
     let ty = KdlIdentifier::from_text(alloc, ty).expect(rt, "memory");
-    holds(rt, set_typed(node, key, ty, value).is_ok(), name);
+    let inserted = set_typed(node, key, ty, value);
+    holds(rt, inserted.is_ok(), "memory");
+    drop(inserted);
 }
 
 #[test]
