@@ -1,31 +1,31 @@
 //! Nodes that are a whole text: what is read, what is refused and where, and that a node prints its text.
 
 use crate::reading::{
-    around_block, block, ends, expects_the_end, fill, has_around_block, has_ends, has_margins,
-    has_node_type_places, has_places, is_called, is_range, lone_diagnostic, lone_entry, lone_node,
-    range,
+    self, block, equal, expects_the_end, fill, has_around_block, has_ends, has_margins,
+    has_node_type_places, has_places, holds, is_called, is_range, is_whole, lone_diagnostic,
+    lone_entry, lone_node, says, two_entries,
 };
 use conformance_text::characters::NEWLINES;
-use kdl::{KdlDocument, KdlError, KdlNode, ParseFailure, SourceSpan};
+use kdl::{KdlError, KdlNode, ParseFailure, SourceSpan};
 use std::alloc::Global;
 use std::process::Abort;
 
 /// The node of a text, which prints it, and whose span it is.
 fn read(rt: &impl Abort, alloc: Global, text: &str) -> KdlNode {
-    let node = match KdlNode::parse(alloc, text) {
-        Ok(node) => node,
-        Err(ParseFailure::Memory) => panic!(rt; "{text:?} wants memory"),
-        Err(ParseFailure::Syntax(_)) => panic!(rt; "{text:?} is refused"),
-    };
-    prints(rt, alloc, &node, text);
-    is_range(rt, node.span(), 0, text.len());
-    node
+    match KdlNode::parse(alloc, text) {
+        Ok(node) => {
+            prints(rt, alloc, &node, text);
+            is_range(rt, node.span(), 0, text.len());
+            node
+        }
+        Err(failure) => panic!(rt; "{text:?}: {failure}"),
+    }
 }
 
 /// The node prints this text.
 fn prints(rt: &impl Abort, alloc: Global, node: &KdlNode, text: &str) {
     let printed = node.to_string(alloc).expect(rt, "memory");
-    assert_eq!(rt; printed.as_str(), text);
+    says(rt, printed.as_str(), text);
 }
 
 /// The text is refused, and the one diagnostic is at the span.
@@ -41,7 +41,7 @@ fn refused_at(rt: &impl Abort, alloc: Global, text: &str, offset: usize, len: us
 fn tells(rt: &impl Abort, error: &KdlError, text: &str, span: SourceSpan) {
     let diagnostic = lone_diagnostic(rt, error, text);
     expects_the_end(rt, diagnostic);
-    assert_eq!(rt; diagnostic.span, span);
+    equal(rt, &diagnostic.span, &span);
 }
 
 /// The text is read, with these texts before the node and behind its terminator, and this terminator.
@@ -55,14 +55,11 @@ fn stands(
 ) {
     let node = read(rt, alloc, text);
     is_called(rt, Some(node.name()), "n");
-    check_ends(rt, &node, leading, terminator, trailing);
-}
-
-/// These texts stand before the node and behind its terminator, which is this one.
-fn check_ends(rt: &impl Abort, node: &KdlNode, leading: &str, terminator: &str, trailing: &str) {
-    let (before, _, end) = ends(node);
-    assert_eq!(rt; (before, end), (leading, terminator));
-    assert_eq!(rt; around_block(node).1, trailing);
+    let format = node.format().expect(rt, "no format");
+    says(rt, format.leading.as_str(), leading);
+    says(rt, format.terminator.as_str(), terminator);
+    says(rt, format.trailing.as_str(), trailing);
+    drop(node);
 }
 
 #[test]
@@ -72,13 +69,15 @@ fn a_node_with_its_places(rt: HostRuntime) {
     has_around_block(&rt, &node, "", "\n");
     has_node_type_places(&rt, &node, "", "", "");
     is_called(&rt, node.ty(), "ty");
-    assert_eq!(rt; node.ty().map(|ty| range(ty.span())), Some((5, 9)));
-    assert_eq!(rt; node.name().value(), "node");
+    let ty = node.ty().expect(&rt, "no type");
+    is_range(&rt, ty.span(), 5, 9);
+    is_called(&rt, Some(node.name()), "node");
     is_range(&rt, node.name().span(), 10, 16);
     let entry = lone_entry(&rt, &node);
-    assert_eq!(rt; entry.value().as_integer(), Some(3_735_928_559));
+    is_whole(&rt, entry, 3_735_928_559);
     is_range(&rt, entry.span(), 17, 27);
     is_range(&rt, node.span(), 0, 29);
+    drop(node);
 }
 
 #[test]
@@ -87,11 +86,10 @@ fn a_node_among_comments(rt: HostRuntime) {
     let node = read(&rt, rt.alloc(), text);
     has_ends(&rt, &node, "\n  // indented comment\n  ", "", ";");
     has_around_block(&rt, &node, "", "\n");
-    let [one, two] = node.entries() else {
-        panic!(rt; "not two entries");
-    };
+    let (one, two) = two_entries(&rt, &node);
     has_places(&rt, one, " ", "1", "");
     has_places(&rt, two, " /* comment */ \\\n    ", "2", "");
+    drop(node);
 }
 
 #[test]
@@ -106,6 +104,7 @@ fn a_node_with_a_block(rt: HostRuntime) {
     let a = lone_node(&rt, children);
     has_ends(&rt, a, " ", "", ";");
     is_range(&rt, a.span(), 22, 23);
+    drop(node);
 }
 
 /// The newline ends a node: alone, between others, and behind a comment with a comment behind it.
@@ -123,23 +122,21 @@ fn ends_nodes(rt: &impl Abort, alloc: Global, newline: &str) {
 #[test]
 fn terminators(rt: HostRuntime) {
     let alloc = rt.alloc();
-    stands(&rt, alloc, "n", "", "", "");
-    stands(&rt, alloc, "n 1 {}", "", "", "");
-    stands(&rt, alloc, "n {} ", "", "", "");
-    stands(&rt, alloc, "n;", "", ";", "");
-    stands(&rt, alloc, "n // c", "", "// c", "");
-    stands(&rt, alloc, " n 1 // c\n", " ", "// c\n", "");
-    stands(&rt, alloc, "n; // c", "", ";", " // c");
-    stands(
-        &rt,
-        alloc,
-        "n\n \\\n/* x */ \n",
-        "",
-        "\n",
-        " \\\n/* x */ \n",
-    );
-    stands(&rt, alloc, "n // c\n// d\n", "", "// c\n", "// d\n");
-    for newline in NEWLINES {
+    let rows = &[
+        ("n", "", "", ""),
+        ("n 1 {}", "", "", ""),
+        ("n {} ", "", "", ""),
+        ("n;", "", ";", ""),
+        ("n // c", "", "// c", ""),
+        (" n 1 // c\n", " ", "// c\n", ""),
+        ("n; // c", "", ";", " // c"),
+        ("n\n \\\n/* x */ \n", "", "\n", " \\\n/* x */ \n"),
+        ("n // c\n// d\n", "", "// c\n", "// d\n"),
+    ];
+    for (text, leading, terminator, trailing) in rows {
+        stands(&rt, alloc, text, leading, terminator, trailing);
+    }
+    for newline in &NEWLINES {
         ends_nodes(&rt, alloc, newline);
     }
 }
@@ -147,79 +144,74 @@ fn terminators(rt: HostRuntime) {
 #[test]
 fn nodes_that_count_for_nothing_before_it(rt: HostRuntime) {
     let alloc = rt.alloc();
-    stands(&rt, alloc, "/-a\nn", "/-a\n", "", "");
-    stands(&rt, alloc, "/-a {};n;", "/-a {};", ";", "");
-    stands(
-        &rt,
-        alloc,
-        " /- // c\na 1\n/-b; n\n",
-        " /- // c\na 1\n/-b; ",
-        "\n",
-        "",
-    );
-    stands(&rt, alloc, "n /-1 /-{ a }", "", "", "");
+    let rows = &[
+        ("/-a\nn", "/-a\n", "", ""),
+        ("/-a {};n;", "/-a {};", ";", ""),
+        (" /- // c\na 1\n/-b; n\n", " /- // c\na 1\n/-b; ", "\n", ""),
+        ("n /-1 /-{ a }", "", "", ""),
+    ];
+    for (text, leading, terminator, trailing) in rows {
+        stands(&rt, alloc, text, leading, terminator, trailing);
+    }
 }
 
 #[test]
 fn refused_nodes(rt: HostRuntime) {
-    let alloc = rt.alloc();
-    refused_at(&rt, alloc, "", 0, 0);
-    refused_at(&rt, alloc, " // c\n", 6, 0);
-    refused_at(&rt, alloc, "/-a", 3, 0);
-    refused_at(&rt, alloc, ";", 0, 1);
-    refused_at(&rt, alloc, "}", 0, 1);
-    refused_at(&rt, alloc, "n }", 2, 1);
-    refused_at(&rt, alloc, "n {", 3, 0);
-    refused_at(&rt, alloc, "n;;", 2, 1);
-    refused_at(&rt, alloc, "n /-", 4, 0);
-    refused_at(&rt, alloc, "n /* x", 2, 1);
-    refused_at(&rt, alloc, "n; \"", 3, 1);
-    refused_at(&rt, alloc, "/-a {} n", 7, 1);
-    refused_at(&rt, alloc, "n {} /-b", 7, 1);
-    refused_at(&rt, alloc, "\u{feff}n", 0, 3);
-    refused_at(&rt, alloc, "n\n\u{feff}", 2, 3);
+    let rows = &[
+        ("", 0, 0),
+        (" // c\n", 6, 0),
+        ("/-a", 3, 0),
+        (";", 0, 1),
+        ("}", 0, 1),
+        ("n }", 2, 1),
+        ("n {", 3, 0),
+        ("n;;", 2, 1),
+        ("n /-", 4, 0),
+        ("n /* x", 2, 1),
+        ("n; \"", 3, 1),
+        ("/-a {} n", 7, 1),
+        ("n {} /-b", 7, 1),
+        ("\u{feff}n", 0, 3),
+        ("n\n\u{feff}", 2, 3),
+    ];
+    for (text, offset, len) in rows {
+        refused_at(&rt, rt.alloc(), text, *offset, *len);
+    }
 }
 
 #[test]
 fn refused_behind_the_node(rt: HostRuntime) {
-    let alloc = rt.alloc();
-    refused_at(&rt, alloc, "n\nm", 2, 1);
-    refused_at(&rt, alloc, "n; é 1 // c\n", 3, 5);
-    refused_at(&rt, alloc, "n; (t)m 1;o", 3, 6);
-    refused_at(&rt, alloc, "n;/-m", 2, 1);
-    refused_at(&rt, alloc, "é // é\n // é\n /-m\n", 17, 1);
-    refused_at(&rt, alloc, "/-l\nn {}\n\n/-m;", 10, 1);
-    refused_at(&rt, alloc, "n;/-m;o", 6, 1);
-}
-
-/// The text is a document whose one node equals this node.
-fn is_node_of(rt: &impl Abort, alloc: Global, text: &str, node: &KdlNode) {
-    let Ok(document) = KdlDocument::parse(alloc, text) else {
-        panic!(rt; "{text:?} is not read");
-    };
-    assert!(rt; *lone_node(rt, &document) == *node);
+    let rows = &[
+        ("n\nm", 2, 1),
+        ("n; é 1 // c\n", 3, 5),
+        ("n; (t)m 1;o", 3, 6),
+        ("n;/-m", 2, 1),
+        ("é // é\n // é\n /-m\n", 17, 1),
+        ("/-l\nn {}\n\n/-m;", 10, 1),
+        ("n;/-m;o", 6, 1),
+    ];
+    for (text, offset, len) in rows {
+        refused_at(&rt, rt.alloc(), text, *offset, *len);
+    }
 }
 
 /// The node of the text equals this node, or does not.
 fn compares(rt: &impl Abort, alloc: Global, text: &str, node: &KdlNode, is_same: bool) {
     let other = read(rt, alloc, text);
-    assert_eq!(rt; other == *node, is_same, "{text:?}");
-}
-
-fn check_the_same_node(rt: &impl Abort, alloc: Global, alone: &mut KdlNode) {
-    is_node_of(rt, alloc, "n 1 { a; }\n", alone);
-    alone.set_span(SourceSpan { offset: 7, len: 9 });
-    for (text, is_same) in [
-        ("n 1 { a; }\n", true),
-        ("\nn 1 { a; }\n", false),
-        ("n 1 { a; }\n\n", false),
-    ] {
-        compares(rt, alloc, text, alone, is_same);
-    }
+    holds(rt, (other == *node) == is_same, text);
+    drop(other);
 }
 
 #[test]
 fn the_same_node_in_a_document(rt: HostRuntime) {
     let alloc = rt.alloc();
-    check_the_same_node(&rt, alloc, &mut read(&rt, alloc, "n 1 { a; }\n"));
+    let mut alone = read(&rt, alloc, "n 1 { a; }\n");
+    let document = reading::read(&rt, alloc, "n 1 { a; }\n");
+    equal(&rt, lone_node(&rt, &document), &alone);
+    drop(document);
+    alone.set_span(SourceSpan { offset: 7, len: 9 });
+    compares(&rt, alloc, "n 1 { a; }\n", &alone, true);
+    compares(&rt, alloc, "\nn 1 { a; }\n", &alone, false);
+    compares(&rt, alloc, "n 1 { a; }\n\n", &alone, false);
+    drop(alone);
 }

@@ -7,24 +7,39 @@ use kdl::{
     SourceSpan,
 };
 use std::alloc::Global;
+use std::fmt::Debug;
 use std::process::Abort;
+
+/// The two values are equal.
+pub fn equal<T: PartialEq + Debug>(rt: &impl Abort, found: &T, wanted: &T) {
+    assert!(rt; *found == *wanted, "{found:?} in place of {wanted:?}");
+}
+
+/// The two texts are equal.
+pub fn says(rt: &impl Abort, found: &str, wanted: &str) {
+    assert!(rt; found == wanted, "{found:?} in place of {wanted:?}");
+}
+
+/// The condition holds; if not, the message shows the text.
+pub fn holds(rt: &impl Abort, condition: bool, text: &str) {
+    assert!(rt; condition, "{text:?}");
+}
 
 /// The document of a text, which prints it.
 pub fn read(rt: &impl Abort, alloc: Global, text: &str) -> KdlDocument {
-    prints(rt, alloc, text);
     match KdlDocument::parse(alloc, text) {
-        Ok(document) => document,
-        Err(_) => panic!(rt; "{text:?} is refused"),
+        Ok(document) => {
+            prints(rt, alloc, &document, text);
+            document
+        }
+        Err(failure) => panic!(rt; "{text:?}: {failure}"),
     }
 }
 
-/// The text is read, and printed byte for byte.
-fn prints(rt: &impl Abort, alloc: Global, text: &str) {
-    match reprinted(alloc, text) {
-        Ok(printed) => assert_eq!(rt; printed.as_str(), text),
-        Err(ParseFailure::Memory) => panic!(rt; "{text:?} wants memory"),
-        Err(ParseFailure::Syntax(_)) => panic!(rt; "{text:?} is refused"),
-    }
+/// The document prints the text.
+fn prints(rt: &impl Abort, alloc: Global, document: &KdlDocument, text: &str) {
+    let printed = document.to_string(alloc).expect(rt, "memory");
+    says(rt, printed.as_str(), text);
 }
 
 /// The text is refused, by a diagnostic at least, each with a span inside on character boundaries.
@@ -38,8 +53,8 @@ pub fn refuse(rt: &impl Abort, alloc: Global, text: &str) {
 
 /// The error has the text, and a diagnostic at least, each with a span inside on character boundaries.
 fn tells_where(rt: &impl Abort, error: &KdlError, text: &str) {
-    assert_eq!(rt; error.input.as_str(), text);
-    assert!(rt; !error.diagnostics.is_empty(), "{text:?}");
+    says(rt, error.input.as_str(), text);
+    holds(rt, !error.diagnostics.is_empty(), text);
     for diagnostic in &error.diagnostics {
         let (start, end) = range(diagnostic.span);
         assert!(rt; text.is_char_boundary(start), "{text:?} at {start}");
@@ -49,7 +64,7 @@ fn tells_where(rt: &impl Abort, error: &KdlError, text: &str) {
 
 /// The one diagnostic of an error, which has the text.
 pub fn lone_diagnostic<'a>(rt: &impl Abort, error: &'a KdlError, text: &str) -> &'a KdlDiagnostic {
-    assert_eq!(rt; error.input.as_str(), text);
+    says(rt, error.input.as_str(), text);
     let [diagnostic] = error.diagnostics.as_slice() else {
         panic!(rt; "not one diagnostic");
     };
@@ -66,15 +81,22 @@ fn said(text: &Option<String>) -> &str {
 
 /// The diagnostic says that the text does not end where a document does.
 pub fn expects_the_end(rt: &impl Abort, diagnostic: &KdlDiagnostic) {
-    assert_eq!(rt; said(&diagnostic.message), "Expected end of document");
-    assert_eq!(rt; said(&diagnostic.label), "not EOF");
+    says(rt, said(&diagnostic.message), "Expected end of document");
+    says(rt, said(&diagnostic.label), "not EOF");
+}
+
+/// Each text is refused.
+pub fn refuse_each(rt: &impl Abort, alloc: Global, texts: &[&str]) {
+    for text in texts {
+        refuse(rt, alloc, text);
+    }
 }
 
 /// Whether the text is a document. One that is read prints the text; one that is refused tells where.
 pub fn is_read(rt: &impl Abort, alloc: Global, text: &str) -> bool {
     match reprinted(alloc, text) {
         Ok(printed) => {
-            assert_eq!(rt; printed.as_str(), text);
+            says(rt, printed.as_str(), text);
             true
         }
         Err(ParseFailure::Memory) => panic!(rt; "{text:?} wants memory"),
@@ -98,6 +120,14 @@ pub fn lone_node<'a>(rt: &impl Abort, document: &'a KdlDocument) -> &'a KdlNode 
     node
 }
 
+/// The two nodes of a document.
+pub fn two_nodes<'a>(rt: &impl Abort, document: &'a KdlDocument) -> (&'a KdlNode, &'a KdlNode) {
+    let [first, second] = document.nodes() else {
+        panic!(rt; "not two nodes");
+    };
+    (first, second)
+}
+
 /// The one entry of a node.
 pub fn lone_entry<'a>(rt: &impl Abort, node: &'a KdlNode) -> &'a KdlEntry {
     let [entry] = node.entries() else {
@@ -106,92 +136,17 @@ pub fn lone_entry<'a>(rt: &impl Abort, node: &'a KdlNode) -> &'a KdlEntry {
     entry
 }
 
+/// The two entries of a node.
+pub fn two_entries<'a>(rt: &impl Abort, node: &'a KdlNode) -> (&'a KdlEntry, &'a KdlEntry) {
+    let [first, second] = node.entries() else {
+        panic!(rt; "not two entries");
+    };
+    (first, second)
+}
+
 /// The child document of a node.
 pub fn block<'a>(rt: &impl Abort, node: &'a KdlNode) -> &'a KdlDocument {
-    let Some(children) = node.children() else {
-        panic!(rt; "no block");
-    };
-    children
-}
-
-/// The texts before and behind the nodes of a document.
-pub fn margins(document: &KdlDocument) -> (&str, &str) {
-    match document.format() {
-        Some(format) => (format.leading.as_str(), format.trailing.as_str()),
-        None => ("none", "none"),
-    }
-}
-
-/// The texts before a node, before its terminator, and the terminator.
-pub fn ends(node: &KdlNode) -> (&str, &str, &str) {
-    match node.format() {
-        Some(format) => (
-            format.leading.as_str(),
-            format.before_terminator.as_str(),
-            format.terminator.as_str(),
-        ),
-        None => ("none", "none", "none"),
-    }
-}
-
-/// The texts before a node's block, and behind the node.
-pub fn around_block(node: &KdlNode) -> (&str, &str) {
-    match node.format() {
-        Some(format) => (format.before_children.as_str(), format.trailing.as_str()),
-        None => ("none", "none"),
-    }
-}
-
-/// The texts around the name of a node's type, and behind its `)`.
-pub fn node_type_places(node: &KdlNode) -> (&str, &str, &str) {
-    match node.format() {
-        Some(format) => (
-            format.before_ty_name.as_str(),
-            format.after_ty_name.as_str(),
-            format.after_ty.as_str(),
-        ),
-        None => ("none", "none", "none"),
-    }
-}
-
-/// The text in front of an entry, the spelling of its value, and the text behind it.
-pub fn places(entry: &KdlEntry) -> (&str, &str, &str) {
-    match entry.format() {
-        Some(format) => (
-            format.leading.as_str(),
-            format.value_repr.as_str(),
-            format.trailing.as_str(),
-        ),
-        None => ("none", "none", "none"),
-    }
-}
-
-/// The texts around the name of an entry's type, and behind its `)`.
-pub fn type_places(entry: &KdlEntry) -> (&str, &str, &str) {
-    match entry.format() {
-        Some(format) => (
-            format.before_ty_name.as_str(),
-            format.after_ty_name.as_str(),
-            format.after_ty.as_str(),
-        ),
-        None => ("none", "none", "none"),
-    }
-}
-
-/// The texts around the `=` of an entry.
-pub fn key_places(entry: &KdlEntry) -> (&str, &str) {
-    match entry.format() {
-        Some(format) => (format.after_key.as_str(), format.after_eq.as_str()),
-        None => ("none", "none"),
-    }
-}
-
-/// The value of an identifier that may be absent.
-pub fn called(identifier: Option<&KdlIdentifier>) -> &str {
-    match identifier {
-        Some(identifier) => identifier.value(),
-        None => "none",
-    }
+    node.children().expect(rt, "no block")
 }
 
 /// The opening so many times, the middle, and the closing so many times.
@@ -218,27 +173,37 @@ pub fn fill(rt: &impl Abort, alloc: Global, pattern: &str, text: &str) -> String
 
 /// The span has this start and this end.
 pub fn is_range(rt: &impl Abort, span: SourceSpan, start: usize, end: usize) {
-    assert_eq!(rt; range(span), (start, end));
+    equal(rt, &range(span), &(start, end));
 }
 
 /// These texts stand before the node and before its terminator, which is this one.
 pub fn has_ends(rt: &impl Abort, node: &KdlNode, leading: &str, before: &str, terminator: &str) {
-    assert_eq!(rt; ends(node), (leading, before, terminator));
+    let format = node.format().expect(rt, "no format");
+    says(rt, format.leading.as_str(), leading);
+    says(rt, format.before_terminator.as_str(), before);
+    says(rt, format.terminator.as_str(), terminator);
 }
 
 /// These texts stand before the node's block, and behind the node.
 pub fn has_around_block(rt: &impl Abort, node: &KdlNode, before: &str, trailing: &str) {
-    assert_eq!(rt; around_block(node), (before, trailing));
+    let format = node.format().expect(rt, "no format");
+    says(rt, format.before_children.as_str(), before);
+    says(rt, format.trailing.as_str(), trailing);
 }
 
 /// These texts stand before and behind the nodes of the document.
 pub fn has_margins(rt: &impl Abort, document: &KdlDocument, leading: &str, trailing: &str) {
-    assert_eq!(rt; margins(document), (leading, trailing));
+    let format = document.format().expect(rt, "no format");
+    says(rt, format.leading.as_str(), leading);
+    says(rt, format.trailing.as_str(), trailing);
 }
 
 /// The entry has this text in front of it, this spelling of its value, and this text behind it.
 pub fn has_places(rt: &impl Abort, entry: &KdlEntry, leading: &str, repr: &str, trailing: &str) {
-    assert_eq!(rt; places(entry), (leading, repr, trailing));
+    let format = entry.format().expect(rt, "no format");
+    says(rt, format.leading.as_str(), leading);
+    says(rt, format.value_repr.as_str(), repr);
+    says(rt, format.trailing.as_str(), trailing);
 }
 
 /// These texts stand around the name of the node's type, and behind its `)`.
@@ -249,36 +214,56 @@ pub fn has_node_type_places(
     after: &str,
     behind: &str,
 ) {
-    assert_eq!(rt; node_type_places(node), (before, after, behind));
+    let format = node.format().expect(rt, "no format");
+    says(rt, format.before_ty_name.as_str(), before);
+    says(rt, format.after_ty_name.as_str(), after);
+    says(rt, format.after_ty.as_str(), behind);
 }
 
 /// These texts stand around the name of the entry's type, and behind its `)`.
 pub fn has_type_places(rt: &impl Abort, entry: &KdlEntry, before: &str, after: &str, behind: &str) {
-    assert_eq!(rt; type_places(entry), (before, after, behind));
+    let format = entry.format().expect(rt, "no format");
+    says(rt, format.before_ty_name.as_str(), before);
+    says(rt, format.after_ty_name.as_str(), after);
+    says(rt, format.after_ty.as_str(), behind);
 }
 
 /// These texts stand around the `=` of the entry.
 pub fn has_key_places(rt: &impl Abort, entry: &KdlEntry, before: &str, behind: &str) {
-    assert_eq!(rt; key_places(entry), (before, behind));
+    let format = entry.format().expect(rt, "no format");
+    says(rt, format.after_key.as_str(), before);
+    says(rt, format.after_eq.as_str(), behind);
 }
 
 /// The identifier is there, and has this value.
 pub fn is_called(rt: &impl Abort, identifier: Option<&KdlIdentifier>, name: &str) {
-    assert_eq!(rt; called(identifier), name);
+    says(rt, identifier.expect(rt, "no identifier").value(), name);
+}
+
+/// The spelling of an entry's value.
+pub fn spelling<'a>(rt: &impl Abort, entry: &'a KdlEntry) -> &'a str {
+    entry.format().expect(rt, "no format").value_repr.as_str()
 }
 
 /// The entry's value is this string.
 pub fn is_string(rt: &impl Abort, entry: &KdlEntry, value: &str) {
-    assert_eq!(rt; entry.value().as_string(), Some(value));
+    equal(rt, &entry.value().as_string(), &Some(value));
 }
 
 /// The entry's value is this whole number.
 pub fn is_whole(rt: &impl Abort, entry: &KdlEntry, value: i128) {
-    assert_eq!(rt; entry.value().as_integer(), Some(value));
+    equal(rt, &entry.value().as_integer(), &Some(value));
+}
+
+/// The entry's value is a float of this text.
+pub fn is_float(rt: &impl Abort, entry: &KdlEntry, text: &str) {
+    let float = entry.value().as_float().expect(rt, "no float");
+    says(rt, float.as_str(), text);
 }
 
 /// The text is one argument of a node, and this string is its value.
 pub fn is_argument(rt: &impl Abort, alloc: Global, text: &str, value: &str) {
     let document = read(rt, alloc, &joined(rt, alloc, "n ", text));
     is_string(rt, lone_entry(rt, lone_node(rt, &document)), value);
+    drop(document);
 }

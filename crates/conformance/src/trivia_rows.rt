@@ -1,11 +1,10 @@
 //! Comments, continued lines and U+FEFF: where the text between nodes and entries is kept.
 
 use crate::reading::{
-    has_around_block, has_ends, has_key_places, has_margins, has_node_type_places, has_places,
-    has_type_places, is_called, is_range, is_string, is_whole, lone_entry, lone_node, read, refuse,
+    equal, has_around_block, has_ends, has_key_places, has_margins, has_node_type_places,
+    has_places, has_type_places, holds, is_called, is_range, is_string, is_whole, lone_entry,
+    lone_node, read, refuse_each, two_entries,
 };
-use std::alloc::Global;
-use std::process::Abort;
 
 #[test]
 fn comments_around_a_node_and_its_entry(rt: HostRuntime) {
@@ -18,6 +17,7 @@ fn comments_around_a_node_and_its_entry(rt: HostRuntime) {
     has_places(&rt, entry, " /*x*/ ", "1", "");
     is_whole(&rt, entry, 1);
     has_margins(&rt, &document, "", "");
+    drop(document);
 }
 
 #[test]
@@ -26,28 +26,22 @@ fn a_comment_in_a_continued_line(rt: HostRuntime) {
     let node = lone_node(&rt, &document);
     has_ends(&rt, node, "", "", "\n");
     has_places(&rt, lone_entry(&rt, node), " \\ // c\n ", "1", "");
+    drop(document);
 }
 
 #[test]
 fn a_line_continued_at_the_end(rt: HostRuntime) {
     let document = read(&rt, rt.alloc(), "n\\");
     let node = lone_node(&rt, &document);
-    assert!(rt; node.entries().is_empty());
+    holds(&rt, node.entries().is_empty(), "no entries");
     has_ends(&rt, node, "", "\\", "");
-}
-
-/// The text is a document without nodes: it stands in front of where they were, and the span is its end.
-fn has_no_nodes(rt: &impl Abort, alloc: Global, text: &str) {
-    let document = read(rt, alloc, text);
-    assert!(rt; document.nodes().is_empty(), "{text:?}");
-    has_margins(rt, &document, text, "");
-    is_range(rt, document.span(), text.len(), text.len());
+    drop(document);
 }
 
 #[test]
 fn texts_without_nodes(rt: HostRuntime) {
     let alloc = rt.alloc();
-    let texts = [
+    let texts = &[
         "\\",
         "//x",
         "// c",
@@ -65,7 +59,11 @@ fn texts_without_nodes(rt: HostRuntime) {
         "/-a /-{}",
     ];
     for text in texts {
-        has_no_nodes(&rt, alloc, text);
+        let document = read(&rt, alloc, text);
+        holds(&rt, document.nodes().is_empty(), text);
+        has_margins(&rt, &document, text, "");
+        is_range(&rt, document.span(), text.len(), text.len());
+        drop(document);
     }
 }
 
@@ -76,6 +74,7 @@ fn the_mark_at_the_top(rt: HostRuntime) {
     let node = lone_node(&rt, &document);
     has_ends(&rt, node, "", "", "\n");
     is_range(&rt, node.span(), 3, 4);
+    drop(document);
 }
 
 #[test]
@@ -89,11 +88,12 @@ fn the_mark_and_wide_characters(rt: HostRuntime) {
     let entry = lone_entry(&rt, node);
     is_string(&rt, entry, "ü");
     is_range(&rt, entry.span(), 6, 10);
+    drop(document);
 }
 
 #[test]
 fn comments_and_marks_in_wrong_places(rt: HostRuntime) {
-    let texts = [
+    let texts = &[
         "/* a",
         "/*/",
         "n /* x",
@@ -110,9 +110,7 @@ fn comments_and_marks_in_wrong_places(rt: HostRuntime) {
         "*/",
         "n */",
     ];
-    for text in texts {
-        refuse(&rt, rt.alloc(), text);
-    }
+    refuse_each(&rt, rt.alloc(), texts);
 }
 
 #[test]
@@ -122,13 +120,12 @@ fn indented_comments_and_a_continued_line(rt: HostRuntime) {
     let node = lone_node(&rt, &document);
     has_ends(&rt, node, "\n  // indented comment\n  ", "", ";");
     is_called(&rt, Some(node.name()), "formatted");
-    assert_eq!(rt; node.name().repr(), Some("\"formatted\""));
-    let [one, two] = node.entries() else {
-        panic!(rt; "not two entries");
-    };
+    equal(&rt, &node.name().repr(), &Some("\"formatted\""));
+    let (one, two) = two_entries(&rt, node);
     has_places(&rt, one, " ", "1", "");
     has_places(&rt, two, " /* comment */ \\\n    ", "2", "");
     has_margins(&rt, &document, "", "\n");
+    drop(document);
 }
 
 #[test]
@@ -137,13 +134,12 @@ fn a_comment_ends_a_node(rt: HostRuntime) {
     let node = lone_node(&rt, &document);
     has_ends(&rt, node, "", " ", "// c\n");
     is_range(&rt, node.span(), 0, 8);
-    let [one, two] = node.entries() else {
-        panic!(rt; "not two entries");
-    };
+    let (one, two) = two_entries(&rt, node);
     is_whole(&rt, one, 1);
     is_called(&rt, two.name(), "b");
     is_whole(&rt, two, 2);
     is_range(&rt, two.span(), 4, 7);
+    drop(document);
 }
 
 #[test]
@@ -154,10 +150,8 @@ fn spaces_around_types_and_keys(rt: HostRuntime) {
     has_node_type_places(&rt, node, " /*a*/ ", " ", "  ");
     has_ends(&rt, node, "", "", "");
     is_range(&rt, node.span(), 0, 32);
-    let [one, two] = node.entries() else {
-        panic!(rt; "not two entries");
-    };
-    assert!(rt; one.name().is_none());
+    let (one, two) = two_entries(&rt, node);
+    holds(&rt, one.name().is_none(), "no name");
     is_called(&rt, one.ty(), "u8");
     has_type_places(&rt, one, "", "", " ");
     has_places(&rt, one, " ", "1", "");
@@ -166,6 +160,7 @@ fn spaces_around_types_and_keys(rt: HostRuntime) {
     is_called(&rt, two.ty(), "x");
     has_type_places(&rt, two, " ", " ", "");
     has_places(&rt, two, " ", "2", "");
+    drop(document);
 }
 
 #[test]
@@ -184,4 +179,5 @@ fn a_typed_name_between_quotes(rt: HostRuntime) {
     let entry = lone_entry(&rt, node);
     is_whole(&rt, entry, 3735928559);
     is_range(&rt, entry.span(), 17, 27);
+    drop(document);
 }

@@ -1,6 +1,6 @@
 //! Texts cut at each character boundary: each front is a document that prints it, or is refused with a place inside it.
 
-use crate::reading::{is_read, nested};
+use crate::reading::{holds, is_read, nested};
 use std::alloc::Global;
 use std::process::Abort;
 
@@ -56,30 +56,21 @@ fn refused_fronts(rt: &impl Abort, alloc: Global, text: &str) -> Vec<usize> {
     refused
 }
 
-/// Each front is a document that prints it, or is refused. The empty one is not refused.
-fn reads_the_empty_front(rt: &impl Abort, alloc: Global, text: &str) {
-    let refused = refused_fronts(rt, alloc, text);
-    assert!(rt; refused.first() != Some(&0), "{text:?}");
-}
-
 #[test]
 fn each_front_is_printed_or_refused(rt: HostRuntime) {
     let alloc = rt.alloc();
-    for text in TEXTS {
-        reads_the_empty_front(&rt, alloc, text);
+    for text in &TEXTS {
+        let refused = refused_fronts(&rt, alloc, text);
+        // The empty front is a document.
+        holds(&rt, refused.first() != Some(&0), text);
+        drop(refused);
     }
-}
-
-/// The fronts of these lengths are refused, and no others.
-fn refuses_fronts(rt: &impl Abort, alloc: Global, text: &str, refused: &[usize]) {
-    let fronts = refused_fronts(rt, alloc, text);
-    assert_eq!(rt; fronts.as_slice(), refused, "{text:?}");
 }
 
 #[test]
 fn fronts_that_are_refused(rt: HostRuntime) {
     let alloc = rt.alloc();
-    let rows: [(&str, &[usize]); 10] = [
+    let rows: &[(&str, &[usize])] = &[
         ("n /- foo=1 bar = 2", &[3, 4, 5, 9, 16, 17]),
         ("a { } \nb\n", &[3, 4]),
         ("/-n 1;", &[1, 2]),
@@ -95,31 +86,34 @@ fn fronts_that_are_refused(rt: HostRuntime) {
         ),
     ];
     for (text, refused) in rows {
-        refuses_fronts(&rt, alloc, text, refused);
+        let fronts = refused_fronts(&rt, alloc, text);
+        assert_eq!(rt; fronts.as_slice(), *refused, "{text:?}");
+        drop(fronts);
     }
-}
-
-/// The fronts from one length to another are refused, and no others.
-fn refused_between(rt: &impl Abort, alloc: Global, text: &str, from: usize, to: usize) {
-    let fronts = refused_fronts(rt, alloc, text);
-    assert!(rt; fronts.iter().copied().eq(from..=to), "{text:?} {fronts:?}");
 }
 
 #[test]
 fn fronts_of_nested_texts(rt: HostRuntime) {
     let alloc = rt.alloc();
-    let blocks = nested(&rt, alloc, "a { ", "a", " }", 50);
-    refused_between(&rt, alloc, &blocks, 3, 300);
-    let comments = nested(&rt, alloc, "/*", "", "*/", 50);
-    refused_between(&rt, alloc, &comments, 1, 199);
-    let slashdashes = nested(&rt, alloc, "a/-{", "a", "}", 50);
-    refused_between(&rt, alloc, &slashdashes, 2, 250);
+    let rows = &[
+        ("a { ", "a", " }", 3, 300),
+        ("/*", "", "*/", 1, 199),
+        ("a/-{", "a", "}", 2, 250),
+    ];
+    for (opening, middle, closing, from, to) in rows {
+        let text = nested(&rt, alloc, opening, middle, closing, 50);
+        let fronts = refused_fronts(&rt, alloc, &text);
+        let is_all = fronts.iter().copied().eq(*from..=*to);
+        assert!(rt; is_all, "{text:?} {fronts:?}");
+        drop(fronts);
+        drop(text);
+    }
 }
 
 /// The front of this length is refused.
 fn refuses_front(rt: &impl Abort, alloc: Global, text: &str, len: usize) {
     let front = text.get(..len).expect(rt, "no front");
-    assert!(rt; !is_read(rt, alloc, front), "{front:?}");
+    holds(rt, !is_read(rt, alloc, front), front);
 }
 
 #[test]

@@ -1,48 +1,48 @@
 //! Values as arguments and properties of a node: numbers, keywords and strings, and what is none.
 
 use crate::reading::{
-    has_places, is_argument, is_called, is_string, is_whole, joined, lone_entry, lone_node, nested,
-    places, read, refuse,
+    equal, has_places, holds, is_argument, is_called, is_float, is_string, is_whole, joined,
+    lone_entry, lone_node, nested, read, refuse, refuse_each, says, spelling,
 };
-use kdl::{KdlNode, KdlValue};
+use kdl::KdlValue;
 use std::alloc::Global;
 use std::process::Abort;
-
-fn check_numbers_and_keywords(rt: &impl Abort, node: &KdlNode) {
-    let [a, b, c, d, e, f, g] = node.entries() else {
-        panic!(rt; "not seven entries");
-    };
-    is_whole(rt, a, 31);
-    is_whole(rt, b, -5);
-    is_whole(rt, c, 15);
-    assert_eq!(rt; d.value().as_float().map(|x| x.as_str()), Some("#-inf"));
-    assert!(rt; e.value().is_null());
-    assert_eq!(rt; f.value().as_bool(), Some(true));
-    assert_eq!(rt; g.value().as_bool(), Some(false));
-    has_places(rt, a, " ", "+0x1F", "");
-    has_places(rt, d, " ", "#-inf", "");
-}
 
 #[test]
 fn numbers_and_keywords_behind_one_another(rt: HostRuntime) {
     let text = "n +0x1F -0b101 0O17 #-inf #null #true #false";
     let document = read(&rt, rt.alloc(), text);
-    check_numbers_and_keywords(&rt, lone_node(&rt, &document));
+    let node = lone_node(&rt, &document);
+    let [a, b, c, d, e, f, g] = node.entries() else {
+        panic!(rt; "not seven entries");
+    };
+    is_whole(&rt, a, 31);
+    is_whole(&rt, b, -5);
+    is_whole(&rt, c, 15);
+    is_float(&rt, d, "#-inf");
+    holds(&rt, e.value().is_null(), "null");
+    equal(&rt, &f.value().as_bool(), &Some(true));
+    equal(&rt, &g.value().as_bool(), &Some(false));
+    has_places(&rt, a, " ", "+0x1F", "");
+    has_places(&rt, d, " ", "#-inf", "");
+    drop(document);
 }
 
 /// The one entry of the node, of which the text behind it is the value, is a whole number.
 fn reads_whole(rt: &impl Abort, alloc: Global, node: &str, text: &str, value: i128) {
-    let document = read(rt, alloc, &joined(rt, alloc, node, text));
+    let whole = joined(rt, alloc, node, text);
+    let document = read(rt, alloc, &whole);
     let entry = lone_entry(rt, lone_node(rt, &document));
-    assert_eq!(rt; entry.value().as_integer(), Some(value), "{node}{text}");
-    let (_, repr, _) = places(entry);
-    assert_eq!(rt; repr, text);
+    holds(rt, entry.value().as_integer() == Some(value), &whole);
+    says(rt, spelling(rt, entry), text);
+    drop(document);
+    drop(whole);
 }
 
 #[test]
 fn whole_numbers(rt: HostRuntime) {
     let alloc = rt.alloc();
-    let rows = [
+    let rows = &[
         ("-170141183460469231731687303715884105728", i128::MIN),
         ("170141183460469231731687303715884105727", i128::MAX),
         ("-0x80000000000000000000000000000000", i128::MIN),
@@ -56,26 +56,28 @@ fn whole_numbers(rt: HostRuntime) {
         ("-0", 0),
     ];
     for (text, value) in rows {
-        for pattern in ["n ", "n k=", "n (t)", "n k= (t) "] {
-            reads_whole(&rt, alloc, pattern, text, value);
+        for node in &["n ", "n k=", "n (t)", "n k= (t) "] {
+            reads_whole(&rt, alloc, node, text, *value);
         }
     }
 }
 
 /// The one entry of the node, of which the text behind it is the value, is a float.
 fn reads_float(rt: &impl Abort, alloc: Global, node: &str, text: &str, value: &str) {
-    let document = read(rt, alloc, &joined(rt, alloc, node, text));
+    let whole = joined(rt, alloc, node, text);
+    let document = read(rt, alloc, &whole);
     let entry = lone_entry(rt, lone_node(rt, &document));
     let float = entry.value().as_float().expect(rt, "no float");
-    assert_eq!(rt; float.as_str(), value, "{node}{text}");
-    let (_, repr, _) = places(entry);
-    assert_eq!(rt; repr, text);
+    holds(rt, float.as_str() == value, &whole);
+    says(rt, spelling(rt, entry), text);
+    drop(document);
+    drop(whole);
 }
 
 #[test]
 fn floats(rt: HostRuntime) {
     let alloc = rt.alloc();
-    let rows = [
+    let rows = &[
         ("1_0.5E+3", "10.5E+3"),
         ("1.0", "1.0"),
         ("+1e5", "+1e5"),
@@ -91,9 +93,9 @@ fn floats(rt: HostRuntime) {
         ("#nan", "#nan"),
     ];
     for (text, value) in rows {
-        reads_float(&rt, alloc, "n ", text, value);
-        reads_float(&rt, alloc, "n k=", text, value);
-        reads_float(&rt, alloc, "n (t)", text, value);
+        for node in &["n ", "n k=", "n (t)"] {
+            reads_float(&rt, alloc, node, text, value);
+        }
     }
 }
 
@@ -133,9 +135,12 @@ const STRINGS: [(&str, &str); 26] = [
     ),
 ];
 
-/// The text is the node's name and type, and the name, type and value of its one entry; this is what it says.
-fn check_each_role(rt: &impl Abort, node: &KdlNode, text: &str, value: &str) {
-    assert_eq!(rt; node.name().repr(), Some(text));
+/// The text is read as a name, a key, a value and the types of a node and an entry; this is what it says.
+fn plays_each_role(rt: &impl Abort, alloc: Global, text: &str, value: &str) {
+    let whole = format!(in alloc; "({text}){text} {text}=({text}){text} {{}}").expect(rt, "memory");
+    let document = read(rt, alloc, &whole);
+    let node = lone_node(rt, &document);
+    equal(rt, &node.name().repr(), &Some(text));
     is_called(rt, Some(node.name()), value);
     is_called(rt, node.ty(), value);
     let entry = lone_entry(rt, node);
@@ -143,19 +148,14 @@ fn check_each_role(rt: &impl Abort, node: &KdlNode, text: &str, value: &str) {
     is_called(rt, entry.ty(), value);
     is_string(rt, entry, value);
     has_places(rt, entry, " ", text, "");
-}
-
-/// The text is read as a name, a key, a value and the types of a node and an entry; this is what it says.
-fn plays_each_role(rt: &impl Abort, alloc: Global, text: &str, value: &str) {
-    let whole = format!(in alloc; "({text}){text} {text}=({text}){text} {{}}").expect(rt, "memory");
-    let document = read(rt, alloc, &whole);
-    check_each_role(rt, lone_node(rt, &document), text, value);
+    drop(document);
+    drop(whole);
 }
 
 #[test]
 fn strings_are_names_keys_types_and_values(rt: HostRuntime) {
     let alloc = rt.alloc();
-    for (text, value) in STRINGS {
+    for (text, value) in &STRINGS {
         plays_each_role(&rt, alloc, text, value);
     }
 }
@@ -166,6 +166,8 @@ fn a_long_raw_string(rt: HostRuntime) {
     let quotes = nested(&rt, alloc, "\"###", "", "", 1000);
     let text = format!(in alloc; "####\"{quotes}\"####").expect(&rt, "memory");
     is_argument(&rt, alloc, &text, &quotes);
+    drop(text);
+    drop(quotes);
 }
 
 #[test]
@@ -174,50 +176,51 @@ fn a_string_of_many_lines(rt: HostRuntime) {
     let newlines = nested(&rt, alloc, "\n", "", "", 999);
     let spaces = nested(&rt, alloc, " ", "", "", 20);
     let text = format!(in alloc; "\"\"\"\n\n{newlines}{spaces}\"\"\"").expect(&rt, "memory");
-    assert_eq!(rt; text.len(), 1027);
+    equal(&rt, &text.len(), &1027);
     is_argument(&rt, alloc, &text, &newlines);
+    drop(text);
+    drop(spaces);
+    drop(newlines);
 }
 
 /// The value ends before the text behind it.
 fn ends_before(rt: &impl Abort, alloc: Global, value: &str, end: &str) {
     let text = format!(in alloc; "n {value}{end}").expect(rt, "memory");
     let document = read(rt, alloc, &text);
-    let (_, repr, _) = places(lone_entry(rt, lone_node(rt, &document)));
-    assert_eq!(rt; repr, value, "{end:?}");
+    let repr = spelling(rt, lone_entry(rt, lone_node(rt, &document)));
+    holds(rt, repr == value, &text);
+    drop(document);
+    drop(text);
 }
 
 #[test]
 fn what_ends_a_value(rt: HostRuntime) {
     let alloc = rt.alloc();
-    for value in ["1", "1.5", "#true", "a", "\"a\"", "#\"a\"#"] {
-        ends_before(&rt, alloc, value, "");
-        ends_before(&rt, alloc, value, ";");
-        ends_before(&rt, alloc, value, "\n");
-        ends_before(&rt, alloc, value, " ");
-        ends_before(&rt, alloc, value, "//");
-        ends_before(&rt, alloc, value, "/**/");
-        ends_before(&rt, alloc, value, "/-b");
-        ends_before(&rt, alloc, value, "\\\n");
-        ends_before(&rt, alloc, value, "{}");
-        ends_before(&rt, alloc, value, "/-{}");
+    let ends = &[
+        "", ";", "\n", " ", "//", "/**/", "/-b", "\\\n", "{}", "/-{}",
+    ];
+    for value in &["1", "1.5", "#true", "a", "\"a\"", "#\"a\"#"] {
+        for end in ends {
+            ends_before(&rt, alloc, value, end);
+        }
     }
 }
 
 /// The two texts, one behind the other, are refused.
 fn refuse_joined(rt: &impl Abort, alloc: Global, front: &str, text: &str) {
-    refuse(rt, alloc, &joined(rt, alloc, front, text));
+    let whole = joined(rt, alloc, front, text);
+    refuse(rt, alloc, &whole);
+    drop(whole);
 }
 
 #[test]
 fn what_ends_no_value(rt: HostRuntime) {
     let alloc = rt.alloc();
-    for end in ["(", "[", "]", "\"", "#", "/", "\\x", ")", "="] {
-        refuse_joined(&rt, alloc, "n 1", end);
-        refuse_joined(&rt, alloc, "n 1.5", end);
-        refuse_joined(&rt, alloc, "n #true", end);
-        refuse_joined(&rt, alloc, "n a", end);
-        refuse_joined(&rt, alloc, "n \"a\"", end);
-        refuse_joined(&rt, alloc, "n #\"a\"#", end);
+    let nodes = &["n 1", "n 1.5", "n #true", "n a", "n \"a\"", "n #\"a\"#"];
+    for end in &["(", "[", "]", "\"", "#", "/", "\\x", ")", "="] {
+        for node in nodes {
+            refuse_joined(&rt, alloc, node, end);
+        }
     }
 }
 
@@ -228,12 +231,13 @@ fn is_no_value(rt: &impl Abort, alloc: Global, text: &str) {
     refuse_joined(rt, alloc, "n /-", text);
     let block = format!(in alloc; "n {{ m {text}\n}}").expect(rt, "memory");
     refuse(rt, alloc, &block);
+    drop(block);
 }
 
 #[test]
 fn what_is_no_value(rt: HostRuntime) {
     let alloc = rt.alloc();
-    let texts = [
+    let texts = &[
         "170141183460469231731687303715884105728",
         "-170141183460469231731687303715884105729",
         "0xABCDEF0123456789abcdef0123456789",
@@ -295,7 +299,7 @@ fn what_is_no_value(rt: HostRuntime) {
 
 #[test]
 fn what_is_no_node(rt: HostRuntime) {
-    let texts = [
+    let texts = &[
         ";",
         "a;;",
         "1",
@@ -327,22 +331,22 @@ fn what_is_no_node(rt: HostRuntime) {
         "n (t)",
         "[n]",
     ];
-    for text in texts {
-        refuse(&rt, rt.alloc(), text);
-    }
+    refuse_each(&rt, rt.alloc(), texts);
 }
 
 /// The text is one argument of a node, and this is its value.
-fn has_value(rt: &impl Abort, alloc: Global, text: &str, value: &KdlValue) {
+fn has_value(rt: &impl Abort, alloc: Global, text: &str, value: KdlValue) {
     let document = read(rt, alloc, &joined(rt, alloc, "n ", text));
     let entry = lone_entry(rt, lone_node(rt, &document));
-    assert!(rt; entry.value() == value, "{text}");
+    holds(rt, *entry.value() == value, text);
+    drop(document);
+    drop(value);
 }
 
 /// The text is one argument of a node, and the value of this string is its value.
 fn has_string_value(rt: &impl Abort, alloc: Global, text: &str, value: &str) {
     let value = KdlValue::from_text(alloc, value).expect(rt, "memory");
-    has_value(rt, alloc, text, &value);
+    has_value(rt, alloc, text, value);
 }
 
 #[test]
@@ -351,7 +355,7 @@ fn a_value_keeps_its_kind(rt: HostRuntime) {
     has_string_value(&rt, alloc, "\"1\"", "1");
     has_string_value(&rt, alloc, "\"true\"", "true");
     has_string_value(&rt, alloc, "#\"null\"#", "null");
-    has_value(&rt, alloc, "#true", &KdlValue::from(true));
-    has_value(&rt, alloc, "0x10", &KdlValue::from(16));
-    has_value(&rt, alloc, "#null", &KdlValue::Null);
+    has_value(&rt, alloc, "#true", KdlValue::from(true));
+    has_value(&rt, alloc, "0x10", KdlValue::from(16));
+    has_value(&rt, alloc, "#null", KdlValue::Null);
 }

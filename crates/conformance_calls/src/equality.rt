@@ -1,7 +1,7 @@
 //! What equality, order and hash regard, and that they ignore spans.
 
 use crate::hash_of;
-use crate::reading::{identifier, node, prints, read, text};
+use crate::reading::{differ, equal, identifier, node, prints, read, text};
 use kdl::{KdlDocument, KdlEntry, KdlFloat, KdlIdentifier, KdlNode, KdlValue, SourceSpan};
 use std::alloc::Global;
 use std::cmp::Ordering;
@@ -21,30 +21,28 @@ fn string(rt: &impl Abort, alloc: Global, text: &str) -> KdlValue {
 
 /// The first entry of the node of a text.
 fn entry(rt: &impl Abort, alloc: Global, text: &str) -> KdlEntry {
-    match node(rt, alloc, text).entries() {
-        [entry, ..] => entry.clone().expect(rt, "memory"),
-        [] => panic!(rt; "no entry"),
-    }
-}
-
-fn check_floats_by_their_texts(rt: &impl Abort, short: &KdlFloat, long: &KdlFloat) {
-    assert!(rt; *short != *long);
-    assert_eq!(rt; short.cmp(long), Ordering::Less);
-}
-
-fn check_floats_of_one_text(rt: &impl Abort, again: &KdlFloat, long: &KdlFloat) {
-    assert!(rt; *again == *long);
-    assert_eq!(rt; again.cmp(long), Ordering::Equal);
-    assert_eq!(rt; hash_of(again), hash_of(long));
+    let node = node(rt, alloc, text);
+    let entry = node.entries().first().expect(rt, "no entry");
+    let entry = entry.clone().expect(rt, "memory");
+    drop(node);
+    entry
 }
 
 #[test]
 fn floats_by_their_texts(rt: HostRuntime) {
     let alloc = rt.alloc();
     let long = float(&rt, alloc, "103.0");
-    check_floats_by_their_texts(&rt, &float(&rt, alloc, "1.03e2"), &long);
-    check_floats_of_one_text(&rt, &float(&rt, alloc, "103.0"), &long);
-    assert!(rt; float(&rt, alloc, "#nan") == float(&rt, alloc, "#nan"));
+    let short = float(&rt, alloc, "1.03e2");
+    differ(&rt, &short, &long);
+    equal(&rt, &short.cmp(&long), &Ordering::Less);
+    drop(short);
+    let again = float(&rt, alloc, "103.0");
+    equal(&rt, &again, &long);
+    equal(&rt, &again.cmp(&long), &Ordering::Equal);
+    equal(&rt, &hash_of(&again), &hash_of(&long));
+    drop(again);
+    drop(long);
+    equal(&rt, &float(&rt, alloc, "#nan"), &float(&rt, alloc, "#nan"));
 }
 
 /// A value of each kind.
@@ -59,11 +57,12 @@ fn kinds(rt: &impl Abort, alloc: Global) -> Vec<KdlValue> {
     .expect(rt, "memory")
 }
 
-fn check_values_of_other_kinds_differ(rt: &impl Abort, values: &[KdlValue]) {
+/// Each value equals itself and no other, and so do their hashes.
+fn differ_in_kind(rt: &impl Abort, values: &[KdlValue]) {
     for (i, a) in values.iter().enumerate() {
         for (j, b) in values.iter().enumerate() {
-            assert_eq!(rt; a == b, i == j);
-            assert_eq!(rt; hash_of(a) == hash_of(b), i == j);
+            equal(rt, &(a == b), &(i == j));
+            equal(rt, &(hash_of(a) == hash_of(b)), &(i == j));
         }
     }
 }
@@ -71,27 +70,14 @@ fn check_values_of_other_kinds_differ(rt: &impl Abort, values: &[KdlValue]) {
 #[test]
 fn values_of_other_kinds_differ(rt: HostRuntime) {
     let alloc = rt.alloc();
-    check_values_of_other_kinds_differ(&rt, kinds(&rt, alloc).as_slice());
+    let values = kinds(&rt, alloc);
+    differ_in_kind(&rt, values.as_slice());
+    drop(values);
     let text = string(&rt, alloc, "a");
     let same = string(&rt, alloc, "a");
-    assert_eq!(rt; hash_of(&text), hash_of(&same));
-}
-
-fn check_identifiers_by_value_and_spelling(
-    rt: &impl Abort,
-    alloc: Global,
-    name: &KdlIdentifier,
-    other: &mut KdlIdentifier,
-) {
-    other.set_span(ELSEWHERE);
-    assert!(rt; *other == *name);
-    assert_eq!(rt; hash_of(other), hash_of(name));
-    other.set_repr(text(rt, alloc, "\"a\""));
-    assert!(rt; *other != *name);
-    other.clear_format();
-    assert!(rt; *other == *name);
-    other.set_value(text(rt, alloc, "b"));
-    assert!(rt; *other != *name);
+    equal(&rt, &hash_of(&text), &hash_of(&same));
+    drop(text);
+    drop(same);
 }
 
 #[test]
@@ -99,74 +85,75 @@ fn identifiers_by_value_and_spelling(rt: HostRuntime) {
     let alloc = rt.alloc();
     let name = identifier(&rt, alloc, "a");
     let mut other = identifier(&rt, alloc, "a");
-    check_identifiers_by_value_and_spelling(&rt, alloc, &name, &mut other);
-}
-
-fn check_entries_by_their_spellings(
-    rt: &impl Abort,
-    hexadecimal: &mut KdlEntry,
-    decimal: &mut KdlEntry,
-) {
-    assert!(rt; hexadecimal.value() == decimal.value());
-    assert!(rt; *hexadecimal != *decimal);
-    hexadecimal.clear_format();
-    decimal.clear_format();
-    assert!(rt; *hexadecimal == *decimal);
-    assert_eq!(rt; hash_of(hexadecimal), hash_of(decimal));
-    decimal.set_span(ELSEWHERE);
-    assert!(rt; *hexadecimal == *decimal);
-    assert_eq!(rt; hash_of(hexadecimal), hash_of(decimal));
+    other.set_span(ELSEWHERE);
+    equal(&rt, &other, &name);
+    equal(&rt, &hash_of(&other), &hash_of(&name));
+    other.set_repr(text(&rt, alloc, "\"a\""));
+    differ(&rt, &other, &name);
+    other.clear_format();
+    equal(&rt, &other, &name);
+    other.set_value(text(&rt, alloc, "b"));
+    differ(&rt, &other, &name);
+    drop(name);
+    drop(other);
 }
 
 #[test]
 fn entries_by_their_spellings(rt: HostRuntime) {
     let alloc = rt.alloc();
     let mut decimal = entry(&rt, alloc, "n 16");
-    check_entries_by_their_spellings(&rt, &mut entry(&rt, alloc, "n 0x10"), &mut decimal);
-}
-
-fn check_a_new_value_under_the_old_spelling(rt: &impl Abort, alloc: Global, entry: &mut KdlEntry) {
-    entry.set_value(KdlValue::from(5));
-    assert_eq!(rt; entry.value().as_integer(), Some(5));
-    prints(rt, alloc, entry, " 0x10");
-    entry.clear_format();
-    prints(rt, alloc, entry, "5");
+    let mut hexadecimal = entry(&rt, alloc, "n 0x10");
+    equal(&rt, hexadecimal.value(), decimal.value());
+    differ(&rt, &hexadecimal, &decimal);
+    hexadecimal.clear_format();
+    decimal.clear_format();
+    equal(&rt, &hexadecimal, &decimal);
+    equal(&rt, &hash_of(&hexadecimal), &hash_of(&decimal));
+    decimal.set_span(ELSEWHERE);
+    equal(&rt, &hexadecimal, &decimal);
+    equal(&rt, &hash_of(&hexadecimal), &hash_of(&decimal));
+    drop(hexadecimal);
+    drop(decimal);
 }
 
 #[test]
 fn a_new_value_under_the_old_spelling(rt: HostRuntime) {
     let alloc = rt.alloc();
-    check_a_new_value_under_the_old_spelling(&rt, alloc, &mut entry(&rt, alloc, "n 0x10"));
-}
-
-fn check_nodes_but_for_their_spans(rt: &impl Abort, first: &KdlNode, same: &mut KdlNode) {
-    same.set_span(ELSEWHERE);
-    assert!(rt; *same == *first);
-    assert_eq!(rt; hash_of(same), hash_of(first));
+    let mut entry = entry(&rt, alloc, "n 0x10");
+    entry.set_value(KdlValue::from(5));
+    equal(&rt, &entry.value().as_integer(), &Some(5));
+    prints(&rt, alloc, &entry, " 0x10");
+    entry.clear_format();
+    prints(&rt, alloc, &entry, "5");
+    drop(entry);
 }
 
 #[test]
 fn nodes_by_their_leading_texts(rt: HostRuntime) {
     let alloc = rt.alloc();
     let first = node(&rt, alloc, "n 1");
-    check_nodes_but_for_their_spans(&rt, &first, &mut node(&rt, alloc, "n 1"));
-    assert!(rt; node(&rt, alloc, "\nn 1") != first);
-}
-
-fn check_documents_but_for_their_spans(
-    rt: &impl Abort,
-    first: &KdlDocument,
-    same: &mut KdlDocument,
-) {
+    let mut same = node(&rt, alloc, "n 1");
     same.set_span(ELSEWHERE);
-    assert!(rt; *same == *first);
-    assert_eq!(rt; hash_of(same), hash_of(first));
+    equal(&rt, &same, &first);
+    equal(&rt, &hash_of(&same), &hash_of(&first));
+    drop(same);
+    let other = node(&rt, alloc, "\nn 1");
+    differ(&rt, &other, &first);
+    drop(other);
+    drop(first);
 }
 
 #[test]
 fn documents_but_for_their_spans(rt: HostRuntime) {
     let alloc = rt.alloc();
     let first = read(&rt, alloc, "n 1\n");
-    check_documents_but_for_their_spans(&rt, &first, &mut read(&rt, alloc, "n 1\n"));
-    assert!(rt; read(&rt, alloc, "n 1\n\n") != first);
+    let mut same = read(&rt, alloc, "n 1\n");
+    same.set_span(ELSEWHERE);
+    equal(&rt, &same, &first);
+    equal(&rt, &hash_of(&same), &hash_of(&first));
+    drop(same);
+    let other = read(&rt, alloc, "n 1\n\n");
+    differ(&rt, &other, &first);
+    drop(other);
+    drop(first);
 }

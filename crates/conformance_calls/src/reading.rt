@@ -1,9 +1,29 @@
 //! What the tests of calls share: items of a text or a name, and what is printed.
 
-use kdl::{KdlDocument, KdlIdentifier, KdlNode, ParseFailure};
+use kdl::{KdlDocument, KdlIdentifier, KdlNode};
 use std::alloc::Global;
-use std::fmt::Display;
+use std::fmt::{Debug, Display};
 use std::process::Abort;
+
+/// The two values are equal.
+pub fn equal<T: PartialEq + Debug>(rt: &impl Abort, found: &T, wanted: &T) {
+    assert!(rt; *found == *wanted, "{found:?} in place of {wanted:?}");
+}
+
+/// The two values differ.
+pub fn differ<T: PartialEq + Debug>(rt: &impl Abort, found: &T, other: &T) {
+    assert!(rt; *found != *other, "{found:?} twice");
+}
+
+/// The two texts are equal.
+pub fn says(rt: &impl Abort, found: &str, wanted: &str) {
+    assert!(rt; found == wanted, "{found:?} in place of {wanted:?}");
+}
+
+/// The condition holds; if not, the message shows the text.
+pub fn holds(rt: &impl Abort, condition: bool, text: &str) {
+    assert!(rt; condition, "{text:?}");
+}
 
 /// The text, owned.
 pub fn text(rt: &impl Abort, alloc: Global, text: &str) -> String {
@@ -19,8 +39,7 @@ pub fn identifier(rt: &impl Abort, alloc: Global, value: &str) -> KdlIdentifier 
 pub fn read(rt: &impl Abort, alloc: Global, text: &str) -> KdlDocument {
     match KdlDocument::parse(alloc, text) {
         Ok(document) => document,
-        Err(ParseFailure::Memory) => panic!(rt; "{text:?} wants memory"),
-        Err(ParseFailure::Syntax(_)) => panic!(rt; "{text:?} is refused"),
+        Err(failure) => panic!(rt; "{text:?}: {failure}"),
     }
 }
 
@@ -28,13 +47,13 @@ pub fn read(rt: &impl Abort, alloc: Global, text: &str) -> KdlDocument {
 pub fn node(rt: &impl Abort, alloc: Global, text: &str) -> KdlNode {
     match KdlNode::parse(alloc, text) {
         Ok(node) => node,
-        Err(ParseFailure::Memory) => panic!(rt; "{text:?} wants memory"),
-        Err(ParseFailure::Syntax(_)) => panic!(rt; "{text:?} is refused"),
+        Err(failure) => panic!(rt; "{text:?}: {failure}"),
     }
 }
 
 /// The item prints the text.
 pub fn prints(rt: &impl Abort, alloc: Global, item: &impl Display, text: &str) {
     let printed = item.to_string(alloc).expect(rt, "memory");
-    assert_eq!(rt; printed.as_str(), text);
+    says(rt, printed.as_str(), text);
+    drop(printed);
 }

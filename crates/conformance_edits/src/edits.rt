@@ -1,7 +1,7 @@
 //! Entries of a node put in, taken out, kept and sorted, and what the node prints then.
 
 use crate::callers::{insert_argument, insert_first, property, remove_argument, set_typed};
-use crate::reading::{identifier, node, prints};
+use crate::reading::{equal, holds, identifier, is_absent, is_whole, node, prints, says};
 use kdl::{KdlEntry, KdlIdentifier, KdlNode, KdlValue, NodeKey};
 use std::alloc::Global;
 use std::process::Abort;
@@ -21,7 +21,7 @@ fn string(rt: &impl Abort, alloc: Global, text: &str) -> KdlValue {
 fn old_prints(rt: &impl Abort, alloc: Global, old: Option<&KdlEntry>, text: &str) {
     match old {
         Some(old) => prints(rt, alloc, old, text),
-        None => assert_eq!(rt; "", text),
+        None => says(rt, "", text),
     }
 }
 
@@ -36,7 +36,10 @@ fn sets(
 ) {
     let key = NodeKey::Key(identifier(rt, alloc, name));
     match node.insert(key, KdlEntry::new(value)) {
-        Ok(old) => old_prints(rt, alloc, old.as_ref(), text),
+        Ok(old) => {
+            old_prints(rt, alloc, old.as_ref(), text);
+            drop(old);
+        }
         Err(_) => panic!(rt; "memory"),
     }
 }
@@ -45,6 +48,7 @@ fn sets(
 fn takes(rt: &impl Abort, alloc: Global, node: &mut KdlNode, name: &str, text: &str) {
     let old = node.remove(NodeKey::Key(identifier(rt, alloc, name)));
     old_prints(rt, alloc, old.as_ref(), text);
+    drop(old);
 }
 
 /// Puts an argument behind the other entries.
@@ -64,6 +68,13 @@ fn add_property(rt: &impl Abort, alloc: Global, node: &mut KdlNode, name: &str, 
     }
 }
 
+/// Puts the value before all arguments.
+fn add_first(rt: &impl Abort, node: &mut KdlNode, value: KdlValue) {
+    let inserted = insert_first(node, value);
+    holds(rt, inserted.is_ok(), "memory");
+    drop(inserted);
+}
+
 /// Puts the value before the argument at the index, a place that is there.
 fn add_argument(rt: &impl Abort, node: &mut KdlNode, index: usize, value: KdlValue) {
     match insert_argument(node, index, value) {
@@ -73,79 +84,59 @@ fn add_argument(rt: &impl Abort, node: &mut KdlNode, index: usize, value: KdlVal
     }
 }
 
-fn check_the_last_of_two_is_replaced_and_the_first_removed(
-    rt: &impl Abort,
-    alloc: Global,
-    foo: &mut KdlNode,
-) {
-    sets(rt, alloc, foo, "x", KdlValue::from(3), " x=2");
-    prints(rt, alloc, foo, "foo x=1 x=3\n");
-    takes(rt, alloc, foo, "x", " x=1");
-    prints(rt, alloc, foo, "foo x=3\n");
-    takes(rt, alloc, foo, "y", "");
-    prints(rt, alloc, foo, "foo x=3\n");
-}
-
 #[test]
 fn the_last_of_two_is_replaced_and_the_first_removed(rt: HostRuntime) {
     let alloc = rt.alloc();
     let mut foo = node(&rt, alloc, "foo x=1 x=2\n");
-    check_the_last_of_two_is_replaced_and_the_first_removed(&rt, alloc, &mut foo);
+    sets(&rt, alloc, &mut foo, "x", KdlValue::from(3), " x=2");
+    prints(&rt, alloc, &foo, "foo x=1 x=3\n");
+    takes(&rt, alloc, &mut foo, "x", " x=1");
+    prints(&rt, alloc, &foo, "foo x=3\n");
+    takes(&rt, alloc, &mut foo, "y", "");
+    prints(&rt, alloc, &foo, "foo x=3\n");
+    drop(foo);
 }
 
 /// The last property of that name is this whole number.
 fn has_whole_property(rt: &impl Abort, node: &KdlNode, name: &str, value: i128) {
     let found = property(node, name).expect(rt, "no property");
-    assert_eq!(rt; found.as_integer(), Some(value));
-}
-
-fn check_two_properties_are_pushed_under_one_name(
-    rt: &impl Abort,
-    alloc: Global,
-    foo: &mut KdlNode,
-) {
-    add_property(rt, alloc, foo, "x", KdlValue::from(1));
-    add_property(rt, alloc, foo, "x", KdlValue::from(2));
-    has_whole_property(rt, foo, "x", 2);
-    assert!(rt; property(foo, "y").is_none());
-    sets(rt, alloc, foo, "x", KdlValue::from(3), "x=2");
-    takes(rt, alloc, foo, "x", "x=1");
-    prints(rt, alloc, foo, "foo x=3\n");
+    is_whole(rt, Some(found), value);
 }
 
 #[test]
 fn two_properties_are_pushed_under_one_name(rt: HostRuntime) {
     let alloc = rt.alloc();
     let mut foo = built(&rt, alloc, "foo");
-    check_two_properties_are_pushed_under_one_name(&rt, alloc, &mut foo);
-}
-
-fn check_names_are_compared_by_value(rt: &impl Abort, alloc: Global, n: &mut KdlNode) {
-    sets(rt, alloc, n, "x", KdlValue::from(3), " #\"x\"#=2");
-    prints(rt, alloc, n, "n \"x\"=1 x=3");
-    takes(rt, alloc, n, "x", " \"x\"=1");
-    prints(rt, alloc, n, "n x=3");
+    add_property(&rt, alloc, &mut foo, "x", KdlValue::from(1));
+    add_property(&rt, alloc, &mut foo, "x", KdlValue::from(2));
+    has_whole_property(&rt, &foo, "x", 2);
+    is_absent(&rt, property(&foo, "y"));
+    sets(&rt, alloc, &mut foo, "x", KdlValue::from(3), "x=2");
+    takes(&rt, alloc, &mut foo, "x", "x=1");
+    prints(&rt, alloc, &foo, "foo x=3\n");
+    drop(foo);
 }
 
 #[test]
 fn names_are_compared_by_value(rt: HostRuntime) {
     let alloc = rt.alloc();
     let mut n = node(&rt, alloc, "n \"x\"=1 #\"x\"#=2");
-    check_names_are_compared_by_value(&rt, alloc, &mut n);
-}
-
-fn check_the_only_property_is_removed(rt: &impl Abort, alloc: Global, n: &mut KdlNode) {
-    takes(rt, alloc, n, "x", " x=1");
-    assert!(rt; n.is_empty());
-    assert_eq!(rt; n.len(), 0);
-    prints(rt, alloc, n, "n");
+    sets(&rt, alloc, &mut n, "x", KdlValue::from(3), " #\"x\"#=2");
+    prints(&rt, alloc, &n, "n \"x\"=1 x=3");
+    takes(&rt, alloc, &mut n, "x", " \"x\"=1");
+    prints(&rt, alloc, &n, "n x=3");
+    drop(n);
 }
 
 #[test]
 fn the_only_property_is_removed(rt: HostRuntime) {
     let alloc = rt.alloc();
     let mut n = node(&rt, alloc, "n x=1");
-    check_the_only_property_is_removed(&rt, alloc, &mut n);
+    takes(&rt, alloc, &mut n, "x", " x=1");
+    holds(&rt, n.is_empty(), "no entries");
+    equal(&rt, &n.len(), &0);
+    prints(&rt, alloc, &n, "n");
+    drop(n);
 }
 
 /// Sets a property of that name and that type.
@@ -159,39 +150,35 @@ fn sets_typed(
 ) {
     let key = identifier(rt, alloc, name);
     let ty = KdlIdentifier::from_text(alloc, ty).expect(rt, "memory");
-    assert!(rt; set_typed(node, key, ty, value).is_ok());
-}
-
-fn check_a_property_without_a_name_takes_the_key(rt: &impl Abort, alloc: Global, n: &mut KdlNode) {
-    sets(rt, alloc, n, "x", KdlValue::from(2), " x=1");
-    prints(rt, alloc, n, "n x=2");
-    sets_typed(rt, alloc, n, "a b", "u8", KdlValue::from(7));
-    prints(rt, alloc, n, "n x=2 \"a b\"=(u8)7");
+    let inserted = set_typed(node, key, ty, value);
+    holds(rt, inserted.is_ok(), "memory");
+    drop(inserted);
 }
 
 #[test]
 fn a_property_without_a_name_takes_the_key(rt: HostRuntime) {
     let alloc = rt.alloc();
     let mut n = node(&rt, alloc, "n x=1");
-    check_a_property_without_a_name_takes_the_key(&rt, alloc, &mut n);
-}
-
-fn check_arguments_are_put_in_by_their_index(rt: &impl Abort, alloc: Global, foo: &mut KdlNode) {
-    add(rt, foo, string(rt, alloc, "pos0"));
-    sets(rt, alloc, foo, "keyword", KdlValue::from(6), "");
-    add(rt, foo, string(rt, alloc, "pos1"));
-    assert!(rt; insert_first(foo, string(rt, alloc, "inserted0")).is_ok());
-    add_argument(rt, foo, 2, string(rt, alloc, "inserted1"));
-    let printed = "foo inserted0 pos0 keyword=6 inserted1 pos1\n";
-    prints(rt, alloc, foo, printed);
-    assert_eq!(rt; foo.len(), 5);
+    sets(&rt, alloc, &mut n, "x", KdlValue::from(2), " x=1");
+    prints(&rt, alloc, &n, "n x=2");
+    sets_typed(&rt, alloc, &mut n, "a b", "u8", KdlValue::from(7));
+    prints(&rt, alloc, &n, "n x=2 \"a b\"=(u8)7");
+    drop(n);
 }
 
 #[test]
 fn arguments_are_put_in_by_their_index(rt: HostRuntime) {
     let alloc = rt.alloc();
     let mut foo = built(&rt, alloc, "foo");
-    check_arguments_are_put_in_by_their_index(&rt, alloc, &mut foo);
+    add(&rt, &mut foo, string(&rt, alloc, "pos0"));
+    sets(&rt, alloc, &mut foo, "keyword", KdlValue::from(6), "");
+    add(&rt, &mut foo, string(&rt, alloc, "pos1"));
+    add_first(&rt, &mut foo, string(&rt, alloc, "inserted0"));
+    add_argument(&rt, &mut foo, 2, string(&rt, alloc, "inserted1"));
+    let printed = "foo inserted0 pos0 keyword=6 inserted1 pos1\n";
+    prints(&rt, alloc, &foo, printed);
+    equal(&rt, &foo.len(), &5);
+    drop(foo);
 }
 
 #[test]
@@ -200,57 +187,49 @@ fn an_argument_is_put_in_behind_a_property(rt: HostRuntime) {
     let mut n = node(&rt, alloc, "n a k=1");
     add_argument(&rt, &mut n, 1, string(&rt, alloc, "b"));
     prints(&rt, alloc, &n, "n a k=1 b");
+    drop(n);
 }
 
 /// Takes out the argument at the index, which is there and prints this text.
 fn takes_argument(rt: &impl Abort, alloc: Global, node: &mut KdlNode, index: usize, text: &str) {
     let old = remove_argument(node, index).expect(rt, "no argument");
-    let printed = old.to_string(alloc).expect(rt, "memory");
-    assert_eq!(rt; printed.as_str(), text);
-}
-
-fn check_arguments_are_removed_by_their_index(rt: &impl Abort, alloc: Global, n: &mut KdlNode) {
-    takes_argument(rt, alloc, n, 1, " 3");
-    assert!(rt; remove_argument(n, 1).is_none());
-    prints(rt, alloc, n, "n 1 k=2");
+    prints(rt, alloc, &old, text);
+    drop(old);
 }
 
 #[test]
 fn arguments_are_removed_by_their_index(rt: HostRuntime) {
     let alloc = rt.alloc();
     let mut n = node(&rt, alloc, "n 1 k=2 3");
-    check_arguments_are_removed_by_their_index(&rt, alloc, &mut n);
-}
-
-fn check_entries_are_kept_in_order(rt: &impl Abort, alloc: Global, n: &mut KdlNode) {
-    n.retain(|entry| entry.name().is_none());
-    prints(rt, alloc, n, "n 1 3");
-    n.clear();
-    assert!(rt; n.is_empty());
-    prints(rt, alloc, n, "n");
+    takes_argument(&rt, alloc, &mut n, 1, " 3");
+    holds(&rt, remove_argument(&mut n, 1).is_none(), "no argument");
+    prints(&rt, alloc, &n, "n 1 k=2");
+    drop(n);
 }
 
 #[test]
 fn entries_are_kept_in_order(rt: HostRuntime) {
     let alloc = rt.alloc();
     let mut n = node(&rt, alloc, "n 1 k=2 3");
-    check_entries_are_kept_in_order(&rt, alloc, &mut n);
-}
-
-fn check_entries_are_sorted(rt: &impl Abort, alloc: Global, n: &mut KdlNode) {
-    n.sort_by_key(|entry| entry.value().as_integer())
-        .expect(rt, "memory");
-    prints(rt, alloc, n, "n c=0 b=1 a=1");
-    n.sort_by(|a, b| b.value().cmp(a.value()))
-        .expect(rt, "memory");
-    prints(rt, alloc, n, "n b=1 a=1 c=0");
+    n.retain(|entry| entry.name().is_none());
+    prints(&rt, alloc, &n, "n 1 3");
+    n.clear();
+    holds(&rt, n.is_empty(), "no entries");
+    prints(&rt, alloc, &n, "n");
+    drop(n);
 }
 
 #[test]
 fn entries_are_sorted(rt: HostRuntime) {
     let alloc = rt.alloc();
     let mut n = node(&rt, alloc, "n b=1 a=1 c=0");
-    check_entries_are_sorted(&rt, alloc, &mut n);
+    n.sort_by_key(|entry| entry.value().as_integer())
+        .expect(&rt, "memory");
+    prints(&rt, alloc, &n, "n c=0 b=1 a=1");
+    n.sort_by(|a, b| b.value().cmp(a.value()))
+        .expect(&rt, "memory");
+    prints(&rt, alloc, &n, "n b=1 a=1 c=0");
+    drop(n);
 }
 
 /// The entry of a text.
@@ -272,38 +251,33 @@ fn exchange(rt: &impl Abort, alloc: Global, node: &mut KdlNode, at: usize, text:
 /// The one node of the text has so many entries.
 fn has_entries(rt: &impl Abort, alloc: Global, text: &str, count: usize) {
     let node = node(rt, alloc, text);
-    assert_eq!(rt; node.len(), count);
-}
-
-fn check_one_entry_is_exchanged_and_no_other_byte(rt: &impl Abort, alloc: Global, a: &mut KdlNode) {
-    sets(rt, alloc, a, "b", string(rt, alloc, "x y"), " b=2");
-    prints(rt, alloc, a, "a 1 b=\"x y\" // c\n");
-    has_entries(rt, alloc, "a 1 b=\"x y\" // c\n", 2);
-    exchange(rt, alloc, a, 1, " b=0x3");
-    prints(rt, alloc, a, "a 1 b=0x3 // c\n");
+    equal(rt, &node.len(), &count);
+    drop(node);
 }
 
 #[test]
 fn one_entry_is_exchanged_and_no_other_byte(rt: HostRuntime) {
     let alloc = rt.alloc();
     let mut a = node(&rt, alloc, "a 1 b=2 // c\n");
-    check_one_entry_is_exchanged_and_no_other_byte(&rt, alloc, &mut a);
-}
-
-fn check_a_value_is_set_and_its_spelling_cleared(rt: &impl Abort, alloc: Global, n: &mut KdlNode) {
-    for entry in n.entries_mut().iter_mut() {
-        entry.set_value(KdlValue::from(5));
-    }
-    prints(rt, alloc, n, "n 0x10");
-    for entry in n.entries_mut().iter_mut() {
-        entry.clear_format();
-    }
-    prints(rt, alloc, n, "n 5");
+    sets(&rt, alloc, &mut a, "b", string(&rt, alloc, "x y"), " b=2");
+    prints(&rt, alloc, &a, "a 1 b=\"x y\" // c\n");
+    has_entries(&rt, alloc, "a 1 b=\"x y\" // c\n", 2);
+    exchange(&rt, alloc, &mut a, 1, " b=0x3");
+    prints(&rt, alloc, &a, "a 1 b=0x3 // c\n");
+    drop(a);
 }
 
 #[test]
 fn a_value_is_set_and_its_spelling_cleared(rt: HostRuntime) {
     let alloc = rt.alloc();
     let mut n = node(&rt, alloc, "n 0x10");
-    check_a_value_is_set_and_its_spelling_cleared(&rt, alloc, &mut n);
+    for entry in n.entries_mut().iter_mut() {
+        entry.set_value(KdlValue::from(5));
+    }
+    prints(&rt, alloc, &n, "n 0x10");
+    for entry in n.entries_mut().iter_mut() {
+        entry.clear_format();
+    }
+    prints(&rt, alloc, &n, "n 5");
+    drop(n);
 }

@@ -1,16 +1,30 @@
 //! What the tests of look-ups and edits share: items of a text or a name, and what is printed.
 
-use kdl::{KdlDocument, KdlIdentifier, KdlNode, KdlValue, NodeKey, ParseFailure};
+use kdl::{KdlDocument, KdlIdentifier, KdlNode, KdlValue, NodeKey};
 use std::alloc::Global;
-use std::fmt::Display;
+use std::fmt::{Debug, Display};
 use std::process::Abort;
+
+/// The two values are equal.
+pub fn equal<T: PartialEq + Debug>(rt: &impl Abort, found: &T, wanted: &T) {
+    assert!(rt; *found == *wanted, "{found:?} in place of {wanted:?}");
+}
+
+/// The two texts are equal.
+pub fn says(rt: &impl Abort, found: &str, wanted: &str) {
+    assert!(rt; found == wanted, "{found:?} in place of {wanted:?}");
+}
+
+/// The condition holds; if not, the message shows the text.
+pub fn holds(rt: &impl Abort, condition: bool, text: &str) {
+    assert!(rt; condition, "{text:?}");
+}
 
 /// The document of a text.
 pub fn read(rt: &impl Abort, alloc: Global, text: &str) -> KdlDocument {
     match KdlDocument::parse(alloc, text) {
         Ok(document) => document,
-        Err(ParseFailure::Memory) => panic!(rt; "{text:?} wants memory"),
-        Err(ParseFailure::Syntax(_)) => panic!(rt; "{text:?} is refused"),
+        Err(failure) => panic!(rt; "{text:?}: {failure}"),
     }
 }
 
@@ -20,7 +34,9 @@ pub fn node(rt: &impl Abort, alloc: Global, text: &str) -> KdlNode {
     let [node] = document.nodes() else {
         panic!(rt; "not one node");
     };
-    node.clone().expect(rt, "memory")
+    let node = node.clone().expect(rt, "memory");
+    drop(document);
+    node
 }
 
 /// An identifier of that value.
@@ -33,13 +49,20 @@ pub fn key(rt: &impl Abort, alloc: Global, name: &str) -> NodeKey {
     NodeKey::from_text(alloc, name).expect(rt, "memory")
 }
 
-/// The whole number of a value, where there is one.
-pub fn integer(value: Option<&KdlValue>) -> Option<i128> {
-    value.and_then(|v| v.as_integer())
+/// The value is there, and is this whole number.
+pub fn is_whole(rt: &impl Abort, value: Option<&KdlValue>, number: i128) {
+    let value = value.expect(rt, "no value");
+    equal(rt, &value.as_integer(), &Some(number));
+}
+
+/// There is no such item.
+pub fn is_absent<T>(rt: &impl Abort, item: Option<&T>) {
+    assert!(rt; item.is_none());
 }
 
 /// The item prints the text.
 pub fn prints(rt: &impl Abort, alloc: Global, item: &impl Display, text: &str) {
     let printed = item.to_string(alloc).expect(rt, "memory");
-    assert_eq!(rt; printed.as_str(), text);
+    says(rt, printed.as_str(), text);
+    drop(printed);
 }

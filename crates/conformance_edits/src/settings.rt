@@ -1,6 +1,6 @@
 //! One setting of a file that people keep is changed, and all else stays as it is, byte for byte.
 
-use crate::reading::{identifier, prints, read};
+use crate::reading::{holds, identifier, prints, read};
 use kdl::{KdlDocument, KdlEntry, KdlNode, KdlValue, NodeKey};
 use std::alloc::Global;
 use std::process::Abort;
@@ -8,10 +8,9 @@ use std::process::Abort;
 /// Gives the node a property of that name, in the place of the last one there.
 fn put(rt: &impl Abort, alloc: Global, node: &mut KdlNode, name: &str, value: KdlValue) {
     let key = NodeKey::Key(identifier(rt, alloc, name));
-    match node.insert(key, KdlEntry::new(value)) {
-        Ok(_) => {}
-        Err(_) => panic!(rt; "no memory"),
-    }
+    let inserted = node.insert(key, KdlEntry::new(value));
+    holds(rt, inserted.is_ok(), "memory");
+    drop(inserted);
 }
 
 /// Gives each node of that name the port.
@@ -44,4 +43,5 @@ fn one_setting_of_a_commented_file_is_changed(rt: HostRuntime) {
         "// Who may connect.\nserver \"main\" port=8443 /* the old one */ tls=#true {\n    allow \"10.0.0.0/8\" // the office\n}\n\n/-debug level=3\nlog  file=#\"C:\\log\"#\n";
     let mut document = read(&rt, alloc, text);
     prints_with_port(&rt, alloc, &mut document, 8443, changed);
+    drop(document);
 }
