@@ -5,7 +5,7 @@ use crate::reading::{
     is_whole, lone_diagnostic, lone_entry, lone_node, read, two_entries, two_nodes,
 };
 use conformance_text::characters::{NEWLINES, SPACES};
-use kdl::{KdlDocument, KdlError, ParseFailure, Severity};
+use kdl::{KdlDocument, KdlError, KdlNode, ParseFailure, Severity};
 use std::alloc::Global;
 use std::process::Abort;
 
@@ -26,24 +26,27 @@ fn tells(rt: &impl Abort, error: &KdlError, text: &str) {
     equal(rt, &diagnostic.severity, &Severity::Error);
 }
 
+fn check_three_arguments(rt: &impl Abort, node: &KdlNode) {
+    is_called(rt, Some(node.name()), "node");
+    holds(rt, node.ty().is_none(), "no type");
+    holds(rt, node.children().is_none(), "no block");
+    has_ends(rt, node, "", "", ";");
+    let [one, two, three] = node.entries() else {
+        panic!(rt; "not three entries");
+    };
+    is_whole(rt, one, 1);
+    is_string(rt, two, "two");
+    is_string(rt, three, "three");
+    has_places(rt, one, " ", "1", "");
+    has_places(rt, two, " ", "\"two\"", "");
+    has_places(rt, three, " ", "three", "");
+}
+
 #[test]
 fn one_node_with_three_arguments(rt: HostRuntime) {
     let document = read(&rt, rt.alloc(), "node 1 \"two\" three;\n");
     has_margins(&rt, &document, "", "\n");
-    let node = lone_node(&rt, &document);
-    is_called(&rt, Some(node.name()), "node");
-    holds(&rt, node.ty().is_none(), "no type");
-    holds(&rt, node.children().is_none(), "no block");
-    has_ends(&rt, node, "", "", ";");
-    let [one, two, three] = node.entries() else {
-        panic!(rt; "not three entries");
-    };
-    is_whole(&rt, one, 1);
-    is_string(&rt, two, "two");
-    is_string(&rt, three, "three");
-    has_places(&rt, one, " ", "1", "");
-    has_places(&rt, two, " ", "\"two\"", "");
-    has_places(&rt, three, " ", "three", "");
+    check_three_arguments(&rt, lone_node(&rt, &document));
     drop(document);
 }
 

@@ -6,7 +6,7 @@ use crate::reading::{
     read, refuse, two_entries, two_nodes,
 };
 use conformance_text::characters::{BANNED, NEWLINES, SPACES};
-use kdl::KdlDocument;
+use kdl::{KdlDocument, KdlNode};
 use std::alloc::Global;
 use std::process::Abort;
 
@@ -132,6 +132,22 @@ fn newlines_in_wrong_places(rt: HostRuntime) {
     }
 }
 
+/// The space stands in each place of the node `(t)n` that it can stand in.
+fn check_spaced_node(rt: &impl Abort, node: &KdlNode, space: &str) {
+    has_ends(rt, node, space, space, ";");
+    is_called(rt, node.ty(), "t");
+    has_node_type_places(rt, node, space, space, space);
+    has_around_block(rt, node, space, "");
+    has_ends(rt, lone_node(rt, block(rt, node)), space, space, "");
+    let (one, two) = two_entries(rt, node);
+    has_places(rt, one, space, "1", "");
+    has_type_places(rt, one, space, space, space);
+    has_places(rt, two, space, "2", "");
+    has_type_places(rt, two, space, space, space);
+    is_called(rt, two.name(), "k");
+    has_key_places(rt, two, space, space);
+}
+
 #[test]
 fn a_space_in_each_place(rt: HostRuntime) {
     let alloc = rt.alloc();
@@ -139,19 +155,7 @@ fn a_space_in_each_place(rt: HostRuntime) {
         let pattern = "~(~t~)~n~(~u~)~1~k~=~(~v~)~2~{~m~}~;~";
         let document = read_filled(&rt, alloc, pattern, space);
         has_margins(&rt, &document, "", space);
-        let node = lone_node(&rt, &document);
-        has_ends(&rt, node, space, space, ";");
-        is_called(&rt, node.ty(), "t");
-        has_node_type_places(&rt, node, space, space, space);
-        has_around_block(&rt, node, space, "");
-        has_ends(&rt, lone_node(&rt, block(&rt, node)), space, space, "");
-        let (one, two) = two_entries(&rt, node);
-        has_places(&rt, one, space, "1", "");
-        has_type_places(&rt, one, space, space, space);
-        has_places(&rt, two, space, "2", "");
-        has_type_places(&rt, two, space, space, space);
-        is_called(&rt, two.name(), "k");
-        has_key_places(&rt, two, space, space);
+        check_spaced_node(&rt, lone_node(&rt, &document), space);
         drop(document);
     }
 }

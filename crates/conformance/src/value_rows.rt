@@ -4,27 +4,30 @@ use crate::reading::{
     equal, has_places, holds, is_argument, is_called, is_float, is_string, is_whole, joined,
     lone_entry, lone_node, nested, read, refuse, refuse_each, says, spelling,
 };
-use kdl::KdlValue;
+use kdl::{KdlNode, KdlValue};
 use std::alloc::Global;
 use std::process::Abort;
+
+fn check_numbers_and_keywords(rt: &impl Abort, node: &KdlNode) {
+    let [a, b, c, d, e, f, g] = node.entries() else {
+        panic!(rt; "not seven entries");
+    };
+    is_whole(rt, a, 31);
+    is_whole(rt, b, -5);
+    is_whole(rt, c, 15);
+    is_float(rt, d, "#-inf");
+    holds(rt, e.value().is_null(), "null");
+    equal(rt, &f.value().as_bool(), &Some(true));
+    equal(rt, &g.value().as_bool(), &Some(false));
+    has_places(rt, a, " ", "+0x1F", "");
+    has_places(rt, d, " ", "#-inf", "");
+}
 
 #[test]
 fn numbers_and_keywords_behind_one_another(rt: HostRuntime) {
     let text = "n +0x1F -0b101 0O17 #-inf #null #true #false";
     let document = read(&rt, rt.alloc(), text);
-    let node = lone_node(&rt, &document);
-    let [a, b, c, d, e, f, g] = node.entries() else {
-        panic!(rt; "not seven entries");
-    };
-    is_whole(&rt, a, 31);
-    is_whole(&rt, b, -5);
-    is_whole(&rt, c, 15);
-    is_float(&rt, d, "#-inf");
-    holds(&rt, e.value().is_null(), "null");
-    equal(&rt, &f.value().as_bool(), &Some(true));
-    equal(&rt, &g.value().as_bool(), &Some(false));
-    has_places(&rt, a, " ", "+0x1F", "");
-    has_places(&rt, d, " ", "#-inf", "");
+    check_numbers_and_keywords(&rt, lone_node(&rt, &document));
     drop(document);
 }
 

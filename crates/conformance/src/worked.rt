@@ -4,12 +4,32 @@ use crate::reading::{
     block, has_around_block, has_ends, has_margins, has_places, is_called, is_float, is_range,
     is_string, is_whole, lone_entry, read, says, two_nodes,
 };
-use kdl::{KdlDocument, ParseFailure};
+use kdl::{KdlDocument, KdlNode, ParseFailure};
+use std::process::Abort;
 use std::test::Fail;
 
 /// Two nodes, the second with a property and three children.
 const TEXT: &str =
     "\nhello 1 2 3\n\n// Comment\nworld prop=string-value {\n    child 1\n    child 2\n    child #inf\n}\n";
+
+/// The node with a property and three children.
+fn is_world(rt: &impl Abort, world: &KdlNode) {
+    has_ends(rt, world, "\n// Comment\n", "", "\n");
+    has_around_block(rt, world, " ", "");
+    let prop = lone_entry(rt, world);
+    is_called(rt, prop.name(), "prop");
+    is_string(rt, prop, "string-value");
+    let children = block(rt, world);
+    has_margins(rt, children, "", "");
+    let [one, two, three] = children.nodes() else {
+        panic!(rt; "not three children");
+    };
+    has_ends(rt, one, "\n    ", "", "\n");
+    has_ends(rt, three, "    ", "", "\n");
+    is_whole(rt, lone_entry(rt, one), 1);
+    is_whole(rt, lone_entry(rt, two), 2);
+    is_float(rt, lone_entry(rt, three), "#inf");
+}
 
 #[test]
 fn two_nodes_and_three_children(rt: HostRuntime) {
@@ -27,21 +47,7 @@ fn two_nodes_and_three_children(rt: HostRuntime) {
     is_whole(&rt, three, 3);
     has_places(&rt, three, " ", "3", "");
     is_called(&rt, Some(world.name()), "world");
-    has_ends(&rt, world, "\n// Comment\n", "", "\n");
-    has_around_block(&rt, world, " ", "");
-    let prop = lone_entry(&rt, world);
-    is_called(&rt, prop.name(), "prop");
-    is_string(&rt, prop, "string-value");
-    let children = block(&rt, world);
-    has_margins(&rt, children, "", "");
-    let [one, two, three] = children.nodes() else {
-        panic!(rt; "not three children");
-    };
-    has_ends(&rt, one, "\n    ", "", "\n");
-    has_ends(&rt, three, "    ", "", "\n");
-    is_whole(&rt, lone_entry(&rt, one), 1);
-    is_whole(&rt, lone_entry(&rt, two), 2);
-    is_float(&rt, lone_entry(&rt, three), "#inf");
+    is_world(&rt, world);
     drop(document);
 }
 
