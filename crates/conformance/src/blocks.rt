@@ -2,8 +2,8 @@
 
 use crate::reading::{
     block, equal, has_around_block, has_ends, has_key_places, has_margins, has_places, holds,
-    is_called, is_range, is_whole, lone_entry, lone_node, nested, range, read, refuse, refuse_each,
-    two_entries, two_nodes,
+    is_called, is_range, is_whole, lone_entry, lone_node, nested, range, read, refuse, two_entries,
+    two_nodes,
 };
 use kdl::KdlNode;
 use std::process::Abort;
@@ -167,44 +167,6 @@ fn slashdashed_nodes_between_kept_ones(rt: HostRuntime) {
     has_margins(&rt, children, "", "/-i");
     has_ends(&rt, lone_node(&rt, children), "/-g\n", "", ";");
     drop(document);
-}
-
-#[test]
-fn blocks_and_slashdashes_in_wrong_places(rt: HostRuntime) {
-    let texts = &[
-        "a {} {}",
-        "a {} 1",
-        "a /-{} 1",
-        "/- /-a",
-        "/-/-a",
-        "a /-",
-        "/-",
-        "/-;",
-        "a{}/-b",
-        "a {} /-b",
-        "/-a {} b",
-        "a/-/-b",
-        "a /-/-b c",
-        "a/ -b",
-        "n (t/-x)1",
-        "n k=/-1 2",
-        "n k =/-1",
-        "a {",
-        "a { b",
-        "a }",
-        "}",
-        "{}",
-        "a {\n}} b",
-        "a {}}",
-        "a {} b",
-        "a {}b",
-        "foo { bar; { baz; }; }",
-        "/-{}",
-        "a; /-{}",
-        "a /-{ b",
-        "a { /-b",
-    ];
-    refuse_each(&rt, rt.alloc(), texts);
 }
 
 /// The node at the bottom of so many blocks, each with one node without entries.

@@ -1,7 +1,7 @@
 //! Nodes that are a whole text: what is read, what is refused and where, and that a node prints its text.
 
 use crate::reading::{
-    self, block, equal, expects_the_end, fill, has_around_block, has_ends, has_margins,
+    block, equal, expects_the_end, fill, has_around_block, has_ends, has_margins,
     has_node_type_places, has_places, holds, is_called, is_range, is_whole, lone_diagnostic,
     lone_entry, lone_node, says, two_entries,
 };
@@ -193,25 +193,4 @@ fn refused_behind_the_node(rt: HostRuntime) {
     for (text, offset, len) in rows {
         refused_at(&rt, rt.alloc(), text, *offset, *len);
     }
-}
-
-/// The node of the text equals this node, or does not.
-fn compares(rt: &impl Abort, alloc: Global, text: &str, node: &KdlNode, is_same: bool) {
-    let other = read(rt, alloc, text);
-    holds(rt, (other == *node) == is_same, text);
-    drop(other);
-}
-
-#[test]
-fn the_same_node_in_a_document(rt: HostRuntime) {
-    let alloc = rt.alloc();
-    let mut alone = read(&rt, alloc, "n 1 { a; }\n");
-    let document = reading::read(&rt, alloc, "n 1 { a; }\n");
-    equal(&rt, lone_node(&rt, &document), &alone);
-    drop(document);
-    alone.set_span(SourceSpan { offset: 7, len: 9 });
-    compares(&rt, alloc, "n 1 { a; }\n", &alone, true);
-    compares(&rt, alloc, "\nn 1 { a; }\n", &alone, false);
-    compares(&rt, alloc, "n 1 { a; }\n\n", &alone, false);
-    drop(alone);
 }

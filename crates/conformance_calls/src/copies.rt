@@ -269,3 +269,24 @@ fn failures_are_copied(rt: HostRuntime) {
     drop(failure);
     drop(copy);
 }
+
+/// The document of a text of version 2.
+fn read_v2(rt: &impl Abort, alloc: Global, text: &str) -> KdlDocument {
+    match KdlDocument::parse_v2(alloc, text) {
+        Ok(document) => document,
+        Err(_) => panic!(rt; "{text:?} is refused"),
+    }
+}
+
+#[test]
+fn a_clone_equals_its_source(rt: HostRuntime) {
+    let alloc = rt.alloc();
+    let document = read_v2(&rt, alloc, " a 1  \"b\";c\n");
+    let copy = document.clone().expect(&rt, "memory");
+    equal(&rt, &copy, &document);
+    drop(copy);
+    let other = read_v2(&rt, alloc, " a 1 \"b\";c\n");
+    holds(&rt, other != document, "two spaces and one");
+    drop(other);
+    drop(document);
+}

@@ -1,7 +1,7 @@
 //! What equality, order and hash regard, and that they ignore spans.
 
 use crate::hash_of;
-use crate::reading::{differ, equal, identifier, node, prints, read, text};
+use crate::reading::{differ, equal, holds, identifier, node, prints, read, text};
 use kdl::{KdlDocument, KdlEntry, KdlFloat, KdlIdentifier, KdlNode, KdlValue, SourceSpan};
 use std::alloc::Global;
 use std::cmp::Ordering;
@@ -156,4 +156,26 @@ fn documents_but_for_their_spans(rt: HostRuntime) {
     differ(&rt, &other, &first);
     drop(other);
     drop(first);
+}
+
+/// The node of the text equals this node, or does not.
+fn compares(rt: &impl Abort, alloc: Global, text: &str, alone: &KdlNode, is_same: bool) {
+    let other = node(rt, alloc, text);
+    holds(rt, (other == *alone) == is_same, text);
+    drop(other);
+}
+
+#[test]
+fn the_same_node_in_a_document(rt: HostRuntime) {
+    let alloc = rt.alloc();
+    let mut alone = node(&rt, alloc, "n 1 { a; }\n");
+    let document = read(&rt, alloc, "n 1 { a; }\n");
+    let first = document.nodes().first().expect(&rt, "no node");
+    equal(&rt, first, &alone);
+    drop(document);
+    alone.set_span(SourceSpan { offset: 7, len: 9 });
+    compares(&rt, alloc, "n 1 { a; }\n", &alone, true);
+    compares(&rt, alloc, "\nn 1 { a; }\n", &alone, false);
+    compares(&rt, alloc, "n 1 { a; }\n\n", &alone, false);
+    drop(alone);
 }

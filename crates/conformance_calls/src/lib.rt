@@ -1,4 +1,5 @@
-//! Tests of the calls on nodes and documents, and of what items share, against worked examples: what no contract says.
+//! Tests of the calls on nodes and documents, of what items share, and of texts that are refused, against worked
+//! examples: what no contract says.
 #![tactic(auto)]
 
 use std::hash::{DefaultHasher, Hash, Hasher};
@@ -9,6 +10,8 @@ mod copies;
 mod equality;
 #[cfg(test)]
 mod fields;
+#[cfg(test)]
+mod fronts;
 #[cfg(test)]
 mod reading;
 #[cfg(test)]

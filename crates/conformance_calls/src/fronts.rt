@@ -1,6 +1,9 @@
-//! Texts cut at each character boundary: each front is a document that prints it, or is refused with a place inside it.
+//! Texts that are refused, and texts cut at each character boundary: each front is a document that prints it, or is
+//! refused with a place inside it.
 
-use crate::reading::{holds, is_read, nested};
+use crate::reading::{holds, prints, says};
+use conformance_text::characters;
+use kdl::{KdlDocument, KdlError, ParseFailure};
 use std::alloc::Global;
 use std::process::Abort;
 
@@ -40,6 +43,75 @@ const TEXTS: [&str; 33] = [
     "( /*a/*b*/*/ t )  n (u8) 1 k = ( x )2 #true #false #null #nan -0b1_0",
     "##\"é\"#\"## \\ /**/ // ü\r\n \"a\\ \r\n  b\\u{e9}\"",
 ];
+
+/// Whether the text is a document. One that is read prints the text; one that is refused tells where.
+fn is_read(rt: &impl Abort, alloc: Global, text: &str) -> bool {
+    match KdlDocument::parse(alloc, text) {
+        Ok(document) => {
+            prints(rt, alloc, &document, text);
+            drop(document);
+            true
+        }
+        Err(ParseFailure::Memory) => panic!(rt; "{text:?} wants memory"),
+        Err(ParseFailure::Syntax(error)) => {
+            tells_where(rt, &error, text);
+            drop(error);
+            false
+        }
+    }
+}
+
+/// The error has the text, and a diagnostic at least, each with a span inside on character boundaries.
+fn tells_where(rt: &impl Abort, error: &KdlError, text: &str) {
+    says(rt, error.input.as_str(), text);
+    holds(rt, !error.diagnostics.is_empty(), text);
+    for diagnostic in &error.diagnostics {
+        let start = diagnostic.span.offset;
+        holds(rt, text.is_char_boundary(start), text);
+        let end = start.saturating_add(diagnostic.span.len);
+        holds(rt, text.is_char_boundary(end), text);
+    }
+}
+
+#[test]
+fn blocks_and_slashdashes_in_wrong_places(rt: HostRuntime) {
+    let texts = &[
+        "a {} {}",
+        "a {} 1",
+        "a /-{} 1",
+        "/- /-a",
+        "/-/-a",
+        "a /-",
+        "/-",
+        "/-;",
+        "a{}/-b",
+        "a {} /-b",
+        "/-a {} b",
+        "a/-/-b",
+        "a /-/-b c",
+        "a/ -b",
+        "n (t/-x)1",
+        "n k=/-1 2",
+        "n k =/-1",
+        "a {",
+        "a { b",
+        "a }",
+        "}",
+        "{}",
+        "a {\n}} b",
+        "a {}}",
+        "a {} b",
+        "a {}b",
+        "foo { bar; { baz; }; }",
+        "/-{}",
+        "a; /-{}",
+        "a /-{ b",
+        "a { /-b",
+    ];
+    for text in texts {
+        holds(&rt, !is_read(&rt, rt.alloc(), text), text);
+    }
+}
 
 /// The lengths of the fronts that are refused. Each other front is a document that prints it.
 fn refused_fronts(rt: &impl Abort, alloc: Global, text: &str) -> Vec<usize> {
@@ -101,7 +173,7 @@ fn fronts_of_nested_texts(rt: HostRuntime) {
         ("a/-{", "a", "}", 2, 250),
     ];
     for (opening, middle, closing, from, to) in rows {
-        let text = nested(&rt, alloc, opening, middle, closing, 50);
+        let text = characters::nested(alloc, opening, middle, closing, 50).expect(&rt, "memory");
         let fronts = refused_fronts(&rt, alloc, &text);
         let is_all = fronts.iter().copied().eq(*from..=*to);
         assert!(rt; is_all, "{text:?} {fronts:?}");
@@ -119,8 +191,8 @@ fn refuses_front(rt: &impl Abort, alloc: Global, text: &str, len: usize) {
 #[test]
 fn fronts_of_deep_texts(rt: HostRuntime) {
     let alloc = rt.alloc();
-    let blocks = nested(&rt, alloc, "a { ", "a", " }", 300);
-    let slashdashes = nested(&rt, alloc, "a /-{ ", "a", " }", 300);
+    let blocks = characters::nested(alloc, "a { ", "a", " }", 300).expect(&rt, "memory");
+    let slashdashes = characters::nested(alloc, "a /-{ ", "a", " }", 300).expect(&rt, "memory");
     for step in 1..60 {
         refuses_front(&rt, alloc, &blocks, 30 * step);
         refuses_front(&rt, alloc, &slashdashes, 40 * step);
