@@ -19,8 +19,6 @@ mod reading;
 #[cfg(test)]
 mod trivia_rows;
 #[cfg(test)]
-mod value_rows;
-#[cfg(test)]
 mod worked;
 
 /// The printed parse of a text, which is the text.

@@ -240,11 +240,6 @@ pub fn is_called(rt: &impl Abort, identifier: Option<&KdlIdentifier>, name: &str
     says(rt, identifier.expect(rt, "no identifier").value(), name);
 }
 
-/// The spelling of an entry's value.
-pub fn spelling<'a>(rt: &impl Abort, entry: &'a KdlEntry) -> &'a str {
-    entry.format().expect(rt, "no format").value_repr.as_str()
-}
-
 /// The entry's value is this string.
 pub fn is_string(rt: &impl Abort, entry: &KdlEntry, value: &str) {
     equal(rt, &entry.value().as_string(), &Some(value));

@@ -1,12 +1,8 @@
 pub mod Clearing
 pub mod DocumentLookups
 pub mod EditLaws
-pub mod EditedOutcomes
-pub mod Equality
-pub mod LeadingMark
 pub mod Lookups
-pub mod NodeTexts
-pub mod Outcomes
 pub mod Printing
+pub mod Readings
 pub mod Same
 pub mod Trees

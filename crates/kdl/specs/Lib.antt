@@ -1,11 +1,8 @@
-pub mod Answered
 pub mod Change
 pub mod EditLaw
 pub mod Cleared
 pub mod DocumentLookups
 pub mod Iterators
 pub mod Lookups
-pub mod NodeText
-pub mod Counted
 pub mod Same
 pub mod Tree

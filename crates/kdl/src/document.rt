@@ -3,6 +3,7 @@
 ghost use Rattle.kdl_grammar.specs.Tree.{document, none};
 ghost use Rattle.kdl.specs.Tree.{node_tree, document_tree};
 ghost use Rattle.kdl_parser.specs.Parts.{document_by};
+ghost use Rattle.kdl_parser.specs.Whole.{whole_by};
 ghost use Rattle.kdl_grammar.specs.Laid.{with_mark};
 ghost use Rattle.kdl_grammar.specs.Print.{print_document, print_block};
 ghost use Rattle.kdl.specs.Same.{same_document};
@@ -17,7 +18,7 @@ mod iter;
 mod lookup;
 
 use crate::node::KdlNode;
-use kdl_parser::DocumentParts;
+use kdl_parser::{DocumentParts, DocumentText};
 use kdl_parts::KdlDocumentFormat;
 use kdl_parts::format::behind_mark;
 use kdl_parts::print::{write_after_brace, write_before_brace, write_leading, write_trailing};
@@ -65,8 +66,22 @@ impl KdlDocument {
         }
     }
 
+    /// A document as it was read from a whole text, with U+FEFF before it where that begins with one.
+    pub(crate) fn made(
+        alloc: Global,
+        text: DocumentText<KdlNode>,
+    ) -> Result<KdlDocument, AllocError>
+        ensures { IfOk result (λ d. document_tree d ≡ whole_by node_tree text) }
+    {
+        let document = KdlDocument::parsed(text.parts);
+        if text.mark {
+            return document.marked(alloc);
+        }
+        Ok(document)
+    }
+
     /// The document behind a U+FEFF, with which its leading text begins then.
-    pub(crate) fn marked(mut self, alloc: Global) -> Result<KdlDocument, AllocError>
+    fn marked(mut self, alloc: Global) -> Result<KdlDocument, AllocError>
         ensures { IfOk result (λ d. document_tree d ≡ with_mark (document_tree self)) }
     {
         self.format = Some(behind_mark(alloc, self.format.take())?);

@@ -2,7 +2,6 @@
 #![tactic(auto)]
 
 mod document;
-pub mod laws;
 mod node;
 mod parser;
 

@@ -2,11 +2,10 @@
 
 ghost use Rattle.kdl_grammar.specs.Tree.{node, children_of};
 ghost use Rattle.kdl.specs.Tree.{node_tree, document_tree};
-ghost use Rattle.kdl.specs.NodeText.{alone};
+ghost use Rattle.kdl_parser.specs.NodeText.{text_by};
 ghost use Rattle.kdl_grammar.specs.Print.{print_node};
 ghost use Rattle.kdl.specs.Same.{same_node};
 ghost use Rattle.kdl.specs.declared.node.KdlNode.{out-KdlNode};
-ghost use Rattle.kdl_value.specs.Tree.{text_of};
 ghost use Rattle.kdl_entry.specs.Tree.{identifier_tree, entry_tree};
 ghost use Rattle.std.specs.Fmt.{WritesOnOk};
 ghost use Rattle.std.specs.Prelude.{◌≡◌, [], IfOk, None, Some, map, option_map, true};
@@ -21,6 +20,7 @@ mod parsed;
 
 use crate::document::KdlDocument;
 use kdl_entry::{KdlEntry, KdlIdentifier};
+use kdl_parser::NodeText;
 use kdl_parts::KdlNodeFormat;
 use kdl_parts::print::{write_before_block, write_end, write_head, write_pieces};
 use kdl_text::span::SourceSpan;
@@ -45,14 +45,19 @@ pub struct KdlNode {
 
 impl KdlNode {
     /// The node as it stands in a text of its own: with the text behind its terminator, and the span.
-    pub(crate) fn alone(mut self, trailing: String, whole: SourceSpan) -> KdlNode
-        ensures { node_tree result ≡ alone (node_tree self) (text_of trailing) whole }
+    pub(crate) fn alone(text: NodeText<KdlNode>) -> KdlNode
+        ensures { node_tree result ≡ text_by node_tree text }
     {
-        if let Some(format) = &mut self.format {
+        let NodeText {
+            mut node,
+            trailing,
+            span,
+        } = text;
+        if let Some(format) = &mut node.format {
             format.trailing = trailing;
         }
-        self.set_span(whole);
-        self
+        node.set_span(span);
+        node
     }
 
     /// The name.

@@ -1,61 +1,56 @@
-//! Documents, read from the tokens of a text one by one.
+//! Documents and nodes, read from a text.
 
-ghost use Rattle.kdl.specs.Answered.{ReadAnswers};
-ghost use Rattle.kdl.specs.Counted.{Counted};
-ghost use Rattle.kdl.specs.Tree.{document_tree};
+ghost use Rattle.kdl.specs.Tree.{document_tree, node_tree};
+ghost use Rattle.kdl_grammar.specs.Data as data';
+ghost use Rattle.kdl_grammar.specs.Data.{Nodes};
+ghost use Rattle.kdl_grammar.specs.Grammar.{IsDocument, IsNodeText};
+ghost use Rattle.kdl_grammar.specs.Laid.{LaidNodeText};
+ghost use Rattle.kdl_grammar.specs.Machine.{Answers};
+ghost use Rattle.kdl_text.specs.Failures.{IsSyntax, TellsOnSyntax};
 ghost use Rattle.kdl_text.specs.Here.{raise};
-ghost use Rattle.std.specs.Prelude.{◌≡◌, ◌+◌, ◌*◌, ◌≤◌, length, IfOk, OnOk};
+ghost use Rattle.std.specs.Prelude.{◌≡◌, ◌+◌, ◌*◌, ◌≤◌, length, true, IfOk, OnOk};
 ghost use Rattle.std.specs.Str.{chars};
 
-mod nodes;
-
 use crate::document::KdlDocument;
-use kdl_entry::items::refusal::failure;
-use kdl_entry::items::{LexFailure, Lexer};
-use kdl_parser::build;
+use crate::node::KdlNode;
+use kdl_parser::{read_document, read_node_text};
 use kdl_text::chars::Steps;
 use kdl_text::error::ParseFailure;
 use std::alloc::Global;
-use std::mem;
 
-/// The machine's answer on the text that the lexer is at the start of.
-#[tactic(auto, using(crate::proofs::LeadingMark::mark_ends, crate::proofs::LeadingMark::mark_at, crate::proofs::LeadingMark::without_mark, crate::proofs::LeadingMark::fails_without_mark, crate::proofs::LeadingMark::behind_mark, crate::proofs::LeadingMark::fails_behind_mark))]
-fn read_all(alloc: Global, lexer: &mut Lexer) -> Result<KdlDocument, LexFailure>
-    requires { lexer.old.at ≡ 0 }
-    ensures answers { ReadAnswers lexer.old.rest result }
-    ensures counted { OnOk result (Counted lexer.old.rest lexer.old.steps lexer.new.steps) }
-    ensures raised { raise lexer.old.steps 1 ≤ lexer.new.steps }
-{
-    let whole = lexer.checkpoint();
-    if !lexer.eat_mark() {
-        return Ok(KdlDocument::parsed(build(alloc, whole, lexer)?));
-    }
-    let document = KdlDocument::parsed(build(alloc, whole, lexer)?);
-    Ok(document.marked(alloc)?)
-}
-
-/// The machine's answer on the text, which raises the count.
-fn read(alloc: Global, text: &str, steps: &mut Steps) -> Result<KdlDocument, LexFailure>
-    ensures answers { ReadAnswers (chars text.now) result }
-    ensures counted { OnOk result (Counted (chars text.now) steps.old steps.new) }
+/// The document that the machine answers on the text, which raises the count.
+fn read(alloc: Global, text: &str, steps: &mut Steps) -> Result<KdlDocument, ParseFailure>
+    ensures answers { IfOk result (λ d. Answers (chars text.now) (document_tree d)) }
+    ensures refused { IsSyntax result → (x : Nodes) → IsDocument true (chars text.now) x → ⊥ }
+    ensures told { TellsOnSyntax text.now result }
+    ensures least { OnOk result (raise steps.old (length (chars text.now)) ≤ steps.new) }
+    ensures most { OnOk result (steps.new ≤ steps.old + 32 * (length text.now + 1)) }
     ensures raised { raise steps.old 1 ≤ steps.new }
 {
-    let mut lexer = Lexer::new(text, mem::replace(steps, Steps::new()));
-    let answer = read_all(alloc, &mut lexer);
-    *steps = lexer.into_steps();
-    answer
+    match read_document(alloc, text, steps) {
+        Ok(document) => Ok(KdlDocument::made(alloc, document)?),
+        Err(failure) => Err(failure),
+    }
+}
+
+/// The node that is laid in the text, which it is.
+fn read_node(alloc: Global, text: &str) -> Result<KdlNode, ParseFailure>
+    ensures laid { IfOk result (λ n. LaidNodeText true (chars text.now) (node_tree n)) }
+    ensures refused { IsSyntax result → (x : data'.Node) → IsNodeText true (chars text.now) x → ⊥ }
+    ensures told { TellsOnSyntax text.now result }
+{
+    match read_node_text(alloc, text) {
+        Ok(text) => Ok(KdlNode::alone(text)),
+        Err(failure) => Err(failure),
+    }
 }
 
 impl KdlDocument {
-    ghost use Rattle.kdl_grammar.specs.Data.{Nodes};
     ghost use Rattle.kdl_grammar.specs.Edited.{IsEdited, EachDocument};
     ghost use Rattle.kdl_grammar.specs.Former.{IsFormerDocument};
-    ghost use Rattle.kdl_grammar.specs.Grammar.{IsDocument};
     ghost use Rattle.kdl_grammar.specs.Laid.{LaidDocument};
     ghost use Rattle.kdl_grammar.specs.Print.{print_document};
     ghost use Rattle.kdl_grammar.specs.Tree.{Document, document_data};
-    ghost use Rattle.kdl_text.specs.Failures.{IsSyntax, TellsOnSyntax};
-    ghost use Rattle.std.specs.Prelude.{true};
 
     /// The document of a text, with every byte of its form (KDL 2.0.0, Document). `Syntax`: the text is none.
     /// Its error has one diagnostic, at the first token that fits nothing or the first piece that is none.
@@ -86,7 +81,7 @@ impl KdlDocument {
     ///
     /// A document of n bytes takes at least a step for each character and at most 32 (n + 1) steps. What is refused
     /// takes at least one.
-    #[tactic(auto, using(crate::proofs::Outcomes::found, crate::proofs::Outcomes::only, crate::proofs::Outcomes::laid, crate::proofs::Outcomes::prints, crate::proofs::Outcomes::refused, crate::proofs::Outcomes::former, crate::proofs::Outcomes::former_refused, crate::proofs::EditedOutcomes::edited_found, crate::proofs::Outcomes::most_counted))]
+    #[tactic(auto, using(crate::proofs::Readings::found, crate::proofs::Readings::only, crate::proofs::Readings::laid, crate::proofs::Readings::prints))]
     pub fn parse_counted(
         alloc: Global,
         text: &str,
@@ -105,11 +100,7 @@ impl KdlDocument {
         ensures most { OnOk result (steps.new ≤ steps.old + 32 * (length text.now + 1)) }
         ensures raised { raise steps.old 1 ≤ steps.new }
     {
-        match read(alloc, text, steps) {
-            Ok(document) => Ok(document),
-            Err(LexFailure::Faulty(fault)) => Err(failure(alloc, text, fault.span)),
-            Err(LexFailure::Memory) => Err(ParseFailure::Memory),
-        }
+        read(alloc, text, steps)
     }
 
     /// The document of a text of KDL 2, as by `parse`.
@@ -124,5 +115,35 @@ impl KdlDocument {
         ensures edited { IfOk result (λ d. (e : Document) → EachDocument IsEdited (document_tree d) e → IsDocument true (print_document e 0) (document_data e)) }
     {
         KdlDocument::parse(alloc, text)
+    }
+}
+
+impl KdlNode {
+    ghost use Rattle.kdl_grammar.specs.Former.{IsFormerNodeText};
+    ghost use Rattle.kdl_grammar.specs.Print.{print_node};
+    ghost use Rattle.kdl_grammar.specs.Tree.{node_data};
+
+    /// The node that the text is, with every byte of its form: line-spaces and nodes that count for nothing before
+    /// it, and behind its terminator line-spaces alone (KDL 2.0.0, Node). What stands before it is its leading text,
+    /// what stands behind its terminator its trailing one, and its span is the whole text, in bytes. `Syntax`: the text
+    /// is none. Its error has one diagnostic: at the first token that fits nothing or the first piece that is none,
+    /// at a second node, or at the end of a text that has none. `Memory`: a request for memory was refused. Nothing is
+    /// made then.
+    #[tactic(auto, using(crate::proofs::Readings::node_found, crate::proofs::Readings::node_only, crate::proofs::Readings::node_prints))]
+    pub fn parse(alloc: Global, text: &str) -> Result<KdlNode, ParseFailure>
+        // What is answered is what the grammar derives,
+        ensures found { IfOk result (λ n. IsNodeText true (chars text.now) (node_data (node_tree n))) }
+        // and it derives nothing else.
+        ensures only { IfOk result (λ n. (x : data'.Node) → IsNodeText true (chars text.now) x → x ≡ node_data (node_tree n)) }
+        // The node lies in the text, each place in its class and each span that of its piece, and prints it.
+        ensures laid { IfOk result (λ n. LaidNodeText true (chars text.now) (node_tree n)) }
+        ensures prints { IfOk result (λ n. print_node (node_tree n) 0 ≡ chars text.now) }
+        // What is refused is not derived, and an error tells where.
+        ensures refused { IsSyntax result → (x : data'.Node) → IsNodeText true (chars text.now) x → ⊥ }
+        ensures told { TellsOnSyntax text.now result }
+        // What the former language derives is read as before.
+        ensures former { (x : data'.Node) → IsFormerNodeText (chars text.now) x → IfOk result (λ n. node_data (node_tree n) ≡ x) }
+    {
+        read_node(alloc, text)
     }
 }

@@ -4,7 +4,6 @@
 mod entry;
 mod identifier;
 pub mod items;
-pub mod laws;
 mod print;
 
 pub use entry::{KdlEntry, KdlEntryFormat};

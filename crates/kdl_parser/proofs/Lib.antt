@@ -2,11 +2,15 @@ pub mod Bridge
 pub mod Contents
 pub mod Counting
 pub mod Doing
+pub mod EditedOutcomes
 pub mod Held
 pub mod ItemTurns
+pub mod LeadingMark
 pub mod LineSpaces
 pub mod MachineSteps
+pub mod NodeTexts
 pub mod Origins
+pub mod Outcomes
 pub mod Placing
 pub mod TokenTurns
 pub mod Views

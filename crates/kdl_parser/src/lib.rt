@@ -3,9 +3,11 @@
 
 mod builder;
 mod line_spaces;
+mod nodes;
 mod parser;
 mod parts;
+mod reading;
 
-pub use line_spaces::{fault_at, trailing_line_spaces};
-pub use parser::build;
+pub use nodes::{NodeText, read_node_text};
 pub use parts::{DocumentParts, NodeParts, ParsedNode};
+pub use reading::{DocumentText, read_document};

@@ -5,7 +5,6 @@ pub mod edit;
 pub mod format;
 pub mod iter;
 pub mod key;
-pub mod laws;
 pub mod lookup;
 pub mod places;
 pub mod print;

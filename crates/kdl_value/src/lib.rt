@@ -2,7 +2,6 @@
 #![tactic(auto)]
 
 mod float;
-pub mod laws;
 mod print;
 mod spelled;
 mod value;

@@ -1,0 +1,9 @@
+use Rattle.std.specs.Str.{chars}
+use Rattle.kdl.proofs.Readings.{former, edited}
+use Rattle.kdl.proofs.document.KdlDocument.parse_counted.Goals as goal
+
+pub returns-clause-former : goal.returns-clause-former
+returns-clause-former c x i = former (chars c.args.text.now) c.read.result x c.read.ensures.answers i
+
+pub returns-clause-edited : goal.returns-clause-edited
+returns-clause-edited c = edited (chars c.args.text.now) c.read.result c.read.ensures.answers

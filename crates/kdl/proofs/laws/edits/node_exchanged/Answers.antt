@@ -1,5 +1,0 @@
-use Rattle.kdl.proofs.EditLaws.{node_exchanged}
-use Rattle.kdl.proofs.laws.edits.node_exchanged.Goals as goal
-
-pub returns : goal.returns
-returns c = node_exchanged

@@ -1,6 +1,0 @@
-use Rattle.std.proofs.lemmas.Bool.Decides.{Decides-at}
-use Rattle.kdl.proofs.Equality.{node_decides}
-use Rattle.kdl.proofs.laws.equality.equal_nodes.Goals as goal
-
-pub returns : goal.returns
-returns c = Decides-at _ _ c.eq.ensures (node_decides c.args.a.now c.args.b.now)

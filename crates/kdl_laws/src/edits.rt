@@ -1,0 +1,47 @@
+//! What is printed once what a call lent was changed: the parts of `entries_mut` and `entry_mut`, and of `nodes_mut`.
+
+ghost use Rattle.kdl.specs.EditLaw.{EntriesExchanged, EntryExchanged, FormedPiece, NodesExchanged, NodeExchanged, PrintsInstead};
+ghost use Rattle.kdl.specs.Tree.{node_tree};
+ghost use Rattle.kdl.specs.declared.node.KdlNode.{out-KdlNode};
+ghost use Rattle.kdl_entry.specs.Tree.{entry_tree};
+ghost use Rattle.std.specs.Prelude.{IsSome, map};
+
+use kdl::{KdlEntry, KdlNode};
+
+/// Whatever entries a node with a format has, it prints the head and the tail that it had, and the pieces of the
+/// entries between them.
+#[tactic(auto, using(kdl::proofs::EditLaws::entries_exchanged))]
+pub fn entries_exchanged()
+    ensures { EntriesExchanged }
+{}
+
+/// Where one entry of a node with a format is exchanged, its piece of the printed text is, and no other byte.
+pub fn entry_exchanged()
+    ensures { EntryExchanged }
+{}
+
+/// In a node, the piece of an entry that has a format is what the entry prints.
+#[tactic(auto, using(kdl::proofs::EditLaws::formed_piece))]
+pub fn formed_piece()
+    ensures { FormedPiece }
+{}
+
+/// Whatever nodes a document has, it prints the leading and the trailing text that it had, and the nodes between them.
+#[tactic(auto, using(kdl::proofs::EditLaws::nodes_exchanged))]
+pub fn nodes_exchanged()
+    ensures { NodesExchanged }
+{}
+
+/// Where one node of a document is exchanged, its piece of the printed text is, and no other byte.
+pub fn node_exchanged()
+    ensures { NodeExchanged }
+{}
+
+/// Exchanges the entries of a node, through the loan of them: a node with a format prints the head and the tail that it
+/// had, and the pieces of these entries between them.
+#[tactic(auto, using(kdl::proofs::EditLaws::entries_exchanged))]
+pub fn exchange_entries(node: &mut KdlNode, entries: Vec<KdlEntry>)
+    ensures { IsSome (out-KdlNode node.old).format → PrintsInstead (node_tree node.old) (map entry_tree entries.items) (node_tree node.new) }
+{
+    *node.entries_mut() = entries;
+}

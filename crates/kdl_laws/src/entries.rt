@@ -1,0 +1,123 @@
+//! What `==` and hashes of identifiers and entries mean, that printed entries read back, and the laws of the written
+//! grammar of both.
+
+ghost use Rattle.kdl_entry.specs.Laws.{OneIdentifier, OneEntry, LaidIdentifierIsDerived, LaidEntryIsDerived, TextsAreLaid, OneEntryAnswer, EntryAnswers};
+ghost use Rattle.kdl_entry.specs.Formless.{IsFormless, FormlessReadsBack};
+ghost use Rattle.kdl_entry.specs.Tree.{identifier_tree, entry_tree, entry_format_tree, cleared, without_span, without_spans};
+ghost use Rattle.std.specs.Prelude.{◌≡◌, IsTrue, ◌↔◌, fold};
+
+use crate::values::values_are_well_formed;
+use kdl_entry::{KdlEntry, KdlEntryFormat, KdlIdentifier};
+use std::hash::{Hash, Hasher};
+
+/// A printed string is an identifier with that string, and what an entry without format and spelling prints is an entry
+/// with its data.
+#[tactic(auto, using(kdl_entry::proofs::FormlessEntries::formless_reads_back))]
+pub fn formless_reads_back()
+    ensures { FormlessReadsBack }
+{}
+
+/// An entry in memory that has neither a format nor a spelling is one without form, with well-formed data.
+pub fn cleared_is_formless(entry: &KdlEntry)
+    requires { cleared (entry_tree entry.now) ≡ entry_tree entry.now }
+    ensures { IsFormless (entry_tree entry.now) }
+{
+    values_are_well_formed(entry.value());
+}
+
+/// Two formats are equal exactly where all their texts and their marks are.
+pub fn equal_formats(a: &KdlEntryFormat, b: &KdlEntryFormat) -> bool
+    ensures { IsTrue result ↔ (entry_format_tree a.now ≡ entry_format_tree b.now) }
+{
+    a == b
+}
+
+/// Two identifiers are equal exactly where their strings and their spellings are, wherever they stood.
+pub fn equal_identifiers(a: &KdlIdentifier, b: &KdlIdentifier) -> bool
+    ensures { IsTrue result ↔ (without_span (identifier_tree a.now) ≡ without_span (identifier_tree b.now)) }
+{
+    a == b
+}
+
+/// Two entries are equal exactly where all their parts are, wherever they stood.
+pub fn equal_entries(a: &KdlEntry, b: &KdlEntry) -> bool
+    ensures { IsTrue result ↔ (without_spans (entry_tree a.now) ≡ without_spans (entry_tree b.now)) }
+{
+    a == b
+}
+
+/// No text can be read as two identifiers.
+#[tactic(auto, using(kdl_entry::proofs::WholeTexts::one_identifier))]
+pub fn unambiguous_identifier()
+    ensures { OneIdentifier }
+{}
+
+/// No text can be read as two entries.
+#[tactic(auto, using(kdl_entry::proofs::WholeTexts::one_entry))]
+pub fn unambiguous_entry()
+    ensures { OneEntry }
+{}
+
+/// Equal formats leave equal hashers equal: into both goes what the hash of the first writes.
+pub fn hash_formats<H: Hasher>(a: &KdlEntryFormat, b: &KdlEntryFormat, one: &mut H, other: &mut H)
+    requires { entry_format_tree a.now ≡ entry_format_tree b.now }
+    ensures first { one.new ≡ fold H.write one.old (⟦<KdlEntryFormat as Hash>⟧.hash_input a.now) }
+    ensures second { other.new ≡ fold H.write other.old (⟦<KdlEntryFormat as Hash>⟧.hash_input a.now) }
+    ensures equal { one.old ≡ other.old → one.new ≡ other.new }
+{
+    a.hash(one);
+    b.hash(other);
+}
+
+/// Equal identifiers, wherever they stood, leave equal hashers equal: into both goes what the hash of the first writes.
+pub fn hash_identifiers<H: Hasher>(a: &KdlIdentifier, b: &KdlIdentifier, one: &mut H, other: &mut H)
+    requires { without_span (identifier_tree a.now) ≡ without_span (identifier_tree b.now) }
+    ensures first { one.new ≡ fold H.write one.old (⟦<KdlIdentifier as Hash>⟧.hash_input a.now) }
+    ensures second { other.new ≡ fold H.write other.old (⟦<KdlIdentifier as Hash>⟧.hash_input a.now) }
+    ensures equal { one.old ≡ other.old → one.new ≡ other.new }
+{
+    a.hash(one);
+    b.hash(other);
+}
+
+/// Equal entries, wherever they stood, leave equal hashers equal: into both goes what the hash of the first writes.
+pub fn hash_entries<H: Hasher>(a: &KdlEntry, b: &KdlEntry, one: &mut H, other: &mut H)
+    requires { without_spans (entry_tree a.now) ≡ without_spans (entry_tree b.now) }
+    ensures first { one.new ≡ fold H.write one.old (⟦<KdlEntry as Hash>⟧.hash_input a.now) }
+    ensures second { other.new ≡ fold H.write other.old (⟦<KdlEntry as Hash>⟧.hash_input a.now) }
+    ensures equal { one.old ≡ other.old → one.new ≡ other.new }
+{
+    a.hash(one);
+    b.hash(other);
+}
+
+/// Where an identifier is laid as a whole text, the text is one with its value, and it is what the identifier prints.
+#[tactic(auto, using(kdl_entry::proofs::TextLaws::laid_identifier_is_derived))]
+pub fn laid_identifier_is_derived()
+    ensures { LaidIdentifierIsDerived }
+{}
+
+/// Where an entry is laid as a whole text, the text is one with its data, and it is what the entry prints.
+#[tactic(auto, using(kdl_entry::proofs::TextLaws::laid_entry_is_derived))]
+pub fn laid_entry_is_derived()
+    ensures { LaidEntryIsDerived }
+{}
+
+/// In each text that is an identifier or an entry, one is laid with its data.
+#[tactic(auto, using(kdl_entry::proofs::TextLaws::texts_are_laid))]
+pub fn texts_are_laid()
+    ensures { TextsAreLaid }
+{}
+
+/// The machine that reads entry texts has one answer at most on each text.
+#[tactic(auto, using(kdl_entry::proofs::EntryLaws::one_entry_answer))]
+pub fn one_entry_answer()
+    ensures { OneEntryAnswer }
+{}
+
+/// That machine answers exactly where the text is an entry, with the entry's data, and what it answers is laid in the
+/// text, with its spans.
+#[tactic(auto, using(kdl_entry::proofs::EntryLaws::entry_answers))]
+pub fn entry_answers()
+    ensures { EntryAnswers }
+{}

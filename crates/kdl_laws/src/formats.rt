@@ -1,0 +1,53 @@
+//! What `==` of formats regards, and that equal ones leave equal hashes.
+
+ghost use Rattle.kdl_parts.specs.Formats.{document_format_tree, node_format_tree};
+ghost use Rattle.std.specs.Prelude.{◌≡◌, ◌↔◌, IsTrue, fold};
+
+use kdl_parts::{KdlDocumentFormat, KdlNodeFormat};
+use std::hash::{Hash, Hasher};
+
+/// Two formats of nodes are equal exactly where all their texts are.
+pub fn equal_node_formats(a: &KdlNodeFormat, b: &KdlNodeFormat) -> bool
+    ensures { IsTrue result ↔ (node_format_tree a.now ≡ node_format_tree b.now) }
+{
+    a == b
+}
+
+/// Two formats of documents are equal exactly where both their texts are.
+pub fn equal_document_formats(a: &KdlDocumentFormat, b: &KdlDocumentFormat) -> bool
+    ensures { IsTrue result ↔ (document_format_tree a.now ≡ document_format_tree b.now) }
+{
+    a == b
+}
+
+/// Equal formats leave equal hashers equal: into both goes what the hash of the first writes.
+pub fn hash_node_formats<H: Hasher>(
+    a: &KdlNodeFormat,
+    b: &KdlNodeFormat,
+    one: &mut H,
+    other: &mut H,
+)
+    requires { node_format_tree a.now ≡ node_format_tree b.now }
+    ensures first { one.new ≡ fold H.write one.old (⟦<KdlNodeFormat as Hash>⟧.hash_input a.now) }
+    ensures second { other.new ≡ fold H.write other.old (⟦<KdlNodeFormat as Hash>⟧.hash_input a.now) }
+    ensures equal { one.old ≡ other.old → one.new ≡ other.new }
+{
+    a.hash(one);
+    b.hash(other);
+}
+
+/// Equal formats leave equal hashers equal: into both goes what the hash of the first writes.
+pub fn hash_document_formats<H: Hasher>(
+    a: &KdlDocumentFormat,
+    b: &KdlDocumentFormat,
+    one: &mut H,
+    other: &mut H,
+)
+    requires { document_format_tree a.now ≡ document_format_tree b.now }
+    ensures first { one.new ≡ fold H.write one.old (⟦<KdlDocumentFormat as Hash>⟧.hash_input a.now) }
+    ensures second { other.new ≡ fold H.write other.old (⟦<KdlDocumentFormat as Hash>⟧.hash_input a.now) }
+    ensures equal { one.old ≡ other.old → one.new ≡ other.new }
+{
+    a.hash(one);
+    b.hash(other);
+}

@@ -1,0 +1,15 @@
+//! Laws: of the written grammar of documents and nodes; of what an edit changes in the printed text; of equality, order,
+//! hashes and copies; and that what is printed reads back.
+#![tactic(auto)]
+
+pub mod edits;
+pub mod entries;
+pub mod formats;
+pub mod nodes;
+pub mod values;
+
+pub use kdl_grammar::laws::{
+    answers, answers_are_laid, edited_is_laid, former_is_kept, laid_is_derived,
+    laid_node_is_derived, lexed, nodes_are_laid, one_answer, reads_back, unambiguous,
+    unambiguous_node,
+};

@@ -1,0 +1,58 @@
+//! What `==` of nodes and documents regards, that equal ones leave equal hashes, and that items of one tree, as an item
+//! and its clone, are equal.
+
+ghost use Rattle.kdl.specs.Cleared.{node_without_spans, document_without_spans};
+ghost use Rattle.kdl.specs.Same.{same_node, same_document};
+ghost use Rattle.kdl.specs.Tree.{node_tree, document_tree};
+ghost use Rattle.std.specs.Prelude.{◌≡◌, ◌↔◌, IsTrue, fold, true};
+
+use kdl::{KdlDocument, KdlNode};
+use std::hash::{Hash, Hasher};
+
+/// Two nodes are equal exactly where all their parts are, at each depth, wherever they stood.
+pub fn equal_nodes(a: &KdlNode, b: &KdlNode) -> bool
+    ensures { IsTrue result ↔ (node_without_spans (node_tree a.now) ≡ node_without_spans (node_tree b.now)) }
+{
+    a == b
+}
+
+/// Two documents are equal exactly where all their parts are, at each depth, wherever they stood.
+pub fn equal_documents(a: &KdlDocument, b: &KdlDocument) -> bool
+    ensures { IsTrue result ↔ (document_without_spans (document_tree a.now) ≡ document_without_spans (document_tree b.now)) }
+{
+    a == b
+}
+
+/// Equal nodes, wherever they stood, leave equal hashers equal: into both goes what the hash of the first writes.
+pub fn hash_nodes<H: Hasher>(a: &KdlNode, b: &KdlNode, one: &mut H, other: &mut H)
+    requires { node_without_spans (node_tree a.now) ≡ node_without_spans (node_tree b.now) }
+    ensures first { one.new ≡ fold H.write one.old (⟦<KdlNode as Hash>⟧.hash_input a.now) }
+    ensures second { other.new ≡ fold H.write other.old (⟦<KdlNode as Hash>⟧.hash_input a.now) }
+    ensures equal { one.old ≡ other.old → one.new ≡ other.new }
+{
+    a.hash(one);
+    b.hash(other);
+}
+
+/// Equal documents, wherever they stood, leave equal hashers equal: into both goes what the hash of the first writes.
+pub fn hash_documents<H: Hasher>(a: &KdlDocument, b: &KdlDocument, one: &mut H, other: &mut H)
+    requires { document_without_spans (document_tree a.now) ≡ document_without_spans (document_tree b.now) }
+    ensures first { one.new ≡ fold H.write one.old (⟦<KdlDocument as Hash>⟧.hash_input a.now) }
+    ensures second { other.new ≡ fold H.write other.old (⟦<KdlDocument as Hash>⟧.hash_input a.now) }
+    ensures equal { one.old ≡ other.old → one.new ≡ other.new }
+{
+    a.hash(one);
+    b.hash(other);
+}
+
+/// Nodes of one tree, as a node and its clone, are equal.
+pub fn same_nodes(a: &KdlNode, b: &KdlNode)
+    requires { node_tree a.now ≡ node_tree b.now }
+    ensures { same_node a.now b.now ≡ true }
+{}
+
+/// Documents of one tree, as a document and its clone, are equal.
+pub fn same_documents(a: &KdlDocument, b: &KdlDocument)
+    requires { document_tree a.now ≡ document_tree b.now }
+    ensures { same_document a.now b.now ≡ true }
+{}

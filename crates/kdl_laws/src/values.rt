@@ -1,0 +1,98 @@
+//! What `==`, the order and hashes of values mean, that printed strings read back, and what values hold.
+
+ghost use Rattle.kdl_value.specs.Floats.{DecimalsAreFloats};
+ghost use Rattle.kdl_value.specs.Order.{text_order, value_order};
+ghost use Rattle.kdl_value.specs.Spelled.{SpelledReadsBack, SpelledReadsBackBefore};
+ghost use Rattle.kdl_value.specs.Tree.{value_tree, float_text_of};
+ghost use Rattle.kdl_value.specs.WellFormed.{IsWellFormed};
+ghost use Rattle.std.specs.Cmp.{IsTotalOrder};
+ghost use Rattle.std.specs.Int.{w128};
+ghost use Rattle.std.specs.Prelude.{◌≡◌, IsTrue, ◌↔◌, FitsSigned, fold};
+
+use kdl_value::{KdlFloat, KdlValue};
+use std::cmp::Ordering;
+use std::hash::{Hash, Hasher};
+
+/// Every printed string is one string, bare or between quotes, that stands for what was printed: alone, and before any
+/// text that no identifier character begins.
+pub fn spelled_reads_back()
+    ensures alone { SpelledReadsBack }
+    ensures before { SpelledReadsBackBefore }
+{}
+
+// A number has 128 bits with a sign.
+fn number_fits(number: i128)
+    ensures { FitsSigned w128 number }
+{}
+
+/// Every value in memory is well formed: its text is of Unicode scalar values, its whole number has 128 bits with a
+/// sign, its float's text is a float's.
+pub fn values_are_well_formed(value: &KdlValue)
+    ensures { IsWellFormed (value_tree value.now) }
+{
+    if let KdlValue::Integer(number) = value {
+        number_fits(*number);
+    }
+}
+
+/// Two floats are equal exactly where their texts are.
+pub fn equal_floats(a: &KdlFloat, b: &KdlFloat) -> bool
+    ensures { IsTrue result ↔ (float_text_of a.now ≡ float_text_of b.now) }
+{
+    a == b
+}
+
+/// Two values are equal exactly where they are of one kind and say the same.
+pub fn equal_values(a: &KdlValue, b: &KdlValue) -> bool
+    ensures { IsTrue result ↔ (value_tree a.now ≡ value_tree b.now) }
+{
+    a == b
+}
+
+/// Floats are ordered by their texts.
+pub fn compare_floats(a: &KdlFloat, b: &KdlFloat) -> Ordering
+    ensures order { result ≡ text_order (float_text_of a.now) (float_text_of b.now) }
+    ensures equal { (result ≡ Ordering.Equal) ↔ (float_text_of a.now ≡ float_text_of b.now) }
+{
+    a.cmp(b)
+}
+
+/// Values are ordered by their kinds, and within a kind by what they hold; equal ones are those that `==` finds equal.
+pub fn compare_values(a: &KdlValue, b: &KdlValue) -> Ordering
+    ensures order { result ≡ value_order (value_tree a.now) (value_tree b.now) }
+    ensures equal { (result ≡ Ordering.Equal) ↔ (value_tree a.now ≡ value_tree b.now) }
+{
+    a.cmp(b)
+}
+
+/// The order of values is total.
+pub fn values_are_ordered()
+    ensures { IsTotalOrder ⟦<KdlValue as Ord>⟧.cmp }
+{}
+
+/// Equal floats leave equal hashers equal: into both goes what the hash of the first writes.
+pub fn hash_floats<H: Hasher>(a: &KdlFloat, b: &KdlFloat, one: &mut H, other: &mut H)
+    requires { float_text_of a.now ≡ float_text_of b.now }
+    ensures first { one.new ≡ fold H.write one.old (⟦<KdlFloat as Hash>⟧.hash_input a.now) }
+    ensures second { other.new ≡ fold H.write other.old (⟦<KdlFloat as Hash>⟧.hash_input a.now) }
+    ensures equal { one.old ≡ other.old → one.new ≡ other.new }
+{
+    a.hash(one);
+    b.hash(other);
+}
+
+/// Equal values leave equal hashers equal: into both goes what the hash of the first writes.
+pub fn hash_values<H: Hasher>(a: &KdlValue, b: &KdlValue, one: &mut H, other: &mut H)
+    requires { value_tree a.now ≡ value_tree b.now }
+    ensures first { one.new ≡ fold H.write one.old (⟦<KdlValue as Hash>⟧.hash_input a.now) }
+    ensures second { other.new ≡ fold H.write other.old (⟦<KdlValue as Hash>⟧.hash_input a.now) }
+    ensures equal { one.old ≡ other.old → one.new ≡ other.new }
+{
+    a.hash(one);
+    b.hash(other);
+}
+
+/// What a decimal in a text stands for is a float's text.
+pub fn decimals_are_floats()
+    ensures { DecimalsAreFloats }
+{}

@@ -1,0 +1,10 @@
+use Rattle.std.proofs.Common.{refl}
+use Rattle.kdl_parser.proofs.LeadingMark.{mark_ends, whole_failure}
+use Rattle.kdl_parser.proofs.reading.read_all.Goals as goal
+
+pub build-requires-clause-text : goal.build-requires-clause-text
+build-requires-clause-text g c = mark_ends c.checkpoint-whole.result.rest c.eat_mark-mark.result _ c.eat_mark-mark.new.self c.checkpoint-whole.ensures.rest c.eat_mark-mark.ensures
+
+pub returns-in-Err-clause-answers : goal.returns-in-Err-clause-answers
+returns-in-Err-clause-answers g c =
+    whole_failure g.N.ParsedNode.tree c.args.lexer.now.rest c.checkpoint-whole.result.rest c.eat_mark-mark.result c.args.lexer.now c.eat_mark-mark.new.self c.in-Err.failure c.checkpoint-whole.ensures.rest refl c.eat_mark-mark.ensures c.in-Err.ensures.answers

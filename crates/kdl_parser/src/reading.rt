@@ -1,0 +1,91 @@
+//! Documents that are a whole text.
+
+ghost use Rattle.kdl_grammar.specs.Data.{Nodes};
+ghost use Rattle.kdl_grammar.specs.Grammar.{IsDocument};
+ghost use Rattle.kdl_grammar.specs.Machine.{Answers};
+ghost use Rattle.kdl_parser.specs.Steps.{Counted};
+ghost use Rattle.kdl_parser.specs.Whole.{ReadAnswers, whole_by};
+ghost use Rattle.kdl_text.specs.Failures.{IsSyntax, TellsOnSyntax};
+ghost use Rattle.kdl_text.specs.Here.{raise};
+ghost use Rattle.std.specs.Prelude.{◌≡◌, ◌+◌, ◌*◌, ◌≤◌, length, true, IfOk, OnOk};
+ghost use Rattle.std.specs.Str.{chars};
+
+use crate::parser::build;
+use crate::parts::{DocumentParts, ParsedNode};
+use kdl_entry::items::refusal::failure;
+use kdl_entry::items::{LexFailure, Lexer};
+use kdl_text::chars::Steps;
+use kdl_text::error::ParseFailure;
+use std::alloc::Global;
+use std::mem;
+
+/// A document that is a whole text.
+#[derive(Drop)]
+pub struct DocumentText<N> {
+    /// What stands in it, behind the U+FEFF.
+    pub parts: DocumentParts<N>,
+    /// Whether the text begins with U+FEFF.
+    pub mark: bool,
+}
+
+/// The machine's answer on the text that the lexer is at the start of.
+#[tactic(auto, using(crate::proofs::LeadingMark::mark_ends, crate::proofs::LeadingMark::mark_at, crate::proofs::LeadingMark::whole_answer))]
+fn read_all<'a, N: ParsedNode>(
+    alloc: Global,
+    lexer: &mut Lexer<'a>,
+) -> Result<DocumentText<N>, LexFailure>
+    requires { lexer.old.at ≡ 0 }
+    ensures answers { ReadAnswers N.tree lexer.old.rest result }
+    ensures counted { OnOk result (Counted lexer.old.rest lexer.old.steps lexer.new.steps) }
+    ensures raised { raise lexer.old.steps 1 ≤ lexer.new.steps }
+{
+    let whole = lexer.checkpoint();
+    let mark = lexer.eat_mark();
+    match build(alloc, whole, lexer) {
+        Ok(parts) => Ok(DocumentText { parts, mark }),
+        Err(failure) => Err(failure),
+    }
+}
+
+/// The machine's answer on the text, which raises the count.
+fn read<N: ParsedNode>(
+    alloc: Global,
+    text: &str,
+    steps: &mut Steps,
+) -> Result<DocumentText<N>, LexFailure>
+    ensures answers { ReadAnswers N.tree (chars text.now) result }
+    ensures counted { OnOk result (Counted (chars text.now) steps.old steps.new) }
+    ensures raised { raise steps.old 1 ≤ steps.new }
+{
+    let mut lexer = Lexer::new(text, mem::replace(steps, Steps::new()));
+    let answer = read_all(alloc, &mut lexer);
+    *steps = lexer.into_steps();
+    answer
+}
+
+/// The document that the text is (KDL 2.0.0, Document), which raises the count by the steps that it takes, up to the
+/// greatest `u64`. Each piece is sliced once, and what counts for nothing is not sliced at all. `Syntax`: the text is
+/// none; its error has one diagnostic, at the first token that fits nothing or the first piece that is none. `Memory`:
+/// a request for memory was refused.
+#[tactic(auto, using(crate::proofs::Outcomes::refused, crate::proofs::Outcomes::most_counted))]
+pub fn read_document<N: ParsedNode>(
+    alloc: Global,
+    text: &str,
+    steps: &mut Steps,
+) -> Result<DocumentText<N>, ParseFailure>
+    // What is answered is what the machine answers on the text.
+    ensures found { IfOk result (λ d. Answers (chars text.now) (whole_by N.tree d)) }
+    // What is refused is not derived, and an error tells where.
+    ensures refused { IsSyntax result → (x : Nodes) → IsDocument true (chars text.now) x → ⊥ }
+    ensures told { TellsOnSyntax text.now result }
+    // At least a step for each character is counted, and at most 32 for each byte and 32 more.
+    ensures least { OnOk result (raise steps.old (length (chars text.now)) ≤ steps.new) }
+    ensures most { OnOk result (steps.new ≤ steps.old + 32 * (length text.now + 1)) }
+    ensures raised { raise steps.old 1 ≤ steps.new }
+{
+    match read(alloc, text, steps) {
+        Ok(document) => Ok(document),
+        Err(LexFailure::Faulty(fault)) => Err(failure(alloc, text, fault.span)),
+        Err(LexFailure::Memory) => Err(ParseFailure::Memory),
+    }
+}

@@ -1,5 +1,0 @@
-use Rattle.kdl_value.proofs.Comparing.{value_total}
-use Rattle.kdl_value.proofs.laws.values_are_ordered.Goals as goal
-
-pub returns : goal.returns
-returns c = value_total
