@@ -8,7 +8,6 @@ use Rattle.kdl_parser.specs.Answered.{BuildAnswers}
 use Rattle.kdl_parser.specs.Building.{EndsIn}
 use Rattle.kdl_parser.specs.Whole.{ReadAnswers}
 use Rattle.kdl_parser.specs.declared.parts.DocumentParts.{DocumentParts}
-use Rattle.kdl_parser.specs.declared.reading.DocumentText.{DocumentText}
 use Rattle.kdl_parser.proofs.Outcomes.{not_begins, unmarked_answer, unmarked_failure, marked_answer, marked_failure}
 
 -- what is left behind the mark, or where there is none

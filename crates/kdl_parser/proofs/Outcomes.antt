@@ -19,7 +19,6 @@ use Rattle.kdl_parser.specs.Parts.{document_by}
 use Rattle.kdl_parser.specs.Steps.{Counted}
 use Rattle.kdl_parser.specs.Whole.{ReadAnswers}
 use Rattle.kdl_parser.specs.declared.parts.DocumentParts.{DocumentParts}
-use Rattle.kdl_parser.specs.declared.reading.DocumentText.{DocumentText}
 use Rattle.kdl_grammar.proofs.Erased.{sound, answered, one_document}
 use Rattle.kdl_grammar.proofs.LaidPrinted.{printed}
 use Rattle.kdl_grammar.proofs.Widening.{wider}

@@ -1,5 +1,5 @@
 -- Documents that are a whole text.
-use Rattle.std.specs.Prelude.{◌≡◌, Bool, true, false, Result, Ok, Err}
+use Rattle.std.specs.Prelude.{Bool, true, false, Result, Ok, Err}
 use Rattle.kdl_text.specs.Chars.{Text}
 use Rattle.kdl_text.specs.Spans.{InText}
 use Rattle.kdl_entry.specs.declared.items.lexer.LexFailure.{LexFailure}
