@@ -28,6 +28,12 @@ use std::fmt;
 
 /// A document: nodes, and the texts around them (KDL 2.0.0, Document).
 ///
+/// ```kdl
+/// // a leading text where there are no nodes, else nodes one behind another
+/// first 1; second 2
+/// // a trailing text
+/// ```
+///
 /// Two documents are equal where they agree in all but their spans.
 #[cycle(tree)]
 #[derive(Debug, Drop)]
@@ -41,6 +47,12 @@ pub struct KdlDocument {
 
 impl KdlDocument {
     /// A document of no nodes, without a format. It takes no memory.
+    ///
+    /// ```
+    /// let mut document = KdlDocument::new(alloc);
+    /// let name = KdlIdentifier::from_text(alloc, "server")?;
+    /// document.nodes_mut().push(KdlNode::new(name)?)?; // prints `server` and a newline
+    /// ```
     pub fn new(alloc: Global) -> KdlDocument
         ensures { document_tree result ≡ document None (record { offset = 0; len = 0 }) none }
     {
@@ -89,6 +101,11 @@ impl KdlDocument {
     }
 
     /// The nodes, in order.
+    ///
+    /// ```
+    /// let document = KdlDocument::parse(alloc, "a; /-b; c")?;
+    /// let names = document.nodes().iter().map(|node| node.name().value()); // "a", "c"
+    /// ```
     pub fn nodes(&self) -> &[KdlNode]
         ensures { result.now ≡ (out-KdlDocument self.now).nodes.items }
     {
@@ -96,6 +113,13 @@ impl KdlDocument {
     }
 
     /// The texts around the nodes, where the document keeps them.
+    ///
+    /// ```
+    /// let document = KdlDocument::parse(alloc, "// nothing yet\n")?;
+    /// if let Some(format) = document.format() {
+    ///     let comment = format.leading.as_str(); // "// nothing yet\n"
+    /// }
+    /// ```
     pub fn format(&self) -> Option<&KdlDocumentFormat>
         ensures { option_map (λ f. f.now) result ≡ (out-KdlDocument self.now).format }
     {
@@ -103,6 +127,11 @@ impl KdlDocument {
     }
 
     /// Where the document stood in the text that it was read from, in bytes.
+    ///
+    /// ```
+    /// let document = KdlDocument::parse(alloc, "\n\ta 1\n")?;
+    /// let span = document.span(); // from the node `a` on: offset 2
+    /// ```
     pub fn span(&self) -> SourceSpan
         ensures { result ≡ (out-KdlDocument self.now).span }
     {
@@ -110,6 +139,11 @@ impl KdlDocument {
     }
 
     /// Sets the span, and nothing else. The document stays equal to what it was.
+    ///
+    /// ```
+    /// let mut document = KdlDocument::new(alloc);
+    /// document.set_span(SourceSpan { offset: 0, len: 12 });
+    /// ```
     #[tactic(auto, using(crate::proofs::Same::document_spanned))]
     pub fn set_span(&mut self, span: SourceSpan)
         ensures same { same_document self.old self.new ≡ true }
@@ -156,6 +190,12 @@ impl KdlDocument {
     }
 }
 
+/// The nodes one behind another, with the texts around them.
+///
+/// ```
+/// let document = KdlDocument::parse(alloc, "a  0x1\n\nb // last")?;
+/// let text = document.to_string(alloc)?; // "a  0x1\n\nb // last"
+/// ```
 impl fmt::Display for KdlDocument {
     ghost output = { λ d. Some (encode_utf8_all (print_document (document_tree d) 0)) };
 
@@ -183,6 +223,7 @@ impl KdlDocument {
     }
 }
 
+/// A copy with the same texts and spans, at each depth. Fails where memory is wanting.
 impl Clone for KdlDocument {
     ghost is_clone = { λ v w. document_tree w ≡ document_tree v };
 

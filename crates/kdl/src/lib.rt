@@ -1,4 +1,24 @@
 //! KDL 2 documents: nodes and documents that keep every byte of their form.
+//!
+//! `KdlDocument::parse` reads a text, and what it answers prints the same bytes. Look-ups find nodes by their names, and
+//! a node's entries by the name of a property or by the place among the arguments. An edit changes its own piece of the
+//! printed text alone:
+//!
+//! ```
+//! let text = "server {\n    // where it listens\n    port 8080\n}\n";
+//! let mut document = KdlDocument::parse(alloc, text)?;
+//! if let Some(server) = document.get_mut("server") {
+//!     if let Some(port) = server.ensure_children().get_mut("port") {
+//!         if let Some(entry) = port.entry_mut(NodeKey::from(0)) {
+//!             *entry = KdlEntry::new(KdlValue::from(9090));
+//!         }
+//!     }
+//! }
+//! let changed = document.to_string(alloc)?; // the text with 9090 in the place of 8080
+//! ```
+//!
+//! A call that takes memory is given where from, and answers where that is wanting: by an `AllocError`, or by
+//! `ParseFailure::Memory`. Spans are in bytes of the text that was read.
 #![tactic(auto)]
 
 mod document;

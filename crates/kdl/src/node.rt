@@ -29,6 +29,11 @@ use std::fmt;
 
 /// A node: a name, maybe a type, entries, maybe children, and the texts around them (KDL 2.0.0, Node).
 ///
+/// ```kdl
+/// // a leading text, a type, a name, an argument, a property, a block of children, a terminator
+/// (published)book "The Rust Book" pages=0x1F0 { chapter 1; };
+/// ```
+///
 /// Two nodes are equal where they agree in all but their spans.
 #[cycle(tree)]
 #[derive(Debug, Drop)]
@@ -61,6 +66,11 @@ impl KdlNode {
     }
 
     /// The name.
+    ///
+    /// ```
+    /// let node = KdlNode::parse(alloc, "\"a\\tb\"")?;
+    /// let name = node.name().value(); // an `a`, a tabulator and a `b`
+    /// ```
     pub fn name(&self) -> &KdlIdentifier
         ensures { result.now ≡ (out-KdlNode self.now).name }
     {
@@ -68,6 +78,11 @@ impl KdlNode {
     }
 
     /// The type, where the node has one.
+    ///
+    /// ```
+    /// let node = KdlNode::parse(alloc, "(date)today")?;
+    /// let ty = node.ty(); // the identifier `date`
+    /// ```
     pub fn ty(&self) -> Option<&KdlIdentifier>
         ensures { option_map (λ t. t.now) result ≡ (out-KdlNode self.now).ty }
     {
@@ -75,6 +90,11 @@ impl KdlNode {
     }
 
     /// The entries, in order.
+    ///
+    /// ```
+    /// let node = KdlNode::parse(alloc, "a 1 /-2 b=3")?;
+    /// let count = node.entries().len(); // 2: what a slashdash drops is no entry
+    /// ```
     pub fn entries(&self) -> &[KdlEntry]
         ensures { result.now ≡ (out-KdlNode self.now).entries.items }
     {
@@ -82,6 +102,11 @@ impl KdlNode {
     }
 
     /// The children, where the node has a child block.
+    ///
+    /// ```
+    /// let none = KdlNode::parse(alloc, "a")?.children().is_none(); // true
+    /// let some = KdlNode::parse(alloc, "a {}")?.children().is_some(); // true: an empty block differs from none
+    /// ```
     pub fn children(&self) -> Option<&KdlDocument>
         ensures { option_map (λ d. d.now) result ≡ (out-KdlNode self.now).children }
     {
@@ -89,6 +114,13 @@ impl KdlNode {
     }
 
     /// The texts around the parts, where the node keeps them.
+    ///
+    /// ```
+    /// let node = KdlNode::parse(alloc, "a 1 ; ")?;
+    /// if let Some(format) = node.format() {
+    ///     let ends = format.terminator.as_str(); // ";"
+    /// }
+    /// ```
     pub fn format(&self) -> Option<&KdlNodeFormat>
         ensures { option_map (λ f. f.now) result ≡ (out-KdlNode self.now).format }
     {
@@ -96,6 +128,11 @@ impl KdlNode {
     }
 
     /// Where the node stood in the text that it was read from, in bytes.
+    ///
+    /// ```
+    /// let document = KdlDocument::parse(alloc, "é 1\nb")?;
+    /// let span = document.nodes()[1].span(); // offset 5, since `é` has two bytes
+    /// ```
     pub fn span(&self) -> SourceSpan
         ensures { result ≡ (out-KdlNode self.now).span }
     {
@@ -103,6 +140,11 @@ impl KdlNode {
     }
 
     /// Sets the span, and nothing else. The node stays equal to what it was.
+    ///
+    /// ```
+    /// let mut node = KdlNode::parse(alloc, "a")?;
+    /// node.set_span(SourceSpan { offset: 7, len: 1 });
+    /// ```
     #[tactic(auto, using(crate::proofs::Same::node_spanned))]
     pub fn set_span(&mut self, span: SourceSpan)
         ensures same { same_node self.old self.new ≡ true }
@@ -133,6 +175,14 @@ impl KdlNode {
     }
 }
 
+/// The node with the texts around its parts. Without a format it gets no terminator, four spaces for each depth in front
+/// of it, and one space before its `{` where the last entry has no format; an entry without a format stands after one
+/// space.
+///
+/// ```
+/// let node = KdlNode::parse(alloc, "a  0x1 { b; }")?;
+/// let text = node.to_string(alloc)?; // "a  0x1 { b; }"
+/// ```
 impl fmt::Display for KdlNode {
     ghost output = { λ n. Some (encode_utf8_all (print_node (node_tree n) 0)) };
 
@@ -163,6 +213,12 @@ impl KdlNode {
     }
 }
 
+/// A copy with the same texts and spans, at each depth. Fails where memory is wanting.
+///
+/// ```
+/// let node = KdlNode::parse(alloc, "a 1")?;
+/// let same = node.clone()? == node; // true
+/// ```
 impl Clone for KdlNode {
     ghost is_clone = { λ v w. node_tree w ≡ node_tree v };
 

@@ -55,6 +55,12 @@ impl KdlDocument {
     /// The document of a text, with every byte of its form (KDL 2.0.0, Document). `Syntax`: the text is none.
     /// Its error has one diagnostic, at the first token that fits nothing or the first piece that is none.
     /// `Memory`: a request for memory was refused. Nothing is made then.
+    ///
+    /// ```
+    /// let text = "host localhost // here\nport 0x1F90\n";
+    /// let document = KdlDocument::parse(alloc, text)?;
+    /// let same = document.to_string(alloc)?; // the text, byte for byte
+    /// ```
     pub fn parse(alloc: Global, text: &str) -> Result<KdlDocument, ParseFailure>
         // What is answered is what the grammar derives,
         ensures found { IfOk result (λ d. IsDocument true (chars text.now) (document_data (document_tree d))) }
@@ -81,6 +87,12 @@ impl KdlDocument {
     ///
     /// A document of n bytes takes at least a step for each character and at most 32 (n + 1) steps. What is refused
     /// takes at least one.
+    ///
+    /// ```
+    /// let mut steps = Steps::new();
+    /// let document = KdlDocument::parse_counted(alloc, "a 1", &mut steps)?;
+    /// let taken = steps.count(); // at least 3, at most 128
+    /// ```
     #[tactic(auto, using(crate::proofs::Readings::found, crate::proofs::Readings::only, crate::proofs::Readings::laid, crate::proofs::Readings::prints))]
     pub fn parse_counted(
         alloc: Global,
@@ -104,6 +116,11 @@ impl KdlDocument {
     }
 
     /// The document of a text of KDL 2, as by `parse`.
+    ///
+    /// ```
+    /// let document = KdlDocument::parse_v2(alloc, "on #true")?;
+    /// let on = document.get_arg("on"); // the truth value `#true`
+    /// ```
     pub fn parse_v2(alloc: Global, text: &str) -> Result<KdlDocument, ParseFailure>
         ensures found { IfOk result (λ d. IsDocument true (chars text.now) (document_data (document_tree d))) }
         ensures only { IfOk result (λ d. (x : Nodes) → IsDocument true (chars text.now) x → x ≡ document_data (document_tree d)) }
@@ -129,6 +146,11 @@ impl KdlNode {
     /// is none. Its error has one diagnostic: at the first token that fits nothing or the first piece that is none,
     /// at a second node, or at the end of a text that has none. `Memory`: a request for memory was refused. Nothing is
     /// made then.
+    ///
+    /// ```
+    /// let node = KdlNode::parse(alloc, "// the port\nport 8080\n")?;
+    /// let two = KdlNode::parse(alloc, "a; b"); // `Syntax`, at the second node
+    /// ```
     #[tactic(auto, using(crate::proofs::Readings::node_found, crate::proofs::Readings::node_only, crate::proofs::Readings::node_prints))]
     pub fn parse(alloc: Global, text: &str) -> Result<KdlNode, ParseFailure>
         // What is answered is what the grammar derives,

@@ -20,6 +20,13 @@ use std::slice;
 
 impl KdlDocument {
     /// The values of the arguments of the first node of that name, in order; none where there is no such node.
+    ///
+    /// ```
+    /// let document = KdlDocument::parse(alloc, "ports 80 tls=#true 443")?;
+    /// for port in document.iter_args("ports") {
+    ///     let number = port.as_integer(); // 80, then 443
+    /// }
+    /// ```
     pub fn iter_args(&self, name: &str) -> ArgsIter<'_>
         ensures { result ≡ arguments_of (node_named name.now self.now) }
     {
@@ -31,6 +38,13 @@ impl KdlDocument {
 
     /// The value of the first argument of each child named `-` that has one, in order, among the children of the first
     /// node of that name; none where there is no such node.
+    ///
+    /// ```
+    /// let document = KdlDocument::parse(alloc, "list { - 1; - 2 3; other 4; - }")?;
+    /// for value in document.iter_dash_args("list") {
+    ///     let number = value.as_integer(); // 1, then 2
+    /// }
+    /// ```
     pub fn iter_dash_args(&self, name: &str) -> DashArgsIter<'_>
         ensures { result ≡ dash_arguments_of (node_named name.now self.now) }
     {

@@ -20,6 +20,11 @@ use std::vec::IntoIter;
 
 impl KdlDocument {
     /// The nodes, to be changed in place.
+    ///
+    /// ```
+    /// let mut document = KdlDocument::parse(alloc, "a\nb\nc\n")?;
+    /// let b = document.nodes_mut().remove(1); // what is left prints "a\nc\n"
+    /// ```
     pub fn nodes_mut(&mut self) -> &mut Vec<KdlNode>
         ensures* writes_back { sem 𝓛 (Lends the_row nodes_row self.entry result (with_nodes self.old)) }
         ensures value { result.now ≡ (out-KdlDocument self.old).nodes }
@@ -28,6 +33,13 @@ impl KdlDocument {
     }
 
     /// The texts around the nodes, to be changed in place, where the document keeps them.
+    ///
+    /// ```
+    /// let mut document = KdlDocument::parse(alloc, "a\n")?;
+    /// if let Some(format) = document.format_mut() {
+    ///     format.trailing = String::from_str(alloc, "// the end")?;
+    /// }
+    /// ```
     pub fn format_mut(&mut self) -> Option<&mut KdlDocumentFormat>
         ensures* writes_back { sem 𝓛 (LendsIf the_row format_row self.entry result (λ f. with_document_format self.old (Some f)) self.old) }
         ensures value { option_map (λ f. f.now) result ≡ (out-KdlDocument self.old).format }
@@ -36,6 +48,11 @@ impl KdlDocument {
     }
 
     /// Sets the texts around the nodes, and nothing else.
+    ///
+    /// ```
+    /// let mut document = KdlDocument::new(alloc);
+    /// document.set_format(KdlDocumentFormat::new(alloc));
+    /// ```
     pub fn set_format(&mut self, format: KdlDocumentFormat)
         ensures { out-KdlDocument self.new ≡ record (out-KdlDocument self.old) { format = Some format } }
     {
@@ -43,6 +60,11 @@ impl KdlDocument {
     }
 
     /// Drops the document's own format, and nothing else: its nodes stay as they are.
+    ///
+    /// ```
+    /// let mut document = KdlDocument::parse(alloc, "a // one\n// two")?;
+    /// document.clear_format(); // prints "a // one\n"
+    /// ```
     pub fn clear_format(&mut self)
         ensures { out-KdlDocument self.new ≡ record (out-KdlDocument self.old) { format = None } }
     {
@@ -50,6 +72,11 @@ impl KdlDocument {
     }
 
     /// Drops the document's format, and all that `clear_format_recursive` of each node drops.
+    ///
+    /// ```
+    /// let mut document = KdlDocument::parse(alloc, "a   0x10 { b /* none */; }")?;
+    /// document.clear_format_recursive(); // no node keeps a space, a comment or a spelling
+    /// ```
     #[cycle(clear)]
     pub fn clear_format_recursive(&mut self)
         ensures { document_tree self.new ≡ cleared_document (document_tree self.old) }
@@ -59,6 +86,11 @@ impl KdlDocument {
     }
 
     /// The length of the printed text, in bytes. It prints the document: it fails where memory is wanting.
+    ///
+    /// ```
+    /// let document = KdlDocument::parse(alloc, "naïve")?;
+    /// let bytes = document.len(alloc)?; // 6
+    /// ```
     pub fn len(&self, alloc: Global) -> Result<usize, AllocError>
         ensures { IfOk result (λ n. n ≡ bytes (print_document (document_tree self.now) 0)) }
     {
@@ -66,6 +98,11 @@ impl KdlDocument {
     }
 
     /// Whether the printed text is empty. It prints the document: it fails where memory is wanting.
+    ///
+    /// ```
+    /// let document = KdlDocument::parse(alloc, "// a comment")?;
+    /// let nothing = document.is_empty(alloc)?; // false: the comment is printed
+    /// ```
     pub fn is_empty(&self, alloc: Global) -> Result<bool, AllocError>
         ensures { IfOk result (λ b. IsTrue b ↔ (print_document (document_tree self.now) 0 ≡ [])) }
     {
@@ -84,6 +121,13 @@ fn clear_nodes(nodes: &mut Vec<KdlNode>)
 }
 
 /// The nodes, in order; the document's format and span are dropped.
+///
+/// ```
+/// let document = KdlDocument::parse(alloc, "a; b")?;
+/// for node in document {
+///     let name = node.name().value(); // "a", then "b"
+/// }
+/// ```
 impl IntoIterator for KdlDocument {
     type Item = KdlNode;
 

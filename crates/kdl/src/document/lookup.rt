@@ -47,6 +47,11 @@ fn place_with_argument(nodes: &[KdlNode], name: &str) -> Option<usize>
 
 impl KdlDocument {
     /// The first node of that name. The name's value counts, not its spelling.
+    ///
+    /// ```
+    /// let document = KdlDocument::parse(alloc, "host 1\n\"host\" 2")?;
+    /// let host = document.get("host"); // the first one
+    /// ```
     pub fn get(&self, name: &str) -> Option<&KdlNode>
         ensures { option_map (λ n. n.now) result ≡ node_named name.now self.now }
     {
@@ -54,6 +59,13 @@ impl KdlDocument {
     }
 
     /// The first node of that name, to be changed in place. All else stays as it is.
+    ///
+    /// ```
+    /// let mut document = KdlDocument::parse(alloc, "host a; port 1 // kept")?;
+    /// if let Some(port) = document.get_mut("port") {
+    ///     port.clear(); // prints "host a; port // kept"
+    /// }
+    /// ```
     pub fn get_mut(&mut self, name: &str) -> Option<&mut KdlNode>
         ensures* writes_back { sem 𝓛 (LendsIf the_row node_row self.entry result (with_node_there (node_place name.now self.old) self.old) self.old) }
         ensures value { option_map (λ n. n.now) result ≡ node_named name.now self.old }
@@ -65,6 +77,11 @@ impl KdlDocument {
     }
 
     /// The value of the first argument of the first node of that name.
+    ///
+    /// ```
+    /// let document = KdlDocument::parse(alloc, "port udp=#true 8080 8081")?;
+    /// let port = document.get_arg("port"); // the whole number 8080
+    /// ```
     pub fn get_arg(&self, name: &str) -> Option<&KdlValue>
         ensures { option_map (λ v. value_tree v.now) result ≡ option_map (λ e. value_tree e.value) (argument_named name.now self.now) }
     {
@@ -76,6 +93,13 @@ impl KdlDocument {
 
     /// The value that `get_arg` gives, to be changed in place. The entry's format, with the spelling of the value, and
     /// all else stay as they are.
+    ///
+    /// ```
+    /// let mut document = KdlDocument::parse(alloc, "port 0x10")?;
+    /// if let Some(port) = document.get_arg_mut("port") {
+    ///     *port = KdlValue::from(17); // the format keeps the spelling "0x10" of the former value
+    /// }
+    /// ```
     pub fn get_arg_mut(&mut self, name: &str) -> Option<&mut KdlValue>
         ensures* writes_back { sem 𝓛 (LendsIf the_row value_row self.entry result (with_argument_there (node_place name.now self.old) self.old) self.old) }
         ensures value { option_map (λ v. v.now) result ≡ option_map (λ e. e.value) (argument_named name.now self.old) }

@@ -12,6 +12,11 @@ use kdl_parts::edit::clear_formats;
 impl KdlNode {
     /// Drops the node's format, the spelling of its name, the formats and spellings of its entries, and likewise those
     /// of all nodes below it and the formats of the child documents. The spelling of the type stays, at each depth.
+    ///
+    /// ```
+    /// let mut node = KdlNode::parse(alloc, "\"a\"  0x1 { /* b */ b; }")?;
+    /// node.clear_format_recursive(); // what it says stays: the name `a`, the argument 1, the child `b`
+    /// ```
     #[cycle(clear)]
     pub fn clear_format_recursive(&mut self)
         ensures { node_tree self.new ≡ cleared_node (node_tree self.old) }

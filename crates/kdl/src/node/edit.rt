@@ -23,6 +23,11 @@ use std::cmp::Ordering;
 
 impl KdlNode {
     /// The number of entries.
+    ///
+    /// ```
+    /// let node = KdlNode::parse(alloc, "a 1 2 b=3")?;
+    /// let count = node.len(); // 3
+    /// ```
     pub fn len(&self) -> usize
         ensures { result ≡ length (out-KdlNode self.now).entries.items }
     {
@@ -30,6 +35,11 @@ impl KdlNode {
     }
 
     /// Whether there are no entries.
+    ///
+    /// ```
+    /// let node = KdlNode::parse(alloc, "a { b 1; }")?;
+    /// let none = node.is_empty(); // true: the argument is that of `b`
+    /// ```
     pub fn is_empty(&self) -> bool
         ensures { result ≡ (length (out-KdlNode self.now).entries.items == 0) }
     {
@@ -38,6 +48,11 @@ impl KdlNode {
 
     /// The entries, to be changed in place. All else stays as it is: of a node with a format, what is printed before
     /// the entries and behind them too.
+    ///
+    /// ```
+    /// let mut node = KdlNode::parse(alloc, "a 1 2 3 // kept")?;
+    /// node.entries_mut().truncate(1); // prints "a 1 // kept"
+    /// ```
     pub fn entries_mut(&mut self) -> &mut Vec<KdlEntry>
         ensures* writes_back { sem 𝓛 (Lends the_row entries_row self.entry result (with_entries self.old)) }
         ensures value { result.now ≡ (out-KdlNode self.old).entries }
@@ -46,6 +61,11 @@ impl KdlNode {
     }
 
     /// Drops all entries. All else stays as it is.
+    ///
+    /// ```
+    /// let mut node = KdlNode::parse(alloc, "a 1 b=2 // kept")?;
+    /// node.clear(); // prints "a // kept"
+    /// ```
     pub fn clear(&mut self)
         ensures items { (out-KdlNode self.new).entries.items ≡ [] }
         ensures rest { self.new ≡ with_entries self.old (out-KdlNode self.new).entries }
@@ -55,6 +75,11 @@ impl KdlNode {
 
     /// Puts the entry behind the others. Fails where memory is wanting: then the entry comes back, and the node is as
     /// it was.
+    ///
+    /// ```
+    /// let mut node = KdlNode::parse(alloc, "a 1 // kept")?;
+    /// let pushed = node.push(KdlEntry::new(KdlValue::from(2))); // prints "a 1 2 // kept"
+    /// ```
     #[tactic(auto, using(crate::proofs::EditLaws::refused_same))]
     pub fn push(&mut self, entry: KdlEntry) -> Result<(), (KdlEntry, AllocError)>
         ensures items { (out-KdlNode self.new).entries.items ≡ (if is_ok result then (out-KdlNode self.old).entries.items ++ (entry ∷ []) else (out-KdlNode self.old).entries.items) }
@@ -73,6 +98,12 @@ impl KdlNode {
     /// The entry has no name, or under a name one of equal value; the index is at most the number of arguments. A
     /// replacement takes no memory. Else it fails where memory is wanting: then the entry comes back, with the key for
     /// its name where it had none, and the node is as it was.
+    ///
+    /// ```
+    /// let mut node = KdlNode::parse(alloc, "a b=1 // kept")?;
+    /// let key = NodeKey::from_text(alloc, "b")?;
+    /// let replaced = node.insert(key, KdlEntry::new(KdlValue::from(2))); // prints "a b=2 // kept"
+    /// ```
     pub fn insert(
         &mut self,
         key: NodeKey,
@@ -93,6 +124,11 @@ impl KdlNode {
 
     /// Takes out and hands back the first property whose name has the key's value, or the argument at the key's place
     /// among the arguments, which has to be there. All else stays as it is.
+    ///
+    /// ```
+    /// let mut node = KdlNode::parse(alloc, "a 1 b=2 b=3")?;
+    /// let first = node.remove(NodeKey::from_text(alloc, "b")?); // the property `b=2`; prints "a 1 b=3"
+    /// ```
     pub fn remove(&mut self, key: NodeKey) -> Option<KdlEntry>
         requires { HasArgumentAt (sought key) (out-KdlNode self.old).entries.items }
         ensures items { (out-KdlNode self.new).entries.items ≡ removed key (out-KdlNode self.old).entries.items }
@@ -104,6 +140,11 @@ impl KdlNode {
 
     /// Keeps, in order, the entries for which `keep` answers true. It is asked once for each entry, in order. All else
     /// stays as it is.
+    ///
+    /// ```
+    /// let mut node = KdlNode::parse(alloc, "a 1 b=2 3")?;
+    /// node.retain(|entry| entry.name().is_none()); // prints "a 1 3"
+    /// ```
     pub fn retain<F: FnMut(&KdlEntry) -> bool>(&mut self, keep: F)
         requires { F.IsAlwaysCallable keep }
         ensures items { IsFiltered (CalledAt F.FnMut) keep (out-KdlNode self.old).entries.items (out-KdlNode self.new).entries.items }
@@ -114,6 +155,11 @@ impl KdlNode {
 
     /// Sorts the entries by `compare`, a total preorder; entries that compare as equal keep their order. Fails where
     /// memory is wanting: then the entries are in some order.
+    ///
+    /// ```
+    /// let mut node = KdlNode::parse(alloc, "a 3 1 2")?;
+    /// node.sort_by(|one, other| one.value().cmp(other.value()))?; // prints "a 1 2 3"
+    /// ```
     pub fn sort_by<F: FnMut(&KdlEntry, &KdlEntry) -> Ordering>(
         &mut self,
         compare: F,
@@ -129,6 +175,11 @@ impl KdlNode {
 
     /// Sorts the entries by the key that `f` gives of each; entries with equal keys keep their order. Fails where
     /// memory is wanting: then the entries are in some order.
+    ///
+    /// ```
+    /// let mut node = KdlNode::parse(alloc, "a b=1 2 c=3 4")?;
+    /// node.sort_by_key(|entry| entry.name().is_some())?; // prints "a 2 4 b=1 c=3"
+    /// ```
     pub fn sort_by_key<K: Ord, F: FnMut(&KdlEntry) -> K>(&mut self, f: F) -> Result<(), AllocError>
     where
         K: Drop,

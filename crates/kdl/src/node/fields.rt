@@ -23,6 +23,11 @@ use std::alloc::{AllocError, Global};
 impl KdlNode {
     /// A node of that name, without a type, entries and children. The texts of its format are empty, but for the
     /// trailing one, which is one newline; the span is 0 of length 0. Fails where memory is wanting.
+    ///
+    /// ```
+    /// let name = KdlIdentifier::from_text(alloc, "two words")?;
+    /// let node = KdlNode::new(name)?; // prints "\"two words\"\n"
+    /// ```
     pub fn new(name: KdlIdentifier) -> Result<KdlNode, AllocError>
         ensures { IfOk result (λ n. node_tree n ≡ new_node (identifier_tree name)) }
     {
@@ -39,6 +44,11 @@ impl KdlNode {
     }
 
     /// The name, to be changed in place.
+    ///
+    /// ```
+    /// let mut node = KdlNode::parse(alloc, "old 1 // kept")?;
+    /// node.name_mut().set_value(String::from_str(alloc, "new")?);
+    /// ```
     pub fn name_mut(&mut self) -> &mut KdlIdentifier
         ensures* writes_back { sem 𝓛 (Lends the_row identifier_row self.entry result (with_name self.old)) }
         ensures value { result.now ≡ (out-KdlNode self.old).name }
@@ -47,6 +57,11 @@ impl KdlNode {
     }
 
     /// Sets the name, and nothing else.
+    ///
+    /// ```
+    /// let mut node = KdlNode::parse(alloc, "old 1 // kept")?;
+    /// node.set_name(KdlIdentifier::from_text(alloc, "new")?); // prints "new 1 // kept"
+    /// ```
     pub fn set_name(&mut self, name: KdlIdentifier)
         ensures { out-KdlNode self.new ≡ record (out-KdlNode self.old) { name = name } }
     {
@@ -54,6 +69,11 @@ impl KdlNode {
     }
 
     /// The type or none, to be changed in place.
+    ///
+    /// ```
+    /// let mut node = KdlNode::parse(alloc, "(date)today")?;
+    /// *node.ty_mut() = None; // prints "today"
+    /// ```
     pub fn ty_mut(&mut self) -> &mut Option<KdlIdentifier>
         ensures* writes_back { sem 𝓛 (Lends the_row ty_row self.entry result (with_ty self.old)) }
         ensures value { result.now ≡ (out-KdlNode self.old).ty }
@@ -62,6 +82,11 @@ impl KdlNode {
     }
 
     /// Sets the type, and nothing else.
+    ///
+    /// ```
+    /// let mut node = KdlNode::parse(alloc, "today")?;
+    /// node.set_ty(KdlIdentifier::from_text(alloc, "date")?); // prints "(date)today"
+    /// ```
     pub fn set_ty(&mut self, ty: KdlIdentifier)
         ensures { out-KdlNode self.new ≡ record (out-KdlNode self.old) { ty = Some ty } }
     {
@@ -69,6 +94,13 @@ impl KdlNode {
     }
 
     /// The children or none, to be changed in place.
+    ///
+    /// ```
+    /// let mut node = KdlNode::parse(alloc, "a { b; c; }")?;
+    /// if let Some(children) = node.children_mut() {
+    ///     children.nodes_mut().clear();
+    /// }
+    /// ```
     pub fn children_mut(&mut self) -> &mut Option<KdlDocument>
         ensures* writes_back { sem 𝓛 (Lends the_row children_row self.entry result (with_children self.old)) }
         ensures value { result.now ≡ (out-KdlNode self.old).children }
@@ -77,6 +109,11 @@ impl KdlNode {
     }
 
     /// Sets the children, in place of those that were there, and nothing else.
+    ///
+    /// ```
+    /// let mut node = KdlNode::parse(alloc, "a 1")?;
+    /// node.set_children(KdlDocument::parse(alloc, "b; c")?); // in place of those that were there
+    /// ```
     pub fn set_children(&mut self, children: KdlDocument)
         ensures { out-KdlNode self.new ≡ record (out-KdlNode self.old) { children = Some children } }
     {
@@ -84,6 +121,11 @@ impl KdlNode {
     }
 
     /// Drops the child block, and nothing else.
+    ///
+    /// ```
+    /// let mut node = KdlNode::parse(alloc, "a 1 { b; }")?;
+    /// node.clear_children();
+    /// ```
     pub fn clear_children(&mut self)
         ensures { out-KdlNode self.new ≡ record (out-KdlNode self.old) { children = None } }
     {
@@ -92,6 +134,12 @@ impl KdlNode {
 
     /// The children, to be changed in place; where the node has no child block it gets an empty new one. It takes no
     /// memory.
+    ///
+    /// ```
+    /// let mut node = KdlNode::parse(alloc, "a")?;
+    /// let b = KdlNode::new(KdlIdentifier::from_text(alloc, "b")?)?;
+    /// node.ensure_children().nodes_mut().push(b)?;
+    /// ```
     pub fn ensure_children(&mut self) -> &mut KdlDocument
         ensures* writes_back { sem 𝓛 (Lends the_row document_row self.entry result (λ d. with_children self.old (Some d))) }
         ensures found { IfSome (out-KdlNode self.old).children (λ d. result.now ≡ d) }
@@ -102,6 +150,13 @@ impl KdlNode {
     }
 
     /// The texts around the parts, to be changed in place, where the node keeps them.
+    ///
+    /// ```
+    /// let mut node = KdlNode::parse(alloc, "a 1")?;
+    /// if let Some(format) = node.format_mut() {
+    ///     format.terminator = String::from_str(alloc, ";")?; // prints "a 1;"
+    /// }
+    /// ```
     pub fn format_mut(&mut self) -> Option<&mut KdlNodeFormat>
         ensures* writes_back { sem 𝓛 (LendsIf the_row format_row self.entry result (λ f. with_format self.old (Some f)) self.old) }
         ensures value { option_map (λ f. f.now) result ≡ (out-KdlNode self.old).format }
@@ -110,6 +165,11 @@ impl KdlNode {
     }
 
     /// Sets the texts around the parts, and nothing else.
+    ///
+    /// ```
+    /// let mut node = KdlNode::parse(alloc, "a 1 ; ")?;
+    /// node.set_format(KdlNodeFormat::new(alloc)); // prints "a 1", since all its texts are empty
+    /// ```
     pub fn set_format(&mut self, format: KdlNodeFormat)
         ensures { out-KdlNode self.new ≡ record (out-KdlNode self.old) { format = Some format } }
     {
@@ -117,6 +177,11 @@ impl KdlNode {
     }
 
     /// Drops the node's own format, and nothing else: the spellings, and the formats of entries and children, stay.
+    ///
+    /// ```
+    /// let mut node = KdlNode::parse(alloc, "a  0x1 ; ")?;
+    /// node.clear_format(); // the entry keeps its own spaces and its spelling
+    /// ```
     pub fn clear_format(&mut self)
         ensures { out-KdlNode self.new ≡ record (out-KdlNode self.old) { format = None } }
     {

@@ -21,6 +21,13 @@ impl KdlNode {
     ghost use Rattle.kdl_entry.specs.contracts.entry.KdlEntry.{the_row as entry_row};
 
     /// The entries, arguments and properties, in order.
+    ///
+    /// ```
+    /// let node = KdlNode::parse(alloc, "a 1 b=2")?;
+    /// for entry in node.iter() {
+    ///     let value = entry.value(); // 1, then 2
+    /// }
+    /// ```
     pub fn iter(&self) -> EntryIter<'_>
         ensures { result ≡ entries_of self.now }
     {
@@ -28,6 +35,13 @@ impl KdlNode {
     }
 
     /// The entries, in order, to be changed in place.
+    ///
+    /// ```
+    /// let mut node = KdlNode::parse(alloc, "a 0x1 0x2")?;
+    /// for entry in node.iter_mut() {
+    ///     entry.clear_format(); // prints "a 1 2"
+    /// }
+    /// ```
     pub fn iter_mut(&mut self) -> EntryIterMut<'_>
         ensures* writes_back { sem 𝓛 (follows node_row (Array entry_row 0) self.entry.ghost_name (entries_name result) (with_written_entries self.old)) }
         ensures left { entries_left result ≡ entries_of self.old }
@@ -36,6 +50,13 @@ impl KdlNode {
     }
 
     /// The children, in order; none without a child block.
+    ///
+    /// ```
+    /// let node = KdlNode::parse(alloc, "a { b; c; }")?;
+    /// for child in node.iter_children() {
+    ///     let name = child.name().value(); // "b", then "c"
+    /// }
+    /// ```
     pub fn iter_children(&self) -> ChildrenIter<'_>
         ensures { result ≡ child_nodes self.now }
     {
@@ -48,6 +69,13 @@ impl KdlNode {
     }
 
     /// The children, in order, to be changed in place; none without a child block.
+    ///
+    /// ```
+    /// let mut node = KdlNode::parse(alloc, "a { b 1; c 2; }")?;
+    /// for child in node.iter_children_mut() {
+    ///     child.clear(); // prints "a { b; c; }"
+    /// }
+    /// ```
     pub fn iter_children_mut(&mut self) -> ChildrenIterMut<'_>
         ensures { nodes_left result ≡ child_nodes self.old }
     {

@@ -17,6 +17,11 @@ use std::ops::{Index, IndexMut};
 impl KdlNode {
     /// The entry that the key finds: the last property whose name has the key's value, or the argument at the key's
     /// place among the arguments.
+    ///
+    /// ```
+    /// let node = KdlNode::parse(alloc, "a 1 b=2 3")?;
+    /// let three = node.entry(NodeKey::from(1)); // the argument 3, the second one
+    /// ```
     pub fn entry(&self, key: NodeKey) -> Option<&KdlEntry>
         ensures { option_map (λ e. e.now) result ≡ entry_there (key_place key self.now) self.now }
     {
@@ -25,6 +30,11 @@ impl KdlNode {
 
     /// The value of the entry that the key finds: of the last property whose name has the key's value, or of the
     /// argument at the key's place among the arguments.
+    ///
+    /// ```
+    /// let node = KdlNode::parse(alloc, "a b=1 b=2")?;
+    /// let two = node.get(NodeKey::from_text(alloc, "b")?); // 2: the last one counts
+    /// ```
     pub fn get(&self, key: NodeKey) -> Option<&KdlValue>
         ensures { option_map (λ v. value_tree v.now) result ≡ value_there (key_place key self.now) self.now }
     {
@@ -33,6 +43,11 @@ impl KdlNode {
 
     /// Whether the node has a property of that name. The name's value counts, not its spelling. Then `node[name]` is
     /// there.
+    ///
+    /// ```
+    /// let node = KdlNode::parse(alloc, "a b=1 c")?;
+    /// let both = (node.has_property("b"), node.has_property("c")); // true and false: `c` is an argument
+    /// ```
     pub fn has_property(&self, name: &str) -> bool
         ensures { result ≡ is_some (property_place name.now self.now) }
     {
@@ -46,6 +61,13 @@ impl KdlNode {
     ghost use Rattle.kdl_value.specs.contracts.value.KdlValue.{the_row as value_row};
 
     /// The entry that `entry` gives, to be changed in place. All else stays as it is.
+    ///
+    /// ```
+    /// let mut node = KdlNode::parse(alloc, "a 0x10")?;
+    /// if let Some(entry) = node.entry_mut(NodeKey::from(0)) {
+    ///     entry.clear_format(); // prints "a 16"
+    /// }
+    /// ```
     pub fn entry_mut(&mut self, key: NodeKey) -> Option<&mut KdlEntry>
         ensures* writes_back { sem 𝓛 (LendsIf the_row entry_row self.entry result (with_entry_there (key_place key self.old) self.old) self.old) }
         ensures value { option_map (λ e. e.now) result ≡ entry_there (key_place key self.old) self.old }
@@ -55,6 +77,13 @@ impl KdlNode {
 
     /// The value that `get` gives, to be changed in place. The entry's format, with the spelling of the value, and all
     /// else stay as they are.
+    ///
+    /// ```
+    /// let mut node = KdlNode::parse(alloc, "a b=1")?;
+    /// if let Some(value) = node.get_mut(NodeKey::from_text(alloc, "b")?) {
+    ///     *value = KdlValue::from(true); // the entry's format keeps the spelling "1"
+    /// }
+    /// ```
     pub fn get_mut(&mut self, key: NodeKey) -> Option<&mut KdlValue>
         ensures* writes_back { sem 𝓛 (LendsIf the_row value_row self.entry result (with_value_there (key_place key self.old) self.old) self.old) }
         ensures value { option_map (λ v. v.now) result ≡ option_map (λ e. e.value) (entry_there (key_place key self.old) self.old) }
@@ -64,6 +93,11 @@ impl KdlNode {
 
     /// The value of the last property of that name, to be changed in place; a property of that name with the value null
     /// is pushed first where there is none. Fails where memory for it is wanting: then the entries are as they were.
+    ///
+    /// ```
+    /// let mut node = KdlNode::parse(alloc, "a")?;
+    /// *node.get_or_null_mut("b")? = KdlValue::from(1); // prints "a b=1"
+    /// ```
     pub fn get_or_null_mut(&mut self, name: &str) -> Result<&mut KdlValue, AllocError>
         ensures* writes_back { sem 𝓛 (LendsSoOk the_row value_row self.entry result (λ n w. HasWritten (property_place name.now self.old) name.now self.old w n) (λ n. HasSameEntries self.old n)) }
         ensures value { IfOk result (λ v. value_tree v.now ≡ or_null (value_there (property_place name.now self.old) self.old)) }
@@ -90,6 +124,11 @@ impl KdlNode {
 }
 
 /// The value of the argument at that place among the arguments, from 0. It has to be there, as `get` tells.
+///
+/// ```
+/// let node = KdlNode::parse(alloc, "a b=1 2")?;
+/// let two = &node[0];
+/// ```
 impl Index<usize> for KdlNode {
     type Output = KdlValue;
 
@@ -103,6 +142,11 @@ impl Index<usize> for KdlNode {
 }
 
 /// The value of the last property of that name. It has to be there, as `has_property` tells.
+///
+/// ```
+/// let node = KdlNode::parse(alloc, "a b=1 2")?;
+/// let one = &node["b"];
+/// ```
 impl<'q> Index<&'q str> for KdlNode {
     type Output = KdlValue;
 
@@ -116,6 +160,11 @@ impl<'q> Index<&'q str> for KdlNode {
 }
 
 /// The value that `node[index]` gives, to be changed in place. All else stays as it is.
+///
+/// ```
+/// let mut node = KdlNode::parse(alloc, "a 1")?;
+/// node[0] = KdlValue::from(2);
+/// ```
 impl IndexMut<usize> for KdlNode {
     ghost use Rattle.kdl.specs.contracts.node.KdlNode.{the_row};
     ghost use Rattle.kdl_value.specs.contracts.value.KdlValue.{the_row as value_row};
