@@ -79,9 +79,6 @@ refused t n x i = let a = answered t x i in n a.0 a.1
 pub former : (t : Text) (d : Document) → Answers t d → (x : Nodes) → IsFormerDocument t x → document_data d ≡ x
 former t d a x i = sym (only t d a x (wider false i))
 
-pub former_refused : (t : Text) → ((d : Document) → Answers t d → ⊥) → (x : Nodes) → IsFormerDocument t x → ⊥
-former_refused t n x i = refused t n x (wider false i)
-
 -- the bound on the steps, in bytes of the text
 pub most_counted : (text : List ℕ) (old new : ℕ) → IsUtf8 text → Counted (chars text) old new → new ≤ old + 32 * (length text + 1)
 most_counted text old new u c = omega (arith, c.most, bytes-chars text u)
