@@ -1,14 +1,12 @@
 -- What look-ups in a node give, and what a node is once what they lent was written.
-use Rattle.std.specs.Prelude.{◌≡◌, ℕ, List, [], ◌∷◌, ◌++◌, Option, Some, None, option_map, length}
-use Rattle.std.specs.Str.{chars}
-use Rattle.kdl_value.specs.Data.{Value, null}
+use Rattle.std.specs.Prelude.{◌≡◌, ℕ, List, Option, Some, None, option_map}
+use Rattle.kdl_value.specs.Data.{Value}
 use Rattle.kdl_value.specs.Tree.{value_tree}
-use Rattle.kdl_entry.specs.Tree.{entry_tree, plain_entry, plain_identifier}
 use Rattle.kdl_entry.specs.declared.entry.KdlEntry.{KdlEntry}
 use Rattle.kdl_value.specs.declared.value.KdlValue.{KdlValue}
 use Rattle.kdl.specs.Change.{with_entries, with_value}
 use Rattle.kdl_parts.specs.EntryLists.{place_of, last_place, has_name, there}
-use Rattle.kdl_parts.specs.Written.{set_entry_there, set_value_there}
+use Rattle.kdl_parts.specs.Written.{set_entry_there, set_value_there, IsPushed}
 use Rattle.kdl_parts.specs.declared.key.NodeKey.{NodeKey}
 use Rattle.kdl.specs.declared.node.KdlNode.{KdlNode, out-KdlNode}
 
@@ -41,10 +39,8 @@ abbrev pub with_value_there : Option ℕ → KdlNode → KdlValue → KdlNode
 with_value_there place n w = with_entries n (set_value_there place (out-KdlNode n).entries w)
 
 -- m is n with a property of that name and value behind its entries, and all else as it was
-pub record IsPushed (s : List ℕ) (w : Value) (n m : KdlNode) : Type 0 where
-  pub entry : KdlEntry
-  pub tree : entry_tree entry ≡ plain_entry (Some (plain_identifier (chars s))) w
-  pub items : entries_of m ≡ entries_of n ++ (entry ∷ [])
+pub record HasPushed (s : List ℕ) (w : Value) (n m : KdlNode) : Type 0 where
+  pub entries : IsPushed s w (entries_of n) (entries_of m)
   pub rest : m ≡ with_entries n (out-KdlNode m).entries
 
 -- m has the entries of n, and all else as it was
@@ -52,12 +48,7 @@ pub record HasSameEntries (n m : KdlNode) : Type 0 where
   pub items : entries_of m ≡ entries_of n
   pub rest : m ≡ with_entries n (out-KdlNode m).entries
 
--- m is n with the property at the place that was found, or else with a null property of that name pushed; i is its place
-abbrev pub HasProperty : Option ℕ → List ℕ → KdlNode → ℕ → KdlNode → Type 0
-HasProperty None s n i m = (i ≡ length (entries_of n)) × IsPushed s null n m
-HasProperty (Some k) s n i m = (i ≡ k) × (m ≡ n)
-
 -- m is n with w as the value of the property at the place that was found, or else with a property of that name and value pushed; all else is as it was
 abbrev pub HasWritten : Option ℕ → List ℕ → KdlNode → KdlValue → KdlNode → Type 0
-HasWritten None s n w m = IsPushed s (value_tree w) n m
+HasWritten None s n w m = HasPushed s (value_tree w) n m
 HasWritten (Some i) s n w m = m ≡ with_value n i w

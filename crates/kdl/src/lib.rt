@@ -17,6 +17,30 @@
 //! let changed = document.to_string(alloc)?; // the text with 9090 in the place of 8080
 //! ```
 //!
+//! A program that only reads a configuration asks for values by their names:
+//!
+//! ```
+//! let text = "server host=\"::1\" {\n    port 8080\n    tags eu west\n}\n";
+//! let document = KdlDocument::parse(alloc, text)?;
+//! if let Some(server) = document.get("server") {
+//!     let host = server.get(NodeKey::from_text(alloc, "host")?); // the string "::1"
+//!     if let Some(children) = server.children() {
+//!         let port = children.get_arg("port"); // the whole number 8080
+//!         for tag in children.iter_args("tags") {
+//!             let tag = tag.as_string(); // "eu", then "west"
+//!         }
+//!     }
+//! }
+//! ```
+//!
+//! A text that is no document is refused, with a place in it:
+//!
+//! ```
+//! if let Err(ParseFailure::Syntax(error)) = KdlDocument::parse(alloc, "a }") {
+//!     let span = error.diagnostics[0].span; // offset 2 and length 1: where the `}` stands
+//! }
+//! ```
+//!
 //! A call that takes memory is given where from, and answers where that is wanting: by an `AllocError`, or by
 //! `ParseFailure::Memory`. Spans are in bytes of the text that was read.
 #![tactic(auto)]

@@ -1,6 +1,7 @@
 -- A list of entries in memory once what was lent of it is written.
 use denote.RattleType.{RattleType}
-use Rattle.std.specs.Prelude.{ℕ, Option, Some, None, Vec, slice_get}
+use Rattle.std.specs.Prelude.{◌≡◌, ℕ, List, [], ◌∷◌, ◌++◌, Option, Some, None, Vec, length, slice_get}
+use Rattle.std.specs.Str.{chars}
 use Rattle.std.specs.Vec.{with_item}
 use Rattle.std.specs.contracts.alloc.Global as global
 use Rattle.std.specs.contracts.impls.GlobalAllocator.TheImpl.{ghosts}
@@ -8,6 +9,8 @@ use Rattle.std.specs.contracts.vec.Vec as vec
 use Rattle.std.specs.declared.alloc.Global.{Global}
 use Rattle.kdl_entry.specs.contracts.entry.KdlEntry as entry
 use Rattle.kdl_entry.specs.declared.entry.KdlEntry.{KdlEntry}
+use Rattle.kdl_entry.specs.Tree.{entry_tree, plain_entry, plain_identifier}
+use Rattle.kdl_value.specs.Data.{Value, null}
 use Rattle.kdl_value.specs.declared.value.KdlValue.{KdlValue}
 
 -- how the logic holds a list of entries
@@ -27,3 +30,14 @@ set_value_at v i w = elim (slice_get v.items i) [ None ↦ v | Some e ↦ with_i
 abbrev pub set_value_there : Option ℕ → Vec KdlEntry Global → KdlValue → Vec KdlEntry Global
 set_value_there None v w = v
 set_value_there (Some i) v w = set_value_at v i w
+
+-- fs are the entries es with a property of that name and value behind them
+pub record IsPushed (s : List ℕ) (w : Value) (es fs : List KdlEntry) : Type 0 where
+  pub entry : KdlEntry
+  pub tree : entry_tree entry ≡ plain_entry (Some (plain_identifier (chars s))) w
+  pub items : fs ≡ es ++ (entry ∷ [])
+
+-- the entries fs are es with the property at the place that was found, or else with a null property of that name pushed; i is its place
+abbrev pub HasProperty : Option ℕ → List ℕ → Vec KdlEntry Global → ℕ → Vec KdlEntry Global → Type 0
+HasProperty None s es i fs = (i ≡ length es.items) × IsPushed s null es.items fs.items
+HasProperty (Some k) s es i fs = (i ≡ k) × (fs ≡ es)

@@ -1,16 +1,17 @@
 //! Look-ups among the entries of a node, by the name of a property or by the place of an argument.
 
 ghost use Rattle.kdl_parts.specs.EntryLists.{has_name, is_argument, last_place, nth_place, place_of, there};
-ghost use Rattle.kdl_parts.specs.Written.{entries_row, set_entry_there, set_value_at, set_value_there};
+ghost use Rattle.kdl_parts.specs.Written.{entries_row, set_entry_there, set_value_at, set_value_there, HasProperty};
 ghost use Rattle.kdl_value.specs.Tree.{value_tree};
 ghost use Rattle.kdl_entry.specs.contracts.entry.KdlEntry.{the_row as entry_row};
 ghost use Rattle.kdl_value.specs.contracts.value.KdlValue.{the_row as value_row};
 ghost use Rattle.std.specs.Borrow.{Lends, LendsIf, sem};
-ghost use Rattle.std.specs.Prelude.{◌≡◌, ◌<◌, IsSome, Some, length, option_map, slice_get};
+ghost use Rattle.std.specs.Prelude.{◌≡◌, ◌<◌, IfOk, IsSome, OnErr, Some, is_some, length, option_map, slice_get};
 
 use crate::key::NodeKey;
 use crate::places::{last_property, nth_argument, place};
-use kdl_entry::{KdlEntry, KdlValue};
+use kdl_entry::{KdlEntry, KdlIdentifier, KdlValue};
+use std::alloc::AllocError;
 
 /// The entry that the key finds: the last property whose name has the key's value, or the argument at the key's place
 /// among the arguments.
@@ -90,6 +91,30 @@ pub fn property<'a>(entries: &'a [KdlEntry], name: &str) -> &'a KdlValue
         Some(last) => entries[last].value(),
         None => unreachable!(),
     }
+}
+
+/// Whether there is a property of that name. The name's value counts, not its spelling.
+pub fn has_property(entries: &[KdlEntry], name: &str) -> bool
+    ensures { result ≡ is_some (last_place (has_name name.now) entries.now) }
+{
+    last_property(entries, name).is_some()
+}
+
+/// The place of the last property of that name, after a null one was pushed where there was none. Fails where memory for
+/// it is wanting: then the entries are as they were.
+pub fn property_or_null(entries: &mut Vec<KdlEntry>, name: &str) -> Result<usize, AllocError>
+    ensures found { IfOk result (λ i. HasProperty (last_place (has_name name.now) entries.old.items) name.now entries.old i entries.new) }
+    ensures bound { IfOk result (λ i. i < length entries.new.items) }
+    ensures refused { OnErr result (entries.new.items ≡ entries.old.items) }
+{
+    if let Some(at) = last_property(entries, name) {
+        return Ok(at);
+    }
+    let alloc = *entries.allocator();
+    let key = KdlIdentifier::from_text(alloc, name)?;
+    let at = entries.len();
+    entries.push(KdlEntry::new_prop(key, KdlValue::Null))?;
+    Ok(at)
 }
 
 /// The value that `argument` gives, to be changed in place. All else stays as it is.

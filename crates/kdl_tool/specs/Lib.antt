@@ -1,4 +1,3 @@
-pub mod Marks
 pub mod Reports
 pub mod Runs
 pub mod Writing

@@ -1,7 +1,7 @@
 -- What is written, and what is answered of it.
 use Rattle.std.specs.Prelude.{◌≡◌, ℕ, ◌<◌, Bool, true, false, List, length, take, Option}
 use Rattle.std.specs.Io.KnownBytes.{Appends}
-use Rattle.kdl_tool.specs.declared.watched.Watched.{Watched}
+use Rattle.watched.specs.declared.Watched.{Watched}
 
 -- with true all the bytes are written, and no write failed; with false not all are, only a beginning, and a write failed
 abbrev pub Writes : {W : Type 0} → (W → Option (List ℕ)) → Watched W → Watched W → List ℕ → Bool → Type 0

@@ -6,7 +6,6 @@ mod tests;
 #[cfg(test)]
 mod tests_cat;
 mod tool;
-mod watched;
 
 use std::alloc::Global;
 use std::io::ErrorKind;

@@ -1,13 +1,13 @@
 //! Runs over readers and writers that fail, or that give and take little at a time.
 
 use crate::tool::{Outcome, run};
-use crate::watched::Watched;
 use kdl::{KdlDiagnostic, KdlError, Severity, SourceSpan};
 use std::alloc::{AllocError, Global};
 use std::io;
 use std::io::{ErrorKind, Read, Write};
 use std::rc::RcStr;
 use std::test::Fail;
+use watched::Watched;
 
 /// Gives its bytes a few at a time, and may fail at one read.
 #[derive(Drop)]

@@ -2,8 +2,8 @@
 
 use crate::tests::{NEVER, Sink, Source, words};
 use crate::tool::{Outcome, run};
-use crate::watched::Watched;
 use std::test::Fail;
+use watched::Watched;
 
 /// Documents in forms that no printing of their data would give.
 const DOCUMENTS: [&str; 5] = [

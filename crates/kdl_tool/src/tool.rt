@@ -5,10 +5,10 @@ ghost use Rattle.kdl_tool.specs.Runs.{IsCat, IsUsage, IsInput, Ran, WritesNothin
 ghost use Rattle.kdl_tool.specs.Reports.{status_of, report_of, line, diagnostic_line, lines_of};
 ghost use Rattle.kdl_tool.specs.Writing.{Writes};
 
-use crate::watched::Watched;
 use kdl::{KdlDiagnostic, KdlDocument, KdlError, ParseFailure};
 use std::alloc::Global;
 use std::io::{Read, Write};
+use watched::Watched;
 
 /// How many bytes are asked for at a time.
 const READ_SIZE: usize = 65536;

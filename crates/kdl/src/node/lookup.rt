@@ -1,15 +1,14 @@
 //! Look-ups of entries by the name of a property, or by the place of an argument.
 
-ghost use Rattle.kdl.specs.Lookups.{entries_of, entry_there, key_place, property_place, value_there, with_entry_there, with_value_there, HasProperty, HasSameEntries, HasWritten};
+ghost use Rattle.kdl.specs.Lookups.{entry_there, key_place, property_place, value_there, with_entry_there, with_value_there, HasSameEntries, HasWritten};
 ghost use Rattle.kdl_parts.specs.declared.key.NodeKey.TheVariants.{Index as at_index};
 ghost use Rattle.kdl_value.specs.Tree.{or_null, value_tree};
 ghost use Rattle.std.specs.Borrow.{Lends, LendsIf, LendsSoOk, sem};
-ghost use Rattle.std.specs.Prelude.{◌≡◌, ◌<◌, IfErr, IfOk, IsSome, Some, is_some, length, option_map};
+ghost use Rattle.std.specs.Prelude.{◌≡◌, IfOk, IsSome, Some, is_some, option_map};
 
 use crate::node::KdlNode;
-use kdl_entry::{KdlEntry, KdlIdentifier, KdlValue};
+use kdl_entry::{KdlEntry, KdlValue};
 use kdl_parts::lookup::value_at_mut;
-use kdl_parts::places::last_property;
 use kdl_parts::{NodeKey, lookup};
 use std::alloc::AllocError;
 use std::ops::{Index, IndexMut};
@@ -51,7 +50,7 @@ impl KdlNode {
     pub fn has_property(&self, name: &str) -> bool
         ensures { result ≡ is_some (property_place name.now self.now) }
     {
-        last_property(&self.entries, name).is_some()
+        lookup::has_property(&self.entries, name)
     }
 }
 
@@ -102,24 +101,8 @@ impl KdlNode {
         ensures* writes_back { sem 𝓛 (LendsSoOk the_row value_row self.entry result (λ n w. HasWritten (property_place name.now self.old) name.now self.old w n) (λ n. HasSameEntries self.old n)) }
         ensures value { IfOk result (λ v. value_tree v.now ≡ or_null (value_there (property_place name.now self.old) self.old)) }
     {
-        let at = self.property_or_null(name)?;
+        let at = lookup::property_or_null(&mut self.entries, name)?;
         Ok(value_at_mut(&mut self.entries, at))
-    }
-
-    /// The place of the last property of that name, after a null one was pushed where there was none.
-    fn property_or_null(&mut self, name: &str) -> Result<usize, AllocError>
-        ensures found { IfOk result (λ i. HasProperty (property_place name.now self.old) name.now self.old i self.new) }
-        ensures bound { IfOk result (λ i. i < length (entries_of self.new)) }
-        ensures refused { IfErr result (λ _. HasSameEntries self.old self.new) }
-    {
-        if let Some(at) = last_property(&self.entries, name) {
-            return Ok(at);
-        }
-        let alloc = *self.entries.allocator();
-        let key = KdlIdentifier::from_text(alloc, name)?;
-        let at = self.entries.len();
-        self.entries.push(KdlEntry::new_prop(key, KdlValue::Null))?;
-        Ok(at)
     }
 }
 

@@ -1,10 +1,12 @@
 //! A reader or a writer with two marks: that a call on it failed, and that it is read to its end.
 //!
-//! The marks are private to this module, and only `read` and `write` set them.
+//! The marks are private to this crate, and only `read` and `write` set them.
+#![tactic(auto)]
+
 ghost use Rattle.std.specs.Prelude.{◌≡◌, ◌||◌, ◌==◌, false, length, is_err, if◌then◌else◌};
 ghost use Rattle.std.specs.Io.{ReadsAtMost, WritesAtMost};
 ghost use Rattle.std.specs.Io.KnownBytes.{Keeps, ReadConsumes, WriteAppends};
-ghost use Rattle.kdl_tool.specs.Marks.{gave_none, is_refused};
+ghost use Rattle.watched.specs.Marks.{gave_none, is_refused};
 
 use std::io;
 use std::io::{Read, Write};
