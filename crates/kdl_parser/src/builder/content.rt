@@ -152,54 +152,74 @@ pub(super) fn node_from<N: ParsedNode>(
     )
 }
 
-/// The node under way, taken out, which ends at `start`, with its terminator, where it counts.
-pub(super) fn ended_node<'a, N: ParsedNode>(
+/// One more node, where the nodes count.
+#[inline]
+#[tactic(auto, using(crate::proofs::Views::node_pushed))]
+fn push_node<N: ParsedNode>(nodes: &mut Option<Vec<N>>, node: N) -> Result<(), AllocError>
+    ensures { OnOk result (nodes_view N.tree nodes.new ≡ machine.ended (Some (N.tree node)) (nodes_view N.tree nodes.old)) }
+{
+    match nodes {
+        Some(nodes) => add(nodes, node),
+        None => {
+            drop(node);
+            Ok(())
+        }
+    }
+}
+
+/// Takes out the node under way, which ends at `start`, with its terminator, and puts it behind the nodes, where it
+/// counts.
+pub(super) fn push_ended<'a, N: ParsedNode>(
     alloc: Global,
     lexer: &mut Lexer<'a>,
     whole: &Checkpoint<'a>,
     from: &Checkpoint<'a>,
     under: &mut Option<Under<'a>>,
+    nodes: &mut Option<Vec<N>>,
     start: &Checkpoint<'a>,
     end: &Checkpoint<'a>,
-) -> Result<Option<N>, AllocError>
+) -> Result<(), AllocError>
     requires from { Ahead from.now start.now }
     requires token { Ahead start.now end.now }
-    ensures is { IfOk result (λ o. option_map N.tree o ≡ machine.closed whole.now.rest (option_map under_view under.old) no_children [] (between from.now.rest start.now.rest) (between start.now.rest end.now.rest) start.now.rest) }
+    ensures is { OnOk result (nodes_view N.tree nodes.new ≡ machine.ended (machine.closed whole.now.rest (option_map under_view under.old) no_children [] (between from.now.rest start.now.rest) (between start.now.rest end.now.rest) start.now.rest) (nodes_view N.tree nodes.old)) }
     ensures taken { OnOk result (under.new ≡ None) }
     ensures stays { Stays lexer.old lexer.new }
     ensures sliced { OnOk result (Sliced (bytes from.now.rest) (up_to under.old (bytes from.now.rest) (bytes end.now.rest)) lexer.old lexer.new) }
 {
     if under.is_none() {
-        return Ok(None);
+        return Ok(());
     }
     let before = text_between(alloc, lexer, from, start)?;
     let terminator = text_between(alloc, lexer, start, end)?;
     let Some(under) = under.take() else {
-        return Ok(None);
+        return Ok(());
     };
     let span = span_at(whole, &under.start, start);
-    Ok(Some(node_from(alloc, under, None, empty(alloc), before, terminator, span)))
+    let node = node_from(alloc, under, None, empty(alloc), before, terminator, span);
+    push_node(nodes, node)
 }
 
-/// The node with its block, taken out, which ends at `start`, with its terminator, where it counts.
-pub(super) fn ended_kept<'a, N: ParsedNode>(
+/// Takes out the node with its block, which ends at `start`, with its terminator, and puts it behind the nodes, where
+/// it counts.
+pub(super) fn push_kept<'a, N: ParsedNode>(
     alloc: Global,
     lexer: &mut Lexer<'a>,
     whole: &Checkpoint<'a>,
     from: &Checkpoint<'a>,
     kept: &mut Option<Kept<'a, N>>,
+    nodes: &mut Option<Vec<N>>,
     start: &Checkpoint<'a>,
     end: &Checkpoint<'a>,
-) -> Result<Option<N>, AllocError>
+) -> Result<(), AllocError>
     requires from { Ahead from.now start.now }
     requires token { Ahead start.now end.now }
-    ensures is { IfOk result (λ o. option_map N.tree o ≡ machine.closed_kept whole.now.rest (option_map (kept_view N.tree) kept.old) (between from.now.rest start.now.rest) (between start.now.rest end.now.rest) start.now.rest) }
+    ensures is { OnOk result (nodes_view N.tree nodes.new ≡ machine.ended (machine.closed_kept whole.now.rest (option_map (kept_view N.tree) kept.old) (between from.now.rest start.now.rest) (between start.now.rest end.now.rest) start.now.rest) (nodes_view N.tree nodes.old)) }
     ensures taken { OnOk result (kept.new ≡ None) }
     ensures stays { Stays lexer.old lexer.new }
     ensures sliced { OnOk result (Sliced (bytes from.now.rest) (up_to kept.old (bytes from.now.rest) (bytes end.now.rest)) lexer.old lexer.new) }
 {
     if kept.is_none() {
-        return Ok(None);
+        return Ok(());
     }
     let later = text_between(alloc, lexer, from, start)?;
     let terminator = text_between(alloc, lexer, start, end)?;
@@ -211,24 +231,11 @@ pub(super) fn ended_kept<'a, N: ParsedNode>(
         },
     ) = kept.take()
     else {
-        return Ok(None);
+        return Ok(());
     };
     let span = span_at(whole, &under.start, start);
-    Ok(Some(node_from(alloc, under, Some(block), before, later, terminator, span)))
-}
-
-/// One more node, where it and the nodes count.
-#[tactic(auto, using(crate::proofs::Views::node_pushed))]
-pub(super) fn push_node<N: ParsedNode>(
-    nodes: &mut Option<Vec<N>>,
-    node: Option<N>,
-) -> Result<(), AllocError>
-    ensures { OnOk result (nodes_view N.tree nodes.new ≡ machine.ended (option_map N.tree node) (nodes_view N.tree nodes.old)) }
-{
-    if let (Some(nodes), Some(node)) = (nodes, node) {
-        add(nodes, node)?;
-    }
-    Ok(())
+    let node = node_from(alloc, under, Some(block), before, later, terminator, span);
+    push_node(nodes, node)
 }
 
 /// The span from where the first node begins to where the last one ends; without nodes the span given.

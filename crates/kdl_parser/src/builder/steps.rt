@@ -19,7 +19,7 @@ ghost use Rattle.kdl_parser.specs.declared.builder.Waiting.{Waiting};
 ghost use Rattle.std.specs.Prelude.{◌≡◌, if◌then◌else◌, [], ◌∷◌, Some, None, true, false, OnOk, option_map};
 
 use super::content::{
-    add, ended_kept, ended_node, entry_between, is_entry, lone, push_node, put, settle, with_block,
+    add, entry_between, is_entry, lone, push_ended, push_kept, put, settle, with_block,
 };
 use super::{Builder, Frame, Phase, Slot, Under, Waiting, WaitingWord};
 use crate::parts::ParsedNode;
@@ -60,8 +60,9 @@ impl<'a, N: ParsedNode> Builder<'a, N> {
         self.settle_word(alloc)?;
         let counts = self.under.is_some();
         let under = &mut self.under;
-        let node = ended_node(alloc, lexer, &self.whole, &self.from, under, start, end)?;
-        push_node(&mut self.nodes, node)?;
+        let nodes = &mut self.nodes;
+        let from = &self.from;
+        push_ended(alloc, lexer, &self.whole, from, under, nodes, start, end)?;
         if counts {
             self.from = end.copied();
         }
@@ -87,8 +88,9 @@ impl<'a, N: ParsedNode> Builder<'a, N> {
     {
         let counts = self.kept.is_some();
         let kept = &mut self.kept;
-        let node = ended_kept(alloc, lexer, &self.whole, &self.from, kept, start, end)?;
-        push_node(&mut self.nodes, node)?;
+        let nodes = &mut self.nodes;
+        let from = &self.from;
+        push_kept(alloc, lexer, &self.whole, from, kept, nodes, start, end)?;
         if counts {
             self.from = end.copied();
         }
