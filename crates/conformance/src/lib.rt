@@ -1,31 +1,36 @@
-//! Tests of the texts that are read and printed, against worked examples: what no contract says.
+//! Tests of calls that no row of text can say: look-ups, edits, iterators, sorts, copies, equality and hashes, counts
+//! that go on; and what a caller shows for the edits that ask for something.
 #![tactic(auto)]
 
-ghost use Rattle.std.specs.Prelude.{◌≡◌, IfOk, string_bytes};
+use std::hash::{DefaultHasher, Hash, Hasher};
 
-use kdl::{KdlDocument, ParseFailure};
-use std::alloc::Global;
-
+pub mod callers;
 #[cfg(test)]
-mod blocks;
+mod copies;
 #[cfg(test)]
-mod documents;
+mod document_lookups;
 #[cfg(test)]
-mod newline_rows;
+mod edits;
 #[cfg(test)]
-mod nodes;
+mod equality;
+#[cfg(test)]
+mod errors;
+#[cfg(test)]
+mod fields;
+#[cfg(test)]
+mod lookups;
 #[cfg(test)]
 mod reading;
 #[cfg(test)]
-mod trivia_rows;
+mod settings;
 #[cfg(test)]
-mod worked;
+mod steps;
+#[cfg(test)]
+mod values;
 
-/// The printed parse of a text, which is the text.
-pub fn reprinted(alloc: Global, text: &str) -> Result<String, ParseFailure>
-    ensures { IfOk result (λ printed. string_bytes printed ≡ text.now) }
-{
-    let document = KdlDocument::parse(alloc, text)?;
-    let printed = document.to_string(alloc)?;
-    Ok(printed)
+/// The hash of a value.
+pub fn hash_of<T: Hash>(value: &T) -> u64 {
+    let mut state = DefaultHasher::new();
+    value.hash(&mut state);
+    state.finish()
 }

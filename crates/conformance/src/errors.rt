@@ -1,9 +1,7 @@
 //! What the error types print.
 
 use crate::reading::prints;
-use kdl_entry::KdlEntry;
-use kdl_text::error::{KdlDiagnostic, ParseFailure};
-use kdl_text::span::{Severity, SourceSpan};
+use kdl::{FloatFailure, KdlDiagnostic, KdlEntry, ParseFailure, Severity, SourceSpan};
 use std::rc::RcStr;
 
 #[test]
@@ -19,6 +17,8 @@ fn errors_print(rt: HostRuntime) {
     let failure = ParseFailure::Syntax(error);
     prints(&rt, alloc, &failure, "Failed to parse KDL document");
     prints(&rt, alloc, &ParseFailure::Memory, "out of memory");
+    prints(&rt, alloc, &FloatFailure::NotAFloat, "not a KDL float");
+    prints(&rt, alloc, &FloatFailure::Memory, "out of memory");
     drop(failure);
 }
 

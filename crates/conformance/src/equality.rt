@@ -1,23 +1,15 @@
 //! What equality, order and hash regard, and that they ignore spans.
 
 use crate::hash_of;
-use crate::reading::{differ, equal, holds, identifier, node, prints, read, text};
-use kdl::{KdlDocument, KdlEntry, KdlFloat, KdlIdentifier, KdlNode, KdlValue, SourceSpan};
+use crate::reading::{
+    differ, equal, float, holds, identifier, node, node_text, prints, read, string, text,
+};
+use kdl::{KdlEntry, KdlNode, KdlValue, SourceSpan};
 use std::alloc::Global;
 use std::cmp::Ordering;
 use std::process::Abort;
 
 const ELSEWHERE: SourceSpan = SourceSpan { offset: 40, len: 2 };
-
-/// The float of a text.
-fn float(rt: &impl Abort, alloc: Global, text: &str) -> KdlFloat {
-    KdlFloat::new(alloc, text).expect(rt, "no float")
-}
-
-/// The string value of a text.
-fn string(rt: &impl Abort, alloc: Global, text: &str) -> KdlValue {
-    KdlValue::from_text(alloc, text).expect(rt, "memory")
-}
 
 /// The first entry of the node of a text.
 fn entry(rt: &impl Abort, alloc: Global, text: &str) -> KdlEntry {
@@ -160,7 +152,7 @@ fn documents_but_for_their_spans(rt: HostRuntime) {
 
 /// The node of the text equals this node, or does not.
 fn compares(rt: &impl Abort, alloc: Global, text: &str, alone: &KdlNode, is_same: bool) {
-    let other = node(rt, alloc, text);
+    let other = node_text(rt, alloc, text);
     holds(rt, (other == *alone) == is_same, text);
     drop(other);
 }
@@ -168,7 +160,7 @@ fn compares(rt: &impl Abort, alloc: Global, text: &str, alone: &KdlNode, is_same
 #[test]
 fn the_same_node_in_a_document(rt: HostRuntime) {
     let alloc = rt.alloc();
-    let mut alone = node(&rt, alloc, "n 1 { a; }\n");
+    let mut alone = node_text(&rt, alloc, "n 1 { a; }\n");
     let document = read(&rt, alloc, "n 1 { a; }\n");
     let first = document.nodes().first().expect(&rt, "no node");
     equal(&rt, first, &alone);

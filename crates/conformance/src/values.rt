@@ -1,82 +1,22 @@
-//! Values, identifiers and entries: printed texts, the order of values, and which texts are floats.
+//! Values, identifiers and entries: printed texts, the order of values, and their parts.
 
-use crate::reading::prints;
-use kdl_entry::{KdlEntry, KdlEntryFormat, KdlFloat, KdlIdentifier, KdlValue};
-use kdl_text::error::FloatFailure;
+use crate::reading::{equal, float, holds, identifier, prints, string, text};
+use kdl::{KdlEntry, KdlEntryFormat, KdlIdentifier, KdlValue};
 use std::alloc::Global;
 use std::cmp::Ordering;
 use std::process::Abort;
 
-/// A copy of the text.
-fn text(rt: &impl Abort, alloc: Global, text: &str) -> String {
-    String::from_str(alloc, text).expect(rt, "memory")
-}
-
-fn string(rt: &impl Abort, alloc: Global, text: &str) -> KdlValue {
-    KdlValue::from_text(alloc, text).expect(rt, "memory")
-}
-
-fn float(rt: &impl Abort, alloc: Global, text: &str) -> KdlValue {
-    KdlValue::from(KdlFloat::new(alloc, text).expect(rt, "no float"))
-}
-
-fn identifier(rt: &impl Abort, alloc: Global, value: &str) -> KdlIdentifier {
-    KdlIdentifier::from_text(alloc, value).expect(rt, "memory")
-}
-
-/// The string is printed as the spelling.
-fn spells(rt: &impl Abort, alloc: Global, text: &str, spelling: &str) {
-    prints(rt, alloc, &string(rt, alloc, text), spelling);
-}
-
-/// The whole number prints the text.
-fn number_prints(rt: &impl Abort, alloc: Global, number: i128, text: &str) {
-    prints(rt, alloc, &KdlValue::from(number), text);
-}
-
-/// The float of the text prints it.
-fn float_prints(rt: &impl Abort, alloc: Global, text: &str) {
-    prints(rt, alloc, &float(rt, alloc, text), text);
-}
-
 #[test]
-fn printed_numbers(rt: HostRuntime) {
+fn printed_values(rt: HostRuntime) {
     let alloc = rt.alloc();
-    number_prints(&rt, alloc, -17, "-17");
+    prints(&rt, alloc, &KdlValue::from(-17), "-17");
     let least = "-170141183460469231731687303715884105728";
-    number_prints(&rt, alloc, i128::MIN, least);
-    float_prints(&rt, alloc, "-0.5E-3");
-    float_prints(&rt, alloc, "#-inf");
-}
-
-#[test]
-fn printed_keywords(rt: HostRuntime) {
-    let alloc = rt.alloc();
+    prints(&rt, alloc, &KdlValue::from(i128::MIN), least);
     prints(&rt, alloc, &KdlValue::from(true), "#true");
     prints(&rt, alloc, &KdlValue::from(false), "#false");
     prints(&rt, alloc, &KdlValue::Null, "#null");
     prints(&rt, alloc, &KdlValue::from(None), "#null");
     prints(&rt, alloc, &KdlValue::from(Some(KdlValue::from(1))), "1");
-}
-
-#[test]
-fn printed_strings(rt: HostRuntime) {
-    let alloc = rt.alloc();
-    spells(&rt, alloc, "foo", "foo");
-    spells(&rt, alloc, "\u{85}", "\"\\u{85}\"");
-    spells(&rt, alloc, "\u{7f}", "\"\\u{7f}\"");
-    spells(&rt, alloc, "\u{feff}", "\"\\u{feff}\"");
-    spells(&rt, alloc, "-.5", "\"-.5\"");
-    spells(&rt, alloc, "-inf", "\"-inf\"");
-    spells(&rt, alloc, "true", "\"true\"");
-    spells(&rt, alloc, "", "\"\"");
-    spells(&rt, alloc, "1a", "\"1a\"");
-    spells(&rt, alloc, "foo\n", "\"foo\\n\"");
-    spells(&rt, alloc, "a\r\tb", "\"a\\r\\tb\"");
-    spells(&rt, alloc, "\u{8}\u{c}", "\"\\b\\f\"");
-    spells(&rt, alloc, "m\"eh\\", "\"m\\\"eh\\\\\"");
-    spells(&rt, alloc, "+.", "+.");
-    spells(&rt, alloc, "\u{fc}ber", "\u{fc}ber");
 }
 
 /// Values in their order.
@@ -85,8 +25,8 @@ fn ascending(rt: &impl Abort, alloc: Global) -> Vec<KdlValue> {
         string(rt, alloc, "b"),
         KdlValue::from(-5),
         KdlValue::from(3),
-        float(rt, alloc, "10.0"),
-        float(rt, alloc, "9.0"),
+        KdlValue::from(float(rt, alloc, "10.0")),
+        KdlValue::from(float(rt, alloc, "9.0")),
         KdlValue::from(false),
         KdlValue::from(true),
         KdlValue::Null,
@@ -132,7 +72,7 @@ fn is_copied(rt: &impl Abort, value: &KdlValue) {
 
 #[test]
 fn a_decimal(rt: HostRuntime) {
-    let decimal = float(&rt, rt.alloc(), "3.0");
+    let decimal = KdlValue::from(float(&rt, rt.alloc(), "3.0"));
     assert!(rt; decimal.is_float() && !decimal.is_integer());
     assert_eq!(rt; decimal.as_float().map(|f| f.as_str()), Some("3.0"));
     is_copied(&rt, &decimal);
@@ -145,40 +85,6 @@ fn a_bool_and_null(rt: HostRuntime) {
     assert!(rt; truth.is_bool() && !truth.is_string());
     assert_eq!(rt; truth.as_bool(), Some(true));
     assert!(rt; KdlValue::Null.is_null() && !KdlValue::Null.is_bool());
-}
-
-/// Whether the text is a float; a float keeps its text.
-fn is_float(rt: &impl Abort, alloc: Global, text: &str) -> bool {
-    match KdlFloat::new(alloc, text) {
-        Ok(float) => {
-            assert_eq!(rt; float.as_str(), text);
-            true
-        }
-        Err(failure) => {
-            assert_eq!(rt; failure, FloatFailure::NotAFloat);
-            false
-        }
-    }
-}
-
-#[test]
-fn float_texts(rt: HostRuntime) {
-    let alloc = rt.alloc();
-    for text in &["1.0", "+1e5", "-0.5E-3", "00.10", "#nan", "#inf", "#-inf"] {
-        assert!(rt; is_float(&rt, alloc, text), "{text} is no float");
-    }
-    for text in &[
-        "", "1", "1_0.5", ".5", "1.", "1e", "inf", "0x1.0", "#true", " 1.0", "1.0 ",
-    ] {
-        assert!(rt; !is_float(&rt, alloc, text), "{text} is a float");
-    }
-}
-
-#[test]
-fn float_failures(rt: HostRuntime) {
-    let alloc = rt.alloc();
-    prints(&rt, alloc, &FloatFailure::NotAFloat, "not a KDL float");
-    prints(&rt, alloc, &FloatFailure::Memory, "out of memory");
 }
 
 fn check_identifiers(rt: &impl Abort, alloc: Global, name: &mut KdlIdentifier) {

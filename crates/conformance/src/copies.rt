@@ -1,6 +1,6 @@
 //! Each copy has what its source has, and each conversion what it was made of.
 
-use crate::reading::{differ, equal, holds, identifier, node, prints, read, says, text};
+use crate::reading::{differ, equal, holds, identifier, node_text, prints, read, says, text};
 use kdl::{
     KdlDiagnostic, KdlDocument, KdlDocumentFormat, KdlEntry, KdlEntryFormat, KdlError, KdlFloat,
     KdlIdentifier, KdlNode, KdlNodeFormat, KdlValue, ParseFailure, Severity, SourceSpan,
@@ -186,7 +186,7 @@ fn format_of_the_node_is_copied(rt: &impl Abort, alloc: Global, format: &KdlNode
 #[test]
 fn nodes_and_their_formats_are_copied(rt: HostRuntime) {
     let alloc = rt.alloc();
-    let node = node(&rt, alloc, " \n\"a b\"  1 ;");
+    let node = node_text(&rt, alloc, " \n\"a b\"  1 ;");
     let copy = node.clone().expect(&rt, "memory");
     equal(&rt, &copy, &node);
     prints(&rt, alloc, &copy, " \n\"a b\"  1 ;");

@@ -1,7 +1,7 @@
 //! Entries of a node put in, taken out, kept and sorted, and what the node prints then.
 
 use crate::callers::{insert_argument, insert_first, property, remove_argument, set_typed};
-use crate::reading::{equal, holds, identifier, is_absent, is_whole, node, prints, says};
+use crate::reading::{equal, holds, identifier, is_absent, is_whole, node, prints, says, string};
 use kdl::{KdlEntry, KdlIdentifier, KdlNode, KdlValue, NodeKey};
 use std::alloc::Global;
 use std::process::Abort;
@@ -10,11 +10,6 @@ use std::process::Abort;
 fn built(rt: &impl Abort, alloc: Global, name: &str) -> KdlNode {
     let name = identifier(rt, alloc, name);
     KdlNode::new(name).expect(rt, "memory")
-}
-
-/// The value of a string.
-fn string(rt: &impl Abort, alloc: Global, text: &str) -> KdlValue {
-    KdlValue::from_text(alloc, text).expect(rt, "memory")
 }
 
 /// The entry prints this text; where there is none, the text is empty.
