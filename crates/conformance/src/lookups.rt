@@ -5,7 +5,7 @@ ghost use Rattle.kdl.specs.declared.node.KdlNode.{out-KdlNode};
 ghost use Rattle.kdl_parts.specs.declared.key.NodeKey.TheVariants.{Index as at_index};
 ghost use Rattle.std.specs.Prelude.{◌≡◌, IsSome, OnErr, OnOk, option_map, slice_get};
 
-use crate::reading::{equal, holds, is_absent, is_whole, key, node, prints};
+use crate::reading::{equal, holds, is_absent, is_whole, key, node, prints, text};
 use kdl::{KdlEntry, KdlNode, KdlValue, NodeKey};
 use std::alloc::AllocError;
 
@@ -60,7 +60,7 @@ fn names_find_the_last_and_places_count_arguments(rt: HostRuntime) {
     let alloc = rt.alloc();
     let node = node(&rt, alloc, "n x=1 7 \"x\"=2 y=3 8");
     is_whole(&rt, node.get(key(&rt, alloc, "x")), 2);
-    is_whole(&rt, node.get(key(&rt, alloc, "y")), 3);
+    is_whole(&rt, node.get(NodeKey::from(text(&rt, alloc, "y"))), 3);
     is_absent(&rt, node.get(key(&rt, alloc, "z")));
     is_whole(&rt, node.get(NodeKey::from(0)), 7);
     is_whole(&rt, node.get(NodeKey::Index(1)), 8);

@@ -28,7 +28,7 @@ use kdl_text::chars::Checkpoint;
 use std::alloc::Global;
 
 /// Where in the grammar the builder is.
-#[derive(Clone, Copy, Debug, PartialEq, Eq)]
+#[derive(Clone, Copy)]
 enum Phase {
     /// Between nodes.
     Gap,

@@ -115,7 +115,7 @@ fn is_unquoted(c: char) -> bool
 }
 
 /// A class of characters of which a cursor reads a run by one call.
-#[derive(Clone, Copy, Debug, PartialEq, Eq)]
+#[derive(Clone, Copy)]
 pub enum Class {
     /// The 18 spaces.
     Space,

@@ -15,7 +15,7 @@ use crate::chars::{Class, Cursor, Piece, Steps, is_digit, is_identifier_char, is
 use std::alloc::{AllocError, Global};
 
 /// The base in which a whole number is written.
-#[derive(Clone, Copy, Debug, PartialEq, Eq)]
+#[derive(Clone, Copy)]
 pub enum Radix {
     /// Base 2, behind `0b` or `0B`.
     Binary,
@@ -57,7 +57,7 @@ fn base_of(c: char) -> Option<Radix>
 }
 
 /// Why no number was read where one begins.
-#[derive(Clone, Copy, Debug, PartialEq, Eq)]
+#[derive(Clone, Copy)]
 pub enum NumberFault {
     /// Behind the digits of a whole number stands a character that can't follow them.
     Trailing(Radix),
@@ -74,7 +74,7 @@ pub enum NumberFault {
 }
 
 /// Why no number was made of a text.
-#[derive(Clone, Copy, Debug, PartialEq, Eq)]
+#[derive(Clone, Copy)]
 pub enum NumberFailure {
     /// No number begins there.
     Fault(NumberFault),
@@ -83,7 +83,7 @@ pub enum NumberFailure {
 }
 
 /// What a number stands for.
-#[derive(Debug, Drop, PartialEq, Eq)]
+#[derive(Drop)]
 pub enum Number {
     /// A whole number.
     Integer(i128),
@@ -92,7 +92,7 @@ pub enum Number {
 }
 
 /// A word behind `#` (KDL 2.0.0, Boolean, Null, Keyword Numbers).
-#[derive(Clone, Copy, Debug, PartialEq, Eq)]
+#[derive(Clone, Copy)]
 pub enum Keyword {
     /// `#true`
     True,

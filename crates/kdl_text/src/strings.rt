@@ -28,7 +28,7 @@ mod raw;
 pub use raw::raw_string;
 
 /// Why a text is no string.
-#[derive(Clone, Copy, Debug, Drop, PartialEq, Eq)]
+#[derive(Clone, Copy, Drop)]
 pub enum StringFault {
     /// No quote begins it; of a raw string, no number signs and then a quote.
     Unopened,
@@ -51,7 +51,7 @@ pub enum StringFault {
 }
 
 /// Why a string was not read.
-#[derive(Clone, Copy, Debug, Drop, PartialEq, Eq)]
+#[derive(Clone, Copy, Drop)]
 pub enum StringFailure {
     /// No string begins here.
     Fault(StringFault),

@@ -11,7 +11,7 @@ use crate::chars::{Class, Cursor, is_space, newline};
 
 /// What is wrong where a space or a comment should be, with the offset of the piece in bytes from the start of the
 /// text.
-#[derive(Clone, Copy, Debug, PartialEq, Eq)]
+#[derive(Clone, Copy)]
 pub enum TriviaFault {
     /// A block comment isn't closed (KDL 2.0.0, Multi-line Comments).
     UnclosedComment(usize),
@@ -20,7 +20,7 @@ pub enum TriviaFault {
 }
 
 /// What begins at a slash.
-#[derive(Clone, Copy, Debug, PartialEq, Eq)]
+#[derive(Clone, Copy)]
 pub enum SlashRead {
     /// A block comment, which the cursor went past.
     Block,
@@ -35,7 +35,7 @@ pub enum SlashRead {
 }
 
 /// What a reader of one node-space met.
-#[derive(Clone, Copy, Debug, PartialEq, Eq)]
+#[derive(Clone, Copy)]
 pub enum SpaceRead {
     /// One, which the cursor went past.
     Read,

@@ -61,7 +61,7 @@ fn cat_refuses_a_lone_semicolon(rt: HostRuntime) -> Result<(), Fail> {
 fn cat_writes_nothing_of_a_refused_text(rt: HostRuntime) -> Result<(), Fail> {
     let alloc = rt.alloc();
     let words = words(alloc, &["cat"])?;
-    for text in ["a 1\nb {\n", "a\n}", "a b=", "a\n\"b"] {
+    for text in ["node {", "a 1\nb {\n", "a\n}", "a b=", "a\n\"b"] {
         let mut sink = Sink::new(alloc, 16, NEVER);
         let mut reader = Watched::new(Source::new(text.as_bytes(), 3, NEVER));
         let outcome = run(alloc, &words, &mut reader, &mut Watched::new(&mut sink));

@@ -41,7 +41,7 @@ pub struct KeyParts {
 
 /// Where in an item: behind the `(` of its type, behind the type's name, behind its `)`; behind the `=` of a
 /// property.
-#[derive(Clone, Copy, Debug, PartialEq, Eq)]
+#[derive(Clone, Copy)]
 pub enum Stage {
     Opened,
     Named,

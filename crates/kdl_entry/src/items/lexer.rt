@@ -31,7 +31,7 @@ use std::alloc::{AllocError, AllocFailed, Global};
 use std::marker::Model;
 
 /// Why no token begins at a place.
-#[derive(Clone, Copy, Debug, PartialEq, Eq)]
+#[derive(Clone, Copy)]
 pub enum FaultKind {
     /// A quoted or raw string is faulty.
     String(StringFault),
@@ -51,7 +51,7 @@ pub enum FaultKind {
 }
 
 /// A place where no token begins.
-#[derive(Clone, Copy, Debug, PartialEq, Eq)]
+#[derive(Clone, Copy)]
 pub struct Fault {
     pub kind: FaultKind,
     /// The character at the place.
@@ -59,7 +59,7 @@ pub struct Fault {
 }
 
 /// Why no token was handed out.
-#[derive(Clone, Copy, Debug, PartialEq, Eq)]
+#[derive(Clone, Copy)]
 pub enum LexFailure {
     /// No token begins here.
     Faulty(Fault),

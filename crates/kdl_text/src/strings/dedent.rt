@@ -13,7 +13,7 @@ use crate::strings::{StringFailure, StringFault};
 use std::alloc::{AllocError, Global};
 
 /// A unit of a string of many lines, from which space escapes are taken out.
-#[derive(Clone, Copy, Debug, Drop, PartialEq, Eq)]
+#[derive(Clone, Copy, Drop, PartialEq, Eq)]
 pub enum LineUnit {
     /// A character that stands for itself.
     Literal(char),
