@@ -2,7 +2,7 @@
 
 use crate::hash_of;
 use crate::reading::{
-    differ, equal, float, holds, identifier, node, node_text, prints, read, string, text,
+    differ, equal, float, holds, identifier, node, node_text, read, string, text,
 };
 use kdl::{KdlEntry, KdlNode, KdlValue, SourceSpan};
 use std::alloc::Global;
@@ -109,18 +109,6 @@ fn entries_by_their_spellings(rt: HostRuntime) {
 }
 
 #[test]
-fn a_new_value_under_the_old_spelling(rt: HostRuntime) {
-    let alloc = rt.alloc();
-    let mut entry = entry(&rt, alloc, "n 0x10");
-    entry.set_value(KdlValue::from(5));
-    equal(&rt, &entry.value().as_integer(), &Some(5));
-    prints(&rt, alloc, &entry, " 0x10");
-    entry.clear_format();
-    prints(&rt, alloc, &entry, "5");
-    drop(entry);
-}
-
-#[test]
 fn nodes_by_their_leading_texts(rt: HostRuntime) {
     let alloc = rt.alloc();
     let first = node(&rt, alloc, "n 1");
@@ -130,21 +118,6 @@ fn nodes_by_their_leading_texts(rt: HostRuntime) {
     equal(&rt, &hash_of(&same), &hash_of(&first));
     drop(same);
     let other = node(&rt, alloc, "\nn 1");
-    differ(&rt, &other, &first);
-    drop(other);
-    drop(first);
-}
-
-#[test]
-fn documents_but_for_their_spans(rt: HostRuntime) {
-    let alloc = rt.alloc();
-    let first = read(&rt, alloc, "n 1\n");
-    let mut same = read(&rt, alloc, "n 1\n");
-    same.set_span(ELSEWHERE);
-    equal(&rt, &same, &first);
-    equal(&rt, &hash_of(&same), &hash_of(&first));
-    drop(same);
-    let other = read(&rt, alloc, "n 1\n\n");
     differ(&rt, &other, &first);
     drop(other);
     drop(first);

@@ -1,8 +1,9 @@
 //! What the error types print.
 
 use crate::reading::prints;
-use kdl::{FloatFailure, KdlDiagnostic, KdlEntry, ParseFailure, Severity, SourceSpan};
+use kdl::{FloatFailure, KdlDiagnostic, KdlDocument, KdlEntry, ParseFailure, Severity, SourceSpan};
 use std::rc::RcStr;
+use std::test::Fail;
 
 #[test]
 fn errors_print(rt: HostRuntime) {
@@ -36,4 +37,24 @@ fn a_diagnostic_without_a_message(rt: HostRuntime) {
     prints(&rt, alloc, &diagnostic, "Unexpected error");
     assert_eq!(rt; diagnostic.severity, Severity::Error);
     drop(diagnostic);
+}
+
+/// The text of the parsed document, or none for want of memory.
+fn printed(rt: &HostRuntime, text: &str) -> Result<Option<String>, Fail> {
+    match KdlDocument::parse(rt.alloc(), text) {
+        Ok(document) => Ok(document.to_string(rt.alloc()).ok()),
+        Err(ParseFailure::Memory) => Ok(None),
+        Err(ParseFailure::Syntax(_)) => Err(Fail::from("refused")),
+    }
+}
+
+/// Here alone want of memory is no fault: run with one allocation refused, the answer is that or the text.
+#[test]
+fn want_of_memory_or_the_text(rt: HostRuntime) -> Result<(), Fail> {
+    let text =
+        "\nhello 1 2 3\n\n// Comment\nworld prop=string-value {\n    child 1\n    child #inf\n}\n";
+    if let Some(printed) = printed(&rt, text)? {
+        assert_eq!(rt; printed.as_str(), text);
+    }
+    Ok(())
 }

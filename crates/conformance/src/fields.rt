@@ -2,7 +2,7 @@
 
 use crate::hash_of;
 use crate::reading::{differ, equal, holds, identifier, prints, read, says, text};
-use kdl::{KdlDocument, KdlDocumentFormat, KdlEntry, KdlNode, KdlNodeFormat, KdlValue, SourceSpan};
+use kdl::{KdlDocument, KdlDocumentFormat, KdlNode, KdlNodeFormat, SourceSpan};
 use std::alloc::Global;
 use std::process::Abort;
 
@@ -325,50 +325,4 @@ fn equality_at_each_depth(rt: HostRuntime) {
     differ(&rt, &other, &first);
     drop(first);
     drop(other);
-}
-
-/// The first node of the text is another one.
-fn differs(rt: &impl Abort, alloc: Global, first: &KdlNode, text: &str) {
-    let other = parsed(rt, alloc, text);
-    holds(rt, other != *first, text);
-    drop(other);
-}
-
-#[test]
-fn a_difference_below_counts(rt: HostRuntime) {
-    let alloc = rt.alloc();
-    let first = parsed(&rt, alloc, "a { b { c 1; }; }");
-    for text in &[
-        "a { b { c  1; }; }",
-        "a { b { c 1 ; }; }",
-        "a { b { c 0x1; }; }",
-        "a { b { c 1;  }; }",
-        "a { b { c 1; } ; }",
-        "a { b { c; }; }",
-        "a { b { }; }",
-        "a { b; }",
-        "a",
-        "(t)a { b { c 1; }; }",
-    ] {
-        differs(&rt, alloc, &first, text);
-    }
-    equal(&rt, &parsed(&rt, alloc, "a { b { c 1; }; }"), &first);
-    drop(first);
-}
-
-#[test]
-fn an_argument_without_a_format(rt: HostRuntime) {
-    let alloc = rt.alloc();
-    let entry = KdlEntry::new(KdlValue::from(16));
-    let mut node = parsed(&rt, alloc, "n 0x10");
-    for argument in node.entries() {
-        differ(&rt, argument, &entry);
-    }
-    node.clear_format_recursive();
-    for argument in node.entries() {
-        equal(&rt, argument, &entry);
-    }
-    prints(&rt, alloc, &node, "n 16");
-    drop(entry);
-    drop(node);
 }

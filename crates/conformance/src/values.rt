@@ -1,6 +1,6 @@
 //! Values, identifiers and entries: printed texts, the order of values, and their parts.
 
-use crate::reading::{equal, float, holds, identifier, prints, string, text};
+use crate::reading::{equal, float, identifier, prints, string, text};
 use kdl::{KdlEntry, KdlEntryFormat, KdlIdentifier, KdlValue};
 use std::alloc::Global;
 use std::cmp::Ordering;
@@ -51,40 +51,44 @@ fn ordered_values(rt: HostRuntime) {
     assert_eq!(rt; b.cmp(&string(&rt, alloc, "ab")), Ordering::Greater);
 }
 
-#[test]
-fn a_string(rt: HostRuntime) {
-    let text = string(&rt, rt.alloc(), "a");
-    assert!(rt; text.is_string() && !text.is_null());
-    assert_eq!(rt; text.as_string(), Some("a"));
+/// How many of the values are of a kind.
+fn count(values: &[KdlValue], is_so: impl Fn(&KdlValue) -> bool) -> usize {
+    let mut count = 0usize;
+    for value in values {
+        if is_so(value) {
+            count = count.saturating_add(1);
+        }
+    }
+    count
+}
+
+fn check_kinds(rt: &impl Abort, values: &[KdlValue]) {
+    equal(rt, &count(values, |value| value.is_string()), &1);
+    equal(rt, &count(values, |value| value.is_integer()), &2);
+    equal(rt, &count(values, |value| value.is_float()), &2);
+    equal(rt, &count(values, |value| value.is_bool()), &2);
+    equal(rt, &count(values, |value| value.is_null()), &1);
+    equal(
+        rt,
+        &count(values, |value| value.as_string() == Some("b")),
+        &1,
+    );
+    equal(
+        rt,
+        &count(values, |value| value.as_integer() == Some(3)),
+        &1,
+    );
+    equal(rt, &count(values, |value| value.as_float().is_some()), &2);
+    equal(
+        rt,
+        &count(values, |value| value.as_bool() == Some(true)),
+        &1,
+    );
 }
 
 #[test]
-fn a_whole_number(rt: HostRuntime) {
-    let whole = KdlValue::from(3);
-    assert!(rt; whole.is_integer() && !whole.is_float());
-    assert_eq!(rt; whole.as_integer(), Some(3));
-}
-
-/// A copy of the value equals it.
-fn is_copied(rt: &impl Abort, value: &KdlValue) {
-    assert!(rt; value.clone().expect(rt, "memory") == *value);
-}
-
-#[test]
-fn a_decimal(rt: HostRuntime) {
-    let decimal = KdlValue::from(float(&rt, rt.alloc(), "3.0"));
-    assert!(rt; decimal.is_float() && !decimal.is_integer());
-    assert_eq!(rt; decimal.as_float().map(|f| f.as_str()), Some("3.0"));
-    is_copied(&rt, &decimal);
-    assert!(rt; decimal != KdlValue::from(3));
-}
-
-#[test]
-fn a_bool_and_null(rt: HostRuntime) {
-    let truth = KdlValue::from(true);
-    assert!(rt; truth.is_bool() && !truth.is_string());
-    assert_eq!(rt; truth.as_bool(), Some(true));
-    assert!(rt; KdlValue::Null.is_null() && !KdlValue::Null.is_bool());
+fn kinds_of_values(rt: HostRuntime) {
+    check_kinds(&rt, ascending(&rt, rt.alloc()).as_slice());
 }
 
 fn check_identifiers(rt: &impl Abort, alloc: Global, name: &mut KdlIdentifier) {
@@ -189,12 +193,5 @@ fn lent_parts(rt: HostRuntime) {
     let alloc = rt.alloc();
     let mut entry = property(&rt, alloc);
     check_lent_parts(&rt, alloc, &mut entry);
-    drop(entry);
-}
-
-#[test]
-fn no_name_to_lend(rt: HostRuntime) {
-    let mut entry = KdlEntry::from(KdlValue::Null);
-    assert!(rt; entry.name_mut().is_none());
     drop(entry);
 }
