@@ -1,4 +1,4 @@
--- A text begins with one token at most, and a value end is a test of the next token.
+-- A text begins with one token at most; before a token that may stand behind a value, a value ends.
 use Rattle.std.proofs.Common.{◌≡◌, ℕ, ◌<◌, List, Bool, true, false, [], ◌∷◌, length, cond, refl, sym, subst, ap, ◌∙◌, ◌==◌, ◌||◌, arith}
 use Rattle.std.proofs.lemmas.Bool.Decides.{nat_tests}
 use Rattle.kdl_text.specs.Chars.{Text, crlf, is_space, is_newline_char, is_banned, is_mark, is_identifier_char, begins, starts}
@@ -14,6 +14,7 @@ use Rattle.kdl_text.specs.Trivia.Break.{newline as break_newline, comment as bre
 use Rattle.kdl_text.proofs.Ends.{End, here, also}
 use Rattle.kdl_text.proofs.TriviaDet.{node_space_det, break_det, newline_no_space}
 use Rattle.kdl_text.proofs.TriviaPieces.{EndOf, node_space_end, break_end, node_space_shorter, break_shorter}
+use Rattle.kdl_text.proofs.ValueEnds.{space_ends, break_ends}
 use Rattle.kdl_value.specs.Data.{Value}
 use Rattle.kdl_entry.specs.Entries.{StringPiece, PlainPiece}
 use Rattle.kdl_entry.specs.Tokens.{Token, space, newline, slashdash, string, value, left, right, opening, closing, equals, semicolon, mark, BeginsToken, t_space, t_newline, t_slashdash, t_string, t_value, t_left, t_right, t_opening, t_closing, t_equals, t_semicolon, t_mark, Lexes, done, next}
@@ -183,8 +184,8 @@ closes c h = grind (arith, nat_tests)
 
 -- before a token that may stand behind a value, the value ends
 pub end_behind : {s r : Text} {k : Token} → BeginsToken s k r → is_end k ≡ true → ValueEnd true s
-end_behind (t_space n) e = ValueEnd.space n
-end_behind (t_newline n) e = ValueEnd.«break» n
+end_behind (t_space n) e = space_ends n
+end_behind (t_newline n) e = break_ends n
 end_behind t_slashdash e = ValueEnd.slashdash refl
 end_behind (t_string p) e = cc
 end_behind (t_value p) e = cc

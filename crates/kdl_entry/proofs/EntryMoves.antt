@@ -5,7 +5,7 @@ use Rattle.kdl_text.specs.Chars.{Text, begins_two, Star, none, more, Plus, plus,
 use Rattle.kdl_text.specs.Here.{first}
 use Rattle.kdl_text.specs.Trivia.{Parts, close, nested, block, Line, LineComment, line, Ws, EscEnd, escline, NodeSpace, Break, LineSpace, Slashdash, slashdash, ends_value, ValueEnd}
 use Rattle.kdl_text.specs.declared.span.SourceSpan.{SourceSpan}
-use Rattle.kdl_text.proofs.ValueEnds.{value_end_no_identifier}
+use Rattle.kdl_text.proofs.ValueEnds.{value_end_no_identifier, space_ends}
 use Rattle.kdl_entry.specs.Data as data'
 use Rattle.kdl_value.specs.Data.{Value}
 use Rattle.kdl_entry.specs.Entries.{IsString, string, IsPlainValue, a_string, a_plain, IsType, parens, MaybeType, untyped, typed, IsValue, value, IsEntry, property, argument}
@@ -94,7 +94,7 @@ marks c h = ValueEnd.mark (grind (arith, nat_tests))
 -- spaces and then a mark, or spaces alone, are a value end
 pub spaces_end : {s r : Text} → Star NodeSpace s r → ValueEnd true r → ValueEnd true s
 spaces_end none e = e
-spaces_end (more n ss) e = ValueEnd.space n
+spaces_end (more n ss) e = space_ends n
 
 move_parens : {s r v : Text} → IsType true s r v → Move (λ s r. IsType true s r v) s r
 move_parens (parens ss d us) =
@@ -131,10 +131,10 @@ move_entry (property k ss us v) =
 
 pub spaces_dash : {s t r : Text} → Star NodeSpace s t → Slashdash t r → ValueEnd true s
 spaces_dash none (slashdash ls) = ValueEnd.slashdash refl
-spaces_dash (more n ss) m = ValueEnd.space n
+spaces_dash (more n ss) m = space_ends n
 
 pub leading_end : {s r : Text} → EntryLeading s r → ValueEnd true s
-leading_end (leading none (plus n ss)) = ValueEnd.space n
+leading_end (leading none (plus n ss)) = space_ends n
 leading_end (leading (more (dropped ss m i) ds) n) = spaces_dash ss m
 
 one_more : {s t r : Text} → DroppedEntry s t → EntryLeading t r → EntryLeading s r

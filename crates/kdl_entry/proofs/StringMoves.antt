@@ -8,7 +8,7 @@ use Rattle.kdl_text.specs.Here.{first}
 use Rattle.kdl_text.specs.MultiLine.{ContentUnit, Content, MultiLineBody, MultiLineString, multi_line, IsQuoted}
 use Rattle.kdl_text.specs.Raw.{closing, RawUnit, RawUnits, RawContent, content, RawString, MultiLineRawBody, MultiLineRawString, IsRaw}
 use Rattle.kdl_text.specs.Strings.{StringUnit, IsUnit, one_literal, one_letter, one_number, one_gap, AreUnits, body, QuotedString, quoted as quoted_text, HexNumber, is_blank}
-use Rattle.kdl_text.specs.Trivia.{Ws, NodeSpace, Break, ends_value, ValueEnd, block, line, escline}
+use Rattle.kdl_text.specs.Trivia.{ends_value, ValueEnd, escline}
 use Rattle.kdl_text.specs.declared.strings.dedent.LineUnit.{LineUnit}
 use Rattle.kdl_entry.specs.Entries.{StringPiece, bare, quoted, raw}
 use Rattle.kdl_entry.proofs.Puts.{Put, stands, also, joined, before, first_piece, same, starts_first, begins_first, Move}
@@ -40,12 +40,12 @@ mark_no_quote c h = grind (arith, nat_tests)
 pub value_end_no_quote : {wide : Bool} {s : Text} → ValueEnd wide s → begins 34 s ≡ false
 value_end_no_quote ValueEnd.nothing = refl
 value_end_no_quote (ValueEnd.mark {c = c} x) = mark_no_quote c x
-value_end_no_quote (ValueEnd.space (NodeSpace.ws (Ws.space (a_space {c = c} x)))) = space_no_quote c x
-value_end_no_quote (ValueEnd.space (NodeSpace.ws (Ws.comment (block p)))) = refl
-value_end_no_quote (ValueEnd.space (NodeSpace.escline (escline p e))) = refl
-value_end_no_quote (ValueEnd.«break» (Break.newline crlf)) = refl
-value_end_no_quote (ValueEnd.«break» (Break.newline (one {c = c} x y))) = newline_no_quote c x
-value_end_no_quote (ValueEnd.«break» (Break.comment (line l))) = refl
+value_end_no_quote (ValueEnd.space (a_space {c = c} x)) = space_no_quote c x
+value_end_no_quote (ValueEnd.newline crlf) = refl
+value_end_no_quote (ValueEnd.newline (one {c = c} x y)) = newline_no_quote c x
+value_end_no_quote (ValueEnd.escline (escline p e)) = refl
+value_end_no_quote ValueEnd.line_comment = refl
+value_end_no_quote ValueEnd.block_comment = refl
 value_end_no_quote (ValueEnd.slashdash x) = refl
 
 bare_full : (w : Text) → is_bare w ≡ true → (u r : Text) → first (w ++ u) ≡ first (w ++ r)

@@ -15,24 +15,26 @@ use std::alloc::{AllocError, Global};
 use std::fmt;
 use std::fmt::{Display, Formatter, Write};
 
-/// The spelling of an entry's value, and the texts around the parts of the entry.
+/// The spelling of an entry's value, and the texts around the parts of the entry. Each field says what stands there in
+/// an entry that was parsed.
 #[derive(PartialEq, Eq, Hash, Debug, Drop)]
 pub struct KdlEntryFormat {
     /// The spelling of the value.
     pub value_repr: String,
-    /// What stands before the entry.
+    /// What stands before the entry: in a node, entries that a slashdash drops and then at least one node-space;
+    /// before an entry that is a whole text, line-spaces and then entries that a slashdash drops.
     pub leading: String,
-    /// What stands behind the value.
+    /// What stands behind the value: line-spaces, where the entry is a whole text. Empty in a node.
     pub trailing: String,
-    /// What stands between the type's `)` and the value.
+    /// Node-spaces between the type's `)` and the value. Empty without a type.
     pub after_ty: String,
-    /// What stands between the type's `(` and its name.
+    /// Node-spaces between the type's `(` and its name. Empty without a type.
     pub before_ty_name: String,
-    /// What stands between the type's name and its `)`.
+    /// Node-spaces between the type's name and its `)`. Empty without a type.
     pub after_ty_name: String,
-    /// What stands between the key and its `=`.
+    /// Node-spaces between the key and its `=`. Empty in an argument.
     pub after_key: String,
-    /// What stands between the `=` and the type or value.
+    /// Node-spaces between the `=` and the type or value. Empty in an argument.
     pub after_eq: String,
     /// Whether autoformat keeps the spelling of the value and the leading text.
     pub autoformat_keep: bool,

@@ -3,6 +3,7 @@ use Rattle.std.proofs.Common.{◌≡◌, ℕ, Bool, true, false, List, [], ◌�
 use Rattle.kdl_text.specs.Chars.{Text, Star, none, more, Plus, plus}
 use Rattle.kdl_text.specs.Here.{first}
 use Rattle.kdl_text.specs.Trivia.{NodeSpace, Break, Slashdash, ValueEnd}
+use Rattle.kdl_text.proofs.ValueEnds.{space_ends, break_ends}
 use Rattle.kdl_entry.specs.Data.{Entry}
 use Rattle.kdl_entry.specs.Entries.{IsString, MaybeType, IsEntry}
 use Rattle.kdl_entry.specs.Places.{DroppedEntry, dropped as dropped_e}
@@ -20,8 +21,8 @@ begun c (d ∷ t) e = (t, cc)
 
 pub terminator_end : {r v : Text} → Terminator r v → ValueEnd true r
 terminator_end Terminator.semicolon = marks 59 refl
-terminator_end (Terminator.newline n) = ValueEnd.«break» (Break.newline n)
-terminator_end (Terminator.comment n) = ValueEnd.«break» (Break.comment n)
+terminator_end (Terminator.newline n) = ValueEnd.newline n
+terminator_end (Terminator.comment n) = break_ends (Break.comment n)
 terminator_end Terminator.at_end = ValueEnd.nothing
 terminator_end Terminator.at_close = marks 125 refl
 
@@ -57,7 +58,7 @@ blocks_end (BlocksEnd.ends (block ss b d) e) = block_end ss b
 blocks_end (BlocksEnd.ends (no_block ss) e) = spaces_end ss (terminator_end e)
 
 name_end : {s v : Text} {es : List Entry} {k : Children} → NameEnds es k s v → ValueEnd true s
-name_end (NameEnds.ends (kept_entry (plus n ss) i d) e) = ValueEnd.space n
+name_end (NameEnds.ends (kept_entry (plus n ss) i d) e) = space_ends n
 name_end (NameEnds.ends (dropped_entry ss m i d) e) = spaces_dash ss m
 name_end (NameEnds.ends (AfterName.blocks d) e) = blocks_end (BlocksEnd.ends d e)
 

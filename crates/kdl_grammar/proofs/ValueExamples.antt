@@ -2,21 +2,23 @@
 use Rattle.std.proofs.Common.{◌≡◌, ℕ, zero, suc, ◌<◌, true, false, List, [], ◌∷◌, ◌++◌, None, refl, ap, arith}
 use Rattle.std.proofs.lemmas.Bool.{and_parts, true≢false}
 use Rattle.std.specs.List.{list_all}
+use Rattle.std.specs.Prelude.{pos}
 use Rattle.kdl_text.specs.Bare.{bare as bare_text, is_bare, bare_form}
 use Rattle.kdl_text.specs.Chars.{Text, starts, times, begins_two, begins_with, one, is_identifier_char, is_space, is_newline_char, is_banned, is_mark, is_literal}
 use Rattle.kdl_text.specs.Chars.Space.{space as a_space}
 use Rattle.kdl_text.specs.MultiLine.{IsQuoted}
-use Rattle.kdl_text.specs.Numbers.{is_digit_of, Sign, Digits, integer as an_integer, Fraction, Exponent, part, Decimal, decimal, is_decimal, keyword as a_keyword, keyword_text}
+use Rattle.kdl_text.specs.Numbers.{is_digit_of, Sign, BaseMark, Digits, integer as an_integer, whole, is_whole, Fraction, Exponent, part, Decimal, decimal, is_decimal, keyword as a_keyword, keyword_text}
 use Rattle.kdl_text.specs.Strings.{QuotedString, quoted as quoted_text, body, AreUnits, one_literal, one_letter}
-use Rattle.kdl_text.specs.Trivia.{NodeSpace, Ws, Break}
+use Rattle.kdl_text.specs.Trivia.{Parts, BlockComment, block, NodeSpace, Ws, Break, ValueEnd}
 use Rattle.kdl_text.specs.declared.numbers.Keyword.{Keyword}
 use Rattle.kdl_text.specs.declared.numbers.Keyword.TheVariants.{True, False, Null, Infinity, NegativeInfinity, NotANumber}
 use Rattle.kdl_text.proofs.Bares.{bare_begins}
 use Rattle.kdl_text.proofs.Decimals.{number_begins}
 use Rattle.kdl_text.proofs.Determined.{is_quoted_begins, is_raw_begins, is_raw_front}
-use Rattle.kdl_value.specs.Data.{text, float, truth, null}
-use Rattle.kdl_entry.specs.Entries.{StringPiece, bare, quoted, raw, PlainPiece, number, keyword, keyword_value}
+use Rattle.kdl_value.specs.Data.{text, integer, float, truth, null}
+use Rattle.kdl_entry.specs.Entries.{StringPiece, bare, quoted, raw, PlainPiece, number, keyword, keyword_value, IsPlainValue, a_plain}
 use Rattle.kdl_entry.specs.Tokens.{Token, string, value, BeginsToken, t_space, t_newline, t_string, t_value}
+use Rattle.kdl_entry.proofs.Cutting.{no_slash}
 use Rattle.kdl_entry.proofs.StringPieces.{keyword_front}
 use Rattle.kdl_grammar.specs.Data.{Nodes}
 use Rattle.kdl_grammar.specs.Grammar.{IsDocument}
@@ -160,3 +162,22 @@ no_token_at_true {r = r} (t_value (keyword (a_keyword {k = k} e n) f)) = no_true
 word_and_digit : (x : Nodes) → IsDocument true (110 ∷ 32 ∷ 35 ∷ 116 ∷ 114 ∷ 117 ∷ 101 ∷ 49 ∷ []) x → ⊥
 unfolding is_bare is_identifier_char is_space is_newline_char is_banned is_mark
 word_and_digit x i = faulty (then (t_string (bare (bare_text {w = 110 ∷ []} refl refl refl))) (then (t_space (NodeSpace.ws (Ws.space (a_space refl)))) here)) (λ e. cc) (λ k t b. no_token_at_true b) x i
+
+-- `1` before a comment that is not closed
+one_open : PlainPiece (49 ∷ 47 ∷ 42 ∷ 120 ∷ []) (47 ∷ 42 ∷ 120 ∷ []) (integer (pos 1))
+unfolding is_identifier_char is_space is_newline_char is_banned is_mark is_digit_of
+one_open = PlainPiece.number (is_whole (whole (Sign.none refl) (BaseMark.ten refl) (an_integer refl (Digits.stop refl)) refl refl refl)) refl
+
+-- `1` is a value before `/*x`
+value_before_open_comment : IsPlainValue true (49 ∷ 47 ∷ 42 ∷ 120 ∷ []) (47 ∷ 42 ∷ 120 ∷ []) (integer (pos 1))
+value_before_open_comment = a_plain one_open ValueEnd.block_comment
+
+never_closed : {r : Text} → BlockComment (47 ∷ 42 ∷ 120 ∷ []) r → ⊥
+never_closed (block (Parts.other x y p)) = elim p [ ]
+
+-- not `n 1/*x`
+open_comment : (x : Nodes) → IsDocument true (110 ∷ 32 ∷ 49 ∷ 47 ∷ 42 ∷ 120 ∷ []) x → ⊥
+unfolding is_bare is_identifier_char is_space is_newline_char is_banned is_mark
+open_comment x i =
+    faulty (then (t_string (bare (bare_text {w = 110 ∷ []} refl refl refl))) (then (t_space (NodeSpace.ws (Ws.space (a_space refl)))) (then (t_value one_open) here)))
+    (λ e. cc) (λ k t b. no_slash (42 ∷ 120 ∷ []) (λ r p. never_closed p) (λ r p. elim p [ ]) refl t k b) x i

@@ -1,8 +1,9 @@
 -- What the former language derives, the present one derives, with the same data.
-use Rattle.std.proofs.Common.{Bool, true, false, ◌||◌, List, Option, refl}
+use Rattle.std.proofs.Common.{Bool, true, false, ◌||◌, List, Option}
 use Rattle.kdl_text.specs.Chars.{Text, Star, plus}
 use Rattle.kdl_text.specs.Chars.Star.{more}
-use Rattle.kdl_text.specs.Trivia.{NodeSpace, ValueEnd}
+use Rattle.kdl_text.specs.Trivia.{NodeSpace}
+use Rattle.kdl_text.proofs.ValueEnds.{value_end_wider}
 use Rattle.kdl_value.specs.Data.{Value}
 use Rattle.kdl_entry.specs.Data.{Entry}
 use Rattle.kdl_entry.specs.Entries.{IsString, string, IsPlainValue, a_string, a_plain, parens, MaybeType, untyped, typed, IsValue, value, IsEntry, property, argument}
@@ -10,19 +11,12 @@ use Rattle.kdl_grammar.specs.Data.{Node, Children, Nodes}
 use Rattle.kdl_grammar.specs.Grammar.{Spaces, IsNode, named, AfterName, kept_entry, dropped_entry, Blocks, dropped_block, block, no_block, AfterBlock, dropped_later, no_more, Gap, no_gap, line_space, dropped_node, AreNodes, last_gap, node_then, IsBlock, braces, IsDocument, IsNodeText, node_text}
 
 module _ (w : Bool) where
-  wide_end : {s : Text} → ValueEnd w s → ValueEnd true s
-  wide_end ValueEnd.nothing = ValueEnd.nothing
-  wide_end (ValueEnd.mark x) = ValueEnd.mark x
-  wide_end (ValueEnd.space n) = ValueEnd.space n
-  wide_end (ValueEnd.«break» n) = ValueEnd.«break» n
-  wide_end (ValueEnd.slashdash e) = ValueEnd.slashdash refl
-
   wide_string : {s r v : Text} → IsString w s r v → IsString true s r v
-  wide_string (string p e) = string p (wide_end e)
+  wide_string (string p e) = string p (value_end_wider e)
 
   wide_plain : {s r : Text} {v : Value} → IsPlainValue w s r v → IsPlainValue true s r v
   wide_plain (a_string d) = a_string (wide_string d)
-  wide_plain (a_plain p e) = a_plain p (wide_end e)
+  wide_plain (a_plain p e) = a_plain p (value_end_wider e)
 
   wide_type : {s r : Text} {y : Option Text} → MaybeType w s r y → MaybeType true s r y
   wide_type untyped = untyped

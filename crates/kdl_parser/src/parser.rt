@@ -34,9 +34,12 @@ fn build_with<'a, N: ParsedNode>(
     builder.finish(alloc, lexer)
 }
 
-/// The document that the lexer has before it: the text `whole`, or what follows its U+FEFF. Each piece is sliced once,
-/// and what counts for nothing is not sliced at all. A fault at the first token that fits nothing, or at the first piece
-/// that is no token; its span lies in the text. `Memory`: a request for memory was refused.
+/// The document that the lexer has before it: the text `whole`, or what follows its U+FEFF. A fault at the first token
+/// that fits nothing, or at the first piece that is no token; its span lies in the text. `Memory`: a request for memory
+/// was refused.
+///
+/// The builder slices each place and each spelling that the document keeps once. Of what counts for nothing it slices
+/// nothing by itself: its text is part of the place in which it stands.
 pub fn build<'a, N: ParsedNode>(
     alloc: Global,
     whole: Checkpoint<'a>,

@@ -13,11 +13,11 @@ use std::alloc::Global;
 /// A document: its nodes, and the texts around them.
 #[derive(Drop)]
 pub struct DocumentParts<N> {
-    /// What stands before the first node; without nodes the whole text.
+    /// Nothing where there are nodes, since each has what stands before it; without nodes all that there is.
     pub leading: String,
     /// The nodes that count, in order.
     pub nodes: Vec<N>,
-    /// What stands behind the last node.
+    /// What stands behind the last node: line-spaces, and nodes that a slashdash drops. Without nodes nothing.
     pub trailing: String,
     /// From the first node to the last one, in bytes of the text; without nodes the end.
     pub span: SourceSpan,
@@ -26,7 +26,7 @@ pub struct DocumentParts<N> {
 /// A node: what stands in it, and the texts around its parts.
 #[derive(Drop)]
 pub struct NodeParts<N> {
-    /// What stands before the node.
+    /// What stands before the node: line-spaces, and nodes that a slashdash drops.
     pub leading: String,
     /// The type, where the node has one.
     pub ty: Option<TypeParts>,
@@ -34,13 +34,15 @@ pub struct NodeParts<N> {
     pub name: KdlIdentifier,
     /// The entries, in order.
     pub entries: Vec<KdlEntry>,
-    /// What stands between the last entry and the `{` of the children.
+    /// What stands between the name or the last entry and the `{` of the children: entries and then blocks that a
+    /// slashdash drops, and node-spaces. Without children nothing.
     pub before_children: String,
     /// The children, where the node has a child block.
     pub children: Option<DocumentParts<N>>,
-    /// What stands between the last entry, or the `}` of the children, and the terminator.
+    /// What stands before the terminator: behind the `}` of the children, blocks that a slashdash drops and
+    /// node-spaces; without children, behind the name or the last entry, such entries before these.
     pub before_terminator: String,
-    /// The newline or `;` that ends the node.
+    /// What ends the node: `;`, a newline, a line comment, or nothing where the text ends or a `}` follows.
     pub terminator: String,
     /// Where the node stands in the text, in bytes.
     pub span: SourceSpan,

@@ -64,9 +64,10 @@ fn read<N: ParsedNode>(
 }
 
 /// The document that the text is (KDL 2.0.0, Document), which raises the count by the steps that it takes, up to the
-/// greatest `u64`. Each piece is sliced once, and what counts for nothing is not sliced at all. `Syntax`: the text is
-/// none; its error has one diagnostic, at the first token that fits nothing or the first piece that is none. `Memory`:
-/// a request for memory was refused.
+/// greatest `u64`. Each text that the document keeps, but for the values of its strings and numbers, is sliced once;
+/// values are decoded by the lexer, which slices what it needs for that, of what counts for nothing too. `Syntax`: the
+/// text is none; its error has one diagnostic, at the first token that fits nothing or the first piece that is none.
+/// `Memory`: a request for memory was refused.
 #[tactic(auto, using(crate::proofs::Outcomes::refused, crate::proofs::Outcomes::most_counted))]
 pub fn read_document<N: ParsedNode>(
     alloc: Global,

@@ -8,24 +8,27 @@ ghost use Rattle.std.specs.Str.{chars};
 
 use std::alloc::{AllocError, Global};
 
-/// The texts around the parts of a node.
+/// The texts around the parts of a node. Each field says what stands there in a node that was parsed.
 #[derive(PartialEq, Eq, Hash, Debug, Drop)]
 pub struct KdlNodeFormat {
-    /// What stands before the node.
+    /// What stands before the node: line-spaces, and nodes that a slashdash drops.
     pub leading: String,
-    /// What stands between the `(` of the type and its name.
+    /// Node-spaces between the `(` of the type and its name. Empty without a type.
     pub before_ty_name: String,
-    /// What stands between the name of the type and its `)`.
+    /// Node-spaces between the name of the type and its `)`. Empty without a type.
     pub after_ty_name: String,
-    /// What stands between the `)` of the type and the node's name.
+    /// Node-spaces between the `)` of the type and the node's name. Empty without a type.
     pub after_ty: String,
-    /// What stands between the last entry and the `{` of the children.
+    /// What stands between the name or the last entry and the `{` of the children: entries and then blocks that a
+    /// slashdash drops, and node-spaces. Empty without children.
     pub before_children: String,
-    /// What stands between the last entry, or the `}` of the children, and the terminator.
+    /// What stands before the terminator: behind the `}` of the children, blocks that a slashdash drops and
+    /// node-spaces; without children, behind the name or the last entry, such entries before these.
     pub before_terminator: String,
-    /// The newline or `;` that ends the node.
+    /// What ends the node: `;`, a newline, a line comment, or nothing where the text ends or a `}` follows.
     pub terminator: String,
-    /// What stands behind the terminator.
+    /// What stands behind the terminator: line-spaces, where the node is a whole text. Empty in a document, in which it
+    /// stands before the next node or behind the last one.
     pub trailing: String,
 }
 
@@ -84,12 +87,14 @@ pub fn new_format(alloc: Global) -> Result<KdlNodeFormat, AllocError>
     Ok(format)
 }
 
-/// The texts around the nodes of a document.
+/// The texts around the nodes of a document or of a child block. Each field says what stands there in one that was
+/// parsed.
 #[derive(PartialEq, Eq, Hash, Debug, Drop)]
 pub struct KdlDocumentFormat {
-    /// What stands before the first node.
+    /// Where there are nodes, U+FEFF at the start of the text or nothing, since each node has what stands before it;
+    /// without nodes all that there is.
     pub leading: String,
-    /// What stands behind the last node.
+    /// What stands behind the last node: line-spaces, and nodes that a slashdash drops. Empty without nodes.
     pub trailing: String,
 }
 

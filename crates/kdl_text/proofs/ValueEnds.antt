@@ -1,16 +1,8 @@
--- What may stand behind a value begins with no character of a bare string or a number.
+-- What may stand behind a value begins with no character of a bare string or a number; each node-space and break may.
 use Rattle.std.proofs.Common.{◌≡◌, ℕ, Bool, true, false, ◌||◌, refl, arith}
 use Rattle.std.proofs.lemmas.Bool.Decides.{nat_tests}
-use Rattle.kdl_text.specs.Chars.{Text, is_space, is_newline_char, is_banned, is_mark, is_identifier_char, starts, crlf, one}
-use Rattle.kdl_text.specs.Chars.Space.{space}
-use Rattle.kdl_text.specs.Trivia.{NodeSpace, Break, ends_value, ValueEnd}
-use Rattle.kdl_text.specs.Trivia.BlockComment.{block}
-use Rattle.kdl_text.specs.Trivia.LineComment.{line}
-use Rattle.kdl_text.specs.Trivia.Ws.{space as ws_space, comment as ws_comment}
-use Rattle.kdl_text.specs.Trivia.Escline.{escline}
-use Rattle.kdl_text.specs.Trivia.NodeSpace.{ws, escline as node_escline}
-use Rattle.kdl_text.specs.Trivia.Break.{newline as break_newline, comment as break_comment}
-use Rattle.kdl_text.specs.Trivia.ValueEnd.{nothing, mark, space as end_space, «break» as end_break, slashdash}
+use Rattle.kdl_text.specs.Chars.{Text, Space, Newline, is_space, is_newline_char, is_banned, is_mark, is_identifier_char, starts, crlf, one, space as a_space}
+use Rattle.kdl_text.specs.Trivia.{Ws, NodeSpace, Break, block, line, escline, ends_value, ValueEnd}
 
 or_true : (b : Bool) → (b || true) ≡ true
 or_true true = refl
@@ -45,27 +37,41 @@ cr_newline : is_newline_char 13 ≡ true
 unfolding is_newline_char
 cr_newline = refl
 
-pub node_space_no_identifier : {s r : Text} → NodeSpace s r → starts is_identifier_char s ≡ false
-node_space_no_identifier (ws (ws_space (space {c = c} x))) = space_no_identifier c x
-node_space_no_identifier (ws (ws_comment (block p))) = mark_no_identifier 47 slash_mark
-node_space_no_identifier (node_escline (escline p e)) = mark_no_identifier 92 backslash_mark
+space_no_identifier' : {s r : Text} → Space s r → starts is_identifier_char s ≡ false
+space_no_identifier' (a_space {c = c} x) = space_no_identifier c x
 
-pub break_no_identifier : {s r : Text} → Break s r → starts is_identifier_char s ≡ false
-break_no_identifier (break_newline crlf) = newline_no_identifier 13 cr_newline
-break_no_identifier (break_newline (one {c = c} x y)) = newline_no_identifier c x
-break_no_identifier (break_comment (line l)) = mark_no_identifier 47 slash_mark
+newline_no_identifier' : {s r : Text} → Newline s r → starts is_identifier_char s ≡ false
+newline_no_identifier' crlf = newline_no_identifier 13 cr_newline
+newline_no_identifier' (one {c = c} x y) = newline_no_identifier c x
 
 pub value_end_no_identifier : {wide : Bool} {s : Text} → ValueEnd wide s → starts is_identifier_char s ≡ false
-value_end_no_identifier nothing = refl
-value_end_no_identifier (mark {c = c} x) = mark_no_identifier c (ends_value_mark c x)
-value_end_no_identifier (end_space p) = node_space_no_identifier p
-value_end_no_identifier (end_break p) = break_no_identifier p
-value_end_no_identifier (slashdash x) = mark_no_identifier 47 slash_mark
+value_end_no_identifier ValueEnd.nothing = refl
+value_end_no_identifier (ValueEnd.mark {c = c} x) = mark_no_identifier c (ends_value_mark c x)
+value_end_no_identifier (ValueEnd.space p) = space_no_identifier' p
+value_end_no_identifier (ValueEnd.newline p) = newline_no_identifier' p
+value_end_no_identifier (ValueEnd.escline (escline p e)) = mark_no_identifier 92 backslash_mark
+value_end_no_identifier ValueEnd.line_comment = mark_no_identifier 47 slash_mark
+value_end_no_identifier ValueEnd.block_comment = mark_no_identifier 47 slash_mark
+value_end_no_identifier (ValueEnd.slashdash x) = mark_no_identifier 47 slash_mark
+
+-- a node-space is a value end
+pub space_ends : {wide : Bool} {s r : Text} → NodeSpace s r → ValueEnd wide s
+space_ends (NodeSpace.ws (Ws.space p)) = ValueEnd.space p
+space_ends (NodeSpace.ws (Ws.comment (block p))) = ValueEnd.block_comment
+space_ends (NodeSpace.escline p) = ValueEnd.escline p
+
+-- a break is a value end
+pub break_ends : {wide : Bool} {s r : Text} → Break s r → ValueEnd wide s
+break_ends (Break.newline p) = ValueEnd.newline p
+break_ends (Break.comment (line l)) = ValueEnd.line_comment
 
 -- what may stand behind a value without `/-` may with it
-pub value_end_wider : {s : Text} → ValueEnd false s → ValueEnd true s
-value_end_wider nothing = nothing
-value_end_wider (mark x) = mark x
-value_end_wider (end_space p) = end_space p
-value_end_wider (end_break p) = end_break p
-value_end_wider (slashdash x) = slashdash refl
+pub value_end_wider : {wide : Bool} {s : Text} → ValueEnd wide s → ValueEnd true s
+value_end_wider ValueEnd.nothing = ValueEnd.nothing
+value_end_wider (ValueEnd.mark x) = ValueEnd.mark x
+value_end_wider (ValueEnd.space p) = ValueEnd.space p
+value_end_wider (ValueEnd.newline p) = ValueEnd.newline p
+value_end_wider (ValueEnd.escline p) = ValueEnd.escline p
+value_end_wider ValueEnd.line_comment = ValueEnd.line_comment
+value_end_wider ValueEnd.block_comment = ValueEnd.block_comment
+value_end_wider (ValueEnd.slashdash x) = ValueEnd.slashdash refl

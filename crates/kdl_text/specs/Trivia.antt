@@ -60,10 +60,21 @@ pub data Slashdash : Text → Text → Type 0 where
 unfoldable pub ends_value : ℕ → Bool
 ends_value c = (((c == 61 || c == 41) || c == 123) || c == 125) || c == 59
 
--- the text behind a value: none, or one of these marks, a node-space, a break, and where `wide` holds a slashdash
+-- what may stand behind a value
 pub data ValueEnd (wide : Bool) : Text → Type 0 where
+  -- the end of the text
   nothing : ValueEnd wide []
+  -- one of `= ) { } ;`
   mark : {c : ℕ} {s : Text} → ends_value c ≡ true → ValueEnd wide (c ∷ s)
-  space : {s t : Text} → NodeSpace s t → ValueEnd wide s
-  «break» : {s t : Text} → Break s t → ValueEnd wide s
+  -- a space
+  space : {s t : Text} → Space s t → ValueEnd wide s
+  -- a newline
+  newline : {s t : Text} → Newline s t → ValueEnd wide s
+  -- an escline
+  escline : {s t : Text} → Escline s t → ValueEnd wide s
+  -- `//`
+  line_comment : {s : Text} → ValueEnd wide (47 ∷ 47 ∷ s)
+  -- `/*`, whether the comment is closed or not
+  block_comment : {s : Text} → ValueEnd wide (47 ∷ 42 ∷ s)
+  -- `/-`, where `wide` holds
   slashdash : {s : Text} → wide ≡ true → ValueEnd wide (47 ∷ 45 ∷ s)
