@@ -3,8 +3,16 @@
 use crate::reading::{equal, holds};
 use conformance_text::characters::nested;
 use kdl::{KdlDocument, ParseFailure, Steps};
+use kdl_text::chars::Cursor;
 use std::alloc::Global;
 use std::process::Abort;
+
+/// A count of so many steps.
+fn raised(by: u64) -> Steps {
+    let mut cursor = Cursor::new("", Steps::new());
+    cursor.raise(by);
+    cursor.into_steps()
+}
 
 /// Whether the text is a document. The count is raised.
 fn is_document(rt: &impl Abort, alloc: Global, text: &str, steps: &mut Steps) -> bool {
@@ -104,8 +112,7 @@ fn a_count_goes_on(rt: HostRuntime) {
 #[test]
 fn a_count_stays_at_the_greatest(rt: HostRuntime) {
     let alloc = rt.alloc();
-    let mut steps = Steps::new();
-    steps.raise(u64::MAX - 3);
+    let mut steps = raised(u64::MAX - 3);
     holds(&rt, is_document(&rt, alloc, "a 1", &mut steps), "a 1");
     equal(&rt, &steps.count(), &u64::MAX);
     holds(&rt, is_document(&rt, alloc, "a 1", &mut steps), "a 1");
