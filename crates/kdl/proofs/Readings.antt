@@ -11,6 +11,7 @@ use Rattle.kdl_grammar.specs.Laid.{LaidDocument, LaidNodeText}
 use Rattle.kdl_grammar.specs.Machine.{Answers}
 use Rattle.kdl_grammar.specs.Print.{print_document, print_node}
 use Rattle.kdl_grammar.specs.Tree.{Document, document_data, node_data}
+use Rattle.kdl_grammar.proofs.Widening.{wider, wider_node}
 use Rattle.kdl.specs.Tree.{node_tree, document_tree}
 use Rattle.kdl.specs.declared.node.KdlNode.{KdlNode}
 use Rattle.kdl.specs.declared.document.KdlDocument.{KdlDocument}
@@ -37,6 +38,10 @@ pub prints : (t : Text) (r : Result KdlDocument ParseFailure) → Read t r → I
 prints t (Ok d) a = outcomes.prints t (document_tree d) a
 prints t (Err e) a = tt
 
+-- what the former language derives is derived
+pub kept : (t : Text) (x : Nodes) → ((y : Nodes) → IsDocument true t y → ⊥) → IsFormerDocument t x → ⊥
+kept t x n i = n x (wider false i)
+
 pub former : (t : Text) (r : Result KdlDocument ParseFailure) (x : Nodes) → Read t r → IsFormerDocument t x → IfOk r (λ d. document_data (document_tree d) ≡ x)
 former t (Ok d) x a i = outcomes.former t (document_tree d) a x i
 former t (Err e) x a i = tt
@@ -59,6 +64,9 @@ node_only t (Err e) l = tt
 pub node_prints : (t : Text) (r : Result KdlNode ParseFailure) → ReadNode t r → IfOk r (λ n. print_node (node_tree n) 0 ≡ t)
 node_prints t (Ok n) l = node_texts.prints t (node_tree n) l
 node_prints t (Err e) l = tt
+
+pub node_kept : (t : Text) (x : data'.Node) → ((y : data'.Node) → IsNodeText true t y → ⊥) → IsFormerNodeText t x → ⊥
+node_kept t x n i = n x (wider_node false i)
 
 pub node_former : (t : Text) (r : Result KdlNode ParseFailure) (x : data'.Node) → ReadNode t r → IsFormerNodeText t x → IfOk r (λ n. node_data (node_tree n) ≡ x)
 node_former t (Ok n) x l i = node_texts.former t (node_tree n) l x i

@@ -72,7 +72,8 @@ impl KdlDocument {
         // What is refused is not derived, and an error tells where.
         ensures refused { IsSyntax result → (x : Nodes) → IsDocument true (chars text.now) x → ⊥ }
         ensures told { TellsOnSyntax text.now result }
-        // What the former language derives is read as before.
+        // What the former language derives is not refused, and is read as before.
+        ensures kept { (x : Nodes) → IsFormerDocument (chars text.now) x → IsSyntax result → ⊥ }
         ensures former { (x : Nodes) → IsFormerDocument (chars text.now) x → IfOk result (λ d. document_data (document_tree d) ≡ x) }
         // A document that differs from the answer in its nodes' entries alone, at each node some of its own and
         // entries without form, prints a text that is derived with its data.
@@ -105,6 +106,7 @@ impl KdlDocument {
         ensures prints { IfOk result (λ d. print_document (document_tree d) 0 ≡ chars text.now) }
         ensures refused { IsSyntax result → (x : Nodes) → IsDocument true (chars text.now) x → ⊥ }
         ensures told { TellsOnSyntax text.now result }
+        ensures kept { (x : Nodes) → IsFormerDocument (chars text.now) x → IsSyntax result → ⊥ }
         ensures former { (x : Nodes) → IsFormerDocument (chars text.now) x → IfOk result (λ d. document_data (document_tree d) ≡ x) }
         ensures edited { IfOk result (λ d. (e : Document) → EachDocument IsEdited (document_tree d) e → IsDocument true (print_document e 0) (document_data e)) }
         // At least a step for each character is counted, and at most 32 for each byte and 32 more.
@@ -128,6 +130,7 @@ impl KdlDocument {
         ensures prints { IfOk result (λ d. print_document (document_tree d) 0 ≡ chars text.now) }
         ensures refused { IsSyntax result → (x : Nodes) → IsDocument true (chars text.now) x → ⊥ }
         ensures told { TellsOnSyntax text.now result }
+        ensures kept { (x : Nodes) → IsFormerDocument (chars text.now) x → IsSyntax result → ⊥ }
         ensures former { (x : Nodes) → IsFormerDocument (chars text.now) x → IfOk result (λ d. document_data (document_tree d) ≡ x) }
         ensures edited { IfOk result (λ d. (e : Document) → EachDocument IsEdited (document_tree d) e → IsDocument true (print_document e 0) (document_data e)) }
     {
@@ -163,7 +166,8 @@ impl KdlNode {
         // What is refused is not derived, and an error tells where.
         ensures refused { IsSyntax result → (x : data'.Node) → IsNodeText true (chars text.now) x → ⊥ }
         ensures told { TellsOnSyntax text.now result }
-        // What the former language derives is read as before.
+        // What the former language derives is not refused, and is read as before.
+        ensures kept { (x : data'.Node) → IsFormerNodeText (chars text.now) x → IsSyntax result → ⊥ }
         ensures former { (x : data'.Node) → IsFormerNodeText (chars text.now) x → IfOk result (λ n. node_data (node_tree n) ≡ x) }
     {
         read_node(alloc, text)

@@ -298,7 +298,7 @@ impl KdlEntry {
     }
 
     /// An entry as it was read: its key and type or none, its value, the texts around them and where it stood.
-    pub fn parsed(
+    pub(crate) fn parsed(
         ty: Option<KdlIdentifier>,
         name: Option<KdlIdentifier>,
         value: KdlValue,

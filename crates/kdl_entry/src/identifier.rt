@@ -86,13 +86,6 @@ impl KdlIdentifier {
         self.clear_format();
     }
 
-    /// The allocator of the string.
-    pub fn allocator(&self) -> &Global
-        ensures { result.now ≡ vec_allocator (string_vec self.now.value) }
-    {
-        self.value.allocator()
-    }
-
     /// The length of the printed text, in bytes. It prints the identifier: it fails where memory is wanting.
     pub fn len(&self, alloc: Global) -> Result<usize, AllocError>
         ensures { IfOk result (λ n. n ≡ bytes (print_identifier (identifier_tree self.now))) }
@@ -114,17 +107,24 @@ impl KdlIdentifier {
     {
         Ok(KdlIdentifier::from(String::from_str(alloc, text)?))
     }
+}
 
-    /// An identifier as it was read: its string, its spelling and where it stood.
-    pub fn parsed(value: String, repr: String, span: SourceSpan) -> KdlIdentifier
-        ensures { identifier_tree result ≡ record { value = text_of value; repr = Some (text_of repr); span = span } }
-    {
-        KdlIdentifier {
-            value,
-            repr: Some(repr),
-            span,
-        }
+/// An identifier as it was read: its string, its spelling and where it stood.
+pub fn parsed_identifier(value: String, repr: String, span: SourceSpan) -> KdlIdentifier
+    ensures { identifier_tree result ≡ record { value = text_of value; repr = Some (text_of repr); span = span } }
+{
+    KdlIdentifier {
+        value,
+        repr: Some(repr),
+        span,
     }
+}
+
+/// The allocator of the identifier's string.
+pub fn identifier_allocator(identifier: &KdlIdentifier) -> &Global
+    ensures { result.now ≡ vec_allocator (string_vec identifier.now.value) }
+{
+    identifier.value.allocator()
 }
 
 impl From<String> for KdlIdentifier {

@@ -1,1 +1,3 @@
 pub mod Equality
+pub mod ErrorEquality
+pub mod KeyEquality

@@ -4,7 +4,9 @@
 
 pub mod edits;
 pub mod entries;
+pub mod errors;
 pub mod formats;
+pub mod keys;
 pub mod nodes;
 pub mod values;
 

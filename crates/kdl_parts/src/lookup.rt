@@ -6,7 +6,7 @@ ghost use Rattle.kdl_value.specs.Tree.{value_tree};
 ghost use Rattle.kdl_entry.specs.contracts.entry.KdlEntry.{the_row as entry_row};
 ghost use Rattle.kdl_value.specs.contracts.value.KdlValue.{the_row as value_row};
 ghost use Rattle.std.specs.Borrow.{Lends, LendsIf, sem};
-ghost use Rattle.std.specs.Prelude.{◌≡◌, ◌<◌, IfOk, IsSome, OnErr, Some, is_some, length, option_map, slice_get};
+ghost use Rattle.std.specs.Prelude.{◌≡◌, ◌<◌, IfOk, IsNone, IsOk, IsSome, OnErr, Some, is_some, length, option_map, slice_get};
 
 use crate::key::NodeKey;
 use crate::places::{last_property, nth_argument, place};
@@ -101,10 +101,12 @@ pub fn has_property(entries: &[KdlEntry], name: &str) -> bool
 }
 
 /// The place of the last property of that name, after a null one was pushed where there was none. Fails where memory for
-/// it is wanting: then the entries are as they were.
+/// it is wanting: then the entries are as they were. What is there is found without memory.
 pub fn property_or_null(entries: &mut Vec<KdlEntry>, name: &str) -> Result<usize, AllocError>
     ensures found { IfOk result (λ i. HasProperty (last_place (has_name name.now) entries.old.items) name.now entries.old i entries.new) }
     ensures bound { IfOk result (λ i. i < length entries.new.items) }
+    ensures answers { IsSome (last_place (has_name name.now) entries.old.items) → IsOk result }
+    ensures missing { OnErr result (IsNone (last_place (has_name name.now) entries.old.items)) }
     ensures refused { OnErr result (entries.new.items ≡ entries.old.items) }
 {
     if let Some(at) = last_property(entries, name) {

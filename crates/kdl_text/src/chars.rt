@@ -233,7 +233,7 @@ impl Steps {
 
     /// Raises the count by so many steps, up to the greatest `u64`.
     #[inline]
-    pub fn raise(&mut self, by: u64)
+    pub(crate) fn raise(&mut self, by: u64)
         ensures { self.new ≡ raise self.old by }
     {
         self.count = self.count.saturating_add(by);

@@ -1,6 +1,7 @@
 -- What a run of the tool reads, writes and answers.
 use Rattle.std.specs.Prelude.{◌≡◌, ℕ, ◌<◌, Bool, true, false, IsTrue, List, [], ◌∷◌, length, take, Option, Result, Err, IsUtf8, chars, codes}
 use Rattle.std.specs.Io.KnownBytes.{Appends, Consumes, IsAtEnd}
+use Rattle.kdl_text.specs.Failures.{Tells}
 use Rattle.kdl_grammar.specs.Data.{Nodes}
 use Rattle.kdl_grammar.specs.Grammar.{IsDocument}
 use Rattle.kdl_tool.specs.declared.tool.Outcome.{Outcome}
@@ -53,7 +54,8 @@ AreNoDocument bytes = IsUtf8 bytes × ((x : Nodes) → IsDocument true (chars by
 abbrev pub Answered : Outcome → List ℕ → Option (List ℕ) → Option (List ℕ) → Type 0
 Answered Done bytes held holds = AreDocument bytes × Appends held holds bytes
 Answered WriteFailed bytes held holds = AreDocument bytes × ((n : ℕ) × (n < length bytes) × Appends held holds (take n bytes))
-Answered (Refused e) bytes held holds = AreNoDocument bytes
+-- the error tells of the bytes
+Answered (Refused e) bytes held holds = AreNoDocument bytes × Tells bytes e
 Answered NotUtf8 bytes held holds = IsUtf8 bytes → ⊥
 Answered Memory bytes held holds = Unit {0}
 -- `get` alone answers NoValue

@@ -1,6 +1,6 @@
 //! The tool itself, over any reader and any writer.
 ghost use Rattle.std.specs.Prelude.{◌≡◌, ◌↔◌, ◌||◌, true, IsTrue, IfOk, OnOk, ◌≤◌, length, map, take, flat_map, decimal, string_bytes};
-ghost use Rattle.kdl_text.specs.Failures.{IsSyntax};
+ghost use Rattle.kdl_text.specs.Failures.{IsSyntax, TellsOnSyntax};
 ghost use Rattle.kdl_tool.specs.Runs.{IsCat, IsUsage, IsInput, Ran, WritesNothing, Marked, Answered, AreDocument, AreNoDocument, IsDone, is_read_failed, is_write_failed, is_unread_failed};
 ghost use Rattle.kdl_tool.specs.Reports.{status_of, report_of, line, diagnostic_line, lines_of};
 ghost use Rattle.kdl_tool.specs.Writing.{Writes};
@@ -134,6 +134,7 @@ fn printed(alloc: Global, text: &str) -> Result<String, ParseFailure>
     ensures document { OnOk result (AreDocument text.now) }
     ensures same { IfOk result (λ output. string_bytes output ≡ text.now) }
     ensures refused { IsSyntax result → AreNoDocument text.now }
+    ensures told { TellsOnSyntax text.now result }
 {
     let document = KdlDocument::parse(alloc, text)?;
     let output = document.to_string(alloc)?;

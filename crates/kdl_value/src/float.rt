@@ -20,7 +20,7 @@ pub struct KdlFloat {
 }
 
 impl KdlFloat {
-    ghost use Rattle.kdl_value.specs.Tree.{float_text_of, text_of};
+    ghost use Rattle.kdl_value.specs.Tree.{float_text_of};
 
     /// A float with a copy of the text: a decimal without `_`, or one of `#inf`, `#-inf` and `#nan`.
     /// Any other text is `NotAFloat`; `Memory` where a request for memory was refused.
@@ -38,20 +38,20 @@ impl KdlFloat {
         }
     }
 
-    /// A float as it was read: its text, which is a float's.
-    pub fn parsed(text: String) -> KdlFloat
-        requires { FloatText (text_of text) }
-        ensures { float_text_of result ≡ text_of text }
-    {
-        KdlFloat { text }
-    }
-
     /// The text.
     pub fn as_str(&self) -> &str
         ensures { chars result.now ≡ float_text_of self.now }
     {
         self.text.as_str()
     }
+}
+
+/// A float as it was read: its text, which is a float's.
+pub fn parsed_float(text: String) -> KdlFloat
+    requires { FloatText (chars (string_bytes text)) }
+    ensures { chars (string_bytes result.text) ≡ chars (string_bytes text) }
+{
+    KdlFloat { text }
 }
 
 impl Clone for KdlFloat {

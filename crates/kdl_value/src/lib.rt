@@ -6,7 +6,7 @@ mod print;
 mod spelled;
 mod value;
 
-pub use float::KdlFloat;
+pub use float::{KdlFloat, parsed_float};
 pub use print::{write_char, write_text};
 pub use spelled::write_spelled;
 pub use value::KdlValue;

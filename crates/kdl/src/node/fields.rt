@@ -14,7 +14,7 @@ ghost use Rattle.std.specs.Prelude.{◌≡◌, IfNone, IfOk, IfSome, None, Some,
 
 use crate::document::KdlDocument;
 use crate::node::KdlNode;
-use kdl_entry::KdlIdentifier;
+use kdl_entry::{KdlIdentifier, identifier_allocator};
 use kdl_parts::KdlNodeFormat;
 use kdl_parts::format::new_format;
 use kdl_text::span::SourceSpan;
@@ -31,7 +31,7 @@ impl KdlNode {
     pub fn new(name: KdlIdentifier) -> Result<KdlNode, AllocError>
         ensures { IfOk result (λ n. node_tree n ≡ new_node (identifier_tree name)) }
     {
-        let alloc = *name.allocator();
+        let alloc = *identifier_allocator(&name);
         let format = new_format(alloc)?;
         Ok(KdlNode {
             ty: None,

@@ -4,7 +4,7 @@ ghost use Rattle.kdl.specs.Lookups.{entry_there, key_place, property_place, valu
 ghost use Rattle.kdl_parts.specs.declared.key.NodeKey.TheVariants.{Index as at_index};
 ghost use Rattle.kdl_value.specs.Tree.{or_null, value_tree};
 ghost use Rattle.std.specs.Borrow.{Lends, LendsIf, LendsSoOk, sem};
-ghost use Rattle.std.specs.Prelude.{◌≡◌, IfOk, IsSome, Some, is_some, option_map};
+ghost use Rattle.std.specs.Prelude.{◌≡◌, IfOk, IsNone, IsOk, IsSome, OnErr, Some, is_some, option_map};
 
 use crate::node::KdlNode;
 use kdl_entry::{KdlEntry, KdlValue};
@@ -91,7 +91,8 @@ impl KdlNode {
     }
 
     /// The value of the last property of that name, to be changed in place; a property of that name with the value null
-    /// is pushed first where there is none. Fails where memory for it is wanting: then the entries are as they were.
+    /// is pushed first where there is none. Fails where memory for it is wanting: then the entries are as they were. What
+    /// is there is lent without memory.
     ///
     /// ```
     /// let mut node = KdlNode::parse(alloc, "a")?;
@@ -100,6 +101,8 @@ impl KdlNode {
     pub fn get_or_null_mut(&mut self, name: &str) -> Result<&mut KdlValue, AllocError>
         ensures* writes_back { sem 𝓛 (LendsSoOk the_row value_row self.entry result (λ n w. HasWritten (property_place name.now self.old) name.now self.old w n) (λ n. HasSameEntries self.old n)) }
         ensures value { IfOk result (λ v. value_tree v.now ≡ or_null (value_there (property_place name.now self.old) self.old)) }
+        ensures answers { IsSome (property_place name.now self.old) → IsOk result }
+        ensures missing { OnErr result (IsNone (property_place name.now self.old)) }
     {
         let at = lookup::property_or_null(&mut self.entries, name)?;
         Ok(value_at_mut(&mut self.entries, at))

@@ -16,7 +16,7 @@ use super::item::{Given, Item, empty, entry_from, misplaced, text_between};
 use super::lexer::{LexFailure, Lexer, Token, TokenKind};
 use super::refusal::failure;
 use crate::entry::KdlEntry;
-use crate::identifier::KdlIdentifier;
+use crate::identifier::{KdlIdentifier, parsed_identifier};
 use kdl_text::chars::{Checkpoint, Steps};
 use kdl_text::error::ParseFailure;
 use kdl_text::span::SourceSpan;
@@ -302,7 +302,7 @@ fn at_pending<'a>(
                 repr,
                 span,
             } = word;
-            let name = KdlIdentifier::parsed(value, repr, span);
+            let name = parsed_identifier(value, repr, span);
             Ok(State::Under(keyed(alloc, whole, true, leading, name, before, end)))
         }
         _ => Err(LexFailure::Faulty(misplaced(start))),

@@ -15,7 +15,7 @@ ghost use Rattle.std.specs.Prelude.{◌≡◌, if◌then◌else◌, [], Some, No
 
 use super::lexer::{Fault, FaultKind, LexFailure, Lexer, TokenKind};
 use crate::entry::{KdlEntry, KdlEntryFormat};
-use crate::identifier::KdlIdentifier;
+use crate::identifier::{KdlIdentifier, parsed_identifier};
 use kdl_text::chars::Checkpoint;
 use kdl_text::span::SourceSpan;
 use kdl_value::KdlValue;
@@ -126,7 +126,7 @@ pub fn identifier_between<'a>(
 {
     let repr = text_between(alloc, lexer, start, end)?;
     let span = span_at(whole, start, end);
-    Ok(KdlIdentifier::parsed(value, repr, span))
+    Ok(parsed_identifier(value, repr, span))
 }
 
 /// An empty text, which takes no memory.

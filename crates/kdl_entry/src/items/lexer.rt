@@ -26,7 +26,7 @@ use kdl_text::numbers::{
 use kdl_text::span::SourceSpan;
 use kdl_text::strings::{StringFailure, StringFault, bare_string, quoted_string, raw_string};
 use kdl_text::trivia::{SlashRead, TriviaFault, escline, slash};
-use kdl_value::{KdlFloat, KdlValue};
+use kdl_value::{KdlValue, parsed_float};
 use std::alloc::{AllocError, AllocFailed, Global};
 use std::marker::Model;
 
@@ -204,7 +204,7 @@ fn float_of(alloc: Global, text: &str) -> Result<KdlValue, AllocError>
     requires { FloatText (chars text.now) }
     ensures { IfOk result (λ v. value_tree v ≡ data'.float (chars text.now)) }
 {
-    Ok(KdlValue::Float(KdlFloat::parsed(String::from_str(alloc, text)?)))
+    Ok(KdlValue::Float(parsed_float(String::from_str(alloc, text)?)))
 }
 
 /// The value of a keyword.
@@ -278,7 +278,7 @@ fn number_token(
 {
     match read_number(alloc, cursor) {
         Ok(Number::Integer(n)) => Ok(TokenKind::Value(KdlValue::Integer(n))),
-        Ok(Number::Decimal(text)) => Ok(TokenKind::Value(KdlValue::Float(KdlFloat::parsed(text)))),
+        Ok(Number::Decimal(text)) => Ok(TokenKind::Value(KdlValue::Float(parsed_float(text)))),
         Err(NumberFailure::Fault(fault)) => Err(LexFailure::Faulty(fault_at(
             start,
             FaultKind::Number(fault),

@@ -25,7 +25,7 @@ use super::{Builder, Frame, Phase, Slot, Under, Waiting, WaitingWord};
 use crate::parts::ParsedNode;
 use kdl_entry::items::item::{Given, empty, identifier_between, misplaced, span_at, text_between};
 use kdl_entry::items::{LexFailure, Lexer, TokenKind};
-use kdl_entry::{KdlIdentifier, KdlValue};
+use kdl_entry::{KdlIdentifier, KdlValue, parsed_identifier};
 use kdl_text::chars::Checkpoint;
 use std::alloc::{AllocError, Global};
 use std::mem;
@@ -391,7 +391,7 @@ impl<'a, N: ParsedNode> Builder<'a, N> {
                     repr,
                 } = word;
                 let span = span_at(&self.whole, &word_start, &self.from);
-                let name = KdlIdentifier::parsed(value, repr, span);
+                let name = parsed_identifier(value, repr, span);
                 self.item
                     .open_keyed(true, leading, &word_start, name, before, end);
                 self.phase = Phase::InItem;

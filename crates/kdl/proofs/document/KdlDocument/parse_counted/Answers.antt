@@ -1,6 +1,9 @@
 use Rattle.std.specs.Str.{chars}
-use Rattle.kdl.proofs.Readings.{former, edited}
+use Rattle.kdl.proofs.Readings.{kept, former, edited}
 use Rattle.kdl.proofs.document.KdlDocument.parse_counted.Goals as goal
+
+pub returns-clause-kept : goal.returns-clause-kept
+returns-clause-kept c x i s = kept (chars c.args.text.now) x (c.read.ensures.refused s) i
 
 pub returns-clause-former : goal.returns-clause-former
 returns-clause-former c x i = former (chars c.args.text.now) c.read.result x c.read.ensures.answers i

@@ -1,6 +1,9 @@
 use Rattle.std.specs.Str.{chars}
-use Rattle.kdl.proofs.Readings.{node_former}
+use Rattle.kdl.proofs.Readings.{node_kept, node_former}
 use Rattle.kdl.proofs.node.KdlNode.parse.Goals as goal
+
+pub returns-clause-kept : goal.returns-clause-kept
+returns-clause-kept c x i s = node_kept (chars c.args.text.now) x (c.read_node.ensures.refused s) i
 
 pub returns-clause-former : goal.returns-clause-former
 returns-clause-former c x i = node_former (chars c.args.text.now) c.read_node.result x c.read_node.ensures.laid i

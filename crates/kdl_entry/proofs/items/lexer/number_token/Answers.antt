@@ -1,8 +1,8 @@
 use Rattle.kdl_entry.proofs.Handing.{integer_here, decimal_float, decimal_here, no_number_here, number_costs}
 use Rattle.kdl_entry.proofs.items.lexer.number_token.Goals as goal
 
-pub parsed-requires : goal.parsed-requires
-parsed-requires c = decimal_float _ c.read_number.new.cursor.rest c.in-Ok-Decimal.text (rw c.in-Ok-Decimal.field-0-is at c.in-Ok-Decimal.ensures.reads)
+pub parsed_float-requires : goal.parsed_float-requires
+parsed_float-requires c = decimal_float _ c.read_number.new.cursor.rest c.in-Ok-Decimal.text (rw c.in-Ok-Decimal.field-0-is at c.in-Ok-Decimal.ensures.reads)
 
 pub returns-in-Ok-Integer-clause-read : goal.returns-in-Ok-Integer-clause-read
 returns-in-Ok-Integer-clause-read c = integer_here _ _ c.in-Ok-Integer.n (rw c.in-Ok-Integer.field-0-is at c.in-Ok-Integer.ensures.reads)
@@ -11,7 +11,7 @@ pub returns-in-Ok-Integer-clause-costs : goal.returns-in-Ok-Integer-clause-costs
 returns-in-Ok-Integer-clause-costs c = number_costs c.in-Ok-Integer.field-0 _ _ c.in-Ok-Integer.ensures.reads c.in-Ok-Integer.ensures.moves c.in-Ok-Integer.ensures.costs
 
 pub returns-in-Ok-Decimal-clause-read : goal.returns-in-Ok-Decimal-clause-read
-returns-in-Ok-Decimal-clause-read c = decimal_here _ _ _ c.in-Ok-Decimal.text (rw c.in-Ok-Decimal.field-0-is at c.in-Ok-Decimal.ensures.reads) c.parsed.ensures
+returns-in-Ok-Decimal-clause-read c = decimal_here _ _ _ c.in-Ok-Decimal.text (rw c.in-Ok-Decimal.field-0-is at c.in-Ok-Decimal.ensures.reads) c.parsed_float.ensures
 
 pub returns-in-Ok-Decimal-clause-costs : goal.returns-in-Ok-Decimal-clause-costs
 returns-in-Ok-Decimal-clause-costs c = number_costs c.in-Ok-Decimal.field-0 _ _ c.in-Ok-Decimal.ensures.reads c.in-Ok-Decimal.ensures.moves c.in-Ok-Decimal.ensures.costs
