@@ -15,6 +15,7 @@ use Rattle.kdl_entry.specs.Tokens.{space, newline, slashdash as a_slashdash, str
 use Rattle.kdl_entry.specs.Tree.{Identifier, Entry, entry_data, plain_identifier}
 use Rattle.kdl_entry.proofs.EntryEnds.{end_spaces, end_lines, end_some, end_slashdash, end_string, end_plain, end_entry}
 use Rattle.kdl_entry.proofs.Placing.{place}
+pub mod OneLaid
 
 module _ (whole : Text) where
   stay : (out : Entry) → {s r : Text} (st : State) → ((s r : Text) → step whole st space s r ≡ Some st) → Star NodeSpace s r → Runs whole out st r → Runs whole out st s

@@ -24,6 +24,14 @@ LaidIdentifierIsDerived = (exact : Bool) (t : Text) (i : Identifier) → LaidIde
 abbrev pub LaidEntryIsDerived : Type 0
 LaidEntryIsDerived = (exact : Bool) (t : Text) (e : Entry) → LaidEntryText exact t e → IsEntryText true t (entry_data e) × (print_entry e ≡ t)
 
+-- at most one identifier is laid as a whole text with its span
+abbrev pub OneLaidIdentifier : Type 0
+OneLaidIdentifier = (t : Text) (i j : Identifier) → LaidIdentifierText true i t → LaidIdentifierText true j t → i ≡ j
+
+-- at most one entry is laid as a whole text with the spans of its pieces
+abbrev pub OneLaidEntry : Type 0
+OneLaidEntry = (t : Text) (d e : Entry) → LaidEntryText true t d → LaidEntryText true t e → d ≡ e
+
 -- in each text that is an identifier one is laid with its value, and so for entries
 abbrev pub TextsAreLaid : Type 0
 TextsAreLaid = ((t v : Text) → IsIdentifierText true t v → (i : Identifier) × LaidIdentifierText true i t × (i.value ≡ v)) × ((t : Text) (x : data'.Entry) → IsEntryText true t x → (e : Entry) × LaidEntryText true t e × (entry_data e ≡ x))

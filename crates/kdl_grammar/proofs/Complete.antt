@@ -25,6 +25,7 @@ use Rattle.kdl_grammar.specs.Tree.{Node, node, Children, no_children, children, 
 use Rattle.kdl_entry.specs.Items.{between, TypeParts, KeyParts, type_of, before_name, after_name, behind_type, key_of, identifier_at, entry_at}
 use Rattle.kdl_grammar.specs.Machine.{Under, Kept, Slot, no_name, for_name, no_value, for_value, Pending, pending, Spot, fresh, spaced, later, gap, marked, type_open, type_name, type_done, in_node, property, entry_mark, block_mark, kept, kept_mark, Frame, in_block, in_dropped, in_later, State, at, origin, moved, entry_slot, keyed, with_entry, filled, node_at, closed, closed_kept, ended, inside, content_at, spaced_of, mark_of, given, worded, typed, step, finish, initial, Runs, stops, reads, Answers}
 use Rattle.kdl_grammar.proofs.Ends.{end_terminator, end_gap, end_dropped_block}
+pub mod OneLaid
 
 pub runs_det : {whole : Text} {x y : Document} {st : State} {s : Text} → Runs whole x st s → Runs whole y st s → x ≡ y
 runs_det (stops e) (stops f) = cc

@@ -35,6 +35,14 @@ AnswersDocuments = (t : Text) (x : data'.Nodes) → IsDocument true t x ↔ ((d 
 abbrev pub AnswersAreLaid : Type 0
 AnswersAreLaid = (t : Text) (d : Document) → Answers t d → LaidDocument true d t
 
+-- at most one document is laid in a text with the spans of its pieces
+abbrev pub OneLaidDocument : Type 0
+OneLaidDocument = (t : Text) (d e : Document) → LaidDocument true d t → LaidDocument true e t → d ≡ e
+
+-- at most one node is laid as a whole text with the spans of its pieces
+abbrev pub OneLaidNode : Type 0
+OneLaidNode = (t : Text) (x y : Node) → LaidNodeText true t x → LaidNodeText true t y → x ≡ y
+
 -- where a document is laid, the text is a document with its data, and it is what is printed
 abbrev pub LaidIsDerived : Type 0
 LaidIsDerived = (exact : Bool) (t : Text) (d : Document) → LaidDocument exact d t → IsDocument true t (document_data d) × (print_document d 0 ≡ t)

@@ -1,6 +1,6 @@
 //! What is proved of the written grammar of documents and nodes.
 
-ghost use Rattle.kdl_grammar.specs.Laws.{OneDocument, OneNode, IsLexed, OneAnswer, AnswersDocuments, AnswersAreLaid, LaidIsDerived, LaidNodeIsDerived, NodesAreLaid, FormerIsKept, ReadsBack, EditedIsLaid};
+ghost use Rattle.kdl_grammar.specs.Laws.{OneDocument, OneNode, IsLexed, OneAnswer, AnswersDocuments, AnswersAreLaid, OneLaidDocument, OneLaidNode, LaidIsDerived, LaidNodeIsDerived, NodesAreLaid, FormerIsKept, ReadsBack, EditedIsLaid};
 
 /// No text can be read as two documents.
 #[tactic(auto, using(crate::proofs::LawProofs::one_document))]
@@ -36,6 +36,18 @@ pub fn answers()
 #[tactic(auto, using(crate::proofs::LawProofs::answers_are_laid))]
 pub fn answers_are_laid()
     ensures { AnswersAreLaid }
+{}
+
+/// At most one document is laid in a text with the spans of its pieces.
+#[tactic(auto, using(crate::proofs::Complete::OneLaid::one_laid_document))]
+pub fn one_laid_document()
+    ensures { OneLaidDocument }
+{}
+
+/// At most one node is laid as a whole text with the spans of its pieces.
+#[tactic(auto, using(crate::proofs::Complete::OneLaid::one_laid_node))]
+pub fn one_laid_node()
+    ensures { OneLaidNode }
 {}
 
 /// Where a document is laid in a text, the text is a document with its data, and it is what the document prints.
