@@ -1,7 +1,7 @@
 //! What `==` and hashes of identifiers and entries mean, that printed entries read back, and the laws of the written
 //! grammar of both.
 
-ghost use Rattle.kdl_entry.specs.Laws.{OneIdentifier, OneEntry, LaidIdentifierIsDerived, LaidEntryIsDerived, TextsAreLaid, OneEntryAnswer, EntryAnswers};
+ghost use Rattle.kdl_entry.specs.Laws.{OneIdentifier, OneEntry, OneLaidIdentifier, OneLaidEntry, LaidIdentifierIsDerived, LaidEntryIsDerived, TextsAreLaid, OneEntryAnswer, EntryAnswers};
 ghost use Rattle.kdl_entry.specs.Formless.{IsFormless, FormlessReadsBack};
 ghost use Rattle.kdl_entry.specs.Tree.{identifier_tree, entry_tree, entry_format_tree, cleared, without_span, without_spans};
 ghost use Rattle.std.specs.Prelude.{◌≡◌, IsTrue, ◌↔◌, fold};
@@ -101,6 +101,18 @@ pub fn laid_identifier_is_derived()
 #[tactic(auto, using(kdl_entry::proofs::TextLaws::laid_entry_is_derived))]
 pub fn laid_entry_is_derived()
     ensures { LaidEntryIsDerived }
+{}
+
+/// At most one identifier is laid as a whole text with its span.
+#[tactic(auto, using(kdl_entry::proofs::EntryComplete::OneLaid::one_laid_identifier))]
+pub fn one_laid_identifier()
+    ensures { OneLaidIdentifier }
+{}
+
+/// At most one entry is laid as a whole text with the spans of its pieces.
+#[tactic(auto, using(kdl_entry::proofs::EntryComplete::OneLaid::one_laid_entry))]
+pub fn one_laid_entry()
+    ensures { OneLaidEntry }
 {}
 
 /// In each text that is an identifier or an entry, one is laid with its data.

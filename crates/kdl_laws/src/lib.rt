@@ -12,6 +12,6 @@ pub mod values;
 
 pub use kdl_grammar::laws::{
     answers, answers_are_laid, edited_is_laid, former_is_kept, laid_is_derived,
-    laid_node_is_derived, lexed, nodes_are_laid, one_answer, reads_back, unambiguous,
-    unambiguous_node,
+    laid_node_is_derived, lexed, nodes_are_laid, one_answer, one_laid_document, one_laid_node,
+    reads_back, unambiguous, unambiguous_node,
 };
