@@ -1,0 +1,52 @@
+//! What holds of every text: what is accepted prints it, and what is refused tells where.
+
+use crate::fault::{Fault, wrong};
+use crate::notation::encoded;
+use kdl::{KdlDiagnostic, KdlDocument, KdlError, ParseFailure};
+use std::alloc::Global;
+use std::fmt::Display;
+
+/// The item prints the text.
+pub fn prints(alloc: Global, item: &impl Display, text: &str) -> Result<(), Fault> {
+    let printed = item.to_string(alloc)?;
+    if printed.as_str() == text {
+        return Ok(());
+    }
+    let text = encoded(alloc, text)?;
+    let printed = encoded(alloc, &printed)?;
+    Err(wrong(format!(in alloc; "{text}: prints {printed}")))
+}
+
+/// The error has the text, and a diagnostic at least, each with the text and a span in it on character boundaries.
+pub fn tells(alloc: Global, error: &KdlError, text: &str) -> Result<(), Fault> {
+    let is_told = error.input.as_str() == text
+        && !error.diagnostics.is_empty()
+        && error.diagnostics.iter().all(|told| is_inside(told, text));
+    if is_told {
+        return Ok(());
+    }
+    let text = encoded(alloc, text)?;
+    Err(wrong(format!(in alloc; "{text}: refused without a place in it")))
+}
+
+/// The diagnostic has the text, and a span in it on character boundaries.
+fn is_inside(diagnostic: &KdlDiagnostic, text: &str) -> bool {
+    let start = diagnostic.span.offset;
+    let end = start.saturating_add(diagnostic.span.len);
+    diagnostic.input.as_str() == text && text.is_char_boundary(start) && text.is_char_boundary(end)
+}
+
+/// Whether the text is a document. One that is read prints the text, one that is refused tells where.
+pub fn is_read(alloc: Global, text: &str) -> Result<bool, Fault> {
+    match KdlDocument::parse(alloc, text) {
+        Ok(document) => {
+            prints(alloc, &document, text)?;
+            Ok(true)
+        }
+        Err(ParseFailure::Syntax(error)) => {
+            tells(alloc, &error, text)?;
+            Ok(false)
+        }
+        Err(ParseFailure::Memory) => Err(Fault::Memory),
+    }
+}
