@@ -1,5 +1,5 @@
 -- What a document, or a node, that was read says of the grammar.
-use Rattle.std.proofs.Common.{◌≡◌, true, Result, Ok, Err, IfOk}
+use Rattle.std.proofs.Common.{◌≡◌, true, false, Result, Ok, Err, IfOk}
 use Rattle.kdl_text.specs.Chars.{Text}
 use Rattle.kdl_text.specs.declared.error.ParseFailure.{ParseFailure}
 use Rattle.kdl_grammar.specs.Data as data'

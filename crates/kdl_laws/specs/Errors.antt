@@ -1,5 +1,5 @@
 -- Errors with every text as its bytes, every span, and nothing of how memory holds them.
-use Rattle.std.specs.Prelude.{ℕ, List, Option, Some, None, map, option_map, string_bytes}
+use Rattle.std.specs.Prelude.{ℕ, List, Option, map, option_map, string_bytes}
 use Rattle.std.specs.Rc.{rc_str_bytes}
 use Rattle.kdl_text.specs.declared.error.KdlDiagnostic.{KdlDiagnostic}
 use Rattle.kdl_text.specs.declared.error.KdlError.{KdlError}
