@@ -64,7 +64,7 @@ fn read<N: ParsedNode>(
 }
 
 /// The document that the text is (KDL 2.0.0, Document), which raises the count by the steps that it takes, up to the
-/// greatest `u64`. Each text that the document keeps, but for the values of its strings and numbers, is sliced once;
+/// greatest `u64`. Each place and each spelling that the document keeps is sliced once, but for a U+FEFF, which is not;
 /// values are decoded by the lexer, which slices what it needs for that, of what counts for nothing too. `Syntax`: the
 /// text is none; its error has one diagnostic, at the first token that fits nothing or the first piece that is none.
 /// `Memory`: a request for memory was refused.
