@@ -27,7 +27,7 @@ use Rattle.kdl_laws.specs.Errors.{diagnostic_tree, error_tree, failure_tree}
 
 pub span_decides : (s t : SourceSpan) → Decides (span_impl.ghosts.eq s t) (s ≡ t)
 span_decides s t =
-    Decides-like _ (λ (offset, len). cc) (λ e. (ap (λ x. x.offset) e, ap (λ x. x.len) e))
+    Decides-like _ (λ (offset, len). λ i. record { offset = offset i; len = len i }) (λ e. (ap (λ x. x.offset) e, ap (λ x. x.len) e))
     (Decides-and _ _ (Decides-eqb s.offset t.offset) (Decides-eqb s.len t.len))
 
 pub severity_decides : (s t : Severity) → Decides (severity_impl.ghosts.eq s t) (s ≡ t)

@@ -1,3 +1,4 @@
 pub mod Equality
+pub mod ErrorClones
 pub mod ErrorEquality
 pub mod KeyEquality
