@@ -153,12 +153,23 @@ fn check_string(case: &Case<'_>) -> Result<(), Fault> {
     prints(alloc, &name, &printed)?;
     let mut dump = case.accepted()?;
     dump.text("", "prints", &printed)?;
-    match KdlIdentifier::parse(alloc, &printed) {
-        Ok(identifier) if identifier.value() == case.text => compare(case, &dump),
-        Ok(_) => Err(wrong(format!(in alloc; "{printed} is another string"))),
-        Err(ParseFailure::Memory) => Err(Fault::Memory),
-        Err(ParseFailure::Syntax(_)) => Err(wrong(format!(in alloc; "{printed} is refused"))),
+    reads_back(case, &printed)?;
+    compare(case, &dump)
+}
+
+/// What was printed is an identifier, and its value is the text.
+fn reads_back(case: &Case<'_>, printed: &str) -> Result<(), Fault> {
+    let identifier = match KdlIdentifier::parse(case.alloc, printed) {
+        Ok(identifier) => identifier,
+        Err(ParseFailure::Memory) => return Err(Fault::Memory),
+        Err(ParseFailure::Syntax(_)) => {
+            return Err(wrong(format!(in case.alloc; "{printed} is refused")));
+        }
+    };
+    if identifier.value() == case.text {
+        return Ok(());
     }
+    Err(wrong(format!(in case.alloc; "{printed} is another string")))
 }
 
 /// Tries the text as a refused one.

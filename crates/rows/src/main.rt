@@ -16,7 +16,7 @@ mod reading;
 mod row;
 
 use fault::Fault;
-use file::blocks;
+use file::{Block, blocks};
 use row::Row;
 use std::process::ExitCode;
 use std::{env, fs, io};
@@ -67,11 +67,11 @@ fn tell(
 fn run_block(
     rt: &HostRuntime,
     place: Place<'_>,
-    lines: &[&str],
-    shared: &[&str],
+    block: &Block<'_>,
+    section: Option<&Block<'_>>,
     counts: &mut Counts,
 ) -> io::Result<()> {
-    let row = match Row::of(rt.alloc(), lines, shared) {
+    let row = match Row::of(rt.alloc(), block, section) {
         Ok(row) => row,
         Err(fault) => return tell(rt, place, Err(fault), counts),
     };
@@ -86,17 +86,17 @@ fn run_file(rt: &HostRuntime, name: &str, is_wrong: bool, counts: &mut Counts) -
     let alloc = rt.alloc();
     let text = fs::read_to_string(rt, name)?;
     let blocks = blocks(alloc, &text)?;
-    let mut shared: &[&str] = &[];
+    let mut section = None;
     for block in &blocks {
         if block.is_section() {
-            shared = block.lines.get(1..).unwrap_or(&[]);
+            section = Some(block);
         } else {
             let place = Place {
                 name,
                 number: block.number,
                 is_wrong,
             };
-            run_block(rt, place, &block.lines, shared, counts)?;
+            run_block(rt, place, block, section, counts)?;
         }
     }
     Ok(())

@@ -3,6 +3,7 @@
 use crate::checks::{Case, check};
 use crate::dump::Field;
 use crate::fault::{Fault, wrong};
+use crate::file::Block;
 use crate::members::Members;
 use crate::notation::{Fills, decoded};
 use std::alloc::{AllocError, Global};
@@ -76,8 +77,12 @@ pub struct Row<'a> {
 }
 
 impl<'a> Row<'a> {
-    /// A row of these lines and of those that its section shares.
-    pub fn of(alloc: Global, lines: &[&'a str], shared: &[&'a str]) -> Result<Row<'a>, Fault> {
+    /// The row of a block, with the lines that its section shares.
+    pub fn of(
+        alloc: Global,
+        block: &Block<'a>,
+        section: Option<&Block<'a>>,
+    ) -> Result<Row<'a>, Fault> {
         let mut row = Row {
             alloc,
             texts: Vec::new(alloc),
@@ -86,11 +91,13 @@ impl<'a> Row<'a> {
             within: Vec::new(alloc),
             wanted: Vec::new(alloc),
         };
-        for line in lines {
+        for line in &block.lines {
             row.add(line)?;
         }
-        for line in shared {
-            row.add(line)?;
+        if let Some(section) = section {
+            for line in section.lines.iter().skip(1) {
+                row.add(line)?;
+            }
         }
         row.is_whole()?;
         Ok(row)
