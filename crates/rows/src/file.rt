@@ -8,14 +8,20 @@ use std::mem;
 pub struct Block<'a> {
     /// The number of the first line.
     pub number: usize,
+    /// The place of its section among the blocks, or none of theirs.
+    pub section: usize,
     pub lines: Vec<&'a str>,
 }
 
+/// The place of no block.
+const NOWHERE: usize = usize::MAX;
+
 impl<'a> Block<'a> {
     /// A block without lines.
-    fn new(alloc: Global) -> Block<'a> {
+    fn new(alloc: Global, section: usize) -> Block<'a> {
         Block {
             number: 0,
+            section,
             lines: Vec::new(alloc),
         }
     }
@@ -29,15 +35,13 @@ impl<'a> Block<'a> {
     }
 }
 
-/// The blocks of a file. A line that begins with `#` is none of them.
+/// The blocks of a file. A line that begins with `#` is in none of them.
 pub fn blocks<'a>(alloc: Global, text: &'a str) -> Result<Vec<Block<'a>>, AllocError> {
     let mut blocks = Vec::new(alloc);
-    let mut block = Block::new(alloc);
+    let mut block = Block::new(alloc, NOWHERE);
     for (index, line) in text.lines().enumerate() {
         if line.is_empty() {
-            if !block.lines.is_empty() {
-                blocks.push(mem::replace(&mut block, Block::new(alloc)))?;
-            }
+            end_block(alloc, &mut blocks, &mut block)?;
         } else if !line.starts_with('#') {
             if block.lines.is_empty() {
                 block.number = index.saturating_add(1);
@@ -45,8 +49,24 @@ pub fn blocks<'a>(alloc: Global, text: &'a str) -> Result<Vec<Block<'a>>, AllocE
             block.lines.push(line)?;
         }
     }
-    if !block.lines.is_empty() {
-        blocks.push(block)?;
-    }
+    end_block(alloc, &mut blocks, &mut block)?;
     Ok(blocks)
+}
+
+/// Puts the block behind the others, where it has lines, and begins another.
+fn end_block<'a>(
+    alloc: Global,
+    blocks: &mut Vec<Block<'a>>,
+    block: &mut Block<'a>,
+) -> Result<(), AllocError> {
+    if block.lines.is_empty() {
+        return Ok(());
+    }
+    let section = if block.is_section() {
+        blocks.len()
+    } else {
+        block.section
+    };
+    blocks.push(mem::replace(block, Block::new(alloc, section)))?;
+    Ok(())
 }

@@ -86,17 +86,14 @@ fn run_file(rt: &HostRuntime, name: &str, is_wrong: bool, counts: &mut Counts) -
     let alloc = rt.alloc();
     let text = fs::read_to_string(rt, name)?;
     let blocks = blocks(alloc, &text)?;
-    let mut section = None;
     for block in &blocks {
-        if block.is_section() {
-            section = Some(block);
-        } else {
+        if !block.is_section() {
             let place = Place {
                 name,
                 number: block.number,
                 is_wrong,
             };
-            run_block(rt, place, block, section, counts)?;
+            run_block(rt, place, block, blocks.get(block.section), counts)?;
         }
     }
     Ok(())
