@@ -51,44 +51,33 @@ fn ordered_values(rt: HostRuntime) {
     assert_eq!(rt; b.cmp(&string(&rt, alloc, "ab")), Ordering::Greater);
 }
 
-/// How many of the values are of a kind.
-fn count(values: &[KdlValue], is_so: impl Fn(&KdlValue) -> bool) -> usize {
-    let mut count = 0usize;
-    for value in values {
-        if is_so(value) {
-            count = count.saturating_add(1);
-        }
+/// One string, two whole numbers and two floats come first.
+fn check_first_kinds(rt: &impl Abort, values: &[KdlValue]) {
+    for (index, value) in values.iter().enumerate() {
+        assert_eq!(rt; value.is_string(), index == 0);
+        assert_eq!(rt; value.is_integer(), index == 1 || index == 2);
+        assert_eq!(rt; value.is_float(), index == 3 || index == 4);
+        assert_eq!(rt; value.as_string() == Some("b"), index == 0);
+        assert_eq!(rt; value.as_integer() == Some(3), index == 2);
+        assert_eq!(rt; value.as_float().is_some(), index == 3 || index == 4);
     }
-    count
 }
 
-fn check_kinds(rt: &impl Abort, values: &[KdlValue]) {
-    equal(rt, &count(values, |value| value.is_string()), &1);
-    equal(rt, &count(values, |value| value.is_integer()), &2);
-    equal(rt, &count(values, |value| value.is_float()), &2);
-    equal(rt, &count(values, |value| value.is_bool()), &2);
-    equal(rt, &count(values, |value| value.is_null()), &1);
-    equal(
-        rt,
-        &count(values, |value| value.as_string() == Some("b")),
-        &1,
-    );
-    equal(
-        rt,
-        &count(values, |value| value.as_integer() == Some(3)),
-        &1,
-    );
-    equal(rt, &count(values, |value| value.as_float().is_some()), &2);
-    equal(
-        rt,
-        &count(values, |value| value.as_bool() == Some(true)),
-        &1,
-    );
+/// Two truth values and null follow.
+fn check_last_kinds(rt: &impl Abort, values: &[KdlValue]) {
+    for (index, value) in values.iter().enumerate() {
+        assert_eq!(rt; value.is_bool(), index == 5 || index == 6);
+        assert_eq!(rt; value.as_bool() == Some(true), index == 6);
+        assert_eq!(rt; value.is_null(), index == 7);
+    }
 }
 
 #[test]
 fn kinds_of_values(rt: HostRuntime) {
-    check_kinds(&rt, ascending(&rt, rt.alloc()).as_slice());
+    let values = ascending(&rt, rt.alloc());
+    check_first_kinds(&rt, values.as_slice());
+    check_last_kinds(&rt, values.as_slice());
+    drop(values);
 }
 
 fn check_identifiers(rt: &impl Abort, alloc: Global, name: &mut KdlIdentifier) {
