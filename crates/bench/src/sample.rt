@@ -41,28 +41,3 @@ fn limits(alloc: Global, number: usize) -> Result<String, AllocError> {
         "    limits {{\n        connections 1_024; timeout-ms {number} /* at most */\n        load 0.75\n    }}\n    /-debug {{ trace #false; }}\n    labels primary eu-west \"two words\" \\\n        #\"C:\\data\"# #null\n"
     )
 }
-
-#[cfg(test)]
-mod tests {
-    use super::service;
-    use kdl::KdlDocument;
-    use std::test::Fail;
-
-    #[test]
-    fn a_service_is_a_node_with_a_block(rt: HostRuntime) -> Result<(), Fail> {
-        let document = KdlDocument::parse(rt.alloc(), &service(rt.alloc(), 7)?)?;
-        let [node] = document.nodes() else {
-            return Err(Fail::from("not one node"));
-        };
-        let children = node.children().ok_or("no block")?;
-        let [listen, certificate, route, limits, labels] = children.nodes() else {
-            return Err(Fail::from("not five nodes"));
-        };
-        assert_eq!(rt; listen.name().value(), "listen");
-        assert_eq!(rt; certificate.name().value(), "certificate");
-        assert_eq!(rt; route.name().value(), "route");
-        assert_eq!(rt; limits.name().value(), "limits");
-        assert_eq!(rt; labels.name().value(), "labels");
-        Ok(())
-    }
-}

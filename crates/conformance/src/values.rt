@@ -51,33 +51,40 @@ fn ordered_values(rt: HostRuntime) {
     assert_eq!(rt; b.cmp(&string(&rt, alloc, "ab")), Ordering::Greater);
 }
 
-/// One string, two whole numbers and two floats come first.
-fn check_first_kinds(rt: &impl Abort, values: &[KdlValue]) {
-    for (index, value) in values.iter().enumerate() {
-        assert_eq!(rt; value.is_string(), index == 0);
-        assert_eq!(rt; value.is_integer(), index == 1 || index == 2);
-        assert_eq!(rt; value.is_float(), index == 3 || index == 4);
-        assert_eq!(rt; value.as_string() == Some("b"), index == 0);
-        assert_eq!(rt; value.as_integer() == Some(3), index == 2);
-        assert_eq!(rt; value.as_float().is_some(), index == 3 || index == 4);
-    }
+/// The kinds of a value: a string, a whole number, a float, a truth value, null.
+fn kinds(value: &KdlValue) -> [bool; 5] {
+    [
+        value.is_string(),
+        value.is_integer(),
+        value.is_float(),
+        value.is_bool(),
+        value.is_null(),
+    ]
 }
 
-/// Two truth values and null follow.
-fn check_last_kinds(rt: &impl Abort, values: &[KdlValue]) {
-    for (index, value) in values.iter().enumerate() {
-        assert_eq!(rt; value.is_bool(), index == 5 || index == 6);
-        assert_eq!(rt; value.as_bool() == Some(true), index == 6);
-        assert_eq!(rt; value.is_null(), index == 7);
-    }
+/// The value is of this kind alone.
+fn is_of(rt: &impl Abort, value: &KdlValue, wanted: &[bool; 5]) {
+    equal(rt, &kinds(value), wanted);
 }
 
 #[test]
 fn kinds_of_values(rt: HostRuntime) {
-    let values = ascending(&rt, rt.alloc());
-    check_first_kinds(&rt, values.as_slice());
-    check_last_kinds(&rt, values.as_slice());
-    drop(values);
+    let text = string(&rt, rt.alloc(), "a");
+    is_of(&rt, &text, &[true, false, false, false, false]);
+    equal(&rt, &text.as_string(), &Some("a"));
+    drop(text);
+    let decimal = KdlValue::from(float(&rt, rt.alloc(), "3.0"));
+    is_of(&rt, &decimal, &[false, false, true, false, false]);
+    drop(decimal);
+    is_of(&rt, &KdlValue::from(3), &[false, true, false, false, false]);
+    is_of(
+        &rt,
+        &KdlValue::from(true),
+        &[false, false, false, true, false],
+    );
+    is_of(&rt, &KdlValue::Null, &[false, false, false, false, true]);
+    equal(&rt, &KdlValue::from(3).as_integer(), &Some(3));
+    equal(&rt, &KdlValue::from(true).as_bool(), &Some(true));
 }
 
 fn check_identifiers(rt: &impl Abort, alloc: Global, name: &mut KdlIdentifier) {

@@ -92,39 +92,60 @@ fn check_document(case: &Case<'_>) -> Result<(), Fault> {
 fn check_node(case: &Case<'_>) -> Result<(), Fault> {
     match KdlNode::parse(case.alloc, case.text) {
         Ok(node) => {
-            prints(case.alloc, &node, case.text)?;
-            let mut dump = case.accepted()?;
-            dump.node(&node)?;
-            compare(case, &dump)
+            let outcome = node_is(case, &node);
+            drop(node);
+            outcome
         }
         Err(failure) => check_refused(case, failure),
     }
+}
+
+/// The node is what is expected.
+fn node_is(case: &Case<'_>, node: &KdlNode) -> Result<(), Fault> {
+    prints(case.alloc, node, case.text)?;
+    let mut dump = case.accepted()?;
+    dump.node(node)?;
+    compare(case, &dump)
 }
 
 /// Tries the text as an entry.
 fn check_entry(case: &Case<'_>) -> Result<(), Fault> {
     match KdlEntry::parse(case.alloc, case.text) {
         Ok(entry) => {
-            prints(case.alloc, &entry, case.text)?;
-            let mut dump = case.accepted()?;
-            dump.entry("", &entry)?;
-            compare(case, &dump)
+            let outcome = entry_is(case, &entry);
+            drop(entry);
+            outcome
         }
         Err(failure) => check_refused(case, failure),
     }
+}
+
+/// The entry is what is expected.
+fn entry_is(case: &Case<'_>, entry: &KdlEntry) -> Result<(), Fault> {
+    prints(case.alloc, entry, case.text)?;
+    let mut dump = case.accepted()?;
+    dump.entry("", entry)?;
+    compare(case, &dump)
 }
 
 /// Tries the text as an identifier.
 fn check_identifier(case: &Case<'_>) -> Result<(), Fault> {
     match KdlIdentifier::parse(case.alloc, case.text) {
         Ok(identifier) => {
-            prints(case.alloc, &identifier, case.text)?;
-            let mut dump = case.accepted()?;
-            dump.identifier(&identifier)?;
-            compare(case, &dump)
+            let outcome = identifier_is(case, &identifier);
+            drop(identifier);
+            outcome
         }
         Err(failure) => check_refused(case, failure),
     }
+}
+
+/// The identifier is what is expected.
+fn identifier_is(case: &Case<'_>, identifier: &KdlIdentifier) -> Result<(), Fault> {
+    prints(case.alloc, identifier, case.text)?;
+    let mut dump = case.accepted()?;
+    dump.identifier(identifier)?;
+    compare(case, &dump)
 }
 
 /// Tries the text as the text of a float.
