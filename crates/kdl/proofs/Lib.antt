@@ -1,6 +1,8 @@
 pub mod Clearing
 pub mod DocumentLookups
 pub mod EditLaws
+pub mod Laying
+pub mod Layouts
 pub mod Lookups
 pub mod Printing
 pub mod Readings

@@ -15,6 +15,7 @@ ghost use Rattle.std.specs.Str.{encode_utf8_all};
 pub mod args;
 mod fields;
 mod iter;
+mod layout;
 mod lookup;
 
 use crate::node::KdlNode;

@@ -15,6 +15,7 @@ mod clears;
 mod edit;
 mod fields;
 pub mod iter;
+mod layout;
 mod lookup;
 mod parsed;
 

@@ -1,0 +1,124 @@
+//! Layout of documents.
+
+ghost use Rattle.kdl.specs.Tree.{document_tree, nodes_tree};
+ghost use Rattle.kdl_fmt.specs.Canonical.{Canonical, canonical, canonical_text};
+ghost use Rattle.kdl_fmt.specs.Config.{IsPlain, indentation, settings, without_comments};
+ghost use Rattle.kdl_fmt.specs.Formatted.{DocumentKeepsNone, bare_document, bare_nodes, formatted_children, formatted_document, formatted_nodes};
+ghost use Rattle.kdl_fmt.specs.WellFormed.{AreWellFormed};
+ghost use Rattle.kdl_grammar.specs.Print.{print_document};
+ghost use Rattle.kdl_grammar.specs.Tree.{children, document_data, nodes_data};
+ghost use Rattle.kdl_text.specs.Chars.{is_space};
+ghost use Rattle.std.specs.List.{list_all};
+ghost use Rattle.std.specs.Prelude.{◌≡◌, IfOk, true};
+ghost use Rattle.std.specs.Str.{chars};
+
+use crate::document::KdlDocument;
+use crate::node::KdlNode;
+use kdl_fmt::FormatConfig;
+use kdl_fmt::layout::{indentation, lay_out_braces, lay_out_content};
+use std::alloc::AllocError;
+
+impl KdlDocument {
+    /// Lays out the document: each node on a line of its own, four spaces for each level, one space between the parts
+    /// of a node; a document without nodes prints one newline. Comments go, and what a slashdash drops, and spellings;
+    /// an entry that is marked to keep its form keeps the spelling of its value and the text before it. What the
+    /// document says stays, and so do the spans.
+    ///
+    /// Where no entry is marked, two documents print the same text then exactly where they say the same.
+    ///
+    /// Fails where memory is wanting: then the document says what it said, and some of it may be laid out.
+    ///
+    /// ```
+    /// let mut document = KdlDocument::parse(alloc, "a  0x10; /* b */ \"b\" { c }")?;
+    /// document.autoformat_no_comments()?; // prints `a 16`, `b {`, `    c` and `}`, each with a newline
+    /// ```
+    pub fn autoformat_no_comments(&mut self) -> Result<(), AllocError>
+        ensures data { document_data (document_tree self.new) ≡ document_data (document_tree self.old) }
+        ensures kept { bare_document (document_tree self.new) ≡ bare_document (document_tree self.old) }
+        ensures formatted { IfOk result (λ _. document_tree self.new ≡ formatted_document without_comments 0 (document_tree self.old)) }
+        ensures unmarked { IfOk result (λ _. DocumentKeepsNone (document_tree self.new)) }
+        ensures prints { IfOk result (λ _. DocumentKeepsNone (document_tree self.old) → print_document (document_tree self.new) 0 ≡ canonical_text (document_data (document_tree self.old))) }
+        ensures reads { IfOk result (λ _. Canonical without_comments.indent 0 (document_data (document_tree self.old))) }
+    {
+        let config = FormatConfig::builder().no_comments(true).build();
+        self.autoformat_config(&config)
+    }
+
+    /// Lays out the document as the configuration says. It is promised with `no_comments` alone: without it, comments
+    /// are dropped too, for now.
+    ///
+    /// Fails where memory is wanting, or where the level of a child would pass `usize`: then the document says what it
+    /// said, and some of it may be laid out.
+    ///
+    /// ```
+    /// let config = FormatConfig::builder().indent("\t").no_comments(true).build();
+    /// let mut document = KdlDocument::parse(alloc, "a { b }")?;
+    /// document.autoformat_config(&config)?; // prints `a {`, `b` behind a tabulator, and `}`
+    /// ```
+    pub fn autoformat_config(&mut self, config: &FormatConfig) -> Result<(), AllocError>
+        ensures data { document_data (document_tree self.new) ≡ document_data (document_tree self.old) }
+        ensures kept { bare_document (document_tree self.new) ≡ bare_document (document_tree self.old) }
+        ensures formatted { IfOk result (λ _. config.now.no_comments ≡ true → document_tree self.new ≡ formatted_document (settings config.now) config.now.indent_level (document_tree self.old)) }
+        ensures unmarked { IfOk result (λ _. DocumentKeepsNone (document_tree self.new)) }
+        ensures prints { IfOk result (λ _. IsPlain (settings config.now) → DocumentKeepsNone (document_tree self.old)
+            → print_document (document_tree self.new) 0 ≡ canonical (settings config.now).indent config.now.indent_level (document_data (document_tree self.old))) }
+        ensures reads { IfOk result (λ _. list_all is_space (settings config.now).indent ≡ true
+            → Canonical (settings config.now).indent config.now.indent_level (document_data (document_tree self.old))) }
+    {
+        self.lay_out(config)
+    }
+
+    /// Lays out the document at the configuration's level.
+    fn lay_out(&mut self, config: &FormatConfig) -> Result<(), AllocError>
+        ensures kept { bare_document (document_tree self.new) ≡ bare_document (document_tree self.old) }
+        ensures formatted { IfOk result (λ _. document_tree self.new ≡ formatted_document (settings config.now) config.now.indent_level (document_tree self.old)) }
+        ensures well_formed { IfOk result (λ _. AreWellFormed (document_data (document_tree self.old))) }
+    {
+        let alloc = *self.nodes.allocator();
+        lay_out_content(&mut self.format, alloc, self.nodes.is_empty())?;
+        lay_out_nodes(&mut self.nodes, config, config.indent_level)
+    }
+
+    /// Lays out the document as the children of a node at a level, between braces.
+    #[cycle(autoformat)]
+    pub(crate) fn lay_out_block(
+        &mut self,
+        config: &FormatConfig,
+        level: usize,
+        before: &str,
+    ) -> Result<(), AllocError>
+        requires { chars before.now ≡ indentation (settings config.now) level }
+        ensures kept { bare_document (document_tree self.new) ≡ bare_document (document_tree self.old) }
+        ensures formatted { IfOk result (λ _. children (document_tree self.new) ≡ formatted_children (settings config.now) level (children (document_tree self.old))) }
+        ensures well_formed { IfOk result (λ _. AreWellFormed (document_data (document_tree self.old))) }
+    {
+        let Some(inner) = level.checked_add(1) else {
+            return Err(AllocError);
+        };
+        let alloc = *self.nodes.allocator();
+        lay_out_braces(&mut self.format, alloc, self.nodes.is_empty(), before)?;
+        lay_out_nodes(&mut self.nodes, config, inner)
+    }
+}
+
+/// Lays out nodes at a level. Where there are none the level counts for nothing.
+#[cycle(autoformat)]
+fn lay_out_nodes(
+    nodes: &mut Vec<KdlNode>,
+    config: &FormatConfig,
+    level: usize,
+) -> Result<(), AllocError>
+    ensures kept { bare_nodes (nodes_tree nodes.new.items) ≡ bare_nodes (nodes_tree nodes.old.items) }
+    ensures formatted { IfOk result (λ _. nodes_tree nodes.new.items ≡ formatted_nodes (settings config.now) level (nodes_tree nodes.old.items)) }
+    ensures well_formed { IfOk result (λ _. AreWellFormed (nodes_data (nodes_tree nodes.old.items))) }
+{
+    if nodes.is_empty() {
+        return Ok(());
+    }
+    let indentation = indentation(*nodes.allocator(), config, level)?;
+    let before = indentation.as_str();
+    for node in nodes.iter_mut() {
+        node.lay_out(config, level, before)?;
+    }
+    Ok(())
+}

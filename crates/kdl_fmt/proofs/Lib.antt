@@ -1,0 +1,5 @@
+pub mod Entries
+pub mod Formatting
+pub mod Loops
+pub mod ReadsBack
+pub mod Texts

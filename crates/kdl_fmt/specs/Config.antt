@@ -1,0 +1,33 @@
+-- How to lay out a document.
+use Rattle.std.specs.Prelude.{◌≡◌, ℕ, Bool, true, false, ◌∷◌, []}
+use Rattle.std.specs.List.{repeat}
+use Rattle.std.specs.Str.{chars}
+use Rattle.kdl_text.specs.Chars.{Text}
+use Rattle.kdl_fmt.specs.declared.config.FormatConfig.{FormatConfig}
+
+-- the level of the outermost nodes, the text that stands before a node once for each level, whether comments are dropped, and whether all entries keep their form
+pub record Settings : Type 0 where
+  pub indent_level : ℕ
+  pub indent : Text
+  pub no_comments : Bool
+  pub entry_autoformate_keep : Bool
+
+-- level 0, four spaces, with comments
+abbrev pub defaults : Settings
+defaults = record { indent_level = 0; indent = 32 ∷ 32 ∷ 32 ∷ 32 ∷ []; no_comments = false; entry_autoformate_keep = false }
+
+-- the same without comments
+abbrev pub without_comments : Settings
+without_comments = record defaults { no_comments = true }
+
+-- comments are left out, and entries are not marked
+abbrev pub IsPlain : Settings → Type 0
+IsPlain s = (s.no_comments ≡ true) × (s.entry_autoformate_keep ≡ false)
+
+-- what stands before a node at a level
+abbrev pub indentation : Settings → ℕ → Text
+indentation s level = repeat level s.indent
+
+-- the configuration in memory, with the text as characters
+abbrev pub settings : FormatConfig → Settings
+settings c = record { indent_level = c.indent_level; indent = chars c.indent.now; no_comments = c.no_comments; entry_autoformate_keep = c.entry_autoformate_keep }
