@@ -1,16 +1,15 @@
 -- Nodes and documents whose parts were laid out.
-use Rattle.std.proofs.Common.{◌≡◌, ℕ, zero, suc, ◌+◌, ◌<◌, ◌≤◌, Bool, true, false, List, [], ◌∷◌, ◌++◌, length, map, take, drop, set, get_or, Option, Some, None, option_map, refl, sym, ap, ◌∙◌, subst, arith, Result, Ok, Err, IfOk, Vec, Global, ◌==◌}
+use Rattle.std.proofs.Common.{◌≡◌, ℕ, zero, suc, ◌+◌, ◌<◌, ◌≤◌, Bool, true, false, List, [], ◌∷◌, ◌++◌, length, map, take, drop, set, get_or, Option, Some, option_map, refl, sym, ap, ◌∙◌, subst, arith, Result, Ok, Err, IfOk, Vec, Global, ◌==◌}
 use Rattle.std.proofs.lemmas.Bool.{eq-eqb, eqb-true}
 use Rattle.std.proofs.lemmas.List.{length-set}
 use Rattle.std.proofs.lemmas.Simd.{map-map}
-use Rattle.std.specs.Str.{chars}
 use Rattle.kdl_text.specs.Chars.{Text}
 use Rattle.kdl_value.proofs.WellFormed.{text_scalars}
-use Rattle.kdl_entry.specs.Tree.{Identifier, identifier_tree, Entry, entry_tree, entry_data, unspelled, cleared}
+use Rattle.kdl_entry.specs.Tree.{Identifier, identifier_tree, Entry, entry_tree, entry_data, unspelled}
 use Rattle.kdl_text.specs.declared.span.SourceSpan.{SourceSpan}
-use Rattle.kdl_grammar.specs.Tree.{NodeFormat, document_data, Node, node, Nodes, none, first, nodes_of, Document, document, Children, children, children_of, node_data, nodes_data, children_data, DocumentFormat}
+use Rattle.kdl_grammar.specs.Tree.{NodeFormat, document_data, Node, node, Nodes, first, nodes_of, Document, document, Children, children, children_of, node_data, nodes_data, children_data, DocumentFormat}
 use Rattle.kdl_fmt.specs.Config.{Settings, indentation}
-use Rattle.kdl_fmt.specs.Formatted.{formatted_entry, formatted_node, formatted_nodes, formatted_children, formatted_document, formatted_head, has_children, or_empty, or_empty_document, line_format, content_format, in_braces, newline_if_none, bare_head, bare_node, bare_nodes, bare_children, bare_document}
+use Rattle.kdl_fmt.specs.Formatted.{formatted_entry, formatted_node, formatted_nodes, formatted_children, formatted_document, has_children, or_empty, or_empty_document, in_braces, newline_if_none, bare_node, bare_nodes, bare_children, bare_document}
 use Rattle.kdl_fmt.specs.Plain.{plain_line, plain_content, plain_block, newline_if}
 use Rattle.kdl_fmt.specs.WellFormed.{IsWellFormedNode, AreWellFormed, AreWellFormedChildren, AreWellFormedEntries}
 use Rattle.kdl_fmt.proofs.Entries.{scalars}
@@ -18,11 +17,11 @@ use Rattle.kdl_fmt.proofs.Formatting.{unspelled_twice, entries_bare, node_bare, 
 use Rattle.kdl_fmt.proofs.Loops.{Each}
 use Rattle.kdl_parts.proofs.Loops.{Changed, changed_all, given_back}
 use Rattle.kdl_parts.specs.Formats.{node_format_tree, document_format_tree}
-use Rattle.kdl.specs.Tree.{head_tree, node_tree, document_tree, nodes_tree}
+use Rattle.kdl.specs.Tree.{node_tree, document_tree, nodes_tree}
 use Rattle.kdl.specs.declared.node.KdlNode.{KdlNode}
 use Rattle.kdl.specs.declared.document.KdlDocument.{KdlDocument}
 use Rattle.kdl.specs.declared.document.KdlDocument.TheViews.{out-KdlNode, out-KdlDocument}
-use Rattle.kdl.proofs.Trees.{node_of, node_tree_out, document_tree_out}
+use Rattle.kdl.proofs.Trees.{node_tree_out, document_tree_out}
 
 pub if_ok : {A E P Q : Type 0} (r : Result A E) → (P → Q) → IfOk r (λ (a : A). P) → IfOk r (λ (a : A). Q)
 if_ok (Ok a) f p = f p

@@ -1,5 +1,5 @@
 -- What the calls that lay out promise, from what the layout makes.
-use Rattle.std.proofs.Common.{◌≡◌, ℕ, true, refl, sym, ap, ◌∙◌, subst, Result, Ok, Err, IfOk}
+use Rattle.std.proofs.Common.{◌≡◌, ℕ, true, refl, sym, ap, ◌∙◌, subst, Result, IfOk}
 use Rattle.std.specs.List.{list_all}
 use Rattle.kdl_text.specs.Chars.{is_space}
 use Rattle.kdl_grammar.specs.Data as data'

@@ -1,21 +1,18 @@
 -- What layout makes says the same, marks no entry, and prints the canonical text.
 use Rattle.std.proofs.Common.{◌≡◌, ℕ, ◌+◌, Bool, true, false, List, [], ◌∷◌, ◌++◌, map, refl, sym, ap, ◌∙◌, Option, Some, None, option_map, append_assoc, append-nil, if◌then◌else◌}
-use Rattle.std.specs.List.{repeat}
 use Rattle.kdl_text.specs.Chars.{Text}
 use Rattle.kdl_text.specs.declared.span.SourceSpan.{SourceSpan}
-use Rattle.kdl_value.specs.Data.{Value}
 use Rattle.kdl_value.specs.Print.{print_value}
 use Rattle.kdl_value.specs.Spelled.{spelled}
-use Rattle.kdl_entry.specs.Data as entry'
-use Rattle.kdl_entry.specs.Print.{print_identifier, print_type, print_key}
-use Rattle.kdl_entry.specs.Tree.{Identifier, Entry, EntryFormat, unspelled, cleared, marked, kept, autoformatted, autoformatted_format, entry_data}
+use Rattle.kdl_entry.specs.Print.{print_type, print_key}
+use Rattle.kdl_entry.specs.Tree.{Identifier, Entry, EntryFormat, unspelled, cleared, kept, autoformatted, autoformatted_format, entry_data}
 use Rattle.kdl_grammar.specs.Data as data'
 use Rattle.kdl_grammar.specs.Print.{print_piece, print_pieces, print_node, print_tail, print_nodes, print_document}
 use Rattle.kdl_grammar.specs.Tree.{NodeFormat, DocumentFormat, Head, Node, node, Children, no_children, children, Document, document, Nodes, none, first, node_data, children_data, document_data, nodes_data}
 use Rattle.kdl_fmt.specs.Canonical.{canonical_type, canonical_key, canonical_entries, canonical_node, canonical_children, canonical, canonical_nodes}
 use Rattle.kdl_fmt.specs.Canonical as canonical'
 use Rattle.kdl_fmt.specs.Config.{Settings, indentation, IsPlain}
-use Rattle.kdl_fmt.specs.Formatted.{marked_if, behind, formatted_entry, or_empty, line_format, or_empty_document, newline_if_none, content_format, in_braces, has_children, formatted_head, formatted_node, formatted_children, formatted_nodes, formatted_document, bare_head, bare_node, bare_children, bare_document, bare_nodes, is_kept_format, EntriesKeepNone, NodeKeepsNone, ChildrenKeepNone, DocumentKeepsNone, NodesKeepNone}
+use Rattle.kdl_fmt.specs.Formatted.{marked_if, behind, formatted_entry, or_empty, line_format, or_empty_document, newline_if_none, content_format, in_braces, has_children, formatted_node, formatted_children, formatted_nodes, formatted_document, bare_node, bare_children, bare_document, bare_nodes, is_kept_format, EntriesKeepNone, NodeKeepsNone, ChildrenKeepNone, DocumentKeepsNone, NodesKeepNone}
 use Rattle.kdl_fmt.specs.Plain.{plain_line}
 use Rattle.kdl_fmt.specs.Kept.{lines, before_block_tail, tail, before_comment, line_end, entry_tail}
 
@@ -231,3 +228,60 @@ pub document_canonical : (s : Settings) (level depth : ℕ) (d : Document) → I
 document_canonical s level depth (document f span ns) p m =
     ap (λ (c : DocumentFormat). print_document (document (Some c) span (formatted_nodes s level ns)) depth) (content_plain s level ns (or_empty_document f) p.0)
     ∙ rw (nodes_canonical s level depth ns p m, newline_same ns) refl
+
+-- a second layout changes nothing
+entries_again : (s : Settings) (es : List Entry) → IsPlain s → EntriesKeepNone es → map (formatted_entry s) (map (formatted_entry s) es) ≡ map (formatted_entry s) es
+entries_again s [] p h = refl
+entries_again s (e ∷ es) p h =
+    let once = entry_formatted s e p h.0 in
+    let twice : cleared (cleared e) ≡ cleared e = rw (unspelled_twice e.name, unspelled_twice e.ty) refl in
+    let own : formatted_entry s (formatted_entry s e) ≡ formatted_entry s e = ap (formatted_entry s) once ∙ entry_formatted s (cleared e) p refl ∙ twice ∙ sym once in
+    let more = entries_again s es p h.1 in
+    cc
+
+abbrev node_from : Option Identifier → Identifier → List Entry → SourceSpan → NodeFormat → Children → Node
+node_from y i es at f k = node (record { ty = y; name = i; entries = es; format = Some f; span = at }) k
+
+line_again : (s : Settings) (level : ℕ) (has had : Bool) (f g : NodeFormat) → IsPlain s → line_format s level has f ≡ line_format s level had g
+line_again s level has had f g p = line_plain s level has f p.0 ∙ sym (line_plain s level had g p.0)
+
+content_again : (s : Settings) (level : ℕ) (ns : Nodes) (f g : DocumentFormat) → IsPlain s → content_format s level (formatted_nodes s level ns) f ≡ content_format s level ns g
+content_again s level ns f g p = content_plain s level (formatted_nodes s level ns) f p.0 ∙ ap (λ (t : Text). record { leading = []; trailing = t }) (none_again s level ns) ∙ sym (content_plain s level ns g p.0)
+  where
+    none_again : (s : Settings) (level : ℕ) (ns : Nodes) → newline_if_none (formatted_nodes s level ns) ≡ newline_if_none ns
+    none_again s level none = refl
+    none_again s level (first n ns) = refl
+
+abbrev in_block : Settings → ℕ → SourceSpan → DocumentFormat → Nodes → Children
+in_block s level at f ns = children (document (Some (in_braces (indentation s level) f)) at ns)
+
+mutual
+  pub node_again : (s : Settings) (level : ℕ) (n : Node) → IsPlain s → NodeKeepsNone n → formatted_node s level (formatted_node s level n) ≡ formatted_node s level n
+  node_again s level (node h k) p m =
+      let line = line_format s level (has_children k) (or_empty h.format) in
+      let es = map (formatted_entry s) h.entries in
+      ap (λ (f : NodeFormat). node_from (option_map unspelled (option_map unspelled h.ty)) (unspelled h.name) (map (formatted_entry s) es) h.span f (formatted_children s level (formatted_children s level k)))
+      (line_again s level (has_children (formatted_children s level k)) (has_children k) line (or_empty h.format) p)
+      ∙ ap (λ (y : Option Identifier). node_from y (unspelled h.name) (map (formatted_entry s) es) h.span line (formatted_children s level (formatted_children s level k))) (unspelled_twice h.ty)
+      ∙ ap (λ (x : List Entry). node_from (option_map unspelled h.ty) (unspelled h.name) x h.span line (formatted_children s level (formatted_children s level k))) (entries_again s h.entries p m.0)
+      ∙ ap (λ (c : Children). node_from (option_map unspelled h.ty) (unspelled h.name) es h.span line c) (children_again s level k p m.1)
+
+  children_again : (s : Settings) (level : ℕ) (k : Children) → IsPlain s → ChildrenKeepNone k → formatted_children s level (formatted_children s level k) ≡ formatted_children s level k
+  children_again s level no_children p m = refl
+  children_again s level (children (document f span ns)) p m =
+      let laid = content_format s (level + 1) ns (or_empty_document f) in
+      ap (λ (c : DocumentFormat). in_block s level span c (formatted_nodes s (level + 1) (formatted_nodes s (level + 1) ns)))
+      (content_again s (level + 1) ns (in_braces (indentation s level) laid) (or_empty_document f) p)
+      ∙ ap (in_block s level span laid) (nodes_again s (level + 1) ns p m)
+
+  nodes_again : (s : Settings) (level : ℕ) (ns : Nodes) → IsPlain s → NodesKeepNone ns → formatted_nodes s level (formatted_nodes s level ns) ≡ formatted_nodes s level ns
+  nodes_again s level none p m = refl
+  nodes_again s level (first n ns) p m =
+      ap (λ (x : Node). first x (formatted_nodes s level (formatted_nodes s level ns))) (node_again s level n p m.0)
+      ∙ ap (first (formatted_node s level n)) (nodes_again s level ns p m.1)
+
+pub document_again : (s : Settings) (level : ℕ) (d : Document) → IsPlain s → DocumentKeepsNone d → formatted_document s level (formatted_document s level d) ≡ formatted_document s level d
+document_again s level (document f span ns) p m =
+    let laid = content_format s level ns (or_empty_document f) in
+    ap (λ (c : DocumentFormat). document (Some c) span (formatted_nodes s level (formatted_nodes s level ns))) (content_again s level ns laid (or_empty_document f) p)
+    ∙ ap (document (Some laid) span) (nodes_again s level ns p m)

@@ -1,7 +1,6 @@
 -- A loop that changes the elements of a list one by one: what is known of all of them, once it has looked at each.
-use Rattle.std.proofs.Common.{◌≡◌, ℕ, zero, suc, ◌+◌, ◌<◌, ◌≤◌, List, [], ◌∷◌, ◌++◌, length, map, take, drop, get_or, refl, ap, arith, add-one, subst}
+use Rattle.std.proofs.Common.{◌≡◌, ℕ, zero, suc, ◌+◌, ◌<◌, ◌≤◌, List, [], ◌∷◌, length, map, take, get_or, arith, add-one, subst}
 use Rattle.std.proofs.lemmas.List.{take_all, length-map}
-use Rattle.kdl_entry.specs.Data as data'
 use Rattle.kdl_entry.specs.Tree.{Entry, entry_data}
 use Rattle.kdl_fmt.specs.WellFormed.{IsWellFormedEntry, AreWellFormedEntries}
 use Rattle.kdl_parts.proofs.Loops.{Changed}

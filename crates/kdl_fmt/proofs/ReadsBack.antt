@@ -1,5 +1,5 @@
 -- The canonical text reads back as what it is made of, so that no two data have the same.
-use Rattle.std.proofs.Common.{◌≡◌, ℕ, zero, suc, ◌+◌, true, List, [], ◌∷◌, ◌++◌, refl, sym, ap, ◌∙◌, subst, Option, Some, None, append_assoc, append-nil}
+use Rattle.std.proofs.Common.{◌≡◌, ℕ, zero, suc, ◌+◌, true, List, [], ◌∷◌, ◌++◌, refl, subst, Option, Some, None, append_assoc, append-nil}
 use Rattle.std.proofs.lemmas.Bool.{and_parts}
 use Rattle.std.specs.List.{list_all, repeat}
 use Rattle.kdl_text.specs.Chars.{Text, is_scalar, is_space, is_newline_char, Star, plus, Newline, Space}
@@ -13,7 +13,7 @@ use Rattle.kdl_entry.specs.Entries.{MaybeType, untyped, typed, parens, IsValue, 
 use Rattle.kdl_entry.proofs.EntryMoves.{marks}
 use Rattle.kdl_entry.proofs.ValuesReadBack.{printed_string, printed_value}
 use Rattle.kdl_grammar.specs.Data.{Node, node, Children, no_children, children, Nodes, none, first}
-use Rattle.kdl_grammar.specs.Grammar.{Terminator, IsNode, named, AfterName, kept_entry, blocks, Blocks, AfterBlock, Gap, no_gap, line_space, AreNodes, last_gap, node_then, IsBlock, braces, IsDocument, IsNodeText, node_text}
+use Rattle.kdl_grammar.specs.Grammar.{Terminator, IsNode, named, AfterName, kept_entry, blocks, Blocks, AfterBlock, Gap, no_gap, line_space, AreNodes, last_gap, node_then, braces, IsDocument, IsNodeText, node_text}
 use Rattle.kdl_grammar.proofs.LawProofs.{one_document, one_node}
 use Rattle.kdl_fmt.specs.Canonical.{canonical_type, canonical_key, canonical_entries, newline_if_none, canonical_node, canonical_children, canonical, canonical_nodes, Canonical, CanonicalNode}
 use Rattle.kdl_fmt.specs.WellFormed.{AreScalars, AreWellFormedEntries, IsWellFormedNode, AreWellFormedChildren, AreWellFormed}

@@ -10,7 +10,6 @@ use Rattle.kdl_value.specs.Tree.{text_of}
 use Rattle.kdl_grammar.specs.Tree.{NodeFormat}
 use Rattle.kdl_fmt.specs.Plain.{plain_line, plain_content, newline_if}
 use Rattle.kdl_parts.specs.Formats.{node_format_tree, document_format_tree}
-use Rattle.kdl_parts.specs.declared.format.KdlDocumentFormat.{KdlDocumentFormat}
 use Rattle.kdl_parts.specs.declared.format.KdlNodeFormat.{KdlNodeFormat}
 
 ascii : (s : Text) → list_all (λ c. nat_lt c 128) s ≡ true → IsAscii s

@@ -1,4 +1,4 @@
-use Rattle.std.proofs.Common.{rules, arith, map, ◌∙◌}
+use Rattle.std.proofs.Common.{rules, arith, map}
 use Rattle.std.specs.Str.{chars}
 use Rattle.kdl_grammar.specs.Tree.{Node, node_data}
 use Rattle.kdl.specs.Tree.{node_tree}

@@ -1,4 +1,3 @@
-use Rattle.std.proofs.lemmas.Str.{IsUtf8-string_bytes}
 use Rattle.kdl_fmt.proofs.Texts.{text_repeated}
 use Rattle.kdl_fmt.proofs.layout.repeated.Goals as goal
 

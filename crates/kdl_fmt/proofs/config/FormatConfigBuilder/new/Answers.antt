@@ -1,6 +1,6 @@
 use Rattle.std.proofs.Common.{ap, refl, ◌∷◌, []}
 use Rattle.kdl_text.specs.Chars.{Text}
-use Rattle.kdl_fmt.specs.Config.{Settings, defaults}
+use Rattle.kdl_fmt.specs.Config.{defaults}
 use Rattle.kdl_fmt.proofs.Texts.{ascii_text}
 use Rattle.kdl_fmt.proofs.config.FormatConfigBuilder.new.Goals as goal
 
