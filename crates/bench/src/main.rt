@@ -1,4 +1,4 @@
-//! Measures how fast documents are parsed, printed and dropped.
+//! Measures how fast documents are parsed, printed, laid out without comments, and dropped.
 //!
 //! Its arguments name files, each a document: of each it writes the bytes and the speeds, the best
 //! of several turns, to standard error. The one word `generate` writes a sample to standard output.
@@ -19,6 +19,8 @@ struct Times {
     parse: Duration,
     print: Duration,
     drop: Duration,
+    strip: Duration,
+    print_stripped: Duration,
 }
 
 impl Times {
@@ -28,29 +30,64 @@ impl Times {
             parse: self.parse.min(other.parse),
             print: self.print.min(other.print),
             drop: self.drop.min(other.drop),
+            strip: self.strip.min(other.strip),
+            print_stripped: self.print_stripped.min(other.print_stripped),
         }
     }
 }
 
-/// Parses, prints and drops the text once, or tells that it is no document.
-fn turn(rt: &HostRuntime, text: &str) -> io::Result<Option<Times>> {
+/// The document of a text, or none where it is no document.
+fn parsed(rt: &HostRuntime, text: &str) -> io::Result<Option<KdlDocument>> {
+    match KdlDocument::parse(rt.alloc(), text) {
+        Ok(document) => Ok(Some(document)),
+        Err(ParseFailure::Syntax(_)) => Ok(None),
+        Err(ParseFailure::Memory) => Err(io::Error::from(io::ErrorKind::OutOfMemory)),
+    }
+}
+
+/// How long a document takes to be printed.
+fn time_of_print(rt: &HostRuntime, document: &KdlDocument) -> io::Result<Duration> {
     let start = Instant::now(rt)?;
-    let document = match KdlDocument::parse(rt.alloc(), text) {
-        Ok(document) => document,
-        Err(ParseFailure::Syntax(_)) => return Ok(None),
-        Err(ParseFailure::Memory) => return Err(io::Error::from(io::ErrorKind::OutOfMemory)),
-    };
-    let parsed = Instant::now(rt)?;
     let text = document.to_string(rt.alloc())?;
     let printed = Instant::now(rt)?;
     drop(text);
+    Ok(printed.duration_since(start))
+}
+
+/// How long a document takes to be laid out, and then to be printed.
+fn times_of_strip(rt: &HostRuntime, mut document: KdlDocument) -> io::Result<(Duration, Duration)> {
+    let start = Instant::now(rt)?;
+    let outcome = document.autoformat_no_comments();
+    let stripped = Instant::now(rt)?;
+    outcome?;
+    Ok((
+        stripped.duration_since(start),
+        time_of_print(rt, &document)?,
+    ))
+}
+
+/// Parses the text twice: one document is printed and dropped, the other is laid out and printed. None where the text
+/// is no document.
+fn turn(rt: &HostRuntime, text: &str) -> io::Result<Option<Times>> {
+    let start = Instant::now(rt)?;
+    let Some(document) = parsed(rt, text)? else {
+        return Ok(None);
+    };
+    let read = Instant::now(rt)?;
+    let print = time_of_print(rt, &document)?;
     let before = Instant::now(rt)?;
     drop(document);
     let after = Instant::now(rt)?;
+    let Some(document) = parsed(rt, text)? else {
+        return Ok(None);
+    };
+    let (strip, print_stripped) = times_of_strip(rt, document)?;
     Ok(Some(Times {
-        parse: parsed.duration_since(start),
-        print: printed.duration_since(parsed),
+        parse: read.duration_since(start),
+        print,
         drop: after.duration_since(before),
+        strip,
+        print_stripped,
     }))
 }
 
@@ -91,7 +128,10 @@ fn measure(rt: &HostRuntime, name: &str) -> io::Result<()> {
         "parse and drop",
         bytes,
         times.parse.saturating_add(times.drop),
-    )
+    )?;
+    report(rt, "drop", bytes, times.drop)?;
+    report(rt, "strip", bytes, times.strip)?;
+    report(rt, "print what is stripped", bytes, times.print_stripped)
 }
 
 fn main(rt: HostRuntime) -> io::Result<()> {

@@ -2,3 +2,4 @@ pub mod Equality
 pub mod ErrorClones
 pub mod ErrorEquality
 pub mod KeyEquality
+pub mod Layouts

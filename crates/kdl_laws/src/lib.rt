@@ -1,5 +1,5 @@
 //! Laws: of the written grammar of documents and nodes; of what an edit changes in the printed text; of equality, order,
-//! hashes and copies; and that what is printed reads back.
+//! hashes and copies; of layout; and that what is printed reads back.
 #![tactic(auto)]
 
 pub mod edits;
@@ -7,6 +7,7 @@ pub mod entries;
 pub mod errors;
 pub mod formats;
 pub mod keys;
+pub mod layout;
 pub mod nodes;
 pub mod values;
 
