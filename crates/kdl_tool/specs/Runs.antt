@@ -1,5 +1,5 @@
 -- What a run of the tool reads, writes and answers.
-use Rattle.std.specs.Prelude.{◌≡◌, ℕ, ◌<◌, Bool, true, false, IsTrue, List, [], ◌∷◌, length, take, Option, Some, None, Result, Err, IsUtf8, chars}
+use Rattle.std.specs.Prelude.{◌≡◌, ℕ, ◌<◌, Bool, true, false, IsTrue, List, length, take, Option, Some, None, Result, Err, IsUtf8, chars}
 use Rattle.std.specs.Io.KnownBytes.{Appends, Consumes, IsAtEnd}
 use Rattle.kdl_text.specs.Failures.{Tells}
 use Rattle.kdl_grammar.specs.Data.{Nodes}
