@@ -1,12 +1,16 @@
--- The steps of the loops, and the test of the words.
-use Rattle.std.proofs.Common.{◌≡◌, ℕ, suc, ◌+◌, ◌-◌, ◌<◌, ◌≤◌, Bool, IsTrue, ◌↔◌, List, [], ◌∷◌, ◌++◌, map, length, get_or, take, drop, sym, ap, ◌∙◌, subst, arith, Option, length-append, take-append-drop, drop-cons}
-use Rattle.std.specs.Prelude.{bytes_eq, flat_map}
+-- The steps of the loops, the test of the words, and what is written.
+use Rattle.std.proofs.Common.{◌≡◌, ℕ, suc, ◌+◌, ◌-◌, ◌<◌, ◌≤◌, Bool, true, List, [], ◌∷◌, ◌++◌, map, length, get_or, take, drop, refl, sym, ap, ◌∙◌, subst, arith, Option, length-append, take-append-drop, drop-cons}
+use Rattle.std.specs.Prelude.{bytes_eq, chars, flat_map, IsUtf8}
 use Rattle.std.specs.Io.KnownBytes.{Appends}
 use Rattle.std.proofs.KnownBytes.{Appends-trans}
 use Rattle.std.proofs.Math.Seq.{take-add, take-append-add}
 use Rattle.std.proofs.lemmas.List.{take_rest, take-append-le}
 use Rattle.std.proofs.lemmas.Grind.{flat_map-append}
 use Rattle.std.proofs.lemmas.Slice.Eq.{bytes_eq-Decides}
+use Rattle.kdl_grammar.specs.Data.{Nodes}
+use Rattle.kdl_grammar.specs.Grammar.{IsDocument}
+use Rattle.kdl_tool.specs.Commands.{Asked, words_of, written}
+use Rattle.kdl_tool.specs.Runs.{Output}
 
 -- a write of some of the bytes that are left
 pub written_more : (a b c : Option (List ℕ)) (bytes : List ℕ) (done n : ℕ)
@@ -20,10 +24,21 @@ alone f [] x some few is = absurd (omega arith)
 alone f (y ∷ []) x some few is = ap (λ z. f z ∷ []) (sym is)
 alone f (y ∷ z ∷ zs) x some few is = absurd (omega arith)
 
-pub same_word : (words : List (List ℕ)) (word text : List ℕ) (b : Bool) → words ≡ word ∷ [] → b ≡ bytes_eq word text → IsTrue b ↔ (words ≡ text ∷ [])
-same_word words word text b one is =
-    let decides = bytes_eq-Decides word text in
-    (λ t. one ∙ ap (λ w. w ∷ []) (decides.0 (sym is ∙ t)), λ e. let same : word ≡ text = cc in is ∙ decides.1 same)
+-- and one of two
+pub two : {X : Type 0} (f : X → List ℕ) (xs : List X) (x y : X) → 2 ≤ length xs → length xs < 3 → x ≡ get_or xs 0 x → y ≡ get_or xs 1 y → map f xs ≡ f x ∷ f y ∷ []
+two f [] x y some few is also = absurd (omega arith)
+two f (a ∷ []) x y some few is also = absurd (omega arith)
+two f (a ∷ b ∷ []) x y some few is also = ap (λ z. f z ∷ f b ∷ []) (sym is) ∙ ap (λ z. f x ∷ f z ∷ []) (sym also)
+two f (a ∷ b ∷ c ∷ cs) x y some few is also = absurd (omega arith)
+
+-- a word that was compared
+pub same_word : (word text : List ℕ) (b : Bool) → b ≡ bytes_eq word text → b ≡ true → word ≡ text
+same_word word text b is t = (bytes_eq-Decides word text).0 (sym is ∙ t)
+
+-- what is written of a text with these data
+pub written_is : (a : Asked) (text : List ℕ) (x : Nodes) (out : Option (List ℕ)) → IsUtf8 text → IsDocument true (chars text) x → ((y : Nodes) → IsDocument true (chars text) y → y ≡ x)
+    → out ≡ written a text x → Output (words_of a) text out
+written_is a text x out u d o e = record { asked = a; by = refl; content = x; says = record { utf8 = u; derived = d; alone = o }; out_is = e }
 
 -- the parts up to the i-th, and some of it
 pub stopped : {X : Type 0} (f : X → List ℕ) (xs : List X) (i : ℕ) (x : X) (held mid holds : Option (List ℕ)) → i < length xs → x ≡ get_or xs i x

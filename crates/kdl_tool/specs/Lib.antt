@@ -1,3 +1,4 @@
+pub mod Commands
 pub mod Reports
 pub mod Runs
 pub mod Writing

@@ -1,17 +1,14 @@
 -- What a run of the tool reads, writes and answers.
-use Rattle.std.specs.Prelude.{◌≡◌, ℕ, ◌<◌, Bool, true, false, IsTrue, List, [], ◌∷◌, length, take, Option, Result, Err, IsUtf8, chars, codes}
+use Rattle.std.specs.Prelude.{◌≡◌, ℕ, ◌<◌, Bool, true, false, IsTrue, List, length, take, Option, Some, None, Result, Err, IsUtf8, chars}
 use Rattle.std.specs.Io.KnownBytes.{Appends, Consumes, IsAtEnd}
 use Rattle.kdl_text.specs.Failures.{Tells}
 use Rattle.kdl_grammar.specs.Data.{Nodes}
 use Rattle.kdl_grammar.specs.Grammar.{IsDocument}
+use Rattle.kdl_tool.specs.Commands.{Asked, words_of, written}
 use Rattle.kdl_tool.specs.declared.tool.Outcome.{Outcome}
 use Rattle.kdl_tool.specs.declared.tool.Outcome.TheVariants.{Done, Refused, NotUtf8, NoValue, Usage, ReadFailed, WriteFailed, Memory}
 use Rattle.kdl_tool.specs.declared.tool.Unread.{Unread}
 use Rattle.kdl_tool.specs.declared.tool.Unread.TheVariants.{Failed}
-
--- the word `cat` alone
-abbrev pub IsCat : List (List ℕ) → Type 0
-IsCat words = words ≡ codes "cat" ∷ []
 
 -- the answer to words that are none of the tool's
 abbrev pub IsUsage : Outcome → Type 0
@@ -42,35 +39,45 @@ IsDone _ = ⊥
 abbrev pub IsInput : Option (List ℕ) → Option (List ℕ) → List ℕ → Type 0
 IsInput had left bytes = Consumes had left bytes × IsAtEnd left
 
--- the bytes are a text that the grammar derives
-abbrev pub AreDocument : List ℕ → Type 0
-AreDocument bytes = IsUtf8 bytes × ((x : Nodes) × IsDocument true (chars bytes) x)
+-- the bytes are a text that the grammar derives, with these data and no others
+pub record Says (bytes : List ℕ) (x : Nodes) : Type 0 where
+  pub utf8 : IsUtf8 bytes
+  pub derived : IsDocument true (chars bytes) x
+  pub alone : (y : Nodes) → IsDocument true (chars bytes) y → y ≡ x
+
+-- what a run with these words writes of these bytes; None where they have no such value
+pub record Output (words : List (List ℕ)) (bytes : List ℕ) (out : Option (List ℕ)) : Type 0 where
+  pub asked : Asked
+  pub by : words ≡ words_of asked
+  pub content : Nodes
+  pub says : Says bytes content
+  pub out_is : out ≡ written asked bytes content
 
 -- the bytes are a text that the grammar does not derive
 abbrev pub AreNoDocument : List ℕ → Type 0
 AreNoDocument bytes = IsUtf8 bytes × ((x : Nodes) → IsDocument true (chars bytes) x → ⊥)
 
--- what each answer says of the whole input, and of the bytes that the writer held and holds
-abbrev pub Answered : Outcome → List ℕ → Option (List ℕ) → Option (List ℕ) → Type 0
-Answered Done bytes held holds = AreDocument bytes × Appends held holds bytes
-Answered WriteFailed bytes held holds = AreDocument bytes × ((n : ℕ) × (n < length bytes) × Appends held holds (take n bytes))
+-- what each answer to these words says of the whole input, and of the bytes that the writer held and holds
+abbrev pub Answered : Outcome → List (List ℕ) → List ℕ → Option (List ℕ) → Option (List ℕ) → Type 0
+Answered Done words bytes held holds = (out : List ℕ) × Output words bytes (Some out) × Appends held holds out
+-- a beginning of what Done would write
+Answered WriteFailed words bytes held holds = (out : List ℕ) × Output words bytes (Some out) × ((n : ℕ) × (n < length out) × Appends held holds (take n out))
+Answered NoValue words bytes held holds = Output words bytes None
 -- the error tells of the bytes
-Answered (Refused e) bytes held holds = AreNoDocument bytes × Tells bytes e
-Answered NotUtf8 bytes held holds = IsUtf8 bytes → ⊥
-Answered Memory bytes held holds = Unit {0}
--- `get` alone answers NoValue
-Answered NoValue bytes held holds = ⊥
+Answered (Refused e) words bytes held holds = AreNoDocument bytes × Tells bytes e
+Answered NotUtf8 words bytes held holds = IsUtf8 bytes → ⊥
+Answered Memory words bytes held holds = Unit {0}
 -- these are answered before the input is read to its end
-Answered Usage bytes held holds = ⊥
-Answered ReadFailed bytes held holds = ⊥
+Answered Usage words bytes held holds = ⊥
+Answered ReadFailed words bytes held holds = ⊥
 
--- what each answer says of the bytes that the reader had and has left, and that the writer held and holds:
+-- what each answer to these words says of the bytes that the reader had and has left, and that the writer held and holds:
 -- but for Usage, ReadFailed and Memory the whole input was read
-abbrev pub Ran : Outcome → Option (List ℕ) → Option (List ℕ) → Option (List ℕ) → Option (List ℕ) → Type 0
-Ran Usage had left held holds = Unit {0}
-Ran ReadFailed had left held holds = Unit {0}
-Ran Memory had left held holds = Unit {0}
-Ran o had left held holds = (bytes : List ℕ) × IsInput had left bytes × Answered o bytes held holds
+abbrev pub Ran : Outcome → List (List ℕ) → Option (List ℕ) → Option (List ℕ) → Option (List ℕ) → Option (List ℕ) → Type 0
+Ran Usage words had left held holds = Unit {0}
+Ran ReadFailed words had left held holds = Unit {0}
+Ran Memory words had left held holds = Unit {0}
+Ran o words had left held holds = (bytes : List ℕ) × IsInput had left bytes × Answered o words bytes held holds
 
 -- nothing is written, but with Done and WriteFailed
 abbrev pub WritesNothing : Outcome → Type 0

@@ -5,6 +5,8 @@
 mod tests;
 #[cfg(test)]
 mod tests_cat;
+#[cfg(test)]
+mod tests_commands;
 mod tool;
 
 use std::alloc::Global;

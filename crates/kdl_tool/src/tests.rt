@@ -125,7 +125,18 @@ fn two_faults(alloc: Global) -> Result<KdlError, AllocError> {
 #[test]
 fn other_words_are_usage(rt: HostRuntime) -> Result<(), Fail> {
     let alloc = rt.alloc();
-    let lines: [&[&str]; 5] = [&[], &["Cat"], &["cat", "cat"], &[""], &["cats"]];
+    let lines: [&[&str]; 10] = [
+        &[],
+        &[""],
+        &["Cat"],
+        &["cats"],
+        &["cat", "x"],
+        &["fmt"],
+        &["strip", "x"],
+        &["get"],
+        &["get", "a", "b"],
+        &["got", "a"],
+    ];
     for line in lines {
         let mut source = Source::new(b"a\n", 16, NEVER);
         let mut sink = Sink::new(alloc, 16, NEVER);

@@ -1,12 +1,15 @@
 //! The tool itself, over any reader and any writer.
-ghost use Rattle.std.specs.Prelude.{◌≡◌, ◌↔◌, ◌||◌, true, IsTrue, IfOk, OnOk, ◌≤◌, length, map, take, flat_map, decimal, string_bytes};
+ghost use Rattle.std.specs.Prelude.{◌≡◌, ◌↔◌, ◌||◌, true, IfOk, IsTrue, MatchOption, OnOk, ◌≤◌, chars, length, map, take, flat_map, decimal, option_map, string_bytes};
 ghost use Rattle.kdl_text.specs.Failures.{IsSyntax, TellsOnSyntax};
-ghost use Rattle.kdl_tool.specs.Runs.{IsCat, IsUsage, IsInput, Ran, WritesNothing, Marked, Answered, AreDocument, AreNoDocument, IsDone, is_read_failed, is_write_failed, is_unread_failed};
+ghost use Rattle.kdl_grammar.specs.Tree.{document_data};
+ghost use Rattle.kdl.specs.Tree.{document_tree};
+ghost use Rattle.kdl_tool.specs.Commands.{AreOther, asked_by, first_argument, value_line, words_of};
+ghost use Rattle.kdl_tool.specs.Runs.{IsUsage, IsInput, Output, Ran, WritesNothing, Marked, Answered, AreNoDocument, IsDone, is_read_failed, is_write_failed, is_unread_failed};
 ghost use Rattle.kdl_tool.specs.Reports.{status_of, report_of, line, diagnostic_line, lines_of};
 ghost use Rattle.kdl_tool.specs.Writing.{Writes};
 
 use kdl::{KdlDiagnostic, KdlDocument, KdlError, ParseFailure};
-use std::alloc::Global;
+use std::alloc::{AllocError, Global};
 use std::io::{Read, Write};
 use watched::Watched;
 
@@ -37,6 +40,17 @@ pub enum Outcome {
     Memory,
 }
 
+/// What the words ask for.
+#[derive(Clone, Copy)]
+enum Command<'a> {
+    /// The document as it stands.
+    Cat,
+    /// The document laid out, without comments.
+    Strip,
+    /// The value of the first argument of the first node of this name.
+    Get(&'a str),
+}
+
 /// Why the input was not read to its end.
 #[derive(Drop)]
 enum Unread {
@@ -44,8 +58,14 @@ enum Unread {
     Memory,
 }
 
-/// Runs the tool: `cat` writes the document that it reads as it stands. Any other words are
-/// `Usage`, and nothing is read.
+/// Runs the tool on its words:
+///
+/// - `cat` writes the document that it reads as it stands;
+/// - `strip` writes it laid out, without comments and without what a slashdash drops;
+/// - `get NAME` writes the value of the first argument of the first node of that name, in the form in which values
+///   print, and a newline. `NoValue`: there is no such node, or it has no argument, whatever later nodes have.
+///
+/// Any other words are `Usage`, and nothing is read.
 ///
 /// The whole input is read and parsed before the first byte is written. The first error of a
 /// `read` or a `write` ends the run, an interrupted one too. Nothing is flushed: that is for the
@@ -56,32 +76,47 @@ pub fn run<R: Read, W: Write>(
     reader: &mut Watched<R>,
     writer: &mut Watched<W>,
 ) -> Outcome
-    ensures usage { IsUsage result ↔ (IsCat (map string_bytes words.now) → ⊥) }
+    ensures usage { IsUsage result ↔ AreOther (map string_bytes words.now) }
     ensures unread { IsUsage result → reader.new ≡ reader.old }
     ensures unwritten { WritesNothing result → writer.new ≡ writer.old }
-    ensures ran { Ran result (R.remaining reader.old.inner) (R.remaining reader.new.inner)
+    ensures ran { Ran result (map string_bytes words.now) (R.remaining reader.old.inner) (R.remaining reader.new.inner)
         (W.contents writer.old.inner) (W.contents writer.new.inner) }
     ensures marked { Marked result reader.new.failed reader.new.ended writer.new.failed }
     ensures read_failed { reader.new.failed ≡ (is_read_failed result || reader.old.failed) }
     ensures write_failed { writer.new.failed ≡ (is_write_failed result || writer.old.failed) }
 {
-    if !is_cat(words) {
+    let Some(command) = command_of(words) else {
         return Outcome::Usage;
-    }
+    };
     match read_whole(alloc, reader) {
-        Ok(input) => answer(alloc, &input, writer),
+        Ok(input) => answer(alloc, command, &input, writer),
         Err(Unread::Failed) => Outcome::ReadFailed,
         Err(Unread::Memory) => Outcome::Memory,
     }
 }
 
-/// Whether the words are `cat` alone.
-fn is_cat(words: &[String]) -> bool
-    ensures { IsTrue result ↔ IsCat (map string_bytes words.now) }
+/// What the words ask for, where they are the tool's.
+fn command_of(words: &[String]) -> Option<Command<'_>>
+    ensures { MatchOption result (AreOther (map string_bytes words.now)) (λ c. map string_bytes words.now ≡ words_of (asked_by c)) }
 {
     match words {
-        [word] => word.as_str() == "cat",
-        _ => false,
+        [word] => {
+            if word.as_str() == "cat" {
+                Some(Command::Cat)
+            } else if word.as_str() == "strip" {
+                Some(Command::Strip)
+            } else {
+                None
+            }
+        }
+        [word, name] => {
+            if word.as_str() == "get" {
+                Some(Command::Get(name.as_str()))
+            } else {
+                None
+            }
+        }
+        _ => None,
     }
 }
 
@@ -106,39 +141,66 @@ fn read_whole<R: Read>(alloc: Global, reader: &mut Watched<R>) -> Result<Vec<u8>
     }
 }
 
-/// Parses the input, and writes the document that it is.
-fn answer<W: Write>(alloc: Global, input: &[u8], writer: &mut Watched<W>) -> Outcome
+/// Parses the input, and writes what the command asks of it.
+fn answer<W: Write>(
+    alloc: Global,
+    command: Command<'_>,
+    input: &[u8],
+    writer: &mut Watched<W>,
+) -> Outcome
     ensures unwritten { WritesNothing result → writer.new ≡ writer.old }
-    ensures answered { Answered result input.now (W.contents writer.old.inner) (W.contents writer.new.inner) }
+    ensures answered { Answered result (words_of (asked_by command.entry)) input.now (W.contents writer.old.inner) (W.contents writer.new.inner) }
     ensures marked { Marked result true true writer.new.failed }
     ensures write_failed { writer.new.failed ≡ (is_write_failed result || writer.old.failed) }
 {
     let Ok(text) = str::from_utf8(input) else {
         return Outcome::NotUtf8;
     };
-    match printed(alloc, text) {
-        Ok(output) => {
+    match output(alloc, command, text) {
+        Ok(Some(output)) => {
             if write_whole(output.as_bytes(), writer) {
                 Outcome::Done
             } else {
                 Outcome::WriteFailed
             }
         }
+        Ok(None) => Outcome::NoValue,
         Err(ParseFailure::Syntax(error)) => Outcome::Refused(error),
         Err(ParseFailure::Memory) => Outcome::Memory,
     }
 }
 
-/// The printed parse of a text.
-fn printed(alloc: Global, text: &str) -> Result<String, ParseFailure>
-    ensures document { OnOk result (AreDocument text.now) }
-    ensures same { IfOk result (λ output. string_bytes output ≡ text.now) }
+/// What the command writes of a text, where it has the value that is asked for.
+fn output(alloc: Global, command: Command<'_>, text: &str) -> Result<Option<String>, ParseFailure>
+    ensures output { IfOk result (λ o. Output (words_of (asked_by command.entry)) text.now (option_map string_bytes o)) }
     ensures refused { IsSyntax result → AreNoDocument text.now }
     ensures told { TellsOnSyntax text.now result }
 {
-    let document = KdlDocument::parse(alloc, text)?;
-    let output = document.to_string(alloc)?;
-    Ok(output)
+    let mut document = KdlDocument::parse(alloc, text)?;
+    match command {
+        Command::Cat => Ok(Some(document.to_string(alloc)?)),
+        Command::Strip => {
+            document.autoformat_no_comments()?;
+            Ok(Some(document.to_string(alloc)?))
+        }
+        Command::Get(name) => Ok(value_line(alloc, &document, name)?),
+    }
+}
+
+/// The value of the first argument of the first node of that name, on a line.
+fn value_line(
+    alloc: Global,
+    document: &KdlDocument,
+    name: &str,
+) -> Result<Option<String>, AllocError>
+    ensures { IfOk result (λ o. option_map string_bytes o ≡ value_line (first_argument (chars name.now) (document_data (document_tree document.now)))) }
+{
+    let Some(value) = document.get_arg(name) else {
+        return Ok(None);
+    };
+    let mut line = value.to_string(alloc)?;
+    line.push('\n')?;
+    Ok(Some(line))
 }
 
 /// Writes the bytes, and answers whether all were written. It stops at the first error, and at

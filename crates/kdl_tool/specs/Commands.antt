@@ -1,0 +1,54 @@
+-- What the tool's words ask for, and what is written for them.
+use Rattle.std.specs.Prelude.{◌≡◌, ℕ, if◌then◌else◌, List, [], ◌∷◌, Option, Some, None, is_none, option_map, codes, chars, encode_utf8_all}
+use Rattle.kdl_text.specs.Chars.{Text}
+use Rattle.kdl_value.specs.Data.{Value}
+use Rattle.kdl_value.specs.Print.{print_value}
+use Rattle.kdl_entry.specs.Data.{Entry}
+use Rattle.kdl_grammar.specs.Data.{node, Nodes, none, first}
+use Rattle.kdl_fmt.specs.Canonical.{canonical_text}
+use Rattle.kdl_parts.specs.EntryLists.{same_text}
+use Rattle.kdl_tool.specs.Reports.{line}
+use Rattle.kdl_tool.specs.declared.tool.Command.{Command}
+use Rattle.kdl_tool.specs.declared.tool.Command.TheVariants.{Cat, Strip, Get}
+
+-- what the words ask for: the text itself, its canonical text, or the value of a name
+pub data Asked : Type 0 where
+  cat : Asked
+  strip : Asked
+  get : List ℕ → Asked
+
+-- its words
+abbrev pub words_of : Asked → List (List ℕ)
+words_of cat = codes "cat" ∷ []
+words_of strip = codes "strip" ∷ []
+words_of (get name) = codes "get" ∷ name ∷ []
+
+-- the words are none of the tool's
+abbrev pub AreOther : List (List ℕ) → Type 0
+AreOther words = (a : Asked) → words ≡ words_of a → ⊥
+
+-- what a command in memory asks for
+abbrev pub asked_by : Command → Asked
+asked_by Cat = cat
+asked_by Strip = strip
+asked_by (Get name) = get name.now
+
+-- the value of the first entry that has no key
+abbrev pub argument : List Entry → Option Value
+argument [] = None
+argument (e ∷ es) = if is_none e.key then Some e.value else argument es
+
+-- the value of the first argument of the first node of that name; later nodes count for nothing
+abbrev pub first_argument : Text → Nodes → Option Value
+first_argument name none = None
+first_argument name (first (node ty this es k) ns) = if same_text this name then argument es else first_argument name ns
+
+-- the printed value, on a line
+abbrev pub value_line : Option Value → Option (List ℕ)
+value_line = option_map (λ v. line (encode_utf8_all (print_value v)))
+
+-- what is written of a text that says x, and nothing where there is no such value
+abbrev pub written : Asked → List ℕ → Nodes → Option (List ℕ)
+written cat text x = Some text
+written strip text x = Some (encode_utf8_all (canonical_text x))
+written (get name) text x = value_line (first_argument (chars name) x)
