@@ -3,16 +3,17 @@
 use crate::dump::{Dump, Field, range};
 use crate::fault::{Fault, wrong};
 use crate::fronts::{check_fronts, check_replaced};
+use crate::layout::{gets, strips, strips_kept};
 use crate::notation::encoded;
 use crate::reading::{prints, tells};
 use crate::row::Call;
 use kdl::{
-    FloatFailure, KdlDocument, KdlEntry, KdlError, KdlFloat, KdlIdentifier, KdlNode, KdlValue,
-    ParseFailure, Severity, Steps,
+    FloatFailure, FormatConfig, KdlDocument, KdlEntry, KdlError, KdlFloat, KdlIdentifier, KdlNode,
+    KdlValue, ParseFailure, Severity, Steps,
 };
 use std::alloc::Global;
 
-/// A text, the call on it, and what is expected.
+/// A text, the call on it, what is expected, and how it is laid out, where that is said.
 #[derive(Clone, Copy, Drop)]
 pub struct Case<'a> {
     pub alloc: Global,
@@ -20,6 +21,7 @@ pub struct Case<'a> {
     pub text: &'a str,
     pub wanted: &'a [Field],
     pub by: Option<&'a str>,
+    pub config: Option<FormatConfig<'a>>,
 }
 
 /// Tries the text.
@@ -253,7 +255,13 @@ fn compare(case: &Case<'_>, dump: &Dump) -> Result<(), Fault> {
             }
             ("steps", Some(bounds)) => takes(case, wanted, bounds)?,
             ("same data", Some(other)) => says_the_same(case, wanted, dump, other)?,
-            (label, _) => is_field(case, wanted, dump.find(label))?,
+            ("strip", Some(_)) | ("strips", None) => strips(case, wanted, dump)?,
+            ("kept strip", Some(_)) => strips_kept(case, wanted, dump)?,
+            ("no get", Some(name)) => gets(case, wanted, name, None)?,
+            (label, text) => match (label.strip_prefix("get "), text) {
+                (Some(name), Some(text)) => gets(case, wanted, name, Some(text))?,
+                (_, _) => is_field(case, wanted, dump.find(label))?,
+            },
         }
     }
     Ok(())
@@ -323,7 +331,12 @@ fn says_the_same(case: &Case<'_>, wanted: &Field, dump: &Dump, other: &str) -> R
     };
     let mut others = Dump::new(case.alloc);
     others.document(&document)?;
-    let mut data = others.fields().iter().filter(|field| field.is_data());
+    has_same_data(case, dump, &others)
+}
+
+/// The data of the answer are those of the other.
+pub fn has_same_data(case: &Case<'_>, dump: &Dump, other: &Dump) -> Result<(), Fault> {
+    let mut data = other.fields().iter().filter(|field| field.is_data());
     for field in dump.fields().iter().filter(|field| field.is_data()) {
         let same = data
             .next()

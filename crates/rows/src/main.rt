@@ -10,6 +10,7 @@ mod dump;
 mod fault;
 mod file;
 mod fronts;
+mod layout;
 mod members;
 mod notation;
 mod reading;

@@ -6,7 +6,8 @@ use crate::fault::{Fault, wrong};
 use crate::file::Block;
 use crate::members::Members;
 use crate::notation::{Fills, decoded};
-use std::alloc::{AllocError, Global};
+use kdl::FormatConfig;
+use std::alloc::Global;
 
 /// What is called on a text.
 #[derive(Clone, Copy, Drop)]
@@ -65,13 +66,15 @@ impl<'a> Line<'a> {
     }
 }
 
-/// A row: texts with their calls, how they are filled in, and what is expected of each.
+/// A row: texts with their calls, how they are filled in and laid out, and what is expected of each.
 #[derive(Drop)]
 pub struct Row<'a> {
     alloc: Global,
     texts: Vec<(Call, &'a str)>,
     each: Option<&'a str>,
     by: Option<&'a str>,
+    indent: Option<&'a str>,
+    level: Option<usize>,
     within: Vec<&'a str>,
     wanted: Vec<Line<'a>>,
 }
@@ -88,6 +91,8 @@ impl<'a> Row<'a> {
             texts: Vec::new(alloc),
             each: None,
             by: None,
+            indent: None,
+            level: None,
             within: Vec::new(alloc),
             wanted: Vec::new(alloc),
         };
@@ -134,10 +139,20 @@ impl<'a> Row<'a> {
         match (line.label, line.text) {
             ("each", Some(text)) => self.each = Some(text),
             ("by", Some(text)) => self.by = Some(text),
+            ("indent", Some(text)) => self.indent = Some(text),
+            ("level", Some(text)) => self.level = Some(self.number(text)?),
             ("within", Some(text)) => self.within.push(text)?,
             _ => self.wanted.push(line)?,
         }
         Ok(())
+    }
+
+    /// The number that the text is.
+    fn number(&self, text: &str) -> Result<usize, Fault> {
+        match text.parse::<usize>() {
+            Ok(number) => Ok(number),
+            Err(_) => Err(wrong(format!(in self.alloc; "{text} is no number"))),
+        }
     }
 
     /// Whether the row has a text, and expects something.
@@ -150,6 +165,11 @@ impl<'a> Row<'a> {
         }
         if self.within.iter().any(|pattern| !pattern.contains('□')) {
             return Err(wrong(format!(in self.alloc; "`within` without □")));
+        }
+        let mut wanted = self.wanted.iter();
+        let has_layout = self.indent.is_some() || self.level.is_some();
+        if has_layout && !wanted.any(|line| line.label.contains("strip")) {
+            return Err(wrong(format!(in self.alloc; "`indent` or `level` without `strip`")));
         }
         Ok(())
     }
@@ -188,24 +208,49 @@ impl<'a> Row<'a> {
             own: Some(&own),
         };
         let wanted = self.fields(fills)?;
+        let indent = match self.indent {
+            Some(indent) => Some(decoded(self.alloc, indent, fills)?),
+            None => None,
+        };
+        let config = self.config(indent.as_deref());
         if self.within.is_empty() {
-            return self.check(call, &own, &wanted);
+            return self.check(call, &own, &wanted, config);
         }
         for pattern in &self.within {
             let text = decoded(self.alloc, pattern, fills)?;
-            self.check(call, &text, &wanted)?;
+            self.check(call, &text, &wanted, config)?;
         }
         Ok(())
     }
 
+    /// How the row is laid out, where a setting says so.
+    fn config<'b>(&self, indent: Option<&'b str>) -> Option<FormatConfig<'b>> {
+        if indent.is_none() && self.level.is_none() {
+            return None;
+        }
+        let config = FormatConfig::builder()
+            .maybe_indent(indent)
+            .maybe_indent_level(self.level)
+            .no_comments(true)
+            .build();
+        Some(config)
+    }
+
     /// Tries one text.
-    fn check(&self, call: Call, text: &str, wanted: &[Field]) -> Result<(), Fault> {
+    fn check(
+        &self,
+        call: Call,
+        text: &str,
+        wanted: &[Field],
+        config: Option<FormatConfig<'_>>,
+    ) -> Result<(), Fault> {
         let case = Case {
             alloc: self.alloc,
             call,
             text,
             wanted,
             by: self.by,
+            config,
         };
         check(&case)
     }
