@@ -47,7 +47,7 @@ fn takes(rt: &impl Abort, alloc: Global, node: &mut KdlNode, name: &str, text: &
 }
 
 /// Puts an argument behind the other entries.
-fn add(rt: &impl Abort, node: &mut KdlNode, value: KdlValue) {
+pub fn add(rt: &impl Abort, node: &mut KdlNode, value: KdlValue) {
     match node.push(KdlEntry::new(value)) {
         Ok(()) => (),
         Err(_) => panic!(rt; "memory"),
@@ -55,7 +55,13 @@ fn add(rt: &impl Abort, node: &mut KdlNode, value: KdlValue) {
 }
 
 /// Puts a property behind the other entries.
-fn add_property(rt: &impl Abort, alloc: Global, node: &mut KdlNode, name: &str, value: KdlValue) {
+pub fn add_property(
+    rt: &impl Abort,
+    alloc: Global,
+    node: &mut KdlNode,
+    name: &str,
+    value: KdlValue,
+) {
     let key = identifier(rt, alloc, name);
     match node.push(KdlEntry::new_prop(key, value)) {
         Ok(()) => (),
@@ -236,7 +242,7 @@ fn entry(rt: &impl Abort, alloc: Global, text: &str) -> KdlEntry {
 }
 
 /// Puts the entry of the text in the place of the one there.
-fn exchange(rt: &impl Abort, alloc: Global, node: &mut KdlNode, at: usize, text: &str) {
+pub fn exchange(rt: &impl Abort, alloc: Global, node: &mut KdlNode, at: usize, text: &str) {
     let Some(place) = node.entries_mut().get_mut(at) else {
         panic!(rt; "no entry");
     };

@@ -9,7 +9,7 @@ use std::process::Abort;
 const ELSEWHERE: SourceSpan = SourceSpan { offset: 40, len: 2 };
 
 /// A new node of that name.
-fn built(rt: &impl Abort, alloc: Global, name: &str) -> KdlNode {
+pub fn built(rt: &impl Abort, alloc: Global, name: &str) -> KdlNode {
     let name = identifier(rt, alloc, name);
     KdlNode::new(name).expect(rt, "memory")
 }
@@ -33,7 +33,7 @@ fn copied(rt: &impl Abort, node: &KdlNode) -> KdlNode {
 }
 
 /// A new document of such nodes.
-fn document_of(alloc: Global, nodes: Vec<KdlNode>) -> KdlDocument {
+pub fn document_of(alloc: Global, nodes: Vec<KdlNode>) -> KdlDocument {
     let mut document = KdlDocument::new(alloc);
     *document.nodes_mut() = nodes;
     document

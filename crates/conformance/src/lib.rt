@@ -1,5 +1,5 @@
-//! Tests of calls that no row of text can say: look-ups, edits, iterators, sorts, copies, equality and hashes, counts
-//! that go on; and what a caller shows for the edits that ask for something.
+//! Tests of calls that no row of text can say: look-ups, edits, iterators, sorts, copies, equality and hashes, layout,
+//! counts that go on; and what a caller shows for the edits that ask for something.
 #![tactic(auto)]
 
 use std::hash::{DefaultHasher, Hash, Hasher};
@@ -17,6 +17,8 @@ mod equality;
 mod errors;
 #[cfg(test)]
 mod fields;
+#[cfg(test)]
+mod layout;
 #[cfg(test)]
 mod lookups;
 #[cfg(test)]

@@ -1,0 +1,414 @@
+//! Layout without comments, where no row of text can say what is laid out: formats that are broken by hand, built
+//! documents, entries that keep their form, levels without bound, the configuration, and want of memory.
+
+use crate::edits::{add, add_property, exchange};
+use crate::fields::{built, document_of};
+use crate::reading::{equal, holds, prints, read, string, text};
+use kdl::{
+    FormatConfig, FormatConfigBuilder, KdlDocument, KdlDocumentFormat, KdlEntry, KdlEntryFormat,
+    KdlNode, KdlNodeFormat, KdlValue, ParseFailure, is_kdl_space,
+};
+use std::alloc::Global;
+use std::process::Abort;
+use std::test::Fail;
+
+/// Texts that break what is printed, in the most places.
+const BROKEN: [&str; 14] = [
+    "x ", "\nb", "/-3", " /-3", "// c", "/* open", "{", "}", ";", "\"", "\\", "/-a", "/-a {} b",
+    "\u{feff}",
+];
+
+/// Texts, each with its canonical text.
+const CANONICAL: [(&str, &str); 3] = [
+    ("foo 1", "foo 1\n"),
+    ("foo 1 {}", "foo 1 {\n\n}\n"),
+    ("(t)foo k=(u)0x1 { b; } // c", "(t)foo k=(u)1 {\n    b\n}\n"),
+];
+
+/// Puts the text into the place of that number in the format of a node.
+fn break_node(format: &mut KdlNodeFormat, place: usize, broken: String) {
+    match place {
+        0 => format.leading = broken,
+        1 => format.before_ty_name = broken,
+        2 => format.after_ty_name = broken,
+        3 => format.after_ty = broken,
+        4 => format.before_children = broken,
+        5 => format.before_terminator = broken,
+        6 => format.terminator = broken,
+        _ => format.trailing = broken,
+    }
+}
+
+/// Puts the text into the place of that number in the format of an entry.
+fn break_entry(format: &mut KdlEntryFormat, place: usize, broken: String) {
+    match place {
+        0 => format.leading = broken,
+        1 => format.value_repr = broken,
+        2 => format.trailing = broken,
+        3 => format.after_ty = broken,
+        4 => format.before_ty_name = broken,
+        5 => format.after_ty_name = broken,
+        6 => format.after_key = broken,
+        _ => format.after_eq = broken,
+    }
+}
+
+/// Puts the text before the nodes, or behind them.
+fn break_document(format: &mut KdlDocumentFormat, place: usize, broken: String) {
+    match place {
+        0 => format.leading = broken,
+        _ => format.trailing = broken,
+    }
+}
+
+/// Puts the text into the place of that number in the formats of a node: of its own, of its entries, of its block.
+fn break_in_node(rt: &impl Abort, alloc: Global, node: &mut KdlNode, place: usize, broken: &str) {
+    if place < 8 {
+        let format = node.format_mut().expect(rt, "no format");
+        break_node(format, place, text(rt, alloc, broken));
+    } else if place < 16 {
+        let place = place - 8;
+        for entry in node.entries_mut().iter_mut() {
+            let format = entry.format_mut().expect(rt, "no format");
+            break_entry(format, place, text(rt, alloc, broken));
+        }
+    } else if let Some(children) = node.children_mut() {
+        let format = children.format_mut().expect(rt, "no format");
+        break_document(format, place - 16, text(rt, alloc, broken));
+    }
+}
+
+/// The document of the text, with the broken text in one place of each of its nodes.
+fn broken_document(
+    rt: &impl Abort,
+    alloc: Global,
+    source: &str,
+    place: usize,
+    broken: &str,
+) -> KdlDocument {
+    let mut document = read(rt, alloc, source);
+    if place < 18 {
+        for node in document.nodes_mut().iter_mut() {
+            break_in_node(rt, alloc, node, place, broken);
+        }
+    } else {
+        let format = document.format_mut().expect(rt, "no format");
+        break_document(format, place - 18, text(rt, alloc, broken));
+    }
+    document
+}
+
+/// The document prints the text once it is laid out.
+fn document_becomes(rt: &impl Abort, alloc: Global, document: &mut KdlDocument, text: &str) {
+    document.autoformat_no_comments().expect(rt, "memory");
+    prints(rt, alloc, document, text);
+}
+
+/// Each node of the document prints the text once it is laid out.
+fn nodes_become(rt: &impl Abort, alloc: Global, document: &mut KdlDocument, text: &str) {
+    for node in document.nodes_mut().iter_mut() {
+        node.autoformat_no_comments().expect(rt, "memory");
+        prints(rt, alloc, node, text);
+    }
+}
+
+#[test]
+fn formats_broken_by_hand(rt: HostRuntime) {
+    let alloc = rt.alloc();
+    for (source, canonical) in &CANONICAL {
+        for broken in &BROKEN {
+            for place in 0..20 {
+                let mut document = broken_document(&rt, alloc, source, place, broken);
+                nodes_become(&rt, alloc, &mut document, canonical);
+                let mut document = broken_document(&rt, alloc, source, place, broken);
+                document_becomes(&rt, alloc, &mut document, canonical);
+            }
+        }
+    }
+}
+
+/// The configuration with these fields.
+fn config(indent_level: usize, indent: &str, no_comments: bool) -> FormatConfig<'_> {
+    FormatConfig {
+        indent_level,
+        indent,
+        no_comments,
+        entry_autoformate_keep: false,
+    }
+}
+
+#[test]
+fn configurations(rt: HostRuntime) {
+    let defaults = config(0, "    ", false);
+    let other = FormatConfig::builder()
+        .indent_level(12)
+        .indent(" \t")
+        .no_comments(true);
+    let cases = [
+        (FormatConfig::default(), defaults),
+        (FormatConfig::builder().build(), defaults),
+        (FormatConfigBuilder::new().build(), defaults),
+        (FormatConfigBuilder::default().build(), defaults),
+        (other.build(), config(12, " \t", true)),
+        (other.maybe_indent_level(None).build(), other.build()),
+        (other.maybe_indent(None).build(), other.build()),
+        (other.maybe_no_comments(None).build(), other.build()),
+        (
+            other.maybe_indent_level(Some(3)).build(),
+            config(3, " \t", true),
+        ),
+        (other.maybe_indent(Some("")).build(), config(12, "", true)),
+        (
+            other.maybe_no_comments(Some(false)).build(),
+            config(12, " \t", false),
+        ),
+        (
+            other.indent_level(4).indent_level(5).build(),
+            config(5, " \t", true),
+        ),
+        (other.indent("a").indent("b").build(), config(12, "b", true)),
+        (
+            other.no_comments(true).no_comments(false).build(),
+            config(12, " \t", false),
+        ),
+    ];
+    for (found, wanted) in &cases {
+        equal(&rt, found, wanted);
+    }
+}
+
+/// Texts of the 18 spaces.
+const SPACES: [&str; 20] = [
+    "",
+    "\t",
+    " ",
+    "\u{a0}",
+    "\u{1680}",
+    "\u{2000}",
+    "\u{2001}",
+    "\u{2002}",
+    "\u{2003}",
+    "\u{2004}",
+    "\u{2005}",
+    "\u{2006}",
+    "\u{2007}",
+    "\u{2008}",
+    "\u{2009}",
+    "\u{200a}",
+    "\u{202f}",
+    "\u{205f}",
+    "\u{3000}",
+    "\u{3000} \t",
+];
+
+#[test]
+fn spaces(rt: HostRuntime) {
+    for space in &SPACES {
+        holds(&rt, is_kdl_space(space), space);
+    }
+    for other in &[
+        "\n", "\u{feff}", "a", " a", "a ", "\r", "\u{b}", "\u{85}", "\u{200b}",
+    ] {
+        holds(&rt, !is_kdl_space(other), other);
+    }
+}
+
+/// The nodes `foo`, `bar` with entries and a child, and `baz`, as they are built.
+fn built_document(rt: &impl Abort, alloc: Global) -> KdlDocument {
+    let mut bar = built(rt, alloc, "bar");
+    add_property(rt, alloc, &mut bar, "prop", string(rt, alloc, "value"));
+    for value in [
+        KdlValue::from(1),
+        KdlValue::from(2),
+        KdlValue::from(false),
+        KdlValue::Null,
+    ] {
+        add(rt, &mut bar, value);
+    }
+    let child = vec![in alloc; built(rt, alloc, "barchild")];
+    bar.set_children(document_of(alloc, child.expect(rt, "memory")));
+    let nodes = vec![in alloc; built(rt, alloc, "foo"), bar, built(rt, alloc, "baz")];
+    document_of(alloc, nodes.expect(rt, "memory"))
+}
+
+/// What it prints once it is laid out.
+const BUILT: &str = "foo\nbar prop=value 1 2 #false #null {\n    barchild\n}\nbaz\n";
+
+/// A node by its index, a place of it, and a text for that place.
+const BROKEN_NODES: [(usize, usize, &str); 4] = [
+    (0, 0, "x "),
+    (0, 6, "\nb"),
+    (1, 5, "/-3"),
+    (2, 7, ")"),
+];
+
+#[test]
+fn a_built_document(rt: HostRuntime) {
+    let alloc = rt.alloc();
+    let mut document = built_document(&rt, alloc);
+    document_becomes(&rt, alloc, &mut document, BUILT);
+    document = built_document(&rt, alloc);
+    for (index, place, broken) in &BROKEN_NODES {
+        let node = document.nodes_mut().get_mut(*index).expect(&rt, "no node");
+        break_in_node(&rt, alloc, node, *place, broken);
+    }
+    document_becomes(&rt, alloc, &mut document, BUILT);
+    document = built_document(&rt, alloc);
+    document.clear_format_recursive();
+    document_becomes(&rt, alloc, &mut document, BUILT);
+    document = KdlDocument::new(alloc);
+    prints(&rt, alloc, &document, "");
+    document_becomes(&rt, alloc, &mut document, "\n");
+}
+
+/// The entry has the leading text and the spelling of the value, no other text, and no mark.
+fn is_kept(rt: &impl Abort, alloc: Global, entry: &KdlEntry, leading: &str, value_repr: &str) {
+    let mut wanted = KdlEntryFormat::new(alloc);
+    wanted.leading = text(rt, alloc, leading);
+    wanted.value_repr = text(rt, alloc, value_repr);
+    let format = entry.format().expect(rt, "no format");
+    equal(rt, format, &wanted);
+}
+
+/// An entry with a text in each place, and its leading text and its spelling.
+const ENTRY: &str = " \\\n \"k\" /*a*/ = /*b*/( /*c*/\"u\" )/*d*/ 0x10 /*e*/";
+
+const LEADING: &str = " \\\n ";
+
+const REPR: &str = "0x10";
+
+#[test]
+fn marked_entries_keep_their_form(rt: HostRuntime) {
+    let alloc = rt.alloc();
+    let mut document = read(&rt, alloc, "n 1 0x2");
+    for node in document.nodes_mut().iter_mut() {
+        exchange(&rt, alloc, node, 0, ENTRY);
+        let entry = node.entries_mut().first_mut().expect(&rt, "no entry");
+        entry.keep_format();
+    }
+    document_becomes(&rt, alloc, &mut document, "n \\\n k=(u)0x10 2\n");
+    for node in document.nodes() {
+        let entry = node.entries().first().expect(&rt, "no entry");
+        is_kept(&rt, alloc, entry, LEADING, REPR);
+    }
+    document_becomes(&rt, alloc, &mut document, "n k=(u)16 2\n");
+}
+
+/// The document prints the text once it is laid out as the configuration says.
+fn becomes(
+    rt: &impl Abort,
+    alloc: Global,
+    document: &mut KdlDocument,
+    config: &FormatConfig,
+    text: &str,
+) {
+    document.autoformat_config(config).expect(rt, "memory");
+    prints(rt, alloc, document, text);
+}
+
+#[test]
+fn all_entries_keep_their_form(rt: HostRuntime) {
+    let alloc = rt.alloc();
+    let mut document = read(&rt, alloc, "n 1 ( u )0x2 /*x*/ 3.0 {\n  m\t#\"a\"# // c\n}");
+    for node in document.nodes_mut().iter_mut() {
+        exchange(&rt, alloc, node, 0, ENTRY);
+        add(&rt, node, KdlValue::from(5));
+    }
+    let mut config = config(0, "    ", true);
+    config.entry_autoformate_keep = true;
+    let kept = "n \\\n k=(u)0x10 (u)0x2 /*x*/ 3.0 5 {\n    m\t#\"a\"#\n}\n";
+    becomes(&rt, alloc, &mut document, &config, kept);
+    becomes(&rt, alloc, &mut document, &config, kept);
+    for node in document.nodes() {
+        let entry = node.entries().first().expect(&rt, "no entry");
+        is_kept(&rt, alloc, entry, LEADING, REPR);
+        let entry = node.entries().last().expect(&rt, "no entry");
+        holds(&rt, entry.format().is_none(), "a format");
+    }
+    let canonical = "n k=(u)16 (u)2 3.0 5 {\n    m a\n}\n";
+    document_becomes(&rt, alloc, &mut document, canonical);
+}
+
+/// The text is not laid out as the configuration says, and says then what it said.
+fn is_not_laid_out(
+    rt: &impl Abort,
+    alloc: Global,
+    source: &str,
+    config: &FormatConfig,
+    canonical: &str,
+) {
+    let mut document = read(rt, alloc, source);
+    holds(rt, document.autoformat_config(config).is_err(), source);
+    document_becomes(rt, alloc, &mut document, canonical);
+}
+
+#[test]
+fn levels_without_bound(rt: HostRuntime) {
+    let alloc = rt.alloc();
+    let bare = config(usize::MAX, "", true);
+    let wide = config(usize::MAX, "    ", true);
+    becomes(&rt, alloc, &mut read(&rt, alloc, "a"), &bare, "a\n");
+    becomes(&rt, alloc, &mut read(&rt, alloc, "// c"), &bare, "\n");
+    becomes(&rt, alloc, &mut read(&rt, alloc, "// c"), &wide, "\n");
+    is_not_laid_out(&rt, alloc, "b 0x1; a {}", &bare, "b 1\na {\n\n}\n");
+    is_not_laid_out(&rt, alloc, "b 0x1; a {}", &wide, "b 1\na {\n\n}\n");
+}
+
+#[test]
+fn an_indent_that_is_no_space(rt: HostRuntime) {
+    let alloc = rt.alloc();
+    let mut document = read(&rt, alloc, "(t)a k=0x1 { b { c; }; }");
+    let config = config(1, "x", true);
+    document.autoformat_config(&config).expect(&rt, "memory");
+    let canonical = "(t)a k=1 {\n    b {\n        c\n    }\n}\n";
+    document_becomes(&rt, alloc, &mut document, canonical);
+}
+
+/// The documents and their nodes, and the names and entries of these, have the same spans.
+fn has_the_spans(rt: &impl Abort, document: &KdlDocument, other: &KdlDocument) {
+    equal(rt, &document.span(), &other.span());
+    for (node, other) in document.nodes().iter().zip(other.nodes()) {
+        equal(rt, &node.span(), &other.span());
+        equal(rt, &node.name().span(), &other.name().span());
+        for (entry, other) in node.entries().iter().zip(other.entries()) {
+            equal(rt, &entry.span(), &other.span());
+        }
+    }
+}
+
+#[test]
+fn spans_stay(rt: HostRuntime) {
+    let alloc = rt.alloc();
+    let text = " a  0x10 k = 1 /*c*/;\n\n\"b\" /- 1 (t)2";
+    let mut document = read(&rt, alloc, text);
+    document_becomes(&rt, alloc, &mut document, "a 16 k=1\nb (t)2\n");
+    has_the_spans(&rt, &document, &read(&rt, alloc, text));
+}
+
+/// What the document of the text prints once it is laid out, or none for want of memory. Where memory is wanting while
+/// it is laid out, it still says what it said, so that it can be laid out again.
+fn laid_out(rt: &HostRuntime, text: &str) -> Result<Option<String>, Fail> {
+    match KdlDocument::parse(rt.alloc(), text) {
+        Ok(mut document) => {
+            if document.autoformat_no_comments().is_err() {
+                document.autoformat_no_comments()?;
+            }
+            Ok(document.to_string(rt.alloc()).ok())
+        }
+        Err(ParseFailure::Memory) => Ok(None),
+        Err(ParseFailure::Syntax(_)) => Err(Fail::from("refused")),
+    }
+}
+
+/// Here alone want of memory is no fault: run with one allocation refused, the answer is that or the canonical text.
+#[test]
+fn want_of_memory_or_the_canonical_text(rt: HostRuntime) -> Result<(), Fail> {
+    let text =
+        "\nhello 1 2 3\n\n// Comment\nworld prop=string-value {\n    child 1\n    child 2\n    child #inf\n}\n";
+    let canonical =
+        "hello 1 2 3\nworld prop=string-value {\n    child 1\n    child 2\n    child #inf\n}\n";
+    if let Some(printed) = laid_out(&rt, text)? {
+        assert_eq!(rt; printed.as_str(), canonical);
+    }
+    Ok(())
+}
