@@ -104,7 +104,7 @@ fn document_becomes(rt: &impl Abort, alloc: Global, document: &mut KdlDocument, 
     prints(rt, alloc, document, text);
 }
 
-/// The document of the node prints the text once the node is laid out.
+/// Each node of the document prints the text once it is laid out.
 fn nodes_become(rt: &impl Abort, alloc: Global, document: &mut KdlDocument, text: &str) {
     for node in document.nodes_mut().iter_mut() {
         node.autoformat_no_comments().expect(rt, "memory");
@@ -364,7 +364,7 @@ fn an_indent_that_is_no_space(rt: HostRuntime) {
     document_becomes(&rt, alloc, &mut document, canonical);
 }
 
-/// The documents and their nodes, the names and entries of these, and what is in their blocks, have the same spans.
+/// The documents and their nodes, and the names and entries of these, have the same spans.
 fn has_the_spans(rt: &impl Abort, document: &KdlDocument, other: &KdlDocument) {
     equal(rt, &document.span(), &other.span());
     for (node, other) in document.nodes().iter().zip(other.nodes()) {
@@ -385,8 +385,8 @@ fn spans_stay(rt: HostRuntime) {
     has_the_spans(&rt, &document, &read(&rt, alloc, text));
 }
 
-/// What the document of the text prints once it is laid out, or none for want of memory. Where memory is wanting while it
-/// is laid out, it says still what it said, so that it can be laid out again.
+/// What the document of the text prints once it is laid out, or none for want of memory. Where memory is wanting while
+/// it is laid out, it still says what it said, so that it can be laid out again.
 fn laid_out(rt: &HostRuntime, text: &str) -> Result<Option<String>, Fail> {
     match KdlDocument::parse(rt.alloc(), text) {
         Ok(mut document) => {

@@ -126,7 +126,8 @@ pub fn strips_kept(case: &Case<'_>, wanted: &Field, dump: &Dump) -> Result<(), F
     is_printed(case, strip, &again)
 }
 
-/// The value of the first argument of the first node of that name prints the text, or there is none where none is given.
+/// The value of the first argument of the first node of that name prints the text, or there is no such value where no
+/// text is given.
 pub fn gets(case: &Case<'_>, wanted: &Field, name: &str, text: Option<&str>) -> Result<(), Fault> {
     let Item::Document(document) = Item::of(case, wanted, case.text)? else {
         return Err(case.differs(wanted, "no such line for this call"));
