@@ -11,7 +11,7 @@ use Rattle.kdl_tool.specs.Reports.{line}
 use Rattle.kdl_tool.specs.declared.tool.Command.{Command}
 use Rattle.kdl_tool.specs.declared.tool.Command.TheVariants.{Cat, Strip, Get}
 
--- what the words ask for: the text itself, its canonical text, or the value of a name
+-- what the words ask for: the text itself, its canonical text, or the value at a name, given by its bytes
 pub data Asked : Type 0 where
   cat : Asked
   strip : Asked
@@ -47,7 +47,7 @@ first_argument name (first (node ty this es k) ns) = if same_text this name then
 abbrev pub value_line : Option Value → Option (List ℕ)
 value_line = option_map (λ v. line (encode_utf8_all (print_value v)))
 
--- what is written of a text that says x, and nothing where there is no such value
+-- what is written of a text that says x; None where there is no such value
 abbrev pub written : Asked → List ℕ → Nodes → Option (List ℕ)
 written cat text x = Some text
 written strip text x = Some (encode_utf8_all (canonical_text x))

@@ -62,8 +62,9 @@ enum Unread {
 ///
 /// - `cat` writes the document that it reads as it stands;
 /// - `strip` writes it laid out, without comments and without what a slashdash drops;
-/// - `get NAME` writes the value of the first argument of the first node of that name, in the form in which values
-///   print, and a newline. `NoValue`: there is no such node, or it has no argument, whatever later nodes have.
+/// - `get NAME` writes the value of the first argument of the first node of that name, as values
+///   print, and a newline. `NoValue`: there is no such node, or it has no argument, whatever
+///   later nodes have.
 ///
 /// Any other words are `Usage`, and nothing is read.
 ///
