@@ -5,9 +5,7 @@
 #[cfg(test)]
 mod tests;
 #[cfg(test)]
-mod tests_cat;
-#[cfg(test)]
-mod tests_commands;
+mod tests_runs;
 mod tool;
 
 use std::alloc::Global;

@@ -1,10 +1,11 @@
-//! Runs over readers and writers that fail, or that give and take little at a time.
+//! Readers and writers that fail, or that give and take little at a time; their marks, and the reports of each outcome.
 
-use crate::tool::{Outcome, run};
+use crate::tool::Outcome;
 use kdl::{KdlDiagnostic, KdlError, Severity, SourceSpan};
 use std::alloc::{AllocError, Global};
 use std::io;
 use std::io::{ErrorKind, Read, Write};
+use std::process::Abort;
 use std::rc::RcStr;
 use std::test::Fail;
 use watched::Watched;
@@ -14,7 +15,7 @@ use watched::Watched;
 pub struct Source<'a> {
     bytes: &'a [u8],
     step: usize,
-    reads: u32,
+    pub reads: u32,
     fails_at: u32,
 }
 
@@ -53,7 +54,7 @@ impl Read for Source<'_> {
 pub struct Sink {
     pub bytes: Vec<u8>,
     step: usize,
-    writes: u32,
+    pub writes: u32,
     flushes: u32,
     fails_at: u32,
 }
@@ -92,15 +93,6 @@ impl Write for Sink {
     }
 }
 
-/// The words of a command line.
-pub fn words(alloc: Global, texts: &[&str]) -> Result<Vec<String>, AllocError> {
-    let mut words = Vec::new(alloc);
-    for text in texts {
-        words.push(String::from_str(alloc, text)?)?;
-    }
-    Ok(words)
-}
-
 /// An error with two diagnostics, the second of which has no message.
 fn two_faults(alloc: Global) -> Result<KdlError, AllocError> {
     let input = RcStr::from_str(alloc, "a }\n;")?;
@@ -122,150 +114,109 @@ fn two_faults(alloc: Global) -> Result<KdlError, AllocError> {
     Ok(KdlError { input, diagnostics })
 }
 
-#[test]
-fn other_words_are_usage(rt: HostRuntime) -> Result<(), Fail> {
-    let alloc = rt.alloc();
-    let lines: [&[&str]; 10] = [
-        &[],
-        &[""],
-        &["Cat"],
-        &["cats"],
-        &["cat", "x"],
-        &["fmt"],
-        &["strip", "x"],
-        &["get"],
-        &["get", "a", "b"],
-        &["got", "a"],
-    ];
-    for line in lines {
-        let mut source = Source::new(b"a\n", 16, NEVER);
-        let mut sink = Sink::new(alloc, 16, NEVER);
-        let words = words(alloc, line)?;
-        let outcome = run(
-            alloc,
-            &words,
-            &mut Watched::new(&mut source),
-            &mut Watched::new(&mut sink),
-        );
-        assert!(rt; matches!(outcome, Outcome::Usage), "{line:?}");
-        assert_eq!(rt; outcome.status(), 2);
-        assert_eq!(rt; (source.reads, sink.writes), (0, 0), "{line:?}");
-    }
-    Ok(())
+/// The outcome has this status and this report, which a writer that takes nothing, or fails, is told in part alone.
+fn reported(rt: &impl Abort, alloc: Global, outcome: &Outcome, status: u8, text: &str) {
+    assert_eq!(rt; outcome.status(), status, "{text}");
+    let mut sink = Sink::new(alloc, 1, NEVER);
+    let mut writer = Watched::new(&mut sink);
+    assert!(rt; outcome.report(&mut writer), "{text}");
+    assert!(rt; !writer.failed(), "{text}");
+    assert_eq!(rt; sink.bytes.as_slice(), text.as_bytes());
+    let mut full = Watched::new(Sink::new(alloc, 0, NEVER));
+    assert_eq!(rt; outcome.report(&mut full), text.is_empty());
+    assert_eq!(rt; full.failed(), !text.is_empty());
+}
+
+/// Of a report of more than three bytes, a writer that fails at the fourth has three.
+fn broken_off(rt: &impl Abort, alloc: Global, outcome: &Outcome, text: &str) {
+    let mut broken = Sink::new(alloc, 1, 3);
+    let mut writer = Watched::new(&mut broken);
+    assert!(rt; !outcome.report(&mut writer), "{text}");
+    assert!(rt; writer.failed(), "{text}");
+    assert_eq!(rt; Some(broken.bytes.as_slice()), text.as_bytes().get(..3));
 }
 
 #[test]
-fn input_that_is_no_utf8(rt: HostRuntime) -> Result<(), Fail> {
-    let alloc = rt.alloc();
-    let words = words(alloc, &["cat"])?;
-    let inputs: [&[u8]; 3] = [b"\xFF", b"a\n\xC3", b"a \xED\xA0\x80\n"];
-    for input in inputs {
-        let mut sink = Sink::new(alloc, 16, NEVER);
-        let mut reader = Watched::new(Source::new(input, 1, NEVER));
-        let outcome = run(alloc, &words, &mut reader, &mut Watched::new(&mut sink));
-        assert!(rt; matches!(outcome, Outcome::NotUtf8), "{input:?}");
-        assert_eq!(rt; outcome.status(), 1);
-        assert!(rt; reader.ended());
-        assert!(rt; !reader.failed());
-        assert_eq!(rt; sink.writes, 0);
-    }
+fn report_of_a_refused_input(rt: HostRuntime) -> Result<(), Fail> {
+    let refused = Outcome::Refused(two_faults(rt.alloc())?);
+    let text = "2..3 Unexpected `}`\n4..4 Unexpected error\n";
+    reported(&rt, rt.alloc(), &refused, 1, text);
+    broken_off(&rt, rt.alloc(), &refused, text);
     Ok(())
 }
 
-#[test]
-fn a_read_that_fails(rt: HostRuntime) -> Result<(), Fail> {
-    let alloc = rt.alloc();
-    let words = words(alloc, &["cat"])?;
-    for fails_at in [0, 1, 5, 6, 7] {
-        let mut sink = Sink::new(alloc, 16, NEVER);
-        let mut reader = Watched::new(Source::new(b"node 1\n", 1, fails_at));
-        let outcome = run(alloc, &words, &mut reader, &mut Watched::new(&mut sink));
-        assert!(rt; matches!(outcome, Outcome::ReadFailed), "{fails_at}");
-        assert_eq!(rt; outcome.status(), 3);
-        assert!(rt; reader.failed());
-        assert!(rt; !reader.ended());
-        assert_eq!(rt; sink.writes, 0);
+/// An outcome that holds nothing.
+fn outcome_of(number: u32) -> Outcome {
+    match number {
+        0 => Outcome::Done,
+        1 => Outcome::NotUtf8,
+        2 => Outcome::NoValue,
+        3 => Outcome::Usage,
+        4 => Outcome::ReadFailed,
+        5 => Outcome::WriteFailed,
+        _ => Outcome::Memory,
     }
-    Ok(())
 }
 
 #[test]
-fn each_report(rt: HostRuntime) -> Result<(), Fail> {
-    let alloc = rt.alloc();
-    let refused = "2..3 Unexpected `}`\n4..4 Unexpected error\n";
+fn each_report(rt: HostRuntime) {
     let table = [
-        (Outcome::Done, 0, ""),
-        (Outcome::Refused(two_faults(alloc)?), 1, refused),
-        (Outcome::NotUtf8, 1, "0..0 Input is not UTF-8\n"),
-        (Outcome::NoValue, 1, "0..0 No such value\n"),
-        (
-            Outcome::Usage,
-            2,
-            "usage: kdl-tool cat, fmt, strip or get NAME\n",
-        ),
-        (Outcome::ReadFailed, 3, "reading failed\n"),
-        (Outcome::WriteFailed, 3, "writing failed\n"),
-        (Outcome::Memory, 3, "out of memory\n"),
+        (0, 0, ""),
+        (1, 1, "0..0 Input is not UTF-8\n"),
+        (2, 1, "0..0 No such value\n"),
+        (3, 2, "usage: kdl-tool cat, fmt, strip or get NAME\n"),
+        (4, 3, "reading failed\n"),
+        (5, 3, "writing failed\n"),
+        (6, 3, "out of memory\n"),
     ];
-    for (outcome, status, text) in table {
-        assert_eq!(rt; outcome.status(), status, "{text}");
-        let mut sink = Sink::new(alloc, 1, NEVER);
-        let mut writer = Watched::new(&mut sink);
-        assert!(rt; outcome.report(&mut writer), "{text}");
-        assert!(rt; !writer.failed(), "{text}");
-        assert_eq!(rt; sink.bytes.as_slice(), text.as_bytes());
-        let mut full = Watched::new(Sink::new(alloc, 0, NEVER));
-        assert_eq!(rt; outcome.report(&mut full), text.is_empty());
-        assert_eq!(rt; full.failed(), !text.is_empty());
+    for (number, status, text) in table {
+        let outcome = outcome_of(number);
+        reported(&rt, rt.alloc(), &outcome, status, text);
         if !text.is_empty() {
-            let mut broken = Sink::new(alloc, 1, 3);
-            let mut writer = Watched::new(&mut broken);
-            assert!(rt; !outcome.report(&mut writer), "{text}");
-            assert!(rt; writer.failed(), "{text}");
-            assert_eq!(rt; Some(broken.bytes.as_slice()), text.as_bytes().get(..3));
+            broken_off(&rt, rt.alloc(), &outcome, text);
         }
     }
-    Ok(())
 }
 
 #[test]
-fn marks_of_a_reader(rt: HostRuntime) -> Result<(), Fail> {
+fn marks_of_a_reader(rt: HostRuntime) {
     let mut reader = Watched::new(Source::new(b"a", 1, 3));
     let mut one = [0u8; 1];
-    assert_eq!(rt; reader.read(&mut [])?, 0);
+    assert_eq!(rt; reader.read(&mut []).ok(), Some(0));
     assert!(rt; !reader.ended(), "no room");
-    assert_eq!(rt; reader.read(&mut one)?, 1);
+    assert_eq!(rt; reader.read(&mut one).ok(), Some(1));
     assert!(rt; !reader.ended(), "a byte");
-    assert_eq!(rt; reader.read(&mut one)?, 0);
+    assert_eq!(rt; reader.read(&mut one).ok(), Some(0));
     assert!(rt; reader.ended(), "the end");
     assert!(rt; !reader.failed());
-    assert!(rt; reader.read(&mut one).is_err());
+    assert_eq!(rt; reader.read(&mut one).ok(), None);
     assert!(rt; reader.failed(), "interrupted");
     assert!(rt; !reader.ended(), "the last read gave no answer");
-    assert_eq!(rt; reader.read(&mut one)?, 0);
+    assert_eq!(rt; reader.read(&mut one).ok(), Some(0));
     assert!(rt; reader.ended());
     assert!(rt; reader.failed(), "the mark stays");
-    Ok(())
 }
 
 #[test]
-fn marks_of_a_writer(rt: HostRuntime) -> Result<(), Fail> {
-    let alloc = rt.alloc();
-    let mut writer = Watched::new(Sink::new(alloc, 1, 2));
-    assert_eq!(rt; writer.write(b"ab")?, 1);
-    assert_eq!(rt; writer.write(b"")?, 0);
+fn marks_of_a_writer(rt: HostRuntime) {
+    let mut writer = Watched::new(Sink::new(rt.alloc(), 1, 2));
+    assert_eq!(rt; writer.write(b"ab").ok(), Some(1));
+    assert_eq!(rt; writer.write(b"").ok(), Some(0));
     assert!(rt; !writer.failed(), "no byte was there to take");
-    assert!(rt; writer.write(b"b").is_err());
+    assert_eq!(rt; writer.write(b"b").ok(), None);
     assert!(rt; writer.failed(), "interrupted");
-    assert_eq!(rt; writer.write(b"b")?, 1);
-    writer.flush()?;
+    assert_eq!(rt; writer.write(b"b").ok(), Some(1));
+    assert!(rt; writer.flush().is_ok());
     assert!(rt; writer.failed(), "the mark stays");
     assert!(rt; !writer.ended());
-    let mut full = Watched::new(Sink::new(alloc, 0, NEVER));
-    full.flush()?;
+}
+
+#[test]
+fn marks_of_a_full_writer(rt: HostRuntime) {
+    let mut full = Watched::new(Sink::new(rt.alloc(), 0, NEVER));
+    assert!(rt; full.flush().is_ok());
     assert!(rt; full.flush().is_err());
     assert!(rt; !full.failed(), "a flush is no write");
-    assert_eq!(rt; full.write(b"a")?, 0);
+    assert_eq!(rt; full.write(b"a").ok(), Some(0));
     assert!(rt; full.failed(), "no byte was taken");
-    Ok(())
 }

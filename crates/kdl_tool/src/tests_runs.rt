@@ -1,0 +1,318 @@
+//! Runs of the tool: what comes of words, over readers that give a few bytes at a time or fail, and writers that take a
+//! few or fail.
+
+use crate::tests::{NEVER, Sink, Source};
+use crate::tool::{Outcome, run};
+use std::alloc::{AllocError, Global};
+use std::process::Abort;
+use std::test::Fail;
+use watched::Watched;
+
+/// What a run reads: the input, how many bytes a read gives, and which read fails.
+#[derive(Clone, Copy)]
+struct Reads<'a> {
+    input: &'a [u8],
+    step: usize,
+    fails_at: u32,
+}
+
+/// What comes of a run: the outcome, all that is written, and how the report begins, which is empty of Done alone.
+#[derive(Clone, Copy)]
+struct Wanted<'a> {
+    outcome: &'a str,
+    output: &'a [u8],
+    report: &'a str,
+}
+
+/// The text, all of it in steps of seven bytes.
+fn text(input: &str) -> Reads<'_> {
+    Reads {
+        input: input.as_bytes(),
+        step: 7,
+        fails_at: NEVER,
+    }
+}
+
+/// Done, with this output.
+fn done(output: &str) -> Wanted<'_> {
+    Wanted {
+        outcome: "Done",
+        output: output.as_bytes(),
+        report: "",
+    }
+}
+
+/// Nothing is written, and the report begins so.
+fn nothing<'a>(outcome: &'a str, report: &'a str) -> Wanted<'a> {
+    Wanted {
+        outcome,
+        output: b"",
+        report,
+    }
+}
+
+/// The words of a command line.
+fn words(alloc: Global, texts: &[&str]) -> Result<Vec<String>, AllocError> {
+    let mut words = Vec::new(alloc);
+    for text in texts {
+        words.push(String::from_str(alloc, text)?)?;
+    }
+    Ok(words)
+}
+
+/// The name of an outcome.
+fn name_of(outcome: &Outcome) -> &'static str {
+    match outcome {
+        Outcome::Done => "Done",
+        Outcome::Refused(_) => "Refused",
+        Outcome::NotUtf8 => "NotUtf8",
+        Outcome::NoValue => "NoValue",
+        Outcome::Usage => "Usage",
+        Outcome::ReadFailed => "ReadFailed",
+        Outcome::WriteFailed => "WriteFailed",
+        Outcome::Memory => "Memory",
+    }
+}
+
+/// How the report of the outcome begins.
+fn reports(rt: &impl Abort, alloc: Global, outcome: &Outcome, report: &str) {
+    let mut told = Sink::new(alloc, 16, NEVER);
+    assert!(rt; outcome.report(&mut Watched::new(&mut told)));
+    assert_eq!(rt; told.bytes.is_empty(), matches!(outcome, Outcome::Done));
+    assert!(rt; told.bytes.starts_with(report.as_bytes()), "{report}");
+}
+
+/// Runs the tool, with a writer that takes so many bytes at a time and fails at the write of that number: what comes of
+/// it is wanted, and the marks of the reader and of the writer are those of the outcome.
+fn comes_of(
+    rt: &impl Abort,
+    alloc: Global,
+    line: &[&str],
+    reads: Reads<'_>,
+    writes: (usize, u32),
+    wanted: Wanted<'_>,
+) -> Result<(), Fail> {
+    let words = words(alloc, line)?;
+    let mut source = Source::new(reads.input, reads.step, reads.fails_at);
+    let mut sink = Sink::new(alloc, writes.0, writes.1);
+    let mut reader = Watched::new(&mut source);
+    let mut writer = Watched::new(&mut sink);
+    let outcome = run(alloc, &words, &mut reader, &mut writer);
+    let name = name_of(&outcome);
+    let marks = (reader.failed(), reader.ended(), writer.failed());
+    assert_eq!(rt; name, wanted.outcome, "{line:?}");
+    reports(rt, alloc, &outcome, wanted.report);
+    drop(outcome);
+    let is_usage = name == "Usage";
+    assert_eq!(rt; marks.0, name == "ReadFailed", "{line:?}");
+    assert_eq!(rt; marks.1, !(is_usage || name == "ReadFailed"), "{line:?}");
+    assert_eq!(rt; marks.2, name == "WriteFailed", "{line:?}");
+    assert_eq!(rt; source.reads == 0, is_usage, "{line:?}");
+    assert_eq!(rt; sink.bytes.as_slice(), wanted.output, "{line:?}");
+    Ok(())
+}
+
+/// A document with a comment, blank lines and a block.
+const DOCUMENT: &str =
+    "\nhello 1 2 3\n\n// Comment\nworld prop=string-value {\n    child 1\n    child 2\n    child #inf\n}\n";
+
+/// The same, laid out.
+const STRIPPED: &str =
+    "hello 1 2 3\nworld prop=string-value {\n    child 1\n    child 2\n    child #inf\n}\n";
+
+/// Documents in forms that no printing of their data would give.
+const DOCUMENTS: [&str; 5] = [
+    "",
+    "node 1 \"two\" three;\n",
+    " \n \n n +",
+    "\"a\\tb\"\u{3000}-1_0\u{2028}\r\nc  ;\t",
+    "e\u{301} \"\u{1F980}\"\u{85}f",
+];
+
+#[test]
+fn cat_writes_what_it_reads(rt: HostRuntime) -> Result<(), Fail> {
+    for document in DOCUMENTS {
+        for step in [1, 7, 4096] {
+            let reads = Reads {
+                input: document.as_bytes(),
+                step,
+                fails_at: NEVER,
+            };
+            comes_of(
+                &rt,
+                rt.alloc(),
+                &["cat"],
+                reads,
+                (step, NEVER),
+                done(document),
+            )?;
+        }
+    }
+    Ok(())
+}
+
+#[test]
+fn what_strip_and_get_write(rt: HostRuntime) -> Result<(), Fail> {
+    let table: [(&[&str], &str, &str); 8] = [
+        (&["strip"], DOCUMENT, STRIPPED),
+        (&["strip"], "", "\n"),
+        (&["strip"], "/-n 1;", "\n"),
+        (&["get", "hello"], DOCUMENT, "1\n"),
+        (&["get", "a"], "a \"x y\"", "\"x y\"\n"),
+        (&["get", "n"], "n 0x10", "16\n"),
+        (&["get", "a"], "\"\\u{61}\" 5", "5\n"),
+        (&["get", "get"], "get 1", "1\n"),
+    ];
+    for (line, input, output) in table {
+        comes_of(&rt, rt.alloc(), line, text(input), (7, NEVER), done(output))?;
+    }
+    Ok(())
+}
+
+#[test]
+fn what_is_refused(rt: HostRuntime) -> Result<(), Fail> {
+    let none = "0..0 No such value\n";
+    let table: [(&[&str], &str, &str, &str); 13] = [
+        (&["cat"], ";", "Refused", "0..1 "),
+        (&["cat"], "node {", "Refused", ""),
+        (&["cat"], "a 1\nb {\n", "Refused", ""),
+        (&["cat"], "a\n}", "Refused", ""),
+        (&["cat"], "a b=", "Refused", ""),
+        (&["cat"], "a\n\"b", "Refused", ""),
+        (&["strip"], ";", "Refused", "0..1 "),
+        (&["strip"], "node {", "Refused", ""),
+        (&["get", "node"], "node 1; node {", "Refused", ""),
+        (&["get", "n"], "n k=1", "NoValue", none),
+        (&["get", "n"], "n k=1\nn 2\n", "NoValue", none),
+        (&["get", "m"], "n 1 { m 2; }", "NoValue", none),
+        (&["get", ""], "", "NoValue", none),
+    ];
+    for (line, input, outcome, report) in table {
+        comes_of(
+            &rt,
+            rt.alloc(),
+            line,
+            text(input),
+            (7, NEVER),
+            nothing(outcome, report),
+        )?;
+    }
+    Ok(())
+}
+
+#[test]
+fn other_words_are_usage(rt: HostRuntime) -> Result<(), Fail> {
+    let lines: [&[&str]; 10] = [
+        &[],
+        &[""],
+        &["Cat"],
+        &["cats"],
+        &["cat", "x"],
+        &["fmt"],
+        &["strip", "x"],
+        &["get"],
+        &["get", "a", "b"],
+        &["got", "a"],
+    ];
+    for line in lines {
+        comes_of(
+            &rt,
+            rt.alloc(),
+            line,
+            text("a\n"),
+            (16, NEVER),
+            nothing("Usage", "usage: "),
+        )?;
+    }
+    Ok(())
+}
+
+#[test]
+fn input_that_is_no_utf8(rt: HostRuntime) -> Result<(), Fail> {
+    let inputs: [&[u8]; 3] = [b"\xFF", b"a\n\xC3", b"a \xED\xA0\x80\n"];
+    for input in inputs {
+        let reads = Reads {
+            input,
+            step: 1,
+            fails_at: NEVER,
+        };
+        let wanted = nothing("NotUtf8", "0..0 Input is not UTF-8\n");
+        comes_of(&rt, rt.alloc(), &["cat"], reads, (16, NEVER), wanted)?;
+    }
+    Ok(())
+}
+
+#[test]
+fn a_read_that_fails(rt: HostRuntime) -> Result<(), Fail> {
+    for fails_at in [0, 1, 5, 6, 7] {
+        let reads = Reads {
+            input: b"node 1\n",
+            step: 1,
+            fails_at,
+        };
+        comes_of(
+            &rt,
+            rt.alloc(),
+            &["cat"],
+            reads,
+            (16, NEVER),
+            nothing("ReadFailed", "reading failed\n"),
+        )?;
+    }
+    Ok(())
+}
+
+#[test]
+fn a_write_that_fails(rt: HostRuntime) -> Result<(), Fail> {
+    let document = "node 1 \"two\" three;\n";
+    let table: [(&[&str], &str, (usize, u32), &str); 9] = [
+        (&["cat"], document, (1, 0), ""),
+        (&["cat"], document, (1, 4), "node"),
+        (&["cat"], document, (1, 18), "node 1 \"two\" three"),
+        (&["cat"], document, (7, 1), "node 1 "),
+        (&["cat"], document, (0, NEVER), ""),
+        (&["strip"], DOCUMENT, (5, 0), ""),
+        (&["strip"], DOCUMENT, (5, 2), "hello 1 2 "),
+        (&["get", "a"], "a \"x y\"", (5, 1), "\"x y\""),
+        (&["get", "n"], "n 0x10", (5, 0), ""),
+    ];
+    for (line, input, writes, output) in table {
+        let wanted = Wanted {
+            outcome: "WriteFailed",
+            output: output.as_bytes(),
+            report: "writing failed\n",
+        };
+        comes_of(&rt, rt.alloc(), line, text(input), writes, wanted)?;
+    }
+    Ok(())
+}
+
+/// So many nested blocks, laid out.
+fn deep_lines(alloc: Global, depth: usize) -> Result<String, AllocError> {
+    let mut lines = String::new(alloc);
+    for level in 0..depth {
+        lines.push_str(&"    ".repeat(alloc, level)?)?;
+        lines.push_str("a {\n")?;
+    }
+    lines.push('\n')?;
+    for level in (0..depth).rev() {
+        lines.push_str(&"    ".repeat(alloc, level)?)?;
+        lines.push_str("}\n")?;
+    }
+    Ok(lines)
+}
+
+#[test]
+fn strip_of_deep_blocks(rt: HostRuntime) -> Result<(), Fail> {
+    let mut input = "a { ".repeat(rt.alloc(), 300)?;
+    input.push_str(&"} ".repeat(rt.alloc(), 300)?)?;
+    let output = deep_lines(rt.alloc(), 300)?;
+    comes_of(
+        &rt,
+        rt.alloc(),
+        &["strip"],
+        text(&input),
+        (4096, NEVER),
+        done(&output),
+    )
+}
