@@ -6,9 +6,9 @@ ghost use Rattle.kdl_value.specs.Spelled.{SpelledReadsBack, SpelledReadsBackBefo
 ghost use Rattle.kdl_value.specs.Tree.{value_tree, float_text_of};
 ghost use Rattle.kdl_value.specs.WellFormed.{IsWellFormed};
 ghost use Rattle.std.specs.Cmp.{IsTotalOrder};
-ghost use Rattle.std.specs.Int.{w128};
-ghost use Rattle.std.specs.Prelude.{◌≡◌, IsTrue, ◌↔◌, FitsSigned, fold};
+ghost use Rattle.std.specs.Prelude.{◌≡◌, IsTrue, ◌↔◌, fold};
 
+use kdl_fmt::layout::well_formed;
 use kdl_value::{KdlFloat, KdlValue};
 use std::cmp::Ordering;
 use std::hash::{Hash, Hasher};
@@ -20,19 +20,12 @@ pub fn spelled_reads_back()
     ensures before { SpelledReadsBackBefore }
 {}
 
-// A number has 128 bits with a sign.
-fn number_fits(number: i128)
-    ensures { FitsSigned w128 number }
-{}
-
 /// Every value in memory is well formed: its text is of Unicode scalar values, its whole number has 128 bits with a
 /// sign, its float's text is a float's.
 pub fn values_are_well_formed(value: &KdlValue)
     ensures { IsWellFormed (value_tree value.now) }
 {
-    if let KdlValue::Integer(number) = value {
-        number_fits(*number);
-    }
+    well_formed(value);
 }
 
 /// Two floats are equal exactly where their texts are.
