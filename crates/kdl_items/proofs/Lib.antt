@@ -1,0 +1,17 @@
+pub mod BeforeNewlines
+pub mod Cuts
+pub mod DroppedNodes
+pub mod DroppedParts
+pub mod DroppedPieces
+pub mod ItemsDet
+pub mod LastCharacters
+pub mod MachineMoves
+pub mod PartTurns
+pub mod PassingTurns
+pub mod Paths
+pub mod PlacesAgain
+pub mod PlacesRead
+pub mod Pushing
+pub mod SpacesRead
+pub mod Trivia
+pub mod WrittenAgain

@@ -1,0 +1,235 @@
+//! What a slashdash drops.
+
+ghost use Rattle.kdl_entry.specs.Handed.{Cuts, kind_view};
+ghost use Rattle.kdl_entry.specs.Tokens.{newline, semicolon, space};
+ghost use Rattle.kdl_grammar.proofs.Control.{at, finish};
+ghost use Rattle.kdl_items.specs.Passing.{follows_word, is_word, mark_in};
+ghost use Rattle.kdl_items.specs.Items.{GapItems, ItemEnd};
+ghost use Rattle.kdl_items.specs.Machine.{machine_view, phase_view};
+ghost use Rattle.kdl_items.specs.Passed.{Before, BehindPart, NodeAnswers, PartAnswers, PlaceTakes, of_spaces};
+ghost use Rattle.kdl_items.specs.Reading.{Takes, items_view, place_view};
+ghost use Rattle.kdl_text.specs.Chars.{Text};
+ghost use Rattle.std.specs.Prelude.{◌≡◌, ◌⊎◌, ◌∷◌, IfOk, MatchOption, [], option_map, true, false, not, ◌&&◌, if◌then◌else◌};
+ghost use Rattle.std.specs.Str.{chars};
+
+use crate::item::{Item, Place};
+use crate::machine::{Machine, Phase, Spot};
+use crate::slices::cut;
+use crate::spaces::line;
+use kdl_entry::items::{LexFailure, Lexer, Token, TokenKind};
+use kdl_text::chars::Steps;
+use std::alloc::{AllocError, Global};
+
+/// Where a dropped node ends, and where what stands behind it begins, in bytes from behind its `/-`.
+#[derive(Clone, Copy)]
+struct NodeEnd {
+    item: usize,
+    behind: usize,
+}
+
+/// Where a dropped entry or block ends, in bytes from behind its `/-`, and which of the two it is.
+#[derive(Clone, Copy)]
+struct PartEnd {
+    at: usize,
+    is_block: bool,
+}
+
+fn is_space(kind: &TokenKind) -> bool
+    ensures { result ≡ of_spaces (kind_view kind.now) }
+{
+    matches!(kind, TokenKind::Space)
+}
+
+/// Whether a string goes on as a key here.
+fn follows_word(kind: &TokenKind) -> bool
+    ensures { result ≡ follows_word (kind_view kind.now) }
+{
+    matches!(kind, TokenKind::Space | TokenKind::Equals)
+}
+
+/// Whether a string that ends what is dropped stands before the token.
+fn ends_word(machine: &Machine, kind: &TokenKind) -> bool
+    ensures { result ≡ (is_word (machine_view machine.now) && not (follows_word (kind_view kind.now))) }
+{
+    machine.is_word() && !follows_word(kind)
+}
+
+/// Where the last token that is no space ends: this one, or an earlier one.
+fn end_behind(token: &Token, last: usize) -> usize
+    ensures { result ≡ (if of_spaces (kind_view token.now.kind) then last else token.now.end.at) }
+{
+    if is_space(&token.kind) {
+        last
+    } else {
+        token.end.at()
+    }
+}
+
+/// The end of a node whose terminator is this token: behind a `;`, or before the newline of a line.
+fn node_end(text: &str, token: &Token) -> NodeEnd
+    requires at { Before (chars text.now) token.now.start.at token.now.start.rest × Before (chars text.now) token.now.end.at token.now.end.rest }
+    requires token { Cuts token.now.start.rest (kind_view token.now.kind) token.now.end.rest }
+    requires ends { (kind_view token.now.kind ≡ newline) ⊎ (kind_view token.now.kind ≡ semicolon) }
+    ensures { (i : Text) × ItemEnd token.now.start.rest token.now.end.rest i × Before (chars text.now) result.item i × Before (chars text.now) result.behind token.now.end.rest }
+{
+    let behind = token.end.at();
+    if let TokenKind::Semicolon = token.kind {
+        return NodeEnd {
+            item: behind,
+            behind,
+        };
+    }
+    let (_, terminator) = cut(text, token.start.at());
+    let (_, end) = line(terminator);
+    NodeEnd {
+        item: text.len() - end.len(),
+        behind,
+    }
+}
+
+/// The end of a node where the text ends: behind it stand node-spaces. None where the node can't end.
+fn last_end(machine: &Machine, last: usize) -> Option<NodeEnd>
+    ensures { MatchOption result (finish (machine_view machine.now) ≡ false) (λ e. (finish (machine_view machine.now) ≡ true) × (e.item ≡ last) × (e.behind ≡ last)) }
+{
+    if machine.may_end() {
+        Some(NodeEnd {
+            item: last,
+            behind: last,
+        })
+    } else {
+        None
+    }
+}
+
+/// The end of an entry that is a string, where it may end.
+fn word_end(machine: &Machine, last: usize) -> Option<PartEnd>
+    ensures { MatchOption result (is_word (machine_view machine.now) ≡ false) (λ e. (is_word (machine_view machine.now) ≡ true) × (e.at ≡ last) × (e.is_block ≡ false)) }
+{
+    if machine.is_word() {
+        Some(PartEnd {
+            at: last,
+            is_block: false,
+        })
+    } else {
+        None
+    }
+}
+
+/// Where the node ends that a `/-` before the text drops; none where none does.
+fn pass_node(alloc: Global, text: &str) -> Result<Option<NodeEnd>, AllocError>
+    ensures { IfOk result (λ o. NodeAnswers (chars text.now) o) }
+{
+    let mut lexer = Lexer::new(text, Steps::new());
+    let mut machine = Machine::new(alloc, Phase::Marked);
+    let mut last = 0;
+    'tokens: loop {
+        let token = match lexer.next(alloc) {
+            Ok(Some(token)) => token,
+            Ok(None) => return Ok(last_end(&machine, last)),
+            Err(LexFailure::Faulty(_)) => return Ok(None),
+            Err(LexFailure::Memory) => return Err(AllocError),
+        };
+        if !machine.take(&token.kind)? {
+            return Ok(None);
+        }
+        if machine.is_between_nodes() {
+            return Ok(Some(node_end(text, &token)));
+        }
+        last = end_behind(&token, last);
+        drop(token);
+    }
+}
+
+/// Adds the node that the slashdash here drops. The text behind it; none where it drops none.
+pub(crate) fn dropped_node<'a>(
+    alloc: Global,
+    text: &'a str,
+    items: &mut Vec<Item<'a>>,
+) -> Result<Option<&'a str>, AllocError>
+    requires { (t : Text) × (chars text.now ≡ 47 ∷ 45 ∷ t) }
+    ensures { IfOk result (λ o. Takes GapItems GapItems (chars text.now) (option_map (λ r. chars r.now) o) (items_view items.old.items) (items_view items.new.items)) }
+{
+    let (_, behind) = cut(text, 2);
+    let Some(end) = pass_node(alloc, behind)? else {
+        return Ok(None);
+    };
+    let (_, after) = cut(behind, end.item);
+    let (_, rest) = cut(behind, end.behind);
+    let (node, _) = cut(text, text.len() - after.len());
+    items.push(Item::Piece(node))?;
+    Ok(Some(rest))
+}
+
+/// The phase behind the `/-` in a place.
+fn mark_phase(place: Place) -> Phase
+    ensures { at (phase_view result) [] ≡ mark_in (place_view place) }
+{
+    match place {
+        Place::BeforeEntry(_) | Place::BeforeBlock => Phase::EntryMark,
+        Place::BehindBlock => Phase::BlockMark,
+    }
+}
+
+/// The place behind an entry or a block that is dropped in it; none where no block may be dropped there.
+fn behind_part(place: Place, is_block: bool) -> Option<Place>
+    ensures { BehindPart (place_view place) is_block (option_map place_view result) }
+{
+    match place {
+        Place::BeforeEntry(_) if is_block => None,
+        Place::BeforeEntry(_) => Some(Place::BeforeEntry(false)),
+        _ if is_block => Some(Place::BehindBlock),
+        _ => Some(place),
+    }
+}
+
+/// Where the entry or block ends that a `/-` before the text drops in the place; none where none does.
+fn pass_part(alloc: Global, place: Place, text: &str) -> Result<Option<PartEnd>, AllocError>
+    ensures { IfOk result (λ o. PartAnswers (place_view place) (chars text.now) o) }
+{
+    let mut lexer = Lexer::new(text, Steps::new());
+    let mut machine = Machine::new(alloc, mark_phase(place));
+    let mut last = 0;
+    'tokens: loop {
+        let token = match lexer.next(alloc) {
+            Ok(Some(token)) => token,
+            Ok(None) => return Ok(word_end(&machine, last)),
+            Err(LexFailure::Faulty(_)) => return Ok(None),
+            Err(LexFailure::Memory) => return Err(AllocError),
+        };
+        if ends_word(&machine, &token.kind) {
+            return Ok(word_end(&machine, last));
+        }
+        if !machine.take(&token.kind)? {
+            return Ok(None);
+        }
+        last = end_behind(&token, last);
+        drop(token);
+        if let Some(is_block) = machine.over() {
+            return Ok(Some(PartEnd { at: last, is_block }));
+        }
+    }
+}
+
+/// Adds the entry or block that the slashdash here drops. The text behind it and the place there; none where none may
+/// be dropped.
+pub(crate) fn dropped_part<'a>(
+    alloc: Global,
+    place: Place,
+    text: &'a str,
+    items: &mut Vec<Item<'a>>,
+) -> Result<Option<(Place, &'a str)>, AllocError>
+    requires { (t : Text) × (chars text.now ≡ 47 ∷ 45 ∷ t) }
+    ensures { IfOk result (λ o. PlaceTakes (place_view place) (chars text.now) (option_map (λ (q, r). (place_view q, chars r.now)) o) (items_view items.old.items) (items_view items.new.items)) }
+{
+    let (_, behind) = cut(text, 2);
+    let Some(end) = pass_part(alloc, place, behind)? else {
+        return Ok(None);
+    };
+    let Some(next) = behind_part(place, end.is_block) else {
+        return Ok(None);
+    };
+    let (_, rest) = cut(behind, end.at);
+    let (part, _) = cut(text, text.len() - rest.len());
+    items.push(Item::Piece(part))?;
+    Ok(Some((next, rest)))
+}

@@ -1,0 +1,23 @@
+//! Items, and the places in a node where they may stand.
+
+/// A comment or a dropped piece in the text around nodes or entries, as it stands there.
+#[derive(Clone, Copy)]
+pub enum Item<'a> {
+    /// A line comment, without the newline that ends it.
+    Comment(&'a str),
+    /// A block comment, or a node, entry or block that a slashdash drops: from the `/-` on, without a newline at its
+    /// end.
+    Piece(&'a str),
+}
+
+/// A place in a node, by what may stand there (KDL 2.0.0, Slashdash Comments).
+#[derive(Clone, Copy)]
+pub enum Place {
+    /// Before an entry; whether a node-space stands directly before what comes. Entries are dropped there.
+    BeforeEntry(bool),
+    /// Before the node's block, or before the terminator of a node without one. Entries are dropped there, and then
+    /// blocks.
+    BeforeBlock,
+    /// Behind the node's block, or behind a block that is dropped. Blocks are dropped there.
+    BehindBlock,
+}

@@ -1,0 +1,17 @@
+//! The comments in the texts around nodes and entries, and what a slashdash drops there: they are read as items, and
+//! written as layout writes them.
+#![tactic(auto)]
+
+mod dropped;
+mod item;
+mod machine;
+mod places;
+mod slices;
+mod spaces;
+mod terminator;
+mod written;
+
+pub use item::{Item, Place};
+pub use places::{gap_items, place_items};
+pub use terminator::line_comment;
+pub use written::{push_lines, push_tail};

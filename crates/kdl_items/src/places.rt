@@ -1,0 +1,134 @@
+//! The items of a text that is a gap, or that stands in a place of a node.
+
+ghost use Rattle.kdl_items.specs.Items.{GapItems, may_end, spaced};
+ghost use Rattle.kdl_items.specs.Passed.{PlaceTakes};
+ghost use Rattle.kdl_items.specs.Reading.{IsGapWith, IsPlaceWith, Takes, items_view, place_view};
+ghost use Rattle.kdl_text.specs.Chars.{begins_two};
+ghost use Rattle.std.specs.Prelude.{◌≡◌, IfOk, [], option_map, true};
+ghost use Rattle.std.specs.Str.{chars};
+
+use crate::dropped::{dropped_node, dropped_part};
+use crate::item::{Item, Place};
+use crate::spaces::{line_spaces, node_spaces};
+use kdl_text::chars::{Cursor, Steps};
+use std::alloc::{AllocError, Global};
+
+/// Whether `/-` begins the text.
+fn begins_slashdash(text: &str) -> bool
+    ensures { result ≡ begins_two 47 45 (chars text.now) }
+{
+    Cursor::new(text, Steps::new()).looks_two('/', '-')
+}
+
+/// The same text: a loop that goes on with a call's result knows that it is UTF-8.
+#[inline]
+fn same(text: &str) -> &str
+    ensures { chars result.now ≡ chars text.now }
+{
+    text
+}
+
+/// Adds the items of the line-spaces or of the dropped node that begin the text of a gap. The text behind them; none
+/// where the text is no gap.
+fn gap_piece<'a>(
+    alloc: Global,
+    text: &'a str,
+    items: &mut Vec<Item<'a>>,
+) -> Result<Option<&'a str>, AllocError>
+    requires { chars text.now ≡ [] → ⊥ }
+    ensures { IfOk result (λ o. Takes GapItems GapItems (chars text.now) (option_map (λ r. chars r.now) o) (items_view items.old.items) (items_view items.new.items)) }
+{
+    if begins_slashdash(text) {
+        dropped_node(alloc, text, items)
+    } else {
+        line_spaces(text, items)
+    }
+}
+
+/// The items of the text, in order, each a slice of it; none where the text is no gap: line-spaces, and nodes that a
+/// slashdash drops (KDL 2.0.0, Document). The last of these may end with the text; the spaces and comments behind it
+/// are no part of it.
+///
+/// Fails where memory is wanting.
+pub fn gap_items<'a>(alloc: Global, text: &'a str) -> Result<Option<Vec<Item<'a>>>, AllocError>
+    ensures { IfOk result (λ o. IsGapWith (chars text.now) (option_map (λ v. items_view v.items) o)) }
+{
+    let mut items = Vec::new(alloc);
+    let mut rest = text;
+    'pieces: while !rest.is_empty() {
+        match gap_piece(alloc, rest, &mut items)? {
+            Some(behind) => rest = same(behind),
+            None => return Ok(None),
+        }
+    }
+    Ok(Some(items))
+}
+
+/// The place behind a node-space.
+fn spaced(place: Place) -> Place
+    ensures { place_view result ≡ spaced true (place_view place) }
+{
+    match place {
+        Place::BeforeEntry(_) => Place::BeforeEntry(true),
+        _ => place,
+    }
+}
+
+/// Whether the place may end here.
+fn may_end(place: Place) -> bool
+    ensures { result ≡ may_end (place_view place) }
+{
+    match place {
+        Place::BeforeEntry(spaced) => spaced,
+        _ => true,
+    }
+}
+
+/// Adds the items of the node-spaces, or of the entry or block that is dropped, that begin the text in a place. The
+/// text behind them and the place there; none where the text can't stand in the place.
+fn place_piece<'a>(
+    alloc: Global,
+    place: Place,
+    text: &'a str,
+    items: &mut Vec<Item<'a>>,
+) -> Result<Option<(Place, &'a str)>, AllocError>
+    requires { chars text.now ≡ [] → ⊥ }
+    ensures { IfOk result (λ o. PlaceTakes (place_view place) (chars text.now) (option_map (λ (q, r). (place_view q, chars r.now)) o) (items_view items.old.items) (items_view items.new.items)) }
+{
+    if begins_slashdash(text) {
+        return dropped_part(alloc, place, text, items);
+    }
+    match node_spaces(text, items)? {
+        Some(behind) => Ok(Some((spaced(place), behind))),
+        None => Ok(None),
+    }
+}
+
+/// The items of the text in a place of a node, in order, each a slice of it; none where the text can't stand there.
+///
+/// Fails where memory is wanting.
+pub fn place_items<'a>(
+    alloc: Global,
+    place: Place,
+    text: &'a str,
+) -> Result<Option<Vec<Item<'a>>>, AllocError>
+    ensures { IfOk result (λ o. IsPlaceWith (place_view place) (chars text.now) (option_map (λ v. items_view v.items) o)) }
+{
+    let mut items = Vec::new(alloc);
+    let mut rest = text;
+    let mut place = place;
+    'pieces: while !rest.is_empty() {
+        match place_piece(alloc, place, rest, &mut items)? {
+            Some((next, behind)) => {
+                place = next;
+                rest = same(behind);
+            }
+            None => return Ok(None),
+        }
+    }
+    if may_end(place) {
+        Ok(Some(items))
+    } else {
+        Ok(None)
+    }
+}
