@@ -1,21 +1,22 @@
 -- Nodes and documents whose parts were laid out.
-use Rattle.std.proofs.Common.{◌≡◌, ℕ, zero, suc, ◌+◌, ◌<◌, ◌≤◌, Bool, true, false, List, [], ◌∷◌, ◌++◌, length, map, take, drop, set, get_or, Option, Some, option_map, refl, sym, ap, ◌∙◌, subst, arith, Result, Ok, Err, IfOk, Vec, Global, ◌==◌}
+use Rattle.std.proofs.Common.{◌≡◌, ℕ, zero, suc, ◌+◌, ◌<◌, ◌≤◌, Bool, true, false, List, [], ◌∷◌, ◌++◌, length, map, take, drop, set, get_or, Option, None, Some, option_map, refl, sym, ap, ◌∙◌, subst, arith, add-one, Result, Ok, Err, IfOk, Vec, Global, ◌==◌}
+use Rattle.std.specs.List.{AllZip}
+use Rattle.std.specs.Prelude.{is_some}
 use Rattle.std.proofs.lemmas.Bool.{eq-eqb, eqb-true}
-use Rattle.std.proofs.lemmas.List.{length-set}
-use Rattle.std.proofs.lemmas.Simd.{map-map}
-use Rattle.kdl_text.specs.Chars.{Text}
+use Rattle.std.proofs.lemmas.List.{length-set, length-map}
 use Rattle.kdl_value.proofs.WellFormed.{text_scalars}
-use Rattle.kdl_entry.specs.Tree.{Identifier, identifier_tree, Entry, entry_tree, entry_data, unspelled}
+use Rattle.kdl_entry.specs.Tree.{Identifier, identifier_tree, Entry, entry_tree, entry_data, unspelled, cleared}
 use Rattle.kdl_text.specs.declared.span.SourceSpan.{SourceSpan}
-use Rattle.kdl_grammar.specs.Tree.{NodeFormat, document_data, Node, node, Nodes, first, nodes_of, Document, document, Children, children, children_of, node_data, nodes_data, children_data, DocumentFormat}
-use Rattle.kdl_fmt.specs.Config.{Settings, indentation}
-use Rattle.kdl_fmt.specs.Formatted.{formatted_entry, formatted_node, formatted_nodes, formatted_children, formatted_document, has_children, or_empty, or_empty_document, in_braces, newline_if_none, bare_node, bare_nodes, bare_children, bare_document}
-use Rattle.kdl_fmt.specs.Plain.{plain_line, plain_content, plain_block, newline_if}
+use Rattle.kdl_grammar.specs.Tree.{NodeFormat, document_data, Node, node, Nodes, nodes_of, Document, document, Children, children, children_of, node_data, nodes_data, children_data, DocumentFormat, first}
+use Rattle.kdl_fmt.specs.Config.{Settings}
+use Rattle.kdl_fmt.specs.Formatted.{or_empty, or_empty_document, newline_if_none, bare_node, bare_nodes, bare_children, bare_document}
+use Rattle.kdl_fmt.specs.Plain.{newline_if}
 use Rattle.kdl_fmt.specs.WellFormed.{IsWellFormedNode, AreWellFormed, AreWellFormedChildren, AreWellFormedEntries}
+use Rattle.kdl_fmt.specs.WithComments.{AreFormattedEntries, IsLine, IsContent, IsBraced, has_block, IsFormattedNode, IsFormattedChildren, AreFormattedNodes, IsFormattedDocument}
 use Rattle.kdl_fmt.proofs.Entries.{scalars}
-use Rattle.kdl_fmt.proofs.Formatting.{unspelled_twice, entries_bare, node_bare, line_now, content_now}
-use Rattle.kdl_fmt.proofs.Loops.{Each}
-use Rattle.kdl_parts.proofs.Loops.{Changed, changed_all, given_back}
+use Rattle.kdl_fmt.proofs.FormattedAs.{stays}
+use Rattle.kdl_fmt.proofs.Formatting.{unspelled_twice}
+use Rattle.kdl_parts.proofs.Loops.{given_back}
 use Rattle.kdl_parts.specs.Formats.{node_format_tree, document_format_tree}
 use Rattle.kdl.specs.Tree.{node_tree, document_tree, nodes_tree}
 use Rattle.kdl.specs.declared.node.KdlNode.{KdlNode}
@@ -27,92 +28,129 @@ pub if_ok : {A E P Q : Type 0} (r : Result A E) → (P → Q) → IfOk r (λ (a 
 if_ok (Ok a) f p = f p
 if_ok (Err e) f p = p
 
-nodes_laid : (s : Settings) (level : ℕ) (ns : List Node) → nodes_of (map (formatted_node s level) ns) ≡ formatted_nodes s level (nodes_of ns)
-nodes_laid s level [] = refl
-nodes_laid s level (n ∷ ns) = ap (first (formatted_node s level n)) (nodes_laid s level ns)
+-- what a loop has made of a list whose start is `start`: the first i elements are related to those at the start, the others are as they were
+abbrev pub Turned : {A B : Type 0} → (A → B) → (B → B → Type 0) → List A → ℕ → List B → Type 0
+Turned f R [] i [] = Unit {0}
+Turned f R (x ∷ xs) zero (s ∷ start) = (f x ≡ s) × Turned f R xs zero start
+Turned f R (x ∷ xs) (suc i) (s ∷ start) = R s (f x) × Turned f R xs i start
+Turned f R _ _ _ = ⊥
+
+pub turned_none : {A B : Type 0} (f : A → B) (R : B → B → Type 0) (xs : List A) → Turned f R xs 0 (map f xs)
+turned_none f R [] = tt
+turned_none f R (x ∷ xs) = (refl, turned_none f R xs)
+
+turned_suc : {A B : Type 0} (f : A → B) (R : B → B → Type 0) (xs : List A) (i : ℕ) (y d : A) (start : List B) → i < length xs
+    → R (f (get_or xs i d)) (f y) → Turned f R xs i start → Turned f R (set xs i y) (suc i) start
+turned_suc f R [] i y d start h r t = absurd (omega arith)
+turned_suc f R (x ∷ xs) zero y d [] h r t = absurd t
+turned_suc f R (x ∷ xs) (suc i) y d [] h r t = absurd t
+turned_suc f R (x ∷ xs) zero y d (s ∷ start) h r t = (subst (λ b. R b (f y)) t.0 r, t.1)
+turned_suc f R (x ∷ xs) (suc i) y d (s ∷ start) h r t = (t.0, turned_suc f R xs i y d start (omega arith) r t.1)
+
+-- one more element is turned
+pub turned_more : {A B : Type 0} (f : A → B) (R : B → B → Type 0) (xs : List A) (i : ℕ) (y d : A) (start : List B) → i < length xs
+    → R (f (get_or xs i d)) (f y) → Turned f R xs i start → Turned f R (set xs i y) (i + 1) start
+turned_more f R xs i y d start h r t = rw (add-one i) (turned_suc f R xs i y d start h r t)
+
+turned_through : {A B : Type 0} (f : A → B) (R : B → B → Type 0) (xs : List A) (i : ℕ) (start : List B) → length start ≤ i → Turned f R xs i start → AllZip R start (map f xs)
+turned_through f R [] i [] h t = tt
+turned_through f R [] i (s ∷ start) h t = absurd t
+turned_through f R (x ∷ xs) zero [] h t = absurd t
+turned_through f R (x ∷ xs) (suc i) [] h t = absurd t
+turned_through f R (x ∷ xs) zero (s ∷ start) h t = absurd (omega arith)
+turned_through f R (x ∷ xs) (suc i) (s ∷ start) h t = (t.0, turned_through f R xs i start (omega arith) t.1)
+
+-- all are turned
+pub turned_all : {A B : Type 0} (f : A → B) (R : B → B → Type 0) (n i : ℕ) (xs zs ys : List A) → zs ≡ ys → length xs ≡ n → length zs ≤ i → Turned f R xs i (map f zs)
+    → AllZip R (map f ys) (map f (take n (xs ++ drop (length xs) ys)))
+turned_all f R n i xs zs ys z h k t =
+    let u : Turned f R xs i (map f ys) = rw z at t in
+    let l : length (map f ys) ≤ i = omega (arith, length-map ys f, ap length z) in
+    rw (given_back n xs ys h) (turned_through f R xs i (map f ys) l u)
+
+-- what R leaves as it is stays in the midst of the loop too
+pub turned_same : {A B C : Type 0} (f : A → B) (R : B → B → Type 0) (g : B → C) → ((a b : B) → R a b → g b ≡ g a) → (xs : List A) (i : ℕ) (start : List B) → Turned f R xs i start
+    → map g (map f xs) ≡ map g start
+turned_same f R g r [] i [] t = refl
+turned_same f R g r [] i (s ∷ start) t = absurd t
+turned_same f R g r (x ∷ xs) zero [] t = absurd t
+turned_same f R g r (x ∷ xs) (suc i) [] t = absurd t
+turned_same f R g r (x ∷ xs) zero (s ∷ start) t = let a : g (f x) ≡ g s = ap g t.0 in let b = turned_same f R g r xs zero start t.1 in cc
+turned_same f R g r (x ∷ xs) (suc i) (s ∷ start) t = let a : g (f x) ≡ g s = r s (f x) t.0 in let b = turned_same f R g r xs i start t.1 in cc
+
+exchanged : {A B C : Type 0} (f : A → B) (g : B → C) (xs : List A) (i : ℕ) (y d : A) → i < length xs → g (f y) ≡ g (f (get_or xs i d)) → map g (map f (set xs i y)) ≡ map g (map f xs)
+exchanged f g [] i y d h e = absurd (omega arith)
+exchanged f g (x ∷ xs) zero y d h e = rw e refl
+exchanged f g (x ∷ xs) (suc i) y d h e = rw (exchanged f g xs i y d (omega arith) e) refl
+
+-- and where one more element is exchanged
+pub turned_exchanged : {A B C : Type 0} (f : A → B) (R : B → B → Type 0) (g : B → C) → ((a b : B) → R a b → g b ≡ g a) → (xs : List A) (i : ℕ) (y d : A) (start : List B) → i < length xs
+    → g (f y) ≡ g (f (get_or xs i d)) → Turned f R xs i start → map g (map f (set xs i y)) ≡ map g start
+turned_exchanged f R g r xs i y d start h e t = exchanged f g xs i y d h e ∙ turned_same f R g r xs i start t
+
+-- a node that memory holds, and what layout makes of it
+abbrev pub Laid : Settings → ℕ → Node → Node → Type 0
+Laid s level n n' = IsFormattedNode s level n n' × IsWellFormedNode (node_data n)
+
+-- what the loop over nodes keeps
+abbrev pub Partly : Settings → ℕ → List KdlNode → ℕ → List KdlNode → Type 0
+Partly s level xs i start = Turned node_tree (Laid s level) xs i (map node_tree start)
+
+laid_stays : (s : Settings) (level : ℕ) (n n' : Node) → Laid s level n n' → bare_node n' ≡ bare_node n
+laid_stays s level n n' l = stays s level n n' l.0
+
+nodes_laid : (s : Settings) (level : ℕ) (ns ms : List Node) → AllZip (Laid s level) ns ms → AreFormattedNodes s level (nodes_of ns) (nodes_of ms)
+nodes_laid s level [] [] h = tt
+nodes_laid s level [] (m ∷ ms) h = absurd h
+nodes_laid s level (n ∷ ns) [] h = absurd h
+nodes_laid s level (n ∷ ns) (m ∷ ms) h = (h.0.0, nodes_laid s level ns ms h.1)
+
+nodes_fit : (s : Settings) (level : ℕ) (ns ms : List Node) → AllZip (Laid s level) ns ms → AreWellFormed (nodes_data (nodes_of ns))
+nodes_fit s level [] ms h = tt
+nodes_fit s level (n ∷ ns) [] h = absurd h
+nodes_fit s level (n ∷ ns) (m ∷ ms) h = (h.0.1, nodes_fit s level ns ms h.1)
 
 nodes_bared : (ns : List Node) → bare_nodes (nodes_of ns) ≡ nodes_of (map bare_node ns)
 nodes_bared [] = refl
 nodes_bared (n ∷ ns) = ap (first (bare_node n)) (nodes_bared ns)
 
--- what the loop over nodes keeps
-abbrev pub Partly : Settings → ℕ → List KdlNode → ℕ → List KdlNode → Type 0
-Partly s level xs i start = Changed node_tree (formatted_node s level) xs i (map node_tree start)
-
-pub all_laid : (s : Settings) (level n i : ℕ) (xs zs ys : List KdlNode) → zs ≡ ys → length xs ≡ n → length zs ≤ i → Partly s level xs i zs
-    → nodes_tree (take n (xs ++ drop (length xs) ys)) ≡ formatted_nodes s level (nodes_tree ys)
-all_laid s level n i xs zs ys z h k p = ap nodes_of (changed_all node_tree (formatted_node s level) n i xs zs ys z h k p) ∙ nodes_laid s level (map node_tree ys)
-
--- the nodes are the same but for formats and spellings, in the midst of the loop too
-midst : (s : Settings) (level i : ℕ) (start : List Node) → map bare_node (map (formatted_node s level) (take i start) ++ drop i start) ≡ map bare_node start
-midst s level zero [] = refl
-midst s level (suc i) [] = refl
-midst s level zero (n ∷ ns) = refl
-midst s level (suc i) (n ∷ ns) = let a = node_bare s level n in let b = midst s level i ns in cc
-
-so_far : (s : Settings) (level i : ℕ) (xs ys : List KdlNode) → Partly s level xs i ys → map bare_node (map node_tree xs) ≡ map bare_node (map node_tree ys)
-so_far s level i xs ys p = ap (map bare_node) p ∙ midst s level i (map node_tree ys)
-
 bare_same : (xs ys : List Node) → map bare_node xs ≡ map bare_node ys → bare_nodes (nodes_of xs) ≡ bare_nodes (nodes_of ys)
 bare_same xs ys e = nodes_bared xs ∙ ap nodes_of e ∙ sym (nodes_bared ys)
 
-pub bare_so_far : (s : Settings) (level n i : ℕ) (xs zs ys : List KdlNode) → zs ≡ ys → length xs ≡ n → Partly s level xs i zs
-    → bare_nodes (nodes_tree (take n (xs ++ drop (length xs) ys))) ≡ bare_nodes (nodes_tree ys)
-bare_so_far s level n i xs zs ys z h p =
-    let q : Partly s level xs i ys = rw z at p in
-    rw (given_back n xs ys h) (bare_same (map node_tree xs) (map node_tree ys) (so_far s level i xs ys q))
+-- the nodes ys, of which the loop has made xs, which are given back
+module _ (s : Settings) (level n i : ℕ) (xs zs ys : List KdlNode) (z : zs ≡ ys) (whole : length xs ≡ n) (turned : Partly s level xs i zs) where
+  pub all_laid : length zs ≤ i → AreFormattedNodes s level (nodes_tree ys) (nodes_tree (take n (xs ++ drop (length xs) ys)))
+  all_laid h = nodes_laid s level (map node_tree ys) (map node_tree (take n (xs ++ drop (length xs) ys))) (turned_all node_tree (Laid s level) n i xs zs ys z whole h turned)
 
-exchanged : {A B : Type 0} (f : A → B) (xs : List A) (i : ℕ) (y d : A) → i < length xs → f y ≡ f (get_or xs i d) → map f (set xs i y) ≡ map f xs
-exchanged f [] i y d h e = absurd (omega arith)
-exchanged f (x ∷ xs) zero y d h e = rw e refl
-exchanged f (x ∷ xs) (suc i) y d h e = rw (exchanged f xs i y d (omega arith) e) refl
+  pub all_fit : length zs ≤ i → AreWellFormed (nodes_data (nodes_tree ys))
+  all_fit h = nodes_fit s level (map node_tree ys) (map node_tree (take n (xs ++ drop (length xs) ys))) (turned_all node_tree (Laid s level) n i xs zs ys z whole h turned)
 
--- one more node is the same
-pub bare_after : (s : Settings) (level n i : ℕ) (xs zs ys : List KdlNode) (y d : KdlNode) → zs ≡ ys → length xs ≡ n → i < n → Partly s level xs i zs
-    → bare_node (node_tree y) ≡ bare_node (node_tree (get_or xs i d))
-    → bare_nodes (nodes_tree (take n (set xs i y ++ drop (length (set xs i y)) ys))) ≡ bare_nodes (nodes_tree ys)
-bare_after s level n i xs zs ys y d z h b p e =
-    let q : Partly s level xs i ys = rw z at p in
-    let l : length (set xs i y) ≡ n = omega (arith, length-set {A = KdlNode}) in
-    rw (given_back n (set xs i y) ys l)
-    (bare_same (map node_tree (set xs i y)) (map node_tree ys)
-    (map-map bare_node node_tree (set xs i y) ∙ exchanged (λ (k : KdlNode). bare_node (node_tree k)) xs i y d (omega arith) e ∙ sym (map-map bare_node node_tree xs) ∙ so_far s level i xs ys q))
+  -- but for formats and spellings they are the same
+  pub bare_so_far : bare_nodes (nodes_tree (take n (xs ++ drop (length xs) ys))) ≡ bare_nodes (nodes_tree ys)
+  bare_so_far =
+      let t : Partly s level xs i ys = rw z at turned in
+      rw (given_back n xs ys whole) (bare_same (map node_tree xs) (map node_tree ys) (turned_same node_tree (Laid s level) bare_node (laid_stays s level) xs i (map node_tree ys) t))
 
-pub nodes_fit : (ns : List Node) → Each (λ n. IsWellFormedNode (node_data n)) ns → AreWellFormed (nodes_data (nodes_of ns))
-nodes_fit [] h = tt
-nodes_fit (n ∷ ns) h = (h.0, nodes_fit ns h.1)
+  pub bare_after : (y d : KdlNode) → i < n → bare_node (node_tree y) ≡ bare_node (node_tree (get_or xs i d))
+      → bare_nodes (nodes_tree (take n (set xs i y ++ drop (length (set xs i y)) ys))) ≡ bare_nodes (nodes_tree ys)
+  bare_after y d b e =
+      let t : Partly s level xs i ys = rw z at turned in
+      let l : length (set xs i y) ≡ n = omega (arith, length-set {A = KdlNode}) in
+      rw (given_back n (set xs i y) ys l)
+      (bare_same (map node_tree (set xs i y)) (map node_tree ys)
+      (turned_exchanged node_tree (Laid s level) bare_node (laid_stays s level) xs i y d (map node_tree ys) (omega arith) e t))
 
--- a node, and a document, by their parts
+-- a node, by its parts
 abbrev node_from : Option Identifier → Identifier → List Entry → SourceSpan → Option NodeFormat → Children → Node
 node_from y i es at f k = node (record { ty = y; name = i; entries = es; format = f; span = at }) k
 
-bare_made : (s : Settings) (y y' : Option Identifier) (i i' : Identifier) (es es' : List Entry) (at at' : SourceSpan) (f f' : Option NodeFormat) (k k' : Children)
-    → y ≡ option_map unspelled y' → i ≡ unspelled i' → es ≡ map (formatted_entry s) es' → at ≡ at' → bare_children k ≡ bare_children k'
+bare_made : (y y' : Option Identifier) (i i' : Identifier) (es es' : List Entry) (at at' : SourceSpan) (f f' : Option NodeFormat) (k k' : Children)
+    → option_map unspelled y ≡ option_map unspelled y' → unspelled i ≡ unspelled i' → map cleared es ≡ map cleared es' → at ≡ at' → bare_children k ≡ bare_children k'
     → bare_node (node_from y i es at f k) ≡ bare_node (node_from y' i' es' at' f' k')
-bare_made s y y' i i' es es' at at' f f' k k' a b c d e =
-    rw (a, b, c, d, unspelled_twice y', entries_bare s es', e) refl
-
-laid_made : (s : Settings) (level : ℕ) (before : Text) (y y' : Option Identifier) (i i' : Identifier) (es es' : List Entry) (at at' : SourceSpan) (f f' : Option NodeFormat) (k k' : Children)
-    → y ≡ option_map unspelled y' → i ≡ unspelled i' → es ≡ map (formatted_entry s) es' → at ≡ at' → before ≡ indentation s level → f ≡ Some (plain_line before) → k ≡ formatted_children s level k'
-    → node_from y i es at f k ≡ formatted_node s level (node_from y' i' es' at' f' k')
-laid_made s level before y y' i i' es es' at at' f f' k k' a b c d e g h =
-    rw (a, b, c, d, g, e, h) refl
-    ∙ ap (λ (l : NodeFormat). node_from (option_map unspelled y') (unspelled i') (map (formatted_entry s) es') at' (Some l) (formatted_children s level k')) (sym (line_now s level (has_children k') (or_empty f')))
+bare_made y y' i i' es es' at at' f f' k k' a b c d e = rw (a, b, c, d, e) refl
 
 bare_content : (f f' : Option DocumentFormat) (at at' : SourceSpan) (ns ns' : Nodes) → at ≡ at' → bare_nodes ns ≡ bare_nodes ns' → bare_document (document f at ns) ≡ bare_document (document f' at' ns')
 bare_content f f' at at' ns ns' a b = rw (a, b) refl
-
-content_made : (s : Settings) (level : ℕ) (empty : Bool) (f f' : Option DocumentFormat) (at at' : SourceSpan) (ns ns' : Nodes) → at ≡ at' → newline_if empty ≡ newline_if_none ns'
-    → f ≡ Some (plain_content empty) → ns ≡ formatted_nodes s level ns' → document f at ns ≡ formatted_document s level (document f' at' ns')
-content_made s level empty f f' at at' ns ns' a e g h =
-    rw (a, g, e, h) refl
-    ∙ ap (λ (x : DocumentFormat). document (Some x) at' (formatted_nodes s level ns')) (sym (content_now s level ns' (or_empty_document f')))
-
-block_made : (s : Settings) (level : ℕ) (before : Text) (empty : Bool) (f f' : Option DocumentFormat) (at at' : SourceSpan) (ns ns' : Nodes) → at ≡ at' → newline_if empty ≡ newline_if_none ns'
-    → before ≡ indentation s level → f ≡ Some (plain_block empty before) → ns ≡ formatted_nodes s (level + 1) ns' → children (document f at ns) ≡ formatted_children s level (children (document f' at' ns'))
-block_made s level before empty f f' at at' ns ns' a e b g h =
-    rw (a, g, e, b, h) refl
-    ∙ ap (λ (x : DocumentFormat). children (document (Some (in_braces (indentation s level) x)) at' (formatted_nodes s (level + 1) ns'))) (sym (content_now s (level + 1) ns' (or_empty_document f')))
 
 -- whether there are no nodes
 pub none_there : (v : Vec KdlNode Global) (b : Bool) → b ≡ (v.len == 0) → newline_if b ≡ newline_if_none (nodes_tree v.items)
@@ -124,47 +162,54 @@ none_there v b e = go b v.len v.items v.ok.0 e
     go true n (x ∷ xs) h e = let z : suc (length xs) ≡ 0 = sym h ∙ eqb-true n 0 (sym e) in absurd (cc)
     go false n (x ∷ xs) h e = refl
 
--- a node of which the parts are known
-module _ (s : Settings) (m n : KdlNode)
-    (ty : option_map identifier_tree (out-KdlNode m).ty ≡ option_map unspelled (option_map identifier_tree (out-KdlNode n).ty))
-    (name : identifier_tree (out-KdlNode m).name ≡ unspelled (identifier_tree (out-KdlNode n).name))
-    (entries : map entry_tree (out-KdlNode m).entries.items ≡ map (formatted_entry s) (map entry_tree (out-KdlNode n).entries.items))
-    (span : (out-KdlNode m).span ≡ (out-KdlNode n).span) where
-  pub same_node : bare_children (children_of (option_map document_tree (out-KdlNode m).children)) ≡ bare_children (children_of (option_map document_tree (out-KdlNode n).children))
-      → bare_node (node_tree m) ≡ bare_node (node_tree n)
-  same_node k = ap bare_node (node_tree_out m) ∙ bare_made s _ _ _ (identifier_tree (out-KdlNode n).name) _ _ _ _ (option_map node_format_tree (out-KdlNode m).format) (option_map node_format_tree (out-KdlNode n).format) _ _ ty name entries span k ∙ sym (ap bare_node (node_tree_out n))
+-- whether there is a block
+block_there : (o : Option KdlDocument) (b : Bool) → b ≡ is_some o → b ≡ has_block (children_of (option_map document_tree o))
+block_there None b e = e
+block_there (Some d) b e = e
 
-  pub laid_node : (level : ℕ) (before : Text) → before ≡ indentation s level
-      → option_map node_format_tree (out-KdlNode m).format ≡ Some (plain_line before)
-      → children_of (option_map document_tree (out-KdlNode m).children) ≡ formatted_children s level (children_of (option_map document_tree (out-KdlNode n).children))
-      → node_tree m ≡ formatted_node s level (node_tree n)
-  laid_node level before b f k =
-      node_tree_out m
-      ∙ laid_made s level before _ _ _ (identifier_tree (out-KdlNode n).name) _ _ _ _ _ (option_map node_format_tree (out-KdlNode n).format) _ (children_of (option_map document_tree (out-KdlNode n).children)) ty name entries span b f k
-      ∙ sym (ap (formatted_node s level) (node_tree_out n))
+pub unspelled_same : (y y' : Option Identifier) → y ≡ option_map unspelled y' → option_map unspelled y ≡ option_map unspelled y'
+unspelled_same y y' e = ap (option_map unspelled) e ∙ unspelled_twice y'
+
+-- a node of which the parts are known
+module _ (m n : KdlNode) where
+  pub same_node : option_map unspelled (option_map identifier_tree (out-KdlNode m).ty) ≡ option_map unspelled (option_map identifier_tree (out-KdlNode n).ty)
+      → unspelled (identifier_tree (out-KdlNode m).name) ≡ unspelled (identifier_tree (out-KdlNode n).name)
+      → map cleared (map entry_tree (out-KdlNode m).entries.items) ≡ map cleared (map entry_tree (out-KdlNode n).entries.items)
+      → (out-KdlNode m).span ≡ (out-KdlNode n).span
+      → bare_children (children_of (option_map document_tree (out-KdlNode m).children)) ≡ bare_children (children_of (option_map document_tree (out-KdlNode n).children))
+      → bare_node (node_tree m) ≡ bare_node (node_tree n)
+  same_node ty name entries span k =
+      ap bare_node (node_tree_out m)
+      ∙ bare_made _ _ (identifier_tree (out-KdlNode m).name) (identifier_tree (out-KdlNode n).name) _ _ _ _ (option_map node_format_tree (out-KdlNode m).format) (option_map node_format_tree (out-KdlNode n).format) _ _ ty name entries span k
+      ∙ sym (ap bare_node (node_tree_out n))
+
+  pub laid_node : (s : Settings) (level : ℕ) (b : Bool) → b ≡ is_some (out-KdlNode n).children
+      → option_map identifier_tree (out-KdlNode m).ty ≡ option_map unspelled (option_map identifier_tree (out-KdlNode n).ty)
+      → identifier_tree (out-KdlNode m).name ≡ unspelled (identifier_tree (out-KdlNode n).name)
+      → AreFormattedEntries s (map entry_tree (out-KdlNode n).entries.items) (map entry_tree (out-KdlNode m).entries.items)
+      → (f : Option NodeFormat) → option_map node_format_tree (out-KdlNode m).format ≡ f → IsLine s level b (or_empty (option_map node_format_tree (out-KdlNode n).format)) f
+      → (out-KdlNode m).span ≡ (out-KdlNode n).span
+      → IsFormattedChildren s level (children_of (option_map document_tree (out-KdlNode n).children)) (children_of (option_map document_tree (out-KdlNode m).children))
+      → IsFormattedNode s level (node_tree n) (node_tree m)
+  laid_node s level b e ty name entries f g line span k =
+      let own = subst (λ (x : Bool). IsLine s level x (or_empty (option_map node_format_tree (out-KdlNode n).format)) (option_map node_format_tree (out-KdlNode m).format))
+      (block_there (out-KdlNode n).children b e) (rw g line) in
+      rw (node_tree_out n, node_tree_out m) (record { ty = ty; name = name; entries = entries; format = own; span = span }, k)
 
 -- and a document
 module _ (m d : KdlDocument) (span : (out-KdlDocument m).span ≡ (out-KdlDocument d).span) where
   pub same_content : bare_nodes (nodes_tree (out-KdlDocument m).nodes.items) ≡ bare_nodes (nodes_tree (out-KdlDocument d).nodes.items) → bare_document (document_tree m) ≡ bare_document (document_tree d)
   same_content k = ap bare_document (document_tree_out m) ∙ bare_content (option_map document_format_tree (out-KdlDocument m).format) (option_map document_format_tree (out-KdlDocument d).format) _ _ _ _ span k ∙ sym (ap bare_document (document_tree_out d))
 
-  pub laid_content : (s : Settings) (level : ℕ) (empty : Bool) → empty ≡ ((out-KdlDocument d).nodes.len == 0)
-      → option_map document_format_tree (out-KdlDocument m).format ≡ Some (plain_content empty)
-      → nodes_tree (out-KdlDocument m).nodes.items ≡ formatted_nodes s level (nodes_tree (out-KdlDocument d).nodes.items)
-      → document_tree m ≡ formatted_document s level (document_tree d)
-  laid_content s level empty e f k =
-      document_tree_out m
-      ∙ content_made s level empty _ (option_map document_format_tree (out-KdlDocument d).format) _ _ _ (nodes_tree (out-KdlDocument d).nodes.items) span (none_there (out-KdlDocument d).nodes empty e) f k
-      ∙ sym (ap (formatted_document s level) (document_tree_out d))
+  pub laid_content : (s : Settings) (level : ℕ) (f : Option DocumentFormat) → option_map document_format_tree (out-KdlDocument m).format ≡ f
+      → IsContent s level (nodes_tree (out-KdlDocument d).nodes.items) (or_empty_document (option_map document_format_tree (out-KdlDocument d).format)) f
+      → AreFormattedNodes s level (nodes_tree (out-KdlDocument d).nodes.items) (nodes_tree (out-KdlDocument m).nodes.items) → IsFormattedDocument s level (document_tree d) (document_tree m)
+  laid_content s level f g c k = rw (document_tree_out d, document_tree_out m) (rw g c, span, k)
 
-  pub laid_block : (s : Settings) (level : ℕ) (empty : Bool) (before : Text) → empty ≡ ((out-KdlDocument d).nodes.len == 0) → before ≡ indentation s level
-      → option_map document_format_tree (out-KdlDocument m).format ≡ Some (plain_block empty before)
-      → nodes_tree (out-KdlDocument m).nodes.items ≡ formatted_nodes s (level + 1) (nodes_tree (out-KdlDocument d).nodes.items)
-      → children (document_tree m) ≡ formatted_children s level (children (document_tree d))
-  laid_block s level empty before e b f k =
-      ap children (document_tree_out m)
-      ∙ block_made s level before empty _ (option_map document_format_tree (out-KdlDocument d).format) _ _ _ (nodes_tree (out-KdlDocument d).nodes.items) span (none_there (out-KdlDocument d).nodes empty e) b f k
-      ∙ sym (ap (λ (x : Document). formatted_children s level (children x)) (document_tree_out d))
+  pub laid_block : (s : Settings) (level : ℕ) (f : Option DocumentFormat) → option_map document_format_tree (out-KdlDocument m).format ≡ f
+      → IsBraced s level (nodes_tree (out-KdlDocument d).nodes.items) (or_empty_document (option_map document_format_tree (out-KdlDocument d).format)) f
+      → AreFormattedNodes s (level + 1) (nodes_tree (out-KdlDocument d).nodes.items) (nodes_tree (out-KdlDocument m).nodes.items) → IsFormattedChildren s level (children (document_tree d)) (children (document_tree m))
+  laid_block s level f g c k = rw (document_tree_out d, document_tree_out m) (rw g c, span, k)
 
 pub fitting_node : (n : KdlNode) → AreWellFormedEntries (map entry_data (map entry_tree (out-KdlNode n).entries.items))
     → AreWellFormedChildren (children_data (children_of (option_map document_tree (out-KdlNode n).children))) → IsWellFormedNode (node_data (node_tree n))

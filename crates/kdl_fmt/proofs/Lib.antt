@@ -1,5 +1,17 @@
+pub mod Again
+pub mod CommentsReadBack
+pub mod CommentsStay
 pub mod Entries
+pub mod FormattedAs
 pub mod Formatting
+pub mod Fronts
+pub mod Keeping
+pub mod KeptAgain
+pub mod KeptItems
+pub mod LaidEntries
 pub mod Loops
+pub mod OneList
+pub mod Places
 pub mod ReadsBack
+pub mod SomeList
 pub mod Texts

@@ -1,36 +1,112 @@
--- A loop that changes the elements of a list one by one: what is known of all of them, once it has looked at each.
-use Rattle.std.proofs.Common.{◌≡◌, ℕ, zero, suc, ◌+◌, ◌<◌, ◌≤◌, List, [], ◌∷◌, length, map, take, get_or, arith, add-one, subst}
-use Rattle.std.proofs.lemmas.List.{take_all, length-map}
+-- A loop that changes the elements of a list one by one, as far as it has come: each that it has left is in a relation to what stood there, and the others are as they were.
+use Rattle.std.proofs.Common.{◌≡◌, ℕ, zero, suc, ◌+◌, ◌<◌, ◌≤◌, List, [], ◌∷◌, ◌++◌, length, map, take, drop, set, get_or, refl, ap, subst, ◌∙◌, arith, add-one}
+use Rattle.std.proofs.lemmas.List.{length-set}
 use Rattle.kdl_entry.specs.Tree.{Entry, entry_data}
+use Rattle.kdl_fmt.specs.Config.{Settings}
 use Rattle.kdl_fmt.specs.WellFormed.{IsWellFormedEntry, AreWellFormedEntries}
-use Rattle.kdl_parts.proofs.Loops.{Changed}
+use Rattle.kdl_fmt.specs.WithComments.{IsFormattedEntry, AreFormattedEntries}
+use Rattle.kdl_parts.proofs.Loops.{given_back}
 
 -- P holds of each element
 abbrev pub Each : {B : Type 0} → (B → Type 0) → List B → Type 0
 Each P [] = Unit {0}
 Each P (x ∷ xs) = P x × Each P xs
 
--- it holds of the first i of the start, and of the one that is next
-more_suc : {A B : Type 0} (P : B → Type 0) (f : A → B) (g : B → B) (xs : List A) (i : ℕ) (d : A) (start : List B) → i < length xs → Changed f g xs i start
-    → P (f (get_or xs i d)) → Each P (take i start) → Each P (take (suc i) start)
-more_suc P f g [] i d start h k p a = absurd (omega arith)
-more_suc P f g (x ∷ xs) zero d [] h k p a = tt
-more_suc P f g (x ∷ xs) (suc i) d [] h k p a = tt
-more_suc P f g (x ∷ xs) zero d (s ∷ start) h k p a = let e : f x ≡ s = cc in (subst P e p, tt)
-more_suc P f g (x ∷ xs) (suc i) d (s ∷ start) h k p a =
-    let e : Changed f g xs i start = cc in
-    (a.0, more_suc P f g xs i d start (omega arith) e p a.1)
+-- R holds of each element of the first list and the one in its place in the second
+abbrev pub Pairwise : {B : Type 0} → (B → B → Type 0) → List B → List B → Type 0
+Pairwise R [] [] = Unit {0}
+Pairwise R (s ∷ ss) (t ∷ ts) = R s t × Pairwise R ss ts
+Pairwise R _ _ = ⊥
 
-pub each_more : {A B : Type 0} (P : B → Type 0) (f : A → B) (g : B → B) (xs : List A) (i : ℕ) (d : A) (start : List B) → i < length xs → Changed f g xs i start
-    → P (f (get_or xs i d)) → Each P (take i start) → Each P (take (i + 1) start)
-each_more P f g xs i d start h k p a = rw (add-one i) (more_suc P f g xs i d start h k p a)
+-- what a loop has made of a list whose start is `start`: R holds of the first i at the start and now, and the others are as they were
+abbrev pub Turned : {A B : Type 0} → (A → B) → (B → B → Type 0) → List A → ℕ → List B → Type 0
+Turned f R [] i [] = Unit {0}
+Turned f R (x ∷ xs) zero (s ∷ ss) = (f x ≡ s) × Turned f R xs zero ss
+Turned f R (x ∷ xs) (suc i) (s ∷ ss) = R s (f x) × Turned f R xs i ss
+Turned f R _ _ _ = ⊥
 
--- behind the loop it holds of all
-pub each_all : {A B : Type 0} (P : B → Type 0) (f : A → B) (i : ℕ) (zs ys : List A) → zs ≡ ys → length zs ≤ i → Each P (take i (map f zs)) → Each P (map f ys)
-each_all P f i zs ys e h a =
-    let l : length (map f zs) ≤ i = omega (arith, length-map zs f) in
-    rw (← e) (subst (Each P) (take_all i (map f zs) l) a)
+module _ {A B : Type 0} (f : A → B) (R : B → B → Type 0) where
+  -- the loop has not begun
+  pub turned_start : (xs : List A) → Turned f R xs 0 (map f xs)
+  turned_start [] = tt
+  turned_start (x ∷ xs) = (refl, turned_start xs)
 
-pub entries_fit : (es : List Entry) → Each (λ e. IsWellFormedEntry (entry_data e)) es → AreWellFormedEntries (map entry_data es)
-entries_fit [] h = tt
-entries_fit (e ∷ es) h = (h.0, entries_fit es h.1)
+  turned_suc : (xs : List A) (i : ℕ) (y d : A) (start : List B) → i < length xs → R (f (get_or xs i d)) (f y) → Turned f R xs i start → Turned f R (set xs i y) (suc i) start
+  turned_suc [] i y d start h r k = absurd (omega arith)
+  turned_suc (x ∷ xs) zero y d [] h r k = absurd k
+  turned_suc (x ∷ xs) (suc i) y d [] h r k = absurd k
+  turned_suc (x ∷ xs) zero y d (s ∷ start) h r k = (subst (λ (z : B). R z (f y)) k.0 r, k.1)
+  turned_suc (x ∷ xs) (suc i) y d (s ∷ start) h r k = (k.0, turned_suc xs i y d start (omega arith) r k.1)
+
+  -- it has left one element more
+  pub turned_more : (xs : List A) (i : ℕ) (y d : A) (start : List B) → i < length xs → R (f (get_or xs i d)) (f y) → Turned f R xs i start → Turned f R (set xs i y) (i + 1) start
+  turned_more xs i y d start h r k = rw (add-one i) (turned_suc xs i y d start h r k)
+
+  turned_pairs : (xs : List A) (i : ℕ) (start : List B) → length xs ≤ i → Turned f R xs i start → Pairwise R start (map f xs)
+  turned_pairs [] i [] h k = tt
+  turned_pairs [] i (s ∷ start) h k = absurd k
+  turned_pairs (x ∷ xs) zero start h k = absurd (omega arith)
+  turned_pairs (x ∷ xs) (suc i) [] h k = absurd k
+  turned_pairs (x ∷ xs) (suc i) (s ∷ start) h k = (k.0, turned_pairs xs i start (omega arith) k.1)
+
+  -- it has left all: R holds of what it was given and of what it gives back
+  pub turned_all : (n i : ℕ) (xs zs ys : List A) → zs ≡ ys → length xs ≡ n → n ≤ i → Turned f R xs i (map f zs) → Pairwise R (map f ys) (map f (take n (xs ++ drop (length xs) ys)))
+  turned_all n i xs zs ys z h l k = rw (given_back n xs ys h) (turned_pairs xs i (map f ys) (omega arith) (subst (λ (w : List A). Turned f R xs i (map f w)) z k))
+
+  -- what R leaves as it was
+  module _ {C : Type 0} (g : B → C) (same : (s t : B) → R s t → g t ≡ g s) where
+    same_so_far : (xs : List A) (i : ℕ) (start : List B) → Turned f R xs i start → map g (map f xs) ≡ map g start
+    same_so_far [] i [] k = refl
+    same_so_far [] i (s ∷ start) k = absurd k
+    same_so_far (x ∷ xs) zero [] k = absurd k
+    same_so_far (x ∷ xs) (suc i) [] k = absurd k
+    same_so_far (x ∷ xs) zero (s ∷ start) k = rw (k.0, same_so_far xs zero start k.1) refl
+    same_so_far (x ∷ xs) (suc i) (s ∷ start) k = rw (same s (f x) k.0, same_so_far xs i start k.1) refl
+
+    exchanged : (xs : List A) (i : ℕ) (y d : A) → i < length xs → g (f y) ≡ g (f (get_or xs i d)) → map g (map f (set xs i y)) ≡ map g (map f xs)
+    exchanged [] i y d h e = absurd (omega arith)
+    exchanged (x ∷ xs) zero y d h e = rw e refl
+    exchanged (x ∷ xs) (suc i) y d h e = rw (exchanged xs i y d (omega arith) e) refl
+
+    -- it is the same wherever the loop ends
+    pub turned_same : (n i : ℕ) (xs zs ys : List A) → zs ≡ ys → length xs ≡ n → Turned f R xs i (map f zs) → map g (map f (take n (xs ++ drop (length xs) ys))) ≡ map g (map f ys)
+    turned_same n i xs zs ys z h k = rw (given_back n xs ys h) (same_so_far xs i (map f zs) k ∙ ap (λ (w : List A). map g (map f w)) z)
+
+    -- also behind an element at which it gave up
+    pub turned_exchanged : (n i : ℕ) (xs zs ys : List A) (y d : A) → zs ≡ ys → length xs ≡ n → i < n → Turned f R xs i (map f zs) → g (f y) ≡ g (f (get_or xs i d))
+        → map g (map f (take n (set xs i y ++ drop (length (set xs i y)) ys))) ≡ map g (map f ys)
+    turned_exchanged n i xs zs ys y d z h l k e =
+        let m : length (set xs i y) ≡ n = omega (arith, length-set {A = A}) in
+        rw (given_back n (set xs i y) ys m) (exchanged xs i y d (omega arith) e ∙ same_so_far xs i (map f zs) k ∙ ap (λ (w : List A). map g (map f w)) z)
+
+-- a relation, and what holds of the first of the two
+abbrev pub And : {B : Type 0} → (B → B → Type 0) → (B → Type 0) → B → B → Type 0
+And R P s t = R s t × P s
+
+pub pairs_related : {B : Type 0} (R : B → B → Type 0) (P : B → Type 0) (ss ts : List B) → Pairwise (And R P) ss ts → Pairwise R ss ts
+pairs_related R P [] [] k = tt
+pairs_related R P [] (t ∷ ts) k = absurd k
+pairs_related R P (s ∷ ss) [] k = absurd k
+pairs_related R P (s ∷ ss) (t ∷ ts) k = (k.0.0, pairs_related R P ss ts k.1)
+
+pub pairs_each : {B : Type 0} (R : B → B → Type 0) (P : B → Type 0) (ss ts : List B) → Pairwise (And R P) ss ts → Each P ss
+pairs_each R P [] [] k = tt
+pairs_each R P [] (t ∷ ts) k = absurd k
+pairs_each R P (s ∷ ss) [] k = absurd k
+pairs_each R P (s ∷ ss) (t ∷ ts) k = (k.0.1, pairs_each R P ss ts k.1)
+
+-- an entry that is laid out, and well formed
+abbrev pub LaidEntry : Settings → Entry → Entry → Type 0
+LaidEntry s = And (IsFormattedEntry s) (λ e. IsWellFormedEntry (entry_data e))
+
+pub entries_laid : (s : Settings) (es es' : List Entry) → Pairwise (LaidEntry s) es es' → AreFormattedEntries s es es'
+entries_laid s [] [] k = tt
+entries_laid s [] (e' ∷ es') k = absurd k
+entries_laid s (e ∷ es) [] k = absurd k
+entries_laid s (e ∷ es) (e' ∷ es') k = (k.0.0, entries_laid s es es' k.1)
+
+pub entries_fit : (s : Settings) (es es' : List Entry) → Pairwise (LaidEntry s) es es' → AreWellFormedEntries (map entry_data es)
+entries_fit s [] [] k = tt
+entries_fit s [] (e' ∷ es') k = absurd k
+entries_fit s (e ∷ es) [] k = absurd k
+entries_fit s (e ∷ es) (e' ∷ es') k = (k.0.1, entries_fit s es es' k.1)

@@ -1,16 +1,23 @@
--- Texts of one or four characters, and the format of a line.
-use Rattle.std.proofs.Common.{◌≡◌, ℕ, Bool, zero, suc, true, List, [], ◌∷◌, ◌++◌, lit<, refl, ap, ◌∙◌, String, string_bytes, Global, IfOk, Result, Ok, Err}
-use Rattle.std.proofs.lemmas.Bool.{and_parts, ltb-true}
-use Rattle.std.proofs.lemmas.Str.{chars-IsAscii, chars-nil, chars-append}
+-- Texts of one or four characters, and the formats of lines and documents.
+use Rattle.std.proofs.Common.{◌≡◌, ◌≢◌, ℕ, Bool, zero, suc, true, false, List, [], ◌∷◌, ◌++◌, ◌==◌, lit<, refl, sym, ap, ◌∙◌, Some, String, string_bytes, string_len, Global, IfOk, MatchBool, Result, Ok, Err}
+use Rattle.std.proofs.lemmas.Bool.{and_parts, ltb-true, eqb-true}
+use Rattle.std.proofs.lemmas.Str.{chars-IsAscii, chars-nil, chars-append, chars_from_encodes, chars_past_char, encodes-chars, IsUtf8-string_bytes}
+use Rattle.std.specs.Char.{encode_utf8}
 use Rattle.std.specs.List.{list_all, repeat}
 use Rattle.std.specs.Prelude.{nat_lt}
-use Rattle.std.specs.Str.{chars, IsAscii, IsUtf8}
+use Rattle.std.specs.Str.{chars, encode_utf8_all, IsAscii, IsUtf8}
 use Rattle.kdl_text.specs.Chars.{Text}
+use Rattle.kdl_value.specs.Print.{print_value}
 use Rattle.kdl_value.specs.Tree.{text_of}
-use Rattle.kdl_grammar.specs.Tree.{NodeFormat}
-use Rattle.kdl_fmt.specs.Plain.{plain_line, plain_content, newline_if}
+use Rattle.kdl_entry.specs.Tree.{Entry, EntryFormat, empty_format, entry_format_tree}
+use Rattle.kdl_entry.specs.declared.entry.KdlEntryFormat.{KdlEntryFormat}
+use Rattle.kdl_grammar.specs.Tree.{NodeFormat, Nodes}
 use Rattle.kdl_parts.specs.Formats.{node_format_tree, document_format_tree}
 use Rattle.kdl_parts.specs.declared.format.KdlNodeFormat.{KdlNodeFormat}
+use Rattle.kdl_items.proofs.Pushing.{no_bytes}
+use Rattle.kdl_fmt.specs.Formatted.{newline_if_none, in_braces}
+use Rattle.kdl_fmt.specs.Kept.{without_mark}
+use Rattle.kdl_fmt.specs.WithComments.{NodeTexts, line_of, content_of, behind}
 
 ascii : (s : Text) → list_all (λ c. nat_lt c 128) s ≡ true → IsAscii s
 ascii [] h i = lit< tt
@@ -36,15 +43,48 @@ newline_text = ascii_text (10 ∷ []) refl
 pub space_text : chars (32 ∷ []) ≡ 32 ∷ []
 space_text = ascii_text (32 ∷ []) refl
 
--- a format of empty texts with three others
-pub line_made : (f : KdlNodeFormat) (a b c : String Global) (before : Text) → node_format_tree f ≡ empty_line
-    → text_of a ≡ before → text_of b ≡ chars (32 ∷ []) → text_of c ≡ chars (10 ∷ []) → node_format_tree (record f { leading = a; before_children = b; terminator = c }) ≡ plain_line before
-line_made f a b c before e x y z =
-    ap (λ (t : NodeFormat). record t { leading = text_of a; before_children = text_of b; terminator = text_of c }) e
-    ∙ rw (x, y ∙ space_text, z ∙ newline_text) refl
+-- a format of empty texts with five others
+pub line_made : (f : KdlNodeFormat) (a b c d e : String Global) (k : NodeTexts) (before : Text) → node_format_tree f ≡ empty_line
+    → text_of a ≡ k.before ++ before → text_of b ≡ k.before_block ++ (32 ∷ []) → text_of c ≡ k.last ++ k.space → text_of d ≡ k.comment ++ (10 ∷ []) → text_of e ≡ k.behind
+    → node_format_tree (record f { leading = a; before_children = b; before_terminator = c; terminator = d; trailing = e }) ≡ line_of before k
+line_made f a b c d e k before h x y z u v =
+    ap (λ (t : NodeFormat). record t { leading = text_of a; before_children = text_of b; before_terminator = text_of c; terminator = text_of d; trailing = text_of e }) h
+    ∙ rw (x, y, z, u, v) refl
 
-pub content_made : (a b : String Global) (empty : Bool) → text_of a ≡ [] → text_of b ≡ newline_if empty → document_format_tree (record { leading = a; trailing = b }) ≡ plain_content empty
-content_made a b empty x y = rw (x, y) refl
+-- the texts between braces
+pub braces_made : (l t : String Global) (a b before : Text) (ns : Nodes) → text_of l ≡ 10 ∷ a → text_of t ≡ (b ++ newline_if_none ns) ++ before
+    → document_format_tree (record { leading = l; trailing = t }) ≡ in_braces before (content_of ns a b)
+braces_made l t a b before ns x y = rw (x, y) refl
+
+-- an entry behind a text
+pub entry_made : (f : KdlEntryFormat) (a b : String Global) (t : Text) (e : Entry) → entry_format_tree f ≡ empty_format → text_of a ≡ print_value e.value → text_of b ≡ t ++ (32 ∷ []) → t ≢ []
+    → record e { format = Some (entry_format_tree (record f { value_repr = a; leading = b })) } ≡ behind t e
+entry_made f a b [] e h x y n = absurd (n refl)
+entry_made f a b (c ∷ s) e h x y n = ap (λ (z : EntryFormat). record e { format = Some (record z { value_repr = text_of a; leading = text_of b }) }) h ∙ rw (x, y) refl
+
+-- a printed text
+pub printed_text : {E : Type 0} (r : Result (String Global) E) (t : Text) → IfOk r (λ s. string_bytes s ≡ encode_utf8_all t) → IfOk r (λ s. text_of s ≡ t)
+printed_text (Ok s) t h = sym (chars_from_encodes t (string_bytes s) (IsUtf8-string_bytes s) (sym h))
+printed_text (Err e) t h = tt
+
+-- a string has no characters where it has no bytes
+pub empty_string : (b : Bool) (s : String Global) → b ≡ (string_len s == 0) → MatchBool b (text_of s ≡ []) (text_of s ≢ [])
+empty_string b s e = no_bytes b (string_bytes s) (IsUtf8-string_bytes s) (e ∙ ap (λ (n : ℕ). n == 0) s.bytes.ok.0)
+
+-- the U+FEFF that begins a text
+pub mark_cut : (bs rest : List ℕ) → IsUtf8 bs → bs ≡ encode_utf8 0xFEFF ++ rest → chars rest ≡ without_mark (chars bs)
+mark_cut bs rest u e = sym (ap without_mark (chars_past_char bs rest 0xFEFF u e))
+
+unmarked : (s : Text) → ((t : Text) → s ≡ 0xFEFF ∷ t → ⊥) → s ≡ without_mark s
+unmarked [] h = refl
+unmarked (c ∷ s) h = go (c == 0xFEFF) refl
+  where
+    go : (b : Bool) → (c == 0xFEFF) ≡ b → c ∷ s ≡ without_mark (c ∷ s)
+    go true e = absurd (h s (ap (λ (d : ℕ). d ∷ s) (eqb-true c 0xFEFF e)))
+    go false e = rw e refl
+
+pub no_mark : (bs : List ℕ) → IsUtf8 bs → ((rest : List ℕ) → bs ≢ encode_utf8 0xFEFF ++ rest) → chars bs ≡ without_mark (chars bs)
+no_mark bs u h = unmarked (chars bs) (λ t e. h (encode_utf8_all t) (sym (encodes-chars bs u) ∙ ap encode_utf8_all e))
 
 -- a text so many times
 chars_repeated : (n : ℕ) (bs : List ℕ) → IsUtf8 bs → chars (repeat n bs) ≡ repeat n (chars bs)

@@ -1,43 +1,25 @@
--- What layout makes of a document: everything is as it was, but formats and spellings.
+-- What layout makes of a document where comments are left out: everything is as it was, but formats and spellings.
 use Rattle.std.specs.Prelude.{◌≡◌, ℕ, ◌+◌, Bool, true, false, List, [], ◌∷◌, ◌++◌, map, Option, Some, None, option_map}
 use Rattle.kdl_text.specs.Chars.{Text}
-use Rattle.kdl_value.specs.Print.{print_value}
-use Rattle.kdl_entry.specs.Tree.{Entry, EntryFormat, empty_format, unspelled, marked, autoformatted, cleared}
+use Rattle.kdl_entry.specs.Tree.{Entry, unspelled, marked, autoformatted, cleared}
 use Rattle.kdl_grammar.specs.Tree.{NodeFormat, DocumentFormat, Head, Node, node, Children, no_children, children, Document, document, Nodes, none, first}
 use Rattle.kdl_fmt.specs.Config.{Settings, indentation}
-use Rattle.kdl_fmt.specs.Kept.{lines, before_block_tail, tail, before_comment, line_end, entry_tail}
+use Rattle.kdl_fmt.specs.Kept.{is_kept_format}
+use Rattle.kdl_fmt.specs.Plain.{plain_line}
 
 -- the entry, marked to keep its form where it has a format
 abbrev pub marked_if : Bool → Entry → Entry
 marked_if false e = e
 marked_if true e = record e { format = option_map marked e.format }
 
--- an entry behind what is kept of the text before it, where something is
-abbrev pub behind : Text → Entry → Entry
-behind [] e = e
-behind (c ∷ s) e = record e { format = Some (record empty_format { leading = (c ∷ s) ++ (32 ∷ []); value_repr = print_value e.value }) }
-
 -- an entry that is laid out
 abbrev pub formatted_entry : Settings → Entry → Entry
-formatted_entry s e = behind (entry_tail s e) (autoformatted (marked_if s.entry_autoformate_keep e))
+formatted_entry s e = autoformatted (marked_if s.entry_autoformate_keep e)
 
 -- a format whose texts are empty stands for one that is missing
 abbrev pub or_empty : Option NodeFormat → NodeFormat
 or_empty None = record { leading = []; before_ty_name = []; after_ty_name = []; after_ty = []; before_children = []; before_terminator = []; terminator = []; trailing = [] }
 or_empty (Some f) = f
-
--- the texts around the parts of a node on a line of its own, at a level
-abbrev pub line_format : Settings → ℕ → Bool → NodeFormat → NodeFormat
-line_format s level has_children f = record {
-  leading = lines s level f.leading ++ indentation s level;
-  before_ty_name = [];
-  after_ty_name = [];
-  after_ty = [];
-  before_children = before_block_tail s f.before_children ++ (32 ∷ []);
-  before_terminator = tail s has_children f.before_terminator ++ before_comment s f.terminator;
-  terminator = line_end s f.terminator;
-  trailing = lines s level f.trailing;
-}
 
 -- the same for the texts around the nodes of a document
 abbrev pub or_empty_document : Option DocumentFormat → DocumentFormat
@@ -49,35 +31,31 @@ abbrev pub newline_if_none : Nodes → Text
 newline_if_none none = 10 ∷ []
 newline_if_none (first n ns) = []
 
--- the texts around nodes at a level
-abbrev pub content_format : Settings → ℕ → Nodes → DocumentFormat → DocumentFormat
-content_format s level ns f = record { leading = lines s level f.leading; trailing = lines s level f.trailing ++ newline_if_none ns }
+-- the texts around nodes
+abbrev pub content_format : Nodes → DocumentFormat
+content_format ns = record { leading = []; trailing = newline_if_none ns }
 
 -- the same between braces: a newline behind the first one, and the indentation of the node before the second one
 abbrev pub in_braces : Text → DocumentFormat → DocumentFormat
 in_braces before f = record { leading = 10 ∷ f.leading; trailing = f.trailing ++ before }
 
-abbrev pub has_children : Children → Bool
-has_children no_children = false
-has_children (children d) = true
-
 -- a node but for its children
-abbrev pub formatted_head : Settings → ℕ → Bool → Head → Head
-formatted_head s level has h = record h {
+abbrev pub formatted_head : Settings → ℕ → Head → Head
+formatted_head s level h = record h {
   ty = option_map unspelled h.ty;
   name = unspelled h.name;
   entries = map (formatted_entry s) h.entries;
-  format = Some (line_format s level has (or_empty h.format));
+  format = Some (plain_line (indentation s level));
 }
 
 abbrev mutual
   pub formatted_node : Settings → ℕ → Node → Node
-  formatted_node s level (node h k) = node (formatted_head s level (has_children k) h) (formatted_children s level k)
+  formatted_node s level (node h k) = node (formatted_head s level h) (formatted_children s level k)
 
   pub formatted_children : Settings → ℕ → Children → Children
   formatted_children s level no_children = no_children
   formatted_children s level (children (document f span ns)) =
-      children (document (Some (in_braces (indentation s level) (content_format s (level + 1) ns (or_empty_document f)))) span (formatted_nodes s (level + 1) ns))
+      children (document (Some (in_braces (indentation s level) (content_format ns))) span (formatted_nodes s (level + 1) ns))
 
   pub formatted_nodes : Settings → ℕ → Nodes → Nodes
   formatted_nodes s level none = none
@@ -85,7 +63,7 @@ abbrev mutual
 
 -- a document whose nodes are at a level
 abbrev pub formatted_document : Settings → ℕ → Document → Document
-formatted_document s level (document f span ns) = document (Some (content_format s level ns (or_empty_document f))) span (formatted_nodes s level ns)
+formatted_document s level (document f span ns) = document (Some (content_format ns)) span (formatted_nodes s level ns)
 
 -- what stays: all but formats and spellings
 abbrev pub bare_head : Head → Head
@@ -105,11 +83,6 @@ abbrev mutual
   pub bare_nodes : Nodes → Nodes
   bare_nodes none = none
   bare_nodes (first n ns) = first (bare_node n) (bare_nodes ns)
-
--- whether an entry is marked to keep its form
-abbrev pub is_kept_format : Option EntryFormat → Bool
-is_kept_format None = false
-is_kept_format (Some f) = f.autoformat_keep
 
 -- no entry is marked to keep its form
 abbrev pub EntriesKeepNone : List Entry → Type 0

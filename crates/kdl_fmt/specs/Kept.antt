@@ -1,29 +1,66 @@
--- What layout keeps of the comments in a place. Where comments are left out it is nothing, and so it is for now where they are not.
-use Rattle.std.specs.Prelude.{ℕ, Bool, [], ◌∷◌}
+-- What layout keeps of the comments in a place, and of what a slashdash drops there.
+use Rattle.std.specs.Prelude.{◌≡◌, ℕ, Bool, true, false, ◌||◌, List, [], ◌∷◌, ◌==◌, if◌then◌else◌, Option, Some, None}
 use Rattle.kdl_text.specs.Chars.{Text}
-use Rattle.kdl_entry.specs.Tree.{Entry}
-use Rattle.kdl_fmt.specs.Config.{Settings}
+use Rattle.kdl_text.specs.Trivia.{LineComment}
+use Rattle.kdl_entry.specs.Items.{between}
+use Rattle.kdl_entry.specs.Tree.{EntryFormat}
+use Rattle.kdl_items.specs.Items.{Item, line_end, GapItems, Place, before_entry, before_block, behind_block, PlaceItems}
+use Rattle.kdl_items.specs.Written.{lines, tail}
+use Rattle.kdl_fmt.specs.Config.{Settings, indentation}
 
--- of the text before or behind a node, at its level, a line for each comment and for each node that a slashdash drops
-unfoldable pub lines : Settings → ℕ → Text → Text
-lines s level place = []
+-- the items that a text has, written in some way; nothing where it has none, since it can't stand in the place
+pub data Written (Has : List Item → Type 0) (write : List Item → Text) : Text → Type 0 where
+  items : {is : List Item} → Has is → Written Has write (write is)
+  none : ((is : List Item) → Has is → ⊥) → Written Has write []
 
--- of the text before a block of children, each comment and what a slashdash drops, behind a space
-unfoldable pub before_block_tail : Settings → Text → Text
-before_block_tail s place = []
+-- nothing where comments are left out
+abbrev pub WrittenUnless : Bool → (List Item → Type 0) → (List Item → Text) → Text → Type 0
+WrittenUnless true Has write t = t ≡ []
+WrittenUnless false Has write t = Written Has write t
 
--- of the text before the terminator, behind children or without them, the same
-unfoldable pub tail : Settings → Bool → Text → Text
-tail s has_children place = []
+-- kept of a text between nodes at a level: a line for each item
+abbrev pub KeptLines : Settings → ℕ → Text → Text → Type 0
+KeptLines s level place t = WrittenUnless s.no_comments (GapItems place) (lines (indentation s level)) t
 
--- a space before the terminator, where it is a line comment that is kept
-unfoldable pub before_comment : Settings → Text → Text
-before_comment s terminator = []
+-- kept of a text in a node: each item behind a space
+abbrev pub KeptTail : Settings → Place → Text → Text → Type 0
+KeptTail s p place t = WrittenUnless s.no_comments (PlaceItems p place) tail t
 
--- what ends the node's line: the line comment that is its terminator, and a newline
-unfoldable pub line_end : Settings → Text → Text
-line_end s terminator = 10 ∷ []
+-- kept of the text before the block: where there is none, nothing
+abbrev pub KeptBeforeBlock : Settings → Bool → Text → Text → Type 0
+KeptBeforeBlock s false place t = t ≡ []
+KeptBeforeBlock s true place t = KeptTail s before_block place t
 
--- of the text before an entry, each comment and each entry that a slashdash drops, behind a space
-unfoldable pub entry_tail : Settings → Entry → Text
-entry_tail s e = []
+-- the place before the terminator: behind a block or without one
+abbrev pub last_place : Bool → Place
+last_place false = before_block
+last_place true = behind_block
+
+-- a terminator that is a line comment stands behind a space, without its newline
+pub data WrittenEnd (terminator : Text) : Text → Text → Type 0 where
+  comment : LineComment terminator [] → WrittenEnd terminator (32 ∷ []) (between terminator (line_end terminator))
+  other : (LineComment terminator [] → ⊥) → WrittenEnd terminator [] []
+
+-- kept of a terminator: a space and a line comment, or neither
+abbrev pub KeptEnd : Bool → Text → Text → Text → Type 0
+KeptEnd true terminator before end = (before ≡ []) × (end ≡ [])
+KeptEnd false terminator before end = WrittenEnd terminator before end
+
+-- a text without the U+FEFF that begins it
+abbrev pub without_mark : Text → Text
+without_mark [] = []
+without_mark (c ∷ s) = if c == 0xFEFF then s else c ∷ s
+
+-- the text before an entry
+abbrev pub entry_leading : Option EntryFormat → Text
+entry_leading None = []
+entry_leading (Some f) = f.leading
+
+-- an entry is marked to keep its form
+abbrev pub is_kept_format : Option EntryFormat → Bool
+is_kept_format None = false
+is_kept_format (Some f) = f.autoformat_keep
+
+-- kept of the text before an entry: of one that keeps its form nothing more
+abbrev pub KeptBefore : Settings → Option EntryFormat → Text → Type 0
+KeptBefore s f t = WrittenUnless (is_kept_format f || s.no_comments) (PlaceItems (before_entry false) (entry_leading f)) tail t

@@ -1,20 +1,29 @@
 //! Layout of the texts around nodes and documents, and of entries.
 
-ghost use Rattle.kdl_entry.specs.Tree.{entry_data, entry_tree, identifier_tree, unspelled};
+ghost use Rattle.kdl_entry.specs.Tree.{cleared, entry_data, entry_tree, identifier_tree, unspelled};
 ghost use Rattle.kdl_fmt.specs.Config.{indentation, settings};
-ghost use Rattle.kdl_fmt.specs.Formatted.{formatted_entry};
-ghost use Rattle.kdl_fmt.specs.Plain.{newline_if, plain_block, plain_content, plain_line};
+ghost use Rattle.kdl_fmt.specs.Formatted.{newline_if_none, or_empty, or_empty_document};
+ghost use Rattle.kdl_fmt.specs.Kept.{KeptBefore, KeptBeforeBlock, KeptEnd, KeptLines, WrittenUnless, last_place, without_mark};
+ghost use Rattle.kdl_fmt.specs.Plain.{newline_if};
 ghost use Rattle.kdl_fmt.specs.WellFormed.{AreWellFormedEntries, IsWellFormedEntry};
+ghost use Rattle.kdl_fmt.specs.WithComments.{AreFormattedEntries, ContentTexts, IsBraced, IsContent, IsFormattedEntry, IsLine, behind};
+ghost use Rattle.kdl_grammar.specs.Tree.{Nodes};
+ghost use Rattle.kdl_items.specs.Items.{GapItems, PlaceItems};
+ghost use Rattle.kdl_items.specs.Reading.{place_view};
+ghost use Rattle.kdl_items.specs.Written.{lines, tail};
 ghost use Rattle.kdl_parts.specs.Formats.{document_format_tree, node_format_tree};
+ghost use Rattle.kdl_text.specs.Chars.{Text};
+ghost use Rattle.kdl_value.specs.Print.{print_value};
 ghost use Rattle.kdl_value.specs.Tree.{text_of, value_tree};
 ghost use Rattle.kdl_value.specs.WellFormed.{IsWellFormed};
 ghost use Rattle.std.specs.Int.{w128};
 ghost use Rattle.std.specs.List.{repeat};
-ghost use Rattle.std.specs.Prelude.{◌≡◌, ◌++◌, FitsSigned, IfOk, Some, map, option_map};
+ghost use Rattle.std.specs.Prelude.{◌≡◌, ◌+◌, ◌++◌, ◌∷◌, [], ℕ, FitsSigned, IfOk, MatchOption, Some, map, option_map};
 ghost use Rattle.std.specs.Str.{chars};
 
 use crate::config::FormatConfig;
-use kdl_entry::{KdlEntry, KdlIdentifier, KdlValue};
+use kdl_entry::{KdlEntry, KdlEntryFormat, KdlIdentifier, KdlValue};
+use kdl_items::{Place, gap_items, line_comment, place_items, push_lines, push_tail};
 use kdl_parts::{KdlDocumentFormat, KdlNodeFormat};
 use std::alloc::{AllocError, Global};
 
@@ -41,33 +50,13 @@ pub fn clear_spelling(identifier: &mut Option<KdlIdentifier>)
     }
 }
 
-/// Lays out an entry. It takes no memory.
-#[tactic(auto, unfolding(crate::specs::Kept::entry_tail))]
-fn lay_out_entry(entry: &mut KdlEntry, config: &FormatConfig)
-    ensures formatted { entry_tree entry.new ≡ formatted_entry (settings config.now) (entry_tree entry.old) }
-    ensures well_formed { IsWellFormedEntry (entry_data (entry_tree entry.old)) }
-{
-    well_formed(entry.value());
-    if config.entry_autoformate_keep {
-        entry.keep_format();
-    }
-    entry.autoformat();
-}
-
-/// Lays out the entries of a node, one by one. It takes no memory.
-pub fn lay_out_entries(entries: &mut Vec<KdlEntry>, config: &FormatConfig)
-    ensures formatted { map entry_tree entries.new.items ≡ map (formatted_entry (settings config.now)) (map entry_tree entries.old.items) }
-    ensures well_formed { AreWellFormedEntries (map entry_data (map entry_tree entries.old.items)) }
-{
-    for entry in entries.iter_mut() {
-        lay_out_entry(entry, config);
-    }
-}
-
-/// The text in the place of another, in that one's memory where it fits.
-fn replaced(mut text: String, by: &str) -> Result<String, AllocError>
+/// The text in the place of another, in that one's memory where it fits. An empty text takes none.
+fn replaced(alloc: Global, mut text: String, by: &str) -> Result<String, AllocError>
     ensures { IfOk result (λ s. text_of s ≡ chars by.now) }
 {
+    if by.is_empty() {
+        return Ok(String::new(alloc));
+    }
     text.clear();
     text.push_str(by)?;
     Ok(text)
@@ -87,36 +76,6 @@ pub fn indentation(alloc: Global, config: &FormatConfig, level: usize) -> Result
     repeated(alloc, config.indent, level)
 }
 
-/// The texts around the parts of a node on a line of its own. Memory of the texts that stood there serves again.
-fn line_format(
-    format: Option<KdlNodeFormat>,
-    alloc: Global,
-    before: &str,
-) -> Result<KdlNodeFormat, AllocError>
-    ensures { IfOk result (λ f. node_format_tree f ≡ plain_line (chars before.now)) }
-{
-    let old = format.unwrap_or_else(|| KdlNodeFormat::new(alloc));
-    let mut format = KdlNodeFormat::new(alloc);
-    format.leading = replaced(old.leading, before)?;
-    format.before_children = replaced(old.before_children, " ")?;
-    format.terminator = replaced(old.terminator, "\n")?;
-    Ok(format)
-}
-
-/// Sets the texts around the parts of a node on a line of its own: the indentation before it, a space before its
-/// children, and a newline behind it.
-pub fn lay_out_line(
-    format: &mut Option<KdlNodeFormat>,
-    alloc: Global,
-    before: &str,
-) -> Result<(), AllocError>
-    ensures { IfOk result (λ _. option_map node_format_tree format.new ≡ Some (plain_line (chars before.now))) }
-{
-    let line = line_format(format.take(), alloc, before)?;
-    *format = Some(line);
-    Ok(())
-}
-
 /// The text behind another.
 fn push_text(text: &mut String, more: &str) -> Result<(), AllocError>
     ensures { IfOk result (λ _. text_of text.new ≡ text_of text.old ++ chars more.now) }
@@ -124,64 +83,337 @@ fn push_text(text: &mut String, more: &str) -> Result<(), AllocError>
     text.push_str(more)
 }
 
-/// A newline, or nothing.
-fn newline_if(alloc: Global, newline: bool) -> Result<String, AllocError>
-    ensures { IfOk result (λ s. text_of s ≡ newline_if newline) }
-{
-    if newline {
-        return replaced(String::new(alloc), "\n");
-    }
-    Ok(String::new(alloc))
-}
-
-/// The texts around the nodes of a document.
-fn content_format(alloc: Global, is_empty: bool) -> Result<KdlDocumentFormat, AllocError>
-    ensures { IfOk result (λ f. document_format_tree f ≡ plain_content is_empty) }
-{
-    let trailing = newline_if(alloc, is_empty)?;
-    Ok(KdlDocumentFormat {
-        leading: String::new(alloc),
-        trailing,
-    })
-}
-
-/// The same between braces.
-fn block_format(
+/// What is kept of a text between nodes: a line for each item, behind a text.
+fn kept_lines(
     alloc: Global,
-    is_empty: bool,
+    config: &FormatConfig,
     before: &str,
-) -> Result<KdlDocumentFormat, AllocError>
-    ensures { IfOk result (λ f. document_format_tree f ≡ plain_block is_empty (chars before.now)) }
+    place: &str,
+) -> Result<String, AllocError>
+    ensures { IfOk result (λ t. WrittenUnless config.now.no_comments (GapItems (chars place.now)) (lines (chars before.now)) (text_of t)) }
 {
-    let leading = newline_if(alloc, true)?;
-    let mut trailing = newline_if(alloc, is_empty)?;
-    push_text(&mut trailing, before)?;
-    Ok(KdlDocumentFormat { leading, trailing })
+    let mut out = String::new(alloc);
+    if config.no_comments {
+        return Ok(out);
+    }
+    if let Some(items) = gap_items(alloc, place)? {
+        push_lines(&mut out, before, &items)?;
+    }
+    Ok(out)
 }
 
-/// Sets the texts around the nodes of a document: a newline where there are no nodes, else nothing.
-pub fn lay_out_content(
-    format: &mut Option<KdlDocumentFormat>,
+/// What is kept of a text in a node: each item behind a space.
+fn kept_tail(
     alloc: Global,
-    is_empty: bool,
-) -> Result<(), AllocError>
-    ensures { IfOk result (λ _. option_map document_format_tree format.new ≡ Some (plain_content is_empty)) }
+    config: &FormatConfig,
+    place: Place,
+    text: &str,
+) -> Result<String, AllocError>
+    ensures { IfOk result (λ t. WrittenUnless config.now.no_comments (PlaceItems (place_view place) (chars text.now)) tail (text_of t)) }
 {
-    let content = content_format(alloc, is_empty)?;
-    *format = Some(content);
+    let mut out = String::new(alloc);
+    if config.no_comments {
+        return Ok(out);
+    }
+    if let Some(items) = place_items(alloc, place, text)? {
+        push_tail(&mut out, &items)?;
+    }
+    Ok(out)
+}
+
+/// What is kept of the text before an entry.
+fn kept_before(alloc: Global, config: &FormatConfig, entry: &KdlEntry) -> Result<String, AllocError>
+    ensures { IfOk result (λ t. KeptBefore (settings config.now) (entry_tree entry.now).format (text_of t)) }
+{
+    match entry.format() {
+        Some(format) if !format.autoformat_keep => kept_tail(
+            alloc,
+            config,
+            Place::BeforeEntry(false),
+            format.leading.as_str(),
+        ),
+        _ => Ok(String::new(alloc)),
+    }
+}
+
+/// The value as it is printed.
+fn printed(alloc: Global, value: &KdlValue) -> Result<String, AllocError>
+    ensures { IfOk result (λ t. text_of t ≡ print_value (value_tree value.now)) }
+{
+    value.to_string(alloc)
+}
+
+/// Puts the entry behind a text that is kept before it, where there is one.
+fn put_behind(alloc: Global, entry: &mut KdlEntry, kept: String) -> Result<(), AllocError>
+    ensures same { cleared (entry_tree entry.new) ≡ cleared (entry_tree entry.old) }
+    ensures behind { IfOk result (λ _. entry_tree entry.new ≡ behind (text_of kept) (entry_tree entry.old)) }
+{
+    if kept.is_empty() {
+        return Ok(());
+    }
+    let mut format = KdlEntryFormat::new(alloc);
+    format.value_repr = printed(alloc, entry.value())?;
+    format.leading = kept;
+    push_text(&mut format.leading, " ")?;
+    entry.set_format(format);
     Ok(())
 }
 
-/// Sets the same between braces: a newline behind the first one, and the indentation of the node before the second one.
+/// Lays out an entry.
+fn lay_out_entry(
+    alloc: Global,
+    entry: &mut KdlEntry,
+    config: &FormatConfig,
+) -> Result<(), AllocError>
+    ensures same { cleared (entry_tree entry.new) ≡ cleared (entry_tree entry.old) }
+    ensures formatted { IfOk result (λ _. IsFormattedEntry (settings config.now) (entry_tree entry.old) (entry_tree entry.new)) }
+    ensures well_formed { IsWellFormedEntry (entry_data (entry_tree entry.old)) }
+{
+    well_formed(entry.value());
+    if config.entry_autoformate_keep {
+        entry.keep_format();
+    }
+    let kept = kept_before(alloc, config, entry)?;
+    entry.autoformat();
+    put_behind(alloc, entry, kept)
+}
+
+/// Lays out the entries of a node, one by one: the comments before an entry stay, and what a slashdash drops there. It
+/// takes memory for these alone.
+pub fn lay_out_entries(entries: &mut Vec<KdlEntry>, config: &FormatConfig) -> Result<(), AllocError>
+    ensures same { map cleared (map entry_tree entries.new.items) ≡ map cleared (map entry_tree entries.old.items) }
+    ensures formatted { IfOk result (λ _. AreFormattedEntries (settings config.now) (map entry_tree entries.old.items) (map entry_tree entries.new.items)) }
+    ensures well_formed { IfOk result (λ _. AreWellFormedEntries (map entry_data (map entry_tree entries.old.items))) }
+{
+    let alloc = *entries.allocator();
+    for entry in entries.iter_mut() {
+        lay_out_entry(alloc, entry, config)?;
+    }
+    Ok(())
+}
+
+/// The text `more` behind what is kept; where that is nothing, in the memory of the text that stood there.
+fn behind(alloc: Global, mut kept: String, old: String, more: &str) -> Result<String, AllocError>
+    ensures { IfOk result (λ s. text_of s ≡ text_of kept ++ chars more.now) }
+{
+    if kept.is_empty() {
+        return replaced(alloc, old, more);
+    }
+    push_text(&mut kept, more)?;
+    Ok(kept)
+}
+
+/// What is kept of the text before the block of a node, and a space.
+fn before_children(
+    alloc: Global,
+    config: &FormatConfig,
+    has_block: bool,
+    old: String,
+) -> Result<String, AllocError>
+    ensures { IfOk result (λ s. (t : Text) × KeptBeforeBlock (settings config.now) has_block (text_of old) t × (text_of s ≡ t ++ (32 ∷ []))) }
+{
+    let kept = if has_block {
+        kept_tail(alloc, config, Place::BeforeBlock, old.as_str())?
+    } else {
+        String::new(alloc)
+    };
+    behind(alloc, kept, old, " ")
+}
+
+/// The place before the terminator.
+fn last_place(has_block: bool) -> Place
+    ensures { place_view result ≡ last_place has_block }
+{
+    if has_block {
+        Place::BehindBlock
+    } else {
+        Place::BeforeBlock
+    }
+}
+
+/// What is kept of a terminator: the line comment that it is, without its newline.
+fn kept_end<'a>(config: &FormatConfig, terminator: &'a str) -> Option<&'a str>
+    ensures { MatchOption result (KeptEnd config.now.no_comments (chars terminator.now) [] []) (λ comment. KeptEnd config.now.no_comments (chars terminator.now) (32 ∷ []) (chars comment.now)) }
+{
+    if config.no_comments {
+        return None;
+    }
+    line_comment(terminator)
+}
+
+/// What ends the line of a node, behind what is kept of the text before its terminator: a newline; and before it,
+/// behind a space, the line comment that the terminator is.
+fn line_end(
+    alloc: Global,
+    config: &FormatConfig,
+    mut last: String,
+    terminator: String,
+) -> Result<(String, String), AllocError>
+    ensures { IfOk result (λ (l, e). (space : Text) × (comment : Text) × KeptEnd config.now.no_comments (text_of terminator) space comment
+        × (text_of l ≡ text_of last ++ space) × (text_of e ≡ comment ++ (10 ∷ []))) }
+{
+    let mut end = String::new(alloc);
+    if let Some(comment) = kept_end(config, terminator.as_str()) {
+        push_text(&mut last, " ")?;
+        push_text(&mut end, comment)?;
+    }
+    let end = behind(alloc, end, terminator, "\n")?;
+    Ok((last, end))
+}
+
+/// The texts around the parts of a node on a line of its own. Memory of the texts that stood there serves again.
+fn line_format(
+    old: KdlNodeFormat,
+    alloc: Global,
+    config: &FormatConfig,
+    before: &str,
+    has_block: bool,
+) -> Result<KdlNodeFormat, AllocError>
+    ensures { IfOk result (λ f. (level : ℕ) → chars before.now ≡ indentation (settings config.now) level → IsLine (settings config.now) level has_block (node_format_tree old) (Some (node_format_tree f))) }
+{
+    let mut format = KdlNodeFormat::new(alloc);
+    let kept = kept_lines(alloc, config, before, old.leading.as_str())?;
+    format.leading = behind(alloc, kept, old.leading, before)?;
+    format.before_children = before_children(alloc, config, has_block, old.before_children)?;
+    let last = kept_tail(
+        alloc,
+        config,
+        last_place(has_block),
+        old.before_terminator.as_str(),
+    )?;
+    let (last, end) = line_end(alloc, config, last, old.terminator)?;
+    format.before_terminator = last;
+    format.terminator = end;
+    format.trailing = kept_lines(alloc, config, before, old.trailing.as_str())?;
+    Ok(format)
+}
+
+/// The format that is there, taken out, or one of empty texts.
+fn taken(format: &mut Option<KdlNodeFormat>, alloc: Global) -> KdlNodeFormat
+    ensures { node_format_tree result ≡ or_empty (option_map node_format_tree format.old) }
+{
+    match format.take() {
+        Some(old) => old,
+        None => KdlNodeFormat::new(alloc),
+    }
+}
+
+/// Sets the texts around the parts of a node on a line of its own: the indentation before it, a space before its
+/// children, and a newline behind it; with the comments that are kept.
+pub fn lay_out_line(
+    format: &mut Option<KdlNodeFormat>,
+    alloc: Global,
+    config: &FormatConfig,
+    before: &str,
+    has_block: bool,
+) -> Result<(), AllocError>
+    ensures { IfOk result (λ _. (level : ℕ) → chars before.now ≡ indentation (settings config.now) level
+        → IsLine (settings config.now) level has_block (or_empty (option_map node_format_tree format.old)) (option_map node_format_tree format.new)) }
+{
+    let old = taken(format, alloc);
+    let line = line_format(old, alloc, config, before, has_block)?;
+    *format = Some(line);
+    Ok(())
+}
+
+/// A newline behind a text, where it is asked for.
+fn newline_if(text: &mut String, newline: bool) -> Result<(), AllocError>
+    ensures { IfOk result (λ _. text_of text.new ≡ text_of text.old ++ newline_if newline) }
+{
+    if newline {
+        push_text(text, "\n")?;
+    }
+    Ok(())
+}
+
+/// The text without the U+FEFF that may begin it.
+fn without_mark(text: &str) -> &str
+    ensures { chars result.now ≡ without_mark (chars text.now) }
+{
+    match text.strip_prefix('\u{feff}') {
+        Some(rest) => rest,
+        None => text,
+    }
+}
+
+/// What is kept of a text between nodes at a level. Where that is nothing, the level counts for nothing.
+fn kept_at(
+    alloc: Global,
+    config: &FormatConfig,
+    level: usize,
+    place: &str,
+) -> Result<String, AllocError>
+    ensures { IfOk result (λ t. KeptLines (settings config.now) level (chars place.now) (text_of t)) }
+{
+    let mut out = String::new(alloc);
+    if config.no_comments {
+        return Ok(out);
+    }
+    if let Some(items) = gap_items(alloc, place)? {
+        if !items.is_empty() {
+            let before = indentation(alloc, config, level)?;
+            push_lines(&mut out, before.as_str(), &items)?;
+        }
+    }
+    Ok(out)
+}
+
+/// What is kept of the texts around the nodes of a document at a level.
+fn kept_content(
+    alloc: Global,
+    config: &FormatConfig,
+    format: &Option<KdlDocumentFormat>,
+    level: usize,
+) -> Result<(String, String), AllocError>
+    ensures { IfOk result (λ (a, b). ContentTexts (settings config.now) level (or_empty_document (option_map document_format_tree format.now)) (text_of a) (text_of b)) }
+{
+    match format {
+        Some(format) => {
+            let leading = kept_at(alloc, config, level, without_mark(format.leading.as_str()))?;
+            let trailing = kept_at(alloc, config, level, format.trailing.as_str())?;
+            Ok((leading, trailing))
+        }
+        None => Ok((String::new(alloc), String::new(alloc))),
+    }
+}
+
+/// Sets the texts around the nodes of a document at a level: the comments that are kept, behind the indentation, and a
+/// newline where there are no nodes.
+pub fn lay_out_content(
+    format: &mut Option<KdlDocumentFormat>,
+    alloc: Global,
+    config: &FormatConfig,
+    level: usize,
+    is_empty: bool,
+) -> Result<(), AllocError>
+    ensures { IfOk result (λ _. (ns : Nodes) → newline_if is_empty ≡ newline_if_none ns
+        → IsContent (settings config.now) level ns (or_empty_document (option_map document_format_tree format.old)) (option_map document_format_tree format.new)) }
+{
+    let (leading, mut trailing) = kept_content(alloc, config, format, level)?;
+    newline_if(&mut trailing, is_empty)?;
+    *format = Some(KdlDocumentFormat { leading, trailing });
+    Ok(())
+}
+
+/// Sets the same between the braces of a node: a newline behind the first one, and the node's indentation before the
+/// second one. `inner` is the level between them.
 pub fn lay_out_braces(
     format: &mut Option<KdlDocumentFormat>,
     alloc: Global,
-    is_empty: bool,
+    config: &FormatConfig,
+    inner: usize,
     before: &str,
+    is_empty: bool,
 ) -> Result<(), AllocError>
-    ensures { IfOk result (λ _. option_map document_format_tree format.new ≡ Some (plain_block is_empty (chars before.now))) }
+    ensures { IfOk result (λ _. (level : ℕ) (ns : Nodes) → inner ≡ level + 1 → chars before.now ≡ indentation (settings config.now) level
+        → newline_if is_empty ≡ newline_if_none ns → IsBraced (settings config.now) level ns (or_empty_document (option_map document_format_tree format.old)) (option_map document_format_tree format.new)) }
 {
-    let block = block_format(alloc, is_empty, before)?;
-    *format = Some(block);
+    let (kept, mut trailing) = kept_content(alloc, config, format, inner)?;
+    let mut leading = String::new(alloc);
+    push_text(&mut leading, "\n")?;
+    push_text(&mut leading, kept.as_str())?;
+    newline_if(&mut trailing, is_empty)?;
+    push_text(&mut trailing, before)?;
+    *format = Some(KdlDocumentFormat { leading, trailing });
     Ok(())
 }

@@ -1,11 +1,15 @@
-//! That layout without comments gives the canonical text, and changes nothing when it is repeated.
+//! That layout makes one thing, that it changes nothing when it is repeated, and that without comments it gives the
+//! canonical text.
 
 ghost use Rattle.kdl.specs.Tree.{document_tree, node_tree};
-ghost use Rattle.kdl_fmt.specs.Config.{IsPlain, settings};
-ghost use Rattle.kdl_fmt.specs.Formatted.{DocumentKeepsNone, NodeKeepsNone, formatted_document, formatted_node};
+ghost use Rattle.kdl_fmt.specs.Config.{Settings, settings};
+ghost use Rattle.kdl_fmt.specs.Formatted.{DocumentKeepsNone, NodeKeepsNone};
+ghost use Rattle.kdl_fmt.specs.WithComments.{IsFormattedDocument, IsFormattedNode};
 ghost use Rattle.kdl_grammar.specs.Print.{print_document};
-ghost use Rattle.kdl_grammar.specs.Tree.{document_data};
-ghost use Rattle.std.specs.Prelude.{◌≡◌, ◌↔◌, IfOk};
+ghost use Rattle.kdl_grammar.specs.Tree.{Document, document_data};
+ghost use Rattle.kdl_text.specs.Chars.{is_space};
+ghost use Rattle.std.specs.List.{list_all};
+ghost use Rattle.std.specs.Prelude.{◌≡◌, ◌↔◌, ℕ, IfOk, false, true};
 
 use kdl::{FormatConfig, KdlDocument, KdlNode};
 use std::alloc::AllocError;
@@ -22,11 +26,13 @@ pub fn same_text_same_data(a: &mut KdlDocument, b: &mut KdlDocument) -> Result<(
     b.autoformat_no_comments()
 }
 
-/// A document that is laid out twice is what it is once it is laid out: the second time changes nothing.
+/// A document that is laid out twice is what it is once it is laid out: the second time changes nothing, with or without
+/// comments.
 pub fn laid_out_twice(document: &mut KdlDocument, config: &FormatConfig) -> Result<(), AllocError>
-    requires plain { IsPlain (settings config.now) }
+    requires indent { list_all is_space (settings config.now).indent ≡ true }
+    requires unmarked_after { config.now.entry_autoformate_keep ≡ false }
     requires unmarked { DocumentKeepsNone (document_tree document.old) }
-    ensures { IfOk result (λ _. document_tree document.new ≡ formatted_document (settings config.now) config.now.indent_level (document_tree document.old)) }
+    ensures { IfOk result (λ _. IsFormattedDocument (settings config.now) config.now.indent_level (document_tree document.old) (document_tree document.new)) }
 {
     document.autoformat_config(config)?;
     document.autoformat_config(config)
@@ -34,10 +40,17 @@ pub fn laid_out_twice(document: &mut KdlDocument, config: &FormatConfig) -> Resu
 
 /// The same for a node.
 pub fn node_laid_out_twice(node: &mut KdlNode, config: &FormatConfig) -> Result<(), AllocError>
-    requires plain { IsPlain (settings config.now) }
+    requires indent { list_all is_space (settings config.now).indent ≡ true }
+    requires unmarked_after { config.now.entry_autoformate_keep ≡ false }
     requires unmarked { NodeKeepsNone (node_tree node.old) }
-    ensures { IfOk result (λ _. node_tree node.new ≡ formatted_node (settings config.now) config.now.indent_level (node_tree node.old)) }
+    ensures { IfOk result (λ _. IsFormattedNode (settings config.now) config.now.indent_level (node_tree node.old) (node_tree node.new)) }
 {
     node.autoformat_config(config)?;
     node.autoformat_config(config)
 }
+
+/// Layout makes one thing of a document.
+#[tactic(auto, using(crate::proofs::Layouts::one_layout))]
+pub fn one_layout()
+    ensures { (s : Settings) (level : ℕ) (d x y : Document) → IsFormattedDocument s level d x → IsFormattedDocument s level d y → x ≡ y }
+{}

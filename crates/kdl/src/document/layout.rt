@@ -2,14 +2,17 @@
 
 ghost use Rattle.kdl.specs.Tree.{document_tree, nodes_tree};
 ghost use Rattle.kdl_fmt.specs.Canonical.{Canonical, canonical, canonical_text};
-ghost use Rattle.kdl_fmt.specs.Config.{IsPlain, indentation, settings, without_comments};
-ghost use Rattle.kdl_fmt.specs.Formatted.{DocumentKeepsNone, bare_document, bare_nodes, formatted_children, formatted_document, formatted_nodes};
+ghost use Rattle.kdl_fmt.specs.Comments.{CommentsStay};
+ghost use Rattle.kdl_fmt.specs.Config.{IsPlain, defaults, indentation, settings, without_comments};
+ghost use Rattle.kdl_fmt.specs.Formatted.{DocumentKeepsNone, bare_document, bare_nodes, formatted_document};
 ghost use Rattle.kdl_fmt.specs.WellFormed.{AreWellFormed};
+ghost use Rattle.kdl_fmt.specs.WithComments.{AreFormattedNodes, IsFormattedChildren, IsFormattedDocument};
+ghost use Rattle.kdl_grammar.specs.Grammar.{IsDocument};
 ghost use Rattle.kdl_grammar.specs.Print.{print_document};
 ghost use Rattle.kdl_grammar.specs.Tree.{children, document_data, nodes_data};
 ghost use Rattle.kdl_text.specs.Chars.{is_space};
 ghost use Rattle.std.specs.List.{list_all};
-ghost use Rattle.std.specs.Prelude.{◌≡◌, IfOk, true};
+ghost use Rattle.std.specs.Prelude.{◌≡◌, ◌+◌, IfOk, false, true};
 ghost use Rattle.std.specs.Str.{chars};
 
 use crate::document::KdlDocument;
@@ -20,9 +23,32 @@ use std::alloc::AllocError;
 
 impl KdlDocument {
     /// Lays out the document: each node on a line of its own, four spaces for each level, one space between the parts
-    /// of a node; a document without nodes prints one newline. Comments go, and what a slashdash drops, and spellings;
-    /// an entry that is marked to keep its form keeps the spelling of its value and the text before it. What the
-    /// document says stays, and so do the spans.
+    /// of a node; a document without nodes prints one newline. Comments stay, and what a slashdash drops, where they
+    /// stand between nodes, behind a node on its line, between entries, or before a block; those inside a type or
+    /// behind it, around `=` and behind an entry's value go. Spellings go; an entry that is marked to keep its form
+    /// keeps the spelling of its value and the text before it. What the document says stays, and so do the spans.
+    ///
+    /// Where no entry is marked, the printed text is a document that says the same, and a second call changes nothing.
+    ///
+    /// Fails where memory is wanting: then the document says what it said, and some of it may be laid out.
+    ///
+    /// ```
+    /// let mut document = KdlDocument::parse(alloc, "a  0x10 // one\n/- b 2;c /* two */ {  }")?;
+    /// document.autoformat()?; // prints `a 16 // one`, `/- b 2;`, `c /* two */ {`, an empty line and `}`
+    /// ```
+    pub fn autoformat(&mut self) -> Result<(), AllocError>
+        ensures data { document_data (document_tree self.new) ≡ document_data (document_tree self.old) }
+        ensures kept { bare_document (document_tree self.new) ≡ bare_document (document_tree self.old) }
+        ensures formatted { IfOk result (λ _. IsFormattedDocument defaults 0 (document_tree self.old) (document_tree self.new)) }
+        ensures unmarked { IfOk result (λ _. DocumentKeepsNone (document_tree self.new)) }
+        ensures derived { IfOk result (λ _. DocumentKeepsNone (document_tree self.old) → IsDocument true (print_document (document_tree self.new) 0) (document_data (document_tree self.old))) }
+        ensures comments { IfOk result (λ _. DocumentKeepsNone (document_tree self.old) → CommentsStay (document_tree self.old) (print_document (document_tree self.new) 0)) }
+    {
+        let config = FormatConfig::builder().build();
+        self.autoformat_config(&config)
+    }
+
+    /// Lays out the document like `autoformat`, without comments: these go, and what a slashdash drops.
     ///
     /// Where no entry is marked, two documents print the same text then exactly where they say the same.
     ///
@@ -44,22 +70,27 @@ impl KdlDocument {
         self.autoformat_config(&config)
     }
 
-    /// Lays out the document as the configuration says. It is promised with `no_comments` alone: without it, comments
-    /// are dropped too, for now.
+    /// Lays out the document as the configuration says: from its level on, with its indent for each level, with or
+    /// without comments, and with all entries marked or not.
     ///
     /// Fails where memory is wanting, or where the level of a child would pass `usize`: then the document says what it
     /// said, and some of it may be laid out.
     ///
     /// ```
-    /// let config = FormatConfig::builder().indent("\t").no_comments(true).build();
+    /// let config = FormatConfig::builder().indent("\t").build();
     /// let mut document = KdlDocument::parse(alloc, "a { b }")?;
     /// document.autoformat_config(&config)?; // prints `a {`, `b` behind a tabulator, and `}`
     /// ```
     pub fn autoformat_config(&mut self, config: &FormatConfig) -> Result<(), AllocError>
         ensures data { document_data (document_tree self.new) ≡ document_data (document_tree self.old) }
         ensures kept { bare_document (document_tree self.new) ≡ bare_document (document_tree self.old) }
-        ensures formatted { IfOk result (λ _. config.now.no_comments ≡ true → document_tree self.new ≡ formatted_document (settings config.now) config.now.indent_level (document_tree self.old)) }
+        ensures formatted { IfOk result (λ _. IsFormattedDocument (settings config.now) config.now.indent_level (document_tree self.old) (document_tree self.new)) }
+        ensures plain { IfOk result (λ _. config.now.no_comments ≡ true → document_tree self.new ≡ formatted_document (settings config.now) config.now.indent_level (document_tree self.old)) }
         ensures unmarked { IfOk result (λ _. DocumentKeepsNone (document_tree self.new)) }
+        ensures derived { IfOk result (λ _. list_all is_space (settings config.now).indent ≡ true → config.now.entry_autoformate_keep ≡ false → DocumentKeepsNone (document_tree self.old)
+            → IsDocument true (print_document (document_tree self.new) 0) (document_data (document_tree self.old))) }
+        ensures comments { IfOk result (λ _. list_all is_space (settings config.now).indent ≡ true → config.now.entry_autoformate_keep ≡ false → config.now.no_comments ≡ false → DocumentKeepsNone (document_tree self.old)
+            → CommentsStay (document_tree self.old) (print_document (document_tree self.new) 0)) }
         ensures prints { IfOk result (λ _. IsPlain (settings config.now) → DocumentKeepsNone (document_tree self.old)
             → print_document (document_tree self.new) 0 ≡ canonical (settings config.now).indent config.now.indent_level (document_data (document_tree self.old))) }
         ensures reads { IfOk result (λ _. list_all is_space (settings config.now).indent ≡ true
@@ -71,12 +102,14 @@ impl KdlDocument {
     /// Lays out the document at the configuration's level.
     fn lay_out(&mut self, config: &FormatConfig) -> Result<(), AllocError>
         ensures kept { bare_document (document_tree self.new) ≡ bare_document (document_tree self.old) }
-        ensures formatted { IfOk result (λ _. document_tree self.new ≡ formatted_document (settings config.now) config.now.indent_level (document_tree self.old)) }
+        ensures formatted { IfOk result (λ _. IsFormattedDocument (settings config.now) config.now.indent_level (document_tree self.old) (document_tree self.new)) }
         ensures well_formed { IfOk result (λ _. AreWellFormed (document_data (document_tree self.old))) }
     {
         let alloc = *self.nodes.allocator();
-        lay_out_content(&mut self.format, alloc, self.nodes.is_empty())?;
-        lay_out_nodes(&mut self.nodes, config, config.indent_level)
+        let level = config.indent_level;
+        let is_empty = self.nodes.is_empty();
+        lay_out_content(&mut self.format, alloc, config, level, is_empty)?;
+        lay_out_nodes(&mut self.nodes, config, level)
     }
 
     /// Lays out the document as the children of a node at a level, between braces.
@@ -89,14 +122,15 @@ impl KdlDocument {
     ) -> Result<(), AllocError>
         requires { chars before.now ≡ indentation (settings config.now) level }
         ensures kept { bare_document (document_tree self.new) ≡ bare_document (document_tree self.old) }
-        ensures formatted { IfOk result (λ _. children (document_tree self.new) ≡ formatted_children (settings config.now) level (children (document_tree self.old))) }
+        ensures formatted { IfOk result (λ _. IsFormattedChildren (settings config.now) level (children (document_tree self.old)) (children (document_tree self.new))) }
         ensures well_formed { IfOk result (λ _. AreWellFormed (document_data (document_tree self.old))) }
     {
         let Some(inner) = level.checked_add(1) else {
             return Err(AllocError);
         };
         let alloc = *self.nodes.allocator();
-        lay_out_braces(&mut self.format, alloc, self.nodes.is_empty(), before)?;
+        let is_empty = self.nodes.is_empty();
+        lay_out_braces(&mut self.format, alloc, config, inner, before, is_empty)?;
         lay_out_nodes(&mut self.nodes, config, inner)
     }
 }
@@ -109,7 +143,7 @@ fn lay_out_nodes(
     level: usize,
 ) -> Result<(), AllocError>
     ensures kept { bare_nodes (nodes_tree nodes.new.items) ≡ bare_nodes (nodes_tree nodes.old.items) }
-    ensures formatted { IfOk result (λ _. nodes_tree nodes.new.items ≡ formatted_nodes (settings config.now) level (nodes_tree nodes.old.items)) }
+    ensures formatted { IfOk result (λ _. AreFormattedNodes (settings config.now) level (nodes_tree nodes.old.items) (nodes_tree nodes.new.items)) }
     ensures well_formed { IfOk result (λ _. AreWellFormed (nodes_data (nodes_tree nodes.old.items))) }
 {
     if nodes.is_empty() {

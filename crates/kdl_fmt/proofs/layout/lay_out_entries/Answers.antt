@@ -1,22 +1,45 @@
-use Rattle.std.proofs.Common.{arith, map}
-use Rattle.kdl_entry.specs.Tree.{Entry, entry_tree, entry_data}
+use Rattle.std.proofs.Common.{arith}
+use Rattle.kdl_entry.specs.Tree.{entry_tree, cleared}
 use Rattle.kdl_fmt.specs.Config.{settings}
-use Rattle.kdl_fmt.specs.Formatted.{formatted_entry}
-use Rattle.kdl_fmt.specs.WellFormed.{IsWellFormedEntry}
-use Rattle.kdl_fmt.proofs.Loops.{each_more, each_all, entries_fit}
-use Rattle.kdl_parts.proofs.Loops.{changed_more}
+use Rattle.kdl_fmt.proofs.FormattedAs.{entry_stays}
+use Rattle.kdl_fmt.proofs.Loops.{LaidEntry, turned_start, turned_more, turned_all, turned_same, turned_exchanged, entries_laid, entries_fit}
 use Rattle.kdl_fmt.proofs.layout.lay_out_entries.Goals as goal
+
+pub loop-entry-init : goal.loop-entry-init
+loop-entry-init c = turned_start entry_tree (LaidEntry (settings c.args.config.now)) c.deref_mut-entry-items.result.now
 
 pub loop-entry-preserved : goal.loop-entry-preserved
 loop-entry-preserved c =
     let l = c.loop-entry in
-    let g = formatted_entry (settings c.args.config.now) in record {
-      entries = changed_more entry_tree g l.entry-items l.entry-index c.lay_out_entry.new.entry c.entry-item.result _ (omega arith) c.lay_out_entry.ensures.formatted l.invariant.entries;
-      fit = each_more (λ (e : Entry). IsWellFormedEntry (entry_data e)) entry_tree g l.entry-items l.entry-index c.entry-item.result _ (omega arith) l.invariant.entries c.lay_out_entry.ensures.well_formed l.invariant.fit;
-    }
+    turned_more entry_tree (LaidEntry (settings c.args.config.now)) l.entry-items l.entry-index c.lay_out_entry.new.entry c.entry-item.result _ (omega arith)
+    (c.in_ok-lay_out_entry.ensures.formatted, c.lay_out_entry.ensures.well_formed) l.invariant
+
+pub returns-in_err-lay_out_entry-clause-same : goal.returns-in_err-lay_out_entry-clause-same
+returns-in_err-lay_out_entry-clause-same c =
+    let l = c.loop-entry in
+    let s = settings c.args.config.now in
+    turned_exchanged entry_tree (LaidEntry s) cleared (λ e e' k. entry_stays s e e' k.0) c.args.entries.now.len l.entry-index l.entry-items c.deref_mut-entry-items.result.now c.args.entries.now.items
+    c.lay_out_entry.new.entry c.entry-item.result c.deref_mut-entry-items.ensures.value (omega arith) (omega arith) l.invariant c.lay_out_entry.ensures.same
+
+pub returns-clause-same : goal.returns-clause-same
+returns-clause-same c =
+    let l = c.loop-entry in
+    let s = settings c.args.config.now in
+    turned_same entry_tree (LaidEntry s) cleared (λ e e' k. entry_stays s e e' k.0) c.args.entries.now.len l.entry-index l.entry-items c.deref_mut-entry-items.result.now c.args.entries.now.items
+    c.deref_mut-entry-items.ensures.value (omega arith) l.invariant
+
+pub returns-clause-formatted : goal.returns-clause-formatted
+returns-clause-formatted c =
+    let l = c.loop-entry in
+    let s = settings c.args.config.now in
+    entries_laid s _ _
+    (turned_all entry_tree (LaidEntry s) c.args.entries.now.len l.entry-index l.entry-items c.deref_mut-entry-items.result.now c.args.entries.now.items
+    c.deref_mut-entry-items.ensures.value (omega arith) (omega arith) l.invariant)
 
 pub returns-clause-well_formed : goal.returns-clause-well_formed
 returns-clause-well_formed c =
     let l = c.loop-entry in
-    entries_fit (map entry_tree c.args.entries.now.items)
-    (each_all (λ (e : Entry). IsWellFormedEntry (entry_data e)) entry_tree l.entry-index c.deref_mut-entry-items.result.now c.args.entries.now.items c.deref_mut-entry-items.ensures.value (omega arith) l.invariant.fit)
+    let s = settings c.args.config.now in
+    entries_fit s _ _
+    (turned_all entry_tree (LaidEntry s) c.args.entries.now.len l.entry-index l.entry-items c.deref_mut-entry-items.result.now c.args.entries.now.items
+    c.deref_mut-entry-items.ensures.value (omega arith) (omega arith) l.invariant)

@@ -1,14 +1,26 @@
 use Rattle.kdl.specs.Tree.{document_tree}
 use Rattle.kdl_fmt.specs.Config.{settings}
-use Rattle.kdl.proofs.Layouts.{same_data, unmarked, prints, reads}
+use Rattle.kdl.proofs.Layouts.{same_data, plain, unmarked, derived, comments, prints, reads}
 use Rattle.kdl.proofs.document.KdlDocument.autoformat_config.Goals as goal
 
 pub returns-clause-data : goal.returns-clause-data
 returns-clause-data c = same_data (document_tree c.lay_out.new.self) (document_tree c.args.self.now) c.lay_out.ensures.kept
 
+pub returns-clause-plain : goal.returns-clause-plain
+returns-clause-plain c =
+    plain c.lay_out.result (settings c.args.config.now) c.args.config.now.indent_level (document_tree c.lay_out.new.self) (document_tree c.args.self.now) c.lay_out.ensures.formatted
+
 pub returns-clause-unmarked : goal.returns-clause-unmarked
 returns-clause-unmarked c =
     unmarked c.lay_out.result (settings c.args.config.now) c.args.config.now.indent_level (document_tree c.lay_out.new.self) (document_tree c.args.self.now) c.lay_out.ensures.formatted
+
+pub returns-clause-derived : goal.returns-clause-derived
+returns-clause-derived c =
+    derived c.lay_out.result (settings c.args.config.now) c.args.config.now.indent_level (document_tree c.lay_out.new.self) (document_tree c.args.self.now) c.lay_out.ensures.formatted c.lay_out.ensures.well_formed
+
+pub returns-clause-comments : goal.returns-clause-comments
+returns-clause-comments c =
+    comments c.lay_out.result (settings c.args.config.now) c.args.config.now.indent_level (document_tree c.lay_out.new.self) (document_tree c.args.self.now) c.lay_out.ensures.formatted c.lay_out.ensures.well_formed
 
 pub returns-clause-prints : goal.returns-clause-prints
 returns-clause-prints c =

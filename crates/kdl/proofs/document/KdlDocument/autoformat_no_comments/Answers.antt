@@ -2,8 +2,12 @@ use Rattle.std.proofs.Common.{rules}
 use Rattle.kdl.specs.Tree.{document_tree}
 use Rattle.kdl_fmt.specs.Config.{settings}
 use Rattle.kdl_grammar.specs.Tree.{document_data}
-use Rattle.kdl.proofs.Layouts.{four_spaces}
+use Rattle.kdl.proofs.Layouts.{plain_formatted, four_spaces}
 use Rattle.kdl.proofs.document.KdlDocument.autoformat_no_comments.Goals as goal
+
+pub returns-clause-formatted : goal.returns-clause-formatted
+returns-clause-formatted c =
+    plain_formatted c.autoformat_config.result (settings c.build-config.result) (document_tree c.args.self.now) (document_tree c.autoformat_config.new.self) (search rules) c.autoformat_config.ensures.plain
 
 pub returns-clause-reads : goal.returns-clause-reads
 returns-clause-reads c =

@@ -1,0 +1,24 @@
+use Rattle.std.proofs.Common.{rules, true}
+use Rattle.kdl.specs.Tree.{document_tree}
+use Rattle.kdl_fmt.specs.Comments.{CommentsStay}
+use Rattle.kdl_fmt.specs.Config.{settings}
+use Rattle.kdl_fmt.specs.Formatted.{DocumentKeepsNone}
+use Rattle.kdl_grammar.specs.Grammar.{IsDocument}
+use Rattle.kdl_grammar.specs.Print.{print_document}
+use Rattle.kdl_grammar.specs.Tree.{document_data}
+use Rattle.kdl.proofs.Layouts.{default_formatted, default_derived, default_comments}
+use Rattle.kdl.proofs.document.KdlDocument.autoformat.Goals as goal
+
+pub returns-clause-formatted : goal.returns-clause-formatted
+returns-clause-formatted c =
+    default_formatted c.autoformat_config.result (settings c.build-config.result) (document_tree c.args.self.now) (document_tree c.autoformat_config.new.self) (search rules) c.autoformat_config.ensures.formatted
+
+pub returns-clause-derived : goal.returns-clause-derived
+returns-clause-derived c =
+    default_derived c.autoformat_config.result (settings c.build-config.result) (DocumentKeepsNone (document_tree c.args.self.now))
+    (IsDocument true (print_document (document_tree c.autoformat_config.new.self) 0) (document_data (document_tree c.args.self.now))) (search rules) c.autoformat_config.ensures.derived
+
+pub returns-clause-comments : goal.returns-clause-comments
+returns-clause-comments c =
+    default_comments c.autoformat_config.result (settings c.build-config.result) (DocumentKeepsNone (document_tree c.args.self.now))
+    (CommentsStay (document_tree c.args.self.now) (print_document (document_tree c.autoformat_config.new.self) 0)) (search rules) c.autoformat_config.ensures.comments

@@ -1,0 +1,38 @@
+use Rattle.std.proofs.Common.{◌≡◌, ◌++◌, List, ap, sym, ◌∙◌}
+use Rattle.std.specs.Str.{chars}
+use Rattle.kdl_text.specs.Chars.{Text}
+use Rattle.kdl_value.specs.Tree.{text_of}
+use Rattle.kdl_items.specs.Items.{GapItems}
+use Rattle.kdl_items.specs.Reading.{items_view}
+use Rattle.kdl_items.specs.Written.{lines}
+use Rattle.kdl_items.specs.declared.item.Item.{Item}
+use Rattle.kdl_fmt.specs.Config.{indentation, settings}
+use Rattle.kdl_fmt.proofs.Keeping.{no_elements, kept_none, kept_items, kept_nothing, written_behind}
+use Rattle.kdl_fmt.proofs.Texts.{no_text}
+use Rattle.kdl_fmt.proofs.layout.kept_at.Goals as goal
+use Rattle.kdl_fmt.proofs.layout.kept_at.Goals.{in-Some, then-not-is_empty+in_ok-before+in_ok-push_lines, else-not-is_empty, in_default}
+
+pub returns-then-config : goal.returns-then-config
+returns-then-config c =
+    kept_none c.args.config.now.no_comments (GapItems (chars c.args.place.now)) (lines (indentation (settings c.args.config.now) c.args.level)) _ c.if-config.true (no_text c.new-out.result c.new-out.ensures.bytes)
+
+pub returns : goal.returns
+returns c =
+    let has = GapItems (chars c.args.place.now) in
+    let before = indentation (settings c.args.config.now) c.args.level in
+    let write = lines before in
+    let empty = no_text c.new-out.result c.new-out.ensures.bytes in
+    elim c.match-branch-2.branch [
+      | in-Some w ↦
+          elim w.if-not-is_empty.branch [
+            | then-not-is_empty+in_ok-before+in_ok-push_lines w' ↦
+                let stands : chars w'.as_str.result.now ≡ before = ap chars w'.as_str.ensures.value ∙ w'.in_ok-before.ensures in
+                kept_items c.args.config.now.no_comments has write _ _ c.if-config.false (rw w.in-Some.is at c.in_ok-items.ensures)
+                (ap text_of (w.out-is ∙ w'.out-is) ∙ written_behind write _ _ _ _ (w'.in_ok-push_lines.ensures ∙ ap (λ (t : Text). text_of c.new-out.result ++ lines t (items_view w'.deref.result.now)) stands) empty (ap items_view w'.deref.ensures.value))
+            | else-not-is_empty w' ↦
+                let no_item = no_elements w.in-Some.items.items w.in-Some.items.len w.is_empty.result w.in-Some.items.ok.0 w.is_empty.ensures w'.if-not-is_empty.false in
+                kept_items c.args.config.now.no_comments has write _ _ c.if-config.false (rw w.in-Some.is at c.in_ok-items.ensures)
+                (ap text_of (w.out-is ∙ w'.out-is) ∙ empty ∙ sym (ap (λ (xs : List Item). write (items_view xs)) no_item))
+          ]
+      | in_default w ↦ kept_nothing c.args.config.now.no_comments has write _ c.if-config.false (rw w.in_default.is at c.in_ok-items.ensures) (ap text_of w.out-is ∙ empty)
+    ]

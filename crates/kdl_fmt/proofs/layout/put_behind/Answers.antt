@@ -1,0 +1,20 @@
+use Rattle.std.proofs.Common.{◌++◌, sym, ap, ◌∙◌}
+use Rattle.kdl_text.specs.Chars.{Text}
+use Rattle.kdl_value.specs.Print.{print_value}
+use Rattle.kdl_value.specs.Tree.{text_of}
+use Rattle.kdl_entry.specs.Tree.{entry_tree}
+use Rattle.kdl_fmt.specs.WithComments.{behind}
+use Rattle.kdl_fmt.proofs.Texts.{empty_string, entry_made, space_text}
+use Rattle.kdl_fmt.proofs.layout.put_behind.Goals as goal
+
+pub returns-then-is_empty-clause-behind : goal.returns-then-is_empty-clause-behind
+returns-then-is_empty-clause-behind c =
+    let empty = rw c.if-is_empty.true at (empty_string c.is_empty.result c.args.kept c.is_empty.ensures) in
+    sym (ap (λ (t : Text). behind t (entry_tree c.args.entry.now)) empty)
+
+pub returns-clause-behind : goal.returns-clause-behind
+returns-clause-behind c =
+    let some = rw c.if-is_empty.false at (empty_string c.is_empty.result c.args.kept c.is_empty.ensures) in
+    c.set_format.ensures
+    ∙ entry_made c.new-format.result c.in_ok-format.field-0 c.push_text.new.text (text_of c.args.kept) (entry_tree c.args.entry.now) c.new-format.ensures
+    (c.in_ok-format.ensures ∙ ap print_value c.value.ensures) (c.in_ok-push_text.ensures ∙ ap (λ (t : Text). text_of c.args.kept ++ t) space_text) some
