@@ -1,6 +1,6 @@
 -- The steps of the loops, the test of the words, and what is written.
-use Rattle.std.proofs.Common.{◌≡◌, ℕ, suc, ◌+◌, ◌-◌, ◌<◌, ◌≤◌, Bool, true, List, [], ◌∷◌, ◌++◌, map, length, get_or, take, drop, refl, sym, ap, ◌∙◌, subst, arith, Option, length-append, take-append-drop, drop-cons}
-use Rattle.std.specs.Prelude.{bytes_eq, chars, flat_map, IsUtf8}
+use Rattle.std.proofs.Common.{◌≡◌, ℕ, suc, ◌+◌, ◌-◌, ◌<◌, ◌≤◌, Bool, true, List, [], ◌∷◌, ◌++◌, map, length, get_or, take, drop, refl, sym, ap, ◌∙◌, subst, arith, Option, Some, length-append, take-append-drop, drop-cons}
+use Rattle.std.specs.Prelude.{bytes_eq, chars, encode_utf8_all, flat_map, IsUtf8}
 use Rattle.std.specs.Io.KnownBytes.{Appends}
 use Rattle.std.proofs.KnownBytes.{Appends-trans}
 use Rattle.std.proofs.Math.Seq.{take-add, take-append-add}
@@ -9,7 +9,12 @@ use Rattle.std.proofs.lemmas.Grind.{flat_map-append}
 use Rattle.std.proofs.lemmas.Slice.Eq.{bytes_eq-Decides}
 use Rattle.kdl_grammar.specs.Data.{Nodes}
 use Rattle.kdl_grammar.specs.Grammar.{IsDocument}
-use Rattle.kdl_tool.specs.Commands.{Asked, words_of, written}
+use Rattle.kdl_grammar.specs.Laid.{LaidDocument}
+use Rattle.kdl_grammar.specs.Print.{print_document}
+use Rattle.kdl_grammar.specs.Tree.{Document}
+use Rattle.kdl_fmt.specs.Config.{defaults}
+use Rattle.kdl_fmt.specs.WithComments.{IsFormattedDocument}
+use Rattle.kdl_tool.specs.Commands.{Asked, fmt, IsWritten, words_of}
 use Rattle.kdl_tool.specs.Runs.{Output}
 
 -- a write of some of the bytes that are left
@@ -37,8 +42,13 @@ same_word word text b is t = (bytes_eq-Decides word text).0 (sym is ∙ t)
 
 -- what is written of a text with these data
 pub written_is : (a : Asked) (text : List ℕ) (x : Nodes) (out : Option (List ℕ)) → IsUtf8 text → IsDocument true (chars text) x → ((y : Nodes) → IsDocument true (chars text) y → y ≡ x)
-    → out ≡ written a text x → Output (words_of a) text out
-written_is a text x out u d o e = record { asked = a; by = refl; content = x; says = record { utf8 = u; derived = d; alone = o }; out_is = e }
+    → IsWritten a text x out → Output (words_of a) text out
+written_is a text x out u d o e = record { asked = a; by = refl; content = x; says = record { utf8 = u; derived = d; alone = o }; written = e }
+
+-- what fmt writes of a text with these data
+pub laid_out_is : (text : List ℕ) (x : Nodes) (out : Option (List ℕ)) (d e : Document) → LaidDocument true d (chars text) → IsFormattedDocument defaults 0 d e → IsDocument true (print_document e 0) x
+    → out ≡ Some (encode_utf8_all (print_document e 0)) → IsWritten fmt text x out
+laid_out_is text x out d e l f s p = (_, record { before = d; after = e; laid = l; formatted = f; prints = refl; says = s }, p)
 
 -- the parts up to the i-th, and some of it
 pub stopped : {X : Type 0} (f : X → List ℕ) (xs : List X) (i : ℕ) (x : X) (held mid holds : Option (List ℕ)) → i < length xs → x ≡ get_or xs i x

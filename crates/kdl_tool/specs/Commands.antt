@@ -1,25 +1,33 @@
 -- What the tool's words ask for, and what is written for them.
-use Rattle.std.specs.Prelude.{◌≡◌, ℕ, if◌then◌else◌, List, [], ◌∷◌, Option, Some, None, is_none, option_map, codes, chars, encode_utf8_all}
+use Rattle.std.specs.Prelude.{◌≡◌, ℕ, true, if◌then◌else◌, List, [], ◌∷◌, Option, Some, None, is_none, option_map, codes, chars, encode_utf8_all}
 use Rattle.kdl_text.specs.Chars.{Text}
 use Rattle.kdl_value.specs.Data.{Value}
 use Rattle.kdl_value.specs.Print.{print_value}
 use Rattle.kdl_entry.specs.Data.{Entry}
 use Rattle.kdl_grammar.specs.Data.{node, Nodes, none, first}
+use Rattle.kdl_grammar.specs.Grammar.{IsDocument}
+use Rattle.kdl_grammar.specs.Laid.{LaidDocument}
+use Rattle.kdl_grammar.specs.Print.{print_document}
+use Rattle.kdl_grammar.specs.Tree.{Document}
 use Rattle.kdl_fmt.specs.Canonical.{canonical_text}
+use Rattle.kdl_fmt.specs.Config.{defaults}
+use Rattle.kdl_fmt.specs.WithComments.{IsFormattedDocument}
 use Rattle.kdl_parts.specs.EntryLists.{same_text}
 use Rattle.kdl_tool.specs.Reports.{line}
 use Rattle.kdl_tool.specs.declared.tool.Command.{Command}
-use Rattle.kdl_tool.specs.declared.tool.Command.TheVariants.{Cat, Strip, Get}
+use Rattle.kdl_tool.specs.declared.tool.Command.TheVariants.{Cat, Fmt, Strip, Get}
 
--- what the words ask for: the text itself, its canonical text, or the value at a name, given by its bytes
+-- what the words ask for: the text itself, the text laid out, its canonical text, or the value at a name, given by its bytes
 pub data Asked : Type 0 where
   cat : Asked
+  fmt : Asked
   strip : Asked
   get : List ℕ → Asked
 
 -- its words
 abbrev pub words_of : Asked → List (List ℕ)
 words_of cat = codes "cat" ∷ []
+words_of fmt = codes "fmt" ∷ []
 words_of strip = codes "strip" ∷ []
 words_of (get name) = codes "get" ∷ name ∷ []
 
@@ -30,6 +38,7 @@ AreOther words = (a : Asked) → words ≡ words_of a → ⊥
 -- what a command in memory asks for
 abbrev pub asked_by : Command → Asked
 asked_by Cat = cat
+asked_by Fmt = fmt
 asked_by Strip = strip
 asked_by (Get name) = get name.now
 
@@ -47,8 +56,18 @@ first_argument name (first (node ty this es k) ns) = if same_text this name then
 abbrev pub value_line : Option Value → Option (List ℕ)
 value_line = option_map (λ v. line (encode_utf8_all (print_value v)))
 
+-- what the document of a text, which says x, prints once it is laid out: a text that says x too
+pub record IsLaidOut (text : List ℕ) (x : Nodes) (out : List ℕ) : Type 0 where
+  pub before : Document
+  pub after : Document
+  pub laid : LaidDocument true before (chars text)
+  pub formatted : IsFormattedDocument defaults 0 before after
+  pub prints : out ≡ encode_utf8_all (print_document after 0)
+  pub says : IsDocument true (print_document after 0) x
+
 -- what is written of a text that says x; None where there is no such value
-abbrev pub written : Asked → List ℕ → Nodes → Option (List ℕ)
-written cat text x = Some text
-written strip text x = Some (encode_utf8_all (canonical_text x))
-written (get name) text x = value_line (first_argument (chars name) x)
+abbrev pub IsWritten : Asked → List ℕ → Nodes → Option (List ℕ) → Type 0
+IsWritten cat text x o = o ≡ Some text
+IsWritten fmt text x o = (out : List ℕ) × IsLaidOut text x out × (o ≡ Some out)
+IsWritten strip text x o = o ≡ Some (encode_utf8_all (canonical_text x))
+IsWritten (get name) text x o = o ≡ value_line (first_argument (chars name) x)

@@ -4,7 +4,7 @@ use Rattle.std.specs.Io.KnownBytes.{Appends, Consumes, IsAtEnd}
 use Rattle.kdl_text.specs.Failures.{Tells}
 use Rattle.kdl_grammar.specs.Data.{Nodes}
 use Rattle.kdl_grammar.specs.Grammar.{IsDocument}
-use Rattle.kdl_tool.specs.Commands.{Asked, words_of, written}
+use Rattle.kdl_tool.specs.Commands.{Asked, IsWritten, words_of}
 use Rattle.kdl_tool.specs.declared.tool.Outcome.{Outcome}
 use Rattle.kdl_tool.specs.declared.tool.Outcome.TheVariants.{Done, Refused, NotUtf8, NoValue, Usage, ReadFailed, WriteFailed, Memory}
 use Rattle.kdl_tool.specs.declared.tool.Unread.{Unread}
@@ -51,7 +51,7 @@ pub record Output (words : List (List ℕ)) (bytes : List ℕ) (out : Option (Li
   pub by : words ≡ words_of asked
   pub content : Nodes
   pub says : Says bytes content
-  pub out_is : out ≡ written asked bytes content
+  pub written : IsWritten asked bytes content out
 
 -- the bytes are a text that the grammar does not derive
 abbrev pub AreNoDocument : List ℕ → Type 0

@@ -1,5 +1,5 @@
-//! `kdl-tool`: reads a KDL document from standard input, and writes it, laid out or as it stands,
-//! or one of its values to standard output.
+//! `kdl-tool`: reads a KDL document from standard input, and writes it, as it stands or laid out with
+//! or without its comments, or one of its values to standard output.
 #![tactic(auto)]
 
 #[cfg(test)]

@@ -116,7 +116,11 @@ fn comes_of(
 const DOCUMENT: &str =
     "\nhello 1 2 3\n\n// Comment\nworld prop=string-value {\n    child 1\n    child 2\n    child #inf\n}\n";
 
-/// The same, laid out.
+/// The same, laid out with its comment.
+const FORMATTED: &str =
+    "hello 1 2 3\n// Comment\nworld prop=string-value {\n    child 1\n    child 2\n    child #inf\n}\n";
+
+/// The same, laid out without it.
 const STRIPPED: &str =
     "hello 1 2 3\nworld prop=string-value {\n    child 1\n    child 2\n    child #inf\n}\n";
 
@@ -152,8 +156,16 @@ fn cat_writes_what_it_reads(rt: HostRuntime) -> Result<(), Fail> {
 }
 
 #[test]
-fn what_strip_and_get_write(rt: HostRuntime) -> Result<(), Fail> {
-    let table: [(&[&str], &str, &str); 8] = [
+fn what_fmt_strip_and_get_write(rt: HostRuntime) -> Result<(), Fail> {
+    let table: [(&[&str], &str, &str); 12] = [
+        (&["fmt"], DOCUMENT, FORMATTED),
+        (&["fmt"], "", "\n"),
+        (&["fmt"], "/-n 1;", "/-n 1;\n\n"),
+        (
+            &["fmt"],
+            "a /*x*/ {  b // c\n }",
+            "a /*x*/ {\n    b // c\n}\n",
+        ),
         (&["strip"], DOCUMENT, STRIPPED),
         (&["strip"], "", "\n"),
         (&["strip"], "/-n 1;", "\n"),
@@ -172,13 +184,14 @@ fn what_strip_and_get_write(rt: HostRuntime) -> Result<(), Fail> {
 #[test]
 fn what_is_refused(rt: HostRuntime) -> Result<(), Fail> {
     let none = "0..0 No such value\n";
-    let table: [(&[&str], &str, &str, &str); 13] = [
+    let table: [(&[&str], &str, &str, &str); 14] = [
         (&["cat"], ";", "Refused", "0..1 "),
         (&["cat"], "node {", "Refused", ""),
         (&["cat"], "a 1\nb {\n", "Refused", ""),
         (&["cat"], "a\n}", "Refused", ""),
         (&["cat"], "a b=", "Refused", ""),
         (&["cat"], "a\n\"b", "Refused", ""),
+        (&["fmt"], "node {", "Refused", ""),
         (&["strip"], ";", "Refused", "0..1 "),
         (&["strip"], "node {", "Refused", ""),
         (&["get", "node"], "node 1; node {", "Refused", ""),
@@ -202,13 +215,12 @@ fn what_is_refused(rt: HostRuntime) -> Result<(), Fail> {
 
 #[test]
 fn other_words_are_usage(rt: HostRuntime) -> Result<(), Fail> {
-    let lines: [&[&str]; 10] = [
+    let lines: [&[&str]; 9] = [
         &[],
         &[""],
         &["Cat"],
         &["cats"],
         &["cat", "x"],
-        &["fmt"],
         &["strip", "x"],
         &["get"],
         &["get", "a", "b"],

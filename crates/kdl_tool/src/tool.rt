@@ -45,6 +45,8 @@ pub enum Outcome {
 enum Command<'a> {
     /// The document as it stands.
     Cat,
+    /// The document laid out, with its comments.
+    Fmt,
     /// The document laid out, without comments.
     Strip,
     /// The value of the first argument of the first node of this name.
@@ -61,6 +63,8 @@ enum Unread {
 /// Runs the tool on its words:
 ///
 /// - `cat` writes the document that it reads as it stands;
+/// - `fmt` writes it laid out, in one layout for all documents: comments, and what a slashdash drops,
+///   stay where `KdlDocument::autoformat` keeps them; the spellings of names and values go;
 /// - `strip` writes it laid out, without comments and without what a slashdash drops;
 /// - `get NAME` writes the value of the first argument of the first node of that name, as values
 ///   print, and a newline. `NoValue`: there is no such node, or it has no argument, whatever
@@ -104,6 +108,8 @@ fn command_of(words: &[String]) -> Option<Command<'_>>
         [word] => {
             if word.as_str() == "cat" {
                 Some(Command::Cat)
+            } else if word.as_str() == "fmt" {
+                Some(Command::Fmt)
             } else if word.as_str() == "strip" {
                 Some(Command::Strip)
             } else {
@@ -180,6 +186,10 @@ fn output(alloc: Global, command: Command<'_>, text: &str) -> Result<Option<Stri
     let mut document = KdlDocument::parse(alloc, text)?;
     match command {
         Command::Cat => Ok(Some(document.to_string(alloc)?)),
+        Command::Fmt => {
+            document.autoformat()?;
+            Ok(Some(document.to_string(alloc)?))
+        }
         Command::Strip => {
             document.autoformat_no_comments()?;
             Ok(Some(document.to_string(alloc)?))

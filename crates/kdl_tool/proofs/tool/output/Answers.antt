@@ -3,13 +3,19 @@ use Rattle.std.specs.Prelude.{encode_utf8_all}
 use Rattle.std.proofs.lemmas.Str.{encodes-chars}
 use Rattle.kdl_tool.specs.Commands.{asked_by}
 use Rattle.kdl_tool.proofs.Kept.{laid_keeps_none}
-use Rattle.kdl_tool.proofs.Steps.{written_is}
+use Rattle.kdl_tool.proofs.Steps.{laid_out_is, written_is}
 use Rattle.kdl_tool.proofs.tool.output.Goals as goal
 
 pub returns-in-Cat-clause-output : goal.returns-in-Cat-clause-output
 returns-in-Cat-clause-output c =
     written_is (asked_by c.args.command) c.args.text.now _ _ c.utf8.text c.in_ok-document.ensures.found c.in_ok-document.ensures.only
     (rw c.in-Cat.is (ap Some (c.in_ok-to_string-in-Cat.ensures.ok ∙ ap encode_utf8_all c.in_ok-document.ensures.prints ∙ encodes-chars c.args.text.now c.utf8.text)))
+
+pub returns-in-Fmt-clause-output : goal.returns-in-Fmt-clause-output
+returns-in-Fmt-clause-output c =
+    let layout = c.in_ok-autoformat-in-Fmt.ensures in
+    written_is (asked_by c.args.command) c.args.text.now _ _ c.utf8.text c.in_ok-document.ensures.found c.in_ok-document.ensures.only
+    (rw c.in-Fmt.is (laid_out_is _ _ _ _ _ c.in_ok-document.ensures.laid layout.formatted (layout.derived (laid_keeps_none _ _ _ c.in_ok-document.ensures.laid)) (ap Some c.in_ok-to_string-in-Fmt.ensures.ok)))
 
 pub returns-in-Strip-clause-output : goal.returns-in-Strip-clause-output
 returns-in-Strip-clause-output c =
