@@ -3,7 +3,7 @@
 use crate::dump::{Dump, Field, range};
 use crate::fault::{Fault, wrong};
 use crate::fronts::{check_fronts, check_replaced};
-use crate::layout::{gets, strips, strips_kept};
+use crate::layout::{Comments, gets, lays_out, lays_out_kept};
 use crate::notation::encoded;
 use crate::reading::{prints, tells};
 use crate::row::Call;
@@ -255,8 +255,12 @@ fn compare(case: &Case<'_>, dump: &Dump) -> Result<(), Fault> {
             }
             ("steps", Some(bounds)) => takes(case, wanted, bounds)?,
             ("same data", Some(other)) => says_the_same(case, wanted, dump, other)?,
-            ("strip", Some(_)) | ("strips", None) => strips(case, wanted, dump)?,
-            ("kept strip", Some(_)) => strips_kept(case, wanted, dump)?,
+            ("strip", Some(_)) | ("strips", None) => {
+                lays_out(case, wanted, dump, Comments::Dropped)?;
+            }
+            ("fmt", Some(_)) | ("fmts", None) => lays_out(case, wanted, dump, Comments::Kept)?,
+            ("kept strip", Some(_)) => lays_out_kept(case, wanted, dump, Comments::Dropped)?,
+            ("kept fmt", Some(_)) => lays_out_kept(case, wanted, dump, Comments::Kept)?,
             ("no get", Some(name)) => gets(case, wanted, name, None)?,
             (label, text) => match (label.strip_prefix("get "), text) {
                 (Some(name), Some(text)) => gets(case, wanted, name, Some(text))?,

@@ -3,6 +3,7 @@
 use crate::checks::Case;
 use crate::dump::Field;
 use crate::fault::{Fault, wrong};
+use crate::layout::{Comments, lays_out_document};
 use crate::notation::{Fills, decoded};
 use crate::reading::is_read;
 
@@ -29,10 +30,19 @@ fn check_front(case: &Case<'_>, len: usize) -> Result<(), Fault> {
                     return Err(case.differs(wanted, &came));
                 }
             }
-            _ => return Err(case.differs(wanted, "no such line for fronts")),
+            (_, _) => check_layout(case, wanted, front)?,
         }
     }
     Ok(())
+}
+
+/// Lays out a front or a text with a replaced character, where it is a document, if the line asks for that.
+fn check_layout(case: &Case<'_>, wanted: &Field, text: &str) -> Result<(), Fault> {
+    match (wanted.label.as_str(), &wanted.text) {
+        ("strips", None) => lays_out_document(case, wanted, text, Comments::Dropped),
+        ("fmts", None) => lays_out_document(case, wanted, text, Comments::Kept),
+        (_, _) => Err(case.differs(wanted, "no such line for this call")),
+    }
 }
 
 /// Whether the length is among those of the line, each of which is that of a front.
@@ -59,11 +69,6 @@ pub fn check_replaced(case: &Case<'_>) -> Result<(), Fault> {
     let Some(by) = case.by else {
         return Err(wrong(format!(in case.alloc; "`replaced` without `by`")));
     };
-    for wanted in case.wanted {
-        if wanted.label.as_str() != "answered" || wanted.text.is_some() {
-            return Err(case.differs(wanted, "no such line for replaced characters"));
-        }
-    }
     let fills = Fills {
         member: None,
         own: None,
@@ -73,8 +78,20 @@ pub fn check_replaced(case: &Case<'_>) -> Result<(), Fault> {
         let behind = at.saturating_add(old.len_utf8());
         if let (Some(front), Some(back)) = (case.text.get(..at), case.text.get(behind..)) {
             for new in by.chars() {
-                is_read(case.alloc, &format!(in case.alloc; "{front}{new}{back}")?)?;
+                check_new(case, &format!(in case.alloc; "{front}{new}{back}")?)?;
             }
+        }
+    }
+    Ok(())
+}
+
+/// Tries a text in which one character is replaced.
+fn check_new(case: &Case<'_>, text: &str) -> Result<(), Fault> {
+    is_read(case.alloc, text)?;
+    for wanted in case.wanted {
+        match (wanted.label.as_str(), &wanted.text) {
+            ("answered", None) => {}
+            (_, _) => check_layout(case, wanted, text)?,
         }
     }
     Ok(())

@@ -1,11 +1,41 @@
-//! Texts that are laid out without comments, and what they print then; values that are looked up, and what they print.
+//! Texts that are laid out, with comments or without, and what they print then; values that are looked up, and what they
+//! print.
 
 use crate::checks::{Case, has_same_data};
 use crate::dump::{Dump, Field};
 use crate::fault::Fault;
 use crate::row::Call;
-use kdl::{KdlDocument, KdlNode};
+use kdl::{FormatConfig, KdlDocument, KdlNode};
 use std::alloc::AllocError;
+
+/// What layout does with comments.
+#[derive(Clone, Copy)]
+pub enum Comments {
+    Kept,
+    Dropped,
+}
+
+impl Comments {
+    /// The label of the line that says what is printed.
+    fn label(self) -> &'static str {
+        match self {
+            Comments::Kept => "fmt",
+            Comments::Dropped => "strip",
+        }
+    }
+
+    /// The configuration that does so with comments, and is else as given.
+    fn config<'a>(self, config: FormatConfig<'a>) -> FormatConfig<'a> {
+        let no_comments = match self {
+            Comments::Kept => false,
+            Comments::Dropped => true,
+        };
+        FormatConfig {
+            no_comments,
+            ..config
+        }
+    }
+}
 
 /// A document or a node.
 #[derive(Drop)]
@@ -43,36 +73,59 @@ impl Item {
     }
 
     /// Lays out the item as the case says.
-    fn lay_out(&mut self, case: &Case<'_>) -> Result<(), AllocError> {
-        match (self, case.config) {
-            (Item::Document(document), None) => document.autoformat_no_comments(),
-            (Item::Document(document), Some(config)) => document.autoformat_config(&config),
-            (Item::Node(node), None) => node.autoformat_no_comments(),
-            (Item::Node(node), Some(config)) => node.autoformat_config(&config),
+    fn lay_out(&mut self, case: &Case<'_>, comments: Comments) -> Result<(), AllocError> {
+        if let Some(config) = case.config {
+            let config = comments.config(config);
+            return match self {
+                Item::Document(document) => document.autoformat_config(&config),
+                Item::Node(node) => node.autoformat_config(&config),
+            };
+        }
+        match (self, comments) {
+            (Item::Document(document), Comments::Kept) => document.autoformat(),
+            (Item::Document(document), Comments::Dropped) => document.autoformat_no_comments(),
+            (Item::Node(node), Comments::Kept) => node.autoformat(),
+            (Item::Node(node), Comments::Dropped) => node.autoformat_no_comments(),
         }
     }
 
     /// What the item prints once it is laid out.
-    fn laid_out(&mut self, case: &Case<'_>) -> Result<String, AllocError> {
-        self.lay_out(case)?;
+    fn laid_out(&mut self, case: &Case<'_>, comments: Comments) -> Result<String, AllocError> {
+        self.lay_out(case, comments)?;
         match self {
             Item::Document(document) => document.to_string(case.alloc),
             Item::Node(node) => node.to_string(case.alloc),
         }
     }
 
-    /// What the item prints once it is laid out is wanted, and has the data of the dump.
+    /// What the item prints once it is laid out is wanted. Comes with what is read of it, which has the data of the dump.
     fn prints_laid_out(
         &mut self,
         case: &Case<'_>,
         wanted: &Field,
         dump: &Dump,
-    ) -> Result<String, Fault> {
-        let printed = self.laid_out(case)?;
+        comments: Comments,
+    ) -> Result<(String, Item), Fault> {
+        let printed = self.laid_out(case, comments)?;
         is_printed(case, wanted, &printed)?;
-        let other = Item::of(case, wanted, &printed)?.dump(case)?;
-        has_same_data(case, dump, &other)?;
-        Ok(printed)
+        let item = Item::of(case, wanted, &printed)?;
+        has_same_data(case, dump, &item.dump(case)?)?;
+        Ok((printed, item))
+    }
+
+    /// The item prints the text once it is laid out.
+    fn prints_again(
+        &mut self,
+        case: &Case<'_>,
+        wanted: &Field,
+        text: &str,
+        comments: Comments,
+    ) -> Result<(), Fault> {
+        let again = self.laid_out(case, comments)?;
+        if again.as_str() == text {
+            return Ok(());
+        }
+        Err(case.differs(wanted, &again))
     }
 
     /// The fields of the item.
@@ -101,29 +154,58 @@ fn is_printed(case: &Case<'_>, wanted: &Field, printed: &str) -> Result<(), Faul
     }
 }
 
-/// The text laid out prints what is wanted, which has the same data, and laid out again it prints the same.
-pub fn strips(case: &Case<'_>, wanted: &Field, dump: &Dump) -> Result<(), Fault> {
+/// The text laid out prints what is wanted, which has the same data, and laid out again it prints the same; so does what
+/// is read of that.
+pub fn lays_out(
+    case: &Case<'_>,
+    wanted: &Field,
+    dump: &Dump,
+    comments: Comments,
+) -> Result<(), Fault> {
     let mut item = Item::of(case, wanted, case.text)?;
-    let printed = item.prints_laid_out(case, wanted, dump)?;
-    let again = item.laid_out(case)?;
-    if again == printed {
+    let (printed, mut read) = item.prints_laid_out(case, wanted, dump, comments)?;
+    item.prints_again(case, wanted, &printed, comments)?;
+    read.prints_again(case, wanted, &printed, comments)
+}
+
+/// The same of a document, whatever it prints; of a text that is no document nothing.
+pub fn lays_out_document(
+    case: &Case<'_>,
+    wanted: &Field,
+    text: &str,
+    comments: Comments,
+) -> Result<(), Fault> {
+    let Ok(document) = KdlDocument::parse(case.alloc, text) else {
         return Ok(());
-    }
-    Err(case.differs(wanted, &again))
+    };
+    let mut dump = Dump::new(case.alloc);
+    dump.document(&document)?;
+    let case = Case {
+        call: Call::Document,
+        text,
+        ..*case
+    };
+    lays_out(&case, wanted, &dump, comments)
 }
 
 /// The text with its first entry kept, laid out, prints what is wanted, which has the same data, and laid out again
-/// what the line `strip` says.
-pub fn strips_kept(case: &Case<'_>, wanted: &Field, dump: &Dump) -> Result<(), Fault> {
+/// what the row's other line says.
+pub fn lays_out_kept(
+    case: &Case<'_>,
+    wanted: &Field,
+    dump: &Dump,
+    comments: Comments,
+) -> Result<(), Fault> {
+    let label = comments.label();
     let mut lines = case.wanted.iter();
-    let Some(strip) = lines.find(|line| line.label.as_str() == "strip") else {
-        return Err(case.differs(wanted, "no line `strip`"));
+    let Some(other) = lines.find(|line| line.label.as_str() == label) else {
+        return Err(case.differs(wanted, &format!(in case.alloc; "no line `{label}`")?));
     };
     let mut item = Item::of(case, wanted, case.text)?;
     item.keep_first();
-    item.prints_laid_out(case, wanted, dump)?;
-    let again = item.laid_out(case)?;
-    is_printed(case, strip, &again)
+    item.prints_laid_out(case, wanted, dump, comments)?;
+    let again = item.laid_out(case, comments)?;
+    is_printed(case, other, &again)
 }
 
 /// The value of the first argument of the first node of that name prints the text, or there is no such value where no

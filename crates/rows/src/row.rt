@@ -64,6 +64,11 @@ impl<'a> Line<'a> {
             },
         }
     }
+
+    /// Whether the line says what the text prints once it is laid out.
+    fn is_layout(&self) -> bool {
+        self.label.contains("strip") || self.label.contains("fmt")
+    }
 }
 
 /// A row: texts with their calls, how they are filled in and laid out, and what is expected of each.
@@ -168,8 +173,8 @@ impl<'a> Row<'a> {
         }
         let mut wanted = self.wanted.iter();
         let has_layout = self.indent.is_some() || self.level.is_some();
-        if has_layout && !wanted.any(|line| line.label.contains("strip")) {
-            return Err(wrong(format!(in self.alloc; "`indent` or `level` without `strip`")));
+        if has_layout && !wanted.any(|line| line.is_layout()) {
+            return Err(wrong(format!(in self.alloc; "`indent` or `level` without layout")));
         }
         Ok(())
     }
@@ -223,7 +228,7 @@ impl<'a> Row<'a> {
         Ok(())
     }
 
-    /// How the row is laid out, where a setting says so.
+    /// How the row is laid out but for its comments, where a setting says so.
     fn config<'b>(&self, indent: Option<&'b str>) -> Option<FormatConfig<'b>> {
         if indent.is_none() && self.level.is_none() {
             return None;
@@ -231,7 +236,6 @@ impl<'a> Row<'a> {
         let config = FormatConfig::builder()
             .maybe_indent(indent)
             .maybe_indent_level(self.level)
-            .no_comments(true)
             .build();
         Some(config)
     }
