@@ -19,6 +19,7 @@ struct Times {
     parse: Duration,
     print: Duration,
     drop: Duration,
+    fmt: Duration,
     strip: Duration,
     print_stripped: Duration,
 }
@@ -30,6 +31,7 @@ impl Times {
             parse: self.parse.min(other.parse),
             print: self.print.min(other.print),
             drop: self.drop.min(other.drop),
+            fmt: self.fmt.min(other.fmt),
             strip: self.strip.min(other.strip),
             print_stripped: self.print_stripped.min(other.print_stripped),
         }
@@ -54,7 +56,16 @@ fn time_of_print(rt: &HostRuntime, document: &KdlDocument) -> io::Result<Duratio
     Ok(printed.duration_since(start))
 }
 
-/// How long a document takes to be laid out, and then to be printed.
+/// How long a document takes to be laid out with its comments.
+fn time_of_fmt(rt: &HostRuntime, mut document: KdlDocument) -> io::Result<Duration> {
+    let start = Instant::now(rt)?;
+    let outcome = document.autoformat();
+    let formatted = Instant::now(rt)?;
+    outcome?;
+    Ok(formatted.duration_since(start))
+}
+
+/// How long a document takes to be laid out without comments, and then to be printed.
 fn times_of_strip(rt: &HostRuntime, mut document: KdlDocument) -> io::Result<(Duration, Duration)> {
     let start = Instant::now(rt)?;
     let outcome = document.autoformat_no_comments();
@@ -66,8 +77,8 @@ fn times_of_strip(rt: &HostRuntime, mut document: KdlDocument) -> io::Result<(Du
     ))
 }
 
-/// Parses the text twice: one document is printed and dropped, the other is laid out and printed. None where the text
-/// is no document.
+/// Parses the text three times: one document is printed and dropped, one is laid out with its comments, the last
+/// without them and printed. None where the text is no document.
 fn turn(rt: &HostRuntime, text: &str) -> io::Result<Option<Times>> {
     let start = Instant::now(rt)?;
     let Some(document) = parsed(rt, text)? else {
@@ -81,11 +92,16 @@ fn turn(rt: &HostRuntime, text: &str) -> io::Result<Option<Times>> {
     let Some(document) = parsed(rt, text)? else {
         return Ok(None);
     };
+    let fmt = time_of_fmt(rt, document)?;
+    let Some(document) = parsed(rt, text)? else {
+        return Ok(None);
+    };
     let (strip, print_stripped) = times_of_strip(rt, document)?;
     Ok(Some(Times {
         parse: read.duration_since(start),
         print,
         drop: after.duration_since(before),
+        fmt,
         strip,
         print_stripped,
     }))
@@ -130,6 +146,7 @@ fn measure(rt: &HostRuntime, name: &str) -> io::Result<()> {
         times.parse.saturating_add(times.drop),
     )?;
     report(rt, "drop", bytes, times.drop)?;
+    report(rt, "fmt", bytes, times.fmt)?;
     report(rt, "strip", bytes, times.strip)?;
     report(rt, "print what is stripped", bytes, times.print_stripped)
 }
