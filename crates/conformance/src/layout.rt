@@ -1,129 +1,37 @@
-//! Layout without comments, where no row of text can say what is laid out: formats that are broken by hand, built
-//! documents, entries that keep their form, levels without bound, the configuration, and want of memory.
+//! Layout where no row of text can say what is laid out: built documents, entries that keep their form, levels without
+//! bound, the configuration, and want of memory.
 
+use crate::broken::break_in_node;
 use crate::edits::{add, add_property, exchange};
 use crate::fields::{built, document_of};
 use crate::reading::{equal, holds, prints, read, string, text};
 use kdl::{
-    FormatConfig, FormatConfigBuilder, KdlDocument, KdlDocumentFormat, KdlEntry, KdlEntryFormat,
-    KdlNode, KdlNodeFormat, KdlValue, ParseFailure, is_kdl_space,
+    FormatConfig, FormatConfigBuilder, KdlDocument, KdlEntry, KdlEntryFormat, KdlValue,
+    ParseFailure, is_kdl_space,
 };
 use std::alloc::Global;
 use std::process::Abort;
 use std::test::Fail;
 
-/// Texts that break what is printed, in the most places.
-const BROKEN: [&str; 14] = [
-    "x ", "\nb", "/-3", " /-3", "// c", "/* open", "{", "}", ";", "\"", "\\", "/-a", "/-a {} b",
-    "\u{feff}",
-];
-
-/// Texts, each with its canonical text.
-const CANONICAL: [(&str, &str); 3] = [
-    ("foo 1", "foo 1\n"),
-    ("foo 1 {}", "foo 1 {\n\n}\n"),
-    ("(t)foo k=(u)0x1 { b; } // c", "(t)foo k=(u)1 {\n    b\n}\n"),
-];
-
-/// Puts the text into the place of that number in the format of a node.
-fn break_node(format: &mut KdlNodeFormat, place: usize, broken: String) {
-    match place {
-        0 => format.leading = broken,
-        1 => format.before_ty_name = broken,
-        2 => format.after_ty_name = broken,
-        3 => format.after_ty = broken,
-        4 => format.before_children = broken,
-        5 => format.before_terminator = broken,
-        6 => format.terminator = broken,
-        _ => format.trailing = broken,
-    }
-}
-
-/// Puts the text into the place of that number in the format of an entry.
-fn break_entry(format: &mut KdlEntryFormat, place: usize, broken: String) {
-    match place {
-        0 => format.leading = broken,
-        1 => format.value_repr = broken,
-        2 => format.trailing = broken,
-        3 => format.after_ty = broken,
-        4 => format.before_ty_name = broken,
-        5 => format.after_ty_name = broken,
-        6 => format.after_key = broken,
-        _ => format.after_eq = broken,
-    }
-}
-
-/// Puts the text before the nodes, or behind them.
-fn break_document(format: &mut KdlDocumentFormat, place: usize, broken: String) {
-    match place {
-        0 => format.leading = broken,
-        _ => format.trailing = broken,
-    }
-}
-
-/// Puts the text into the place of that number in the formats of a node: of its own, of its entries, of its block.
-fn break_in_node(rt: &impl Abort, alloc: Global, node: &mut KdlNode, place: usize, broken: &str) {
-    if place < 8 {
-        let format = node.format_mut().expect(rt, "no format");
-        break_node(format, place, text(rt, alloc, broken));
-    } else if place < 16 {
-        let place = place - 8;
-        for entry in node.entries_mut().iter_mut() {
-            let format = entry.format_mut().expect(rt, "no format");
-            break_entry(format, place, text(rt, alloc, broken));
-        }
-    } else if let Some(children) = node.children_mut() {
-        let format = children.format_mut().expect(rt, "no format");
-        break_document(format, place - 16, text(rt, alloc, broken));
-    }
-}
-
-/// The document of the text, with the broken text in one place of each of its nodes.
-fn broken_document(
-    rt: &impl Abort,
-    alloc: Global,
-    source: &str,
-    place: usize,
-    broken: &str,
-) -> KdlDocument {
-    let mut document = read(rt, alloc, source);
-    if place < 18 {
-        for node in document.nodes_mut().iter_mut() {
-            break_in_node(rt, alloc, node, place, broken);
-        }
-    } else {
-        let format = document.format_mut().expect(rt, "no format");
-        break_document(format, place - 18, text(rt, alloc, broken));
-    }
-    document
-}
-
-/// The document prints the text once it is laid out.
-fn document_becomes(rt: &impl Abort, alloc: Global, document: &mut KdlDocument, text: &str) {
+/// The document prints the text once it is laid out without comments.
+pub fn document_becomes(rt: &impl Abort, alloc: Global, document: &mut KdlDocument, text: &str) {
     document.autoformat_no_comments().expect(rt, "memory");
     prints(rt, alloc, document, text);
 }
 
-/// Each node of the document prints the text once it is laid out.
-fn nodes_become(rt: &impl Abort, alloc: Global, document: &mut KdlDocument, text: &str) {
-    for node in document.nodes_mut().iter_mut() {
-        node.autoformat_no_comments().expect(rt, "memory");
-        prints(rt, alloc, node, text);
-    }
-}
-
-#[test]
-fn formats_broken_by_hand(rt: HostRuntime) {
-    let alloc = rt.alloc();
-    for (source, canonical) in &CANONICAL {
-        for broken in &BROKEN {
-            for place in 0..20 {
-                let mut document = broken_document(&rt, alloc, source, place, broken);
-                nodes_become(&rt, alloc, &mut document, canonical);
-                let mut document = broken_document(&rt, alloc, source, place, broken);
-                document_becomes(&rt, alloc, &mut document, canonical);
-            }
-        }
+/// The document prints the text once it is laid out, with comments where they are to be kept.
+fn lays_out(
+    rt: &impl Abort,
+    alloc: Global,
+    document: &mut KdlDocument,
+    no_comments: bool,
+    text: &str,
+) {
+    if no_comments {
+        document_becomes(rt, alloc, document, text);
+    } else {
+        document.autoformat().expect(rt, "memory");
+        prints(rt, alloc, document, text);
     }
 }
 
@@ -242,23 +150,28 @@ const BROKEN_NODES: [(usize, usize, &str); 4] = [
     (2, 7, ")"),
 ];
 
+/// Checks the document as it is built, with broken formats, and without formats.
+fn becomes_built(rt: &impl Abort, alloc: Global, no_comments: bool) {
+    let mut document = built_document(rt, alloc);
+    lays_out(rt, alloc, &mut document, no_comments, BUILT);
+    document = built_document(rt, alloc);
+    for (index, place, broken) in &BROKEN_NODES {
+        let node = document.nodes_mut().get_mut(*index).expect(rt, "no node");
+        break_in_node(rt, alloc, node, *place, broken);
+    }
+    lays_out(rt, alloc, &mut document, no_comments, BUILT);
+    document = built_document(rt, alloc);
+    document.clear_format_recursive();
+    lays_out(rt, alloc, &mut document, no_comments, BUILT);
+    document = KdlDocument::new(alloc);
+    prints(rt, alloc, &document, "");
+    lays_out(rt, alloc, &mut document, no_comments, "\n");
+}
+
 #[test]
 fn a_built_document(rt: HostRuntime) {
-    let alloc = rt.alloc();
-    let mut document = built_document(&rt, alloc);
-    document_becomes(&rt, alloc, &mut document, BUILT);
-    document = built_document(&rt, alloc);
-    for (index, place, broken) in &BROKEN_NODES {
-        let node = document.nodes_mut().get_mut(*index).expect(&rt, "no node");
-        break_in_node(&rt, alloc, node, *place, broken);
-    }
-    document_becomes(&rt, alloc, &mut document, BUILT);
-    document = built_document(&rt, alloc);
-    document.clear_format_recursive();
-    document_becomes(&rt, alloc, &mut document, BUILT);
-    document = KdlDocument::new(alloc);
-    prints(&rt, alloc, &document, "");
-    document_becomes(&rt, alloc, &mut document, "\n");
+    becomes_built(&rt, rt.alloc(), true);
+    becomes_built(&rt, rt.alloc(), false);
 }
 
 /// The entry has the leading text and the spelling of the value, no other text, and no mark.
@@ -277,21 +190,27 @@ const LEADING: &str = " \\\n ";
 
 const REPR: &str = "0x10";
 
-#[test]
-fn marked_entries_keep_their_form(rt: HostRuntime) {
-    let alloc = rt.alloc();
-    let mut document = read(&rt, alloc, "n 1 0x2");
+/// Checks a marked entry, which keeps its form once.
+fn keeps_its_form(rt: &impl Abort, alloc: Global, no_comments: bool) {
+    let mut document = read(rt, alloc, "n 1 0x2");
     for node in document.nodes_mut().iter_mut() {
-        exchange(&rt, alloc, node, 0, ENTRY);
-        let entry = node.entries_mut().first_mut().expect(&rt, "no entry");
+        exchange(rt, alloc, node, 0, ENTRY);
+        let entry = node.entries_mut().first_mut().expect(rt, "no entry");
         entry.keep_format();
     }
-    document_becomes(&rt, alloc, &mut document, "n \\\n k=(u)0x10 2\n");
+    let kept = "n \\\n k=(u)0x10 2\n";
+    lays_out(rt, alloc, &mut document, no_comments, kept);
     for node in document.nodes() {
-        let entry = node.entries().first().expect(&rt, "no entry");
-        is_kept(&rt, alloc, entry, LEADING, REPR);
+        let entry = node.entries().first().expect(rt, "no entry");
+        is_kept(rt, alloc, entry, LEADING, REPR);
     }
-    document_becomes(&rt, alloc, &mut document, "n k=(u)16 2\n");
+    lays_out(rt, alloc, &mut document, no_comments, "n k=(u)16 2\n");
+}
+
+#[test]
+fn marked_entries_keep_their_form(rt: HostRuntime) {
+    keeps_its_form(&rt, rt.alloc(), true);
+    keeps_its_form(&rt, rt.alloc(), false);
 }
 
 /// The document prints the text once it is laid out as the configuration says.
@@ -306,27 +225,35 @@ fn becomes(
     prints(rt, alloc, document, text);
 }
 
+/// Checks a document whose entries are all marked by the configuration: it prints the text as often as it is laid out
+/// so, and the canonical one when it is laid out without marks.
+fn keeps_all(rt: &impl Abort, alloc: Global, no_comments: bool, kept: &str, canonical: &str) {
+    let mut document = read(rt, alloc, "n 1 ( u )0x2 /*x*/ 3.0 {\n  m\t#\"a\"# // c\n}");
+    for node in document.nodes_mut().iter_mut() {
+        exchange(rt, alloc, node, 0, ENTRY);
+        add(rt, node, KdlValue::from(5));
+    }
+    let mut config = config(0, "    ", no_comments);
+    config.entry_autoformate_keep = true;
+    becomes(rt, alloc, &mut document, &config, kept);
+    becomes(rt, alloc, &mut document, &config, kept);
+    for node in document.nodes() {
+        let entry = node.entries().first().expect(rt, "no entry");
+        is_kept(rt, alloc, entry, LEADING, REPR);
+        let entry = node.entries().last().expect(rt, "no entry");
+        holds(rt, entry.format().is_none(), "a format");
+    }
+    lays_out(rt, alloc, &mut document, no_comments, canonical);
+}
+
 #[test]
 fn all_entries_keep_their_form(rt: HostRuntime) {
-    let alloc = rt.alloc();
-    let mut document = read(&rt, alloc, "n 1 ( u )0x2 /*x*/ 3.0 {\n  m\t#\"a\"# // c\n}");
-    for node in document.nodes_mut().iter_mut() {
-        exchange(&rt, alloc, node, 0, ENTRY);
-        add(&rt, node, KdlValue::from(5));
-    }
-    let mut config = config(0, "    ", true);
-    config.entry_autoformate_keep = true;
     let kept = "n \\\n k=(u)0x10 (u)0x2 /*x*/ 3.0 5 {\n    m\t#\"a\"#\n}\n";
-    becomes(&rt, alloc, &mut document, &config, kept);
-    becomes(&rt, alloc, &mut document, &config, kept);
-    for node in document.nodes() {
-        let entry = node.entries().first().expect(&rt, "no entry");
-        is_kept(&rt, alloc, entry, LEADING, REPR);
-        let entry = node.entries().last().expect(&rt, "no entry");
-        holds(&rt, entry.format().is_none(), "a format");
-    }
     let canonical = "n k=(u)16 (u)2 3.0 5 {\n    m a\n}\n";
-    document_becomes(&rt, alloc, &mut document, canonical);
+    keeps_all(&rt, rt.alloc(), true, kept, canonical);
+    let kept = "n \\\n k=(u)0x10 (u)0x2 /*x*/ 3.0 5 {\n    m\t#\"a\"# // c\n}\n";
+    let laid_out = "n k=(u)16 (u)2 /*x*/ 3.0 5 {\n    m a // c\n}\n";
+    keeps_all(&rt, rt.alloc(), false, kept, laid_out);
 }
 
 /// The text is not laid out as the configuration says, and says then what it said.
@@ -355,13 +282,30 @@ fn levels_without_bound(rt: HostRuntime) {
 }
 
 #[test]
+fn levels_without_bound_with_comments(rt: HostRuntime) {
+    let alloc = rt.alloc();
+    let bare = config(usize::MAX, "", false);
+    let wide = config(usize::MAX, "    ", false);
+    becomes(&rt, alloc, &mut read(&rt, alloc, ""), &wide, "\n");
+    becomes(&rt, alloc, &mut read(&rt, alloc, "a"), &bare, "a\n");
+    let mut document = read(&rt, alloc, "// c\na 0x1 // d\n/-e");
+    becomes(&rt, alloc, &mut document, &bare, "// c\na 1 // d\n/-e\n");
+    is_not_laid_out(&rt, alloc, "a {}", &bare, "a {\n\n}\n");
+    is_not_laid_out(&rt, alloc, "/*x*/ a /-1 {}", &bare, "a {\n\n}\n");
+    is_not_laid_out(&rt, alloc, "/*x*/ a /-1", &wide, "a\n");
+    is_not_laid_out(&rt, alloc, "// c", &wide, "\n");
+}
+
+#[test]
 fn an_indent_that_is_no_space(rt: HostRuntime) {
     let alloc = rt.alloc();
-    let mut document = read(&rt, alloc, "(t)a k=0x1 { b { c; }; }");
-    let config = config(1, "x", true);
-    document.autoformat_config(&config).expect(&rt, "memory");
-    let canonical = "(t)a k=1 {\n    b {\n        c\n    }\n}\n";
-    document_becomes(&rt, alloc, &mut document, canonical);
+    for no_comments in [true, false] {
+        let mut document = read(&rt, alloc, "// x\n(t)a k=0x1 { b { /-x; c; }; }");
+        let config = config(1, "x", no_comments);
+        document.autoformat_config(&config).expect(&rt, "memory");
+        let canonical = "(t)a k=1 {\n    b {\n        c\n    }\n}\n";
+        document_becomes(&rt, alloc, &mut document, canonical);
+    }
 }
 
 /// The documents and their nodes, and the names and entries of these, have the same spans.
@@ -381,34 +325,45 @@ fn spans_stay(rt: HostRuntime) {
     let alloc = rt.alloc();
     let text = " a  0x10 k = 1 /*c*/;\n\n\"b\" /- 1 (t)2";
     let mut document = read(&rt, alloc, text);
+    let with_comments = "a 16 k=1 /*c*/\nb /- 1 (t)2\n";
+    lays_out(&rt, alloc, &mut document, false, with_comments);
+    has_the_spans(&rt, &document, &read(&rt, alloc, text));
     document_becomes(&rt, alloc, &mut document, "a 16 k=1\nb (t)2\n");
     has_the_spans(&rt, &document, &read(&rt, alloc, text));
 }
 
-/// What the document of the text prints once it is laid out, or none for want of memory. Where memory is wanting while
-/// it is laid out, it still says what it said, so that it can be laid out again.
-fn laid_out(rt: &HostRuntime, text: &str) -> Result<Option<String>, Fail> {
-    match KdlDocument::parse(rt.alloc(), text) {
+/// What the document of the text prints once it is laid out, and that again without comments, or none for want of
+/// memory. Where memory is wanting while it is laid out, it still says what it said, so that it can be laid out again.
+fn laid_out(rt: &HostRuntime, text: &str) -> Result<Option<(String, String)>, Fail> {
+    let alloc = rt.alloc();
+    match KdlDocument::parse(alloc, text) {
         Ok(mut document) => {
+            if document.autoformat().is_err() {
+                document.autoformat_no_comments()?;
+            }
+            let first = document.to_string(alloc).ok();
             if document.autoformat_no_comments().is_err() {
                 document.autoformat_no_comments()?;
             }
-            Ok(document.to_string(rt.alloc()).ok())
+            Ok(first.zip(document.to_string(alloc).ok()))
         }
         Err(ParseFailure::Memory) => Ok(None),
         Err(ParseFailure::Syntax(_)) => Err(Fail::from("refused")),
     }
 }
 
-/// Here alone want of memory is no fault: run with one allocation refused, the answer is that or the canonical text.
+/// Here alone want of memory is no fault: run with one allocation refused, the answer is that or one of the two texts.
 #[test]
-fn want_of_memory_or_the_canonical_text(rt: HostRuntime) -> Result<(), Fail> {
+fn want_of_memory_or_the_texts(rt: HostRuntime) -> Result<(), Fail> {
     let text =
         "\nhello 1 2 3\n\n// Comment\nworld prop=string-value {\n    child 1\n    child 2\n    child #inf\n}\n";
+    let laid =
+        "hello 1 2 3\n// Comment\nworld prop=string-value {\n    child 1\n    child 2\n    child #inf\n}\n";
     let canonical =
         "hello 1 2 3\nworld prop=string-value {\n    child 1\n    child 2\n    child #inf\n}\n";
-    if let Some(printed) = laid_out(&rt, text)? {
-        assert_eq!(rt; printed.as_str(), canonical);
+    if let Some((first, second)) = laid_out(&rt, text)? {
+        assert!(rt; first.as_str() == laid || first.as_str() == canonical);
+        assert_eq!(rt; second.as_str(), canonical);
     }
     Ok(())
 }

@@ -4,6 +4,8 @@
 
 use std::hash::{DefaultHasher, Hash, Hasher};
 
+#[cfg(test)]
+mod broken;
 pub mod callers;
 #[cfg(test)]
 mod copies;
