@@ -1,11 +1,12 @@
 //! Laws: of the written grammar of documents and nodes; of what an edit changes in the printed text; of equality, order,
-//! hashes and copies; of layout; and that what is printed reads back.
+//! hashes and copies; of layout and of the items that it keeps; and that what is printed reads back.
 #![tactic(auto)]
 
 pub mod edits;
 pub mod entries;
 pub mod errors;
 pub mod formats;
+pub mod items;
 pub mod keys;
 pub mod layout;
 pub mod nodes;

@@ -1,0 +1,27 @@
+-- The lists of items, with all that they are of named.
+use Rattle.std.proofs.Common.{◌≡◌, true, List, [], ◌∷◌, ◌++◌, map}
+use Rattle.std.specs.List.{list_all}
+use Rattle.kdl_text.specs.Chars.{Text, is_space}
+use Rattle.kdl_grammar.specs.Tree.{Document}
+use Rattle.kdl_items.specs.Items.{Item, GapItems, Place, PlaceItems}
+use Rattle.kdl_items.specs.Written.{lines, on_line, tail}
+use Rattle.kdl_items.proofs.ItemsDet.{gap_items_det, place_items_det}
+use Rattle.kdl_items.proofs.PlacesAgain.{tail_spaced}
+use Rattle.kdl_items.proofs.WrittenAgain.{lines_spaces}
+use Rattle.kdl_fmt.specs.Comments.{DocumentItems}
+use Rattle.kdl_fmt.proofs.OneList.{document_items_det}
+
+pub one_list : (s : Text) (is js : List Item) → GapItems s is → GapItems s js → is ≡ js
+one_list s is js a b = gap_items_det a b
+
+pub one_list_in_place : (p : Place) (s : Text) (is js : List Item) → PlaceItems p s is → PlaceItems p s js → is ≡ js
+one_list_in_place p s is js a b = place_items_det a b
+
+pub one_list_of_document : (d : Document) (is js : List Item) → DocumentItems d is → DocumentItems d js → is ≡ js
+one_list_of_document d is js a b = document_items_det a b
+
+pub lines_hold_items : (before after s : Text) (is : List Item) → list_all is_space before ≡ true → list_all is_space after ≡ true → GapItems s is → GapItems (lines before is ++ after) (map on_line is)
+lines_hold_items before after s is a b d = lines_spaces before after a b d
+
+pub tail_holds_items : (p : Place) (s : Text) (is : List Item) → PlaceItems p s is → PlaceItems p (tail is ++ (32 ∷ [])) is
+tail_holds_items p s is d = tail_spaced d
