@@ -40,7 +40,7 @@ pub fn document_of(alloc: Global, nodes: Vec<KdlNode>) -> KdlDocument {
 }
 
 /// A new document of the one node.
-pub fn document_with(rt: &impl Abort, alloc: Global, node: KdlNode) -> KdlDocument {
+fn document_with(rt: &impl Abort, alloc: Global, node: KdlNode) -> KdlDocument {
     document_of(alloc, vec![in alloc; node].expect(rt, "memory"))
 }
 

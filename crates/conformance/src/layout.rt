@@ -1,20 +1,19 @@
 //! Layout where no row of text can say what is laid out: built documents, entries that keep their form, levels without
 //! bound, the configuration, and want of memory.
 
-use crate::broken::break_in_node;
 use crate::edits::{add, add_property, exchange};
 use crate::fields::{built, document_of};
 use crate::reading::{equal, holds, prints, read, string, text};
 use kdl::{
-    FormatConfig, FormatConfigBuilder, KdlDocument, KdlEntry, KdlEntryFormat, KdlValue,
-    ParseFailure, is_kdl_space,
+    FormatConfig, FormatConfigBuilder, KdlDocument, KdlEntry, KdlEntryFormat, KdlNode,
+    KdlNodeFormat, KdlValue, ParseFailure, is_kdl_space,
 };
 use std::alloc::Global;
 use std::process::Abort;
 use std::test::Fail;
 
 /// The document prints the text once it is laid out without comments.
-pub fn document_becomes(rt: &impl Abort, alloc: Global, document: &mut KdlDocument, text: &str) {
+fn document_becomes(rt: &impl Abort, alloc: Global, document: &mut KdlDocument, text: &str) {
     document.autoformat_no_comments().expect(rt, "memory");
     prints(rt, alloc, document, text);
 }
@@ -142,12 +141,39 @@ fn built_document(rt: &impl Abort, alloc: Global) -> KdlDocument {
 /// What it prints once it is laid out.
 const BUILT: &str = "foo\nbar prop=value 1 2 #false #null {\n    barchild\n}\nbaz\n";
 
+/// A place in the format of a node.
+#[derive(Clone, Copy)]
+enum Place {
+    Leading,
+    BeforeTerminator,
+    Terminator,
+    Trailing,
+}
+
+impl Place {
+    /// Puts the text into the place.
+    fn put(self, format: &mut KdlNodeFormat, broken: String) {
+        match self {
+            Place::Leading => format.leading = broken,
+            Place::BeforeTerminator => format.before_terminator = broken,
+            Place::Terminator => format.terminator = broken,
+            Place::Trailing => format.trailing = broken,
+        }
+    }
+}
+
+/// Puts the text into the place in the format of the node.
+fn break_in_node(rt: &impl Abort, alloc: Global, node: &mut KdlNode, place: Place, broken: &str) {
+    let format = node.format_mut().expect(rt, "no format");
+    place.put(format, text(rt, alloc, broken));
+}
+
 /// A node by its index, a place of it, and a text for that place.
-const BROKEN_NODES: [(usize, usize, &str); 4] = [
-    (0, 0, "x "),
-    (0, 6, "\nb"),
-    (1, 5, "/-3"),
-    (2, 7, ")"),
+const BROKEN_NODES: [(usize, Place, &str); 4] = [
+    (0, Place::Leading, "x "),
+    (0, Place::Terminator, "\nb"),
+    (1, Place::BeforeTerminator, "/-3"),
+    (2, Place::Trailing, ")"),
 ];
 
 /// Checks the document as it is built, with broken formats, and without formats.

@@ -4,8 +4,6 @@
 
 use std::hash::{DefaultHasher, Hash, Hasher};
 
-#[cfg(test)]
-mod broken;
 pub mod callers;
 #[cfg(test)]
 mod copies;

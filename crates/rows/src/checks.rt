@@ -5,6 +5,7 @@ use crate::fault::{Fault, wrong};
 use crate::fronts::{check_fronts, check_replaced};
 use crate::layout::{Comments, gets, lays_out, lays_out_kept};
 use crate::notation::encoded;
+use crate::places::PlacedText;
 use crate::reading::{prints, tells};
 use crate::row::Call;
 use kdl::{
@@ -13,7 +14,8 @@ use kdl::{
 };
 use std::alloc::Global;
 
-/// A text, the call on it, what is expected, and how it is laid out, where that is said.
+/// A text, the call on it, what is expected, how it is laid out, where that is said, and what is set in its places
+/// before.
 #[derive(Clone, Copy, Drop)]
 pub struct Case<'a> {
     pub alloc: Global,
@@ -22,6 +24,7 @@ pub struct Case<'a> {
     pub wanted: &'a [Field],
     pub by: Option<&'a str>,
     pub config: Option<FormatConfig<'a>>,
+    pub placed: &'a [PlacedText<'a>],
 }
 
 /// Tries the text.
@@ -64,7 +67,7 @@ impl Case<'_> {
 
     /// What was wanted of the text, and what came.
     fn message(&self, wanted: &Field, came: &str) -> Result<String, Fault> {
-        let text = encoded(self.alloc, self.text)?;
+        let text = self.shown()?;
         let label = encoded(self.alloc, &wanted.label)?;
         let came = encoded(self.alloc, came)?;
         match &wanted.text {
@@ -74,6 +77,16 @@ impl Case<'_> {
                 Ok(format!(in self.alloc; "{text}: wanted `{label}: {wanted}`, came `{came}`")?)
             }
         }
+    }
+
+    /// The text, and what is set in its places.
+    fn shown(&self) -> Result<String, Fault> {
+        let mut shown = encoded(self.alloc, self.text)?;
+        for placed in self.placed {
+            let text = encoded(self.alloc, &placed.text)?;
+            write!(shown, " with {} `{text}`", placed.name)?;
+        }
+        Ok(shown)
     }
 }
 

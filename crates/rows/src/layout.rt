@@ -48,16 +48,42 @@ impl Item {
     /// What the text is read as, by the call of the case.
     fn of(case: &Case<'_>, wanted: &Field, text: &str) -> Result<Item, Fault> {
         match case.call {
-            Call::Document => match KdlDocument::parse(case.alloc, text) {
-                Ok(document) => Ok(Item::Document(document)),
-                Err(_) => Err(case.differs(wanted, "refused")),
-            },
+            Call::Document => Item::document(case, wanted, text),
             Call::Node => match KdlNode::parse(case.alloc, text) {
                 Ok(node) => Ok(Item::Node(node)),
                 Err(_) => Err(case.differs(wanted, "refused")),
             },
             _ => Err(case.differs(wanted, "no such line for this call")),
         }
+    }
+
+    /// The document that the text is read as.
+    fn document(case: &Case<'_>, wanted: &Field, text: &str) -> Result<Item, Fault> {
+        match KdlDocument::parse(case.alloc, text) {
+            Ok(document) => Ok(Item::Document(document)),
+            Err(_) => Err(case.differs(wanted, "refused")),
+        }
+    }
+
+    /// What a printed text is read as. A node with texts set in its places prints a document of that one node: behind it
+    /// may stand a dropped node, which no text of a node has there.
+    fn read_back(case: &Case<'_>, wanted: &Field, printed: &str) -> Result<Item, Fault> {
+        if case.placed.is_empty() {
+            Item::of(case, wanted, printed)
+        } else {
+            Item::document(case, wanted, printed)
+        }
+    }
+
+    /// Puts the texts of the case into their places.
+    fn put(&mut self, case: &Case<'_>) -> Result<(), Fault> {
+        for placed in case.placed {
+            match self {
+                Item::Document(document) => placed.put_in_document(case.alloc, document)?,
+                Item::Node(node) => placed.put_in_node(case.alloc, node)?,
+            }
+        }
+        Ok(())
     }
 
     /// Marks the first entry of the first node to keep its form.
@@ -108,8 +134,8 @@ impl Item {
     ) -> Result<(String, Item), Fault> {
         let printed = self.laid_out(case, comments)?;
         is_printed(case, wanted, &printed)?;
-        let item = Item::of(case, wanted, &printed)?;
-        has_same_data(case, dump, &item.dump(case)?)?;
+        let item = Item::read_back(case, wanted, &printed)?;
+        has_same_data(case, dump, &item.dump(case, wanted)?)?;
         Ok((printed, item))
     }
 
@@ -128,12 +154,16 @@ impl Item {
         Err(case.differs(wanted, &again))
     }
 
-    /// The fields of the item.
-    fn dump(&self, case: &Case<'_>) -> Result<Dump, AllocError> {
+    /// The fields of the item: of a document that a node printed those of its one node.
+    fn dump(&self, case: &Case<'_>, wanted: &Field) -> Result<Dump, Fault> {
         let mut dump = Dump::new(case.alloc);
-        match self {
-            Item::Document(document) => dump.document(document)?,
-            Item::Node(node) => dump.node(node)?,
+        match (self, case.call) {
+            (Item::Document(document), Call::Node) => match document.nodes() {
+                [node] => dump.node(node)?,
+                _ => return Err(case.differs(wanted, "not one node")),
+            },
+            (Item::Document(document), _) => dump.document(document)?,
+            (Item::Node(node), _) => dump.node(node)?,
         }
         Ok(dump)
     }
@@ -154,8 +184,8 @@ fn is_printed(case: &Case<'_>, wanted: &Field, printed: &str) -> Result<(), Faul
     }
 }
 
-/// The text laid out prints what is wanted, which has the same data, and laid out again it prints the same; so does what
-/// is read of that.
+/// The text, with what is set in its places, laid out prints what is wanted, which has the same data, and laid out again
+/// it prints the same; so does what is read of that.
 pub fn lays_out(
     case: &Case<'_>,
     wanted: &Field,
@@ -163,6 +193,7 @@ pub fn lays_out(
     comments: Comments,
 ) -> Result<(), Fault> {
     let mut item = Item::of(case, wanted, case.text)?;
+    item.put(case)?;
     let (printed, mut read) = item.prints_laid_out(case, wanted, dump, comments)?;
     item.prints_again(case, wanted, &printed, comments)?;
     read.prints_again(case, wanted, &printed, comments)
@@ -202,6 +233,7 @@ pub fn lays_out_kept(
         return Err(case.differs(wanted, &format!(in case.alloc; "no line `{label}`")?));
     };
     let mut item = Item::of(case, wanted, case.text)?;
+    item.put(case)?;
     item.keep_first();
     item.prints_laid_out(case, wanted, dump, comments)?;
     let again = item.laid_out(case, comments)?;

@@ -13,6 +13,7 @@ mod fronts;
 mod layout;
 mod members;
 mod notation;
+mod places;
 mod reading;
 mod row;
 

@@ -6,6 +6,7 @@ use crate::fault::{Fault, wrong};
 use crate::file::Block;
 use crate::members::Members;
 use crate::notation::{Fills, decoded};
+use crate::places::{FormatPlace, PLACES, PlacedText};
 use kdl::FormatConfig;
 use std::alloc::Global;
 
@@ -71,7 +72,8 @@ impl<'a> Line<'a> {
     }
 }
 
-/// A row: texts with their calls, how they are filled in and laid out, and what is expected of each.
+/// A row: texts with their calls, how they are filled in and laid out, what is set in their places before, and what is
+/// expected of each.
 #[derive(Drop)]
 pub struct Row<'a> {
     alloc: Global,
@@ -80,6 +82,8 @@ pub struct Row<'a> {
     by: Option<&'a str>,
     indent: Option<&'a str>,
     level: Option<usize>,
+    /// Names of places, and the texts to be set there.
+    set: Vec<(&'a str, &'a str)>,
     within: Vec<&'a str>,
     wanted: Vec<Line<'a>>,
 }
@@ -98,6 +102,7 @@ impl<'a> Row<'a> {
             by: None,
             indent: None,
             level: None,
+            set: Vec::new(alloc),
             within: Vec::new(alloc),
             wanted: Vec::new(alloc),
         };
@@ -147,7 +152,10 @@ impl<'a> Row<'a> {
             ("indent", Some(text)) => self.indent = Some(text),
             ("level", Some(text)) => self.level = Some(self.number(text)?),
             ("within", Some(text)) => self.within.push(text)?,
-            _ => self.wanted.push(line)?,
+            (label, text) => match (label.strip_prefix("set "), text) {
+                (Some(place), Some(text)) => self.set.push((place, text))?,
+                (_, _) => self.wanted.push(line)?,
+            },
         }
         Ok(())
     }
@@ -172,9 +180,9 @@ impl<'a> Row<'a> {
             return Err(wrong(format!(in self.alloc; "`within` without □")));
         }
         let mut wanted = self.wanted.iter();
-        let has_layout = self.indent.is_some() || self.level.is_some();
+        let has_layout = self.indent.is_some() || self.level.is_some() || !self.set.is_empty();
         if has_layout && !wanted.any(|line| line.is_layout()) {
-            return Err(wrong(format!(in self.alloc; "`indent` or `level` without layout")));
+            return Err(wrong(format!(in self.alloc; "`indent`, `level` or `set` without layout")));
         }
         Ok(())
     }
@@ -205,27 +213,79 @@ impl<'a> Row<'a> {
         Ok(())
     }
 
-    /// Tries the text, or each pattern with the text in its place.
+    /// Tries the text, with a line `set each` once for each place.
     fn run_text(&self, call: Call, text: &str, member: Option<&str>) -> Result<(), Fault> {
         let own = decoded(self.alloc, text, Fills { member, own: None })?;
         let fills = Fills {
             member,
             own: Some(&own),
         };
+        if !self.set.iter().any(|(place, _)| *place == "each") {
+            return self.run_filled(call, &own, fills, None);
+        }
+        for (name, place) in &PLACES {
+            if place.is_of(call) {
+                self.run_filled(call, &own, fills, Some(name))?;
+            }
+        }
+        Ok(())
+    }
+
+    /// Tries the text, or each pattern with the text in its place, with that place for `set each`.
+    fn run_filled(
+        &self,
+        call: Call,
+        text: &str,
+        fills: Fills<'_>,
+        each: Option<&str>,
+    ) -> Result<(), Fault> {
         let wanted = self.fields(fills)?;
+        let placed = self.placed(fills, each)?;
         let indent = match self.indent {
             Some(indent) => Some(decoded(self.alloc, indent, fills)?),
             None => None,
         };
-        let config = self.config(indent.as_deref());
+        let case = Case {
+            alloc: self.alloc,
+            call,
+            text,
+            wanted: &wanted,
+            by: self.by,
+            config: self.config(indent.as_deref()),
+            placed: &placed,
+        };
         if self.within.is_empty() {
-            return self.check(call, &own, &wanted, config);
+            return check(&case);
         }
         for pattern in &self.within {
             let text = decoded(self.alloc, pattern, fills)?;
-            self.check(call, &text, &wanted, config)?;
+            check(&Case {
+                text: &text,
+                ..case
+            })?;
         }
         Ok(())
+    }
+
+    /// The texts to be set, with that place for `each`.
+    fn placed<'b>(
+        &'b self,
+        fills: Fills<'_>,
+        each: Option<&'b str>,
+    ) -> Result<Vec<PlacedText<'b>>, Fault> {
+        let mut placed = Vec::new(self.alloc);
+        for (place, text) in &self.set {
+            let name = match each {
+                Some(each) if *place == "each" => each,
+                _ => *place,
+            };
+            let Some(place) = FormatPlace::of(name) else {
+                return Err(wrong(format!(in self.alloc; "no place `{name}`")));
+            };
+            let text = decoded(self.alloc, text, fills)?;
+            placed.push(PlacedText { name, place, text })?;
+        }
+        Ok(placed)
     }
 
     /// How the row is laid out but for its comments, where a setting says so.
@@ -238,25 +298,6 @@ impl<'a> Row<'a> {
             .maybe_indent_level(self.level)
             .build();
         Some(config)
-    }
-
-    /// Tries one text.
-    fn check(
-        &self,
-        call: Call,
-        text: &str,
-        wanted: &[Field],
-        config: Option<FormatConfig<'_>>,
-    ) -> Result<(), Fault> {
-        let case = Case {
-            alloc: self.alloc,
-            call,
-            text,
-            wanted,
-            by: self.by,
-            config,
-        };
-        check(&case)
     }
 
     /// What is expected, with labels and texts filled in.
