@@ -8,6 +8,8 @@ pub mod callers;
 #[cfg(test)]
 mod copies;
 #[cfg(test)]
+mod depth;
+#[cfg(test)]
 mod document_lookups;
 #[cfg(test)]
 mod edits;

@@ -8,3 +8,6 @@ pub mod Printing
 pub mod Readings
 pub mod Same
 pub mod Trees
+pub mod Counting
+pub mod Copying
+pub mod Left

@@ -1,7 +1,6 @@
 -- The trees of a node and of a document, by their fields.
-use Rattle.std.proofs.Common.{◌≡◌, ℕ, List, [], ◌∷◌, ◌++◌, map, ap, ◌∙◌, refl, Option, None, Some, option_map, length, ◌≤◌, take}
-use Rattle.std.proofs.lemmas.List.{take_all, map-append}
-use Rattle.std.specs.Option.{MatchOption, IsSomeAnd}
+use Rattle.std.proofs.Common.{◌≡◌, List, [], ◌∷◌, ◌++◌, map, ap, ◌∙◌, refl, None, Some, option_map}
+use Rattle.std.proofs.lemmas.List.{map-append}
 use Rattle.std.specs.List.{AllZip}
 use Rattle.kdl_entry.specs.declared.entry.KdlEntry.{KdlEntry}
 use Rattle.kdl_entry.specs.Tree.{identifier_tree, entry_tree}
@@ -55,9 +54,6 @@ nodes_of-append (x ∷ xs) ys = ap (first x) (nodes_of-append xs ys)
 pub nodes_tree-append : (xs ys : List KdlNode) → nodes_tree (xs ++ ys) ≡ join (nodes_tree xs) (nodes_tree ys)
 nodes_tree-append xs ys = ap nodes_of (map-append node_tree xs ys) ∙ nodes_of-append (map node_tree xs) (map node_tree ys)
 
-pub nodes_tree_more : (xs : List KdlNode) (x : KdlNode) → nodes_tree (xs ++ x ∷ []) ≡ join (nodes_tree xs) (first (node_tree x) none)
-nodes_tree_more xs x = nodes_tree-append xs (x ∷ [])
-
 pub join_none : (ns : Nodes) → join ns none ≡ ns
 join_none none = refl
 join_none (first n ns) = ap (first n) (join_none ns)
@@ -67,23 +63,11 @@ join_assoc none ms ks = refl
 join_assoc (first n ns) ms ks = ap (first n) (join_assoc ns ms ks)
 
 -- clones have the same trees
-pub option_cloned : {A B : Type 0} (f : A → B) (o p : Option A) → MatchOption o (p ≡ None) (λ x. IsSomeAnd p (λ y. f y ≡ f x)) → option_map f p ≡ option_map f o
-option_cloned f None p h = ap (option_map f) h
-option_cloned f (Some x) None h = absurd h
-option_cloned f (Some x) (Some y) h = ap Some h
-
 pub entries_cloned : (xs ys : List KdlEntry) → AllZip (λ x y. entry_tree y ≡ entry_tree x) xs ys → map entry_tree ys ≡ map entry_tree xs
 entries_cloned [] [] h = refl
 entries_cloned [] (y ∷ ys) h = absurd h
 entries_cloned (x ∷ xs) [] h = absurd h
 entries_cloned (x ∷ xs) (y ∷ ys) h = rw (h.0, entries_cloned xs ys h.1) refl
-
-pub all_taken : (i : ℕ) (xs ys : List KdlNode) → length xs ≤ i → xs ≡ ys → map node_tree (take i xs) ≡ map node_tree ys
-all_taken i xs ys h e = rw (take_all i xs h, e) refl
-
-pub same_document : (x y : DocumentFields) → option_map document_format_tree x.format ≡ option_map document_format_tree y.format → x.span ≡ y.span
-    → map node_tree x.nodes.items ≡ map node_tree y.nodes.items → document_of x ≡ document_of y
-same_document x y f s n = rw (f, s, n) refl
 
 pub same_node : (x y : NodeFields) → option_map identifier_tree x.ty ≡ option_map identifier_tree y.ty → identifier_tree x.name ≡ identifier_tree y.name
     → map entry_tree x.entries.items ≡ map entry_tree y.entries.items → option_map node_format_tree x.format ≡ option_map node_format_tree y.format

@@ -6,3 +6,6 @@ pub mod Iterators
 pub mod Lookups
 pub mod Same
 pub mod Tree
+pub mod Count
+pub mod Copied
+pub mod Left

@@ -1,11 +1,13 @@
 //! Documents.
 
 ghost use Rattle.kdl_grammar.specs.Tree.{document, none};
-ghost use Rattle.kdl.specs.Tree.{node_tree, document_tree};
+ghost use Rattle.kdl.specs.Tree.{node_tree, nodes_tree, document_tree};
+ghost use Rattle.kdl_parts.specs.Formats.{document_format_tree};
 ghost use Rattle.kdl_parser.specs.Parts.{document_by};
 ghost use Rattle.kdl_parser.specs.Whole.{whole_by};
 ghost use Rattle.kdl_grammar.specs.Laid.{with_mark};
-ghost use Rattle.kdl_grammar.specs.Print.{print_document, print_block};
+ghost use Rattle.kdl_grammar.specs.Print.{print_document};
+ghost use Rattle.kdl.specs.Left.{block_end, block_front};
 ghost use Rattle.kdl.specs.Same.{same_document};
 ghost use Rattle.kdl.specs.declared.document.KdlDocument.{out-KdlDocument};
 ghost use Rattle.std.specs.Fmt.{WritesOnOk};
@@ -18,7 +20,10 @@ mod iter;
 mod layout;
 mod lookup;
 
+use crate::copies::copy_nodes;
+use crate::drops::dismantle;
 use crate::node::KdlNode;
+use crate::prints::write_nodes;
 use kdl_parser::{DocumentParts, DocumentText};
 use kdl_parts::KdlDocumentFormat;
 use kdl_parts::format::behind_mark;
@@ -37,13 +42,45 @@ use std::fmt;
 ///
 /// Two documents are equal where they agree in all but their spans.
 #[cycle(tree)]
-#[derive(Debug, Drop)]
+#[derive(Debug)]
 #[derive_where(PartialEq, Eq, Hash)]
 pub struct KdlDocument {
     nodes: Vec<KdlNode>,
     format: Option<KdlDocumentFormat>,
     #[derive_where(skip(EqHashOrd))]
     span: SourceSpan,
+}
+
+/// A document is dropped without recursion and without memory, however deep its blocks are.
+impl Drop for KdlDocument {
+    fn drop(self) {
+        dismantle(self.into_nodes())
+    }
+}
+
+impl KdlDocument {
+    /// The nodes, without the texts around them.
+    pub(crate) fn into_nodes(self) -> Vec<KdlNode>
+        ensures { result ≡ (out-KdlDocument self).nodes }
+    {
+        let KdlDocument {
+            nodes,
+            format: _,
+            span: _,
+        } = self;
+        nodes
+    }
+
+    /// A document of these nodes, without a format.
+    pub(crate) fn bare(nodes: Vec<KdlNode>) -> KdlDocument
+        ensures { (out-KdlDocument result).nodes ≡ nodes }
+    {
+        KdlDocument {
+            nodes,
+            format: None,
+            span: SourceSpan { offset: 0, len: 0 },
+        }
+    }
 }
 
 impl KdlDocument {
@@ -155,38 +192,26 @@ impl KdlDocument {
 }
 
 impl KdlDocument {
-    /// Writes the document, whose nodes stand at the given depth.
-    #[cycle(stringify)]
-    #[tactic(auto, using(kdl_parts::proofs::Writing::writes, crate::proofs::Printing::nodes_written))]
-    pub(crate) fn stringify<W: fmt::Write>(
-        &self,
-        depth: usize,
-        f: &mut fmt::Formatter<W>,
-    ) -> fmt::Result
-        ensures { WritesOnOk W.write_str_gives f.old result (encode_utf8_all (print_document (document_tree self.now) depth)) f.new }
+    /// Writes the `{` of the block that the document is, up to its first node.
+    #[tactic(auto, using(kdl_parts::proofs::Writing::writes))]
+    pub(crate) fn write_front<W: fmt::Write>(&self, f: &mut fmt::Formatter<W>) -> fmt::Result
+        ensures { WritesOnOk W.write_str_gives f.old result (encode_utf8_all (block_front self.now)) f.new }
     {
-        write_leading(&self.format, f)?;
-        for node in &self.nodes {
-            node.stringify(depth, f)?;
-        }
-        write_trailing(&self.format, f)
+        write_after_brace(&self.format, f)?;
+        write_leading(&self.format, f)
     }
 
-    /// Writes the document between braces, as the children of a node at the given depth.
-    #[cycle(stringify)]
-    #[tactic(auto, using(kdl_parts::proofs::Writing::writes, crate::proofs::Printing::document_format_is))]
-    pub(crate) fn stringify_block<W: fmt::Write>(
+    /// Writes what stands behind its last node, up to the `}` of the block that the document is, in a node at the given
+    /// depth.
+    #[tactic(auto, using(kdl_parts::proofs::Writing::writes))]
+    pub(crate) fn write_end<W: fmt::Write>(
         &self,
         depth: usize,
         f: &mut fmt::Formatter<W>,
     ) -> fmt::Result
-        ensures { WritesOnOk W.write_str_gives f.old result (encode_utf8_all (print_block (document_tree self.now) depth)) f.new }
+        ensures { WritesOnOk W.write_str_gives f.old result (encode_utf8_all (block_end self.now depth)) f.new }
     {
-        let Some(inner) = depth.checked_add(1) else {
-            return Err(fmt::Error);
-        };
-        write_after_brace(&self.format, f)?;
-        self.stringify(inner, f)?;
+        write_trailing(&self.format, f)?;
         write_before_brace(&self.format, depth, f)
     }
 }
@@ -201,20 +226,17 @@ impl fmt::Display for KdlDocument {
     ghost output = { λ d. Some (encode_utf8_all (print_document (document_tree d) 0)) };
 
     fn fmt<W: fmt::Write>(&self, f: &mut fmt::Formatter<W>) -> fmt::Result {
-        self.stringify(0, f)
+        write_leading(&self.format, f)?;
+        write_nodes(*self.nodes.allocator(), &self.nodes, f)?;
+        write_trailing(&self.format, f)
     }
 }
 
 impl KdlDocument {
-    /// A copy with the same tree.
-    #[cycle(copy)]
-    pub(crate) fn copy(&self) -> Result<KdlDocument, AllocError>
-        ensures { IfOk result (λ d. document_tree d ≡ document_tree self.now) }
+    /// A copy of the texts around the nodes and of the span, with these nodes.
+    pub(crate) fn with_nodes(&self, nodes: Vec<KdlNode>) -> Result<KdlDocument, AllocError>
+        ensures { IfOk result (λ d. document_tree d ≡ document (option_map document_format_tree (out-KdlDocument self.now).format) (out-KdlDocument self.now).span (nodes_tree nodes.items)) }
     {
-        let mut nodes = Vec::with_capacity(*self.nodes.allocator(), self.nodes.len())?;
-        for node in &self.nodes {
-            nodes.push(node.copy()?)?;
-        }
         let format = self.format.clone()?;
         Ok(KdlDocument {
             nodes,
@@ -229,6 +251,8 @@ impl Clone for KdlDocument {
     ghost is_clone = { λ v w. document_tree w ≡ document_tree v };
 
     fn clone(&self) -> Result<KdlDocument, AllocError> {
-        self.copy()
+        let nodes = copy_nodes(*self.nodes.allocator(), &self.nodes)?;
+        let copy = self.with_nodes(nodes)?;
+        Ok(copy)
     }
 }

@@ -33,11 +33,14 @@
 //! }
 //! ```
 //!
-//! A text that is no document is refused, with a place in it:
+//! A text that is no document is refused, and each fault in it is told, with its place and words for it:
 //!
 //! ```
-//! if let Err(ParseFailure::Syntax(error)) = KdlDocument::parse(alloc, "a }") {
-//!     let span = error.diagnostics[0].span; // offset 2 and length 1: where the `}` stands
+//! if let Err(ParseFailure::Syntax(error)) = KdlDocument::parse(alloc, "a }\nb #treu\n") {
+//!     let first = error.diagnostics[0].span; // offset 2 and length 1: where the `}` stands
+//!     for diagnostic in &error.diagnostics {
+//!         let message = &diagnostic.message; // "Expected end of document", then "Expected keyword"
+//!     }
 //! }
 //! ```
 //!
@@ -45,9 +48,12 @@
 //! `ParseFailure::Memory`. Spans are in bytes of the text that was read.
 #![tactic(auto)]
 
+mod copies;
 mod document;
+mod drops;
 mod node;
 mod parser;
+mod prints;
 
 pub use document::KdlDocument;
 pub use document::args::DashArgsIter;

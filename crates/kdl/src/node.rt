@@ -4,6 +4,8 @@ ghost use Rattle.kdl_grammar.specs.Tree.{node, children_of};
 ghost use Rattle.kdl.specs.Tree.{node_tree, document_tree};
 ghost use Rattle.kdl_parser.specs.NodeText.{text_by};
 ghost use Rattle.kdl_grammar.specs.Print.{print_node};
+ghost use Rattle.kdl.specs.Copied.{with_children};
+ghost use Rattle.kdl.specs.Left.{front, node_before_block, node_end};
 ghost use Rattle.kdl.specs.Same.{same_node};
 ghost use Rattle.kdl.specs.declared.node.KdlNode.{out-KdlNode};
 ghost use Rattle.kdl_entry.specs.Tree.{identifier_tree, entry_tree};
@@ -20,13 +22,14 @@ mod lookup;
 mod parsed;
 
 use crate::document::KdlDocument;
+use crate::prints::write_nodes;
 use kdl_entry::{KdlEntry, KdlIdentifier};
 use kdl_parser::NodeText;
 use kdl_parts::KdlNodeFormat;
 use kdl_parts::print::{write_before_block, write_end, write_head, write_pieces};
 use kdl_text::span::SourceSpan;
 use std::alloc::{AllocError, Global};
-use std::fmt;
+use std::{fmt, mem, slice};
 
 /// A node: a name, maybe a type, entries, maybe children, and the texts around them (KDL 2.0.0, Node).
 ///
@@ -47,6 +50,31 @@ pub struct KdlNode {
     format: Option<KdlNodeFormat>,
     #[derive_where(skip(EqHashOrd))]
     span: SourceSpan,
+}
+
+impl KdlNode {
+    /// The children alone.
+    pub(crate) fn into_children(self) -> Option<KdlDocument>
+        ensures { result ≡ (out-KdlNode self).children }
+    {
+        let KdlNode {
+            ty: _,
+            name: _,
+            entries: _,
+            children,
+            format: _,
+            span: _,
+        } = self;
+        children
+    }
+
+    /// Puts other children in the place of the node's, and answers those.
+    pub(crate) fn exchange_children(&mut self, children: Option<KdlDocument>) -> Option<KdlDocument>
+        ensures had { result ≡ (out-KdlNode self.old).children }
+        ensures has { (out-KdlNode self.new).children ≡ children }
+    {
+        mem::replace(&mut self.children, children)
+    }
 }
 
 impl KdlNode {
@@ -156,22 +184,30 @@ impl KdlNode {
 }
 
 impl KdlNode {
-    /// Writes the node at the given depth.
-    #[cycle(stringify)]
-    pub(crate) fn stringify<W: fmt::Write>(
+    /// Writes the node at the given depth, up to its last entry.
+    #[tactic(auto, using(kdl_parts::proofs::Writing::writes))]
+    pub(crate) fn write_front<W: fmt::Write>(
         &self,
         depth: usize,
         f: &mut fmt::Formatter<W>,
     ) -> fmt::Result
-        ensures { WritesOnOk W.write_str_gives f.old result (encode_utf8_all (print_node (node_tree self.now) depth)) f.new }
+        ensures { WritesOnOk W.write_str_gives f.old result (encode_utf8_all (front self.now depth)) f.new }
     {
         write_head(&self.ty, &self.name, &self.format, depth, f)?;
-        write_pieces(&self.entries, f)?;
-        if let Some(children) = &self.children {
-            write_before_block(&self.format, &self.entries, f)?;
-            children.stringify_block(depth, f)?;
-            return write_end(&self.format, f);
-        }
+        write_pieces(&self.entries, f)
+    }
+
+    /// Writes what stands before the `{` of its block.
+    pub(crate) fn write_before_block<W: fmt::Write>(&self, f: &mut fmt::Formatter<W>) -> fmt::Result
+        ensures { WritesOnOk W.write_str_gives f.old result (encode_utf8_all (node_before_block self.now)) f.new }
+    {
+        write_before_block(&self.format, &self.entries, f)
+    }
+
+    /// Writes what stands behind its last entry, or behind its block.
+    pub(crate) fn write_end<W: fmt::Write>(&self, f: &mut fmt::Formatter<W>) -> fmt::Result
+        ensures { WritesOnOk W.write_str_gives f.old result (encode_utf8_all (node_end self.now)) f.new }
+    {
         write_end(&self.format, f)
     }
 }
@@ -188,21 +224,19 @@ impl fmt::Display for KdlNode {
     ghost output = { λ n. Some (encode_utf8_all (print_node (node_tree n) 0)) };
 
     fn fmt<W: fmt::Write>(&self, f: &mut fmt::Formatter<W>) -> fmt::Result {
-        self.stringify(0, f)
+        write_nodes(*self.entries.allocator(), slice::from_ref(self), f)
     }
 }
 
 impl KdlNode {
-    /// A copy with the same tree.
-    #[cycle(copy)]
-    pub(crate) fn copy(&self) -> Result<KdlNode, AllocError>
-        ensures { IfOk result (λ n. node_tree n ≡ node_tree self.now) }
+    /// A copy with these children in the place of the node's.
+    pub(crate) fn with_children(&self, children: Option<KdlDocument>) -> Result<KdlNode, AllocError>
+        ensures { IfOk result (λ n. node_tree n ≡ with_children self.now children) }
     {
         let ty = self.ty.clone()?;
         let name = self.name.clone()?;
         let entries = self.entries.clone()?;
         let format = self.format.clone()?;
-        let children = copy_children(&self.children)?;
         Ok(KdlNode {
             ty,
             name,
@@ -224,17 +258,10 @@ impl Clone for KdlNode {
     ghost is_clone = { λ v w. node_tree w ≡ node_tree v };
 
     fn clone(&self) -> Result<KdlNode, AllocError> {
-        self.copy()
-    }
-}
-
-/// A copy of a child block, with the same tree.
-#[cycle(copy)]
-fn copy_children(children: &Option<KdlDocument>) -> Result<Option<KdlDocument>, AllocError>
-    ensures { IfOk result (λ o. children_of (option_map document_tree o) ≡ children_of (option_map document_tree children.now)) }
-{
-    match children {
-        Some(children) => Ok(Some(children.copy()?)),
-        None => Ok(None),
+        let children = match &self.children {
+            Some(children) => Some(children.clone()?),
+            None => None,
+        };
+        self.with_children(children)
     }
 }

@@ -25,6 +25,7 @@ fn read(alloc: Global, text: &str, steps: &mut Steps) -> Result<KdlDocument, Par
     ensures told { TellsOnSyntax text.now result }
     ensures least { OnOk result (raise steps.old (length (chars text.now)) ≤ steps.new) }
     ensures most { OnOk result (steps.new ≤ steps.old + 32 * (length text.now + 1)) }
+    ensures told_most { IsSyntax result → steps.new ≤ steps.old + 160 * (length text.now + 1) }
     ensures raised { raise steps.old 1 ≤ steps.new }
 {
     match read_document(alloc, text, steps) {
@@ -53,8 +54,8 @@ impl KdlDocument {
     ghost use Rattle.kdl_grammar.specs.Tree.{Document, document_data};
 
     /// The document of a text, with every byte of its form (KDL 2.0.0, Document). `Syntax`: the text is none.
-    /// Its error has one diagnostic, at the first token that fits nothing or the first piece that is none.
-    /// `Memory`: a request for memory was refused. Nothing is made then.
+    /// Its error has a diagnostic for each fault that is found, in the order of reading, and one at least; reading goes
+    /// on behind a fault. `Memory`: a request for memory was refused. Nothing is made then.
     ///
     /// ```
     /// let text = "host localhost // here\nport 0x1F90\n";
@@ -87,7 +88,7 @@ impl KdlDocument {
     /// `u64`. A step is one look at a character or at a token, or one byte of a slice of the text.
     ///
     /// A document of n bytes takes at least a step for each character and at most 32 (n + 1) steps. What is refused
-    /// takes at least one.
+    /// takes at least one, and where an error tells of it at most 160 (n + 1).
     ///
     /// ```
     /// let mut steps = Steps::new();
@@ -109,9 +110,11 @@ impl KdlDocument {
         ensures kept { (x : Nodes) → IsFormerDocument (chars text.now) x → IsSyntax result → ⊥ }
         ensures former { (x : Nodes) → IsFormerDocument (chars text.now) x → IfOk result (λ d. document_data (document_tree d) ≡ x) }
         ensures edited { IfOk result (λ d. (e : Document) → EachDocument IsEdited (document_tree d) e → IsDocument true (print_document e 0) (document_data e)) }
-        // At least a step for each character is counted, and at most 32 for each byte and 32 more.
+        // At least a step for each character is counted, and at most 32 for each byte and 32 more; for a text that is
+        // refused, and what is told of it, at most 160.
         ensures least { OnOk result (raise steps.old (length (chars text.now)) ≤ steps.new) }
         ensures most { OnOk result (steps.new ≤ steps.old + 32 * (length text.now + 1)) }
+        ensures told_most { IsSyntax result → steps.new ≤ steps.old + 160 * (length text.now + 1) }
         ensures raised { raise steps.old 1 ≤ steps.new }
     {
         read(alloc, text, steps)
@@ -146,9 +149,9 @@ impl KdlNode {
     /// The node that the text is, with every byte of its form: line-spaces and nodes that count for nothing before
     /// it, and behind its terminator line-spaces alone (KDL 2.0.0, Node). What stands before it is its leading text,
     /// what stands behind its terminator its trailing one, and its span is the whole text, in bytes. `Syntax`: the text
-    /// is none. Its error has one diagnostic: at the first token that fits nothing or the first piece that is none,
-    /// at a second node, or at the end of a text that has none. `Memory`: a request for memory was refused. Nothing is
-    /// made then.
+    /// is none. Its error has a diagnostic for each fault that is found, and one at least: one is at a second node, where
+    /// reading ends, or at the end of a text that has none. `Memory`: a request for memory was refused. Nothing is made
+    /// then.
     ///
     /// ```
     /// let node = KdlNode::parse(alloc, "// the port\nport 8080\n")?;

@@ -18,7 +18,6 @@ use Rattle.kdl_entry.specs.Items as items
 use Rattle.kdl_entry.specs.Tokens.{Token, space, newline, slashdash, string, value, left, right, equals, BeginsToken, t_space}
 use Rattle.kdl_entry.specs.Tree.{Entry, Identifier, entry_tree}
 use Rattle.kdl_entry.specs.declared.entry.KdlEntry.{KdlEntry}
-use Rattle.kdl_entry.specs.declared.items.lexer.Fault.{Fault}
 use Rattle.kdl_entry.specs.declared.items.lexer.LexFailure.{LexFailure}
 use Rattle.kdl_entry.specs.declared.items.lexer.LexFailure.TheVariants.{Faulty, Memory}
 use Rattle.kdl_entry.specs.declared.items.lexer.Token.{Token as CodeToken}
@@ -209,9 +208,9 @@ pub char_in : (s p t : Text) (span : SourceSpan) → t ≡ p ++ s → span.offse
 char_in [] p t span e f g = (p, [], [], e ∙ simp append-nil, f, g)
 char_in (c ∷ s) p t span e f g = (p, c ∷ [], s, e ∙ sym (append_assoc p (c ∷ []) s), f, omega (arith, g))
 
-told : (st : State) (here : Here) (t : Text) (place : Spot) (fault : Fault) → Going st here t → place.rest ≡ here.rest → place.at ≡ here.at → IsFaultAt place fault → InText t fault.span
-told st here t place fault g e f x =
-    char_in here.rest g.text.0 t fault.span g.text.1 (x.offset ∙ f ∙ bytes_before g.text.0 here.rest t here.at g.text.1 g.at) (x.len ∙ ap first_len e)
+told : (st : State) (here : Here) (t : Text) (place : Spot) (span : SourceSpan) → Going st here t → place.rest ≡ here.rest → place.at ≡ here.at → IsFaultAt place span → InText t span
+told st here t place span g e f x =
+    char_in here.rest g.text.0 t span g.text.1 (x.offset ∙ f ∙ bytes_before g.text.0 here.rest t here.at g.text.1 g.at) (x.len ∙ ap first_len e)
 
 no_turn : (st : State) (old mid : Here) (t : Text) (k : CodeToken) → Going st old t → HandsOut old k mid → step t st (kind_view k.kind) k.start.rest k.end.rest ≡ None
     → (e : Entry) → AnswersEntry t e → ⊥
@@ -221,11 +220,11 @@ no_turn st old mid t k g h e d a =
 
 -- the lexer's failure, and that of a step
 pub lexer_told : (st : State) (old new : Here) (t : Text) (e : LexFailure) → Going st old t → Lexed old (Err e) new → Answers t (Err e)
-lexer_told st old new t (Faulty fault) g x = (λ d a. faults t d st old.rest x.0 ((g.same d).1 a), told st old t (record { rest = old.rest; at = old.at }) fault g refl refl x.1)
+lexer_told st old new t (Faulty span) g x = (λ d a. faults t d st old.rest x.0 ((g.same d).1 a), told st old t (record { rest = old.rest; at = old.at }) span g refl refl x.1)
 lexer_told st old new t Memory g x = tt
 
 pub take_told : (st : State) (old mid : Here) (t : Text) (k : CodeToken) (e : LexFailure) → Going st old t → HandsOut old k mid → Stepped (step t st (kind_view k.kind) k.start.rest k.end.rest) k.start (Err e) → Answers t (Err e)
-take_told st old mid t k (Faulty fault) g h x = (no_turn st old mid t k g h x.0, told st old t k.start fault g h.start_rest h.start_at x.1)
+take_told st old mid t k (Faulty span) g h x = (no_turn st old mid t k g h x.0, told st old t k.start span g h.start_rest h.start_at x.1)
 take_told st old mid t k Memory g h x = tt
 
 -- a turn comes nearer to the end
@@ -254,10 +253,10 @@ from_end st old new t g e m = rw (all_read old new e m) (rw e at g.from)
 pub at_the_end : (st : State) (here : Here) (t : Text) (e : KdlEntry) → Going st here t → here.rest ≡ [] → Ended (finish t st) (Some e) → Answers t (Ok e)
 at_the_end st here t e g x f = (g.same (entry_tree e)).0 (subst (λ (z : Text). Runs t (entry_tree e) st z) (sym x) ((at_stop t (entry_tree e) st).1 f))
 
-pub no_end : (st : State) (old new : Here) (t : Text) (place : Spot) (fault : Fault) → Going st old t → old.rest ≡ [] → Moves old new → place.rest ≡ new.rest → place.at ≡ new.at → Ended (finish t st) None → IsFaultAt place fault → Answers t (Err (Faulty fault))
-no_end st old new t place fault g x m p q f z = (
+pub no_end : (st : State) (old new : Here) (t : Text) (place : Spot) (span : SourceSpan) → Going st old t → old.rest ≡ [] → Moves old new → place.rest ≡ new.rest → place.at ≡ new.at → Ended (finish t st) None → IsFaultAt place span → Answers t (Err (Faulty span))
+no_end st old new t place span g x m p q f z = (
   λ d a. (let b = (at_stop t d st).0 (subst (λ (z : Text). Runs t d st z) x ((g.same d).1 a)) in cc),
-  char_in [] t t fault.span (simp append-nil) (z.offset ∙ q ∙ all_before) (z.len ∙ ap first_len (p ∙ all_read old new x m)),
+  char_in [] t t span (simp append-nil) (z.offset ∙ q ∙ all_before) (z.len ∙ ap first_len (p ∙ all_read old new x m)),
 )
   where
     all_before : new.at ≡ bytes t

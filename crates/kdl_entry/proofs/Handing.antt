@@ -1,11 +1,12 @@
 -- From what the readers answer to the tokens of the whole language.
-use Rattle.std.proofs.Common.{◌≡◌, ℕ, zero, suc, ◌≤◌, ◌<◌, Bool, true, false, [], ◌∷◌, ◌++◌, length, refl, sym, subst, ap, ◌∙◌, ◌==◌, ◌||◌, arith, length-append, ℤ, of_z, to_z, lit<, inl, inr}
+use Rattle.std.proofs.Common.{◌≡◌, ℕ, zero, suc, ◌+◌, ◌-◌, ◌*◌, ◌≤◌, ◌<◌, Bool, true, false, [], ◌∷◌, ◌++◌, length, refl, sym, subst, ap, ◌∙◌, ◌==◌, ◌||◌, arith, length-append, ℤ, of_z, to_z, lit<, inl, inr}
+use Rattle.std.proofs.Math.Nat.{add-mul, mul-le-mul_left}
 use Rattle.std.proofs.lemmas.Bool.{and_parts, eqb-true}
 use Rattle.std.proofs.lemmas.Bool.Decides.{nat_tests}
 use Rattle.std.proofs.lemmas.Str.{len_utf8_bounds, chars-IsAscii}
 use borrow.Author.Tests.{ltb-true}
 use Rattle.std.specs.Int.{w128}
-use Rattle.std.specs.Prelude.{Some, None, Option, Result, Ok, Err, IfOk, string_bytes, String, codes, nat_lt}
+use Rattle.std.specs.Prelude.{Some, None, Option, Result, Ok, Err, IfOk, IsErrAnd, string_bytes, String, codes, nat_lt}
 use Rattle.std.specs.List.{list_all}
 use Rattle.std.specs.Str.{chars, IsAscii}
 use Rattle.std.specs.declared.alloc.Global.{Global}
@@ -14,7 +15,7 @@ use Rattle.kdl_text.specs.Chars.Star.{none, more}
 use Rattle.kdl_text.specs.Chars.Plus.{plus}
 use Rattle.kdl_text.specs.Chars.Space.{space as space_char}
 use Rattle.kdl_text.specs.Bare.{BareString}
-use Rattle.kdl_text.specs.Here.{Here, Spot, Skips, Stayed, first, tail, bytes, Took}
+use Rattle.kdl_text.specs.Here.{Here, Spot, Skips, Stayed, looked, first, tail, bytes, Took}
 use Rattle.kdl_text.specs.MultiLine.{IsQuoted}
 use Rattle.kdl_text.specs.NumberReading.{ReadsNumber, ReadsKeyword, number_value}
 use Rattle.kdl_text.specs.Numbers.{IsNumber, is_whole, is_decimal, NumberValue, whole_value, decimal_text, IsKeyword, begins_number, Decimal, FloatText}
@@ -29,9 +30,10 @@ use Rattle.kdl_text.specs.TriviaReading.{PieceCosts, Opens}
 use Rattle.kdl_text.specs.declared.numbers.Keyword.{Keyword}
 use Rattle.kdl_text.specs.declared.numbers.Number.{Number}
 use Rattle.kdl_text.specs.declared.numbers.Number.TheVariants.{Integer as IntegerNumber, Decimal as DecimalNumber}
+use Rattle.kdl_text.specs.declared.span.SourceSpan.{SourceSpan}
 use Rattle.kdl_text.specs.declared.strings.StringFailure.{StringFailure}
 use Rattle.kdl_text.specs.declared.strings.StringFailure.TheVariants.{Fault as StringFaulty, Memory as StringMemory}
-use Rattle.kdl_text.proofs.Going.{moves_one, bytes-append}
+use Rattle.kdl_text.proofs.Going.{moves_one, bytes-append, fewer_bytes}
 use Rattle.kdl_text.proofs.Keywords.{keyword_begins}
 use Rattle.kdl_text.proofs.Bares.{bare_begins, bare_shorter}
 use Rattle.kdl_text.proofs.Determined.{is_quoted_begins, is_quoted_shorter, is_raw_begins, is_raw_shorter}
@@ -46,11 +48,11 @@ use Rattle.kdl_value.specs.Tree.{value_tree}
 use Rattle.kdl_value.specs.declared.value.KdlValue.{KdlValue}
 use Rattle.kdl_entry.specs.Entries.{StringPiece, bare, quoted, raw, PlainPiece, number, keyword, keyword_value}
 use Rattle.kdl_entry.specs.Entries as entries
-use Rattle.kdl_entry.specs.Handed.{Cuts, one, spaces, NoToken, ReadsKind, Passes, IsFaultAt, IsMark, is_single, kind_view}
+use Rattle.kdl_entry.specs.Handed.{Cuts, one, spaces, NoToken, ReadsKind, KindCosts, LexCosts, Passes, IsFaultAt, IsMark, is_single, kind_view}
 use Rattle.kdl_entry.specs.Tokens.{space, newline, slashdash, string, value, t_space, t_newline, t_slashdash, t_string, t_value}
-use Rattle.kdl_entry.specs.declared.items.lexer.Fault.{Fault}
 use Rattle.kdl_entry.specs.declared.items.lexer.LexFailure.{LexFailure}
 use Rattle.kdl_entry.specs.declared.items.lexer.LexFailure.TheVariants.{Faulty, Memory}
+use Rattle.kdl_entry.specs.declared.items.lexer.Token.{Token}
 use Rattle.kdl_entry.specs.declared.items.lexer.TokenKind.{TokenKind}
 use Rattle.kdl_entry.proofs.Cutting.{no_piece, no_slash, no_backslash, no_alien, Alien}
 use Rattle.kdl_entry.proofs.Fronts.{no_quote, number_identifier}
@@ -72,10 +74,10 @@ fewer {b = b} m h = let p = m.piece.0 in omega (arith, h, ap length m.piece.1, l
 pub bare_costs : (a b : Here) (v : Text) → BareString a.rest b.rest v → Moves a b → Costs 2 4 a b → PieceCosts 20 a b
 bare_costs a b v p m c = let less = fewer m (bare_shorter p) in record { fewer = less; costs = record { most = omega (arith, c.most, less); least = c.least } }
 
-pub quoted_costs : (a b : Here) (v : Text) → IsQuoted a.rest b.rest v → Moves a b → Costs 3 5 a b → PieceCosts 22 a b
+pub quoted_costs : (a b : Here) (v : Text) → IsQuoted a.rest b.rest v → Moves a b → Costs 4 7 a b → PieceCosts 22 a b
 quoted_costs a b v p m c = let less = fewer m (is_quoted_shorter p) in record { fewer = less; costs = record { most = omega (arith, c.most, less); least = c.least } }
 
-pub raw_costs : (a b : Here) (v : Text) → IsRaw a.rest b.rest v → Moves a b → Costs 4 7 a b → PieceCosts 21 a b
+pub raw_costs : (a b : Here) (v : Text) → IsRaw a.rest b.rest v → Moves a b → Costs 4 9 a b → PieceCosts 21 a b
 raw_costs a b v p m c = let less = fewer m (is_raw_shorter p) in record { fewer = less; costs = record { most = omega (arith, c.most, less); least = c.least } }
 
 pub plain_costs : (a b : Here) (v : Value) → PlainPiece a.rest b.rest v → Moves a b → Costs 20 0 a b → PieceCosts 20 a b
@@ -84,10 +86,40 @@ plain_costs a b v p m c = record { fewer = fewer m (plain_shorter p); costs = c 
 pub more_costs : (a b : Here) → PieceCosts 20 a b → PieceCosts 21 a b
 more_costs a b p = record { fewer = p.fewer; costs = record { most = omega (arith, p.costs.most, p.fewer); least = p.costs.least } }
 
+-- where none begins, a bound on the steps for each byte that was read and on those beside them
+pub faulty_costs : (k c m : ℕ) (a b : Here) → Costs k c a b → Moves a b → k ≤ m → c ≤ m → Costs m m a b
+faulty_costs k c m a b f v i j =
+    let more = mul-le-mul_left (m - k) (fewer_bytes v) in
+    let is : k + (m - k) ≡ m = omega (arith, i) in
+    let x : m * bytes a.rest ≡ k * bytes a.rest + (m - k) * bytes a.rest = sym (ap (λ (n : ℕ). n * bytes a.rest) is) ∙ add-mul k (m - k) (bytes a.rest) in
+    let y : m * bytes b.rest ≡ k * bytes b.rest + (m - k) * bytes b.rest = sym (ap (λ (n : ℕ). n * bytes b.rest) is) ∙ add-mul k (m - k) (bytes b.rest) in
+    record { most = omega (arith, f.most, more, x, y, j); least = f.least }
+
+pub failed_costs : (k c m : ℕ) (f : LexFailure) (a b : Here) → Costs k c a b → Moves a b → k ≤ m → c ≤ m → KindCosts {A = TokenKind} m (Err f) a b
+failed_costs k c m (Faulty s) a b f v i j = faulty_costs k c m a b f v i j
+failed_costs k c m Memory a b f v i j = tt
+
 -- with looks before it
-pub two_looks : {A E : Type 0} (k : ℕ) (r : Result A E) (a b e : Here) → k ≤ 2 → Stayed k a b → IfOk r (λ _. PieceCosts 20 b e) → IfOk r (λ _. PieceCosts 22 a e)
-two_looks k (Ok x) a b e few s p = let q = ap bytes s.rest in record { fewer = omega (arith, q, p.fewer); costs = record { most = omega (arith, s.steps, q, p.costs.most, p.fewer, few); least = omega (arith, s.steps, ap length s.rest, p.costs.least) } }
-two_looks k (Err x) a b e few s p = tt
+pub two_looks : {A : Type 0} (k : ℕ) (r : Result A LexFailure) (a b e : Here) → k ≤ 2 → Stayed k a b → Moves b e → KindCosts 20 r b e → KindCosts 22 r a e
+two_looks k (Ok x) a b e few s v p = let q = ap bytes s.rest in record { fewer = omega (arith, q, p.fewer); costs = record { most = omega (arith, s.steps, q, p.costs.most, p.fewer, few); least = omega (arith, s.steps, ap length s.rest, p.costs.least) } }
+two_looks k (Err (Faulty f)) a b e few s v p = let q = ap bytes s.rest in record { most = omega (arith, s.steps, q, p.most, few, fewer_bytes v); least = omega (arith, s.steps, ap length s.rest, p.least) }
+two_looks k (Err Memory) a b e few s v p = tt
+
+pub one_look : {A : Type 0} (r : Result A LexFailure) (a b e : Here) → Stayed 1 a b → Moves b e → KindCosts 21 r b e → KindCosts 22 r a e
+one_look (Ok x) a b e s v p = let q = ap bytes s.rest in record { fewer = omega (arith, q, p.fewer); costs = record { most = omega (arith, s.steps, q, p.costs.most, p.fewer); least = omega (arith, s.steps, ap length s.rest, p.costs.least) } }
+one_look (Err (Faulty f)) a b e s v p = let q = ap bytes s.rest in record { most = omega (arith, s.steps, q, p.most, fewer_bytes v); least = omega (arith, s.steps, ap length s.rest, p.least) }
+one_look (Err Memory) a b e s v p = tt
+
+-- behind a look
+pub no_token_costs : (r : Result (Option Token) LexFailure) (f : LexFailure) (a b e : Here) → IsErrAnd r (λ g. g ≡ f) → b ≡ looked a → Moves b e → KindCosts {A = TokenKind} 22 (Err f) b e → LexCosts r a e
+no_token_costs (Ok o) f a b e h x v p = absurd h
+no_token_costs (Err g) f a b e h x v p = subst (λ (z : LexFailure). LexCosts (Err z) a e) (sym h) (costs f p)
+  where
+    costs : (f : LexFailure) → KindCosts {A = TokenKind} 22 (Err f) b e → LexCosts (Err f) a e
+    costs (Faulty s) p =
+        let y = ap (λ (h : Here). h.steps) x in let z = ap (λ (h : Here). bytes h.rest) x in let w = ap (λ (h : Here). length h.rest) x in
+        record { most = omega (arith, y, z, p.most, fewer_bytes v); least = omega (arith, y, w, p.least) }
+    costs Memory p = tt
 
 -- no token, where no string, number or keyword begins with a character of theirs
 alone : (s : Text) → starts begins_piece s ≡ true → ((r v : Text) → StringPiece s r v → ⊥) → ((r : Text) (v : Value) → PlainPiece s r v → ⊥) → NoToken s
@@ -130,7 +162,7 @@ no_bare s h k n = alone s (at_identifier s h) strings plains
     plains r v (number m e) = clash (begins_number s) (number_begins m) k
     plains r v (keyword m e) = sign_identifier s (keyword_front m) h
 
-pub no_bare_here : (s r : Text) (place : Spot) (e : Fault) → starts is_identifier_char s ≡ true → begins_number s ≡ false → ((r v : Text) → BareString s r v → ⊥) → IsFaultAt place e → ReadsKind s place (Err (Faulty e)) r
+pub no_bare_here : (s r : Text) (place : Spot) (e : SourceSpan) → starts is_identifier_char s ≡ true → begins_number s ≡ false → ((r v : Text) → BareString s r v → ⊥) → IsFaultAt place e → ReadsKind s place (Err (Faulty e)) r
 no_bare_here s r place e h k n x = (no_bare s h k n, x)
 
 -- quoted strings
@@ -219,7 +251,7 @@ no_raw_here s r place StringMemory Memory h k n x = tt
 pub a_keyword_here : (s r : Text) (k : Keyword) (v : Value) → ReadsKeyword (Some k) s r → v ≡ keyword_value k → Cuts s (value v) r
 a_keyword_here s r k v h e = one (t_value (keyword ((h r k).1 (refl, refl)) e))
 
-pub no_keyword_here : (s t r : Text) (place : Spot) (e : Fault) → first s ≡ Some 35 → looks_raw s ≡ false → ReadsKeyword None s t → IsFaultAt place e → ReadsKind s place (Err (Faulty e)) r
+pub no_keyword_here : (s t r : Text) (place : Spot) (e : SourceSpan) → first s ≡ Some 35 → looks_raw s ≡ false → ReadsKeyword None s t → IsFaultAt place e → ReadsKind s place (Err (Faulty e)) r
 no_keyword_here s t r place e h k n x = (no_sign s h (λ r v q. clash (looks_raw s) (raw_looks s r v q) k) n, x)
 
 pub keyword_costs : (k : Keyword) (a b : Here) → ReadsKeyword (Some k) a.rest b.rest → Moves a b → Costs 20 0 a b → PieceCosts 21 a b
@@ -253,7 +285,7 @@ no_number s h n = alone s (at_identifier s (number_front s h)) strings plains
     plains r v (number {n = z} m e) = n r z m
     plains r v (keyword m e) = sign_identifier s (keyword_front m) (number_front s h)
 
-pub no_number_here : (s r : Text) (place : Spot) (e : Fault) → begins_number s ≡ true → ((r : Text) (v : NumberValue) → IsNumber s r v → ⊥) → IsFaultAt place e → ReadsKind s place (Err (Faulty e)) r
+pub no_number_here : (s r : Text) (place : Spot) (e : SourceSpan) → begins_number s ≡ true → ((r : Text) (v : NumberValue) → IsNumber s r v → ⊥) → IsFaultAt place e → ReadsKind s place (Err (Faulty e)) r
 no_number_here s r place e h n x = (no_number s h n, x)
 
 pub number_costs : (x : Number) (a b : Here) → ReadsNumber (Ok x) a.rest b.rest → Moves a b → Costs 20 0 a b → PieceCosts 20 a b
@@ -286,17 +318,17 @@ second_is c d [] h n = refl
 second_is c d (a ∷ []) h n = grind (arith, nat_tests)
 second_is c d (a ∷ b ∷ s) h n = let e : b ≡ c = eqb-true b c (and_parts (a == 47) (b == c) h).1 in rw ((and_parts (a == 47) (b == c) h).0, e, n) refl
 
-pub unclosed_here : (s r : Text) (place : Spot) (e : Fault) → first s ≡ Some 47 → Opens s → IsFaultAt place e → ReadsKind s place (Err (Faulty e)) r
+pub unclosed_here : (s r : Text) (place : Spot) (e : SourceSpan) → first s ≡ Some 47 → Opens s → IsFaultAt place e → ReadsKind s place (Err (Faulty e)) r
 unclosed_here s r place e h o x = (no_slash_at s h o.unclosed (λ r. no_line_at s r (second_is 42 47 s o.opens refl)) (second_is 42 45 s o.opens refl), x)
 
-pub no_slash_here : (s r : Text) (place : Spot) (e : Fault) → first s ≡ Some 47 → begins_two 47 42 s ≡ false → begins_two 47 47 s ≡ false → begins_two 47 45 s ≡ false → IsFaultAt place e → ReadsKind s place (Err (Faulty e)) r
+pub no_slash_here : (s r : Text) (place : Spot) (e : SourceSpan) → first s ≡ Some 47 → begins_two 47 42 s ≡ false → begins_two 47 47 s ≡ false → begins_two 47 45 s ≡ false → IsFaultAt place e → ReadsKind s place (Err (Faulty e)) r
 no_slash_here s r place e h a b c x = (no_slash_at s h (λ r. no_block_at s r a) (λ r. no_line_at s r b) c, x)
 
 -- esclines
 pub an_escline_here : (s r : Text) → Reads Escline true s r → Cuts s space r
 an_escline_here s r h = one (t_space (node_escline ((h r).1 refl)))
 
-pub no_escline_here : (s t r : Text) (place : Spot) (e : Fault) → first s ≡ Some 92 → Reads Escline false s t → IsFaultAt place e → ReadsKind s place (Err (Faulty e)) r
+pub no_escline_here : (s t r : Text) (place : Spot) (e : SourceSpan) → first s ≡ Some 92 → Reads Escline false s t → IsFaultAt place e → ReadsKind s place (Err (Faulty e)) r
 no_escline_here s t r place e h n x = (rw (first_is s 92 h) (record { begun = λ y. cc; none = no_backslash (tail s) (subst (λ (z : Text). (r : Text) → Escline z r → ⊥) (first_is s 92 h) n) }), x)
 
 -- words, spaces, newlines and tokens of one character
@@ -309,9 +341,10 @@ digit_here c s h k = rw (first_is s c h) (rw k refl)
 pub no_digit_here : (c : ℕ) (s : Text) → first s ≡ Some c → is_digit c ≡ false → is_sign c ≡ false → begins_number s ≡ false
 no_digit_here c s h k m = rw (first_is s c h) (rw (k, m) refl)
 
-pub few_costs : {A E : Type 0} (r : Result A E) (a b : Here) → IfOk r (λ _. PieceCosts 20 a b) → IfOk r (λ _. PieceCosts 22 a b)
-few_costs (Ok x) a b p = record { fewer = p.fewer; costs = record { most = omega (arith, p.costs.most, p.fewer); least = p.costs.least } }
-few_costs (Err x) a b p = tt
+pub few_costs : {A : Type 0} (r : Result A LexFailure) (a b : Here) → Moves a b → KindCosts 20 r a b → KindCosts 22 r a b
+few_costs (Ok x) a b v p = record { fewer = p.fewer; costs = record { most = omega (arith, p.costs.most, p.fewer); least = p.costs.least } }
+few_costs (Err (Faulty f)) a b v p = record { most = omega (arith, p.most, fewer_bytes v); least = p.least }
+few_costs (Err Memory) a b v p = tt
 
 spaces_of : (p r : Text) → list_all is_space p ≡ true → Star NodeSpace (p ++ r) r
 spaces_of [] r h = none
@@ -368,7 +401,7 @@ mark_costs c o a b h t =
     record { fewer = omega (arith, ap bytes x, one); costs = record { most = omega (arith, ap bytes x, one, z); least = omega (arith, ap length x, z) } }
 
 -- another character
-pub other_here : (c : ℕ) (s r : Text) (place : Spot) (e : Fault) → first s ≡ Some c → ((c == 34 || c == 35) || (c == 47 || c == 92)) ≡ false → is_identifier_char c ≡ false → is_space c ≡ false → is_newline_char c ≡ false → is_single c ≡ false → IsFaultAt place e
+pub other_here : (c : ℕ) (s r : Text) (place : Spot) (e : SourceSpan) → first s ≡ Some c → ((c == 34 || c == 35) || (c == 47 || c == 92)) ≡ false → is_identifier_char c ≡ false → is_space c ≡ false → is_newline_char c ≡ false → is_single c ≡ false → IsFaultAt place e
     → ReadsKind s place (Err (Faulty e)) r
 other_here c s r place e h p w x y m z = (rw (first_is s c h) (record { begun = λ f. cc; none = no_alien c (tail s) (alien c p w x y m) }), z)
   where

@@ -18,7 +18,7 @@ use Rattle.kdl_entry.specs.Tokens as tokens
 use Rattle.kdl_entry.specs.Tokens.{BeginsToken, t_space, t_string}
 use Rattle.kdl_value.specs.Tree.{text_of}
 use Rattle.kdl_entry.specs.Tree.{Identifier}
-use Rattle.kdl_entry.specs.declared.items.lexer.Fault.{Fault}
+use Rattle.kdl_text.specs.declared.span.SourceSpan.{SourceSpan}
 use Rattle.kdl_entry.specs.declared.items.lexer.LexFailure.{LexFailure}
 use Rattle.kdl_entry.specs.declared.items.lexer.LexFailure.TheVariants.{Faulty, Memory}
 use Rattle.kdl_entry.specs.declared.items.lexer.Token.{Token as CodeToken}
@@ -41,20 +41,20 @@ laid_whole {t = t} {r = r} {v = v} (one (t_string p)) e = subst (λ (z : Text). 
     at_end r p e = place (string p (subst (λ (z : Text). ValueEnd true z) (sym e) nothing)) (string_end p)
 
 -- a place that was told stands in the text
-place_told : (t : Text) (place : Spot) (fault : Fault) (p : Text) → t ≡ p ++ place.rest → place.at + bytes place.rest ≡ bytes t → IsFaultAt place fault → InText t fault.span
-place_told t place fault p e f x = char_in place.rest p t fault.span e (x.offset ∙ bytes_before p place.rest t place.at e f) x.len
+place_told : (t : Text) (place : Spot) (span : SourceSpan) (p : Text) → t ≡ p ++ place.rest → place.at + bytes place.rest ≡ bytes t → IsFaultAt place span → InText t span
+place_told t place span p e f x = char_in place.rest p t span e (x.offset ∙ bytes_before p place.rest t place.at e f) x.len
 
 -- where no token begins
 pub no_token_told : (t : Text) (old new : Here) (e : LexFailure) → old.rest ≡ t → old.at ≡ 0 → Lexed old (Err e) new → Answers t (Err e)
-no_token_told t old new (Faulty fault) e f x = (λ v d. none v (subst (λ (z : Text). IsIdentifierText true z v) (sym e) d), place_told t (record { rest = old.rest; at = old.at }) fault [] (sym e) (omega (arith, ap bytes e, f)) x.1)
+no_token_told t old new (Faulty span) e f x = (λ v d. none v (subst (λ (z : Text). IsIdentifierText true z v) (sym e) d), place_told t (record { rest = old.rest; at = old.at }) span [] (sym e) (omega (arith, ap bytes e, f)) x.1)
   where
     none : (v : Text) → IsIdentifierText true old.rest v → ⊥
     none v (string p q) = x.0.none _ _ (t_string p)
 no_token_told t old new Memory e f x = tt
 
 -- where the text is empty
-pub empty_told : (t : Text) (old : Here) (place : Spot) (fault : Fault) → old.rest ≡ t → old.rest ≡ [] → place.rest ≡ t → place.at ≡ 0 → IsFaultAt place fault → Answers t (Err (Faulty fault))
-empty_told t old place fault e n f g x = (λ v d. none v (subst (λ (z : Text). IsIdentifierText true z v) (sym e ∙ n) d), place_told t place fault [] (sym f) (omega (arith, ap bytes f, g)) x)
+pub empty_told : (t : Text) (old : Here) (place : Spot) (span : SourceSpan) → old.rest ≡ t → old.rest ≡ [] → place.rest ≡ t → place.at ≡ 0 → IsFaultAt place span → Answers t (Err (Faulty span))
+empty_told t old place span e n f g x = (λ v d. none v (subst (λ (z : Text). IsIdentifierText true z v) (sym e ∙ n) d), place_told t place span [] (sym f) (omega (arith, ap bytes f, g)) x)
   where
     none : (v : Text) → IsIdentifierText true [] v → ⊥
     none v (string p q) = no_token (t_string p)
@@ -64,17 +64,17 @@ string_kind (StringKind s) v e n = n s refl
 string_kind _ v e n = cc
 
 -- where the first token is no string
-pub other_told : (t : Text) (old mid : Here) (k : CodeToken) (fault : Fault) → old.rest ≡ t → old.at ≡ 0 → HandsOut old k mid → ((s : String Global) → k.kind ≡ StringKind s → ⊥) → IsFaultAt k.start fault → Answers t (Err (Faulty fault))
-other_told t old mid k fault e f h n x = (
+pub other_told : (t : Text) (old mid : Here) (k : CodeToken) (span : SourceSpan) → old.rest ≡ t → old.at ≡ 0 → HandsOut old k mid → ((s : String Global) → k.kind ≡ StringKind s → ⊥) → IsFaultAt k.start span → Answers t (Err (Faulty span))
+other_told t old mid k span e f h n x = (
   λ v d. string_kind k.kind v (is_string (rw e at h.cuts) d).1 n,
-  place_told t k.start fault [] (sym (h.start_rest ∙ e)) (omega (arith, ap bytes (h.start_rest ∙ e), h.start_at, f)) x,
+  place_told t k.start span [] (sym (h.start_rest ∙ e)) (omega (arith, ap bytes (h.start_rest ∙ e), h.start_at, f)) x,
 )
 
 -- where the text goes on behind the first token
-pub more_told : (t : Text) (old mid : Here) (k : CodeToken) (fault : Fault) → old.rest ≡ t → old.at ≡ 0 → HandsOut old k mid → Moves old mid → (k.end.rest ≡ [] → ⊥) → IsFaultAt k.end fault → Answers t (Err (Faulty fault))
-more_told t old mid k fault e f h m n x = (
+pub more_told : (t : Text) (old mid : Here) (k : CodeToken) (span : SourceSpan) → old.rest ≡ t → old.at ≡ 0 → HandsOut old k mid → Moves old mid → (k.end.rest ≡ [] → ⊥) → IsFaultAt k.end span → Answers t (Err (Faulty span))
+more_told t old mid k span e f h m n x = (
   λ v d. n (h.end_rest ∙ (is_string (rw e at h.cuts) d).0),
-  place_told t k.end fault m.piece.0 (sym e ∙ m.piece.1 ∙ ap (λ (z : Text). m.piece.0 ++ z) (sym h.end_rest)) (omega (arith, ap bytes h.end_rest, h.end_at, m.at, f, ap bytes e)) x,
+  place_told t k.end span m.piece.0 (sym e ∙ m.piece.1 ∙ ap (λ (z : Text). m.piece.0 ++ z) (sym h.end_rest)) (omega (arith, ap bytes h.end_rest, h.end_at, m.at, f, ap bytes e)) x,
 )
 
 -- where the first token is a string, and the text ends behind it

@@ -23,7 +23,6 @@ pub mod LeafEnds
 pub mod PieceMoves
 pub mod Placing
 pub mod Puts
-pub mod Refusals
 pub mod Respanned
 pub mod Standing
 pub mod StringMoves

@@ -49,7 +49,7 @@ item_view it = record {
 abbrev pub Did : Answer → Spot → Result (Option Given) LexFailure → items.Item → Type 0
 Did o place (Ok None) it = o ≡ goes it
 Did o place (Ok (Some g)) it = o ≡ gives (option_map key_view g.key) (option_map type_view g.ty) (value_tree g.value)
-Did o place (Err (Faulty fault)) it = (o ≡ refuses) × IsFaultAt place fault
+Did o place (Err (Faulty span)) it = (o ≡ refuses) × IsFaultAt place span
 Did o place (Err Memory) it = Unit {0}
 
 -- the item counts or not as before, and begins where it began

@@ -44,7 +44,7 @@ Stands _ s = Unit {0}
 -- what a step did, by the machine's; of a refused token its first character is told; want of memory says nothing
 abbrev pub Stepped : Option machine.State → Spot → Result State LexFailure → Type 0
 Stepped o place (Ok st) = o ≡ Some (state_view st)
-Stepped o place (Err (Faulty fault)) = (o ≡ None) × IsFaultAt place fault
+Stepped o place (Err (Faulty span)) = (o ≡ None) × IsFaultAt place span
 Stepped o place (Err Memory) = Unit {0}
 
 -- what is read at the end of the text: the entry, or none yet
@@ -55,7 +55,7 @@ Ended o (Some e) = o ≡ Some (entry_tree e)
 -- the machine's answer on a text; of a refused text a place is told
 abbrev pub Answers : Text → Result KdlEntry LexFailure → Type 0
 Answers t (Ok e) = AnswersEntry t (entry_tree e)
-Answers t (Err (Faulty fault)) = ((e : tree.Entry) → AnswersEntry t e → ⊥) × InText t fault.span
+Answers t (Err (Faulty span)) = ((e : tree.Entry) → AnswersEntry t e → ⊥) × InText t span
 Answers t (Err Memory) = Unit {0}
 
 -- the machine answers from here on what it answers on the whole text

@@ -4,6 +4,8 @@ use Rattle.kdl_text.specs.Chars.{Text, Plus}
 use Rattle.kdl_text.specs.Here.{Here, Spot, first_len}
 use Rattle.kdl_text.specs.Reading.{Costs}
 use Rattle.kdl_text.specs.Trivia.{NodeSpace}
+use Rattle.kdl_text.specs.TriviaReading.{PieceCosts}
+use Rattle.kdl_text.specs.declared.span.SourceSpan.{SourceSpan}
 use Rattle.kdl_text.specs.declared.strings.StringFailure.{StringFailure}
 use Rattle.kdl_text.specs.declared.strings.StringFailure.TheVariants.{Fault as StringFaulty, Memory as StringMemory}
 use Rattle.kdl_value.specs.Tree.{value_tree, text_of}
@@ -12,7 +14,6 @@ use Rattle.kdl_entry.specs.Tokens.{BeginsToken}
 use Rattle.kdl_entry.specs.declared.items.lexer.TokenKind.{TokenKind}
 use Rattle.kdl_entry.specs.declared.items.lexer.TokenKind.TheVariants.{Space, Newline, Slashdash, String, Value, Left, Right, Opening, Closing, Equals, Semicolon, Mark}
 use Rattle.kdl_entry.specs.declared.items.lexer.Token.{Token}
-use Rattle.kdl_entry.specs.declared.items.lexer.Fault.{Fault}
 use Rattle.kdl_entry.specs.declared.items.lexer.LexFailure.{LexFailure}
 use Rattle.kdl_entry.specs.declared.items.lexer.LexFailure.TheVariants.{Faulty, Memory}
 
@@ -36,10 +37,10 @@ kind_view Equals = tokens.equals
 kind_view Semicolon = tokens.semicolon
 kind_view Mark = tokens.mark
 
--- a fault, of which the character at the place is told
-pub record IsFaultAt (place : Spot) (fault : Fault) : Type 0 where
-  pub offset : fault.span.offset ≡ place.at
-  pub len : fault.span.len ≡ first_len place.rest
+-- the span of a fault at the place, which is the character there
+pub record IsFaultAt (place : Spot) (span : SourceSpan) : Type 0 where
+  pub offset : span.offset ≡ place.at
+  pub len : span.len ≡ first_len place.rest
 
 -- no token begins at s, which is not the end of the text
 pub record NoToken (s : Text) : Type 0 where
@@ -49,12 +50,18 @@ pub record NoToken (s : Text) : Type 0 where
 -- the kind of the token that was read at s, before r; of a fault the character at the place is told
 abbrev pub ReadsKind : Text → Spot → Result TokenKind LexFailure → Text → Type 0
 ReadsKind s place (Ok k) r = Cuts s (kind_view k) r
-ReadsKind s place (Err (Faulty fault)) r = NoToken s × IsFaultAt place fault
+ReadsKind s place (Err (Faulty span)) r = NoToken s × IsFaultAt place span
 ReadsKind s place (Err Memory) r = Unit {0}
+
+-- what it took: at most k steps for each byte, of which there is one at least; where none begins here, at most k for each byte that was read, and k more
+abbrev pub KindCosts : {A : Type 0} → ℕ → Result A LexFailure → Here → Here → Type 0
+KindCosts k (Ok x) old new = PieceCosts k old new
+KindCosts k (Err (Faulty span)) old new = Costs k k old new
+KindCosts k (Err Memory) old new = Unit {0}
 
 -- a string's fault is told as one at the place, and want of memory as itself
 abbrev pub Passes : Spot → StringFailure → LexFailure → Type 0
-Passes place (StringFaulty e) (Faulty fault) = IsFaultAt place fault
+Passes place (StringFaulty e) (Faulty span) = IsFaultAt place span
 Passes place StringMemory Memory = Unit {0}
 Passes place _ _ = ⊥
 
@@ -79,11 +86,13 @@ pub record HandsOut (old : Here) (t : Token) (new : Here) : Type 0 where
 abbrev pub Lexed : Here → Result (Option Token) LexFailure → Here → Type 0
 Lexed old (Ok (Some t)) new = HandsOut old t new
 Lexed old (Ok None) new = old.rest ≡ []
-Lexed old (Err (Faulty fault)) new = NoToken old.rest × IsFaultAt (record { rest = old.rest; at = old.at }) fault
+Lexed old (Err (Faulty span)) new = NoToken old.rest × IsFaultAt (record { rest = old.rest; at = old.at }) span
 Lexed old (Err Memory) new = Unit {0}
 
--- a token that was handed out took at most 24 steps for each byte, and at least one for each character; the end of the text one
+-- a token that was handed out took at most 24 steps for each byte, and at least one for each character; the end of the text one;
+-- where no token begins, each byte that was read took at most 24, and the fault itself 24
 abbrev pub LexCosts : Result (Option Token) LexFailure → Here → Here → Type 0
 LexCosts (Ok (Some t)) old new = Costs 24 0 old new
 LexCosts (Ok None) old new = Costs 24 1 old new
-LexCosts _ old new = Unit {0}
+LexCosts (Err (Faulty span)) old new = Costs 24 24 old new
+LexCosts (Err Memory) old new = Unit {0}

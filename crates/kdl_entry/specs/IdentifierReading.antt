@@ -12,5 +12,5 @@ use Rattle.kdl_entry.specs.declared.items.lexer.LexFailure.TheVariants.{Faulty, 
 -- the identifier, laid in the text; of a refused text a place is told
 abbrev pub Answers : Text → Result KdlIdentifier LexFailure → Type 0
 Answers t (Ok i) = LaidIdentifierText true (identifier_tree i) t
-Answers t (Err (Faulty fault)) = ((v : Text) → IsIdentifierText true t v → ⊥) × InText t fault.span
+Answers t (Err (Faulty span)) = ((v : Text) → IsIdentifierText true t v → ⊥) × InText t span
 Answers t (Err Memory) = Unit {0}

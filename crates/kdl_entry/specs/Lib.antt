@@ -12,6 +12,5 @@ pub mod Laid
 pub mod Laws
 pub mod Places
 pub mod Print
-pub mod Refused
 pub mod Tokens
 pub mod Tree

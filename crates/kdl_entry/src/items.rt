@@ -4,6 +4,5 @@ mod entries;
 mod identifiers;
 pub mod item;
 mod lexer;
-pub mod refusal;
 
-pub use lexer::{Fault, FaultKind, LexFailure, Lexer, Token, TokenKind};
+pub use lexer::{LexFailure, Lexer, Token, TokenKind, fault_at};

@@ -1,5 +1,5 @@
 -- What the turns of the loop over the tokens take, and what an item takes.
-use Rattle.std.proofs.Common.{◌≡◌, ℕ, ◌+◌, ◌*◌, ◌≤◌, length, [], ◌++◌, if◌then◌else◌, Bool, true, false, Option, Some, None, Result, Ok, Err, OnOk, is_some, refl, ap, sym, ◌∙◌, arith, length-append}
+use Rattle.std.proofs.Common.{◌≡◌, ℕ, ◌+◌, ◌*◌, ◌≤◌, length, [], ◌++◌, if◌then◌else◌, Bool, true, false, Option, Some, None, Result, Ok, Err, is_some, refl, ap, sym, ◌∙◌, arith, length-append}
 use Rattle.kdl_text.specs.Chars.{Text}
 use Rattle.kdl_text.specs.Here.{Here, Spot, Ahead, bytes, raise}
 use Rattle.kdl_text.specs.Reading.{Moves, Costs}
@@ -13,10 +13,12 @@ use Rattle.kdl_entry.specs.Items as items
 use Rattle.kdl_entry.specs.Items.{goes, gives, opened, named, closed, keyed}
 use Rattle.kdl_entry.specs.Tokens.{Token, space, string, value, left, right}
 use Rattle.kdl_entry.specs.Tree.{Identifier}
+use Rattle.kdl_entry.specs.declared.items.lexer.LexFailure.{LexFailure}
+use Rattle.kdl_entry.specs.declared.items.lexer.LexFailure.TheVariants.{Faulty, Memory}
 use Rattle.kdl_entry.specs.declared.items.lexer.Token.{Token as CodeToken}
 use Rattle.kdl_entry.proofs.Counting.{ahead_fewer}
 use Rattle.kdl_parser.specs.Building.{valued_at}
-use Rattle.kdl_parser.specs.Counted.{up_to, item_unsliced, unsliced_at, ReadThrough}
+use Rattle.kdl_parser.specs.Counted.{up_to, item_unsliced, unsliced_at, SlicedOn, ReadOn}
 use Rattle.kdl_parser.specs.declared.builder.Phase.{Phase}
 use Rattle.kdl_parser.specs.declared.builder.Phase.TheVariants.{InItem}
 use Rattle.kdl_parser.proofs.TokenTurns.{cut_shorter}
@@ -40,12 +42,14 @@ counting_goes_on start before mid after k m n g h v c d y =
       counts = omega (arith, g.counts, v.counts, y.counts);
     }
 
-pub counting_ends : (start before after last : Here) (n : ℕ) → Counting start before n → before.rest ≡ [] → Moves before after → Costs 24 1 before after → Sliced n 0 after last → Stays after last → ReadThrough start last
-counting_ends start before after last n g e v c d y =
+pub counting_ends : {A : Type 0} (result : Result A LexFailure) (start before after last : Here) (n : ℕ) → Counting start before n → before.rest ≡ [] → Moves before after → Costs 24 1 before after → SlicedOn result n 0 after last → Stays after last → ReadOn result start last
+counting_ends (Ok x) start before after last n g e v c d y =
     record {
       least = omega (arith, g.least, v.counts, y.counts, ap length e);
       most = omega (arith, g.most, c.most, d.most, ap bytes e);
     }
+counting_ends (Err (Faulty span)) start before after last n g e v c d y = omega (arith, g.most, c.most, d.most, ap bytes e)
+counting_ends (Err Memory) start before after last n g e v c d y = tt
 
 -- what is ahead has fewer bytes
 pub fewer : (from to : Spot) → Ahead from to → bytes to.rest ≤ bytes from.rest
@@ -123,15 +127,17 @@ name_given p kept kept' entry o from item there n a b c e f g x y =
     rw (e, g) (name_sliced kept o from item there n a b c x y')
 
 -- the same where it may fail
-pub on_entry_given : {A X E : Type 0} (result : Result X E) (p : Phase) (kept kept' entry : Bool) (o : Option A) (from item there n : ℕ) (a b c : Here) → p ≡ InItem → kept' ≡ kept → entry ≡ true → Sliced item (if kept then there else item) a b
-    → OnOk result (Sliced (if kept' then up_to o from there else from) n b c) → OnOk result (Sliced (unsliced_at p kept entry o from item) n a c)
+pub on_entry_given : {A X : Type 0} (result : Result X LexFailure) (p : Phase) (kept kept' entry : Bool) (o : Option A) (from item there n : ℕ) (a b c : Here) → p ≡ InItem → kept' ≡ kept → entry ≡ true → Sliced item (if kept then there else item) a b
+    → SlicedOn result (if kept' then up_to o from there else from) n b c → SlicedOn result (unsliced_at p kept entry o from item) n a c
 on_entry_given (Ok x) p kept kept' entry o from item there n a b c e f g x' y = entry_given p kept kept' entry o from item there n a b c e f g x' y
-on_entry_given (Err x) p kept kept' entry o from item there n a b c e f g x' y = tt
+on_entry_given (Err (Faulty span)) p kept kept' entry o from item there n a b c e f g x' y = entry_given p kept kept' entry o from item there 0 a b c e f g x' y
+on_entry_given (Err Memory) p kept kept' entry o from item there n a b c e f g x' y = tt
 
-pub on_name_given : {A X E : Type 0} (result : Result X E) (p : Phase) (kept kept' entry : Bool) (o : Option A) (from item there n : ℕ) (a b c : Here) → p ≡ InItem → kept' ≡ kept → entry ≡ false → Sliced item (if kept then there else item) a b
-    → OnOk result (Sliced (if kept' then there else from) n b c) → OnOk result (Sliced (unsliced_at p kept entry o from item) n a c)
+pub on_name_given : {A X : Type 0} (result : Result X LexFailure) (p : Phase) (kept kept' entry : Bool) (o : Option A) (from item there n : ℕ) (a b c : Here) → p ≡ InItem → kept' ≡ kept → entry ≡ false → Sliced item (if kept then there else item) a b
+    → SlicedOn result (if kept' then there else from) n b c → SlicedOn result (unsliced_at p kept entry o from item) n a c
 on_name_given (Ok x) p kept kept' entry o from item there n a b c e f g x' y = name_given p kept kept' entry o from item there n a b c e f g x' y
-on_name_given (Err x) p kept kept' entry o from item there n a b c e f g x' y = tt
+on_name_given (Err (Faulty span)) p kept kept' entry o from item there n a b c e f g x' y = name_given p kept kept' entry o from item there 0 a b c e f g x' y
+on_name_given (Err Memory) p kept kept' entry o from item there n a b c e f g x' y = tt
 
 -- behind what was sliced or not, where nothing more is sliced
 pub begun : (kept : Bool) (from : ℕ) (start end place : Spot) (a : Here) → kept ≡ true → Ahead start end → place ≡ end → Sliced (if kept then bytes start.rest else from) (bytes place.rest) a a

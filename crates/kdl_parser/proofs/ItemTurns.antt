@@ -16,7 +16,7 @@ use Rattle.kdl_parser.proofs.Held.{not_reached}
 pub item_did : {A : Type 0} (whole : Text) (it : items.Item) (o : Option Under) (l : Option Nodes) (fs : List Frame) (from : Text) (k : Token) (s r : Text) (place : Spot) (result : Result A LexFailure) (st : State)
     → Did (item_answer whole o it l fs from s r (items.step whole it k s r)) place result st → Did (step whole (at (item_phase it.stage o it) l fs from) k s r) place result st
 item_did whole it o l fs from k s r place (Ok x) st d = bridge whole it o l fs from k s r ∙ d
-item_did whole it o l fs from k s r place (Err (Faulty fault)) st d =
+item_did whole it o l fs from k s r place (Err (Faulty span)) st d =
     (not_reached (step whole (at (item_phase it.stage o it) l fs from) k s r) (bridge whole it o l fs from k s r ∙ ap (λ (z : Option State). option_map held z) d.0), d.1)
 item_did whole it o l fs from k s r place (Err Memory) st d = tt
 

@@ -12,7 +12,6 @@ use Rattle.kdl_text.proofs.Going.{bytes-append}
 use Rattle.kdl_text.proofs.Texts.{chars_bytes}
 use Rattle.kdl_entry.specs.Handed.{Cuts, one, spaces, NoToken, IsFaultAt, kind_view, HandsOut, Lexed}
 use Rattle.kdl_entry.specs.Tokens.{Token, space, newline, t_space, t_newline, BeginsToken}
-use Rattle.kdl_entry.specs.declared.items.lexer.Fault.{Fault}
 use Rattle.kdl_entry.specs.declared.items.lexer.LexFailure.{LexFailure}
 use Rattle.kdl_entry.specs.declared.items.lexer.LexFailure.TheVariants.{Faulty, Memory}
 use Rattle.kdl_entry.specs.declared.items.lexer.Token.{Token as CodeToken}
@@ -103,21 +102,21 @@ lines_go_on t old new k g h m e =
 pub lines_nearer : (old new : Here) (k : CodeToken) → HandsOut old k new → length new.rest < length old.rest
 lines_nearer old new k h = cut_shorter h.cuts
 
-lines_told : (t : Text) (here : Here) (place : Spot) (fault : Fault) → Lines here t → place.rest ≡ here.rest → place.at ≡ here.at → IsFaultAt place fault → InText t fault.span
-lines_told t here place fault g e f x =
-    char_in here.rest g.text.0 t fault.span g.text.1 (x.offset ∙ f ∙ bytes_before g.text.0 here.rest t here.at g.text.1 g.at) (x.len ∙ ap first_len e)
+lines_told : (t : Text) (here : Here) (place : Spot) (span : SourceSpan) → Lines here t → place.rest ≡ here.rest → place.at ≡ here.at → IsFaultAt place span → InText t span
+lines_told t here place span g e f x =
+    char_in here.rest g.text.0 t span g.text.1 (x.offset ∙ f ∙ bytes_before g.text.0 here.rest t here.at g.text.1 g.at) (x.len ∙ ap first_len e)
 
 -- a token that is none, a failure of the lexer, and the end
-pub no_line_space : (t : Text) (old new : Here) (k : CodeToken) (fault : Fault) → Lines old t → HandsOut old k new → is_line_space k.kind ≡ false → IsFaultAt k.start fault → AreLineSpaces t (Err (Faulty fault))
-no_line_space t old new k fault g h e x =
-    (λ a. (let f : of_lines (kind_view k.kind) ≡ true = (behind_cut h.cuts (g.same.1 a)).0 in let l = lines_kind k.kind in cc), lines_told t old k.start fault g h.start_rest h.start_at x)
+pub no_line_space : (t : Text) (old new : Here) (k : CodeToken) (span : SourceSpan) → Lines old t → HandsOut old k new → is_line_space k.kind ≡ false → IsFaultAt k.start span → AreLineSpaces t (Err (Faulty span))
+no_line_space t old new k span g h e x =
+    (λ a. (let f : of_lines (kind_view k.kind) ≡ true = (behind_cut h.cuts (g.same.1 a)).0 in let l = lines_kind k.kind in cc), lines_told t old k.start span g h.start_rest h.start_at x)
 
 no_lines : (s : Text) → NoToken s → Star LineSpace s [] → ⊥
 no_lines s n no_star = n.begun refl
 no_lines s n (more x m) = let u = token_of x in n.none _ u.0 u.1
 
 pub lines_fail : (t : Text) (old new : Here) (e : LexFailure) → Lines old t → Lexed old (Err e) new → AreLineSpaces t (Err e)
-lines_fail t old new (Faulty fault) g x = (λ a. no_lines old.rest x.0 (g.same.1 a), lines_told t old (record { rest = old.rest; at = old.at }) fault g refl refl x.1)
+lines_fail t old new (Faulty span) g x = (λ a. no_lines old.rest x.0 (g.same.1 a), lines_told t old (record { rest = old.rest; at = old.at }) span g refl refl x.1)
 lines_fail t old new Memory g x = tt
 
 pub lines_end : (t : Text) (old new : Here) → Lines old t → Lexed old (Ok None) new → Star LineSpace t []

@@ -10,7 +10,6 @@ use Rattle.kdl_text.proofs.Ends.{End, here, then}
 use Rattle.kdl_text.proofs.Going.{bytes-append}
 use Rattle.kdl_text.proofs.Texts.{chars_bytes}
 use Rattle.kdl_entry.specs.Places.{span_of}
-use Rattle.kdl_entry.specs.declared.items.lexer.Fault.{Fault}
 use Rattle.kdl_entry.specs.declared.items.lexer.LexFailure.{LexFailure}
 use Rattle.kdl_entry.specs.declared.items.lexer.LexFailure.TheVariants.{Faulty, Memory}
 use Rattle.kdl_grammar.specs.Data as data'
@@ -131,14 +130,14 @@ pub former : (t : Text) (n : Node) → LaidNodeText true t n → (x : data'.Node
 former t n l x i = sym (only t n l x (wider_node false i))
 
 -- the nodes of a document, one by one
-pub none_told : {N : Type 0} (tree : N → Node) (bs : List ℕ) (f : Option DocumentFormat) (ns : List N) (fault : Fault) → IsUtf8 bs → ReadsNodes (chars bs) f (nodes_tree tree ns) → length ns ≡ 0
-    → fault.span ≡ record { offset = length bs; len = 0 } → NoNode (chars bs) (Faulty fault)
-none_told tree bs f [] fault v a n e = (λ x i. without_nodes (chars bs) f a x i, subst (λ (p : SourceSpan). InText (chars bs) p) (sym e) (end_told bs v))
-none_told tree bs f (x ∷ ns) fault v a n e = absurd (omega (arith, n))
+pub none_told : {N : Type 0} (tree : N → Node) (bs : List ℕ) (f : Option DocumentFormat) (ns : List N) (span : SourceSpan) → IsUtf8 bs → ReadsNodes (chars bs) f (nodes_tree tree ns) → length ns ≡ 0
+    → span ≡ record { offset = length bs; len = 0 } → NoNode (chars bs) (Faulty span)
+none_told tree bs f [] span v a n e = (λ x i. without_nodes (chars bs) f a x i, subst (λ (p : SourceSpan). InText (chars bs) p) (sym e) (end_told bs v))
+none_told tree bs f (x ∷ ns) span v a n e = absurd (omega (arith, n))
 
-pub two_told : {N : Type 0} (tree : N → Node) (t : Text) (f : Option DocumentFormat) (ns ms : List N) (n m : N) (fault : Fault) → ReadsNodes t f (nodes_tree tree ns) → ns ≡ n ∷ m ∷ ms → fault.span ≡ node_span (tree m)
-    → NoNode t (Faulty fault)
-two_told tree t f ns ms n m fault a e h =
+pub two_told : {N : Type 0} (tree : N → Node) (t : Text) (f : Option DocumentFormat) (ns ms : List N) (n m : N) (span : SourceSpan) → ReadsNodes t f (nodes_tree tree ns) → ns ≡ n ∷ m ∷ ms → span ≡ node_span (tree m)
+    → NoNode t (Faulty span)
+two_told tree t f ns ms n m span a e h =
     let b : ReadsNodes t f (first (tree n) (first (tree m) (nodes_tree tree ms))) = subst (λ z. ReadsNodes t f (nodes_tree tree z)) e a in
     (λ x i. two_nodes t f (tree n) (tree m) (nodes_tree tree ms) b x i, subst (λ (p : SourceSpan). InText t p) (sym h) (second_told t f (tree n) (tree m) (nodes_tree tree ms) b))
 
@@ -166,7 +165,7 @@ laid_there tree bs u f n v a w e ls g =
     subst (λ (z : Node). LaidNodeText true (chars bs) z) (sym h) (is_alone bs f (tree n.node) v a ls')
 
 pub none_there : (t u : Text) (f : Option DocumentFormat) (n : Node) (e : LexFailure) → ReadsNodes t f (first n none) → u ≡ trailing_text f → EndInLineSpaces t u (Err e) → NoNode t e
-none_there t u f n (Faulty fault) a e x = (no_lines t f (first n none) a (λ ls. x.0 (subst (λ (z : Text). Star LineSpace z []) (sym e) ls)), x.1)
+none_there t u f n (Faulty span) a e x = (no_lines t f (first n none) a (λ ls. x.0 (subst (λ (z : Text). Star LineSpace z []) (sym e) ls)), x.1)
 none_there t u f n Memory a e x = tt
 
 -- the builder's answer on the whole text
@@ -180,7 +179,7 @@ pub whole_read : {N : Type 0} (tree : N → Node) (t w : Text) (l : Here) (d : D
 whole_read tree t w l d e f a = subst (λ (z : Text). Runs z (document_by tree d) (initial t) t) (e ∙ f) (subst (λ (z : Text). Runs w (document_by tree d) (initial z) z) f a)
 
 pub nothing_read : {N : Type 0} (tree : N → Node) (t w : Text) (l : Here) (e : LexFailure) → w ≡ l.rest → l.rest ≡ t → BuildAnswers tree w l.rest (Err e) → NoNode t e
-nothing_read tree t w l (Faulty fault) p q a =
-    let b : BuildAnswers tree t t (Err (Faulty fault)) = subst (λ (z : Text). BuildAnswers tree z t (Err (Faulty fault))) (p ∙ q) (subst (λ (z : Text). BuildAnswers tree w z (Err (Faulty fault))) q a) in
+nothing_read tree t w l (Faulty span) p q a =
+    let b : BuildAnswers tree t t (Err (Faulty span)) = subst (λ (z : Text). BuildAnswers tree z t (Err (Faulty span))) (p ∙ q) (subst (λ (z : Text). BuildAnswers tree w z (Err (Faulty span))) q a) in
     (λ x i. (let o = only_node i in b.0 (document (Some (record { leading = []; trailing = o.trailing })) o.span (first o.tree none)) o.runs), b.1)
 nothing_read tree t w l Memory p q a = tt

@@ -2,6 +2,7 @@
 use Rattle.std.proofs.Common.{◌≡◌, ℕ, List, ◌+◌, ◌*◌, ◌≤◌, length, arith, true, false, ◌∷◌, Ok, Err, refl, sym, ap, subst, ◌∙◌}
 use Rattle.std.specs.Str.{chars, IsUtf8}
 use Rattle.kdl_text.specs.Chars.{Text, begins}
+use Rattle.kdl_text.specs.Here.{bytes}
 use Rattle.kdl_entry.specs.Tokens.{Token, t_mark}
 use Rattle.kdl_entry.specs.declared.items.lexer.LexFailure.{LexFailure}
 use Rattle.kdl_entry.specs.declared.items.lexer.LexFailure.TheVariants.{Faulty, Memory}
@@ -39,7 +40,7 @@ pub unmarked_answer : {N : Type 0} (tree : N → Node) (t : Text) (p : DocumentP
 unmarked_answer tree t p a = Answers.unmarked a
 
 pub unmarked_failure : {N : Type 0} (tree : N → Node) (t : Text) (e : LexFailure) → ((u : Text) → t ≡ 0xFEFF ∷ u → ⊥) → BuildAnswers tree t t (Err e) → ReadAnswers tree t (Err e)
-unmarked_failure tree t (Faulty fault) n a = (λ d x. no_unmarked x n a.0, a.1)
+unmarked_failure tree t (Faulty span) n a = (λ d x. no_unmarked x n a.0, a.1)
 unmarked_failure tree t Memory n a = tt
 
 pub not_begins : (t : Text) → begins 0xFEFF t ≡ false → (u : Text) → t ≡ 0xFEFF ∷ u → ⊥
@@ -56,7 +57,7 @@ marked_answer tree t u p e a =
     subst (λ (z : Text). Answers z (with_mark (document_by tree p))) (sym e) (Answers.marked b)
 
 pub marked_failure : {N : Type 0} (tree : N → Node) (t u : Text) (e : LexFailure) → t ≡ 0xFEFF ∷ u → BuildAnswers tree t u (Err e) → ReadAnswers tree t (Err e)
-marked_failure tree t u (Faulty fault) e a = (λ d x. no_marked x u e a.0, a.1)
+marked_failure tree t u (Faulty span) e a = (λ d x. no_marked x u e a.0, a.1)
 marked_failure tree t u Memory e a = tt
 
 -- what is answered is what the grammar derives, laid in the text, and prints it
@@ -82,3 +83,7 @@ former t d a x i = sym (only t d a x (wider false i))
 -- the bound on the steps, in bytes of the text
 pub most_counted : (text : List ℕ) (old new : ℕ) → IsUtf8 text → Counted (chars text) old new → new ≤ old + 32 * (length text + 1)
 most_counted text old new u c = omega (arith, c.most, bytes-chars text u)
+
+-- where it is refused, and the faults are told from mid on
+pub told_counted : (text : List ℕ) (old mid new : ℕ) → IsUtf8 text → mid ≤ old + 32 * (bytes (chars text) + 1) → new ≤ mid + 128 * (length text + 1) → new ≤ old + 160 * (length text + 1)
+told_counted text old mid new u c d = omega (arith, c, d, bytes-chars text u)

@@ -11,7 +11,6 @@ use Rattle.kdl_text.proofs.Going.{bytes-append}
 use Rattle.kdl_entry.specs.Building.{Stays}
 use Rattle.kdl_entry.specs.Handed.{Cuts, one, spaces, NoToken, IsFaultAt, kind_view, HandsOut, Lexed}
 use Rattle.kdl_entry.specs.Tokens.{Token, t_space}
-use Rattle.kdl_entry.specs.declared.items.lexer.Fault.{Fault}
 use Rattle.kdl_entry.specs.declared.items.lexer.LexFailure.{LexFailure}
 use Rattle.kdl_entry.specs.declared.items.lexer.LexFailure.TheVariants.{Faulty, Memory}
 use Rattle.kdl_entry.specs.declared.items.lexer.Token.{Token as CodeToken}
@@ -109,9 +108,9 @@ char_in : (s p t : Text) (span : SourceSpan) → t ≡ p ++ s → span.offset �
 char_in [] p t span e f g = (p, [], [], e ∙ simp append-nil, f, g)
 char_in (c ∷ s) p t span e f g = (p, c ∷ [], s, e ∙ sym (append_assoc p (c ∷ []) s), f, omega (arith, g))
 
-pub told : {N : Type 0} (tree : N → Node) (b : Builder N) (here : Here) (t u : Text) (place : Spot) (fault : Fault) → Going tree b here t u → place.rest ≡ here.rest → place.at ≡ here.at → IsFaultAt place fault → InText t fault.span
-told tree b here t u place fault g e f x =
-    char_in here.rest g.text.0 t fault.span g.text.1 (x.offset ∙ f ∙ bytes_before g.text.0 here.rest t here.at g.text.1 g.at) (x.len ∙ ap first_len e)
+pub told : {N : Type 0} (tree : N → Node) (b : Builder N) (here : Here) (t u : Text) (place : Spot) (span : SourceSpan) → Going tree b here t u → place.rest ≡ here.rest → place.at ≡ here.at → IsFaultAt place span → InText t span
+told tree b here t u place span g e f x =
+    char_in here.rest g.text.0 t span g.text.1 (x.offset ∙ f ∙ bytes_before g.text.0 here.rest t here.at g.text.1 g.at) (x.len ∙ ap first_len e)
 
 no_reading : {N : Type 0} (tree : N → Node) (b : Builder N) (here : Here) (t u : Text) → Going tree b here t u → NoToken here.rest → (d : Document) → Runs t d (initial u) u → ⊥
 no_reading tree b here t u g n d a = faults t d (state_view tree b) here.rest n.begun n.none ((g.same d).1 a)
@@ -124,12 +123,12 @@ no_turn tree b before mid t u k g h e d a =
 
 -- the lexer's failure, and a token that is refused
 pub lexer_told : {N : Type 0} (tree : N → Node) (b : Builder N) (before after : Here) (t u : Text) (e : LexFailure) → Going tree b before t u → Lexed before (Err e) after → BuildAnswers tree t u (Err e)
-lexer_told tree b before after t u (Faulty fault) g x = (no_reading tree b before t u g x.0, told tree b before t u (record { rest = before.rest; at = before.at }) fault g refl refl x.1)
+lexer_told tree b before after t u (Faulty span) g x = (no_reading tree b before t u g x.0, told tree b before t u (record { rest = before.rest; at = before.at }) span g refl refl x.1)
 lexer_told tree b before after t u Memory g x = tt
 
 pub take_told : {N : Type 0} (tree : N → Node) (b b' : Builder N) (before mid : Here) (t u : Text) (k : CodeToken) (e : LexFailure) → Going tree b before t u → HandsOut before k mid
     → Did {A = Unit {0}} (step b.whole.rest (state_view tree b) (kind_view k.kind) k.start.rest k.end.rest) k.start (Err e) (state_view tree b') → BuildAnswers tree t u (Err e)
-take_told tree b b' before mid t u k (Faulty fault) g h x = (no_turn tree b before mid t u k g h x.0, told tree b before t u k.start fault g h.start_rest h.start_at x.1)
+take_told tree b b' before mid t u k (Faulty span) g h x = (no_turn tree b before mid t u k g h x.0, told tree b before t u k.start span g h.start_rest h.start_at x.1)
 take_told tree b b' before mid t u k Memory g h x = tt
 
 -- the end of the text
@@ -176,5 +175,5 @@ no_end tree b here t u g e f =
 pub finish_told : {N : Type 0} (tree : N → Node) (b : Builder N) (here : Here) (t u : Text) (place : Spot) (result : Result (DocumentParts N) LexFailure) → Going tree b here t u → here.rest ≡ [] → place.rest ≡ here.rest → place.at ≡ here.at
     → Finished tree (finish b.whole.rest (state_view tree b)) place result → BuildAnswers tree t u result
 finish_told tree b here t u place (Ok d) g e f n x = at_the_end tree b here t u d g e x
-finish_told tree b here t u place (Err (Faulty fault)) g e f n x = (no_end tree b here t u g e x.0, told tree b here t u place fault g f n x.1)
+finish_told tree b here t u place (Err (Faulty span)) g e f n x = (no_end tree b here t u g e x.0, told tree b here t u place span g f n x.1)
 finish_told tree b here t u place (Err Memory) g e f n x = tt

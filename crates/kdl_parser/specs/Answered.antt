@@ -14,11 +14,11 @@ use Rattle.kdl_parser.specs.declared.parts.DocumentParts.{DocumentParts}
 -- what the machine answers on u, the text t or what follows its U+FEFF; of a refused text a place is told
 abbrev pub BuildAnswers : {N : Type 0} → (N → Node) → Text → Text → Result (DocumentParts N) LexFailure → Type 0
 BuildAnswers tree t u (Ok d) = Runs t (document_by tree d) (initial u) u
-BuildAnswers tree t u (Err (Faulty fault)) = ((d : Document) → Runs t d (initial u) u → ⊥) × InText t fault.span
+BuildAnswers tree t u (Err (Faulty span)) = ((d : Document) → Runs t d (initial u) u → ⊥) × InText t span
 BuildAnswers tree t u (Err Memory) = Unit {0}
 
 -- what is answered where the text ends, by the machine's; of a refused text the place is told
 abbrev pub Finished : {N : Type 0} → (N → Node) → Option Document → Spot → Result (DocumentParts N) LexFailure → Type 0
 Finished tree o place (Ok d) = o ≡ Some (document_by tree d)
-Finished tree o place (Err (Faulty fault)) = (o ≡ None) × IsFaultAt place fault
+Finished tree o place (Err (Faulty span)) = (o ≡ None) × IsFaultAt place span
 Finished tree o place (Err Memory) = Unit {0}

@@ -162,13 +162,13 @@ held (at p l fs from) = at (phase_held p) l (map frame_held fs) from
 -- what a step did, by the machine's; of a refused token its first character is told; want of memory says nothing
 abbrev pub Did : {A : Type 0} → Option State → Spot → Result A LexFailure → State → Type 0
 Did o place (Ok x) st = option_map held o ≡ Some (held st)
-Did o place (Err (Faulty fault)) st = (o ≡ None) × IsFaultAt place fault
+Did o place (Err (Faulty span)) st = (o ≡ None) × IsFaultAt place span
 Did o place (Err Memory) st = Unit {0}
 
 -- what a step did that is refused at no token, by the machine's state behind it
 abbrev pub Does : {A : Type 0} → State → Result A LexFailure → State → Type 0
 Does want (Ok x) st = st ≡ want
-Does want (Err (Faulty fault)) st = ⊥
+Does want (Err (Faulty span)) st = ⊥
 Does want (Err Memory) st = Unit {0}
 
 -- the second text is an end of the first

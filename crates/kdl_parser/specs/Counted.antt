@@ -1,7 +1,10 @@
 -- The steps of a parse: for the texts that the builder slices, and for what the lexer has before it.
-use Rattle.std.specs.Prelude.{ℕ, ◌+◌, ◌*◌, ◌≤◌, Bool, true, false, Option, Some, None, length}
+use Rattle.std.specs.Prelude.{ℕ, ◌+◌, ◌*◌, ◌≤◌, Bool, true, false, Option, Some, None, length, Result, Ok, Err}
 use Rattle.kdl_text.specs.Here.{Here, bytes, raise}
 use Rattle.kdl_entry.specs.Building.{stage_view}
+use Rattle.kdl_entry.specs.Counted.{Sliced}
+use Rattle.kdl_entry.specs.declared.items.lexer.LexFailure.{LexFailure}
+use Rattle.kdl_entry.specs.declared.items.lexer.LexFailure.TheVariants.{Faulty, Memory}
 use Rattle.kdl_parser.specs.Building.{valued_at}
 use Rattle.kdl_parser.specs.declared.builder.Builder.{Builder}
 use Rattle.kdl_parser.specs.declared.builder.Phase.{Phase}
@@ -27,7 +30,19 @@ unsliced_at _ kept entry o from item = from
 abbrev pub unsliced : {N : Type 0} → Builder N → ℕ
 unsliced b = unsliced_at b.phase b.item.kept (valued_at (stage_view b.item.stage) b.item.valued) b.under (bytes b.from.rest) (bytes b.item.from.rest)
 
+-- of the m bytes before the end of the text that were not sliced yet, all but the last n may have been; where a token is refused, all
+abbrev pub SlicedOn : {A : Type 0} → Result A LexFailure → ℕ → ℕ → Here → Here → Type 0
+SlicedOn (Ok x) m n old new = Sliced m n old new
+SlicedOn (Err (Faulty span)) m n old new = Sliced m 0 old new
+SlicedOn (Err Memory) m n old new = Unit {0}
+
 -- the text before the lexer was read to its end: at least a step for each character, and at most 26 for each byte
 pub record ReadThrough (old new : Here) : Type 0 where
   pub least : raise old.steps (length old.rest) ≤ new.steps
   pub most : new.steps ≤ old.steps + 26 * bytes old.rest + 1
+
+-- it was read to its end, or up to where it is refused: at most 26 steps for each byte, and 24 more
+abbrev pub ReadOn : {A : Type 0} → Result A LexFailure → Here → Here → Type 0
+ReadOn (Ok x) old new = ReadThrough old new
+ReadOn (Err (Faulty span)) old new = new.steps ≤ old.steps + 26 * bytes old.rest + 24
+ReadOn (Err Memory) old new = Unit {0}

@@ -17,11 +17,11 @@ is_line_space _ = false
 -- whether the text t is line-spaces alone; else a place of it is told
 abbrev pub AreLineSpaces : Text → Result (Unit {0}) LexFailure → Type 0
 AreLineSpaces t (Ok _) = Star LineSpace t []
-AreLineSpaces t (Err (Faulty fault)) = (Star LineSpace t [] → ⊥) × InText t fault.span
+AreLineSpaces t (Err (Faulty span)) = (Star LineSpace t [] → ⊥) × InText t span
 AreLineSpaces t (Err Memory) = Unit {0}
 
 -- the same of an end u of the text t, in which the place is told
 abbrev pub EndInLineSpaces : Text → Text → Result (Unit {0}) LexFailure → Type 0
 EndInLineSpaces t u (Ok _) = Star LineSpace u []
-EndInLineSpaces t u (Err (Faulty fault)) = (Star LineSpace u [] → ⊥) × InText t fault.span
+EndInLineSpaces t u (Err (Faulty span)) = (Star LineSpace u [] → ⊥) × InText t span
 EndInLineSpaces t u (Err Memory) = Unit {0}

@@ -35,7 +35,7 @@ ReadsNodes t f ns = (at : SourceSpan) × Reads t (document f at ns)
 
 -- the text is no node, and a place of it is told
 abbrev pub NoNode : Text → LexFailure → Type 0
-NoNode t (Faulty fault) = ((x : data'.Node) → IsNodeText true t x → ⊥) × InText t fault.span
+NoNode t (Faulty span) = ((x : data'.Node) → IsNodeText true t x → ⊥) × InText t span
 NoNode t Memory = Unit {0}
 
 -- the one node that there is; or the text is none

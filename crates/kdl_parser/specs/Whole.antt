@@ -21,5 +21,5 @@ whole_by tree d = marked d.mark (document_by tree d.parts)
 -- what the machine answers on the whole text; of a refused text a place is told
 abbrev pub ReadAnswers : {N : Type 0} → (N → Node) → Text → Result (DocumentText N) LexFailure → Type 0
 ReadAnswers tree t (Ok d) = Answers t (whole_by tree d)
-ReadAnswers tree t (Err (Faulty fault)) = ((d : Document) → Answers t d → ⊥) × InText t fault.span
+ReadAnswers tree t (Err (Faulty span)) = ((d : Document) → Answers t d → ⊥) × InText t span
 ReadAnswers tree t (Err Memory) = Unit {0}

@@ -4,10 +4,9 @@ ghost use Rattle.kdl_parser.specs.Answered.{Finished};
 ghost use Rattle.kdl_grammar.specs.Machine as machine;
 ghost use Rattle.kdl_grammar.specs.Machine.{at, initial};
 ghost use Rattle.kdl_parser.specs.Building.{nodes_view, frames_view, state_view, held, Did, EndsIn, Placed};
-ghost use Rattle.kdl_parser.specs.Counted.{unsliced};
+ghost use Rattle.kdl_parser.specs.Counted.{unsliced, SlicedOn};
 ghost use Rattle.kdl_grammar.specs.Tree.{node};
 ghost use Rattle.kdl_entry.specs.Building.{Stays};
-ghost use Rattle.kdl_entry.specs.Counted.{Sliced};
 ghost use Rattle.kdl_value.specs.Data.{text};
 ghost use Rattle.kdl_entry.specs.Handed.{kind_view};
 ghost use Rattle.kdl_entry.specs.Items.{between};
@@ -21,8 +20,8 @@ mod steps;
 
 use self::content::content;
 use crate::parts::{DocumentParts, ParsedNode};
-use kdl_entry::items::item::{Item, TypeParts, misplaced, text_between};
-use kdl_entry::items::{LexFailure, Lexer, Token, TokenKind};
+use kdl_entry::items::item::{Item, TypeParts, text_between};
+use kdl_entry::items::{LexFailure, Lexer, Token, TokenKind, fault_at};
 use kdl_entry::{KdlEntry, KdlIdentifier};
 use kdl_text::chars::Checkpoint;
 use std::alloc::Global;
@@ -158,7 +157,7 @@ impl<'a, N: ParsedNode> Builder<'a, N> {
         ensures did { Did (machine.step self.old.whole.rest (state_view N.tree self.old) (kind_view kind) start.now.rest end.now.rest) start.now result (state_view N.tree self.new) }
         ensures whole { self.new.whole ≡ self.old.whole }
         ensures stays { Stays lexer.old lexer.new }
-        ensures sliced { OnOk result (Sliced (unsliced self.old) (unsliced self.new) lexer.old lexer.new) }
+        ensures sliced { SlicedOn result (unsliced self.old) (unsliced self.new) lexer.old lexer.new }
     {
         let counts = self.nodes.is_some();
         match kind {
@@ -170,7 +169,7 @@ impl<'a, N: ParsedNode> Builder<'a, N> {
             TokenKind::String(name) => self.name_node(alloc, lexer, counts, name, start, end),
             TokenKind::Left => self.open_name(alloc, lexer, counts, start, end),
             TokenKind::Closing => self.close(alloc, lexer, start, end),
-            _ => Err(LexFailure::Faulty(misplaced(start))),
+            _ => Err(LexFailure::Faulty(fault_at(start))),
         }
     }
 
@@ -190,13 +189,13 @@ impl<'a, N: ParsedNode> Builder<'a, N> {
         ensures did { Did (machine.step self.old.whole.rest (state_view N.tree self.old) (kind_view kind) start.now.rest end.now.rest) start.now result (state_view N.tree self.new) }
         ensures whole { self.new.whole ≡ self.old.whole }
         ensures stays { Stays lexer.old lexer.new }
-        ensures sliced { OnOk result (Sliced (unsliced self.old) (unsliced self.new) lexer.old lexer.new) }
+        ensures sliced { SlicedOn result (unsliced self.old) (unsliced self.new) lexer.old lexer.new }
     {
         match kind {
             TokenKind::Space | TokenKind::Newline => Ok(()),
             TokenKind::String(name) => self.name_node(alloc, lexer, false, name, start, end),
             TokenKind::Left => self.open_name(alloc, lexer, false, start, end),
-            _ => Err(LexFailure::Faulty(misplaced(start))),
+            _ => Err(LexFailure::Faulty(fault_at(start))),
         }
     }
 
@@ -216,7 +215,7 @@ impl<'a, N: ParsedNode> Builder<'a, N> {
         ensures did { Did (machine.step self.old.whole.rest (state_view N.tree self.old) (kind_view kind) start.now.rest end.now.rest) start.now result (state_view N.tree self.new) }
         ensures whole { self.new.whole ≡ self.old.whole }
         ensures stays { Stays lexer.old lexer.new }
-        ensures sliced { OnOk result (Sliced (unsliced self.old) (unsliced self.new) lexer.old lexer.new) }
+        ensures sliced { SlicedOn result (unsliced self.old) (unsliced self.new) lexer.old lexer.new }
     {
         match kind {
             TokenKind::Space => {
@@ -228,7 +227,7 @@ impl<'a, N: ParsedNode> Builder<'a, N> {
             TokenKind::Opening => self.open_block(alloc, lexer, start, end),
             TokenKind::Slashdash => self.mark(alloc),
             TokenKind::Equals => self.open_property(alloc, lexer, start, end),
-            _ => Err(LexFailure::Faulty(misplaced(start))),
+            _ => Err(LexFailure::Faulty(fault_at(start))),
         }
     }
 
@@ -248,7 +247,7 @@ impl<'a, N: ParsedNode> Builder<'a, N> {
         ensures did { Did (machine.step self.old.whole.rest (state_view N.tree self.old) (kind_view kind) start.now.rest end.now.rest) start.now result (state_view N.tree self.new) }
         ensures whole { self.new.whole ≡ self.old.whole }
         ensures stays { Stays lexer.old lexer.new }
-        ensures sliced { OnOk result (Sliced (unsliced self.old) (unsliced self.new) lexer.old lexer.new) }
+        ensures sliced { SlicedOn result (unsliced self.old) (unsliced self.new) lexer.old lexer.new }
     {
         match kind {
             TokenKind::Space => Ok(()),
@@ -260,7 +259,7 @@ impl<'a, N: ParsedNode> Builder<'a, N> {
             TokenKind::String(value) => self.wait(alloc, lexer, value, start, end),
             TokenKind::Value(value) => self.add_argument(alloc, lexer, true, value, start, end),
             TokenKind::Left => self.open_value(alloc, lexer, true, start, end),
-            _ => Err(LexFailure::Faulty(misplaced(start))),
+            _ => Err(LexFailure::Faulty(fault_at(start))),
         }
     }
 
@@ -280,7 +279,7 @@ impl<'a, N: ParsedNode> Builder<'a, N> {
         ensures did { Did (machine.step self.old.whole.rest (state_view N.tree self.old) (kind_view kind) start.now.rest end.now.rest) start.now result (state_view N.tree self.new) }
         ensures whole { self.new.whole ≡ self.old.whole }
         ensures stays { Stays lexer.old lexer.new }
-        ensures sliced { OnOk result (Sliced (unsliced self.old) (unsliced self.new) lexer.old lexer.new) }
+        ensures sliced { SlicedOn result (unsliced self.old) (unsliced self.new) lexer.old lexer.new }
     {
         match kind {
             TokenKind::Space => Ok(()),
@@ -291,7 +290,7 @@ impl<'a, N: ParsedNode> Builder<'a, N> {
                 self.phase = Phase::BlockMark;
                 Ok(())
             },
-            _ => Err(LexFailure::Faulty(misplaced(start))),
+            _ => Err(LexFailure::Faulty(fault_at(start))),
         }
     }
 
@@ -311,7 +310,7 @@ impl<'a, N: ParsedNode> Builder<'a, N> {
         ensures did { Did (machine.step self.old.whole.rest (state_view N.tree self.old) (kind_view kind) start.now.rest end.now.rest) start.now result (state_view N.tree self.new) }
         ensures whole { self.new.whole ≡ self.old.whole }
         ensures stays { Stays lexer.old lexer.new }
-        ensures sliced { OnOk result (Sliced (unsliced self.old) (unsliced self.new) lexer.old lexer.new) }
+        ensures sliced { SlicedOn result (unsliced self.old) (unsliced self.new) lexer.old lexer.new }
     {
         match kind {
             TokenKind::Space | TokenKind::Newline => Ok(()),
@@ -319,7 +318,7 @@ impl<'a, N: ParsedNode> Builder<'a, N> {
             TokenKind::Value(value) => self.add_argument(alloc, lexer, false, value, start, end),
             TokenKind::Left => self.open_value(alloc, lexer, false, start, end),
             TokenKind::Opening => self.open_dropped(alloc),
-            _ => Err(LexFailure::Faulty(misplaced(start))),
+            _ => Err(LexFailure::Faulty(fault_at(start))),
         }
     }
 
@@ -339,12 +338,12 @@ impl<'a, N: ParsedNode> Builder<'a, N> {
         ensures did { Did (machine.step self.old.whole.rest (state_view N.tree self.old) (kind_view kind) start.now.rest end.now.rest) start.now result (state_view N.tree self.new) }
         ensures whole { self.new.whole ≡ self.old.whole }
         ensures stays { Stays lexer.old lexer.new }
-        ensures sliced { OnOk result (Sliced (unsliced self.old) (unsliced self.new) lexer.old lexer.new) }
+        ensures sliced { SlicedOn result (unsliced self.old) (unsliced self.new) lexer.old lexer.new }
     {
         match kind {
             TokenKind::Space | TokenKind::Newline => Ok(()),
             TokenKind::Opening => self.open_dropped(alloc),
-            _ => Err(LexFailure::Faulty(misplaced(start))),
+            _ => Err(LexFailure::Faulty(fault_at(start))),
         }
     }
 
@@ -364,7 +363,7 @@ impl<'a, N: ParsedNode> Builder<'a, N> {
         ensures did { Did (machine.step self.old.whole.rest (state_view N.tree self.old) (kind_view kind) start.now.rest end.now.rest) start.now result (state_view N.tree self.new) }
         ensures whole { self.new.whole ≡ self.old.whole }
         ensures stays { Stays lexer.old lexer.new }
-        ensures sliced { OnOk result (Sliced (unsliced self.old) (unsliced self.new) lexer.old lexer.new) }
+        ensures sliced { SlicedOn result (unsliced self.old) (unsliced self.new) lexer.old lexer.new }
     {
         match kind {
             TokenKind::Space => Ok(()),
@@ -374,7 +373,7 @@ impl<'a, N: ParsedNode> Builder<'a, N> {
                 self.phase = Phase::BehindMark;
                 Ok(())
             },
-            _ => Err(LexFailure::Faulty(misplaced(start))),
+            _ => Err(LexFailure::Faulty(fault_at(start))),
         }
     }
 
@@ -394,12 +393,12 @@ impl<'a, N: ParsedNode> Builder<'a, N> {
         ensures did { Did (machine.step self.old.whole.rest (state_view N.tree self.old) (kind_view kind) start.now.rest end.now.rest) start.now result (state_view N.tree self.new) }
         ensures whole { self.new.whole ≡ self.old.whole }
         ensures stays { Stays lexer.old lexer.new }
-        ensures sliced { OnOk result (Sliced (unsliced self.old) (unsliced self.new) lexer.old lexer.new) }
+        ensures sliced { SlicedOn result (unsliced self.old) (unsliced self.new) lexer.old lexer.new }
     {
         match kind {
             TokenKind::Space | TokenKind::Newline => Ok(()),
             TokenKind::Opening => self.open_later(),
-            _ => Err(LexFailure::Faulty(misplaced(start))),
+            _ => Err(LexFailure::Faulty(fault_at(start))),
         }
     }
 
@@ -416,7 +415,7 @@ impl<'a, N: ParsedNode> Builder<'a, N> {
         ensures did { Did (machine.step self.old.whole.rest (state_view N.tree self.old) (kind_view token.entry.kind) token.entry.start.rest token.entry.end.rest) token.entry.start result (state_view N.tree self.new) }
         ensures whole { self.new.whole ≡ self.old.whole }
         ensures stays { Stays lexer.old lexer.new }
-        ensures sliced { OnOk result (Sliced (unsliced self.old + 1) (unsliced self.new) lexer.old lexer.new) }
+        ensures sliced { SlicedOn result (unsliced self.old + 1) (unsliced self.new) lexer.old lexer.new }
         ensures looked { raise lexer.old.steps 1 ≤ raise lexer.new.steps 0 }
     {
         lexer.count_look();
@@ -445,7 +444,7 @@ impl<'a, N: ParsedNode> Builder<'a, N> {
         requires from { EndsIn self.old.from.rest lexer.old.rest }
         ensures finished { Finished N.tree (machine.finish self.old.whole.rest (state_view N.tree self.old)) (record { rest = lexer.old.rest; at = lexer.old.at }) result }
         ensures stays { Stays lexer.old lexer.new }
-        ensures sliced { OnOk result (Sliced (unsliced self.old) 0 lexer.old lexer.new) }
+        ensures sliced { SlicedOn result (unsliced self.old) 0 lexer.old lexer.new }
     {
         let here = lexer.checkpoint();
         self.finish_at(alloc, lexer, &here)
@@ -463,7 +462,7 @@ impl<'a, N: ParsedNode> Builder<'a, N> {
         requires from { Ahead self.old.from here.now }
         ensures finished { Finished N.tree (machine.finish self.old.whole.rest (state_view N.tree self.old)) here.now result }
         ensures stays { Stays lexer.old lexer.new }
-        ensures sliced { OnOk result (Sliced (unsliced self.old) 0 lexer.old lexer.new) }
+        ensures sliced { SlicedOn result (unsliced self.old) 0 lexer.old lexer.new }
     {
         match self.phase {
             Phase::Gap => self.finish_nodes(alloc, lexer, here),
@@ -475,11 +474,11 @@ impl<'a, N: ParsedNode> Builder<'a, N> {
                 self.end_kept(alloc, lexer, here, &here.copied())?;
                 self.finish_nodes(alloc, lexer, here)
             }
-            Phase::InItem => Err(LexFailure::Faulty(misplaced(here))),
-            Phase::Marked => Err(LexFailure::Faulty(misplaced(here))),
-            Phase::EntryMark => Err(LexFailure::Faulty(misplaced(here))),
-            Phase::BlockMark => Err(LexFailure::Faulty(misplaced(here))),
-            Phase::BehindMark => Err(LexFailure::Faulty(misplaced(here))),
+            Phase::InItem => Err(LexFailure::Faulty(fault_at(here))),
+            Phase::Marked => Err(LexFailure::Faulty(fault_at(here))),
+            Phase::EntryMark => Err(LexFailure::Faulty(fault_at(here))),
+            Phase::BlockMark => Err(LexFailure::Faulty(fault_at(here))),
+            Phase::BehindMark => Err(LexFailure::Faulty(fault_at(here))),
         }
     }
 
@@ -494,13 +493,13 @@ impl<'a, N: ParsedNode> Builder<'a, N> {
         requires end { here.now.rest ≡ [] }
         ensures finished { Finished N.tree (machine.at_end self.old.whole.rest (nodes_view N.tree self.old.nodes) (frames_view N.tree self.old) self.old.from.rest) here.now result }
         ensures stays { Stays lexer.old lexer.new }
-        ensures sliced { OnOk result (Sliced (bytes self.old.from.rest) 0 lexer.old lexer.new) }
+        ensures sliced { SlicedOn result (bytes self.old.from.rest) 0 lexer.old lexer.new }
     {
         if !self.frames.is_empty() {
-            return Err(LexFailure::Faulty(misplaced(here)));
+            return Err(LexFailure::Faulty(fault_at(here)));
         }
         let Some(nodes) = self.nodes.take() else {
-            return Err(LexFailure::Faulty(misplaced(here)));
+            return Err(LexFailure::Faulty(fault_at(here)));
         };
         let place = text_between(alloc, lexer, &self.from, here)?;
         Ok(content(alloc, &self.whole, nodes, place, here))

@@ -7,8 +7,7 @@ ghost use Rattle.kdl_text.specs.Spans.{InText};
 ghost use Rattle.std.specs.Prelude.{◌≡◌};
 ghost use Rattle.std.specs.Str.{chars};
 
-use kdl_entry::items::item::misplaced;
-use kdl_entry::items::{Fault, FaultKind, LexFailure, Lexer, TokenKind};
+use kdl_entry::items::{LexFailure, Lexer, TokenKind, fault_at};
 use kdl_text::chars::Steps;
 use kdl_text::span::SourceSpan;
 use std::alloc::Global;
@@ -29,24 +28,14 @@ fn line_spaces(alloc: Global, text: &str) -> Result<(), LexFailure>
     let mut lexer = Lexer::new(text, Steps::new());
     'tokens: while let Some(token) = lexer.next(alloc)? {
         if !is_line_space(&token.kind) {
-            let fault = misplaced(&token.start);
+            let span = fault_at(&token.start);
             // A call drops it in one step of the proof, the end of its scope in many.
             drop(token);
-            return Err(LexFailure::Faulty(fault));
+            return Err(LexFailure::Faulty(span));
         }
         drop(token);
     }
     Ok(())
-}
-
-/// A fault at the span.
-pub fn fault_at(span: SourceSpan) -> Fault
-    ensures { result.span ≡ span }
-{
-    Fault {
-        kind: FaultKind::Other,
-        span,
-    }
 }
 
 /// The span in the text, where it was told of the text's end.
@@ -69,9 +58,7 @@ pub fn trailing_line_spaces(alloc: Global, text: &str, trailing: &str) -> Result
 {
     match line_spaces(alloc, trailing) {
         Ok(()) => Ok(()),
-        Err(LexFailure::Faulty(fault)) => Err(LexFailure::Faulty(fault_at(behind(
-            text, trailing, fault.span,
-        )))),
+        Err(LexFailure::Faulty(span)) => Err(LexFailure::Faulty(behind(text, trailing, span))),
         Err(LexFailure::Memory) => Err(LexFailure::Memory),
     }
 }

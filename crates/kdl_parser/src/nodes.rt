@@ -12,11 +12,11 @@ ghost use Rattle.kdl_value.specs.Tree.{text_of};
 ghost use Rattle.std.specs.Prelude.{◌≡◌, IfOk, Option, Some, true};
 ghost use Rattle.std.specs.Str.{chars};
 
-use crate::line_spaces::{fault_at, trailing_line_spaces};
+use crate::line_spaces::trailing_line_spaces;
 use crate::parser::build;
 use crate::parts::{DocumentParts, ParsedNode};
-use kdl_entry::items::refusal::failure;
 use kdl_entry::items::{LexFailure, Lexer};
+use kdl_faults::{Whole, failure};
 use kdl_text::chars::Steps;
 use kdl_text::error::ParseFailure;
 use kdl_text::span::SourceSpan;
@@ -41,17 +41,17 @@ fn only_node<N: ParsedNode>(text: &str, nodes: Vec<N>) -> Result<N, LexFailure>
     let end = text.len();
     let mut rest = nodes.into_iter();
     let Some(node) = rest.next() else {
-        return Err(LexFailure::Faulty(fault_at(SourceSpan {
+        return Err(LexFailure::Faulty(SourceSpan {
             offset: end,
             len: 0,
-        })));
+        }));
     };
     if let Some(second) = rest.next() {
         let span = second.span();
         drop(second);
         drop(node);
         drop(rest);
-        return Err(LexFailure::Faulty(fault_at(span)));
+        return Err(LexFailure::Faulty(span));
     }
     drop(rest);
     Ok(node)
@@ -114,9 +114,8 @@ fn read<N: ParsedNode>(alloc: Global, text: &str) -> Result<NodeText<N>, LexFail
 }
 
 /// The node that the text is: line-spaces and nodes that count for nothing before it, and behind its terminator
-/// line-spaces alone (KDL 2.0.0, Node). `Syntax`: the text is none. Its error has one diagnostic: at the first token
-/// that fits nothing or the first piece that is none, at a second node, or at the end of a text that has none.
-/// `Memory`: a request for memory was refused.
+/// line-spaces alone (KDL 2.0.0, Node). `Syntax`: the text is none. Its error has a diagnostic for each fault that is
+/// found, and one at least. `Memory`: a request for memory was refused.
 pub fn read_node_text<N: ParsedNode>(alloc: Global, text: &str) -> Result<NodeText<N>, ParseFailure>
     // The node that is answered is laid in the text, which it is.
     ensures found { IfOk result (λ n. LaidNodeText true (chars text.now) (text_by N.tree n)) }
@@ -126,7 +125,13 @@ pub fn read_node_text<N: ParsedNode>(alloc: Global, text: &str) -> Result<NodeTe
 {
     match read(alloc, text) {
         Ok(node) => Ok(node),
-        Err(LexFailure::Faulty(fault)) => Err(failure(alloc, text, fault.span)),
+        Err(LexFailure::Faulty(span)) => Err(failure(
+            alloc,
+            text,
+            Whole::Node,
+            span,
+            &mut Steps::new(),
+        )),
         Err(LexFailure::Memory) => Err(ParseFailure::Memory),
     }
 }

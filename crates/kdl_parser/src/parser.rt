@@ -3,9 +3,9 @@
 ghost use Rattle.kdl_parser.specs.Answered.{BuildAnswers};
 ghost use Rattle.kdl_grammar.specs.Machine.{initial};
 ghost use Rattle.kdl_parser.specs.Building.{EndsIn, state_view};
-ghost use Rattle.kdl_parser.specs.Counted.{ReadThrough, unsliced};
+ghost use Rattle.kdl_parser.specs.Counted.{ReadOn, unsliced};
 ghost use Rattle.kdl_text.specs.Here.{bytes, raise};
-ghost use Rattle.std.specs.Prelude.{◌≡◌, ◌+◌, ◌≤◌, OnOk};
+ghost use Rattle.std.specs.Prelude.{◌≡◌, ◌+◌, ◌≤◌};
 
 use crate::builder::Builder;
 use crate::parts::{DocumentParts, ParsedNode};
@@ -25,7 +25,7 @@ fn build_with<'a, N: ParsedNode>(
     requires text { EndsIn builder.old.whole.rest lexer.old.rest }
     requires at { lexer.old.at + bytes lexer.old.rest ≡ bytes builder.old.whole.rest }
     ensures answers { BuildAnswers N.tree builder.old.whole.rest lexer.old.rest result }
-    ensures counted { OnOk result (ReadThrough lexer.old lexer.new) }
+    ensures counted { ReadOn result lexer.old lexer.new }
     ensures counts { raise lexer.old.steps 0 ≤ raise lexer.new.steps 0 }
 {
     'tokens: while let Some(token) = lexer.next(alloc)? {
@@ -48,7 +48,7 @@ pub fn build<'a, N: ParsedNode>(
     requires text { EndsIn whole.rest lexer.old.rest }
     requires at { lexer.old.at + bytes lexer.old.rest ≡ bytes whole.rest }
     ensures answers { BuildAnswers N.tree whole.entry.rest lexer.old.rest result }
-    ensures counted { OnOk result (ReadThrough lexer.old lexer.new) }
+    ensures counted { ReadOn result lexer.old lexer.new }
     ensures counts { raise lexer.old.steps 0 ≤ raise lexer.new.steps 0 }
 {
     let mut builder = Builder::new(alloc, whole, lexer.checkpoint());

@@ -3,7 +3,7 @@
 ghost use Rattle.kdl_grammar.specs.Data.{Nodes};
 ghost use Rattle.kdl_grammar.specs.Grammar.{IsDocument};
 ghost use Rattle.kdl_grammar.specs.Machine.{Answers};
-ghost use Rattle.kdl_parser.specs.Steps.{Counted};
+ghost use Rattle.kdl_parser.specs.Steps.{CountedOn};
 ghost use Rattle.kdl_parser.specs.Whole.{ReadAnswers, whole_by};
 ghost use Rattle.kdl_text.specs.Failures.{IsSyntax, TellsOnSyntax};
 ghost use Rattle.kdl_text.specs.Here.{raise};
@@ -12,8 +12,8 @@ ghost use Rattle.std.specs.Str.{chars};
 
 use crate::parser::build;
 use crate::parts::{DocumentParts, ParsedNode};
-use kdl_entry::items::refusal::failure;
 use kdl_entry::items::{LexFailure, Lexer};
+use kdl_faults::{Whole, failure};
 use kdl_text::chars::Steps;
 use kdl_text::error::ParseFailure;
 use std::alloc::Global;
@@ -36,7 +36,7 @@ fn read_all<'a, N: ParsedNode>(
 ) -> Result<DocumentText<N>, LexFailure>
     requires { lexer.old.at ≡ 0 }
     ensures answers { ReadAnswers N.tree lexer.old.rest result }
-    ensures counted { OnOk result (Counted lexer.old.rest lexer.old.steps lexer.new.steps) }
+    ensures counted { CountedOn result lexer.old.rest lexer.old.steps lexer.new.steps }
     ensures raised { raise lexer.old.steps 1 ≤ lexer.new.steps }
 {
     let whole = lexer.checkpoint();
@@ -54,7 +54,7 @@ fn read<N: ParsedNode>(
     steps: &mut Steps,
 ) -> Result<DocumentText<N>, LexFailure>
     ensures answers { ReadAnswers N.tree (chars text.now) result }
-    ensures counted { OnOk result (Counted (chars text.now) steps.old steps.new) }
+    ensures counted { CountedOn result (chars text.now) steps.old steps.new }
     ensures raised { raise steps.old 1 ≤ steps.new }
 {
     let mut lexer = Lexer::new(text, mem::replace(steps, Steps::new()));
@@ -66,8 +66,8 @@ fn read<N: ParsedNode>(
 /// The document that the text is (KDL 2.0.0, Document), which raises the count by the steps that it takes, up to the
 /// greatest `u64`. Each place and each spelling that the document keeps is sliced once, but for a U+FEFF, which is not;
 /// values are decoded by the lexer, which slices what it needs for that, of what counts for nothing too. `Syntax`: the
-/// text is none; its error has one diagnostic, at the first token that fits nothing or the first piece that is none.
-/// `Memory`: a request for memory was refused.
+/// text is none; its error has a diagnostic for each fault that is found, and one at least. To tell them the text is
+/// read once more. `Memory`: a request for memory was refused.
 #[tactic(auto, using(crate::proofs::Outcomes::refused, crate::proofs::Outcomes::most_counted))]
 pub fn read_document<N: ParsedNode>(
     alloc: Global,
@@ -79,14 +79,16 @@ pub fn read_document<N: ParsedNode>(
     // What is refused is not derived, and an error tells where.
     ensures refused { IsSyntax result → (x : Nodes) → IsDocument true (chars text.now) x → ⊥ }
     ensures told { TellsOnSyntax text.now result }
-    // At least a step for each character is counted, and at most 32 for each byte and 32 more.
+    // At least a step for each character is counted, and at most 32 for each byte and 32 more; for a text that is
+    // refused, and what is told of it, at most 160.
     ensures least { OnOk result (raise steps.old (length (chars text.now)) ≤ steps.new) }
     ensures most { OnOk result (steps.new ≤ steps.old + 32 * (length text.now + 1)) }
+    ensures told_most { IsSyntax result → steps.new ≤ steps.old + 160 * (length text.now + 1) }
     ensures raised { raise steps.old 1 ≤ steps.new }
 {
     match read(alloc, text, steps) {
         Ok(document) => Ok(document),
-        Err(LexFailure::Faulty(fault)) => Err(failure(alloc, text, fault.span)),
+        Err(LexFailure::Faulty(span)) => Err(failure(alloc, text, Whole::Document, span, steps)),
         Err(LexFailure::Memory) => Err(ParseFailure::Memory),
     }
 }

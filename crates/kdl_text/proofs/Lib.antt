@@ -17,6 +17,7 @@ pub mod Goes
 pub mod Going
 mod Hex
 pub mod Keywords
+pub mod Mosts
 pub mod MultiLines
 pub mod Newlines
 pub mod NumberReads

@@ -514,6 +514,14 @@ impl<'a> Cursor<'a> {
         }
     }
 
+    /// Goes back or on to a place in the text. No step.
+    pub fn go_to(&mut self, place: &Checkpoint<'a>)
+        ensures { self.new ≡ record { rest = place.now.rest; at = place.now.at; steps = self.old.steps } }
+    {
+        self.rest = place.rest;
+        self.at = place.at;
+    }
+
     /// The character here; none at the end of the text. A step.
     #[inline]
     pub fn look(&mut self) -> Option<char>

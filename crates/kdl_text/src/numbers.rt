@@ -445,6 +445,7 @@ pub fn read_number(alloc: Global, cursor: &mut Cursor) -> Result<Number, NumberF
     ensures fault { IsNumberFault result cursor.old.rest cursor.new.rest }
     ensures moves { Moves cursor.old cursor.new }
     ensures costs { IfOk result (λ n. Costs 20 0 cursor.old cursor.new) }
+    ensures most { Costs 4 12 cursor.old cursor.new }
 {
     let start = cursor.checkpoint();
     let number = match read_front(cursor) {
@@ -494,6 +495,7 @@ pub fn read_keyword(cursor: &mut Cursor) -> Option<Keyword>
     ensures reads { ReadsKeyword result cursor.old.rest cursor.new.rest }
     ensures moves { Moves cursor.old cursor.new }
     ensures costs { IfSome result (λ k. Costs 20 0 cursor.old cursor.new) }
+    ensures most { Costs 4 4 cursor.old cursor.new }
 {
     if !cursor.eat('#') {
         return None;

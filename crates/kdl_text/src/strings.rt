@@ -228,7 +228,7 @@ fn escaped_char(letter: char, cursor: &mut Cursor) -> Option<char>
 }
 
 /// Reads what stands behind a backslash: the character of an escape, or none of spaces and newlines.
-fn escaped_unit(cursor: &mut Cursor) -> Result<Option<char>, StringFault>
+pub fn escaped_unit(cursor: &mut Cursor) -> Result<Option<char>, StringFault>
     ensures found { IfOk result (λ o. IsUnit (92 ∷ cursor.old.rest) cursor.new.rest (spec.escaped o)) }
     ensures only { (r : Text) (u : StringUnit) → IsUnit (92 ∷ cursor.old.rest) r u → IfErr result (λ _. ⊥) }
     ensures moves { Moves cursor.old cursor.new }

@@ -6,12 +6,13 @@ use crate::fronts::{check_fronts, check_replaced};
 use crate::layout::{Comments, gets, lays_out, lays_out_kept};
 use crate::notation::encoded;
 use crate::places::PlacedText;
-use crate::reading::{prints, tells};
+use crate::reading::{agrees, prints, tells};
 use crate::row::Call;
 use kdl::{
-    FloatFailure, FormatConfig, KdlDocument, KdlEntry, KdlError, KdlFloat, KdlIdentifier, KdlNode,
-    KdlValue, ParseFailure, Severity, Steps,
+    FloatFailure, FormatConfig, KdlDiagnostic, KdlDocument, KdlEntry, KdlError, KdlFloat,
+    KdlIdentifier, KdlNode, KdlValue, ParseFailure, Severity, Steps,
 };
+use kdl_faults::Whole;
 use std::alloc::Global;
 
 /// A text, the call on it, what is expected, how it is laid out, where that is said, and what is set in its places
@@ -48,6 +49,12 @@ impl Case<'_> {
         dump.flag("", "accepted")?;
         self.add_bytes(&mut dump)?;
         Ok(dump)
+    }
+
+    /// The fields that each text has that is read, in which no fault is found.
+    fn parsed(&self) -> Result<Dump, Fault> {
+        agrees(self.alloc, self.text, self.call.whole(), false)?;
+        self.accepted()
     }
 
     /// Adds the length of the text.
@@ -95,7 +102,7 @@ fn check_document(case: &Case<'_>) -> Result<(), Fault> {
     match KdlDocument::parse(case.alloc, case.text) {
         Ok(document) => {
             prints(case.alloc, &document, case.text)?;
-            let mut dump = case.accepted()?;
+            let mut dump = case.parsed()?;
             dump.document(&document)?;
             compare(case, &dump)
         }
@@ -118,7 +125,7 @@ fn check_node(case: &Case<'_>) -> Result<(), Fault> {
 /// The node is what is expected.
 fn node_is(case: &Case<'_>, node: &KdlNode) -> Result<(), Fault> {
     prints(case.alloc, node, case.text)?;
-    let mut dump = case.accepted()?;
+    let mut dump = case.parsed()?;
     dump.node(node)?;
     compare(case, &dump)
 }
@@ -138,7 +145,7 @@ fn check_entry(case: &Case<'_>) -> Result<(), Fault> {
 /// The entry is what is expected.
 fn entry_is(case: &Case<'_>, entry: &KdlEntry) -> Result<(), Fault> {
     prints(case.alloc, entry, case.text)?;
-    let mut dump = case.accepted()?;
+    let mut dump = case.parsed()?;
     dump.entry("", entry)?;
     compare(case, &dump)
 }
@@ -158,7 +165,7 @@ fn check_identifier(case: &Case<'_>) -> Result<(), Fault> {
 /// The identifier is what is expected.
 fn identifier_is(case: &Case<'_>, identifier: &KdlIdentifier) -> Result<(), Fault> {
     prints(case.alloc, identifier, case.text)?;
-    let mut dump = case.accepted()?;
+    let mut dump = case.parsed()?;
     dump.identifier(identifier)?;
     compare(case, &dump)
 }
@@ -214,10 +221,32 @@ fn check_refused(case: &Case<'_>, failure: ParseFailure) -> Result<(), Fault> {
         return Err(Fault::Memory);
     };
     tells(case.alloc, &error, case.text)?;
+    agrees(case.alloc, case.text, case.call.whole(), true)?;
     let mut dump = Dump::new(case.alloc);
     case.add_bytes(&mut dump)?;
     add_first(case.alloc, &mut dump, &error)?;
+    add_all(case.alloc, &mut dump, &error.diagnostics)?;
     compare(case, &dump)
+}
+
+/// Adds the span and the message of each diagnostic.
+fn add_all(alloc: Global, dump: &mut Dump, diagnostics: &[KdlDiagnostic]) -> Result<(), Fault> {
+    for (index, told) in diagnostics.iter().enumerate() {
+        let number = index.saturating_add(1);
+        let name = format!(in alloc; "diagnostic {number}")?;
+        let span = range(alloc, told.span)?;
+        let message = message_of(told);
+        dump.text("", &name, &format!(in alloc; "{span} {message}")?)?;
+    }
+    Ok(())
+}
+
+/// What the diagnostic says.
+fn message_of(diagnostic: &KdlDiagnostic) -> &str {
+    match &diagnostic.message {
+        Some(message) => message.as_str(),
+        None => "none",
+    }
 }
 
 /// Adds the fields of the first diagnostic, and how many there are.
@@ -229,10 +258,7 @@ fn add_first(alloc: Global, dump: &mut Dump, error: &KdlError) -> Result<(), Fau
     };
     let span = range(alloc, first.span)?;
     dump.text("", "span", &span)?;
-    let message = match &first.message {
-        Some(message) => message.as_str(),
-        None => "none",
-    };
+    let message = message_of(first);
     dump.text("", "message", message)?;
     dump.text("", "refused", &format!(in alloc; "{span} {message}")?)?;
     add_words(dump, "label", &first.label)?;

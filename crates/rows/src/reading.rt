@@ -2,7 +2,8 @@
 
 use crate::fault::{Fault, wrong};
 use crate::notation::encoded;
-use kdl::{KdlDiagnostic, KdlDocument, KdlError, ParseFailure};
+use kdl::{KdlDiagnostic, KdlDocument, KdlError, ParseFailure, Steps};
+use kdl_faults::{Whole, faults};
 use std::alloc::Global;
 use std::fmt::Display;
 
@@ -17,10 +18,15 @@ pub fn prints(alloc: Global, item: &impl Display, text: &str) -> Result<(), Faul
     Err(wrong(format!(in alloc; "{text}: prints {printed}")))
 }
 
+/// Of so many diagnostics the text is compared: of all, a text of many faults would take time without end.
+const COMPARED: usize = 100;
+
 /// The error has the text, and a diagnostic at least, each with the text and a span in it on character boundaries.
 pub fn tells(alloc: Global, error: &KdlError, text: &str) -> Result<(), Fault> {
+    let mut first = error.diagnostics.iter().take(COMPARED);
     let is_told = error.input.as_str() == text
         && !error.diagnostics.is_empty()
+        && first.all(|told| told.input.as_str() == text)
         && error.diagnostics.iter().all(|told| is_inside(told, text));
     if is_told {
         return Ok(());
@@ -29,11 +35,24 @@ pub fn tells(alloc: Global, error: &KdlError, text: &str) -> Result<(), Fault> {
     Err(wrong(format!(in alloc; "{text}: refused without a place in it")))
 }
 
-/// The diagnostic has the text, and a span in it on character boundaries.
+/// A fault is found in the text, read as a whole of the kind, exactly where it is refused.
+pub fn agrees(alloc: Global, text: &str, whole: Whole, is_refused: bool) -> Result<(), Fault> {
+    let faults = faults(alloc, text, whole, &mut Steps::new())?;
+    if faults.is_empty() != is_refused {
+        return Ok(());
+    }
+    let text = encoded(alloc, text)?;
+    let count = faults.len();
+    Err(wrong(format!(in alloc; "{text}: {count} faults found")))
+}
+
+/// The diagnostic has a text of this length, and a span in it on character boundaries.
 fn is_inside(diagnostic: &KdlDiagnostic, text: &str) -> bool {
     let start = diagnostic.span.offset;
     let end = start.saturating_add(diagnostic.span.len);
-    diagnostic.input.as_str() == text && text.is_char_boundary(start) && text.is_char_boundary(end)
+    diagnostic.input.as_str().len() == text.len()
+        && text.is_char_boundary(start)
+        && text.is_char_boundary(end)
 }
 
 /// Whether the text is a document. One that is read prints the text, one that is refused tells where.
@@ -41,10 +60,12 @@ pub fn is_read(alloc: Global, text: &str) -> Result<bool, Fault> {
     match KdlDocument::parse(alloc, text) {
         Ok(document) => {
             prints(alloc, &document, text)?;
+            agrees(alloc, text, Whole::Document, false)?;
             Ok(true)
         }
         Err(ParseFailure::Syntax(error)) => {
             tells(alloc, &error, text)?;
+            agrees(alloc, text, Whole::Document, true)?;
             Ok(false)
         }
         Err(ParseFailure::Memory) => Err(Fault::Memory),

@@ -8,6 +8,7 @@ use crate::members::Members;
 use crate::notation::{Fills, decoded};
 use crate::places::{FormatPlace, PLACES, PlacedText};
 use kdl::FormatConfig;
+use kdl_faults::Whole;
 use std::alloc::Global;
 
 /// What is called on a text.
@@ -24,6 +25,16 @@ pub enum Call {
 }
 
 impl Call {
+    /// What the call reads a text as.
+    pub fn whole(self) -> Whole {
+        match self {
+            Call::Node => Whole::Node,
+            Call::Entry => Whole::Entry,
+            Call::Identifier => Whole::Identifier,
+            _ => Whole::Document,
+        }
+    }
+
     /// The call of a label.
     fn of(label: &str) -> Option<Call> {
         match label {

@@ -136,6 +136,6 @@ impl IntoIterator for KdlDocument {
     ghost into_iter_gives = { λ d r. into_iter_items r ≡ (out-KdlDocument d).nodes.items };
 
     fn into_iter(self) -> IntoIter<KdlNode> {
-        self.nodes.into_iter()
+        self.into_nodes().into_iter()
     }
 }

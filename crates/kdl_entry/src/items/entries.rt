@@ -12,11 +12,11 @@ ghost use Rattle.kdl_text.specs.Here.{Ahead};
 ghost use Rattle.std.specs.Prelude.{◌≡◌, [], Some, None, true, false, IfOk};
 ghost use Rattle.std.specs.Str.{chars};
 
-use super::item::{Given, Item, empty, entry_from, misplaced, text_between};
-use super::lexer::{LexFailure, Lexer, Token, TokenKind};
-use super::refusal::failure;
+use super::item::{Given, Item, empty, entry_from, text_between};
+use super::lexer::{LexFailure, Lexer, Token, TokenKind, fault_at};
 use crate::entry::KdlEntry;
 use crate::identifier::{KdlIdentifier, parsed_identifier};
+use kdl_faults::{Whole, failure};
 use kdl_text::chars::{Checkpoint, Steps};
 use kdl_text::error::ParseFailure;
 use kdl_text::span::SourceSpan;
@@ -179,7 +179,7 @@ fn at_start<'a>(
             let leading = text_between(alloc, lexer, whole, start)?;
             Ok(State::Under(opened(alloc, whole, true, leading, end)))
         }
-        _ => Err(LexFailure::Faulty(misplaced(start))),
+        _ => Err(LexFailure::Faulty(fault_at(start))),
     }
 }
 
@@ -198,7 +198,7 @@ fn at_marked<'a>(
         TokenKind::String(_) => Ok(State::Dropped(true, false)),
         TokenKind::Value(_) => Ok(State::Dropped(false, false)),
         TokenKind::Left => Ok(State::Under(opened(alloc, whole, false, empty(alloc), end))),
-        _ => Err(LexFailure::Faulty(misplaced(start))),
+        _ => Err(LexFailure::Faulty(fault_at(start))),
     }
 }
 
@@ -250,7 +250,7 @@ fn at_dropped<'a>(
             empty(alloc),
             end,
         ))),
-        _ => Err(LexFailure::Faulty(misplaced(start))),
+        _ => Err(LexFailure::Faulty(fault_at(start))),
     }
 }
 
@@ -271,7 +271,7 @@ fn at_spaced<'a>(
 {
     match kind {
         TokenKind::Space | TokenKind::Equals => at_dropped(word, alloc, whole, kind, start, end),
-        TokenKind::Newline => Err(LexFailure::Faulty(misplaced(start))),
+        TokenKind::Newline => Err(LexFailure::Faulty(fault_at(start))),
         kind => at_start(alloc, lexer, whole, kind, start, end),
     }
 }
@@ -305,7 +305,7 @@ fn at_pending<'a>(
             let name = parsed_identifier(value, repr, span);
             Ok(State::Under(keyed(alloc, whole, true, leading, name, before, end)))
         }
-        _ => Err(LexFailure::Faulty(misplaced(start))),
+        _ => Err(LexFailure::Faulty(fault_at(start))),
     }
 }
 
@@ -322,7 +322,7 @@ fn at_done<'a>(
 {
     match kind {
         TokenKind::Space | TokenKind::Newline => Ok(State::Done(entry, from)),
-        _ => Err(LexFailure::Faulty(misplaced(start))),
+        _ => Err(LexFailure::Faulty(fault_at(start))),
     }
 }
 
@@ -423,7 +423,7 @@ fn read_tokens<'a>(
     let here = lexer.checkpoint();
     match state.finish(alloc, lexer, whole)? {
         Some(entry) => Ok(entry),
-        None => Err(LexFailure::Faulty(misplaced(&here))),
+        None => Err(LexFailure::Faulty(fault_at(&here))),
     }
 }
 
@@ -446,8 +446,8 @@ impl KdlEntry {
 
     /// The entry that the text is, with every byte of its form: line-spaces and entries that count for nothing before
     /// it, and line-spaces behind it (KDL 2.0.0, Argument, Property). Its span is the whole text. `Syntax`: the text is
-    /// none. Its error has one diagnostic, at the first character that fits nothing. `Memory`: a request for memory
-    /// was refused. Nothing is made then.
+    /// none. Its error has a diagnostic for each fault that is found, up to what can stand in no entry, and one at
+    /// least. `Memory`: a request for memory was refused. Nothing is made then.
     #[tactic(auto, using(crate::proofs::EntryAnswering::found, crate::proofs::EntryAnswering::only, crate::proofs::EntryAnswering::laid, crate::proofs::EntryAnswering::prints, crate::proofs::EntryAnswering::refused))]
     pub fn parse(alloc: Global, text: &str) -> Result<KdlEntry, ParseFailure>
         // What is answered is what the grammar derives,
@@ -463,7 +463,13 @@ impl KdlEntry {
     {
         match read_entry(alloc, text) {
             Ok(entry) => Ok(entry),
-            Err(LexFailure::Faulty(fault)) => Err(failure(alloc, text, fault.span)),
+            Err(LexFailure::Faulty(span)) => Err(failure(
+                alloc,
+                text,
+                Whole::Entry,
+                span,
+                &mut Steps::new(),
+            )),
             Err(LexFailure::Memory) => Err(ParseFailure::Memory),
         }
     }

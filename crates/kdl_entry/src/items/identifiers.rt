@@ -4,10 +4,10 @@ ghost use Rattle.kdl_entry.specs.IdentifierReading.{Answers};
 ghost use Rattle.std.specs.Prelude.{◌≡◌, ◌↔◌, IsTrue, []};
 ghost use Rattle.std.specs.Str.{chars};
 
-use super::item::{identifier_between, misplaced};
-use super::lexer::{LexFailure, Lexer, Token, TokenKind};
-use super::refusal::failure;
+use super::item::identifier_between;
+use super::lexer::{LexFailure, Lexer, Token, TokenKind, fault_at};
 use crate::identifier::KdlIdentifier;
+use kdl_faults::{Whole, failure};
 use kdl_text::chars::{Checkpoint, Steps};
 use kdl_text::error::ParseFailure;
 use std::alloc::Global;
@@ -34,14 +34,14 @@ fn read_token<'a>(
 {
     let Token { kind, start, end } = match lexer.next(alloc) {
         Ok(Some(token)) => token,
-        Ok(None) => return Err(LexFailure::Faulty(misplaced(whole))),
+        Ok(None) => return Err(LexFailure::Faulty(fault_at(whole))),
         Err(failure) => return Err(failure),
     };
     let TokenKind::String(value) = kind else {
-        return Err(LexFailure::Faulty(misplaced(&start)));
+        return Err(LexFailure::Faulty(fault_at(&start)));
     };
     if !is_end(&end) {
-        return Err(LexFailure::Faulty(misplaced(&end)));
+        return Err(LexFailure::Faulty(fault_at(&end)));
     }
     Ok(identifier_between(alloc, lexer, whole, value, &start, &end)?)
 }
@@ -65,8 +65,8 @@ impl KdlIdentifier {
     ghost use Rattle.std.specs.Prelude.{true, IfOk};
 
     /// The identifier that the text is: one string in any spelling (KDL 2.0.0, String), with nothing before and behind
-    /// it. Its spelling and its span are the whole text. `Syntax`: the text is none. Its error has one diagnostic, at
-    /// the first character that fits nothing. `Memory`: a request for memory was refused. Nothing is made then.
+    /// it. Its spelling and its span are the whole text. `Syntax`: the text is none. Its error tells what is wrong with
+    /// the string, or where what is none begins. `Memory`: a request for memory was refused. Nothing is made then.
     #[tactic(auto, using(crate::proofs::IdentifierAnswering::found, crate::proofs::IdentifierAnswering::only, crate::proofs::IdentifierAnswering::prints))]
     pub fn parse(alloc: Global, text: &str) -> Result<KdlIdentifier, ParseFailure>
         // What is answered is what the grammar derives,
@@ -82,7 +82,13 @@ impl KdlIdentifier {
     {
         match read_identifier(alloc, text) {
             Ok(identifier) => Ok(identifier),
-            Err(LexFailure::Faulty(fault)) => Err(failure(alloc, text, fault.span)),
+            Err(LexFailure::Faulty(span)) => Err(failure(
+                alloc,
+                text,
+                Whole::Identifier,
+                span,
+                &mut Steps::new(),
+            )),
             Err(LexFailure::Memory) => Err(ParseFailure::Memory),
         }
     }

@@ -4,7 +4,7 @@
 
 ghost use Rattle.kdl_entry.specs.Building.{key_view, type_view, item_view, Did, Holds, Stays};
 ghost use Rattle.kdl_entry.specs.Counted.{Sliced, ItemSliced};
-ghost use Rattle.kdl_entry.specs.Handed.{kind_view, IsFaultAt};
+ghost use Rattle.kdl_entry.specs.Handed.{kind_view};
 ghost use Rattle.kdl_entry.specs.Items as spec;
 ghost use Rattle.kdl_entry.specs.Items.{between, entry_at, identifier_at};
 ghost use Rattle.kdl_entry.specs.Places.{span_of};
@@ -13,7 +13,7 @@ ghost use Rattle.kdl_entry.specs.Tree.{entry_tree, identifier_tree};
 ghost use Rattle.kdl_text.specs.Here.{Ahead, bytes};
 ghost use Rattle.std.specs.Prelude.{◌≡◌, if◌then◌else◌, [], Some, None, true, false, IfOk, OnOk, option_map};
 
-use super::lexer::{Fault, FaultKind, LexFailure, Lexer, TokenKind};
+use super::lexer::{LexFailure, Lexer, TokenKind, fault_at};
 use crate::entry::{KdlEntry, KdlEntryFormat};
 use crate::identifier::{KdlIdentifier, parsed_identifier};
 use kdl_text::chars::Checkpoint;
@@ -74,16 +74,6 @@ pub struct Given {
     pub key: Option<KeyParts>,
     pub ty: Option<TypeParts>,
     pub value: KdlValue,
-}
-
-/// The fault of a token that may not stand here.
-pub fn misplaced(start: &Checkpoint) -> Fault
-    ensures { IsFaultAt start.now result }
-{
-    Fault {
-        kind: FaultKind::Other,
-        span: start.char_span(),
-    }
 }
 
 /// The text between two places. A step for each of its bytes.
@@ -431,7 +421,7 @@ impl<'a> Item<'a> {
                 self.take_name(alloc, lexer, whole, value, start, end)?;
                 Ok(None)
             }
-            _ => Err(LexFailure::Faulty(misplaced(start))),
+            _ => Err(LexFailure::Faulty(fault_at(start))),
         }
     }
 
@@ -459,7 +449,7 @@ impl<'a> Item<'a> {
                 self.close(alloc, lexer, start, end)?;
                 Ok(None)
             }
-            _ => Err(LexFailure::Faulty(misplaced(start))),
+            _ => Err(LexFailure::Faulty(fault_at(start))),
         }
     }
 
@@ -491,7 +481,7 @@ impl<'a> Item<'a> {
                 let given = self.give_typed(alloc, lexer, value, start)?;
                 Ok(Some(given))
             }
-            _ => Err(LexFailure::Faulty(misplaced(start))),
+            _ => Err(LexFailure::Faulty(fault_at(start))),
         }
     }
 
@@ -531,7 +521,7 @@ impl<'a> Item<'a> {
                 self.from = end.copied();
                 Ok(None)
             }
-            _ => Err(LexFailure::Faulty(misplaced(start))),
+            _ => Err(LexFailure::Faulty(fault_at(start))),
         }
     }
 

@@ -4,7 +4,7 @@
 
 ghost use Rattle.kdl_value.specs.Data as data';
 ghost use Rattle.kdl_entry.specs.Entries as spec;
-ghost use Rattle.kdl_entry.specs.Handed.{Lexed, LexCosts, ReadsKind, IsFaultAt, Passes, IsMark};
+ghost use Rattle.kdl_entry.specs.Handed.{Lexed, LexCosts, ReadsKind, KindCosts, IsFaultAt, Passes, IsMark};
 ghost use Rattle.kdl_value.specs.Tree.{value_tree};
 ghost use Rattle.kdl_entry.specs.declared.items.lexer.LexFailure.TheVariants.{Memory};
 ghost use Rattle.kdl_text.specs.Chars.{starts, is_identifier_char};
@@ -12,7 +12,6 @@ ghost use Rattle.kdl_text.specs.Numbers as numbers;
 ghost use Rattle.kdl_text.specs.Numbers.{FloatText};
 ghost use Rattle.kdl_text.specs.Here.{Ahead, Ate, Stayed, looked, sliced, first, tail};
 ghost use Rattle.kdl_text.specs.Reading.{Moves};
-ghost use Rattle.kdl_text.specs.TriviaReading.{PieceCosts};
 ghost use Rattle.std.specs.Prelude.{◌≡◌, ◌++◌, ◌==◌, ◌||◌, true, false, Some, None, IfOk};
 ghost use Rattle.std.specs.Str.{chars};
 
@@ -20,49 +19,19 @@ use kdl_text::chars::{
     Checkpoint, Class, Cursor, Piece, Steps, is_digit, is_identifier_char, is_newline_char,
     is_sign, is_space, newline,
 };
-use kdl_text::numbers::{
-    Keyword, Number, NumberFailure, NumberFault, begins_number, read_keyword, read_number,
-};
+use kdl_text::numbers::{Keyword, Number, NumberFailure, begins_number, read_keyword, read_number};
 use kdl_text::span::SourceSpan;
-use kdl_text::strings::{StringFailure, StringFault, bare_string, quoted_string, raw_string};
-use kdl_text::trivia::{SlashRead, TriviaFault, escline, slash};
+use kdl_text::strings::{StringFailure, bare_string, quoted_string, raw_string};
+use kdl_text::trivia::{SlashRead, escline, slash};
 use kdl_value::{KdlValue, parsed_float};
 use std::alloc::{AllocError, AllocFailed, Global};
 use std::marker::Model;
 
-/// Why no token begins at a place.
-#[derive(Clone, Copy)]
-pub enum FaultKind {
-    /// A quoted or raw string is faulty.
-    String(StringFault),
-    /// A number is faulty.
-    Number(NumberFault),
-    /// A block comment isn't closed (KDL 2.0.0, Multi-line Comments).
-    Comment,
-    /// A backslash begins no escline (KDL 2.0.0, Line Continuation).
-    Escline,
-    /// Behind a number sign stands no keyword (KDL 2.0.0, Boolean, Null, Keyword Numbers).
-    Keyword,
-    /// Identifier characters that are no bare string: a keyword without its `#`, or a point and a digit
-    /// (KDL 2.0.0, Identifier String).
-    Word,
-    /// A character with which no token begins.
-    Other,
-}
-
-/// A place where no token begins.
-#[derive(Clone, Copy)]
-pub struct Fault {
-    pub kind: FaultKind,
-    /// The character at the place.
-    pub span: SourceSpan,
-}
-
 /// Why no token was handed out.
 #[derive(Clone, Copy)]
 pub enum LexFailure {
-    /// No token begins here.
-    Faulty(Fault),
+    /// No token begins here: the span of the character at the place.
+    Faulty(SourceSpan),
     /// A request for memory was refused.
     Memory,
 }
@@ -120,14 +89,11 @@ pub struct Token<'a> {
     pub end: Checkpoint<'a>,
 }
 
-/// A fault at the place.
-fn fault_at(place: &Checkpoint, kind: FaultKind) -> Fault
+/// The span of a fault at the place: the character there, and nothing at the end of the text.
+pub fn fault_at(place: &Checkpoint) -> SourceSpan
     ensures { IsFaultAt place.now result }
 {
-    Fault {
-        kind,
-        span: place.char_span(),
-    }
+    place.char_span()
 }
 
 /// Why no string was read at the place.
@@ -135,10 +101,7 @@ fn string_failure(place: &Checkpoint, failure: StringFailure) -> LexFailure
     ensures { Passes place.now failure result }
 {
     match failure {
-        StringFailure::Fault(fault) => LexFailure::Faulty(fault_at(
-            place,
-            FaultKind::String(fault),
-        )),
+        StringFailure::Fault(_) => LexFailure::Faulty(fault_at(place)),
         StringFailure::Memory => LexFailure::Memory,
     }
 }
@@ -154,11 +117,11 @@ fn bare_token(
     requires no_number { numbers.begins_number cursor.old.rest ≡ false }
     ensures read { ReadsKind cursor.old.rest start.now result cursor.new.rest }
     ensures moves { Moves cursor.old cursor.new }
-    ensures costs { IfOk result (λ _. PieceCosts 20 cursor.old cursor.new) }
+    ensures costs { KindCosts 20 result cursor.old cursor.new }
 {
     match bare_string(cursor) {
         Some(piece) => Ok(TokenKind::String(piece.to_string(alloc)?)),
-        None => Err(LexFailure::Faulty(fault_at(start, FaultKind::Word))),
+        None => Err(LexFailure::Faulty(fault_at(start))),
     }
 }
 
@@ -172,7 +135,7 @@ fn quoted_token(
     requires { first cursor.old.rest ≡ Some 34 }
     ensures read { ReadsKind cursor.old.rest start.now result cursor.new.rest }
     ensures moves { Moves cursor.old cursor.new }
-    ensures costs { IfOk result (λ _. PieceCosts 22 cursor.old cursor.new) }
+    ensures costs { KindCosts 22 result cursor.old cursor.new }
 {
     match quoted_string(alloc, cursor) {
         Ok(value) => Ok(TokenKind::String(value)),
@@ -191,7 +154,7 @@ fn raw_token(
     requires second { starts (λ c. c == 34 || c == 35) (tail cursor.old.rest) ≡ true }
     ensures read { ReadsKind cursor.old.rest start.now result cursor.new.rest }
     ensures moves { Moves cursor.old cursor.new }
-    ensures costs { IfOk result (λ _. PieceCosts 21 cursor.old cursor.new) }
+    ensures costs { KindCosts 21 result cursor.old cursor.new }
 {
     match raw_string(alloc, cursor) {
         Ok(value) => Ok(TokenKind::String(value)),
@@ -231,11 +194,11 @@ fn keyword_token(
     requires second { starts (λ c. c == 34 || c == 35) (tail cursor.old.rest) ≡ false }
     ensures read { ReadsKind cursor.old.rest start.now result cursor.new.rest }
     ensures moves { Moves cursor.old cursor.new }
-    ensures costs { IfOk result (λ _. PieceCosts 21 cursor.old cursor.new) }
+    ensures costs { KindCosts 21 result cursor.old cursor.new }
 {
     match read_keyword(cursor) {
         Some(keyword) => Ok(TokenKind::Value(keyword_value(alloc, keyword)?)),
-        None => Err(LexFailure::Faulty(fault_at(start, FaultKind::Keyword))),
+        None => Err(LexFailure::Faulty(fault_at(start))),
     }
 }
 
@@ -248,6 +211,7 @@ fn looks_raw(cursor: &mut Cursor) -> bool
 }
 
 /// The raw string or the keyword that begins with the number sign here.
+#[tactic(auto, using(crate::proofs::Handing::one_look))]
 fn sign_token(
     cursor: &mut Cursor,
     alloc: Global,
@@ -256,7 +220,7 @@ fn sign_token(
     requires { first cursor.old.rest ≡ Some 35 }
     ensures read { ReadsKind cursor.old.rest start.now result cursor.new.rest }
     ensures moves { Moves cursor.old cursor.new }
-    ensures costs { IfOk result (λ _. PieceCosts 22 cursor.old cursor.new) }
+    ensures costs { KindCosts 22 result cursor.old cursor.new }
 {
     if looks_raw(cursor) {
         raw_token(cursor, alloc, start)
@@ -274,21 +238,17 @@ fn number_token(
     requires { numbers.begins_number cursor.old.rest ≡ true }
     ensures read { ReadsKind cursor.old.rest start.now result cursor.new.rest }
     ensures moves { Moves cursor.old cursor.new }
-    ensures costs { IfOk result (λ _. PieceCosts 20 cursor.old cursor.new) }
+    ensures costs { KindCosts 20 result cursor.old cursor.new }
 {
     match read_number(alloc, cursor) {
         Ok(Number::Integer(n)) => Ok(TokenKind::Value(KdlValue::Integer(n))),
         Ok(Number::Decimal(text)) => Ok(TokenKind::Value(KdlValue::Float(parsed_float(text)))),
-        Err(NumberFailure::Fault(fault)) => Err(LexFailure::Faulty(fault_at(
-            start,
-            FaultKind::Number(fault),
-        ))),
+        Err(NumberFailure::Fault(_)) => Err(LexFailure::Faulty(fault_at(start))),
         Err(NumberFailure::Memory) => Err(LexFailure::Memory),
     }
 }
 
 /// The number or the bare string that begins with the sign here.
-#[tactic(auto, using(crate::proofs::Handing::two_looks))]
 fn signed_token(
     cursor: &mut Cursor,
     alloc: Global,
@@ -297,7 +257,7 @@ fn signed_token(
     requires { starts is_identifier_char cursor.old.rest ≡ true }
     ensures read { ReadsKind cursor.old.rest start.now result cursor.new.rest }
     ensures moves { Moves cursor.old cursor.new }
-    ensures costs { IfOk result (λ _. PieceCosts 22 cursor.old cursor.new) }
+    ensures costs { KindCosts 22 result cursor.old cursor.new }
 {
     if begins_number(cursor) {
         number_token(cursor, alloc, start)
@@ -318,7 +278,7 @@ fn word_token(
     requires word { is_identifier_char c ≡ true }
     ensures read { ReadsKind cursor.old.rest start.now result cursor.new.rest }
     ensures moves { Moves cursor.old cursor.new }
-    ensures costs { IfOk result (λ _. PieceCosts 22 cursor.old cursor.new) }
+    ensures costs { KindCosts 22 result cursor.old cursor.new }
 {
     if is_digit(c) {
         number_token(cursor, alloc, start)
@@ -335,22 +295,14 @@ fn slash_token(cursor: &mut Cursor, start: &Checkpoint) -> Result<TokenKind, Lex
     requires { first cursor.old.rest ≡ Some 47 }
     ensures read { ReadsKind cursor.old.rest start.now result cursor.new.rest }
     ensures moves { Moves cursor.old cursor.new }
-    ensures costs { IfOk result (λ _. PieceCosts 22 cursor.old cursor.new) }
+    ensures costs { KindCosts 22 result cursor.old cursor.new }
 {
     match slash(cursor) {
         SlashRead::Block => Ok(TokenKind::Space),
         SlashRead::Line => Ok(TokenKind::Newline),
         SlashRead::Dash => Ok(TokenKind::Slashdash),
-        SlashRead::Unclosed => Err(LexFailure::Faulty(fault_at(start, FaultKind::Comment))),
-        SlashRead::Other => Err(LexFailure::Faulty(fault_at(start, FaultKind::Other))),
-    }
-}
-
-/// The kind of a fault in an escline.
-fn escline_fault(fault: TriviaFault) -> FaultKind {
-    match fault {
-        TriviaFault::UnclosedComment(_) => FaultKind::Comment,
-        TriviaFault::NotEscline(_) => FaultKind::Escline,
+        SlashRead::Unclosed => Err(LexFailure::Faulty(fault_at(start))),
+        SlashRead::Other => Err(LexFailure::Faulty(fault_at(start))),
     }
 }
 
@@ -360,11 +312,11 @@ fn escline_token(cursor: &mut Cursor, start: &Checkpoint) -> Result<TokenKind, L
     requires { first cursor.old.rest ≡ Some 92 }
     ensures read { ReadsKind cursor.old.rest start.now result cursor.new.rest }
     ensures moves { Moves cursor.old cursor.new }
-    ensures costs { IfOk result (λ _. PieceCosts 22 cursor.old cursor.new) }
+    ensures costs { KindCosts 22 result cursor.old cursor.new }
 {
     match escline(cursor) {
         Ok(()) => Ok(TokenKind::Space),
-        Err(fault) => Err(LexFailure::Faulty(fault_at(start, escline_fault(fault)))),
+        Err(_) => Err(LexFailure::Faulty(fault_at(start))),
     }
 }
 
@@ -396,7 +348,7 @@ fn plain_token(
     requires plain { ((c == 34 || c == 35) || (c == 47 || c == 92)) ≡ false }
     ensures read { ReadsKind cursor.old.rest start.now result cursor.new.rest }
     ensures moves { Moves cursor.old cursor.new }
-    ensures costs { IfOk result (λ _. PieceCosts 22 cursor.old cursor.new) }
+    ensures costs { KindCosts 22 result cursor.old cursor.new }
 {
     if is_identifier_char(c) {
         return word_token(c, cursor, alloc, start);
@@ -414,7 +366,7 @@ fn plain_token(
             let _ = cursor.take();
             Ok(kind)
         }
-        None => Err(LexFailure::Faulty(fault_at(start, FaultKind::Other))),
+        None => Err(LexFailure::Faulty(fault_at(start))),
     }
 }
 
@@ -428,7 +380,7 @@ fn token_kind(
     requires { first cursor.old.rest ≡ Some c }
     ensures read { ReadsKind cursor.old.rest start.now result cursor.new.rest }
     ensures moves { Moves cursor.old cursor.new }
-    ensures costs { IfOk result (λ _. PieceCosts 22 cursor.old cursor.new) }
+    ensures costs { KindCosts 22 result cursor.old cursor.new }
 {
     match c {
         '"' => quoted_token(cursor, alloc, start),
@@ -504,7 +456,8 @@ impl<'a> Lexer<'a> {
     /// The token here, which the lexer goes past; `None` at the end of the text.
     ///
     /// A fault where no token begins here, with the span of the character here; `Memory` where the memory for
-    /// the token's value is missing. A token takes at most 24 steps for each of its bytes, and the end of the text one.
+    /// the token's value is missing. A token takes at most 24 steps for each of its bytes, and the end of the text one;
+    /// where no token begins, each byte that was read takes at most 24, and the fault itself 24.
     pub fn next(&mut self, alloc: Global) -> Result<Option<Token<'a>>, LexFailure>
         ensures lexed { Lexed self.old result self.new }
         ensures moves { Moves self.old self.new }

@@ -3,10 +3,9 @@
 ghost use Rattle.kdl_grammar.specs.Machine as machine;
 ghost use Rattle.kdl_grammar.specs.Machine.{at};
 ghost use Rattle.kdl_parser.specs.Building.{under_view, kept_view, nodes_view, node_now, frames_view, pending_now, name_slot, entry_slot, item_answer, state_view, held, Did, Does};
-ghost use Rattle.kdl_parser.specs.Counted.{up_to, unsliced};
+ghost use Rattle.kdl_parser.specs.Counted.{up_to, unsliced, SlicedOn};
 ghost use Rattle.kdl_grammar.specs.Tree.{node, no_children};
 ghost use Rattle.kdl_entry.specs.Building.{type_view, key_view, item_view, Stays};
-ghost use Rattle.kdl_entry.specs.Counted.{Sliced};
 ghost use Rattle.kdl_value.specs.Data.{text};
 ghost use Rattle.kdl_entry.specs.Handed.{kind_view};
 ghost use Rattle.kdl_entry.specs.Items as items;
@@ -23,8 +22,8 @@ use super::content::{
 };
 use super::{Builder, Frame, Phase, Slot, Under, Waiting, WaitingWord};
 use crate::parts::ParsedNode;
-use kdl_entry::items::item::{Given, empty, identifier_between, misplaced, span_at, text_between};
-use kdl_entry::items::{LexFailure, Lexer, TokenKind};
+use kdl_entry::items::item::{Given, empty, identifier_between, span_at, text_between};
+use kdl_entry::items::{LexFailure, Lexer, TokenKind, fault_at};
 use kdl_entry::{KdlIdentifier, KdlValue, parsed_identifier};
 use kdl_text::chars::Checkpoint;
 use std::alloc::{AllocError, Global};
@@ -54,7 +53,7 @@ impl<'a, N: ParsedNode> Builder<'a, N> {
         ensures ended { Does (at machine.gap (machine.ended (machine.closed self.old.whole.rest (node_now self.old) no_children [] (between self.old.from.rest start.now.rest) (between start.now.rest end.now.rest) start.now.rest) (nodes_view N.tree self.old.nodes)) (frames_view N.tree self.old) (machine.origin (node_now self.old) self.old.from.rest end.now.rest)) result (state_view N.tree self.new) }
         ensures whole { self.new.whole ≡ self.old.whole }
         ensures stays { Stays lexer.old lexer.new }
-        ensures sliced { OnOk result (Sliced (bytes self.old.from.rest) (unsliced self.new) lexer.old lexer.new) }
+        ensures sliced { SlicedOn result (bytes self.old.from.rest) (unsliced self.new) lexer.old lexer.new }
         ensures unsliced { OnOk result (unsliced self.new ≡ bytes self.new.from.rest) }
     {
         self.settle_word(alloc)?;
@@ -83,7 +82,7 @@ impl<'a, N: ParsedNode> Builder<'a, N> {
         ensures ended { Does (at machine.gap (machine.ended (machine.closed_kept self.old.whole.rest (option_map (kept_view N.tree) self.old.kept) (between self.old.from.rest start.now.rest) (between start.now.rest end.now.rest) start.now.rest) (nodes_view N.tree self.old.nodes)) (frames_view N.tree self.old) (machine.origin (option_map (kept_view N.tree) self.old.kept) self.old.from.rest end.now.rest)) result (state_view N.tree self.new) }
         ensures whole { self.new.whole ≡ self.old.whole }
         ensures stays { Stays lexer.old lexer.new }
-        ensures sliced { OnOk result (Sliced (bytes self.old.from.rest) (unsliced self.new) lexer.old lexer.new) }
+        ensures sliced { SlicedOn result (bytes self.old.from.rest) (unsliced self.new) lexer.old lexer.new }
         ensures unsliced { OnOk result (unsliced self.new ≡ bytes self.new.from.rest) }
     {
         let counts = self.kept.is_some();
@@ -112,7 +111,7 @@ impl<'a, N: ParsedNode> Builder<'a, N> {
         ensures did { Did (Some (at machine.gap (machine.inside (node_now self.old)) (machine.in_block (node_now self.old) (between self.old.from.rest start.now.rest) (nodes_view N.tree self.old.nodes) ∷ frames_view N.tree self.old) (machine.origin (node_now self.old) self.old.from.rest end.now.rest))) start.now result (state_view N.tree self.new) }
         ensures whole { self.new.whole ≡ self.old.whole }
         ensures stays { Stays lexer.old lexer.new }
-        ensures sliced { OnOk result (Sliced (bytes self.old.from.rest) (unsliced self.new) lexer.old lexer.new) }
+        ensures sliced { SlicedOn result (bytes self.old.from.rest) (unsliced self.new) lexer.old lexer.new }
     {
         self.settle_word(alloc)?;
         self.phase = Phase::Gap;
@@ -175,7 +174,7 @@ impl<'a, N: ParsedNode> Builder<'a, N> {
         ensures closed { Does (at (machine.kept (machine.with_block self.old.whole.rest (option_map under_view under.entry) (text_of before) (nodes_view N.tree self.old.nodes) (between self.old.from.rest start.now.rest) start.now.rest)) (nodes_view N.tree nodes) (frames_view N.tree self.old) (machine.origin (option_map under_view under.entry) self.old.from.rest end.now.rest)) result (state_view N.tree self.new) }
         ensures whole { self.new.whole ≡ self.old.whole }
         ensures stays { Stays lexer.old lexer.new }
-        ensures sliced { OnOk result (Sliced (bytes self.old.from.rest) (unsliced self.new) lexer.old lexer.new) }
+        ensures sliced { SlicedOn result (bytes self.old.from.rest) (unsliced self.new) lexer.old lexer.new }
     {
         let inner = mem::replace(&mut self.nodes, nodes);
         self.phase = Phase::Behind;
@@ -215,7 +214,7 @@ impl<'a, N: ParsedNode> Builder<'a, N> {
         ensures did { Did (machine.popped self.old.whole.rest (nodes_view N.tree self.old.nodes) (frames_view N.tree self.old) self.old.from.rest start.now.rest end.now.rest) start.now result (state_view N.tree self.new) }
         ensures whole { self.new.whole ≡ self.old.whole }
         ensures stays { Stays lexer.old lexer.new }
-        ensures sliced { OnOk result (Sliced (bytes self.old.from.rest) (unsliced self.new) lexer.old lexer.new) }
+        ensures sliced { SlicedOn result (bytes self.old.from.rest) (unsliced self.new) lexer.old lexer.new }
     {
         match self.frames.pop() {
             Some(Frame::Block(under, before, nodes)) => self.close_block(
@@ -234,7 +233,7 @@ impl<'a, N: ParsedNode> Builder<'a, N> {
                 self.phase = Phase::Behind;
                 Ok(())
             }
-            None => Err(LexFailure::Faulty(misplaced(start))),
+            None => Err(LexFailure::Faulty(fault_at(start))),
         }
     }
 
@@ -253,7 +252,7 @@ impl<'a, N: ParsedNode> Builder<'a, N> {
         ensures named { Does (machine.given self.old.whole.rest (name_slot slot.entry.kept (text_of slot.entry.leading) slot.entry.start.rest) (option_map type_view given.ty) (value_tree given.value) None (nodes_view N.tree self.old.nodes) (frames_view N.tree self.old) self.old.from.rest start.now.rest end.now.rest) result (state_view N.tree self.new) }
         ensures whole { self.new.whole ≡ self.old.whole }
         ensures stays { Stays lexer.old lexer.new }
-        ensures sliced { OnOk result (Sliced (if slot.entry.kept then bytes start.now.rest else bytes self.old.from.rest) (unsliced self.new) lexer.old lexer.new) }
+        ensures sliced { SlicedOn result (if slot.entry.kept then bytes start.now.rest else bytes self.old.from.rest) (unsliced self.new) lexer.old lexer.new }
     {
         put(&mut self.waiting, Waiting::Nothing);
         self.phase = Phase::Fresh;
@@ -300,7 +299,7 @@ impl<'a, N: ParsedNode> Builder<'a, N> {
         ensures added { Does (machine.given self.old.whole.rest (entry_slot slot.entry.kept (option_map under_view self.old.under) (text_of slot.entry.leading) slot.entry.start.rest (option_map key_view given.key)) (option_map type_view given.ty) (value_tree given.value) None (nodes_view N.tree self.old.nodes) (frames_view N.tree self.old) self.old.from.rest start.now.rest end.now.rest) result (state_view N.tree self.new) }
         ensures whole { self.new.whole ≡ self.old.whole }
         ensures stays { Stays lexer.old lexer.new }
-        ensures sliced { OnOk result (Sliced (if slot.entry.kept then up_to self.old.under (bytes self.old.from.rest) (bytes start.now.rest) else bytes self.old.from.rest) (unsliced self.new) lexer.old lexer.new) }
+        ensures sliced { SlicedOn result (if slot.entry.kept then up_to self.old.under (bytes self.old.from.rest) (bytes start.now.rest) else bytes self.old.from.rest) (unsliced self.new) lexer.old lexer.new }
     {
         put(&mut self.waiting, Waiting::Nothing);
         self.phase = Phase::Fresh;
@@ -334,7 +333,7 @@ impl<'a, N: ParsedNode> Builder<'a, N> {
         ensures did { Did (Some (machine.worded self.old.whole.rest (machine.entry_slot (node_now self.old) (between self.old.from.rest start.now.rest) start.now.rest) (text_of value) (nodes_view N.tree self.old.nodes) (frames_view N.tree self.old) self.old.from.rest start.now.rest end.now.rest)) start.now result (state_view N.tree self.new) }
         ensures whole { self.new.whole ≡ self.old.whole }
         ensures stays { Stays lexer.old lexer.new }
-        ensures sliced { OnOk result (Sliced (bytes self.old.from.rest) (unsliced self.new) lexer.old lexer.new) }
+        ensures sliced { SlicedOn result (bytes self.old.from.rest) (unsliced self.new) lexer.old lexer.new }
     {
         self.settle_word(alloc)?;
         self.phase = Phase::Fresh;
@@ -369,10 +368,10 @@ impl<'a, N: ParsedNode> Builder<'a, N> {
         ensures did { Did (machine.stay (nodes_view N.tree self.old.nodes) (frames_view N.tree self.old) self.old.from.rest (machine.value_from (machine.fresh (pending_now self.old.whole.rest self.old.from.rest self.old.waiting (option_map under_view self.old.under))) start.now.rest end.now.rest)) start.now result (state_view N.tree self.new) }
         ensures whole { self.new.whole ≡ self.old.whole }
         ensures stays { Stays lexer.old lexer.new }
-        ensures sliced { OnOk result (Sliced (bytes self.old.from.rest) (unsliced self.new) lexer.old lexer.new) }
+        ensures sliced { SlicedOn result (bytes self.old.from.rest) (unsliced self.new) lexer.old lexer.new }
     {
         match mem::replace(&mut self.waiting, Waiting::Nothing) {
-            Waiting::Nothing => Err(LexFailure::Faulty(misplaced(start))),
+            Waiting::Nothing => Err(LexFailure::Faulty(fault_at(start))),
             Waiting::Dropped => {
                 self.open_dropped_property(alloc, start, end);
                 Ok(())
@@ -432,7 +431,7 @@ impl<'a, N: ParsedNode> Builder<'a, N> {
         ensures opened { Does (at (machine.type_open false (name_slot counts (between self.old.from.rest start.now.rest) start.now.rest) end.now.rest) (nodes_view N.tree self.old.nodes) (frames_view N.tree self.old) self.old.from.rest) result (state_view N.tree self.new) }
         ensures whole { self.new.whole ≡ self.old.whole }
         ensures stays { Stays lexer.old lexer.new }
-        ensures sliced { OnOk result (Sliced (bytes self.old.from.rest) (unsliced self.new) lexer.old lexer.new) }
+        ensures sliced { SlicedOn result (bytes self.old.from.rest) (unsliced self.new) lexer.old lexer.new }
     {
         self.phase = Phase::InItem;
         if counts {
@@ -459,7 +458,7 @@ impl<'a, N: ParsedNode> Builder<'a, N> {
         ensures opened { Does (at (machine.type_open true (entry_slot counts (node_now self.old) (between self.old.from.rest start.now.rest) start.now.rest None) end.now.rest) (nodes_view N.tree self.old.nodes) (frames_view N.tree self.old) self.old.from.rest) result (state_view N.tree self.new) }
         ensures whole { self.new.whole ≡ self.old.whole }
         ensures stays { Stays lexer.old lexer.new }
-        ensures sliced { OnOk result (Sliced (bytes self.old.from.rest) (unsliced self.new) lexer.old lexer.new) }
+        ensures sliced { SlicedOn result (bytes self.old.from.rest) (unsliced self.new) lexer.old lexer.new }
     {
         self.settle_word(alloc)?;
         self.phase = Phase::InItem;
@@ -487,7 +486,7 @@ impl<'a, N: ParsedNode> Builder<'a, N> {
         ensures added { Does (machine.given self.old.whole.rest (entry_slot counts (node_now self.old) (between self.old.from.rest start.now.rest) start.now.rest None) None (value_tree value) None (nodes_view N.tree self.old.nodes) (frames_view N.tree self.old) self.old.from.rest start.now.rest end.now.rest) result (state_view N.tree self.new) }
         ensures whole { self.new.whole ≡ self.old.whole }
         ensures stays { Stays lexer.old lexer.new }
-        ensures sliced { OnOk result (Sliced (bytes self.old.from.rest) (unsliced self.new) lexer.old lexer.new) }
+        ensures sliced { SlicedOn result (bytes self.old.from.rest) (unsliced self.new) lexer.old lexer.new }
     {
         self.settle_word(alloc)?;
         if counts && self.under.is_some() {
@@ -519,7 +518,7 @@ impl<'a, N: ParsedNode> Builder<'a, N> {
         ensures did { Did (item_answer self.old.whole.rest (option_map under_view self.old.under) (item_view self.old.item) (nodes_view N.tree self.old.nodes) (frames_view N.tree self.old) self.old.from.rest start.now.rest end.now.rest (items.step self.old.whole.rest (item_view self.old.item) (kind_view kind) start.now.rest end.now.rest)) start.now result (state_view N.tree self.new) }
         ensures whole { self.new.whole ≡ self.old.whole }
         ensures stays { Stays lexer.old lexer.new }
-        ensures sliced { OnOk result (Sliced (unsliced self.old) (unsliced self.new) lexer.old lexer.new) }
+        ensures sliced { SlicedOn result (unsliced self.old) (unsliced self.new) lexer.old lexer.new }
     {
         let entry = is_entry(&self.item);
         let Some(given) = self.item.take(alloc, lexer, &self.whole, kind, start, end)? else {
@@ -551,7 +550,7 @@ impl<'a, N: ParsedNode> Builder<'a, N> {
         ensures named { Does (machine.given self.old.whole.rest (name_slot counts (between self.old.from.rest start.now.rest) start.now.rest) None (text (text_of name)) None (nodes_view N.tree self.old.nodes) (frames_view N.tree self.old) self.old.from.rest start.now.rest end.now.rest) result (state_view N.tree self.new) }
         ensures whole { self.new.whole ≡ self.old.whole }
         ensures stays { Stays lexer.old lexer.new }
-        ensures sliced { OnOk result (Sliced (bytes self.old.from.rest) (unsliced self.new) lexer.old lexer.new) }
+        ensures sliced { SlicedOn result (bytes self.old.from.rest) (unsliced self.new) lexer.old lexer.new }
     {
         if counts {
             let leading = text_between(alloc, lexer, &self.from, start)?;
@@ -609,7 +608,7 @@ impl<'a, N: ParsedNode> Builder<'a, N> {
         ensures did { Did (machine.popped self.old.whole.rest (machine.ended (machine.closed self.old.whole.rest (node_now self.old) no_children [] (between self.old.from.rest start.now.rest) [] start.now.rest) (nodes_view N.tree self.old.nodes)) (frames_view N.tree self.old) (machine.origin (node_now self.old) self.old.from.rest start.now.rest) start.now.rest end.now.rest) start.now result (state_view N.tree self.new) }
         ensures whole { self.new.whole ≡ self.old.whole }
         ensures stays { Stays lexer.old lexer.new }
-        ensures sliced { OnOk result (Sliced (bytes self.old.from.rest) (unsliced self.new) lexer.old lexer.new) }
+        ensures sliced { SlicedOn result (bytes self.old.from.rest) (unsliced self.new) lexer.old lexer.new }
     {
         self.end_node(alloc, lexer, start, &start.copied())?;
         self.close(alloc, lexer, start, end)
@@ -629,7 +628,7 @@ impl<'a, N: ParsedNode> Builder<'a, N> {
         ensures did { Did (machine.popped self.old.whole.rest (machine.ended (machine.closed_kept self.old.whole.rest (option_map (kept_view N.tree) self.old.kept) (between self.old.from.rest start.now.rest) [] start.now.rest) (nodes_view N.tree self.old.nodes)) (frames_view N.tree self.old) (machine.origin (option_map (kept_view N.tree) self.old.kept) self.old.from.rest start.now.rest) start.now.rest end.now.rest) start.now result (state_view N.tree self.new) }
         ensures whole { self.new.whole ≡ self.old.whole }
         ensures stays { Stays lexer.old lexer.new }
-        ensures sliced { OnOk result (Sliced (bytes self.old.from.rest) (unsliced self.new) lexer.old lexer.new) }
+        ensures sliced { SlicedOn result (bytes self.old.from.rest) (unsliced self.new) lexer.old lexer.new }
     {
         self.end_kept(alloc, lexer, start, &start.copied())?;
         self.close(alloc, lexer, start, end)

@@ -1,8 +1,9 @@
-use Rattle.std.proofs.Common.{◌≡◌, ◌++◌, ◌∙◌, sym, ap, subst}
+use Rattle.std.proofs.Common.{◌≡◌, ◌++◌, ◌∙◌, sym, ap, subst, lit≤}
 use Rattle.kdl_text.specs.Numbers.{DecimalPart}
 use Rattle.kdl_text.specs.NumberReading.{radix_of}
 use Rattle.kdl_text.proofs.DecimalReads.{front_trails, number_range, whole_costs, front_number, front_other, front_no_part, front_part, reads_number, not_ten, part_moves, part_costs}
 use Rattle.kdl_text.proofs.Going.{moves_then, moves_stayed}
+use Rattle.kdl_text.proofs.Mosts.{more, front_looked, front_all, sliced_most}
 use Rattle.kdl_text.proofs.numbers.read_number.Goals as goal
 
 pub returns-then-is_end-clause-reads : goal.returns-then-is_end-clause-reads
@@ -17,6 +18,7 @@ returns-in_default c = record {
   fault = front_trails _ _ _ c.in-Ok.ensures.reads _ c.is_end.ensures.stayed.rest c.if-is_end.ensures.result;
   moves = moves_then c.read_front.ensures.moves (moves_stayed c.is_end.ensures.stayed);
   costs = tt;
+  most = more _ _ _ _ (moves_then c.read_front.ensures.moves (moves_stayed c.is_end.ensures.stayed)) (front_looked _ _ _ c.read_front.ensures.costs c.is_end.ensures.stayed) (lit≤ tt);
 }
 
 pub returns-in-Err-decimal_part-clause-reads : goal.returns-in-Err-decimal_part-clause-reads
@@ -44,3 +46,26 @@ returns-in-Ok-without_marks-clause-costs c =
 
 pub returns-then-is_end-clause-fault : goal.returns-then-is_end-clause-fault
 returns-then-is_end-clause-fault c = number_range _ _ _ c.in-Ok.ensures.reads _ _ c.is_end.ensures.stayed.rest c.whole.ensures
+
+pub returns-in-Err-clause-most : goal.returns-in-Err-clause-most
+returns-in-Err-clause-most c = more _ _ _ _ c.read_front.ensures.moves c.read_front.ensures.costs (lit≤ tt)
+
+pub returns-then-is_end-clause-most : goal.returns-then-is_end-clause-most
+returns-then-is_end-clause-most c = more _ _ _ _ (moves_then c.read_front.ensures.moves (moves_stayed c.is_end.ensures.stayed)) (front_looked _ _ _ c.read_front.ensures.costs c.is_end.ensures.stayed) (lit≤ tt)
+
+pub returns-in-Err-decimal_part-clause-most : goal.returns-in-Err-decimal_part-clause-most
+returns-in-Err-decimal_part-clause-most c =
+    more _ _ _ _ (moves_then c.read_front.ensures.moves (moves_then (moves_stayed c.is_end.ensures.stayed) c.decimal_part.ensures.moves))
+    (front_all _ _ _ _ c.read_front.ensures.costs c.is_end.ensures.stayed c.decimal_part.ensures.costs) (lit≤ tt)
+
+pub returns-in-Ok-without_marks-clause-most : goal.returns-in-Ok-without_marks-clause-most
+returns-in-Ok-without_marks-clause-most c =
+    sliced_most _ _ _ _ _ _ (part_moves _ _ _ _ c.read_front.ensures.moves c.is_end.ensures.stayed c.decimal_part.ensures.moves)
+    (front_all _ _ _ _ c.read_front.ensures.costs c.is_end.ensures.stayed c.decimal_part.ensures.costs)
+    (sym c.checkpoint-start.ensures.rest ∙ c.slice-piece.ensures.result) c.slice-piece.ensures.moved (lit≤ tt)
+
+pub returns-in-Err-without_marks-clause-most : goal.returns-in-Err-without_marks-clause-most
+returns-in-Err-without_marks-clause-most c =
+    sliced_most _ _ _ _ _ _ (part_moves _ _ _ _ c.read_front.ensures.moves c.is_end.ensures.stayed c.decimal_part.ensures.moves)
+    (front_all _ _ _ _ c.read_front.ensures.costs c.is_end.ensures.stayed c.decimal_part.ensures.costs)
+    (sym c.checkpoint-start.ensures.rest ∙ c.slice-piece.ensures.result) c.slice-piece.ensures.moved (lit≤ tt)

@@ -7,5 +7,5 @@ tokens-preserved c =
 
 pub returns-in-None : goal.returns-in-None
 returns-in-None c =
-    no_end _ c.tokens.lexer c.next.new.self _ c.checkpoint-here.result c.misplaced.result c.tokens.invariant (rw c.in_default.is at c.in_ok-token.ensures.lexed) c.next.ensures.moves c.checkpoint-here.ensures.rest c.checkpoint-here.ensures.at (rw c.in-None.is at c.in_ok-entry.ensures)
-    (record { offset = c.misplaced.ensures.offset; len = c.misplaced.ensures.len })
+    no_end _ c.tokens.lexer c.next.new.self _ c.checkpoint-here.result c.fault_at.result c.tokens.invariant (rw c.in_default.is at c.in_ok-token.ensures.lexed) c.next.ensures.moves c.checkpoint-here.ensures.rest c.checkpoint-here.ensures.at (rw c.in-None.is at c.in_ok-entry.ensures)
+    (record { offset = c.fault_at.ensures.offset; len = c.fault_at.ensures.len })

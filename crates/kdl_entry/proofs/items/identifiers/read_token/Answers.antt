@@ -3,18 +3,18 @@ use Rattle.kdl_entry.proofs.IdentifierTurns.{no_token_told, empty_told, other_to
 use Rattle.kdl_entry.proofs.items.identifiers.read_token.Goals as goal
 
 pub returns-in-Ok-None : goal.returns-in-Ok-None
-returns-in-Ok-None c = empty_told _ c.args.lexer.now c.args.whole.now c.misplaced.result c.requires.rest (rw c.in-Ok-None.field-0-is at c.in-Ok-None.ensures.lexed) refl c.requires.start c.misplaced.ensures
+returns-in-Ok-None c = empty_told _ c.args.lexer.now c.args.whole.now c.fault_at.result c.requires.rest (rw c.in-Ok-None.field-0-is at c.in-Ok-None.ensures.lexed) refl c.requires.start c.fault_at.ensures
 
 pub returns-in-Err : goal.returns-in-Err
 returns-in-Err c = no_token_told _ c.args.lexer.now c.next.new.self c.in-Err.failure c.requires.rest c.requires.at c.in-Err.ensures.lexed
 
 pub returns-in_default : goal.returns-in_default
-returns-in_default c = other_told _ c.args.lexer.now c.next.new.self c.in-Ok-Some.token c.misplaced-in_default.result c.requires.rest c.requires.at (rw c.in-Ok-Some.field-0-is at c.in-Ok-Some.ensures.lexed) c.in_default.not-String c.misplaced-in_default.ensures
+returns-in_default c = other_told _ c.args.lexer.now c.next.new.self c.in-Ok-Some.token c.fault_at-in_default.result c.requires.rest c.requires.at (rw c.in-Ok-Some.field-0-is at c.in-Ok-Some.ensures.lexed) c.in_default.not-String c.fault_at-in_default.ensures
 
 pub returns-then-not-is_end : goal.returns-then-not-is_end
 returns-then-not-is_end c =
-    more_told _ c.args.lexer.now c.next.new.self c.in-Ok-Some.token c.misplaced-then-not-is_end.result c.requires.rest c.requires.at (rw c.in-Ok-Some.field-0-is at c.in-Ok-Some.ensures.lexed) c.next.ensures.moves (λ e. let x = c.if-not-is_end.ensures.1 e in cc)
-    c.misplaced-then-not-is_end.ensures
+    more_told _ c.args.lexer.now c.next.new.self c.in-Ok-Some.token c.fault_at-then-not-is_end.result c.requires.rest c.requires.at (rw c.in-Ok-Some.field-0-is at c.in-Ok-Some.ensures.lexed) c.next.ensures.moves (λ e. let x = c.if-not-is_end.ensures.1 e in cc)
+    c.fault_at-then-not-is_end.ensures
 
 pub returns : goal.returns
 returns c =

@@ -1,4 +1,5 @@
-use Rattle.kdl_entry.proofs.Handing.{a_keyword_here, no_keyword_here, keyword_costs}
+use Rattle.std.proofs.Common.{arith}
+use Rattle.kdl_entry.proofs.Handing.{a_keyword_here, no_keyword_here, keyword_costs, faulty_costs}
 use Rattle.kdl_entry.proofs.items.lexer.keyword_token.Goals as goal
 
 pub returns-in_ok-keyword_value-in-Some-clause-read : goal.returns-in_ok-keyword_value-in-Some-clause-read
@@ -9,3 +10,6 @@ returns-in_ok-keyword_value-in-Some-clause-costs c = keyword_costs c.in-Some.key
 
 pub returns-in-None-clause-read : goal.returns-in-None-clause-read
 returns-in-None-clause-read c = no_keyword_here _ c.read_keyword.new.cursor.rest c.read_keyword.new.cursor.rest _ _ c.requires.sign c.requires.second c.in-None.ensures.reads c.fault_at.ensures
+
+pub returns-in-None-clause-costs : goal.returns-in-None-clause-costs
+returns-in-None-clause-costs c = faulty_costs 4 4 21 c.args.cursor.now c.read_keyword.new.cursor c.read_keyword.ensures.most c.read_keyword.ensures.moves (omega arith) (omega arith)

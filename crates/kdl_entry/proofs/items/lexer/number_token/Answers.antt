@@ -1,4 +1,5 @@
-use Rattle.kdl_entry.proofs.Handing.{integer_here, decimal_float, decimal_here, no_number_here, number_costs}
+use Rattle.std.proofs.Common.{arith}
+use Rattle.kdl_entry.proofs.Handing.{integer_here, decimal_float, decimal_here, no_number_here, number_costs, faulty_costs}
 use Rattle.kdl_entry.proofs.items.lexer.number_token.Goals as goal
 
 pub parsed_float-requires : goal.parsed_float-requires
@@ -18,3 +19,6 @@ returns-in-Ok-Decimal-clause-costs c = number_costs c.in-Ok-Decimal.field-0 _ _ 
 
 pub returns-in-Err-Fault-clause-read : goal.returns-in-Err-Fault-clause-read
 returns-in-Err-Fault-clause-read c = no_number_here _ c.read_number.new.cursor.rest _ _ c.requires (rw c.in-Err-Fault.field-0-is at c.in-Err-Fault.ensures.reads) c.fault_at.ensures
+
+pub returns-in-Err-Fault-clause-costs : goal.returns-in-Err-Fault-clause-costs
+returns-in-Err-Fault-clause-costs c = faulty_costs 4 12 20 c.args.cursor.now c.read_number.new.cursor c.read_number.ensures.most c.read_number.ensures.moves (omega arith) (omega arith)

@@ -18,4 +18,4 @@ finish_nodes-requires-in-Behind-clause-from g c =
 pub returns-in-InItem-clause-finished : goal.returns-in-InItem-clause-finished
 returns-in-InItem-clause-finished g c =
     let self = c.args.self.now in
-    (rw c.in-InItem.is (unfinished self.whole.rest (item_view self.item) (option_map under_view self.under) (nodes_view g.N.ParsedNode.tree self.nodes) (frames_view g.N.ParsedNode.tree self) self.from.rest), c.misplaced.ensures)
+    (rw c.in-InItem.is (unfinished self.whole.rest (item_view self.item) (option_map under_view self.under) (nodes_view g.N.ParsedNode.tree self.nodes) (frames_view g.N.ParsedNode.tree self) self.from.rest), c.fault_at.ensures)

@@ -9,7 +9,7 @@ pub returns-then-not-is_empty-clause-finished : goal.returns-then-not-is_empty-c
 returns-then-not-is_empty-clause-finished g c =
     let self = c.args.self.now in
     let tree = g.N.ParsedNode.tree in
-    (one_open tree self.whole.rest self.from.rest (nodes_view tree self.nodes) self.frames.items self.frames.len self.frames.ok.0 c.if-not-is_empty.ensures, c.misplaced.ensures)
+    (one_open tree self.whole.rest self.from.rest (nodes_view tree self.nodes) self.frames.items self.frames.len self.frames.ok.0 c.if-not-is_empty.ensures, c.fault_at.ensures)
 
 pub returns-clause-finished : goal.returns-clause-finished
 returns-clause-finished g c =

@@ -1,0 +1,34 @@
+/* Refuses one request for memory, the one whose number is REFUSE, from 1 on. It is loaded before a program (LD_PRELOAD).
+   Where a request is refused, a line goes to the program's descriptor 9. */
+#include <errno.h>
+#include <stddef.h>
+#include <stdlib.h>
+#include <unistd.h>
+
+extern void *__libc_malloc(size_t size);
+extern void *__libc_realloc(void *old, size_t size);
+
+static long left;
+
+__attribute__((constructor)) static void begin(void) {
+    const char *number = getenv("REFUSE");
+    left = number ? atol(number) : 0;
+}
+
+static int is_refused(void) {
+    if (left == 0 || --left != 0) {
+        return 0;
+    }
+    ssize_t told = write(9, "refused\n", 8);
+    (void)told;
+    errno = ENOMEM;
+    return 1;
+}
+
+void *malloc(size_t size) {
+    return is_refused() ? NULL : __libc_malloc(size);
+}
+
+void *realloc(void *old, size_t size) {
+    return is_refused() ? NULL : __libc_realloc(old, size);
+}

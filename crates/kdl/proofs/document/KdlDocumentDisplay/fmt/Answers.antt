@@ -1,0 +1,8 @@
+use Rattle.std.proofs.Common.{arith}
+use Rattle.std.proofs.lemmas.Grind.{common_steps}
+use Rattle.std.proofs.lemmas.Str.{encodes-append}
+use Rattle.kdl.proofs.Printing.{document_printed}
+use Rattle.kdl.proofs.document.KdlDocumentDisplay.fmt.Goals as goal
+
+pub returns-clause-writes : goal.returns-clause-writes
+returns-clause-writes g c = rw (document_printed c.args.self.now 0) (λ plain fine. grind (arith, common_steps, encodes-append))

@@ -1,0 +1,67 @@
+//! How nodes are copied: over a stack in memory and without recursion, however deep their blocks are.
+
+ghost use Rattle.kdl.specs.Copied.{closed};
+ghost use Rattle.kdl.specs.Tree.{node_tree};
+ghost use Rattle.std.specs.Prelude.{◌≡◌, map, IfOk};
+
+use crate::document::KdlDocument;
+use crate::node::KdlNode;
+use std::alloc::{AllocError, Global};
+use std::mem;
+
+/// A block that is being copied: its node, its document, the nodes behind that node, and the copies of those before it.
+#[derive(Drop)]
+struct Open<'a> {
+    node: &'a KdlNode,
+    block: &'a KdlDocument,
+    behind: &'a [KdlNode],
+    before: Vec<KdlNode>,
+}
+
+/// The copies up to that of the block's node, whose block has the nodes.
+fn close(opened: Open<'_>, nodes: Vec<KdlNode>) -> Result<Vec<KdlNode>, AllocError>
+    ensures { IfOk result (λ v. map node_tree v.items ≡ closed opened.entry (map node_tree nodes.items)) }
+{
+    let Open {
+        node,
+        block,
+        behind: _,
+        mut before,
+    } = opened;
+    let children = block.with_nodes(nodes)?;
+    before.push(node.with_children(Some(children))?)?;
+    Ok(before)
+}
+
+/// Copies of the nodes, in order. The blocks that are open stand in memory.
+pub(crate) fn copy_nodes(alloc: Global, nodes: &[KdlNode]) -> Result<Vec<KdlNode>, AllocError>
+    ensures { IfOk result (λ v. map node_tree v.items ≡ map node_tree nodes.now) }
+{
+    let mut above: Vec<Open> = Vec::new(alloc);
+    let mut made = Vec::with_capacity(alloc, nodes.len())?;
+    let mut rest = nodes;
+    'left: loop {
+        if let Some((node, behind)) = rest.split_first() {
+            if let Some(block) = node.children() {
+                let inner = Vec::with_capacity(alloc, block.nodes().len())?;
+                let before = mem::replace(&mut made, inner);
+                above.push(Open {
+                    node,
+                    block,
+                    behind,
+                    before,
+                })?;
+                rest = block.nodes();
+            } else {
+                made.push(node.with_children(None)?)?;
+                rest = behind;
+            }
+        } else {
+            let Some(opened) = above.pop() else {
+                return Ok(made);
+            };
+            rest = opened.behind;
+            made = close(opened, made)?;
+        }
+    }
+}

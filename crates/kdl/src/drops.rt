@@ -1,0 +1,39 @@
+//! How a document is dropped: one node at a time, without recursion, however deep its blocks are.
+
+ghost use Rattle.kdl.specs.Count.{count_nodes, count_option};
+ghost use Rattle.std.specs.Prelude.{◌≡◌, ◌+◌, ◌<◌, vec_len};
+
+use crate::document::KdlDocument;
+use crate::node::KdlNode;
+use std::mem;
+
+/// Puts other children into the last node, and answers those that it had.
+fn exchange_last(nodes: &mut Vec<KdlNode>, children: Option<KdlDocument>) -> Option<KdlDocument>
+    requires { 0 < vec_len nodes.old }
+    ensures kept { count_nodes nodes.new.items + count_option result ≡ count_nodes nodes.old.items + count_option children }
+    ensures less { count_option result < count_nodes nodes.old.items }
+{
+    let last = nodes.len() - 1;
+    nodes[last].exchange_children(children)
+}
+
+/// Drops nodes, one at a time: while the children of a node go, it holds what stands above it in their place.
+pub(crate) fn dismantle(mut nodes: Vec<KdlNode>) {
+    let mut up: Option<KdlDocument> = None;
+    loop {
+        if nodes.is_empty() {
+            let Some(parent) = up else {
+                return nodes.destroy_empty();
+            };
+            mem::replace(&mut nodes, parent.into_nodes()).destroy_empty();
+        } else if let Some(child) = exchange_last(&mut nodes, up) {
+            let above = mem::replace(&mut nodes, child.into_nodes());
+            up = Some(KdlDocument::bare(above));
+            continue;
+        }
+        let Some(node) = nodes.pop() else {
+            return nodes.destroy_empty();
+        };
+        up = node.into_children();
+    }
+}

@@ -1,0 +1,51 @@
+-- Where pieces stand, and how the cursor moves past them.
+use Rattle.std.proofs.Common.{◌≡◌, ℕ, [], ◌∷◌, ◌++◌, ap, sym, ◌∙◌, arith}
+use Rattle.std.proofs.lemmas.Str.{len_utf8_bounds}
+use Rattle.std.specs.Prelude.{Option, Some, None}
+use Rattle.kdl_text.specs.Chars.{Text}
+use Rattle.kdl_text.specs.Here.{Here, Took, bytes}
+use Rattle.kdl_text.specs.Reading.{Moves}
+use Rattle.kdl_faults.specs.Reading.{OnUnclosed, IsEnd, Stands, Spans, Begins, gone}
+use Rattle.kdl_faults.specs.declared.ends.Unclosed.{Unclosed}
+use Rattle.kdl_faults.specs.declared.ends.ValueEnd.{ValueEnd}
+use Rattle.kdl_faults.specs.declared.pieces.Piece.{Piece}
+use Rattle.kdl_faults.specs.declared.pieces.Start.{Start}
+use Rattle.kdl_faults.proofs.Passing.{behind_then}
+
+-- a piece with its end anywhere behind its start, and behind it what was read from m on
+pub stands_at : (s : Start) (p : Piece) (m n : Here) (c : Option Unclosed) → p.start ≡ s.place → p.next ≡ s.next → p.comment ≡ c → Spans s → (q : Text) × (s.place.rest ≡ q ++ p.end.rest) → (q : Text) × (s.place.rest ≡ q ++ m.rest) → OnUnclosed m c n
+    → Stands s.place.rest p
+stands_at s p m n c is_start is_next is_comment spans (q, e) back unclosed =
+    let here : p.start.rest ≡ s.place.rest = ap (λ z. z.rest) is_start in
+    record {
+      start = ([], sym here);
+      next = (spans.next.0, here ∙ spans.next.1 ∙ ap (λ z. spans.next.0 ++ z.rest) (sym is_next));
+      end = (q, here ∙ e);
+      comment = λ k h. met c k (sym is_comment ∙ h) unclosed;
+    }
+  where
+    met : (c : Option Unclosed) (k : Unclosed) → c ≡ Some k → OnUnclosed m c n → (q r : Text) × (s.place.rest ≡ q ++ k.start.rest) × (k.start.rest ≡ r ++ k.end.rest)
+    met None k h u = cc
+    met (Some j) k h u =
+        let same : j ≡ k = cc in
+        let b = behind_then _ _ _ back u.start.before in
+        (b.0, u.end.0, b.1 ∙ ap (λ z. b.0 ++ z.start.rest) same, ap (λ z. z.start.rest) (sym same) ∙ u.end.1 ∙ ap (λ z. u.end.0 ++ z.end.rest) same)
+
+-- a piece that ends at the value end from m on
+pub stands_word : (s : Start) (p : Piece) (m n : Here) (e : ValueEnd) → p.start ≡ s.place → p.next ≡ s.next → p.comment ≡ e.comment → p.end ≡ e.place → Spans s → (q : Text) × (s.place.rest ≡ q ++ m.rest) → IsEnd m e n → Stands s.place.rest p
+stands_word s p m n e is_start is_next is_comment is_end spans back end =
+    let b = behind_then _ _ _ back end.place.before in
+    stands_at s p m n e.comment is_start is_next is_comment spans (b.0, b.1 ∙ ap (λ z. b.0 ++ z.rest) (sym is_end)) back end.comment
+
+-- from the start of a piece to behind its first character
+pub begun : (s : Start) (a b : Here) → Spans s → b ≡ gone s.next a → Moves (gone s.place a) b
+begun s a b spans e = rw e (record { piece = spans.next; at = spans.at; counts = omega arith })
+
+pub begins_took : (c : ℕ) (a b : Here) (s : Start) → Took (Some c) a b → s.place.rest ≡ a.rest → s.place.at ≡ a.at → s.next.rest ≡ b.rest → s.next.at ≡ b.at → Begins s
+begins_took c a b s took pr pa nr na = record {
+  spans = record {
+    next = (c ∷ [], pr ∙ took.0 ∙ ap (λ z. c ∷ z) (sym nr));
+    at = omega (arith, ap bytes pr, pa, ap bytes nr, na, ap bytes took.0, took.1);
+  };
+  fewer = omega (arith, ap bytes pr, ap bytes nr, ap bytes took.0, (len_utf8_bounds c).0);
+}

@@ -1,0 +1,10 @@
+use Rattle.kdl_text.specs.Here.{bytes}
+use Rattle.kdl_text.specs.Reading.{Moves}
+use Rattle.kdl_faults.specs.Reading.{Most}
+use Rattle.kdl_faults.proofs.ends.value_end.Given as goal
+
+abbrev pub invariant-ends : goal.invariant-ends
+invariant-ends l = record { moves : Moves l.fn.cursor l.cursor; most : Most 24 0 l.fn.cursor l.cursor }
+
+abbrev pub decreases-ends : goal.decreases-ends
+decreases-ends l = bytes l.cursor.rest

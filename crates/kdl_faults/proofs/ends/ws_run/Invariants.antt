@@ -1,0 +1,10 @@
+use Rattle.kdl_text.specs.Here.{bytes}
+use Rattle.kdl_text.specs.Reading.{Moves}
+use Rattle.kdl_faults.specs.Reading.{Most}
+use Rattle.kdl_faults.proofs.ends.ws_run.Given as goal
+
+abbrev pub invariant-run : goal.invariant-run
+invariant-run l = record { moves : Moves l.fn.cursor l.cursor; most : Most 12 0 l.fn.cursor l.cursor }
+
+abbrev pub decreases-run : goal.decreases-run
+decreases-run l = bytes l.cursor.rest

@@ -1,0 +1,11 @@
+use Rattle.kdl_faults.proofs.Noting.{next_lies, same_lies}
+use Rattle.kdl_faults.proofs.reader.Reader.mark_left.Goals as goal
+
+pub returns-in-Left-clause-keeps : goal.returns-in-Left-clause-keeps
+returns-in-Left-clause-keeps c text x s = record {
+  whole = x.whole;
+  here = x.here;
+  left = same_lies text c.copied-self.result c.args.piece.now.next c.copied-self.ensures (next_lies text c.args.piece.now s);
+  faults = x.faults;
+  blocks = x.blocks;
+}

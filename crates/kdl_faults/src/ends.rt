@@ -1,0 +1,149 @@
+//! Value ends (KDL 2.0.0, Value): where a string, a number or a keyword may end.
+
+ghost use Rattle.kdl_faults.specs.Reading.{Most, IsEnd, IsUnclosed, OnUnclosed, StandsBehind};
+ghost use Rattle.kdl_text.specs.Chars.{begins};
+ghost use Rattle.kdl_text.specs.Here.{Stayed, bytes};
+ghost use Rattle.kdl_text.specs.Reading.{Moves};
+ghost use Rattle.std.specs.Prelude.{◌≡◌, ℕ, ◌<◌, ◌≤◌, true, IfSome};
+
+use kdl_text::chars::{Checkpoint, Class, Cursor, is_newline_char, is_space, newline};
+use kdl_text::trivia::{block_comment, line_comment, spaces};
+
+/// A block comment that isn't closed, up to the end of the text.
+#[derive(Drop)]
+pub(crate) struct Unclosed<'a> {
+    pub start: Checkpoint<'a>,
+    pub end: Checkpoint<'a>,
+}
+
+/// Where the next value end is.
+#[derive(Drop)]
+pub(crate) struct ValueEnd<'a> {
+    pub place: Checkpoint<'a>,
+    /// A block comment that isn't closed, in what begins as an escline there.
+    pub comment: Option<Unclosed<'a>>,
+}
+
+/// What stands behind a backslash.
+#[derive(Drop)]
+pub(crate) enum Behind<'a> {
+    /// What makes an escline of it, which the cursor went past.
+    Escline,
+    /// Nothing that does. The cursor went past spaces and block comments.
+    Other,
+    /// A block comment that isn't closed. The cursor is at the end of the text.
+    Unclosed(Unclosed<'a>),
+}
+
+/// Goes past spaces and block comments. Where one begins that isn't closed, the cursor is at the end of the text.
+fn ws_run<'a>(cursor: &mut Cursor<'a>) -> Option<Unclosed<'a>>
+    ensures comment { OnUnclosed cursor.old result cursor.new }
+    ensures moves { Moves cursor.old cursor.new }
+    ensures most { Most 12 4 cursor.old cursor.new }
+{
+    'run: loop {
+        spaces(cursor);
+        let start = cursor.checkpoint();
+        if !cursor.looks_two('/', '*') {
+            return None;
+        }
+        if !block_comment(cursor) {
+            return Some(Unclosed {
+                start,
+                end: cursor.checkpoint(),
+            });
+        }
+    }
+}
+
+/// Goes past what stands behind a backslash.
+pub(crate) fn behind_backslash<'a>(cursor: &mut Cursor<'a>) -> Behind<'a>
+    ensures comment { StandsBehind cursor.old result cursor.new }
+    ensures moves { Moves cursor.old cursor.new }
+    ensures most { Most 12 12 cursor.old cursor.new }
+{
+    if let Some(comment) = ws_run(cursor) {
+        return Behind::Unclosed(comment);
+    }
+    if cursor.looks_two('/', '/') {
+        line_comment(cursor);
+        return Behind::Escline;
+    }
+    if newline(cursor) || cursor.look().is_none() {
+        Behind::Escline
+    } else {
+        Behind::Other
+    }
+}
+
+/// Whether a value end of one character begins with c, or a space or a newline does.
+fn ends_value(c: char) -> bool {
+    matches!(c, '=' | ')' | '{' | '}' | ';') || is_space(c) || is_newline_char(c)
+}
+
+/// Whether a comment or the mark of a slashdash begins here.
+fn begins_slash_piece(cursor: &mut Cursor) -> bool
+    ensures stayed { (k : ℕ) × (k ≤ 6) × Stayed k cursor.old cursor.new }
+{
+    cursor.looks_two('/', '*') || cursor.looks_two('/', '/') || cursor.looks_two('/', '-')
+}
+
+/// The value end at a backslash, where there is one: the backslash itself where it begins an escline, or the place behind it
+/// where spaces or a comment follow. None: the cursor went past the backslash alone.
+fn end_at_backslash<'a>(cursor: &mut Cursor<'a>) -> Option<ValueEnd<'a>>
+    requires { begins 92 cursor.old.rest ≡ true }
+    ensures end { IfSome result (λ e. IsEnd cursor.old e cursor.new) }
+    ensures moves { Moves cursor.old cursor.new }
+    ensures went { bytes cursor.new.rest < bytes cursor.old.rest }
+    ensures most { Most 12 0 cursor.old cursor.new }
+{
+    let place = cursor.checkpoint();
+    cursor.step();
+    let behind = cursor.checkpoint();
+    match behind_backslash(cursor) {
+        Behind::Escline => Some(ValueEnd {
+            place,
+            comment: None,
+        }),
+        Behind::Unclosed(comment) => Some(ValueEnd {
+            place,
+            comment: Some(comment),
+        }),
+        Behind::Other if behind.at() == cursor.at() => None,
+        Behind::Other => Some(ValueEnd {
+            place: behind,
+            comment: None,
+        }),
+    }
+}
+
+/// Goes on to the next value end, from here on. The cursor may go past an escline, or past spaces and comments, that begin
+/// there.
+pub(crate) fn value_end<'a>(cursor: &mut Cursor<'a>) -> ValueEnd<'a>
+    ensures end { IsEnd cursor.old result cursor.new }
+    ensures moves { Moves cursor.old cursor.new }
+    ensures most { Most 24 24 cursor.old cursor.new }
+{
+    'ends: loop {
+        cursor.skip(Class::Identifier);
+        let place = cursor.checkpoint();
+        let is_end = match cursor.look() {
+            None => true,
+            Some('/') => begins_slash_piece(cursor),
+            Some('\\') => {
+                if let Some(end) = end_at_backslash(cursor) {
+                    return end;
+                }
+                continue 'ends;
+            }
+            Some(c) => ends_value(c),
+        };
+        if is_end {
+            return ValueEnd {
+                place,
+                comment: None,
+            };
+        }
+        cursor.step();
+    }
+}

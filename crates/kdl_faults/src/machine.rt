@@ -1,0 +1,271 @@
+//! What is due at a place of a text, and what a piece changes there.
+//!
+//! The machine holds the phase of the grammar and the open blocks, and builds nothing. Where a piece does not fit, what was due
+//! counts as read, and the machine goes on from there.
+
+use crate::kind::Kind;
+use crate::pieces::PieceKind;
+
+/// What a type belongs to.
+#[derive(Clone, Copy)]
+pub(crate) enum Typed {
+    /// A node: its name follows.
+    Node,
+    /// An argument: its value follows.
+    Argument,
+    /// The value of a property.
+    Property,
+}
+
+/// What may be dropped behind a `/-`.
+#[derive(Clone, Copy)]
+pub(crate) enum Dropped {
+    /// An entry or a block.
+    Any,
+    /// A block, before the node's own.
+    Block,
+    /// A block, behind the node's own.
+    Last,
+}
+
+/// Where in the grammar a place is.
+#[derive(Clone, Copy)]
+pub(crate) enum Phase {
+    /// Between nodes.
+    Gap,
+    /// Between nodes, behind `/-`.
+    Marked,
+    /// Behind the name or an entry of a node.
+    Node,
+    /// Behind a string there that may be a key.
+    Word,
+    /// Behind `/-` in a node.
+    Drop(Dropped),
+    /// Behind a dropped block, before the node's own.
+    Later,
+    /// Behind the node's block.
+    Behind,
+    /// Behind the `=` of a property.
+    Property,
+    /// Behind the `(` of a type.
+    TypeOpen(Typed),
+    /// Behind the name in a type.
+    TypeName(Typed),
+    /// In a type that is faulty.
+    TypeFaulty,
+    /// Behind such a type: what it belongs to may follow.
+    Typeless,
+    /// Behind a type.
+    TypeDone(Typed),
+    /// Behind the only node or entry of a text, where line-spaces alone follow.
+    Over,
+}
+
+/// What a piece does where it fits.
+#[derive(Clone, Copy)]
+pub(crate) enum Move {
+    /// On to the phase.
+    To(Phase),
+    /// A block opens, behind which the phase follows.
+    Open(Phase),
+    /// The block closes, or there is none.
+    Close,
+    /// It does not fit.
+    Refuse,
+}
+
+impl Phase {
+    /// What is wrong where a piece does not fit.
+    pub(crate) fn misfit(self) -> Kind {
+        match self {
+            Phase::Gap | Phase::Marked | Phase::TypeDone(Typed::Node) => Kind::Name,
+            Phase::Property | Phase::TypeDone(Typed::Property) => Kind::Value,
+            Phase::TypeOpen(_) | Phase::TypeName(_) => Kind::Type,
+            _ => Kind::Misplaced,
+        }
+    }
+
+    /// Whether something is due that the end of the text does not bring.
+    pub(crate) fn is_due(self) -> bool {
+        !matches!(
+            self,
+            Phase::Gap
+                | Phase::Node
+                | Phase::Word
+                | Phase::Later
+                | Phase::Behind
+                | Phase::TypeFaulty
+                | Phase::Typeless
+                | Phase::Over
+        )
+    }
+
+    /// What a piece does in the phase.
+    pub(crate) fn takes(self, kind: PieceKind) -> Move {
+        match self {
+            Phase::Gap => in_gap(kind),
+            Phase::Marked => in_marked(kind),
+            Phase::Node => in_node(kind, false),
+            Phase::Word => in_node(kind, true),
+            Phase::Drop(dropped) => behind_mark(dropped, kind),
+            Phase::Later => behind_dropped_block(kind),
+            Phase::Behind => behind_block(kind),
+            Phase::Property => at_value(Typed::Property, kind),
+            Phase::TypeOpen(typed) => in_type(typed, kind),
+            Phase::TypeName(typed) => behind_type_name(typed, kind),
+            Phase::TypeFaulty => in_faulty_type(kind),
+            Phase::Typeless => behind_faulty_type(kind),
+            Phase::TypeDone(typed) => behind_type(typed, kind),
+            Phase::Over => behind_all(kind),
+        }
+    }
+
+    /// The phase behind a piece that does not fit: what was due counts as read.
+    pub(crate) fn behind_misfit(self, kind: PieceKind) -> Phase {
+        match (self, kind) {
+            (Phase::TypeOpen(_), PieceKind::Right) => Phase::Typeless,
+            (Phase::TypeOpen(_) | Phase::TypeName(_), _) => Phase::TypeFaulty,
+            (Phase::TypeDone(_) | Phase::Later | Phase::Drop(_), PieceKind::Left) => {
+                Phase::TypeOpen(Typed::Argument)
+            }
+            (Phase::Behind, PieceKind::Left) => Phase::TypeOpen(Typed::Node),
+            (Phase::Drop(Dropped::Last), PieceKind::String | PieceKind::Value) => Phase::Behind,
+            (Phase::Later | Phase::Drop(_) | Phase::Behind, PieceKind::String) => Phase::Word,
+            _ => Phase::Node,
+        }
+    }
+}
+
+/// Between nodes.
+fn in_gap(kind: PieceKind) -> Move {
+    match kind {
+        PieceKind::Newline => Move::To(Phase::Gap),
+        PieceKind::Slashdash => Move::To(Phase::Marked),
+        PieceKind::String => Move::To(Phase::Node),
+        PieceKind::Left => Move::To(Phase::TypeOpen(Typed::Node)),
+        PieceKind::Closing => Move::Close,
+        _ => Move::Refuse,
+    }
+}
+
+/// Between nodes, behind `/-`.
+fn in_marked(kind: PieceKind) -> Move {
+    match kind {
+        PieceKind::Newline => Move::To(Phase::Marked),
+        PieceKind::String => Move::To(Phase::Node),
+        PieceKind::Left => Move::To(Phase::TypeOpen(Typed::Node)),
+        _ => Move::Refuse,
+    }
+}
+
+/// What ends a node: its terminator, or the `}` of the block that it stands in.
+fn at_end_of_node(kind: PieceKind) -> Move {
+    match kind {
+        PieceKind::Newline | PieceKind::Semicolon => Move::To(Phase::Gap),
+        PieceKind::Closing => Move::Close,
+        _ => Move::Refuse,
+    }
+}
+
+/// Behind the name or an entry of a node, which may be a key.
+fn in_node(kind: PieceKind, is_key: bool) -> Move {
+    match kind {
+        PieceKind::String => Move::To(Phase::Word),
+        PieceKind::Value => Move::To(Phase::Node),
+        PieceKind::Left => Move::To(Phase::TypeOpen(Typed::Argument)),
+        PieceKind::Slashdash => Move::To(Phase::Drop(Dropped::Any)),
+        PieceKind::Opening => Move::Open(Phase::Behind),
+        PieceKind::Equals if is_key => Move::To(Phase::Property),
+        _ => at_end_of_node(kind),
+    }
+}
+
+/// Behind `/-` in a node.
+fn behind_mark(dropped: Dropped, kind: PieceKind) -> Move {
+    match (kind, dropped) {
+        (PieceKind::Newline, _) => Move::To(Phase::Drop(dropped)),
+        (PieceKind::Opening, Dropped::Last) => Move::Open(Phase::Behind),
+        (PieceKind::Opening, _) => Move::Open(Phase::Later),
+        (PieceKind::String, Dropped::Any) => Move::To(Phase::Word),
+        (PieceKind::Value, Dropped::Any) => Move::To(Phase::Node),
+        (PieceKind::Left, Dropped::Any) => Move::To(Phase::TypeOpen(Typed::Argument)),
+        _ => Move::Refuse,
+    }
+}
+
+/// Behind a dropped block, before the node's own.
+fn behind_dropped_block(kind: PieceKind) -> Move {
+    match kind {
+        PieceKind::Slashdash => Move::To(Phase::Drop(Dropped::Block)),
+        PieceKind::Opening => Move::Open(Phase::Behind),
+        _ => at_end_of_node(kind),
+    }
+}
+
+/// Behind the node's block.
+fn behind_block(kind: PieceKind) -> Move {
+    match kind {
+        PieceKind::Slashdash => Move::To(Phase::Drop(Dropped::Last)),
+        _ => at_end_of_node(kind),
+    }
+}
+
+/// Where a value is due, which may have a type.
+fn at_value(typed: Typed, kind: PieceKind) -> Move {
+    match kind {
+        PieceKind::String | PieceKind::Value => Move::To(Phase::Node),
+        PieceKind::Left => Move::To(Phase::TypeOpen(typed)),
+        _ => Move::Refuse,
+    }
+}
+
+/// Behind the `(` of a type.
+fn in_type(typed: Typed, kind: PieceKind) -> Move {
+    match kind {
+        PieceKind::String => Move::To(Phase::TypeName(typed)),
+        _ => Move::Refuse,
+    }
+}
+
+/// Behind the name in a type.
+fn behind_type_name(typed: Typed, kind: PieceKind) -> Move {
+    match kind {
+        PieceKind::Right => Move::To(Phase::TypeDone(typed)),
+        _ => Move::Refuse,
+    }
+}
+
+/// In a type that is faulty: up to its `)`, or to what ends or opens a block or ends the node.
+fn in_faulty_type(kind: PieceKind) -> Move {
+    match kind {
+        PieceKind::Right => Move::To(Phase::Typeless),
+        PieceKind::Opening => Move::Open(Phase::Behind),
+        PieceKind::Newline | PieceKind::Semicolon | PieceKind::Closing => at_end_of_node(kind),
+        _ => Move::To(Phase::TypeFaulty),
+    }
+}
+
+/// Behind a type that is faulty: a name or a value may follow, or what follows that.
+fn behind_faulty_type(kind: PieceKind) -> Move {
+    match kind {
+        PieceKind::String | PieceKind::Value => Move::To(Phase::Node),
+        _ => in_node(kind, false),
+    }
+}
+
+/// Behind a type.
+fn behind_type(typed: Typed, kind: PieceKind) -> Move {
+    match (kind, typed) {
+        (PieceKind::String, _) => Move::To(Phase::Node),
+        (PieceKind::Value, Typed::Argument | Typed::Property) => Move::To(Phase::Node),
+        _ => Move::Refuse,
+    }
+}
+
+/// Behind the only node or entry of a text.
+fn behind_all(kind: PieceKind) -> Move {
+    match kind {
+        PieceKind::Newline => Move::To(Phase::Over),
+        _ => Move::Refuse,
+    }
+}

@@ -1,0 +1,521 @@
+//! The pieces of a text, one at a time, the faulty ones too.
+//!
+//! Nothing is built: of a string, a number and a keyword the reader tells where it ends and what is wrong with it.
+
+ghost use Rattle.kdl_faults.specs.Reading.{Begins, IsPiece, Most, OnFound, Spans, Stands, WentPast, gone};
+ghost use Rattle.kdl_text.specs.Chars.{begins, is_identifier_char, is_number_sign, starts};
+ghost use Rattle.kdl_text.specs.Chars as class;
+ghost use Rattle.kdl_text.specs.Here.{Ahead, Behind as Follows, Spot, Stayed, bytes, first};
+ghost use Rattle.kdl_text.specs.Reading.{Moves};
+ghost use Rattle.std.specs.Prelude.{◌≡◌, ℕ, ◌+◌, ◌-◌, ◌*◌, ◌<◌, ◌≤◌, ◌++◌, true, IfOk, IfSome};
+
+use crate::ends::{Behind, Unclosed, behind_backslash, value_end};
+use crate::kind::{Form, Kind};
+use crate::strings::{Scan, scan_quoted, scan_raw};
+use kdl_text::chars::{
+    Checkpoint, Class, Cursor, Piece as Slice, Steps, is_identifier_char, is_newline_char,
+    is_space, newline,
+};
+use kdl_text::numbers::{Number, NumberFailure, begins_number, read_keyword, read_number};
+use kdl_text::strings::bare_string;
+use kdl_text::trivia::{SlashRead, slash};
+use std::alloc::{AllocError, Global};
+
+/// What a piece is.
+#[derive(Clone, Copy)]
+pub(crate) enum PieceKind {
+    /// A run of spaces, a block comment or an escline.
+    Space,
+    /// A newline or a line comment.
+    Newline,
+    /// `/-`.
+    Slashdash,
+    /// A string, faulty or not.
+    String,
+    /// A number or a keyword, faulty or not.
+    Value,
+    /// `(`.
+    Left,
+    /// `)`.
+    Right,
+    /// `{`.
+    Opening,
+    /// `}`.
+    Closing,
+    /// `=`.
+    Equals,
+    /// `;`.
+    Semicolon,
+    /// A block comment that is not closed.
+    Comment,
+    /// A character with which no piece begins.
+    Other,
+    /// The end of the text.
+    End,
+}
+
+/// A piece of a text.
+#[derive(Drop)]
+pub(crate) struct Piece<'a> {
+    pub kind: PieceKind,
+    /// Where it begins.
+    pub start: Checkpoint<'a>,
+    /// Behind its first character.
+    pub next: Checkpoint<'a>,
+    /// The next value end from its fault on; of a piece that ends a value, its start.
+    pub end: Checkpoint<'a>,
+    /// What is wrong with a string, a number or a keyword.
+    pub fault: Option<Kind>,
+    /// A block comment that isn't closed, in what begins as an escline behind the piece.
+    pub comment: Option<Unclosed<'a>>,
+    /// Whether the text ended in it.
+    pub cut: bool,
+}
+
+/// Where a piece begins, and the place behind its first character.
+#[derive(Drop)]
+struct Start<'a> {
+    place: Checkpoint<'a>,
+    next: Checkpoint<'a>,
+}
+
+/// A piece that ends a value, or spaces.
+fn plain<'a>(kind: PieceKind, start: Start<'a>) -> Piece<'a>
+    requires { Spans start }
+    ensures stands { Stands start.entry.place.rest result }
+    ensures kind { result.kind ≡ kind }
+{
+    Piece {
+        kind,
+        end: start.place.copied(),
+        start: start.place,
+        next: start.next,
+        fault: None,
+        comment: None,
+        cut: false,
+    }
+}
+
+/// A block comment that isn't closed.
+fn unclosed<'a>(comment: Unclosed<'a>) -> Piece<'a>
+    requires { Ahead comment.start comment.end }
+    ensures stands { (from : Spot) → Ahead from comment.entry.start → Stands from.rest result }
+    ensures kind { result.kind ≡ PieceKind.Comment }
+{
+    Piece {
+        kind: PieceKind::Comment,
+        start: comment.start,
+        next: comment.end.copied(),
+        end: comment.end,
+        fault: None,
+        comment: None,
+        cut: true,
+    }
+}
+
+/// Goes past a character with which no piece begins, and on to the next value end.
+fn other<'a>(cursor: &mut Cursor<'a>, start: Start<'a>) -> Piece<'a>
+    requires { Begins start }
+    ensures piece { IsPiece start.entry.place result cursor.new }
+    ensures moves { Moves (gone start.entry.place cursor.old) cursor.new }
+    ensures most { Most 24 24 (gone start.entry.place cursor.old) cursor.new }
+{
+    cursor.go_to(&start.next);
+    let end = value_end(cursor);
+    Piece {
+        kind: PieceKind::Other,
+        start: start.place,
+        next: start.next,
+        end: end.place,
+        fault: None,
+        comment: end.comment,
+        cut: false,
+    }
+}
+
+/// Goes past what begins with the slash here.
+fn slash_piece<'a>(cursor: &mut Cursor<'a>, start: Start<'a>) -> Piece<'a>
+    requires start { Begins start }
+    requires here { cursor.old ≡ gone start.place cursor.old }
+    ensures piece { IsPiece start.entry.place result cursor.new }
+    ensures moves { Moves (gone start.entry.place cursor.old) cursor.new }
+    ensures most { Most 24 30 (gone start.entry.place cursor.old) cursor.new }
+{
+    match slash(cursor) {
+        SlashRead::Block => plain(PieceKind::Space, start),
+        SlashRead::Line => plain(PieceKind::Newline, start),
+        SlashRead::Dash => plain(PieceKind::Slashdash, start),
+        SlashRead::Unclosed => unclosed(Unclosed {
+            start: start.place,
+            end: cursor.checkpoint(),
+        }),
+        SlashRead::Other => other(cursor, start),
+    }
+}
+
+/// Goes past what begins with the backslash here.
+fn backslash_piece<'a>(cursor: &mut Cursor<'a>, start: Start<'a>) -> Piece<'a>
+    requires start { Begins start }
+    ensures piece { IsPiece start.entry.place result cursor.new }
+    ensures moves { Moves (gone start.entry.place cursor.old) cursor.new }
+    ensures most { Most 24 36 (gone start.entry.place cursor.old) cursor.new }
+{
+    cursor.go_to(&start.next);
+    match behind_backslash(cursor) {
+        Behind::Escline => plain(PieceKind::Space, start),
+        Behind::Unclosed(comment) => unclosed(comment),
+        Behind::Other if cursor.at() == start.next.at() => other(cursor, start),
+        Behind::Other => Piece {
+            kind: PieceKind::Other,
+            end: start.next.copied(),
+            start: start.place,
+            next: start.next,
+            fault: None,
+            comment: None,
+            cut: false,
+        },
+    }
+}
+
+/// A string, a number or a keyword that ends here. Without a value end here it has that fault, unless it has another
+/// one already; that a number is too great comes second.
+fn word<'a>(
+    cursor: &mut Cursor<'a>,
+    kind: PieceKind,
+    start: Start<'a>,
+    fault: Option<Kind>,
+    without_end: Kind,
+) -> Piece<'a>
+    requires start { Spans start }
+    requires here { Follows start.place cursor.old }
+    ensures stands { Stands start.entry.place.rest result }
+    ensures kind { result.kind ≡ kind }
+    ensures moves { Moves cursor.old cursor.new }
+    ensures most { Most 24 24 cursor.old cursor.new }
+{
+    let here = cursor.at();
+    let end = value_end(cursor);
+    let is_ended = end.place.at() == here;
+    let fault = match fault {
+        None | Some(Kind::Range) if !is_ended => Some(without_end),
+        fault => fault,
+    };
+    Piece {
+        kind,
+        start: start.place,
+        next: start.next,
+        end: end.place,
+        fault,
+        comment: end.comment,
+        cut: false,
+    }
+}
+
+/// Goes on by so many bytes, or to the end of the text.
+fn go_on(cursor: &mut Cursor, by: usize)
+    ensures moves { Moves cursor.old cursor.new }
+    ensures most { cursor.new.steps ≤ cursor.old.steps + by }
+{
+    let start = cursor.at();
+    'chars: while cursor.at() - start < by {
+        let Some(_) = cursor.take() else {
+            return;
+        };
+    }
+}
+
+/// The first value end from the place on in the part of the text up to here, or its end.
+fn end_within<'a>(cursor: &mut Cursor<'a>, from: &Checkpoint<'a>) -> Checkpoint<'a>
+    requires { Follows from.now cursor.old }
+    ensures place { Ahead from.now result }
+    ensures rest { cursor.new.rest ≡ cursor.old.rest }
+    ensures moves { Moves cursor.old cursor.new }
+    ensures most { cursor.new.steps ≤ cursor.old.steps + 26 * (bytes from.now.rest - bytes cursor.old.rest) + 24 }
+{
+    let here = cursor.checkpoint();
+    let text = cursor.slice(from);
+    let mut inside = text.cursor(Steps::new());
+    let at = value_end(&mut inside).place.at();
+    cursor.raise(inside.into_steps().count());
+    cursor.go_to(from);
+    go_on(cursor, at);
+    let place = cursor.checkpoint();
+    cursor.go_to(&here);
+    place
+}
+
+/// Where a fault in a string ends: at the value end in the string, or else at the one behind it. A string that looks like
+/// one of many lines is faulty as a whole.
+fn end_of_fault<'a>(
+    kind: Kind,
+    inside: Checkpoint<'a>,
+    behind: Checkpoint<'a>,
+    end: Checkpoint<'a>,
+) -> Checkpoint<'a>
+    ensures { (from : Spot) → Ahead from inside.entry → Ahead from behind.entry → Ahead from end.entry → Ahead from result }
+{
+    if let Kind::RawQuotes = kind {
+        return behind;
+    }
+    if inside.at() < behind.at() {
+        inside
+    } else {
+        end
+    }
+}
+
+/// A string that the cursor went past. Its fault goes up to the value end from there on, and the cursor goes to the value
+/// end behind the string.
+fn string<'a>(
+    cursor: &mut Cursor<'a>,
+    start: Start<'a>,
+    scan: Scan<'a>,
+    without_end: Kind,
+) -> Piece<'a>
+    requires start { Spans start }
+    requires here { Follows start.place cursor.old }
+    requires fault { OnFound (gone start.place cursor.old) scan.fault cursor.old }
+    ensures stands { Stands start.entry.place.rest result }
+    ensures kind { result.kind ≡ PieceKind.String }
+    ensures moves { Moves cursor.old cursor.new }
+    ensures most { Most 26 48 (gone start.entry.place cursor.old) cursor.new }
+{
+    let Scan { fault, cut } = scan;
+    let Some(found) = fault else {
+        return word(cursor, PieceKind::String, start, None, without_end);
+    };
+    let inside = end_within(cursor, &found.place);
+    let behind = cursor.checkpoint();
+    let end = value_end(cursor);
+    Piece {
+        kind: PieceKind::String,
+        start: start.place,
+        next: start.next,
+        end: end_of_fault(found.kind, inside, behind, end.place),
+        fault: Some(found.kind),
+        comment: end.comment,
+        cut,
+    }
+}
+
+/// The form of the whole number that the slice begins with, by its mark.
+fn form_of(number: &Slice, cursor: &mut Cursor) -> Form
+    ensures { (k : ℕ) × (k ≤ 4) × Stayed k cursor.old cursor.new }
+{
+    let mut inside = number.cursor(Steps::new());
+    let _ = inside.eat('-') || inside.eat('+');
+    let _ = inside.eat('0');
+    let mark = inside.look();
+    cursor.raise(inside.into_steps().count());
+    match mark {
+        Some('x' | 'X') => Form::Hexadecimal,
+        Some('o' | 'O') => Form::Octal,
+        Some('b' | 'B') => Form::Binary,
+        _ => Form::Integer,
+    }
+}
+
+/// The fault of a number, all identifier characters at its place, and its form.
+fn number_fault(
+    alloc: Global,
+    cursor: &mut Cursor,
+    number: &Slice,
+) -> Result<(Option<Kind>, Form), AllocError>
+    ensures rest { cursor.new.rest ≡ cursor.old.rest }
+    ensures moves { Moves cursor.old cursor.new }
+    ensures most { cursor.new.steps ≤ cursor.old.steps + 4 * bytes number.now + 16 }
+{
+    let mut inside = number.cursor(Steps::new());
+    let answer = read_number(alloc, &mut inside);
+    cursor.raise(inside.into_steps().count());
+    match answer {
+        Ok(Number::Decimal(_)) => Ok((None, Form::Float)),
+        Ok(Number::Integer(_)) => Ok((None, form_of(number, cursor))),
+        Err(NumberFailure::Fault(fault)) => Ok((Some(Kind::of(fault)), form_of(number, cursor))),
+        Err(NumberFailure::Memory) => Err(AllocError),
+    }
+}
+
+/// Goes past the number here.
+fn number_piece<'a>(
+    alloc: Global,
+    cursor: &mut Cursor<'a>,
+    start: Start<'a>,
+) -> Result<Piece<'a>, AllocError>
+    requires start { Spans start }
+    requires here { cursor.old ≡ gone start.place cursor.old }
+    requires number { starts is_identifier_char cursor.old.rest ≡ true }
+    ensures piece { IfOk result (λ p. IsPiece start.entry.place p cursor.new) }
+    ensures moves { Moves cursor.old cursor.new }
+    ensures most { Most 24 41 cursor.old cursor.new }
+{
+    cursor.skip(Class::Identifier);
+    let number = cursor.slice(&start.place);
+    let (fault, form) = number_fault(alloc, cursor, &number)?;
+    let without_end = Kind::NumberEnd(form);
+    Ok(word(cursor, PieceKind::Value, start, fault, without_end))
+}
+
+/// Goes past the identifier characters here, which are no number.
+fn bare_piece<'a>(cursor: &mut Cursor<'a>, start: Start<'a>) -> Piece<'a>
+    requires start { Spans start }
+    requires here { cursor.old ≡ gone start.place cursor.old }
+    requires string { starts is_identifier_char cursor.old.rest ≡ true }
+    ensures piece { IsPiece start.entry.place result cursor.new }
+    ensures moves { Moves cursor.old cursor.new }
+    ensures most { Most 24 28 cursor.old cursor.new }
+{
+    let fault = match bare_string(cursor) {
+        Some(_) => None,
+        None => Some(Kind::Bare),
+    };
+    word(cursor, PieceKind::String, start, fault, Kind::BareEnd)
+}
+
+/// The fault of a keyword, by its number signs and all identifier characters behind them.
+fn keyword_fault(cursor: &mut Cursor, word: &Slice) -> Option<Kind>
+    ensures rest { cursor.new.rest ≡ cursor.old.rest }
+    ensures moves { Moves cursor.old cursor.new }
+    ensures most { cursor.new.steps ≤ cursor.old.steps + 4 * bytes word.now + 4 }
+{
+    let mut inside = word.cursor(Steps::new());
+    let answer = read_keyword(&mut inside);
+    cursor.raise(inside.into_steps().count());
+    match answer {
+        Some(_) => None,
+        None => Some(Kind::Keyword),
+    }
+}
+
+/// Goes past what follows the number signs of a keyword.
+fn keyword_piece<'a>(cursor: &mut Cursor<'a>, start: Start<'a>) -> Piece<'a>
+    requires start { Spans start }
+    requires here { Follows start.place cursor.old }
+    ensures stands { Stands start.entry.place.rest result }
+    ensures kind { result.kind ≡ PieceKind.Value }
+    ensures moves { Moves cursor.old cursor.new }
+    ensures most { Most 24 29 (gone start.entry.place cursor.old) cursor.new }
+{
+    cursor.skip(Class::Identifier);
+    let text = cursor.slice(&start.place);
+    let fault = keyword_fault(cursor, &text);
+    word(cursor, PieceKind::Value, start, fault, Kind::Keyword)
+}
+
+/// Goes past the keyword or the raw string that begins with the number sign here.
+fn sign_piece<'a>(
+    alloc: Global,
+    cursor: &mut Cursor<'a>,
+    start: Start<'a>,
+) -> Result<Piece<'a>, AllocError>
+    requires start { Spans start }
+    requires here { cursor.old ≡ gone start.place cursor.old }
+    requires sign { starts is_number_sign cursor.old.rest ≡ true }
+    ensures piece { IfOk result (λ p. IsPiece start.entry.place p cursor.new) }
+    ensures moves { Moves cursor.old cursor.new }
+    ensures most { Most 37 64 cursor.old cursor.new }
+{
+    let at = cursor.at();
+    cursor.skip(Class::NumberSign);
+    let signs = cursor.at() - at;
+    if cursor.look() == Some('"') {
+        let scan = scan_raw(alloc, cursor, &start.place, signs)?;
+        return Ok(string(cursor, start, scan, Kind::RawEnd));
+    }
+    Ok(keyword_piece(cursor, start))
+}
+
+/// The kind of a piece that is this character alone.
+fn mark_kind(c: char) -> Option<PieceKind>
+    ensures { IfSome result (λ k. k ≡ PieceKind.End → ⊥) }
+{
+    match c {
+        '(' => Some(PieceKind::Left),
+        ')' => Some(PieceKind::Right),
+        '{' => Some(PieceKind::Opening),
+        '}' => Some(PieceKind::Closing),
+        '=' => Some(PieceKind::Equals),
+        ';' => Some(PieceKind::Semicolon),
+        _ => None,
+    }
+}
+
+/// Goes past the piece that begins with the character c here, which is none of `" # / \` and no identifier character.
+fn plain_piece<'a>(c: char, cursor: &mut Cursor<'a>, start: Start<'a>) -> Piece<'a>
+    requires start { Begins start }
+    requires here { cursor.old ≡ gone start.place cursor.old }
+    requires first { first cursor.old.rest ≡ Some c }
+    ensures piece { IsPiece start.entry.place result cursor.new }
+    ensures moves { Moves cursor.old cursor.new }
+    ensures most { Most 24 24 cursor.old cursor.new }
+{
+    if is_space(c) {
+        cursor.skip(Class::Space);
+        return plain(PieceKind::Space, start);
+    }
+    if is_newline_char(c) {
+        let _ = newline(cursor);
+        return plain(PieceKind::Newline, start);
+    }
+    match mark_kind(c) {
+        Some(kind) => {
+            cursor.step();
+            plain(kind, start)
+        }
+        None => other(cursor, start),
+    }
+}
+
+/// Goes past the piece that begins with the character c here.
+fn piece_of<'a>(
+    alloc: Global,
+    c: char,
+    cursor: &mut Cursor<'a>,
+    start: Start<'a>,
+) -> Result<Piece<'a>, AllocError>
+    requires start { Begins start }
+    requires here { cursor.old ≡ gone start.place cursor.old }
+    requires first { first cursor.old.rest ≡ Some c }
+    ensures piece { IfOk result (λ p. IsPiece start.entry.place p cursor.new) }
+    ensures moves { Moves cursor.old cursor.new }
+    ensures most { Most 37 64 cursor.old cursor.new }
+{
+    match c {
+        '"' => {
+            let scan = scan_quoted(alloc, cursor)?;
+            Ok(string(cursor, start, scan, Kind::QuotedEnd))
+        }
+        '#' => sign_piece(alloc, cursor, start),
+        '/' => Ok(slash_piece(cursor, start)),
+        '\\' => Ok(backslash_piece(cursor, start)),
+        c if is_identifier_char(c) => {
+            if begins_number(cursor) {
+                number_piece(alloc, cursor, start)
+            } else {
+                Ok(bare_piece(cursor, start))
+            }
+        }
+        c => Ok(plain_piece(c, cursor, start)),
+    }
+}
+
+/// The piece here, which the cursor goes past; it may go past spaces behind a word too. Behind a faulty word it goes on to
+/// the next value end.
+pub(crate) fn next_piece<'a>(
+    alloc: Global,
+    cursor: &mut Cursor<'a>,
+) -> Result<Piece<'a>, AllocError>
+    ensures piece { IfOk result (λ p. Stands cursor.old.rest p) }
+    ensures went { IfOk result (λ p. WentPast p.kind cursor.old cursor.new) }
+    ensures moves { Moves cursor.old cursor.new }
+    ensures most { Most 37 65 cursor.old cursor.new }
+{
+    let place = cursor.checkpoint();
+    let Some(c) = cursor.take() else {
+        let next = place.copied();
+        return Ok(plain(PieceKind::End, Start { place, next }));
+    };
+    let next = cursor.checkpoint();
+    cursor.go_to(&place);
+    piece_of(alloc, c, cursor, Start { place, next })
+}

@@ -1,0 +1,534 @@
+//! The reader of faults: it goes over a text that is refused, and notes each fault.
+
+ghost use Rattle.kdl_faults.specs.Noted.{Bounded, Keeps, KeepsAt, KeepsBetween, LiesIn, Reads};
+ghost use Rattle.kdl_faults.specs.Reading.{Most, Stands};
+ghost use Rattle.kdl_faults.specs.declared.pieces.PieceKind.TheVariants.{End};
+ghost use Rattle.kdl_text.specs.Chars.{Text};
+ghost use Rattle.kdl_text.specs.Reading.{Moves};
+ghost use Rattle.std.specs.Prelude.{◌≡◌, [], true};
+ghost use Rattle.std.specs.Str.{chars};
+
+use crate::ends::value_end;
+use crate::kind::Kind;
+use crate::machine::{Move, Phase};
+use crate::pieces::{Piece, PieceKind, next_piece};
+use crate::whole::Whole;
+use kdl_text::chars::{Checkpoint, Cursor, Steps};
+use kdl_text::span::SourceSpan;
+use std::alloc::{AllocError, Global};
+
+/// A fault of a text, and the place of which it is told.
+#[derive(Clone, Copy)]
+pub struct Fault {
+    pub kind: Kind,
+    pub span: SourceSpan,
+}
+
+/// An open block: its `{`, and where in the grammar the place behind its `}` is.
+#[derive(Clone, Copy)]
+struct Block {
+    span: SourceSpan,
+    behind: Phase,
+}
+
+/// A reader of faults.
+#[derive(Drop)]
+pub(crate) struct Reader<'a> {
+    alloc: Global,
+    /// What the text is to be.
+    text: Whole,
+    /// The start of the text.
+    whole: Checkpoint<'a>,
+    cursor: Cursor<'a>,
+    phase: Phase,
+    blocks: Vec<Block>,
+    /// Behind the `(` that was read last.
+    left: Checkpoint<'a>,
+    /// Whether the only node or entry of the text has begun.
+    has_item: bool,
+    /// Whether an entry was dropped.
+    has_dropped: bool,
+    /// Whether the piece that was read last is space.
+    is_apart: bool,
+    /// Whether the text ended in a string or a comment.
+    is_cut: bool,
+    /// Whether reading is over.
+    is_over: bool,
+    faults: Vec<Fault>,
+}
+
+/// Whether the piece begins a node or an entry.
+fn begins_item(kind: PieceKind) -> bool {
+    matches!(
+        kind,
+        PieceKind::String | PieceKind::Value | PieceKind::Left | PieceKind::Opening
+    )
+}
+
+/// Whether the piece ends a node or an entry, or a block, or begins one or what is dropped.
+fn goes_on(kind: PieceKind) -> bool {
+    matches!(
+        kind,
+        PieceKind::Newline
+            | PieceKind::Semicolon
+            | PieceKind::Closing
+            | PieceKind::Opening
+            | PieceKind::Slashdash
+    )
+}
+
+impl<'a> Reader<'a> {
+    /// A reader at the start of the text, on the given count of steps.
+    pub(crate) fn new(alloc: Global, text: &'a str, whole: Whole, steps: Steps) -> Self
+        ensures reads { Reads (chars text.now) result }
+        ensures cursor { result.cursor ≡ record { rest = chars text.now; at = 0; steps = steps } }
+        ensures none { result.faults.items ≡ [] }
+    {
+        let cursor = Cursor::new(text, steps);
+        let phase = match whole {
+            Whole::Document | Whole::Node => Phase::Gap,
+            Whole::Entry | Whole::Identifier => Phase::Node,
+        };
+        Reader {
+            alloc,
+            text: whole,
+            whole: cursor.checkpoint(),
+            left: cursor.checkpoint(),
+            cursor,
+            phase,
+            blocks: Vec::new(alloc),
+            has_item: false,
+            has_dropped: false,
+            is_apart: false,
+            is_cut: false,
+            is_over: false,
+            faults: Vec::new(alloc),
+        }
+    }
+
+    /// The faults that were noted, and the count of steps.
+    pub(crate) fn into_parts(self) -> (Vec<Fault>, Steps)
+        ensures faults { result.0 ≡ self.entry.faults }
+        ensures steps { result.1 ≡ self.entry.cursor.steps }
+    {
+        (self.faults, self.cursor.into_steps())
+    }
+
+    /// Notes a fault between two places.
+    fn note(
+        &mut self,
+        kind: Kind,
+        from: &Checkpoint<'a>,
+        to: &Checkpoint<'a>,
+    ) -> Result<(), AllocError>
+        ensures keeps { KeepsBetween from.now to.now self.old self.new }
+        ensures cursor { self.new.cursor ≡ self.old.cursor }
+        ensures same { self.new.is_over ≡ self.old.is_over }
+    {
+        let span = self.whole.span_between(from, to);
+        self.faults.push(Fault { kind, span })?;
+        Ok(())
+    }
+
+    /// Notes a fault from a place up to another behind it, or at the first character of the piece where they are one place.
+    fn note_up_to(
+        &mut self,
+        kind: Kind,
+        from: &Checkpoint<'a>,
+        to: &Checkpoint<'a>,
+        piece: &Piece<'a>,
+    ) -> Result<(), AllocError>
+        ensures keeps { (text : Text) → Reads text self.old → Stands text piece.now → LiesIn text from.now → LiesIn text to.now → Reads text self.new }
+        ensures cursor { self.new.cursor ≡ self.old.cursor }
+        ensures same { self.new.is_over ≡ self.old.is_over }
+    {
+        if from.at() == to.at() {
+            self.note(kind, &piece.start, &piece.next)
+        } else {
+            self.note(kind, from, to)
+        }
+    }
+
+    /// The end of a fault that the piece brings: the next value end behind a `(`, and else the piece's own.
+    fn end_of(&mut self, piece: &Piece<'a>) -> Checkpoint<'a>
+        ensures end { (text : Text) → Reads text self.old → Stands text piece.now → LiesIn text result }
+        ensures keeps { Keeps self.old self.new }
+        ensures moves { Moves self.old.cursor self.new.cursor }
+        ensures most { Most 24 24 self.old.cursor self.new.cursor }
+        ensures same { self.new.is_over ≡ self.old.is_over }
+    {
+        match piece.kind {
+            PieceKind::Left => value_end(&mut self.cursor).place,
+            _ => piece.end.copied(),
+        }
+    }
+
+    /// The start of a fault of the kind that the piece brings: in a type behind its `(`, and else the piece's own.
+    fn start_of(&self, kind: Kind, piece: &Piece<'a>) -> Checkpoint<'a>
+        ensures { (text : Text) → Reads text self.now → Stands text piece.now → LiesIn text result }
+    {
+        match kind {
+            Kind::Type => self.left.copied(),
+            _ => piece.start.copied(),
+        }
+    }
+
+    /// Notes that the piece does not fit, with the kind of fault.
+    fn note_misfit(&mut self, kind: Kind, piece: &Piece<'a>) -> Result<(), AllocError>
+        ensures keeps { KeepsAt piece.now self.old self.new }
+        ensures moves { Moves self.old.cursor self.new.cursor }
+        ensures most { Most 24 24 self.old.cursor self.new.cursor }
+        ensures same { self.new.is_over ≡ self.old.is_over }
+    {
+        if let Kind::Misplaced | Kind::Nameless = kind {
+            return self.note(kind, &piece.start, &piece.next);
+        }
+        let end = self.end_of(piece);
+        let from = self.start_of(kind, piece);
+        self.note_up_to(kind, &from, &end, piece)
+    }
+
+    /// Notes that the piece does not fit where it stands. In the text of an entry, and behind the only node of a text,
+    /// reading is over.
+    fn misfit(&mut self, piece: &Piece<'a>) -> Result<(), AllocError>
+        ensures keeps { KeepsAt piece.now self.old self.new }
+        ensures moves { Moves self.old.cursor self.new.cursor }
+        ensures most { Most 24 24 self.old.cursor self.new.cursor }
+        ensures over { self.old.is_over ≡ true → self.new.is_over ≡ true }
+    {
+        let kind = match (self.phase.misfit(), piece.kind) {
+            (Kind::Name, PieceKind::Opening) => Kind::Nameless,
+            (kind, _) => kind,
+        };
+        self.note_misfit(kind, piece)?;
+        let is_last = match (self.text, self.phase) {
+            (Whole::Entry, _) => matches!(kind, Kind::Misplaced),
+            (_, Phase::Over) => true,
+            _ => false,
+        };
+        if is_last {
+            self.is_over = true;
+        }
+        Ok(())
+    }
+
+    /// Whether the place is behind an entry, or before the first one, in the text of an entry.
+    fn is_between_entries(&self) -> bool {
+        matches!(self.phase, Phase::Node | Phase::Word | Phase::Typeless)
+    }
+
+    /// What the piece does in the text of an entry, where a space stands behind each entry that is dropped.
+    fn move_in_entry(&self, kind: PieceKind) -> Move {
+        match (self.phase, kind) {
+            (_, PieceKind::Opening | PieceKind::Closing | PieceKind::Semicolon) => Move::Refuse,
+            (_, PieceKind::Slashdash) if self.has_dropped && !self.is_apart => Move::Refuse,
+            (_, PieceKind::Newline) if self.is_between_entries() => {
+                if self.has_item {
+                    Move::To(Phase::Over)
+                } else if self.has_dropped {
+                    Move::Refuse
+                } else {
+                    Move::To(Phase::Node)
+                }
+            }
+            (Phase::Node | Phase::Word, PieceKind::Equals) => self.phase.takes(kind),
+            (Phase::Node | Phase::Word, _) if self.has_item => Move::Refuse,
+            _ => self.phase.takes(kind),
+        }
+    }
+
+    /// What the piece does. A faulty string is no name of a type.
+    fn move_of(&self, piece: &Piece<'a>) -> Move {
+        if piece.fault.is_some()
+            && let Phase::TypeOpen(_) = self.phase
+        {
+            return Move::Refuse;
+        }
+        match self.text {
+            Whole::Entry => self.move_in_entry(piece.kind),
+            _ => self.phase.takes(piece.kind),
+        }
+    }
+
+    /// Marks that the only node or entry of a text begins with the piece, or an entry that is dropped.
+    fn begin(&mut self, kind: PieceKind)
+        ensures keeps { Keeps self.old self.new }
+        ensures cursor { self.new.cursor ≡ self.old.cursor }
+        ensures same { self.new.is_over ≡ self.old.is_over }
+    {
+        if !begins_item(kind) || !self.blocks.is_empty() {
+            return;
+        }
+        match (self.text, self.phase) {
+            (Whole::Node, Phase::Gap) | (Whole::Entry, Phase::Node | Phase::Word) => {
+                self.has_item = true;
+            }
+            (Whole::Entry, Phase::Drop(_)) => self.has_dropped = true,
+            _ => {}
+        }
+    }
+
+    /// Goes on to the phase. Behind the only node of a text line-spaces alone may follow.
+    fn go_to(&mut self, phase: Phase)
+        ensures keeps { Keeps self.old self.new }
+        ensures cursor { self.new.cursor ≡ self.old.cursor }
+        ensures same { self.new.is_over ≡ self.old.is_over }
+    {
+        let is_behind = self.has_item && self.blocks.is_empty();
+        self.phase = match (self.text, phase) {
+            (Whole::Node, Phase::Gap) if is_behind => Phase::Over,
+            _ => phase,
+        };
+    }
+
+    /// Closes the block that is open. A `}` outside blocks is misplaced, and is told once.
+    fn close_block(&mut self, piece: &Piece<'a>, is_told: bool) -> Result<(), AllocError>
+        ensures keeps { KeepsAt piece.now self.old self.new }
+        ensures cursor { self.new.cursor ≡ self.old.cursor }
+        ensures same { self.new.is_over ≡ self.old.is_over }
+    {
+        match self.blocks.pop() {
+            Some(block) => self.phase = block.behind,
+            None => {
+                if !is_told {
+                    self.note(Kind::Misplaced, &piece.start, &piece.next)?;
+                }
+                self.go_to(Phase::Gap);
+            }
+        }
+        Ok(())
+    }
+
+    /// Opens a block with the piece.
+    fn open_block(&mut self, piece: &Piece<'a>, behind: Phase) -> Result<(), AllocError>
+        ensures keeps { KeepsAt piece.now self.old self.new }
+        ensures cursor { self.new.cursor ≡ self.old.cursor }
+        ensures same { self.new.is_over ≡ self.old.is_over }
+    {
+        let span = self.whole.span_between(&piece.start, &piece.next);
+        self.blocks.push(Block { span, behind })?;
+        self.phase = Phase::Gap;
+        Ok(())
+    }
+
+    /// Goes on as the piece does.
+    fn go_on(&mut self, piece: &Piece<'a>, step: Move, is_told: bool) -> Result<(), AllocError>
+        ensures keeps { KeepsAt piece.now self.old self.new }
+        ensures cursor { self.new.cursor ≡ self.old.cursor }
+        ensures same { self.new.is_over ≡ self.old.is_over }
+    {
+        match step {
+            Move::To(phase) => {
+                self.go_to(phase);
+                Ok(())
+            }
+            Move::Open(behind) => self.open_block(piece, behind),
+            Move::Close => self.close_block(piece, is_told),
+            Move::Refuse => Ok(()),
+        }
+    }
+
+    /// Marks the place behind a `(`.
+    fn mark_left(&mut self, piece: &Piece<'a>)
+        ensures keeps { KeepsAt piece.now self.old self.new }
+        ensures cursor { self.new.cursor ≡ self.old.cursor }
+        ensures same { self.new.is_over ≡ self.old.is_over }
+    {
+        if let PieceKind::Left = piece.kind {
+            self.left = piece.next.copied();
+        }
+    }
+
+    /// Does what the piece does.
+    fn apply(&mut self, piece: &Piece<'a>, step: Move, is_told: bool) -> Result<(), AllocError>
+        ensures keeps { KeepsAt piece.now self.old self.new }
+        ensures cursor { self.new.cursor ≡ self.old.cursor }
+        ensures same { self.new.is_over ≡ self.old.is_over }
+    {
+        self.go_on(piece, step, is_told)?;
+        self.mark_left(piece);
+        Ok(())
+    }
+
+    /// A piece that fits: its own fault is noted, but for a string in a type that is faulty already.
+    fn fit(&mut self, piece: &Piece<'a>, step: Move) -> Result<(), AllocError>
+        ensures keeps { KeepsAt piece.now self.old self.new }
+        ensures cursor { self.new.cursor ≡ self.old.cursor }
+        ensures same { self.new.is_over ≡ self.old.is_over }
+    {
+        if let Some(kind) = piece.fault {
+            match self.phase {
+                Phase::TypeFaulty => {}
+                _ => self.note(kind, &piece.start, &piece.end)?,
+            }
+        }
+        self.apply(piece, step, false)
+    }
+
+    /// A piece that does not fit: that is noted, what was due counts as read, and what ends or begins a node, a block or a
+    /// dropped piece does so behind it.
+    fn mend(&mut self, piece: &Piece<'a>) -> Result<(), AllocError>
+        ensures keeps { KeepsAt piece.now self.old self.new }
+        ensures moves { Moves self.old.cursor self.new.cursor }
+        ensures most { Most 24 24 self.old.cursor self.new.cursor }
+        ensures over { self.old.is_over ≡ true → self.new.is_over ≡ true }
+    {
+        self.misfit(piece)?;
+        self.phase = self.phase.behind_misfit(piece.kind);
+        if goes_on(piece.kind) && !self.is_over {
+            let step = self.move_of(piece);
+            return self.apply(piece, step, true);
+        }
+        self.mark_left(piece);
+        Ok(())
+    }
+
+    /// Notes each block that is open, the inner one first.
+    fn note_blocks(&mut self) -> Result<(), AllocError>
+        ensures keeps { Keeps self.old self.new }
+        ensures cursor { self.new.cursor ≡ self.old.cursor }
+        ensures same { self.new.is_over ≡ self.old.is_over }
+    {
+        'unclosed: while let Some(block) = self.blocks.pop() {
+            self.faults.push(Fault {
+                kind: Kind::Block,
+                span: block.span,
+            })?;
+        }
+        Ok(())
+    }
+
+    /// The end of the text: what is due is missing, and open blocks are not closed, the inner one first.
+    fn end(&mut self, piece: &Piece<'a>) -> Result<(), AllocError>
+        ensures keeps { KeepsAt piece.now self.old self.new }
+        ensures moves { Moves self.old.cursor self.new.cursor }
+        ensures most { Most 24 24 self.old.cursor self.new.cursor }
+        ensures over { self.new.is_over ≡ true }
+    {
+        self.is_over = true;
+        if self.is_cut {
+            return Ok(());
+        }
+        if self.phase.is_due() {
+            return self.misfit(piece);
+        }
+        if let Some(kind) = self.missing() {
+            return self.note(kind, &piece.start, &piece.next);
+        }
+        self.note_blocks()
+    }
+
+    /// A piece of the grammar: it fits, or what is due is mended.
+    fn take_part(&mut self, piece: &Piece<'a>) -> Result<(), AllocError>
+        ensures keeps { KeepsAt piece.now self.old self.new }
+        ensures moves { Moves self.old.cursor self.new.cursor }
+        ensures most { Most 24 24 self.old.cursor self.new.cursor }
+    {
+        let step = self.move_of(piece);
+        self.begin(piece.kind);
+        match step {
+            Move::Refuse => self.mend(piece),
+            _ => self.fit(piece, step),
+        }
+    }
+
+    /// A piece alone, without what stands behind it.
+    fn take_alone(&mut self, piece: &Piece<'a>) -> Result<(), AllocError>
+        ensures keeps { KeepsAt piece.now self.old self.new }
+        ensures moves { Moves self.old.cursor self.new.cursor }
+        ensures most { Most 24 24 self.old.cursor self.new.cursor }
+        ensures over { piece.now.kind ≡ End → self.new.is_over ≡ true }
+    {
+        match piece.kind {
+            PieceKind::Space => Ok(()),
+            PieceKind::Comment => self.note(Kind::Comment, &piece.start, &piece.end),
+            PieceKind::End => self.end(piece),
+            _ => self.take_part(piece),
+        }
+    }
+
+    /// What the text of a node or an entry lacks where it has none, and no other fault.
+    fn missing(&self) -> Option<Kind> {
+        if self.has_item || !self.faults.is_empty() {
+            return None;
+        }
+        match self.text {
+            Whole::Node => Some(Kind::Name),
+            Whole::Entry => Some(Kind::Misplaced),
+            Whole::Document | Whole::Identifier => None,
+        }
+    }
+
+    /// A piece of the text.
+    fn take(&mut self, piece: &Piece<'a>) -> Result<(), AllocError>
+        ensures keeps { KeepsAt piece.now self.old self.new }
+        ensures moves { Moves self.old.cursor self.new.cursor }
+        ensures most { Most 24 24 self.old.cursor self.new.cursor }
+        ensures over { piece.now.kind ≡ End → self.new.is_over ≡ true }
+    {
+        self.take_alone(piece)?;
+        self.behind(piece)
+    }
+
+    /// What stands behind the piece: a block comment that isn't closed, in what begins as an escline.
+    fn behind(&mut self, piece: &Piece<'a>) -> Result<(), AllocError>
+        ensures keeps { KeepsAt piece.now self.old self.new }
+        ensures cursor { self.new.cursor ≡ self.old.cursor }
+        ensures same { self.new.is_over ≡ self.old.is_over }
+    {
+        self.is_apart = matches!(piece.kind, PieceKind::Space);
+        self.is_cut = self.is_cut || piece.cut || piece.comment.is_some();
+        match &piece.comment {
+            Some(comment) => self.note(Kind::Comment, &comment.start, &comment.end),
+            None => Ok(()),
+        }
+    }
+
+    /// Notes the faults of a text that is to be an identifier.
+    fn read_identifier(&mut self) -> Result<(), AllocError>
+        ensures keeps { Keeps self.old self.new }
+        ensures bounded { Bounded 128 self.old.cursor self.new.cursor }
+    {
+        let piece = next_piece(self.alloc, &mut self.cursor)?;
+        let (PieceKind::String, fault) = (piece.kind, piece.fault) else {
+            return self.note(Kind::Misplaced, &piece.start, &piece.next);
+        };
+        if let Some(kind) = fault {
+            return self.note(kind, &piece.start, &piece.end);
+        }
+        self.cursor.go_to(&piece.end);
+        if self.cursor.look().is_none() {
+            return Ok(());
+        }
+        self.cursor.step();
+        let next = self.cursor.checkpoint();
+        self.note(Kind::Misplaced, &piece.end, &next)
+    }
+
+    /// Goes past a U+FEFF at the start of a document.
+    fn skip_mark(&mut self)
+        ensures keeps { Keeps self.old self.new }
+        ensures moves { Moves self.old.cursor self.new.cursor }
+        ensures most { Most 1 1 self.old.cursor self.new.cursor }
+    {
+        if let Whole::Document = self.text {
+            let _ = self.cursor.eat('\u{feff}');
+        }
+    }
+
+    /// Notes the faults of the text.
+    pub(crate) fn read(&mut self) -> Result<(), AllocError>
+        ensures keeps { Keeps self.old self.new }
+        ensures bounded { Bounded 128 self.old.cursor self.new.cursor }
+    {
+        if let Whole::Identifier = self.text {
+            return self.read_identifier();
+        }
+        self.skip_mark();
+        'pieces: while !self.is_over {
+            let piece = next_piece(self.alloc, &mut self.cursor)?;
+            self.take(&piece)?;
+        }
+        Ok(())
+    }
+}

@@ -1,0 +1,351 @@
+//! Quoted and raw strings, as far as they go, and the first fault in them.
+
+ghost use Rattle.kdl_faults.specs.Reading.{Most, OnFound, Passed};
+ghost use Rattle.kdl_text.specs.Chars.{begins};
+ghost use Rattle.kdl_text.specs.Here.{Behind, Here, bytes, first};
+ghost use Rattle.kdl_text.specs.Reading.{Moves};
+ghost use Rattle.std.specs.Prelude.{◌≡◌, ◌+◌, ◌-◌, ◌*◌, ◌<◌, ◌≤◌, Some, true, IfOk};
+
+use crate::kind::Kind;
+use kdl_text::chars::{Checkpoint, Class, Cursor, Steps, is_newline_char, newline};
+use kdl_text::strings::{StringFailure, StringFault, escaped_unit, quoted_string, raw_string};
+use std::alloc::{AllocError, Global};
+
+/// A fault in a string, and the place where no unit of it begins.
+#[derive(Drop)]
+pub(crate) struct Found<'a> {
+    pub kind: Kind,
+    pub place: Checkpoint<'a>,
+}
+
+/// A string that the cursor went past, as far as it goes.
+#[derive(Drop)]
+pub(crate) struct Scan<'a> {
+    /// The first fault in it.
+    pub fault: Option<Found<'a>>,
+    /// Whether the text ended in it.
+    pub cut: bool,
+}
+
+/// The fault that was found already, or else this one.
+fn earlier<'a>(fault: Option<Found<'a>>, kind: Kind, place: Checkpoint<'a>) -> Option<Found<'a>>
+    ensures { (old new : Here) → OnFound old fault.entry new → Passed old place.entry new → OnFound old result new }
+{
+    match fault {
+        Some(found) => Some(found),
+        None => Some(Found { kind, place }),
+    }
+}
+
+/// A string that ends with the text, without its closing.
+fn cut<'a>(fault: Option<Found<'a>>, kind: Kind, place: Checkpoint<'a>) -> Scan<'a>
+    ensures { (old new : Here) → OnFound old fault.entry new → Passed old place.entry new → OnFound old result.fault new }
+{
+    Scan {
+        fault: earlier(fault, kind, place),
+        cut: true,
+    }
+}
+
+/// A string that ends here.
+fn ended<'a>(fault: Option<Found<'a>>) -> Scan<'a>
+    ensures { result.fault ≡ fault.entry }
+{
+    Scan { fault, cut: false }
+}
+
+/// Goes past a backslash and what belongs to it. Whether it is an escape.
+fn escape(cursor: &mut Cursor) -> bool
+    requires { begins 92 cursor.old.rest ≡ true }
+    ensures moves { Moves cursor.old cursor.new }
+    ensures went { bytes cursor.new.rest < bytes cursor.old.rest }
+    ensures most { Most 1 0 cursor.old cursor.new }
+{
+    cursor.step();
+    escaped_unit(cursor).is_ok()
+}
+
+/// Goes past a character that is no plain one of a quoted string: past an escape, or a character that can't stand there.
+fn odd_unit<'a>(cursor: &mut Cursor<'a>, c: char, fault: Option<Found<'a>>) -> Option<Found<'a>>
+    requires here { first cursor.old.rest ≡ Some c }
+    ensures fault { (start : Here) → Moves start cursor.old → OnFound start fault.entry cursor.old → OnFound start result cursor.new }
+    ensures moves { Moves cursor.old cursor.new }
+    ensures went { bytes cursor.new.rest < bytes cursor.old.rest }
+    ensures most { Most 1 0 cursor.old cursor.new }
+{
+    let place = cursor.checkpoint();
+    if c == '\\' {
+        if escape(cursor) {
+            return fault;
+        }
+    } else {
+        cursor.step();
+    }
+    earlier(fault, Kind::Quoted, place)
+}
+
+/// Behind the quote of a string of one line: goes past it, or to the newline or the end of the text before its quote.
+fn quoted_line<'a>(cursor: &mut Cursor<'a>) -> Scan<'a>
+    ensures fault { OnFound cursor.old result.fault cursor.new }
+    ensures moves { Moves cursor.old cursor.new }
+    ensures most { Most 3 2 cursor.old cursor.new }
+{
+    let mut fault = None;
+    'units: loop {
+        cursor.skip(Class::Literal);
+        match cursor.look() {
+            None => return cut(fault, Kind::Quoted, cursor.checkpoint()),
+            Some('"') => {
+                cursor.step();
+                return ended(fault);
+            }
+            Some(c) if is_newline_char(c) => {
+                return ended(earlier(fault, Kind::QuotedNewline, cursor.checkpoint()));
+            }
+            Some(c) => fault = odd_unit(cursor, c, fault),
+        }
+    }
+}
+
+/// Behind three quotes: goes past the string that they begin. One without a newline there is faulty.
+fn quoted_lines<'a>(cursor: &mut Cursor<'a>) -> Scan<'a>
+    ensures fault { OnFound cursor.old result.fault cursor.new }
+    ensures moves { Moves cursor.old cursor.new }
+    ensures most { Most 5 3 cursor.old cursor.new }
+{
+    let place = cursor.checkpoint();
+    let mut fault = if newline(cursor) {
+        None
+    } else {
+        Some(Found {
+            kind: Kind::Opening,
+            place,
+        })
+    };
+    'units: loop {
+        cursor.skip(Class::Literal);
+        match cursor.look() {
+            None => return cut(fault, Kind::Quoted, cursor.checkpoint()),
+            Some('"') => {
+                cursor.step();
+                if cursor.eat_two('"', '"') {
+                    return ended(fault);
+                }
+            }
+            Some(c) if is_newline_char(c) => {
+                let _ = newline(cursor);
+            }
+            Some(c) => fault = odd_unit(cursor, c, fault),
+        }
+    }
+}
+
+/// The fault of a quoted string of many lines that is closed and whose units are right: that of its lines.
+fn fault_of_lines<'a>(
+    alloc: Global,
+    cursor: &mut Cursor<'a>,
+    start: &Checkpoint<'a>,
+) -> Result<Option<Found<'a>>, AllocError>
+    requires { Behind start.now cursor.old }
+    ensures fault { IfOk result (λ f. OnFound cursor.old f cursor.new) }
+    ensures rest { cursor.new.rest ≡ cursor.old.rest }
+    ensures moves { Moves cursor.old cursor.new }
+    ensures most { cursor.new.steps ≤ cursor.old.steps + 5 * (bytes start.now.rest - bytes cursor.old.rest) + 7 }
+{
+    let place = cursor.checkpoint();
+    let text = cursor.slice(start);
+    let mut inside = text.cursor(Steps::new());
+    let answer = quoted_string(alloc, &mut inside);
+    cursor.raise(inside.into_steps().count());
+    match answer {
+        Ok(_) => Ok(None),
+        Err(StringFailure::Fault(StringFault::NoPrefix)) => Ok(Some(Found {
+            kind: Kind::Prefix,
+            place,
+        })),
+        Err(StringFailure::Fault(_)) => Ok(Some(Found {
+            kind: Kind::Quoted,
+            place,
+        })),
+        Err(StringFailure::Memory) => Err(AllocError),
+    }
+}
+
+/// Goes past the quoted string whose quote is here.
+pub(crate) fn scan_quoted<'a>(
+    alloc: Global,
+    cursor: &mut Cursor<'a>,
+) -> Result<Scan<'a>, AllocError>
+    requires { begins 34 cursor.old.rest ≡ true }
+    ensures fault { IfOk result (λ s. OnFound cursor.old s.fault cursor.new) }
+    ensures moves { Moves cursor.old cursor.new }
+    ensures went { bytes cursor.new.rest < bytes cursor.old.rest }
+    ensures most { Most 10 12 cursor.old cursor.new }
+{
+    let start = cursor.checkpoint();
+    cursor.step();
+    if !cursor.eat_two('"', '"') {
+        return Ok(quoted_line(cursor));
+    }
+    let scan = quoted_lines(cursor);
+    if scan.fault.is_some() {
+        return Ok(scan);
+    }
+    Ok(ended(fault_of_lines(alloc, cursor, &start)?))
+}
+
+/// Goes past so many number signs, or as many as there are. Whether there were so many.
+fn eat_signs(cursor: &mut Cursor, most: usize) -> bool
+    ensures moves { Moves cursor.old cursor.new }
+    ensures most { Most 1 1 cursor.old cursor.new }
+{
+    let mut count: usize = 0;
+    'signs: while count < most {
+        if !cursor.eat('#') {
+            return false;
+        }
+        count += 1;
+    }
+    true
+}
+
+/// Behind the quote of a raw string of one line: goes past it, or to the newline or the end of the text before its closing.
+fn raw_line<'a>(cursor: &mut Cursor<'a>, signs: usize) -> Scan<'a>
+    ensures fault { OnFound cursor.old result.fault cursor.new }
+    ensures moves { Moves cursor.old cursor.new }
+    ensures most { Most 3 2 cursor.old cursor.new }
+{
+    let mut fault = None;
+    'units: loop {
+        cursor.skip(Class::Unquoted);
+        let place = cursor.checkpoint();
+        match cursor.look() {
+            None => return cut(fault, Kind::Raw, place),
+            Some('"') => {
+                cursor.step();
+                if eat_signs(cursor, signs) {
+                    return ended(fault);
+                }
+            }
+            Some(c) if is_newline_char(c) => return ended(earlier(fault, Kind::Raw, place)),
+            Some(_) => {
+                cursor.step();
+                fault = earlier(fault, Kind::Raw, place);
+            }
+        }
+    }
+}
+
+/// Goes past the quotes here. Whether they are three at least, with so many number signs behind them.
+fn closes_lines(cursor: &mut Cursor, signs: usize) -> bool
+    requires { begins 34 cursor.old.rest ≡ true }
+    ensures moves { Moves cursor.old cursor.new }
+    ensures went { bytes cursor.new.rest < bytes cursor.old.rest }
+    ensures most { Most 1 2 cursor.old cursor.new }
+{
+    let start = cursor.at();
+    cursor.skip(Class::Quote);
+    cursor.at() - start >= 3 && eat_signs(cursor, signs)
+}
+
+/// Behind the newline of a raw string of many lines: goes past it, or to the end of the text before its closing.
+fn raw_lines<'a>(cursor: &mut Cursor<'a>, signs: usize) -> Scan<'a>
+    ensures fault { OnFound cursor.old result.fault cursor.new }
+    ensures moves { Moves cursor.old cursor.new }
+    ensures most { Most 5 2 cursor.old cursor.new }
+{
+    let mut fault = None;
+    'units: loop {
+        cursor.skip(Class::Unquoted);
+        let place = cursor.checkpoint();
+        match cursor.look() {
+            None => return cut(fault, Kind::Raw, place),
+            Some('"') => {
+                if closes_lines(cursor, signs) {
+                    return ended(fault);
+                }
+            }
+            Some(c) if is_newline_char(c) => {
+                let _ = newline(cursor);
+            }
+            Some(_) => {
+                cursor.step();
+                fault = earlier(fault, Kind::Raw, place);
+            }
+        }
+    }
+}
+
+/// The fault of a raw string of many lines that is closed and whose characters are right: that of its lines.
+fn fault_of_raw_lines<'a>(
+    alloc: Global,
+    cursor: &mut Cursor<'a>,
+    start: &Checkpoint<'a>,
+) -> Result<Option<Found<'a>>, AllocError>
+    requires { Behind start.now cursor.old }
+    ensures fault { IfOk result (λ f. OnFound cursor.old f cursor.new) }
+    ensures rest { cursor.new.rest ≡ cursor.old.rest }
+    ensures moves { Moves cursor.old cursor.new }
+    ensures most { cursor.new.steps ≤ cursor.old.steps + 5 * (bytes start.now.rest - bytes cursor.old.rest) + 9 }
+{
+    let place = cursor.checkpoint();
+    let text = cursor.slice(start);
+    let mut inside = text.cursor(Steps::new());
+    let answer = raw_string(alloc, &mut inside);
+    cursor.raise(inside.into_steps().count());
+    match answer {
+        Ok(_) => Ok(None),
+        Err(StringFailure::Fault(_)) => Ok(Some(Found {
+            kind: Kind::Raw,
+            place,
+        })),
+        Err(StringFailure::Memory) => Err(AllocError),
+    }
+}
+
+/// Behind the number signs and three quotes with no newline behind them: goes past a raw string of one line. It looks like
+/// one of many lines, where it is closed on its line.
+fn raw_quotes<'a>(cursor: &mut Cursor<'a>, signs: usize) -> Scan<'a>
+    ensures fault { OnFound cursor.old result.fault cursor.new }
+    ensures moves { Moves cursor.old cursor.new }
+    ensures most { Most 3 3 cursor.old cursor.new }
+{
+    if !eat_signs(cursor, signs) {
+        let scan = raw_line(cursor, signs);
+        if scan.fault.is_some() {
+            return scan;
+        }
+    }
+    ended(Some(Found {
+        kind: Kind::RawQuotes,
+        place: cursor.checkpoint(),
+    }))
+}
+
+/// Goes past the raw string that begins at the place, whose quote is here, behind so many number signs.
+pub(crate) fn scan_raw<'a>(
+    alloc: Global,
+    cursor: &mut Cursor<'a>,
+    start: &Checkpoint<'a>,
+    signs: usize,
+) -> Result<Scan<'a>, AllocError>
+    requires quote { begins 34 cursor.old.rest ≡ true }
+    requires start { Behind start.now cursor.old }
+    ensures fault { IfOk result (λ s. OnFound cursor.old s.fault cursor.new) }
+    ensures moves { Moves cursor.old cursor.new }
+    ensures went { bytes cursor.new.rest < bytes cursor.old.rest }
+    ensures most { cursor.new.steps ≤ cursor.old.steps + 10 * (bytes start.now.rest - bytes cursor.new.rest) + 14 }
+{
+    cursor.step();
+    if !cursor.eat_two('"', '"') {
+        return Ok(raw_line(cursor, signs));
+    }
+    if !newline(cursor) {
+        return Ok(raw_quotes(cursor, signs));
+    }
+    let scan = raw_lines(cursor, signs);
+    if scan.fault.is_some() {
+        return Ok(scan);
+    }
+    Ok(ended(fault_of_raw_lines(alloc, cursor, start)?))
+}

@@ -1,0 +1,35 @@
+//! Makes each call that takes memory on two texts, and prints what it answers and what the item is afterwards.
+//!
+//! A call that is refused memory is made once more, where the item is then what it was before. So a run in which one request
+//! for memory is refused, whichever it is, prints the same as one in which none is. Where all that was made for a line was
+//! refused, the word `refused` goes to standard error.
+#![tactic(auto)]
+
+mod calls;
+
+use crate::calls::{CALLS, answer};
+use std::io;
+
+/// Nodes, a comment, a property and children.
+const HELLO: &str =
+    "\nhello 1 2 3\n\n// Comment\nworld prop=string-value {\n    child 1\n    child 2\n    child #inf\n}\n";
+
+/// Every form of strings, numbers, keywords, comments, slashdashes and spaces.
+const FORMS: &str =
+    "\u{feff}/* c */ (t)\"a\\tb\" 1 -0x1F 0b1_0 0o17 1.5e-3 #true #null #-inf k=(u)#\"raw\"# \\ // e\n /-dropped \"\"\"\n  one\n   two\n  \"\"\" #\"\"\"\n x\n \"\"\"# /-{ x; } { b 2 /* d */; /-c; } /-{} // end\n";
+
+fn main(rt: HostRuntime) -> io::Result<()> {
+    for text in &[HELLO, FORMS] {
+        for call in &CALLS {
+            let line = match answer(rt.alloc(), text, *call) {
+                Ok(line) => line,
+                Err(_) => {
+                    eprintln!(rt; "refused")?;
+                    answer(rt.alloc(), text, *call)?
+                }
+            };
+            println!(rt; "{line}")?;
+        }
+    }
+    Ok(())
+}
