@@ -1,7 +1,9 @@
 /* Refuses one request for memory, the one whose number is REFUSE, from 1 on. It is loaded before a program (LD_PRELOAD).
-   Where a request is refused, a line goes to the program's descriptor 9. */
+   Where a request is refused, a line goes to the program's descriptor 9. With COUNT set, so does the number of all requests,
+   when the program ends. */
 #include <errno.h>
 #include <stddef.h>
+#include <stdio.h>
 #include <stdlib.h>
 #include <unistd.h>
 
@@ -9,13 +11,21 @@ extern void *__libc_malloc(size_t size);
 extern void *__libc_realloc(void *old, size_t size);
 
 static long left;
+static long all;
 
 __attribute__((constructor)) static void begin(void) {
     const char *number = getenv("REFUSE");
     left = number ? atol(number) : 0;
 }
 
+__attribute__((destructor)) static void end(void) {
+    if (getenv("COUNT")) {
+        dprintf(9, "%ld\n", all);
+    }
+}
+
 static int is_refused(void) {
+    ++all;
     if (left == 0 || --left != 0) {
         return 0;
     }

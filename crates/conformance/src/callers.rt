@@ -1,33 +1,7 @@
 //! What a caller shows for the edits that ask for something.
 
-ghost use Rattle.kdl_parts.specs.EntryLists.{is_argument};
-ghost use Rattle.kdl.specs.declared.node.KdlNode.{out-KdlNode};
-ghost use Rattle.std.specs.Prelude.{◌≡◌};
-ghost use Rattle.std.specs.List.{count_by};
-
 use kdl::{KdlEntry, KdlIdentifier, KdlNode, KdlValue, NodeKey};
 use std::alloc::AllocError;
-
-/// Whether the entry is an argument.
-fn is_unnamed(entry: &KdlEntry) -> bool
-    ensures { result ≡ is_argument entry.now }
-{
-    entry.name().is_none()
-}
-
-/// How many arguments the node has.
-pub fn count_arguments(node: &KdlNode) -> usize
-    ensures { result ≡ count_by is_argument (out-KdlNode node.now).entries.items }
-{
-    let entries = node.entries();
-    let mut count = 0;
-    for entry in entries {
-        if is_unnamed(entry) {
-            count += 1;
-        }
-    }
-    count
-}
 
 /// The value of the last property of that name, where there is one.
 pub fn property<'a>(node: &'a KdlNode, name: &str) -> Option<&'a KdlValue> {
@@ -64,7 +38,7 @@ pub fn insert_argument(
     index: usize,
     value: KdlValue,
 ) -> Result<bool, (KdlEntry, AllocError)> {
-    if count_arguments(node) < index {
+    if node.argument_count() < index {
         return Ok(false);
     }
     node.insert(NodeKey::Index(index), KdlEntry::new(value))?;
@@ -73,7 +47,7 @@ pub fn insert_argument(
 
 /// Takes out the argument at the index, if it is there.
 pub fn remove_argument(node: &mut KdlNode, index: usize) -> Option<KdlEntry> {
-    if count_arguments(node) <= index {
+    if node.argument_count() <= index {
         return None;
     }
     node.remove(NodeKey::Index(index))

@@ -1,17 +1,19 @@
-//! Blocks at any depth are read, printed, copied and dropped on an ordinary stack.
+//! Blocks at any depth are read, printed, copied, laid out, cleared of their formats and dropped on an ordinary stack.
 
-use crate::reading::{prints, read};
-use kdl::{KdlDocument, KdlNode};
+use crate::reading::{node_text, prints, read};
+use kdl::{FormatConfig, KdlDocument, KdlNode};
 use std::alloc::Global;
 use std::process::Abort;
 
 const DEPTH: usize = 50_000;
 
+const CLEARED_DEPTH: usize = 200_000;
+
 /// A node in so many blocks.
-fn nested(rt: &impl Abort, alloc: Global) -> String {
-    let mut text = "a{".repeat(alloc, DEPTH).expect(rt, "memory");
+fn nested(rt: &impl Abort, alloc: Global, depth: usize) -> String {
+    let mut text = "a{".repeat(alloc, depth).expect(rt, "memory");
     text.push_str("b;").expect(rt, "memory");
-    let ends = "}".repeat(alloc, DEPTH).expect(rt, "memory");
+    let ends = "}".repeat(alloc, depth).expect(rt, "memory");
     text.push_str(&ends).expect(rt, "memory");
     text
 }
@@ -27,7 +29,7 @@ fn node_of(rt: &impl Abort, document: &KdlDocument) -> KdlNode {
 #[test]
 fn deep_blocks(rt: HostRuntime) {
     let alloc = rt.alloc();
-    let text = nested(&rt, alloc);
+    let text = nested(&rt, alloc, DEPTH);
     let document = read(&rt, alloc, &text);
     prints(&rt, alloc, &document, &text);
     let copy = document.clone().expect(&rt, "memory");
@@ -36,4 +38,75 @@ fn deep_blocks(rt: HostRuntime) {
     let node = node_of(&rt, &copy);
     drop(copy);
     prints(&rt, alloc, &node, &text);
+}
+
+/// Goes down so many blocks, of one node each and without formats, and answers the nodes below them.
+fn below<'a>(rt: &impl Abort, document: &'a KdlDocument, depth: usize) -> &'a [KdlNode] {
+    let mut nodes = document.nodes();
+    for _ in 0..depth {
+        let [node] = nodes else {
+            panic!(rt; "not one node");
+        };
+        let Some(children) = node.children() else {
+            panic!(rt; "no block");
+        };
+        assert!(rt; node.format().is_none() && children.format().is_none());
+        nodes = children.nodes();
+    }
+    nodes
+}
+
+/// The one node below so many blocks is `b`, and has no format.
+fn ends_cleared(rt: &impl Abort, document: &KdlDocument, depth: usize) {
+    let [b] = below(rt, document, depth) else {
+        panic!(rt; "not one node");
+    };
+    assert!(rt; b.name().value() == "b" && b.format().is_none());
+}
+
+#[test]
+fn deep_blocks_cleared(rt: HostRuntime) {
+    let alloc = rt.alloc();
+    let text = nested(&rt, alloc, CLEARED_DEPTH);
+    let mut document = read(&rt, alloc, &text);
+    document.clear_format_recursive();
+    ends_cleared(&rt, &document, CLEARED_DEPTH);
+    drop(document);
+}
+
+#[test]
+fn deep_blocks_of_a_node_cleared(rt: HostRuntime) {
+    let alloc = rt.alloc();
+    let text = nested(&rt, alloc, CLEARED_DEPTH);
+    let mut node = node_text(&rt, alloc, &text);
+    node.clear_format_recursive();
+    let Some(children) = node.children() else {
+        panic!(rt; "no block");
+    };
+    ends_cleared(&rt, children, CLEARED_DEPTH - 1);
+    drop(node);
+}
+
+/// The same, laid out without an indent.
+fn nested_lines(rt: &impl Abort, alloc: Global, depth: usize) -> String {
+    let mut text = "a {\n".repeat(alloc, depth).expect(rt, "memory");
+    text.push_str("b\n").expect(rt, "memory");
+    let ends = "}\n".repeat(alloc, depth).expect(rt, "memory");
+    text.push_str(&ends).expect(rt, "memory");
+    text
+}
+
+#[test]
+fn deep_blocks_laid_out(rt: HostRuntime) {
+    let alloc = rt.alloc();
+    let text = nested(&rt, alloc, DEPTH);
+    let mut document = read(&rt, alloc, &text);
+    let config = FormatConfig::builder().indent("").build();
+    document.autoformat_config(&config).expect(&rt, "memory");
+    let lines = nested_lines(&rt, alloc, DEPTH);
+    prints(&rt, alloc, &document, &lines);
+    let plain = FormatConfig::builder().indent("").no_comments(true).build();
+    document.autoformat_config(&plain).expect(&rt, "memory");
+    prints(&rt, alloc, &document, &lines);
+    drop(document);
 }

@@ -234,6 +234,19 @@ fn formats_are_dropped_at_each_depth(rt: HostRuntime) {
 }
 
 #[test]
+fn formats_are_dropped_beside_blocks(rt: HostRuntime) {
+    let alloc = rt.alloc();
+    let text = "a 0x1 { b 0x2 { c 0x3; d {} ; }; e { f 0x4 {}; g ; } }\nh 0x5 {i /*x*/;} ; j 0x6";
+    let mut document = read(&rt, alloc, text);
+    document.clear_format_recursive();
+    let b = "    b 2 {\n        c 3        d {\n        }    }";
+    let e = "    e {\n        f 4 {\n        }        g    }";
+    let printed = format!(in alloc; "a 1 {{\n{b}{e}}}h 5 {{\n    i}}j 6").expect(&rt, "memory");
+    document_prints(&rt, alloc, &document, &printed);
+    drop(document);
+}
+
+#[test]
 fn the_own_format_alone(rt: HostRuntime) {
     let alloc = rt.alloc();
     let mut document = read(&rt, alloc, "\u{feff}a\n// z\n");

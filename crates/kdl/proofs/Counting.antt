@@ -4,7 +4,7 @@ use Rattle.std.proofs.Math.Nat.{mul-le-mul_left}
 use Rattle.std.proofs.lemmas.List.{map-append}
 use Rattle.std.specs.List.{sum_by}
 use Rattle.std.proofs.lemmas.List.Sums.{sum_by-cons, sum_by-set, get_or-le-sum_by}
-use Rattle.kdl.specs.Count.{total, doc_step, node_step, count_doc, count_node, count_nodes, count_option}
+use Rattle.kdl.specs.Count.{total, doc_step, node_step, count_doc, count_node, count_nodes, count_option, count_left}
 use Rattle.kdl.specs.declared.node.KdlNode.{KdlNode}
 use Rattle.kdl.specs.declared.document.KdlDocument.{KdlDocument}
 use Rattle.kdl.specs.declared.document.KdlDocument.TheOpen.{KdlDocument-F, KdlNode-F}
@@ -68,10 +68,6 @@ goes_down all part all' part' h k =
 -- the last node leaves
 pub left : (xs ys : List KdlNode) (x : KdlNode) → xs ≡ ys ++ x ∷ [] → count_nodes xs ≡ count_nodes ys + (1 + count_option (out-KdlNode x).children)
 left xs ys x e = omega (arith, ap count_nodes e, count_nodes-last ys x, count_node_out x)
-
--- how much is left of nodes, and of open blocks with nodes behind each: a node counts once, and so does the end of a block
-abbrev pub count_left : {A : Type 0} → (A → List KdlNode) → List KdlNode → List A → ℕ
-count_left behind rest above = count_nodes rest + total (map (λ o. 1 + count_nodes (behind o)) above)
 
 count_above-more : {A : Type 0} (behind : A → List KdlNode) (above : List A) (o : A) → total (map (λ p. 1 + count_nodes (behind p)) (above ++ o ∷ [])) ≡ total (map (λ p. 1 + count_nodes (behind p)) above) + (1 + count_nodes (behind o))
 count_above-more behind above o =

@@ -1,4 +1,5 @@
 pub mod Clearing
+pub mod ClearingEnds
 pub mod DocumentLookups
 pub mod EditLaws
 pub mod Laying
@@ -9,5 +10,7 @@ pub mod Readings
 pub mod Same
 pub mod Trees
 pub mod Counting
+pub mod Blocks
 pub mod Copying
 pub mod Left
+pub mod Kept

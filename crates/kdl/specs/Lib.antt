@@ -7,5 +7,8 @@ pub mod Lookups
 pub mod Same
 pub mod Tree
 pub mod Count
+pub mod Laid
 pub mod Copied
 pub mod Left
+pub mod Due
+pub mod Words

@@ -15,6 +15,7 @@ ghost use Rattle.std.specs.Prelude.{◌≡◌, IfOk, None, Some, option_map, tru
 ghost use Rattle.std.specs.Str.{encode_utf8_all};
 
 pub mod args;
+mod clears;
 mod fields;
 mod iter;
 mod layout;

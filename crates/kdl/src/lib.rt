@@ -48,9 +48,11 @@
 //! `ParseFailure::Memory`. Spans are in bytes of the text that was read.
 #![tactic(auto)]
 
+mod clears;
 mod copies;
 mod document;
 mod drops;
+mod lays;
 mod node;
 mod parser;
 mod prints;

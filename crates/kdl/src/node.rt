@@ -71,7 +71,7 @@ impl KdlNode {
     /// Puts other children in the place of the node's, and answers those.
     pub(crate) fn exchange_children(&mut self, children: Option<KdlDocument>) -> Option<KdlDocument>
         ensures had { result ≡ (out-KdlNode self.old).children }
-        ensures has { (out-KdlNode self.new).children ≡ children }
+        ensures has { out-KdlNode self.new ≡ record (out-KdlNode self.old) { children = children } }
     {
         mem::replace(&mut self.children, children)
     }

@@ -42,6 +42,13 @@ pub struct KdlEntryFormat {
 
 impl KdlEntryFormat {
     /// A format of empty texts, without the mark. It takes no memory.
+    ///
+    /// ```
+    /// let mut format = KdlEntryFormat::new(alloc); // an entry with it prints no value, since `value_repr` is empty
+    /// format.value_repr = String::from_str(alloc, "0x10")?;
+    /// let mut entry = KdlEntry::new(KdlValue::from(16));
+    /// entry.set_format(format); // prints "0x10"
+    /// ```
     pub fn new(alloc: Global) -> KdlEntryFormat
         ensures { entry_format_tree result ≡ empty_format }
     {
@@ -91,6 +98,12 @@ fn autoformat_format(format: &mut Option<KdlEntryFormat>)
     }
 }
 
+/// A copy with the same texts and the same mark. Fails where memory is wanting.
+///
+/// ```
+/// let format = KdlEntryFormat::new(alloc);
+/// let same = format.clone()? == format; // true
+/// ```
 impl Clone for KdlEntryFormat {
     ghost use Rattle.kdl_entry.specs.Tree.{entry_format_tree};
     ghost use Rattle.std.specs.Prelude.{◌≡◌};
@@ -134,6 +147,10 @@ impl KdlEntry {
     ghost use Rattle.std.specs.Borrow.{Lends, LendsIf, sem};
 
     /// An argument without a type and a format, with the span 0 of length 0.
+    ///
+    /// ```
+    /// let entry = KdlEntry::new(KdlValue::from(8080)); // prints "8080"; in a node one space stands before it
+    /// ```
     pub fn new(value: KdlValue) -> KdlEntry
         ensures { entry_tree result ≡ plain_entry None (value_tree value) }
     {
@@ -153,6 +170,12 @@ impl KdlEntry {
     }
 
     /// The key, where the entry is a property.
+    ///
+    /// ```
+    /// let is_argument = KdlEntry::parse(alloc, "8080")?.name().is_none(); // true
+    /// let entry = KdlEntry::parse(alloc, "\"port\"=8080")?;
+    /// let key = entry.name(); // the identifier `port`
+    /// ```
     pub fn name(&self) -> Option<&KdlIdentifier>
         ensures { option_map (λ i. identifier_tree i.now) result ≡ (entry_tree self.now).name }
     {
@@ -160,6 +183,13 @@ impl KdlEntry {
     }
 
     /// The key, to be changed in place, where the entry is a property.
+    ///
+    /// ```
+    /// let mut entry = KdlEntry::parse(alloc, "port=8080")?;
+    /// if let Some(name) = entry.name_mut() {
+    ///     *name = KdlIdentifier::from_text(alloc, "backlog")?; // prints "backlog=8080"
+    /// }
+    /// ```
     pub fn name_mut(&mut self) -> Option<&mut KdlIdentifier>
         ensures* writes_back { sem 𝓛 (LendsIf the_row identifier_row self.entry result (λ i. record self.old { name = Some i }) self.old) }
         ensures value { option_map (λ i. i.now) result ≡ self.old.name }
@@ -168,6 +198,11 @@ impl KdlEntry {
     }
 
     /// Sets the key: a property with one, an argument with none.
+    ///
+    /// ```
+    /// let mut entry = KdlEntry::parse(alloc, "port = 8080")?;
+    /// entry.set_name(None); // an argument now: prints "8080"
+    /// ```
     pub fn set_name(&mut self, name: Option<KdlIdentifier>)
         ensures { entry_tree self.new ≡ record (entry_tree self.old) { name = option_map identifier_tree name } }
     {
@@ -175,13 +210,24 @@ impl KdlEntry {
     }
 
     /// The value.
+    ///
+    /// ```
+    /// let entry = KdlEntry::parse(alloc, "port=0x1F90")?;
+    /// let port = entry.value().as_integer(); // 8080
+    /// ```
     pub fn value(&self) -> &KdlValue
         ensures { value_tree result.now ≡ (entry_tree self.now).value }
     {
         &self.value
     }
 
-    /// The value, to be changed in place. The format, with the spelling of the value, stays as it is.
+    /// The value, to be changed in place. The format, with the spelling of the value, stays as it is: an entry that was
+    /// read prints the new value only after `clear_format`.
+    ///
+    /// ```
+    /// let mut entry = KdlEntry::parse(alloc, "0x10")?;
+    /// *entry.value_mut() = KdlValue::from(17); // still prints "0x10", by its spelling, until `clear_format`
+    /// ```
     pub fn value_mut(&mut self) -> &mut KdlValue
         ensures* writes_back { sem 𝓛 (Lends the_row value_row self.entry result (λ v. record self.old { value = v })) }
         ensures value { result.now ≡ self.old.value }
@@ -189,7 +235,17 @@ impl KdlEntry {
         &mut self.value
     }
 
-    /// Sets the value. The format, with the spelling of the value, stays as it is.
+    /// Sets the value. The format, with the spelling of the value, stays as it is: an entry that was read prints the new
+    /// value only after `clear_format`, or with another `value_repr` in its format.
+    ///
+    /// ```
+    /// let mut entry = KdlEntry::parse(alloc, " port=0x1F90")?;
+    /// entry.set_value(KdlValue::from(9090)); // still prints " port=0x1F90": the spelling of the former value stays
+    /// if let Some(format) = entry.format_mut() {
+    ///     format.value_repr = String::from_str(alloc, "9090")?; // prints " port=9090", and all else stays
+    /// }
+    /// entry.clear_format(); // prints "port=9090": the space goes too, as would a comment in its place
+    /// ```
     pub fn set_value(&mut self, value: KdlValue)
         ensures { entry_tree self.new ≡ record (entry_tree self.old) { value = value_tree value } }
     {
@@ -197,6 +253,10 @@ impl KdlEntry {
     }
 
     /// Where the entry stood in the text that it was parsed from, in bytes.
+    ///
+    /// ```
+    /// let span = KdlEntry::parse(alloc, " a=1")?.span(); // offset 0 and length 4: the whole text
+    /// ```
     pub fn span(&self) -> SourceSpan
         ensures { result ≡ (entry_tree self.now).span }
     {
@@ -204,6 +264,11 @@ impl KdlEntry {
     }
 
     /// Sets the span.
+    ///
+    /// ```
+    /// let mut entry = KdlEntry::new(KdlValue::from(1));
+    /// entry.set_span(SourceSpan { offset: 7, len: 1 }); // prints and compares as before
+    /// ```
     pub fn set_span(&mut self, span: SourceSpan)
         ensures { entry_tree self.new ≡ record (entry_tree self.old) { span = span } }
     {
@@ -211,6 +276,11 @@ impl KdlEntry {
     }
 
     /// The type, where the entry has one.
+    ///
+    /// ```
+    /// let entry = KdlEntry::parse(alloc, "port=(u16)8080")?;
+    /// let ty = entry.ty(); // the identifier `u16`
+    /// ```
     pub fn ty(&self) -> Option<&KdlIdentifier>
         ensures { option_map (λ i. identifier_tree i.now) result ≡ (entry_tree self.now).ty }
     {
@@ -218,6 +288,13 @@ impl KdlEntry {
     }
 
     /// The type, to be changed in place, where the entry has one.
+    ///
+    /// ```
+    /// let mut entry = KdlEntry::parse(alloc, "(u16)8080")?;
+    /// if let Some(ty) = entry.ty_mut() {
+    ///     *ty = KdlIdentifier::from_text(alloc, "u32")?; // prints "(u32)8080"
+    /// }
+    /// ```
     pub fn ty_mut(&mut self) -> Option<&mut KdlIdentifier>
         ensures* writes_back { sem 𝓛 (LendsIf the_row identifier_row self.entry result (λ i. record self.old { ty = Some i }) self.old) }
         ensures value { option_map (λ i. i.now) result ≡ self.old.ty }
@@ -226,6 +303,11 @@ impl KdlEntry {
     }
 
     /// Sets the type.
+    ///
+    /// ```
+    /// let mut entry = KdlEntry::parse(alloc, "8080")?;
+    /// entry.set_ty(KdlIdentifier::from_text(alloc, "u16")?); // prints "(u16)8080"
+    /// ```
     pub fn set_ty(&mut self, ty: KdlIdentifier)
         ensures { entry_tree self.new ≡ record (entry_tree self.old) { ty = Some (identifier_tree ty) } }
     {
@@ -233,6 +315,14 @@ impl KdlEntry {
     }
 
     /// The format, where the entry has one.
+    ///
+    /// ```
+    /// let entry = KdlEntry::parse(alloc, "0x1F90")?;
+    /// if let Some(format) = entry.format() {
+    ///     let spelling = format.value_repr.as_str(); // "0x1F90"
+    /// }
+    /// let none = KdlEntry::new(KdlValue::from(8080)).format().is_none(); // true: it was not read
+    /// ```
     pub fn format(&self) -> Option<&KdlEntryFormat>
         ensures { option_map (λ t. entry_format_tree t.now) result ≡ (entry_tree self.now).format }
     {
@@ -240,6 +330,13 @@ impl KdlEntry {
     }
 
     /// The format, to be changed in place, where the entry has one.
+    ///
+    /// ```
+    /// let mut entry = KdlEntry::parse(alloc, "a=1")?;
+    /// if let Some(format) = entry.format_mut() {
+    ///     format.after_eq = String::from_str(alloc, " ")?; // prints "a= 1"
+    /// }
+    /// ```
     pub fn format_mut(&mut self) -> Option<&mut KdlEntryFormat>
         ensures* writes_back { sem 𝓛 (LendsIf the_row format_row self.entry result (λ f. record self.old { format = Some f }) self.old) }
         ensures value { option_map (λ f. f.now) result ≡ self.old.format }
@@ -248,13 +345,26 @@ impl KdlEntry {
     }
 
     /// Sets the format.
+    ///
+    /// ```
+    /// let mut format = KdlEntryFormat::new(alloc);
+    /// format.value_repr = String::from_str(alloc, "0x10")?;
+    /// let mut entry = KdlEntry::new(KdlValue::from(16));
+    /// entry.set_format(format); // prints "0x10"; that this spells 16 is not tested
+    /// ```
     pub fn set_format(&mut self, format: KdlEntryFormat)
         ensures { entry_tree self.new ≡ record (entry_tree self.old) { format = Some (entry_format_tree format) } }
     {
         self.format = Some(format);
     }
 
-    /// Drops the format, and the spellings of the type and the key.
+    /// Drops the format, and the spellings of the type and the key. With the format goes what stands before the entry,
+    /// comments and what a slashdash drops there too.
+    ///
+    /// ```
+    /// let mut entry = KdlEntry::parse(alloc, "/* why */ \"port\"=0x10")?;
+    /// entry.clear_format(); // prints "port=16": the comment before it goes too
+    /// ```
     pub fn clear_format(&mut self)
         ensures { entry_tree self.new ≡ cleared (entry_tree self.old) }
     {
@@ -265,6 +375,12 @@ impl KdlEntry {
 
     /// Marks the format, where the entry has one: the next autoformat keeps the spelling of the value and the leading
     /// text.
+    ///
+    /// ```
+    /// let mut entry = KdlEntry::parse(alloc, "0x10")?;
+    /// entry.keep_format();
+    /// entry.autoformat(); // prints "0x10"; without the mark, "16"
+    /// ```
     pub fn keep_format(&mut self)
         ensures { entry_tree self.new ≡ record (entry_tree self.old) { format = option_map marked (entry_tree self.old).format } }
     {
@@ -275,6 +391,11 @@ impl KdlEntry {
 
     /// Drops the format and the spellings of the type and the key. Of a marked format the spelling of the value and
     /// the leading text stay; the other texts become empty, and the mark is taken away.
+    ///
+    /// ```
+    /// let mut entry = KdlEntry::parse(alloc, "\"a\" = 0x10")?;
+    /// entry.autoformat(); // prints "a=16"
+    /// ```
     pub fn autoformat(&mut self)
         ensures { entry_tree self.new ≡ autoformatted (entry_tree self.old) }
     {
@@ -284,6 +405,10 @@ impl KdlEntry {
     }
 
     /// The length of the printed text, in bytes. It prints the entry: it fails where memory is wanting.
+    ///
+    /// ```
+    /// let bytes = KdlEntry::parse(alloc, " a=0x10")?.len(alloc)?; // 7
+    /// ```
     pub fn len(&self, alloc: Global) -> Result<usize, AllocError>
         ensures { IfOk result (λ n. n ≡ bytes (print_entry (entry_tree self.now))) }
     {
@@ -291,6 +416,10 @@ impl KdlEntry {
     }
 
     /// Whether the printed text is empty. It prints the entry: it fails where memory is wanting.
+    ///
+    /// ```
+    /// let nothing = KdlEntry::new(KdlValue::Null).is_empty(alloc)?; // false: it prints "#null"
+    /// ```
     pub fn is_empty(&self, alloc: Global) -> Result<bool, AllocError>
         ensures { IfOk result (λ b. IsTrue b ↔ (print_entry (entry_tree self.now) ≡ [])) }
     {
@@ -317,6 +446,11 @@ impl KdlEntry {
     }
 
     /// A property without a type and a format, with the span 0 of length 0.
+    ///
+    /// ```
+    /// let key = KdlIdentifier::from_text(alloc, "port")?;
+    /// let entry = KdlEntry::new_prop(key, KdlValue::from(8080)); // prints "port=8080"
+    /// ```
     pub fn new_prop(name: KdlIdentifier, value: KdlValue) -> KdlEntry
         ensures { entry_tree result ≡ plain_entry (Some (identifier_tree name)) (value_tree value) }
     {
@@ -324,6 +458,11 @@ impl KdlEntry {
     }
 }
 
+/// An argument, as by `KdlEntry::new`.
+///
+/// ```
+/// let entry = KdlEntry::from(KdlValue::from(true)); // the argument `#true`
+/// ```
 impl From<KdlValue> for KdlEntry {
     ghost use Rattle.kdl_value.specs.Tree.{value_tree};
     ghost use Rattle.kdl_entry.specs.Tree.{entry_tree, plain_entry};
@@ -336,6 +475,11 @@ impl From<KdlValue> for KdlEntry {
     }
 }
 
+/// A property, as by `KdlEntry::new_prop`.
+///
+/// ```
+/// let entry = KdlEntry::from((KdlIdentifier::from_text(alloc, "tls")?, KdlValue::from(true))); // prints "tls=#true"
+/// ```
 impl From<(KdlIdentifier, KdlValue)> for KdlEntry {
     ghost use Rattle.kdl_value.specs.Tree.{value_tree};
     ghost use Rattle.kdl_entry.specs.Tree.{entry_tree, identifier_tree, plain_entry};
@@ -348,6 +492,12 @@ impl From<(KdlIdentifier, KdlValue)> for KdlEntry {
     }
 }
 
+/// A copy with the same texts and spans. Fails where memory is wanting.
+///
+/// ```
+/// let entry = KdlEntry::parse(alloc, "a=0x10")?;
+/// let same = entry.clone()? == entry; // true: it has the same spelling
+/// ```
 impl Clone for KdlEntry {
     ghost use Rattle.kdl_entry.specs.Tree.{entry_tree};
     ghost use Rattle.std.specs.Prelude.{◌≡◌};
@@ -370,6 +520,11 @@ impl Clone for KdlEntry {
 }
 
 /// With a format all its texts, without one the key, the type and the value alone.
+///
+/// ```
+/// let read = KdlEntry::parse(alloc, " a=0x10")?.to_string(alloc)?; // " a=0x10", as it was read
+/// let made = KdlEntry::new(KdlValue::from(16)).to_string(alloc)?; // "16"
+/// ```
 impl fmt::Display for KdlEntry {
     ghost output = { λ e. Some (encode_utf8_all (print_entry (entry_tree e))) };
 

@@ -28,13 +28,25 @@ pub struct KdlIdentifier {
 
 impl KdlIdentifier {
     /// The string.
+    ///
+    /// ```
+    /// let name = KdlIdentifier::parse(alloc, "\"a\\tb\"")?;
+    /// let text = name.value(); // an `a`, a tabulator and a `b`
+    /// ```
     pub fn value(&self) -> &str
         ensures { chars result.now ≡ (identifier_tree self.now).value }
     {
         self.value.as_str()
     }
 
-    /// Sets the string, and leaves the spelling.
+    /// Sets the string, and leaves the spelling: an identifier that was read prints the new string only after
+    /// `clear_format`.
+    ///
+    /// ```
+    /// let mut name = KdlIdentifier::parse(alloc, "old")?;
+    /// name.set_value(String::from_str(alloc, "new")?); // still prints "old", by its spelling
+    /// name.clear_format(); // prints "new"
+    /// ```
     pub fn set_value(&mut self, value: String)
         ensures { identifier_tree self.new ≡ record (identifier_tree self.old) { value = text_of value } }
     {
@@ -42,6 +54,10 @@ impl KdlIdentifier {
     }
 
     /// Where the identifier stood in the text that it was parsed from, in bytes.
+    ///
+    /// ```
+    /// let span = KdlIdentifier::parse(alloc, "été")?.span(); // offset 0 and length 5: an `é` has two bytes
+    /// ```
     pub fn span(&self) -> SourceSpan
         ensures { result ≡ (identifier_tree self.now).span }
     {
@@ -49,6 +65,11 @@ impl KdlIdentifier {
     }
 
     /// Sets the span.
+    ///
+    /// ```
+    /// let mut name = KdlIdentifier::from_text(alloc, "a")?;
+    /// name.set_span(SourceSpan { offset: 7, len: 1 }); // prints and compares as before
+    /// ```
     pub fn set_span(&mut self, span: SourceSpan)
         ensures { identifier_tree self.new ≡ record (identifier_tree self.old) { span = span } }
     {
@@ -56,6 +77,12 @@ impl KdlIdentifier {
     }
 
     /// The spelling, where the identifier keeps one.
+    ///
+    /// ```
+    /// let name = KdlIdentifier::parse(alloc, "\"a\"")?;
+    /// let spelling = name.repr(); // the three characters "\"a\""
+    /// let none = KdlIdentifier::from_text(alloc, "a")?.repr().is_none(); // true: it was not read
+    /// ```
     pub fn repr(&self) -> Option<&str>
         ensures { option_map (λ r. chars r.now) result ≡ (identifier_tree self.now).repr }
     {
@@ -66,6 +93,11 @@ impl KdlIdentifier {
     }
 
     /// Sets the spelling, which is printed in place of the string.
+    ///
+    /// ```
+    /// let mut name = KdlIdentifier::from_text(alloc, "a")?;
+    /// name.set_repr(String::from_str(alloc, "#\"a\"#")?); // prints "#\"a\"#"; that this spells `a` is not tested
+    /// ```
     pub fn set_repr(&mut self, repr: String)
         ensures { identifier_tree self.new ≡ record (identifier_tree self.old) { repr = Some (text_of repr) } }
     {
@@ -73,6 +105,11 @@ impl KdlIdentifier {
     }
 
     /// Drops the spelling.
+    ///
+    /// ```
+    /// let mut name = KdlIdentifier::parse(alloc, "\"a\"")?;
+    /// name.clear_format(); // prints "a"
+    /// ```
     pub fn clear_format(&mut self)
         ensures { identifier_tree self.new ≡ unspelled (identifier_tree self.old) }
     {
@@ -80,6 +117,11 @@ impl KdlIdentifier {
     }
 
     /// Drops the spelling.
+    ///
+    /// ```
+    /// let mut name = KdlIdentifier::parse(alloc, "\"two\\u{20}words\"")?;
+    /// name.autoformat(); // prints "\"two words\""
+    /// ```
     pub fn autoformat(&mut self)
         ensures { identifier_tree self.new ≡ unspelled (identifier_tree self.old) }
     {
@@ -87,6 +129,10 @@ impl KdlIdentifier {
     }
 
     /// The length of the printed text, in bytes. It prints the identifier: it fails where memory is wanting.
+    ///
+    /// ```
+    /// let bytes = KdlIdentifier::parse(alloc, "\"é\"")?.len(alloc)?; // 4: the quotes are printed too
+    /// ```
     pub fn len(&self, alloc: Global) -> Result<usize, AllocError>
         ensures { IfOk result (λ n. n ≡ bytes (print_identifier (identifier_tree self.now))) }
     {
@@ -94,6 +140,10 @@ impl KdlIdentifier {
     }
 
     /// Whether the printed text is empty. It prints the identifier: it fails where memory is wanting.
+    ///
+    /// ```
+    /// let nothing = KdlIdentifier::from_text(alloc, "")?.is_empty(alloc)?; // false: it prints "\"\""
+    /// ```
     pub fn is_empty(&self, alloc: Global) -> Result<bool, AllocError>
         ensures { IfOk result (λ b. IsTrue b ↔ (print_identifier (identifier_tree self.now) ≡ [])) }
     {
@@ -102,6 +152,10 @@ impl KdlIdentifier {
 
     /// An identifier with a copy of the text as its string, without a spelling and with the span 0 of length 0.
     /// Fails where memory is wanting; an empty text takes none.
+    ///
+    /// ```
+    /// let name = KdlIdentifier::from_text(alloc, "two words")?; // prints "\"two words\""
+    /// ```
     pub fn from_text(alloc: Global, text: &str) -> Result<KdlIdentifier, AllocError>
         ensures { IfOk result (λ i. identifier_tree i ≡ plain_identifier (chars text.now)) }
     {
@@ -110,6 +164,12 @@ impl KdlIdentifier {
 }
 
 /// An identifier as it was read: its string, its spelling and where it stood.
+///
+/// ```
+/// let span = SourceSpan { offset: 4, len: 3 };
+/// let repr = String::from_str(alloc, "\"a\"")?;
+/// let name = parsed_identifier(String::from_str(alloc, "a")?, repr, span); // prints "\"a\""
+/// ```
 pub fn parsed_identifier(value: String, repr: String, span: SourceSpan) -> KdlIdentifier
     ensures { identifier_tree result ≡ record { value = text_of value; repr = Some (text_of repr); span = span } }
 {
@@ -121,12 +181,22 @@ pub fn parsed_identifier(value: String, repr: String, span: SourceSpan) -> KdlId
 }
 
 /// The allocator of the identifier's string.
+///
+/// ```
+/// let name = KdlIdentifier::from_text(alloc, "a")?;
+/// let more = String::new(*identifier_allocator(&name)); // takes its memory where the name does
+/// ```
 pub fn identifier_allocator(identifier: &KdlIdentifier) -> &Global
     ensures { result.now ≡ vec_allocator (string_vec identifier.now.value) }
 {
     identifier.value.allocator()
 }
 
+/// An identifier with the text as its string, without a spelling and with the span 0 of length 0. It takes no memory.
+///
+/// ```
+/// let name = KdlIdentifier::from(String::from_str(alloc, "a")?); // prints "a"
+/// ```
 impl From<String> for KdlIdentifier {
     ghost use Rattle.kdl_value.specs.Tree.{text_of};
     ghost use Rattle.kdl_entry.specs.Tree.{identifier_tree, plain_identifier};
@@ -143,6 +213,11 @@ impl From<String> for KdlIdentifier {
     }
 }
 
+/// The string; the spelling and the span are dropped.
+///
+/// ```
+/// let text = String::from(KdlIdentifier::parse(alloc, "\"a\"")?); // "a": the string, and not its spelling
+/// ```
 impl From<KdlIdentifier> for String {
     ghost use Rattle.kdl_value.specs.Tree.{text_of};
     ghost use Rattle.kdl_entry.specs.Tree.{identifier_tree};
@@ -155,6 +230,12 @@ impl From<KdlIdentifier> for String {
     }
 }
 
+/// A copy with the same string, spelling and span. Fails where memory is wanting.
+///
+/// ```
+/// let name = KdlIdentifier::parse(alloc, "\"a\"")?;
+/// let same = name.clone()? == name; // true: it has the same spelling
+/// ```
 impl Clone for KdlIdentifier {
     ghost use Rattle.kdl_entry.specs.Tree.{identifier_tree};
     ghost use Rattle.std.specs.Prelude.{◌≡◌};
@@ -173,6 +254,11 @@ impl Clone for KdlIdentifier {
 }
 
 /// The spelling, or else the string as it is spelled.
+///
+/// ```
+/// let read = KdlIdentifier::parse(alloc, "\"a\"")?.to_string(alloc)?; // "\"a\"", as it was read
+/// let made = KdlIdentifier::from_text(alloc, "a")?.to_string(alloc)?; // "a"
+/// ```
 impl fmt::Display for KdlIdentifier {
     ghost output = { λ i. Some (encode_utf8_all (print_identifier (identifier_tree i))) };
 

@@ -12,6 +12,10 @@ use std::fmt;
 use std::fmt::{Display, Formatter, Write};
 
 /// Writes a type between parentheses, with a text before it and one behind it; nothing where there is none.
+///
+/// ```
+/// write_type(&None, " ", "", f)?; // writes nothing; of the type `u16` it writes "( u16)"
+/// ```
 pub fn write_type<W: Write>(
     ty: &Option<KdlIdentifier>,
     before: &str,

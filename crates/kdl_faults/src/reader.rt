@@ -24,11 +24,12 @@ pub struct Fault {
     pub span: SourceSpan,
 }
 
-/// An open block: its `{`, and where in the grammar the place behind its `}` is.
+/// An open block: its `{`, where in the grammar the place behind its `}` is, and whether a fault was noted at its `{`.
 #[derive(Clone, Copy)]
 struct Block {
     span: SourceSpan,
     behind: Phase,
+    is_told: bool,
 }
 
 /// A reader of faults.
@@ -300,13 +301,22 @@ impl<'a> Reader<'a> {
     }
 
     /// Opens a block with the piece.
-    fn open_block(&mut self, piece: &Piece<'a>, behind: Phase) -> Result<(), AllocError>
+    fn open_block(
+        &mut self,
+        piece: &Piece<'a>,
+        behind: Phase,
+        is_told: bool,
+    ) -> Result<(), AllocError>
         ensures keeps { KeepsAt piece.now self.old self.new }
         ensures cursor { self.new.cursor ≡ self.old.cursor }
         ensures same { self.new.is_over ≡ self.old.is_over }
     {
         let span = self.whole.span_between(&piece.start, &piece.next);
-        self.blocks.push(Block { span, behind })?;
+        self.blocks.push(Block {
+            span,
+            behind,
+            is_told,
+        })?;
         self.phase = Phase::Gap;
         Ok(())
     }
@@ -322,7 +332,7 @@ impl<'a> Reader<'a> {
                 self.go_to(phase);
                 Ok(())
             }
-            Move::Open(behind) => self.open_block(piece, behind),
+            Move::Open(behind) => self.open_block(piece, behind, is_told),
             Move::Close => self.close_block(piece, is_told),
             Move::Refuse => Ok(()),
         }
@@ -383,17 +393,19 @@ impl<'a> Reader<'a> {
         Ok(())
     }
 
-    /// Notes each block that is open, the inner one first.
+    /// Notes each block that is open, the inner one first, but for those at whose `{` a fault is noted.
     fn note_blocks(&mut self) -> Result<(), AllocError>
         ensures keeps { Keeps self.old self.new }
         ensures cursor { self.new.cursor ≡ self.old.cursor }
         ensures same { self.new.is_over ≡ self.old.is_over }
     {
         'unclosed: while let Some(block) = self.blocks.pop() {
-            self.faults.push(Fault {
-                kind: Kind::Block,
-                span: block.span,
-            })?;
+            if !block.is_told {
+                self.faults.push(Fault {
+                    kind: Kind::Block,
+                    span: block.span,
+                })?;
+            }
         }
         Ok(())
     }

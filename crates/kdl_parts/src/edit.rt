@@ -17,6 +17,12 @@ use std::mem;
 
 /// Puts the entry behind the others. Fails where memory is wanting: then the entry comes back, and the entries are as
 /// they were.
+///
+/// ```
+/// if let Err((entry, _)) = push(&mut entries, KdlEntry::new(KdlValue::from(9))) {
+///     drop(entry); // memory is wanting: the entry is back, and the entries are as they were
+/// }
+/// ```
 pub fn push(entries: &mut Vec<KdlEntry>, entry: KdlEntry) -> Result<(), (KdlEntry, AllocError)>
     ensures items { entries.new.items ≡ (if is_ok result then entries.old.items ++ (entry ∷ []) else entries.old.items) }
     ensures back { IfErr result (λ e. e.0 ≡ entry) }
@@ -33,6 +39,11 @@ pub fn push(entries: &mut Vec<KdlEntry>, entry: KdlEntry) -> Result<(), (KdlEntr
 ///
 /// A replacement takes no memory. Else it fails where memory is wanting: then the entry comes back, with the key for its
 /// name where it had none, and the entries are as they were.
+///
+/// ```
+/// let key = NodeKey::from_text(alloc, "a")?;
+/// let replaced = insert(&mut entries, key, KdlEntry::new(KdlValue::from(9))); // of `1 a=2 3` are left `1 a=9 3`
+/// ```
 pub fn insert(
     entries: &mut Vec<KdlEntry>,
     key: NodeKey,
@@ -53,6 +64,10 @@ pub fn insert(
 
 /// Takes out and hands back the first property whose name has the key's value, or the argument at the key's place among
 /// the arguments; none where there is none.
+///
+/// ```
+/// let removed = remove(&mut entries, NodeKey::from_text(alloc, "a")?); // of `1 a=2 a=3` the first `a` goes
+/// ```
 pub fn remove(entries: &mut Vec<KdlEntry>, key: NodeKey) -> Option<KdlEntry>
     ensures items { entries.new.items ≡ removed key entries.old.items }
     ensures value { result ≡ there (removed_place key entries.old.items) entries.old.items }
@@ -66,6 +81,10 @@ pub fn remove(entries: &mut Vec<KdlEntry>, key: NodeKey) -> Option<KdlEntry>
 }
 
 /// Drops all entries.
+///
+/// ```
+/// clear(&mut entries); // no entry is left
+/// ```
 pub fn clear(entries: &mut Vec<KdlEntry>)
     ensures { entries.new.items ≡ [] }
 {
@@ -73,6 +92,10 @@ pub fn clear(entries: &mut Vec<KdlEntry>)
 }
 
 /// Keeps, in order, the entries for which `keep` answers true. It is asked once for each entry, in order.
+///
+/// ```
+/// retain(&mut entries, |entry| entry.name().is_none()); // of `1 a=2 3` are left `1 3`
+/// ```
 pub fn retain<F: FnMut(&KdlEntry) -> bool>(entries: &mut Vec<KdlEntry>, keep: F)
     requires { F.IsAlwaysCallable keep }
     ensures { IsFiltered (CalledAt F.FnMut) keep entries.old.items entries.new.items }
@@ -82,6 +105,10 @@ pub fn retain<F: FnMut(&KdlEntry) -> bool>(entries: &mut Vec<KdlEntry>, keep: F)
 
 /// Sorts the entries by `compare`, a total preorder; entries that compare as equal keep their order. Fails where memory
 /// is wanting: then the entries are in some order.
+///
+/// ```
+/// sort_by(&mut entries, |one, other| one.value().cmp(other.value()))?; // of `3 1 2` is made `1 2 3`
+/// ```
 pub fn sort_by<F: FnMut(&KdlEntry, &KdlEntry) -> Ordering>(
     entries: &mut Vec<KdlEntry>,
     compare: F,
@@ -96,6 +123,10 @@ pub fn sort_by<F: FnMut(&KdlEntry, &KdlEntry) -> Ordering>(
 
 /// Sorts the entries by the key that `f` gives of each; entries with equal keys keep their order. Fails where memory is
 /// wanting: then the entries are in some order.
+///
+/// ```
+/// sort_by_key(&mut entries, |entry| entry.name().is_some())?; // of `b=1 2 c=3 4` is made `2 4 b=1 c=3`
+/// ```
 pub fn sort_by_key<K: Ord, F: FnMut(&KdlEntry) -> K>(
     entries: &mut Vec<KdlEntry>,
     f: F,
@@ -111,6 +142,10 @@ where
 }
 
 /// Drops the formats and spellings of the entries.
+///
+/// ```
+/// clear_formats(&mut entries); // `0x10 "a"=1` prints as `16 a=1` then; a comment before an entry goes too
+/// ```
 pub fn clear_formats(entries: &mut Vec<KdlEntry>)
     ensures { map entry_tree entries.new.items ≡ map cleared (map entry_tree entries.old.items) }
 {

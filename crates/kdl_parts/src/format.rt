@@ -34,6 +34,11 @@ pub struct KdlNodeFormat {
 
 impl KdlNodeFormat {
     /// A format whose texts are empty. It takes no memory.
+    ///
+    /// ```
+    /// let mut format = KdlNodeFormat::new(alloc); // nothing ends the node: the next one would stand on the same line
+    /// format.terminator = String::from_str(alloc, "\n")?;
+    /// ```
     #[tactic(auto, using(crate::proofs::Writing::writes))]
     pub fn new(alloc: Global) -> KdlNodeFormat
         ensures { node_format_tree result ≡ record { leading = []; before_ty_name = []; after_ty_name = []; after_ty = []; before_children = []; before_terminator = []; terminator = []; trailing = [] } }
@@ -51,6 +56,12 @@ impl KdlNodeFormat {
     }
 }
 
+/// A copy with the same texts. Fails where memory is wanting.
+///
+/// ```
+/// let format = KdlNodeFormat::new(alloc);
+/// let same = format.clone()? == format; // true
+/// ```
 impl Clone for KdlNodeFormat {
     ghost is_clone = { λ v w. node_format_tree w ≡ node_format_tree v };
 
@@ -77,6 +88,11 @@ impl Clone for KdlNodeFormat {
 }
 
 /// The format of a new node: a newline behind it, and nothing else.
+///
+/// ```
+/// let format = new_format(alloc)?;
+/// let trailing = format.trailing.as_str(); // "\n", and each other text is empty
+/// ```
 pub fn new_format(alloc: Global) -> Result<KdlNodeFormat, AllocError>
     ensures { IfOk result (λ f. node_format_tree f ≡ ended_format) }
 {
@@ -100,6 +116,11 @@ pub struct KdlDocumentFormat {
 
 impl KdlDocumentFormat {
     /// A format whose texts are empty. It takes no memory.
+    ///
+    /// ```
+    /// let mut format = KdlDocumentFormat::new(alloc);
+    /// format.trailing = String::from_str(alloc, "// the end\n")?; // printed behind the last node
+    /// ```
     #[tactic(auto, using(crate::proofs::Writing::writes))]
     pub fn new(alloc: Global) -> KdlDocumentFormat
         ensures { document_format_tree result ≡ record { leading = []; trailing = [] } }
@@ -111,6 +132,12 @@ impl KdlDocumentFormat {
     }
 }
 
+/// A copy with the same texts. Fails where memory is wanting.
+///
+/// ```
+/// let format = KdlDocumentFormat::new(alloc);
+/// let same = format.clone()? == format; // true
+/// ```
 impl Clone for KdlDocumentFormat {
     ghost is_clone = { λ v w. document_format_tree w ≡ document_format_tree v };
 
@@ -138,6 +165,11 @@ fn push_text(text: &mut String, more: &str) -> Result<(), AllocError>
 }
 
 /// The format with U+FEFF before its leading text.
+///
+/// ```
+/// let format = behind_mark(alloc, None)?;
+/// let leading = format.leading.as_str(); // U+FEFF alone
+/// ```
 pub fn behind_mark(
     alloc: Global,
     format: Option<KdlDocumentFormat>,

@@ -19,6 +19,12 @@ use std::marker::Model;
 use std::slice;
 
 /// The iterator over these entries.
+///
+/// ```
+/// for entry in entry_iter(&entries) {
+///     let value = entry.value(); // of `1 a=2` the values 1 and 2
+/// }
+/// ```
 pub fn entry_iter(entries: &[KdlEntry]) -> EntryIter<'_>
     ensures { result ≡ entries.now }
 {
@@ -28,6 +34,12 @@ pub fn entry_iter(entries: &[KdlEntry]) -> EntryIter<'_>
 }
 
 /// The iterator over these entries, each to be changed in place.
+///
+/// ```
+/// for entry in entry_iter_mut(&mut entries) {
+///     entry.clear_format(); // of `0x1 0x2` are left `1 2`
+/// }
+/// ```
 pub fn entry_iter_mut(entries: &mut Vec<KdlEntry>) -> EntryIterMut<'_>
     ensures* writes_back { sem 𝓛 (follows entries_row (Array entry_row 0) entries.entry.ghost_name (entries_name result) (λ es. with_items entries.old es)) }
     ensures left { entries_left result ≡ entries.old.items }
@@ -38,6 +50,12 @@ pub fn entry_iter_mut(entries: &mut Vec<KdlEntry>) -> EntryIterMut<'_>
 }
 
 /// The iterator over the values of the arguments among these entries.
+///
+/// ```
+/// for value in args_iter(&entries) {
+///     let number = value.as_integer(); // of `1 a=2 3` the numbers 1 and 3
+/// }
+/// ```
 pub fn args_iter(entries: &[KdlEntry]) -> ArgsIter<'_>
     ensures { result ≡ arguments entries.now }
 {

@@ -21,6 +21,10 @@ pub enum NodeKey {
 impl NodeKey {
     /// The key of the properties whose name is a copy of the text. Fails where memory is wanting; an empty text takes
     /// none.
+    ///
+    /// ```
+    /// let key = NodeKey::from_text(alloc, "two words")?; // finds `"two words"=1` and `#"two words"#=1`
+    /// ```
     pub fn from_text(alloc: Global, name: &str) -> Result<NodeKey, AllocError>
         ensures { IfOk result (λ k. sought k ≡ property (plain_identifier (chars name.now))) }
     {
@@ -28,6 +32,11 @@ impl NodeKey {
     }
 }
 
+/// The key of the properties of that name. It takes no memory.
+///
+/// ```
+/// let key = NodeKey::from(String::from_str(alloc, "port")?); // the last property of that name
+/// ```
 impl From<String> for NodeKey {
     ghost from_gives = { λ s k. sought k ≡ property (plain_identifier (text_of s)) };
 
@@ -36,6 +45,11 @@ impl From<String> for NodeKey {
     }
 }
 
+/// The key of the argument at that place, from 0, among the arguments.
+///
+/// ```
+/// let key = NodeKey::from(1); // of the entries `1 a=2 3` the argument 3: properties are not counted
+/// ```
 impl From<usize> for NodeKey {
     ghost from_gives = { λ n k. sought k ≡ argument n };
 

@@ -15,6 +15,10 @@ use std::alloc::AllocError;
 
 /// The entry that the key finds: the last property whose name has the key's value, or the argument at the key's place
 /// among the arguments.
+///
+/// ```
+/// let found = entry(&entries, NodeKey::from(1)); // of `1 a=2 3` the argument 3
+/// ```
 pub fn entry(entries: &[KdlEntry], key: NodeKey) -> Option<&KdlEntry>
     ensures { option_map (λ e. e.now) result ≡ there (place_of key entries.now) entries.now }
 {
@@ -27,6 +31,10 @@ pub fn entry(entries: &[KdlEntry], key: NodeKey) -> Option<&KdlEntry>
 }
 
 /// The value of the entry that the key finds.
+///
+/// ```
+/// let found = value(&entries, NodeKey::from_text(alloc, "a")?); // of `1 a=2 a=3` the value 3
+/// ```
 pub fn value(entries: &[KdlEntry], key: NodeKey) -> Option<&KdlValue>
     ensures { option_map (λ v. value_tree v.now) result ≡ option_map (λ e. value_tree e.value) (there (place_of key entries.now) entries.now) }
 {
@@ -37,6 +45,12 @@ pub fn value(entries: &[KdlEntry], key: NodeKey) -> Option<&KdlValue>
 }
 
 /// The entry that the key finds, to be changed in place. All else stays as it is.
+///
+/// ```
+/// if let Some(found) = entry_mut(&mut entries, NodeKey::from(0)) {
+///     *found = KdlEntry::new(KdlValue::from(9)); // of `1 a=2` are left `9 a=2`
+/// }
+/// ```
 pub fn entry_mut(entries: &mut Vec<KdlEntry>, key: NodeKey) -> Option<&mut KdlEntry>
     ensures* writes_back { sem 𝓛 (LendsIf entries_row entry_row entries.entry result (set_entry_there (place_of key entries.old.items) entries.old) entries.old) }
     ensures value { option_map (λ e. e.now) result ≡ there (place_of key entries.old.items) entries.old.items }
@@ -50,6 +64,12 @@ pub fn entry_mut(entries: &mut Vec<KdlEntry>, key: NodeKey) -> Option<&mut KdlEn
 }
 
 /// The value of the entry that the key finds, to be changed in place. All else stays as it is.
+///
+/// ```
+/// if let Some(found) = value_mut(&mut entries, NodeKey::from(0)) {
+///     *found = KdlValue::from(9); // an entry with a format keeps the spelling of its former value
+/// }
+/// ```
 pub fn value_mut(entries: &mut Vec<KdlEntry>, key: NodeKey) -> Option<&mut KdlValue>
     ensures* writes_back { sem 𝓛 (LendsIf entries_row value_row entries.entry result (set_value_there (place_of key entries.old.items) entries.old) entries.old) }
     ensures value { option_map (λ v. v.now) result ≡ option_map (λ e. e.value) (there (place_of key entries.old.items) entries.old.items) }
@@ -63,6 +83,12 @@ pub fn value_mut(entries: &mut Vec<KdlEntry>, key: NodeKey) -> Option<&mut KdlVa
 }
 
 /// The value of the entry at that place, to be changed in place. All else stays as it is.
+///
+/// ```
+/// if entries.len() > 1 {
+///     *value_at_mut(&mut entries, 1) = KdlValue::from(9); // the place counts all entries, and has to be there
+/// }
+/// ```
 pub fn value_at_mut(entries: &mut Vec<KdlEntry>, at: usize) -> &mut KdlValue
     requires { at < length entries.old.items }
     ensures* writes_back { sem 𝓛 (Lends entries_row value_row entries.entry result (set_value_at entries.old at)) }
@@ -72,6 +98,12 @@ pub fn value_at_mut(entries: &mut Vec<KdlEntry>, at: usize) -> &mut KdlValue
 }
 
 /// The value of the argument at that place among the arguments, from 0. It has to be there.
+///
+/// ```
+/// if nth_argument(&entries, 1).is_some() {
+///     let second = argument(&entries, 1); // of `1 a=2 3` the value 3
+/// }
+/// ```
 pub fn argument(entries: &[KdlEntry], n: usize) -> &KdlValue
     requires { IsSome (nth_place is_argument entries.now n) }
     ensures { option_map (λ e. value_tree e.value) (there (nth_place is_argument entries.now n) entries.now) ≡ Some (value_tree result.now) }
@@ -83,6 +115,12 @@ pub fn argument(entries: &[KdlEntry], n: usize) -> &KdlValue
 }
 
 /// The value of the last property of that name. It has to be there.
+///
+/// ```
+/// if has_property(&entries, "a") {
+///     let last = property(&entries, "a"); // of `1 a=2 a=3` the value 3
+/// }
+/// ```
 pub fn property<'a>(entries: &'a [KdlEntry], name: &str) -> &'a KdlValue
     requires { IsSome (last_place (has_name name.now) entries.now) }
     ensures { option_map (λ e. value_tree e.value) (there (last_place (has_name name.now) entries.now) entries.now) ≡ Some (value_tree result.now) }
@@ -94,6 +132,10 @@ pub fn property<'a>(entries: &'a [KdlEntry], name: &str) -> &'a KdlValue
 }
 
 /// Whether there is a property of that name. The name's value counts, not its spelling.
+///
+/// ```
+/// let both = (has_property(&entries, "a"), has_property(&entries, "b")); // of `a=1 b` true and false
+/// ```
 pub fn has_property(entries: &[KdlEntry], name: &str) -> bool
     ensures { result ≡ is_some (last_place (has_name name.now) entries.now) }
 {
@@ -102,6 +144,10 @@ pub fn has_property(entries: &[KdlEntry], name: &str) -> bool
 
 /// The place of the last property of that name, after a null one was pushed where there was none. Fails where memory for
 /// it is wanting: then the entries are as they were. What is there is found without memory.
+///
+/// ```
+/// let at = property_or_null(&mut entries, "b")?; // of `1 a=2` the place 2, where `b=#null` is pushed
+/// ```
 pub fn property_or_null(entries: &mut Vec<KdlEntry>, name: &str) -> Result<usize, AllocError>
     ensures found { IfOk result (λ i. HasProperty (last_place (has_name name.now) entries.old.items) name.now entries.old i entries.new) }
     ensures bound { IfOk result (λ i. i < length entries.new.items) }
@@ -120,6 +166,12 @@ pub fn property_or_null(entries: &mut Vec<KdlEntry>, name: &str) -> Result<usize
 }
 
 /// The value that `argument` gives, to be changed in place. All else stays as it is.
+///
+/// ```
+/// if nth_argument(&entries, 1).is_some() {
+///     *argument_mut(&mut entries, 1) = KdlValue::from(9); // of `1 a=2 3` the last value is 9 now
+/// }
+/// ```
 pub fn argument_mut(entries: &mut Vec<KdlEntry>, n: usize) -> &mut KdlValue
     requires { IsSome (nth_place is_argument entries.old.items n) }
     ensures* writes_back { sem 𝓛 (Lends entries_row value_row entries.entry result (set_value_there (nth_place is_argument entries.old.items n) entries.old)) }

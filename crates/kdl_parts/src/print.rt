@@ -12,6 +12,10 @@ use kdl_entry::{KdlEntry, KdlIdentifier, write_text, write_type};
 use std::fmt;
 
 /// Writes the indentation at a depth: four spaces for each level.
+///
+/// ```
+/// write_spaces(2, f)?; // writes eight spaces
+/// ```
 #[tactic(auto, using(crate::proofs::Writing::writes, crate::proofs::Writing::spaces_more))]
 pub fn write_spaces<W: fmt::Write>(depth: usize, f: &mut fmt::Formatter<W>) -> fmt::Result
     ensures { WritesOnOk W.write_str_gives f.old result (encode_utf8_all (spaces depth)) f.new }
@@ -23,6 +27,10 @@ pub fn write_spaces<W: fmt::Write>(depth: usize, f: &mut fmt::Formatter<W>) -> f
 }
 
 /// Writes what stands before the entries of a node at a depth: the leading text, the type and the name.
+///
+/// ```
+/// write_head(&None, &name, &None, 1, f)?; // writes four spaces and the name
+/// ```
 #[tactic(auto, using(crate::proofs::Writing::writes))]
 pub fn write_head<W: fmt::Write>(
     ty: &Option<KdlIdentifier>,
@@ -49,6 +57,10 @@ pub fn write_head<W: fmt::Write>(
 }
 
 /// Writes the entries of a node.
+///
+/// ```
+/// write_pieces(&entries, f)?; // of `1 a=2`, both without a format, writes " 1 a=2"
+/// ```
 #[tactic(auto, using(crate::proofs::Writing::writes, crate::proofs::Printing::pieces_written))]
 pub fn write_pieces<W: fmt::Write>(entries: &[KdlEntry], f: &mut fmt::Formatter<W>) -> fmt::Result
     ensures { WritesOnOk W.write_str_gives f.old result (encode_utf8_all (print_pieces (map entry_tree entries.now))) f.new }
@@ -71,6 +83,10 @@ fn write_piece<W: fmt::Write>(entry: &KdlEntry, f: &mut fmt::Formatter<W>) -> fm
 }
 
 /// Whether the last entry has a format.
+///
+/// ```
+/// let before = ends_formatted(&entries); // of entries that were read true, behind a pushed `KdlEntry::new` false
+/// ```
 pub fn ends_formatted(entries: &[KdlEntry]) -> bool
     ensures { result ≡ last_has_format (map entry_tree entries.now) }
 {
@@ -81,6 +97,10 @@ pub fn ends_formatted(entries: &[KdlEntry]) -> bool
 }
 
 /// Writes what stands before the `{` of a child block.
+///
+/// ```
+/// write_before_block(&None, &[], f)?; // writes one space
+/// ```
 #[tactic(auto, using(crate::proofs::Writing::writes))]
 pub fn write_before_block<W: fmt::Write>(
     format: &Option<KdlNodeFormat>,
@@ -102,6 +122,10 @@ pub fn write_before_block<W: fmt::Write>(
 }
 
 /// Writes what stands behind the last entry, or behind the child block.
+///
+/// ```
+/// write_end(&format, f)?; // of a node `a 1 ; // kept` that was read writes " ;"; without a format nothing
+/// ```
 #[tactic(auto, using(crate::proofs::Writing::writes))]
 pub fn write_end<W: fmt::Write>(
     format: &Option<KdlNodeFormat>,
@@ -120,6 +144,10 @@ pub fn write_end<W: fmt::Write>(
 }
 
 /// Writes what stands before the first node.
+///
+/// ```
+/// write_leading(&None, f)?; // writes nothing: a document without a format begins with its first node
+/// ```
 pub fn write_leading<W: fmt::Write>(
     format: &Option<KdlDocumentFormat>,
     f: &mut fmt::Formatter<W>,
@@ -133,6 +161,10 @@ pub fn write_leading<W: fmt::Write>(
 }
 
 /// Writes what stands behind the last node.
+///
+/// ```
+/// write_trailing(&None, f)?; // writes nothing: a document without a format ends with its last node
+/// ```
 pub fn write_trailing<W: fmt::Write>(
     format: &Option<KdlDocumentFormat>,
     f: &mut fmt::Formatter<W>,
@@ -146,6 +178,10 @@ pub fn write_trailing<W: fmt::Write>(
 }
 
 /// Writes the `{` of a child block, and the newline behind it.
+///
+/// ```
+/// write_after_brace(&None, f)?; // writes `{` and a newline; with a format `{` alone
+/// ```
 #[tactic(auto, using(crate::proofs::Writing::writes))]
 pub fn write_after_brace<W: fmt::Write>(
     format: &Option<KdlDocumentFormat>,
@@ -160,6 +196,10 @@ pub fn write_after_brace<W: fmt::Write>(
 }
 
 /// Writes the `}` of a child block, and the indentation before it.
+///
+/// ```
+/// write_before_brace(&None, 1, f)?; // writes four spaces and `}`; with a format `}` alone
+/// ```
 #[tactic(auto, using(crate::proofs::Writing::writes))]
 pub fn write_before_brace<W: fmt::Write>(
     format: &Option<KdlDocumentFormat>,

@@ -3,30 +3,32 @@ use Rattle.std.proofs.Common.{◌≡◌, Bool, true, false, ◌&&◌, ◌==◌, 
 use Rattle.std.proofs.lemmas.Bool.{true≢false}
 use Rattle.std.specs.Prelude.{Result, Ok, Err, IfOk, MatchResult}
 use Rattle.kdl_text.specs.Chars.{Text, Newline, begins_two, begins_with}
-use Rattle.kdl_text.specs.Dedent.{Dedents}
+use Rattle.kdl_text.specs.Dedent.{Dedents, lines_of}
 use Rattle.kdl_text.specs.Strings.{QuotedBody, quoted}
 use Rattle.kdl_text.specs.MultiLine.{Content, MultiLineBody, lines, multi_line, IsQuoted, on_one_line, on_many_lines}
 use Rattle.kdl_text.specs.declared.strings.StringFailure.{StringFailure}
 use Rattle.kdl_text.specs.declared.strings.StringFailure.TheVariants.{Memory}
 use Rattle.kdl_text.specs.declared.strings.dedent.LineUnit.{LineUnit}
+use Rattle.kdl_text.proofs.MultiLines.{content_det}
 use Rattle.kdl_text.proofs.Newlines.{newline_det}
 
--- the dedent of units that are known
-pub dedent_only : {T : Type 0} (o : Result T StringFailure) (f : T → Text) (vs us xs : List LineUnit) (r e w : Text) → (r ≡ e) × (xs ≡ us) → vs ≡ us
-    → ((v : Text) → Dedents vs v → MatchResult o (λ s. v ≡ f s) (λ x. x ≡ Memory)) → Dedents xs w → MatchResult o (λ v. (r ≡ e) × (w ≡ f v)) (λ x. x ≡ Memory)
-dedent_only o f vs us xs r e w (ends, same) h only d = go o f r e w ends (only w (subst (λ z. Dedents z w) (same ∙ sym h) d))
-  where
-    go : {T : Type 0} (o : Result T StringFailure) (f : T → Text) (r e w : Text) → r ≡ e → MatchResult o (λ s. w ≡ f s) (λ x. x ≡ Memory) → MatchResult o (λ v. (r ≡ e) × (w ≡ f v)) (λ x. x ≡ Memory)
-    go (Ok v) f r e w ends k = (ends, k)
-    go (Err x) f r e w ends k = k
+dedent_made : {T : Type 0} (o : Result T StringFailure) (f : T → Text) (r e w : Text) → r ≡ e → MatchResult o (λ s. w ≡ f s) (λ x. x ≡ Memory) → MatchResult o (λ v. (r ≡ e) × (w ≡ f v)) (λ x. x ≡ Memory)
+dedent_made (Ok v) f r e w ends k = (ends, k)
+dedent_made (Err x) f r e w ends k = k
 
-pub body_found : {T E : Type 0} (o : Result T E) (f : T → Text) (t m r : Text) (us vs : List LineUnit) → Newline t m → Content m r us → vs ≡ us → IfOk o (λ v. Dedents vs (f v)) → IfOk o (λ v. MultiLineBody t r (f v))
-body_found (Ok v) f t m r us vs n x h d = lines n x (subst (λ z. Dedents z (f v)) h d)
-body_found (Err e) f t m r us vs n x h d = tt
+-- the dedent of lines whose units are known
+pub dedent_only : {T : Type 0} (o : Result T StringFailure) (f : T → Text) (us xs : List LineUnit) (ls : List (List LineUnit)) (r e w : Text) → (r ≡ e) × (xs ≡ us) → lines_of us ≡ ls
+    → ((us : List LineUnit) (v : Text) → lines_of us ≡ ls → Dedents us v → MatchResult o (λ s. v ≡ f s) (λ x. x ≡ Memory)) → Dedents xs w → MatchResult o (λ v. (r ≡ e) × (w ≡ f v)) (λ x. x ≡ Memory)
+dedent_only o f us xs ls r e w (ends, same) h only d = dedent_made o f r e w ends (only us w h (subst (λ z. Dedents z w) same d))
 
-pub body_only : {T : Type 0} (o : Result T StringFailure) (f : T → Text) (t m e : Text) (us vs : List LineUnit) → Newline t m → ((r : Text) (w : List LineUnit) → Content m r w → (r ≡ e) × (w ≡ us)) → vs ≡ us
-    → ((v : Text) → Dedents vs v → MatchResult o (λ s. v ≡ f s) (λ x. x ≡ Memory)) → (r w : Text) → MultiLineBody t r w → MatchResult o (λ v. (r ≡ e) × (w ≡ f v)) (λ x. x ≡ Memory)
-body_only o f t m e us vs n only h dedents r w (lines {us = xs} k x d) = dedent_only o f vs us xs r e w (only r xs (subst (λ z. Content z r xs) (newline_det k n) x)) h dedents d
+pub body_found : {T E : Type 0} (o : Result T E) (f : T → Text) (t m r : Text) (us : List LineUnit) → Newline t m → Content m r us → IfOk o (λ v. Dedents us (f v)) → IfOk o (λ v. MultiLineBody t r (f v))
+body_found (Ok v) f t m r us n x d = lines n x d
+body_found (Err e) f t m r us n x d = tt
+
+pub body_only : {T : Type 0} (o : Result T StringFailure) (f : T → Text) (t m e : Text) (us : List LineUnit) (ls : List (List LineUnit)) → Newline t m → Content m e us → lines_of us ≡ ls
+    → ((us : List LineUnit) (v : Text) → lines_of us ≡ ls → Dedents us v → MatchResult o (λ s. v ≡ f s) (λ x. x ≡ Memory)) → (r w : Text) → MultiLineBody t r w → MatchResult o (λ v. (r ≡ e) × (w ≡ f v)) (λ x. x ≡ Memory)
+body_only o f t m e us ls n here h dedents r w (lines {us = xs} k x d) =
+    dedent_only o f us xs ls r e w (content_det (subst (λ z. Content z r xs) (newline_det k n) x) here) h dedents d
 
 pub body_content : (t m r w : Text) → Newline t m → MultiLineBody t r w → (us : List LineUnit) × Content m r us
 body_content t m r w n (lines {us = us} k x d) = (us, subst (λ z. Content z r us) (newline_det k n) x)

@@ -1,78 +1,160 @@
--- The loop over the units of a multi-line string.
-use Rattle.std.proofs.Common.{◌≡◌, ℕ, true, false, List, [], ◌∷◌, ◌++◌, length, sym, ap, ◌∙◌, subst, arith}
+-- A line of a string of many lines from an escape on.
+use Rattle.std.proofs.Common.{◌≡◌, ℕ, ◌+◌, ◌<◌, ◌≤◌, Bool, not, true, false, List, [], ◌∷◌, ◌++◌, length, refl, sym, ap, ◌∙◌, subst, arith, append_assoc, append-nil, length-append}
+use Rattle.std.proofs.lemmas.Bool.{false≢true}
+use Rattle.std.proofs.lemmas.List.Folds.{list_all-append}
 use Rattle.std.proofs.lemmas.Str.{len_utf8_bounds}
-use Rattle.std.specs.Prelude.{Some, None}
-use Rattle.kdl_text.specs.Chars.{Text}
-use Rattle.kdl_text.specs.Here.{Here, Took, AteTwo, bytes}
-use Rattle.kdl_text.specs.Reading.{Moves, Costs}
-use Rattle.kdl_text.specs.MultiLine.{ContentUnit, quote, Content, close}
+use Rattle.kdl_text.specs.Chars.{Text, is_literal}
+use Rattle.kdl_text.specs.Dedent.{is_line_end}
+use Rattle.kdl_text.specs.Here.{Here, bytes}
+use Rattle.kdl_text.specs.Lines.{is_one_line, ReadsLine}
+use Rattle.kdl_text.specs.MultiLine.{kept, unit, Content}
+use Rattle.kdl_text.specs.Raw.{literals}
+use Rattle.kdl_text.specs.Reading.{Moves, Costs, Goes}
+use Rattle.kdl_text.specs.Strings.{StringUnit, literal, escape, spaces, IsUnit, one_literal, one_letter, one_number, one_gap}
 use Rattle.kdl_text.specs.declared.strings.dedent.LineUnit.{LineUnit}
-use Rattle.kdl_text.specs.declared.strings.dedent.LineUnit.TheVariants.{Literal}
-use Rattle.kdl_text.proofs.Going.{stays, moves_then, moves_one, moves_two, moves_stayed, fewer_bytes}
-use Rattle.kdl_text.proofs.Goes.{Goes, goes_start, goes_then, goes_end, goes_none}
-use Rattle.kdl_text.proofs.MultiLines.{goes_content, content_close, content_empty, content_unit}
+use Rattle.kdl_text.specs.declared.strings.dedent.LineUnit.TheVariants.{LineEnd}
+use Rattle.kdl_text.proofs.Goes.{goes_start, goes_then}
+use Rattle.kdl_text.proofs.Going.{stays, moves_then, fewer_bytes, bytes-append}
+use Rattle.kdl_text.proofs.Lines.{literals_inside}
+use Rattle.kdl_text.proofs.MultiLines.{goes_content, slash_unit, content_unit}
+use Rattle.kdl_text.proofs.Runs.{length-bytes}
 
--- a character, and what was read behind it
-pub turned : (c : ℕ) (f a b d : Here) → Moves f a → Costs 3 0 f a → Took (Some c) a b → Moves b d → Costs 1 2 b d → Moves f d × Costs 3 0 f d
-turned c f a b d m k t n l =
-    let x = fewer_bytes n in (
-      moves_then m (moves_then (moves_one t) n),
-      record {
-        most = omega (arith, k.most, ap bytes t.0, t.2, (len_utf8_bounds c).0, l.most);
-        least = omega (arith, k.least, ap length t.0, t.2, l.least);
-      },
-    )
-
-pub costs_less : (a b : Here) → Costs 1 1 a b → Costs 1 2 a b
-costs_less a b k = record { most = omega (arith, k.most); least = k.least }
-
-pub ate_two : (a b : Here) → AteTwo 34 34 false a b → Moves a b × Costs 1 2 a b
-ate_two a b (n, s) = (moves_stayed s, record { most = omega (arith, s.steps, ap bytes s.rest); least = omega (arith, s.steps, ap length s.rest) })
-
-pub failed_at : {a b : Here} → Costs 3 0 a b → Costs 3 1 a b
-failed_at k = record { most = omega (arith, k.most); least = k.least }
-
-pub costs_at : {a b : Here} → Costs 3 0 a b → Costs 3 2 a b
-costs_at k = record { most = omega (arith, k.most); least = k.least }
-
--- the lines read so far
-pub record InContent (f a : Here) (out : List LineUnit) : Type 0 where
-  pub goes : Goes Content f.rest out a.rest
+-- the units read so far, and a backslash that was taken
+pub record InEscaped (f a : Here) (old out : List LineUnit) : Type 0 where
+  pub more : List LineUnit
+  pub is : out ≡ old ++ more
+  pub inside : is_one_line more ≡ true
+  pub goes : Goes Content (92 ∷ f.rest) more (92 ∷ a.rest)
   pub moves : Moves f a
   pub costs : Costs 3 0 f a
+  pub shorter : length more + bytes a.rest ≤ bytes f.rest
 
-pub content_begins : (f : Here) → InContent f f []
-content_begins f = record { goes = goes_start Content f.rest; moves = stays f; costs = record { most = omega arith; least = omega arith } }
+pub escaped_begins : (f : Here) (old : List LineUnit) → InEscaped f f old old
+escaped_begins f old = record {
+  more = [];
+  is = sym (append-nil old);
+  inside = refl;
+  goes = goes_start Content (92 ∷ f.rest);
+  moves = stays f;
+  costs = record { most = omega arith; least = omega arith };
+  shorter = omega arith;
+}
 
-module _ (f a : Here) (out : List LineUnit) (i : InContent f a out) where
-  -- a unit more
-  pub content_turn : (c : ℕ) (b d : Here) (us new : List LineUnit) → Took (Some c) a b → ContentUnit (c ∷ b.rest) d.rest us → Moves b d → Costs 1 1 b d → new ≡ out ++ us → InContent f d new
-  content_turn c b d us new t u m k e =
-      let (moved, cost) = turned c f a b d i.moves i.costs t m (costs_less b d k) in
-      let unit : ContentUnit a.rest d.rest us = subst (λ z. ContentUnit z d.rest us) (sym t.0) u in
-      rw e (record { goes = goes_then i.goes (goes_content unit); moves = moved; costs = cost })
+kept_inside : (u : StringUnit) → is_one_line (kept u) ≡ true
+kept_inside (literal c) = refl
+kept_inside (escape c) = refl
+kept_inside spaces = refl
 
-  -- a quote that begins no three
-  pub content_quote : (c : ℕ) (b d : Here) (new : List LineUnit) → Took (Some c) a b → c ≡ 34 → AteTwo 34 34 false b d → new ≡ out ++ (Literal 34 ∷ []) → InContent f d new
-  content_quote c b d new t is (n, s) e =
-      let (moved, cost) = turned c f a b d i.moves i.costs t (ate_two b d (n, s)).0 (ate_two b d (n, s)).1 in
-      let unit : ContentUnit a.rest d.rest (Literal 34 ∷ []) = rw (t.0, is, s.rest) (quote n) in
-      rw e (record { goes = goes_then i.goes (goes_content unit); moves = moved; costs = cost })
+kept_one : (u : StringUnit) → length (kept u) ≤ 1
+kept_one (literal c) = omega arith
+kept_one (escape c) = omega arith
+kept_one spaces = omega arith
 
-  -- three quotes
-  pub content_ends : (c : ℕ) (b d : Here) → Took (Some c) a b → c ≡ 34 → AteTwo 34 34 true b d → Content f.rest d.rest out × ((r : Text) (w : List LineUnit) → Content f.rest r w → (r ≡ d.rest) × (w ≡ out)) × Moves f d × Costs 3 0 f d
-  content_ends c b d t is two =
-      let e : a.rest ≡ 34 ∷ 34 ∷ 34 ∷ d.rest = t.0 ∙ ap (λ z. z ∷ b.rest) is ∙ ap (λ z. 34 ∷ z) two.rest in
-      let (found, only) = goes_end (subst (Goes Content f.rest out) e i.goes) close (λ r v. content_close) in
-      let k : Costs 1 2 b d = record { most = omega (arith, two.steps, ap bytes two.rest, (len_utf8_bounds 34).0); least = omega (arith, two.steps, ap length two.rest) } in
-      let (moved, cost) = turned c f a b d i.moves i.costs t (moves_two two) k in
-      (found, only, moved, cost)
+length-literals : (p : Text) → length (literals p) ≤ bytes p
+length-literals [] = omega arith
+length-literals (c ∷ p) = omega (arith, length-literals p, (len_utf8_bounds c).0)
 
-  pub content_over : (b : Here) → Took None a b → (r : Text) (w : List LineUnit) → Content f.rest r w → ⊥
-  content_over b t = goes_none i.goes (λ r v x. content_empty (subst (λ z. Content z r v) t.0 x))
+slash_stops : is_literal 92 ≡ true → ⊥
+unfolding is_literal
+slash_stops h = false≢true h
 
-  -- where a unit was not read
-  pub content_unit_there : (c : ℕ) (b : Here) → Took (Some c) a b → (c ≡ 34 → ⊥) → (r : Text) (w : List LineUnit) → Content f.rest r w → (m : Text) × (us : List LineUnit) × ContentUnit (c ∷ b.rest) m us
-  content_unit_there c b t ne r w x =
-      let (v, e, rest) = i.goes.back r w x in
-      content_unit ne (subst (λ z. Content z r v) t.0 rest)
+no_slash : (c : ℕ) → c ≡ 92 → is_literal c ≡ true → ⊥
+no_slash c e h = slash_stops (subst (λ z. is_literal z ≡ true) e h)
+
+joins : (a b : List LineUnit) → is_one_line a ≡ true → is_one_line b ≡ true → is_one_line (a ++ b) ≡ true
+joins a b h k = rw (list_all-append (λ u. not (is_line_end u)) a b, h, k) refl
+
+slash_kept : {s r : Text} {u : StringUnit} → IsUnit (92 ∷ s) r u → Goes Content (92 ∷ s) (kept u) r
+slash_kept i = goes_content (unit i refl)
+
+slash_shorter : {s r : Text} {u : StringUnit} → IsUnit (92 ∷ s) r u → length r < length s
+slash_shorter {s = s} {r = r} i = go i refl
+  where
+    go : {t : Text} {u : StringUnit} → IsUnit t r u → t ≡ 92 ∷ s → length r < length s
+    go (one_literal {c = c} h) e = absurd (no_slash c (let same : c ≡ 92 = cc in same) h)
+    go (one_letter {e = d} h) e = let same : d ∷ r ≡ s = cc in omega (arith, ap length same)
+    go (one_number {t = t} x) e = let same : 117 ∷ 123 ∷ t ≡ s = cc in omega (arith, ap length same, ap length x.text, length-append x.digits (125 ∷ r))
+    go (one_gap {e = d} {t = t} x y) e = let same : d ∷ t ≡ s = cc in omega (arith, ap length same, ap length y.text, length-append y.run r)
+
+module _ (f a : Here) (old out : List LineUnit) (i : InEscaped f a old out) (u : StringUnit) (b : Here) (unit_is : IsUnit (92 ∷ a.rest) b.rest u) (m : Moves a b) (k : Costs 1 1 a b) where
+  fewer : length (kept u) + bytes b.rest ≤ bytes a.rest
+  fewer = omega (arith, kept_one u, slash_shorter unit_is, ap length m.piece.1, length-append m.piece.0 b.rest, ap bytes m.piece.1, bytes-append m.piece.0 b.rest, length-bytes m.piece.0)
+
+  escape_costs : Costs 3 0 f b
+  escape_costs = record {
+    most = omega (arith, i.costs.most, k.most, slash_shorter unit_is, ap length m.piece.1, length-append m.piece.0 b.rest, ap bytes m.piece.1, bytes-append m.piece.0 b.rest, length-bytes m.piece.0);
+    least = omega (arith, i.costs.least, k.least);
+  }
+
+  escape_goes : Goes Content (92 ∷ f.rest) (i.more ++ kept u) b.rest
+  escape_goes = goes_then i.goes (slash_kept unit_is)
+
+  escape_inside : is_one_line (i.more ++ kept u) ≡ true
+  escape_inside = joins i.more (kept u) i.inside (kept_inside u)
+
+  module _ (p : Text) (d : Here) (mid new : List LineUnit) (n : Moves b d) (l : Costs 3 0 b d) (s : bytes p + 1 + bytes d.rest ≤ bytes b.rest) (e : mid ≡ out ++ kept u) (e' : new ≡ mid ++ literals p) where
+    units_are : new ≡ old ++ ((i.more ++ kept u) ++ literals p)
+    units_are = e' ∙ ap (λ z. z ++ literals p) (e ∙ ap (λ z. z ++ kept u) i.is ∙ append_assoc old i.more (kept u)) ∙ append_assoc old (i.more ++ kept u) (literals p)
+
+    units_few : length ((i.more ++ kept u) ++ literals p) + bytes d.rest ≤ bytes f.rest
+    units_few = omega (arith, length-append (i.more ++ kept u) (literals p), length-append i.more (kept u), i.shorter, fewer, length-literals p, s)
+
+    all_inside : is_one_line ((i.more ++ kept u) ++ literals p) ≡ true
+    all_inside = joins (i.more ++ kept u) (literals p) escape_inside (literals_inside p)
+
+    part_moves : Moves f d
+    part_moves = moves_then i.moves (moves_then m n)
+
+    part_costs : Costs 3 0 f d
+    part_costs = record { most = omega (arith, escape_costs.most, l.most); least = omega (arith, escape_costs.least, l.least) }
+
+    -- up to the next escape
+    pub escaped_turn : Goes Content b.rest (literals p) (92 ∷ d.rest) → InEscaped f d old new
+    escaped_turn g = record { more = (i.more ++ kept u) ++ literals p; is = units_are; inside = all_inside; goes = goes_then escape_goes g; moves = part_moves; costs = part_costs; shorter = units_few }
+
+    -- up to a newline
+    pub escaped_ends : ReadsLine Content false b.rest (literals p) d.rest
+        → ((us : List LineUnit) × (new ≡ old ++ us) × ReadsLine Content false (92 ∷ f.rest) us d.rest × (length us + bytes d.rest ≤ bytes f.rest)) × Moves f d × Costs 3 0 f d
+    escaped_ends (one, g) = (
+      ((i.more ++ kept u) ++ literals p, units_are, (all_inside, subst (λ z. Goes Content (92 ∷ f.rest) z d.rest) (sym (append_assoc (i.more ++ kept u) (literals p) (LineEnd ∷ []))) (goes_then escape_goes g)), units_few),
+      part_moves,
+      part_costs,
+    )
+
+    -- up to three quotes
+    pub escaped_closes : ReadsLine Content true b.rest (literals p) d.rest
+        → ((us : List LineUnit) × (new ≡ old ++ us) × ReadsLine Content true (92 ∷ f.rest) us d.rest × (length us + bytes d.rest ≤ bytes f.rest)) × Moves f d × Costs 3 0 f d
+    escaped_closes (one, x) = (
+      ((i.more ++ kept u) ++ literals p, units_are, (all_inside, escape_goes.on d.rest (literals p) x), units_few),
+      part_moves,
+      part_costs,
+    )
+
+  -- where what follows was not read, or the memory ended
+  pub part_fails : (d : Here) → Moves b d → Costs 3 1 b d → Moves f d × Costs 3 1 f d
+  part_fails d n l = (moves_then i.moves (moves_then m n), record { most = omega (arith, escape_costs.most, l.most); least = omega (arith, escape_costs.least, l.least) })
+
+  pub part_there : (r : Text) (us : List LineUnit) → Content (92 ∷ f.rest) r us → (v : List LineUnit) × Content b.rest r v
+  part_there r us x = let (v, e, rest) = escape_goes.back r us x in (v, rest)
+
+-- where an escape was not read, or the memory ended
+pub escape_fails : (f a b : Here) (old out : List LineUnit) → InEscaped f a old out → Moves a b → Costs 1 1 a b → Moves f b × Costs 3 1 f b
+escape_fails f a b old out i m k = let x = fewer_bytes m in (moves_then i.moves m, record { most = omega (arith, i.costs.most, k.most); least = omega (arith, i.costs.least, k.least) })
+
+pub escape_there : (f a : Here) (old out : List LineUnit) → InEscaped f a old out → (r : Text) (us : List LineUnit) → Content (92 ∷ f.rest) r us → (m : Text) × (u : StringUnit) × IsUnit (92 ∷ a.rest) m u
+escape_there f a old out i r us x =
+    let (v, e, rest) = i.goes.back r us x in
+    let (m, ws, there) = content_unit (λ h. omega arith) rest in
+    let (u, unit_there) = slash_unit there in
+    (m, u, unit_there)
+
+-- a line with an escape, behind what stands before that
+pub line_escaped : (f b d p : Text) (none old : List LineUnit) {new : List LineUnit} (closed : Bool) → Goes Content f (literals p) (92 ∷ b) → bytes p + 1 + bytes b ≤ bytes f → none ≡ [] → old ≡ none ++ literals p
+    → (us : List LineUnit) × (new ≡ old ++ us) × ReadsLine Content closed (92 ∷ b) us d × (length us + bytes d ≤ bytes b) → ReadsLine Content closed f new d × (length new + 1 + bytes d ≤ bytes f)
+line_escaped f b d p none old {new = new} closed g s n e (us, is, line, few) =
+    let whole : new ≡ literals p ++ us = is ∙ ap (λ z. z ++ us) (e ∙ ap (λ z. z ++ literals p) n) in
+    (rw whole (reads closed us line), omega (arith, ap length whole, length-append (literals p) us, length-literals p, s, few))
+  where
+    reads : (closed : Bool) (us : List LineUnit) → ReadsLine Content closed (92 ∷ b) us d → ReadsLine Content closed f (literals p ++ us) d
+    reads true us (one, x) = (joins (literals p) us (literals_inside p) one, g.on d us x)
+    reads false us (one, x) = (joins (literals p) us (literals_inside p) one, subst (λ z. Goes Content f z d) (sym (append_assoc (literals p) us (LineEnd ∷ []))) (goes_then g x))

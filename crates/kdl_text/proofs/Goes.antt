@@ -1,11 +1,7 @@
 -- How a reader of a value goes on: what has been read of it, and what is to come.
 use Rattle.std.proofs.Common.{◌≡◌, List, [], ◌++◌, refl, ap, sym, ◌∙◌, append_assoc, append-nil, subst}
 use Rattle.kdl_text.specs.Chars.{Text}
-
--- an X from s stands for `out`, and then for what an X from t stands for
-pub record Goes {A : Type 0} (X : Text → Text → List A → Type 0) (s : Text) (out : List A) (t : Text) : Type 0 where
-  pub on : (r : Text) (v : List A) → X t r v → X s r (out ++ v)
-  pub back : (r : Text) (w : List A) → X s r w → (v : List A) × (w ≡ out ++ v) × X t r v
+use Rattle.kdl_text.specs.Reading.{Goes}
 
 pub goes_start : {A : Type 0} (X : Text → Text → List A → Type 0) (s : Text) → Goes X s [] s
 goes_start X s = record { on = λ r v x. x; back = λ r w x. (w, refl, x) }

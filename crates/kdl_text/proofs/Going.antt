@@ -58,3 +58,9 @@ bytes-append (c ∷ p) q = omega (arith, bytes-append p q)
 
 pub fewer_bytes : {a b : Here} → Moves a b → bytes b.rest ≤ bytes a.rest
 fewer_bytes {a = a} {b = b} m = omega (arith, ap bytes m.piece.1, bytes-append m.piece.0 b.rest)
+
+pub costs_less : {k : ℕ} {a b : Here} → Costs k 0 a b → Costs k 1 a b
+costs_less c = record { most = omega (arith, c.most); least = c.least }
+
+pub costs_at : {k : ℕ} {a b : Here} → Costs k 0 a b → Costs k 2 a b
+costs_at c = record { most = omega (arith, c.most); least = c.least }

@@ -17,11 +17,13 @@ pub mod Goes
 pub mod Going
 mod Hex
 pub mod Keywords
+mod Lines
 pub mod Mosts
 pub mod MultiLines
 pub mod Newlines
 pub mod NumberReads
 mod Opened
+mod Plains
 mod Quoting
 mod RawBodies
 mod RawLine
@@ -39,5 +41,6 @@ pub mod TriviaSpaces
 mod Turns
 pub mod Units
 pub mod ValueEnds
+pub mod Vectors
 pub mod WholeNumbers
 mod Words

@@ -8,7 +8,7 @@ use Rattle.kdl_text.specs.MultiLine.{kept, ContentUnit, quote, line, unit, Conte
 use Rattle.kdl_text.specs.declared.strings.dedent.LineUnit.{LineUnit}
 use Rattle.kdl_text.specs.declared.strings.dedent.LineUnit.TheVariants.{Literal}
 use Rattle.kdl_text.proofs.Newlines.{newline_det, no_newline}
-use Rattle.kdl_text.proofs.Goes.{Goes}
+use Rattle.kdl_text.specs.Reading.{Goes}
 use Rattle.kdl_text.proofs.Raws.{quote_no_newline}
 use Rattle.kdl_text.proofs.Units.{unit_det, unit_no_quote, unit_front}
 
@@ -86,7 +86,7 @@ escape_unit o p c s r h e i = rw e (unit (subst (λ z. IsUnit (92 ∷ s) r (esca
 pub literal_unit : (c : ℕ) (s : Text) → is_literal c ≡ true → ContentUnit (c ∷ s) s (Literal c ∷ [])
 literal_unit c s h = unit (one_literal h) refl
 
-slash_unit : {s r : Text} {us : List LineUnit} → ContentUnit (92 ∷ s) r us → (u : StringUnit) × IsUnit (92 ∷ s) r u
+pub slash_unit : {s r : Text} {us : List LineUnit} → ContentUnit (92 ∷ s) r us → (u : StringUnit) × IsUnit (92 ∷ s) r u
 slash_unit (line n) = absurd (no_newline slash_no_newline n)
 slash_unit (unit {u = u} j f) = (u, j)
 

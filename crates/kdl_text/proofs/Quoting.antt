@@ -6,10 +6,10 @@ use Rattle.std.specs.Prelude.{Some, None, Result, Ok, Err, MatchResult}
 use Rattle.std.specs.Result.{IsErrAnd}
 use Rattle.kdl_text.specs.Chars.{Text, is_literal, starts}
 use Rattle.kdl_text.specs.Here.{Here, Took, bytes}
-use Rattle.kdl_text.specs.Reading.{Moves, Costs}
+use Rattle.kdl_text.specs.Reading.{Moves, Costs, Goes}
 use Rattle.kdl_text.specs.Strings.{StringUnit, unit_value, Run, IsUnit, QuotedBody}
 use Rattle.kdl_text.proofs.Going.{moves_then, moves_one, fewer_bytes}
-use Rattle.kdl_text.proofs.Goes.{Goes, goes_then, goes_end, goes_none}
+use Rattle.kdl_text.proofs.Goes.{goes_then, goes_end, goes_none}
 use Rattle.kdl_text.proofs.Slices.{costs_took}
 use Rattle.kdl_text.proofs.Units.{goes_unit, goes_literals, body_done, body_end, body_empty, body_none, body_unit, unit_front}
 

@@ -3,7 +3,7 @@ use Rattle.std.proofs.Common.{◌≡◌, ℕ, zero, suc, ◌<◌, Bool, true, fa
 use Rattle.std.proofs.lemmas.Bool.{false≢true, true≢false}
 use Rattle.std.specs.Prelude.{Result, Ok, Err, IfOk, MatchResult}
 use Rattle.kdl_text.specs.Chars.{Text, Newline, begins, begins_two, times}
-use Rattle.kdl_text.specs.Dedent.{Dedents}
+use Rattle.kdl_text.specs.Dedent.{Dedents, lines_of}
 use Rattle.kdl_text.specs.Raw.{closing, literals, is_single, char, RawUnits, none, more, RawContent, content, MultiLineRawBody, lines, IsRaw, on_one_line, on_many_lines}
 use Rattle.kdl_text.specs.declared.strings.StringFailure.{StringFailure}
 use Rattle.kdl_text.specs.declared.strings.StringFailure.TheVariants.{Memory}
@@ -11,14 +11,16 @@ use Rattle.kdl_text.specs.declared.strings.dedent.LineUnit.{LineUnit}
 use Rattle.kdl_text.proofs.Newlines.{newline_det}
 use Rattle.kdl_text.proofs.Closings.{signs_same, no_signs}
 use Rattle.kdl_text.proofs.Bodies.{dedent_only}
+use Rattle.kdl_text.proofs.Raws.{raw_det}
 
-pub raw_body_found : {T E : Type 0} (o : Result T E) (f : T → Text) (n : ℕ) (t m r : Text) (us vs : List LineUnit) → Newline t m → RawContent (closing 3 n) m r us → vs ≡ us → IfOk o (λ v. Dedents vs (f v)) → IfOk o (λ v. MultiLineRawBody n t r (f v))
-raw_body_found (Ok v) f n t m r us vs k x h d = lines k x (subst (λ z. Dedents z (f v)) h d)
-raw_body_found (Err e) f n t m r us vs k x h d = tt
+pub raw_body_found : {T E : Type 0} (o : Result T E) (f : T → Text) (n : ℕ) (t m r : Text) (us : List LineUnit) → Newline t m → RawContent (closing 3 n) m r us → IfOk o (λ v. Dedents us (f v)) → IfOk o (λ v. MultiLineRawBody n t r (f v))
+raw_body_found (Ok v) f n t m r us k x d = lines k x d
+raw_body_found (Err e) f n t m r us k x d = tt
 
-pub raw_body_only : {T : Type 0} (o : Result T StringFailure) (f : T → Text) (n : ℕ) (t m e : Text) (us vs : List LineUnit) → Newline t m → ((r : Text) (w : List LineUnit) → RawContent (closing 3 n) m r w → (r ≡ e) × (w ≡ us)) → vs ≡ us
-    → ((v : Text) → Dedents vs v → MatchResult o (λ s. v ≡ f s) (λ x. x ≡ Memory)) → (r w : Text) → MultiLineRawBody n t r w → MatchResult o (λ v. (r ≡ e) × (w ≡ f v)) (λ x. x ≡ Memory)
-raw_body_only o f n t m e us vs k only h dedents r w (lines {us = xs} l x d) = dedent_only o f vs us xs r e w (only r xs (subst (λ z. RawContent (closing 3 n) z r xs) (newline_det l k) x)) h dedents d
+pub raw_body_only : {T : Type 0} (o : Result T StringFailure) (f : T → Text) (n : ℕ) (t m e : Text) (us : List LineUnit) (ls : List (List LineUnit)) → Newline t m → RawContent (closing 3 n) m e us → lines_of us ≡ ls
+    → ((us : List LineUnit) (v : Text) → lines_of us ≡ ls → Dedents us v → MatchResult o (λ s. v ≡ f s) (λ x. x ≡ Memory)) → (r w : Text) → MultiLineRawBody n t r w → MatchResult o (λ v. (r ≡ e) × (w ≡ f v)) (λ x. x ≡ Memory)
+raw_body_only o f n t m e us ls k here h dedents r w (lines {us = xs} l x d) =
+    dedent_only o f us xs ls r e w (raw_det (subst (λ z. RawContent (closing 3 n) z r xs) (newline_det l k) x) here) h dedents d
 
 pub raw_body_content : (n : ℕ) (t m r w : Text) → Newline t m → MultiLineRawBody n t r w → (us : List LineUnit) × RawContent (closing 3 n) m r us
 raw_body_content n t m r w k (lines {us = us} l x d) = (us, subst (λ z. RawContent (closing 3 n) z r us) (newline_det l k) x)

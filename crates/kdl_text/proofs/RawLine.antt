@@ -32,7 +32,7 @@ not_raw : (c : ℕ) → (c ≡ 34 → ⊥) → is_unquoted c ≡ false → is_ra
 unfolding is_unquoted is_raw
 not_raw c ne h = neither (c == 34) (is_newline_char c) (is_banned c) (ne_eqb c 34 ne) h
 
-unquoted_pass : (q run t : Text) → list_all is_unquoted run ≡ true → RawUnits (34 ∷ q) (run ++ t) t (literals run)
+pub unquoted_pass : (q run t : Text) → list_all is_unquoted run ≡ true → RawUnits (34 ∷ q) (run ++ t) t (literals run)
 unquoted_pass q [] t h = none
 unquoted_pass q (c ∷ run) t h =
     let (here, tail) = and_parts (is_unquoted c) _ h in

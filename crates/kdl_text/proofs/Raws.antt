@@ -7,7 +7,8 @@ use Rattle.kdl_text.specs.Raw.{RawUnit, char, line, RawUnits, none, more, RawCon
 use Rattle.kdl_text.specs.declared.strings.dedent.LineUnit.{LineUnit}
 use Rattle.kdl_text.specs.declared.strings.dedent.LineUnit.TheVariants.{Literal}
 use Rattle.kdl_text.proofs.Newlines.{newline_det, no_newline}
-use Rattle.kdl_text.proofs.Goes.{Goes, goes_end, goes_none}
+use Rattle.kdl_text.specs.Reading.{Goes}
+use Rattle.kdl_text.proofs.Goes.{goes_end, goes_none}
 use Rattle.kdl_text.proofs.Closings.{begins_own, units_then}
 
 raw_no_newline : (c : ℕ) → is_raw c ≡ true → is_newline_char c ≡ false

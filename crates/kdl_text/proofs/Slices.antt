@@ -1,7 +1,9 @@
 -- Runs and slices: what they cost.
-use Rattle.std.proofs.Common.{◌≡◌, ℕ, List, Bool, true, false, ◌++◌, length, refl, ap, ◌∙◌, arith, length-append}
+use Rattle.std.proofs.Common.{◌≡◌, ℕ, List, Bool, true, false, ◌++◌, length, refl, sym, ap, ◌∙◌, arith, length-append}
 use Rattle.std.specs.Prelude.{Some, None, Result, Ok, Err, is_ok, IfOk, if◌then◌else◌}
 use Rattle.std.specs.Str.{chars, IsUtf8}
+use Rattle.std.specs.List.{list_all}
+use Rattle.std.proofs.lemmas.List.{append_cancel_right}
 use Rattle.std.proofs.lemmas.Str.{chars-append}
 use Rattle.kdl_text.specs.Chars.{Text}
 use Rattle.kdl_text.specs.Here.{Here, Took, Ate, Ran, Skips, looked, sliced, bytes}
@@ -61,6 +63,10 @@ ran_sliced p x a m e (run, r) t s =
       moves = moves_sliced x a m (sliced x m) refl (moves_ran r);
       costs = costs_sliced 1 x a m (sliced x m) refl t (costs_ran r);
     })
+
+-- the run is what lies between
+pub all_of_run : (q : ℕ → Bool) (p t r : Text) → Run q t r → t ≡ p ++ r → list_all q p ≡ true
+all_of_run q p t r k e = let same : k.run ≡ p = append_cancel_right k.run p r (sym k.text ∙ e) in ap (list_all q) (sym same) ∙ k.all
 
 -- a text behind a text
 pub pushed : {T E : Type 0} (r : Result T E) (a n t x : List ℕ) → IsUtf8 a → n ≡ (if is_ok r then a ++ t else a) → chars t ≡ x → IfOk r (λ _. chars n ≡ chars a ++ x)

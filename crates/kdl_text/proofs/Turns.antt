@@ -3,11 +3,13 @@ use Rattle.std.proofs.Common.{◌≡◌, ℕ, ◌+◌, ◌-◌, ◌<◌, ◌≤�
 use Rattle.std.specs.Prelude.{Some, None}
 use Rattle.std.proofs.lemmas.Str.{len_utf8_bounds}
 use Rattle.std.proofs.lemmas.Bool.{ne_eqb}
-use Rattle.kdl_text.specs.Here.{Here, Took, Ate, bytes}
+use Rattle.kdl_text.specs.Here.{Here, Took, Ate, Skips, bytes}
+use Rattle.kdl_text.specs.Chars.{is_comment_char}
+use Rattle.kdl_text.proofs.Slices.{moves_ran, costs_ran}
 use Rattle.kdl_text.specs.Trivia.{Parts}
 use Rattle.kdl_text.specs.Reading.{Reads, Moves, Costs}
-use Rattle.kdl_text.proofs.Blocks.{Ends, none, Same, same_opens, same_closes, same_passes, same_ends, same_starts, none_end}
-use Rattle.kdl_text.proofs.Going.{stays, moves_took}
+use Rattle.kdl_text.proofs.Blocks.{Ends, none, Same, same_opens, same_closes, same_passes, same_run, same_ends, same_starts, none_end}
+use Rattle.kdl_text.proofs.Going.{stays, moves_then, moves_took, fewer_bytes}
 
 -- where the loop stands
 pub record Inside (f : Here) (depth : ℕ) (a : Here) : Type 0 where
@@ -47,6 +49,20 @@ module _ (f : Here) (n c : ℕ) (a b e : Here) (i : Inside f n a) (took : Took (
     moves = moves_took _ _ _ _ took i.moves;
     costs = record { most = omega (arith, ap bytes took.0, took.2, i.costs.most, (len_utf8_bounds c).0); least = omega (arith, ap length took.0, took.2, i.costs.least) };
   }
+
+  -- and a run of characters at which no comment begins or ends
+  pub after_run : (c ≡ 47 → ⊥) → (c ≡ 42 → ⊥) → Skips is_comment_char b e → Inside f n e
+  after_run x47 x42 (run, r) =
+      let one = after_one x47 x42 in
+      let moved = moves_ran r in
+      let cost = costs_ran r in
+      record {
+        inside = i.inside;
+        few = omega (arith, took.1, i.few, r.at);
+        same = same_run _ run b.rest e.rest n i.inside r.all r.text one.same;
+        moves = moves_then one.moves moved;
+        costs = record { most = omega (arith, ap bytes took.0, took.2, i.costs.most, (len_utf8_bounds c).0, cost.most, fewer_bytes moved); least = omega (arith, ap length took.0, took.2, i.costs.least, cost.least) };
+      }
 
   looked_after : b.at ≡ e.at → b.rest ≡ e.rest → e.steps ≤ b.steps + 1 → b.steps ≤ e.steps → Moves f e × Costs 2 0 f e × (n + f.at ≤ e.at + 1)
   looked_after x y z w = (

@@ -7,7 +7,8 @@ use Rattle.std.specs.Prelude.{Some}
 use Rattle.std.specs.Str.Parse.{digits_value}
 use Rattle.kdl_text.specs.Chars.{Text, is_space, is_newline_char, is_literal, starts}
 use Rattle.kdl_text.specs.Strings.{StringUnit, escape, unit_value, values, is_blank, is_hex, letter_escape, HexNumber, Run, IsUnit, one_literal, one_letter, one_number, one_gap, AreUnits, none, more, QuotedBody, body, QuotedString, quoted}
-use Rattle.kdl_text.proofs.Goes.{Goes, goes_start, goes_then}
+use Rattle.kdl_text.specs.Reading.{Goes}
+use Rattle.kdl_text.proofs.Goes.{goes_start, goes_then}
 
 -- runs of a class from one place are the same
 pub run_same : (p : ℕ → Bool) (xs ys r s : Text) → list_all p xs ≡ true → list_all p ys ≡ true → starts p r ≡ false → starts p s ≡ false

@@ -60,6 +60,10 @@ is_number_sign c = c == 35
 abbrev pub is_quote : ℕ → Bool
 is_quote c = c == 34
 
+-- neither `*` nor `/`: no block comment begins or ends at it
+abbrev pub is_comment_char : ℕ → Bool
+is_comment_char c = not (c == 42 || c == 47)
+
 -- a character that stands for itself in a quoted string
 unfoldable pub is_literal : ℕ → Bool
 is_literal c = not (((c == 92 || c == 34) || is_newline_char c) || is_banned c)

@@ -1,12 +1,11 @@
 -- A place in a text that is read from left to right, and what a cursor's calls do to it.
-use Rattle.std.specs.Prelude.{◌≡◌, ℕ, ◌+◌, ◌-◌, ◌^◌, ◌<◌, ◌==◌, min, List, [], ◌∷◌, ◌++◌, length, get_or, bit_and, Bool, true, false, not, Option, Some, None}
+use Rattle.std.specs.Prelude.{◌≡◌, ℕ, ◌+◌, ◌-◌, ◌^◌, min, nat_lt, ◌&&◌, List, [], ◌∷◌, ◌++◌, length, Bool, true, false, not, Option, Some, None}
 use Rattle.std.specs.List.{list_all}
 use Rattle.std.specs.Char.{len_utf8}
 use Rattle.std.specs.Str.{chars}
-use Rattle.kdl_text.specs.Chars.{Text, begins, begins_two, starts, is_space, is_identifier_char, is_literal, is_newline_char, is_unquoted, is_number_sign, is_quote}
-use Rattle.kdl_text.specs.declared.chars.TheConstants.{ASCII}
+use Rattle.kdl_text.specs.Chars.{Text, begins, begins_two, starts, is_space, is_identifier_char, is_literal, is_newline_char, is_unquoted, is_number_sign, is_quote, is_comment_char}
 use Rattle.kdl_text.specs.declared.chars.Class.{Class}
-use Rattle.kdl_text.specs.declared.chars.Class.TheVariants.{Space, Identifier, Literal, Line, Unquoted, NumberSign, Quote}
+use Rattle.kdl_text.specs.declared.chars.Class.TheVariants.{Space, Identifier, Literal, Line, Unquoted, NumberSign, Quote, Comment}
 
 -- what a cursor has before it: the characters to come, where it stands in bytes, and the steps so far
 pub record Here : Type 0 where
@@ -103,6 +102,7 @@ in_class Line c = not (is_newline_char c)
 in_class Unquoted c = is_unquoted c
 in_class NumberSign c = is_number_sign c
 in_class Quote c = is_quote c
+in_class Comment c = is_comment_char c
 
 -- past the longest run of characters of a class, each looked at once, and the one behind it
 pub record Ran (p : ℕ → Bool) (run : Text) (old new : Here) : Type 0 where
@@ -112,15 +112,12 @@ pub record Ran (p : ℕ → Bool) (run : Text) (old new : Here) : Type 0 where
   pub at : new.at ≡ old.at + bytes run
   pub steps : new.steps ≡ raise old.steps (length run + 1)
 
--- the bit is set in the table for the ASCII characters of the class alone
-abbrev pub BitOf : (ℕ → Bool) → ℕ → Type 0
-BitOf p bit = (c : ℕ) → c < 128 → (bit_and (get_or ASCII c 0) bit == 0) ≡ not (p c)
-
--- so many ASCII characters of the class begin the UTF-8 text `old`, which leave `new`
+-- so many ASCII characters of the class begin the UTF-8 text `old` and leave `new`, where no other follows
 pub record AsciiOf (p : ℕ → Bool) (old new : List ℕ) (count : ℕ) : Type 0 where
   pub run : Text
   pub text : chars old ≡ run ++ chars new
   pub all : list_all p run ≡ true
+  pub stops : starts (λ c. nat_lt c 128 && p c) (chars new) ≡ false
   pub len : length old ≡ count + length new
   pub count_is : length run ≡ count
   pub bytes_is : bytes run ≡ count

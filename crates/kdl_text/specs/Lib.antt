@@ -3,6 +3,7 @@ pub mod Chars
 pub mod Dedent
 pub mod Failures
 pub mod Here
+pub mod Lines
 pub mod MultiLine
 pub mod NumberReading
 pub mod Numbers
@@ -10,5 +11,6 @@ pub mod Raw
 pub mod Reading
 pub mod Spans
 pub mod Strings
+pub mod Tables
 pub mod Trivia
 pub mod TriviaReading

@@ -1,5 +1,5 @@
 -- How a reader's answer stands to a relation, and what it costs.
-use Rattle.std.specs.Prelude.{◌≡◌, ℕ, ◌+◌, ◌*◌, ◌≤◌, ◌↔◌, Bool, true, false, ◌++◌, length}
+use Rattle.std.specs.Prelude.{◌≡◌, ℕ, ◌+◌, ◌*◌, ◌≤◌, ◌↔◌, Bool, true, false, List, ◌++◌, length}
 use Rattle.kdl_text.specs.Chars.{Text, Star, Newline}
 use Rattle.kdl_text.specs.Here.{Here, bytes, raise, Stayed}
 
@@ -27,3 +27,8 @@ Longest R s rest = Star R s rest × ((t : Text) → R rest t → ⊥)
 abbrev pub ReadsNewline : Bool → Here → Here → Type 0
 ReadsNewline true old new = Newline old.rest new.rest
 ReadsNewline false old new = Stayed 1 old new × ((t : Text) → Newline old.rest t → ⊥)
+
+-- an X from s stands for `out`, and then for what an X from t stands for
+pub record Goes {A : Type 0} (X : Text → Text → List A → Type 0) (s : Text) (out : List A) (t : Text) : Type 0 where
+  pub on : (r : Text) (v : List A) → X t r v → X s r (out ++ v)
+  pub back : (r : Text) (w : List A) → X s r w → (v : List A) × (w ≡ out ++ v) × X t r v

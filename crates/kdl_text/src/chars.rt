@@ -4,14 +4,17 @@
 
 ghost use Rattle.kdl_text.specs.Chars as class;
 ghost use Rattle.kdl_text.specs.Chars.{Text, Newline};
-ghost use Rattle.kdl_text.specs.Here.{Here, Ahead, Behind, Skips, Took, Ate, AteTwo, Stayed, first, first_len, tail, looked, stepped, sliced, counted, bytes, raise, in_class, RunOf, BitOf, AsciiOf};
+ghost use Rattle.kdl_text.specs.Here.{Here, Ahead, Behind, Skips, Took, Ate, AteTwo, Stayed, first, first_len, tail, looked, stepped, sliced, counted, bytes, raise, in_class, RunOf, AsciiOf};
+ghost use Rattle.kdl_text.specs.Tables.{TableOf};
 ghost use Rattle.kdl_text.specs.Reading.{Moves, Costs, ReadsNewline};
 ghost use Rattle.kdl_text.specs.Spans as spans;
 ghost use Rattle.std.specs.Char.{len_utf8};
-ghost use Rattle.std.specs.Prelude.{◌≡◌, ℕ, Bool, true, ◌+◌, ◌-◌, ◌<◌, ◌^◌, ◌++◌, ◌∷◌, [], length, MatchOption, IfSome, IfOk, IsTrue, ◌↔◌, string_bytes};
+ghost use Rattle.std.specs.Prelude.{◌≡◌, ℕ, Bool, true, ◌+◌, ◌-◌, ◌<◌, ◌^◌, ◌++◌, ◌∷◌, [], length, MatchOption, IfSome, IfOk, IsTrue, ◌↔◌, string_bytes, nat_lt, not, ◌&&◌};
+ghost use Rattle.std.specs.List.{list_all};
 ghost use Rattle.std.specs.Str.{chars, IsUtf8};
 
 use crate::span::SourceSpan;
+use crate::tables::{inside_len, is_inside};
 use std::alloc::{AllocError, Global};
 use std::marker::Model;
 
@@ -83,7 +86,7 @@ pub fn is_identifier_char(c: char) -> bool
     ensures { result ≡ class.is_identifier_char c }
 {
     if c.is_ascii() {
-        return ASCII[c as usize] & Class::Identifier.bit() != 0;
+        return is_inside(c as u8, &IDENTIFIERS);
     }
     !(is_space(c) || is_newline_char(c) || is_banned(c) || is_mark(c))
 }
@@ -106,9 +109,10 @@ pub fn is_raw(c: char) -> bool
     !(is_newline_char(c) || is_banned(c))
 }
 
+/// Whether the character may stand in a line of a raw string and is no quote.
 #[inline]
 #[tactic(auto, unfolding(crate::specs::Chars::is_unquoted))]
-fn is_unquoted(c: char) -> bool
+pub fn is_unquoted(c: char) -> bool
     ensures { result ≡ class.is_unquoted c }
 {
     !(c == '"' || is_newline_char(c) || is_banned(c))
@@ -131,39 +135,72 @@ pub enum Class {
     NumberSign,
     /// Quotes.
     Quote,
+    /// All but `*` and `/`, at which block comments begin and end.
+    Comment,
 }
 
-/// The classes of each ASCII character, each class the bit that `Class::bit` gives it.
-static ASCII: [u8; 128] = [
-    0x08, 0x08, 0x08, 0x08, 0x08, 0x08, 0x08, 0x08, 0x08, 0x1d, 0x00, 0x00, 0x00, 0x00, 0x08, 0x08,
-    0x08, 0x08, 0x08, 0x08, 0x08, 0x08, 0x08, 0x08, 0x08, 0x08, 0x08, 0x08, 0x08, 0x08, 0x08, 0x08,
-    0x1d, 0x1e, 0x48, 0x3c, 0x1e, 0x1e, 0x1e, 0x1e, 0x1c, 0x1c, 0x1e, 0x1e, 0x1e, 0x1e, 0x1e, 0x1c,
-    0x1e, 0x1e, 0x1e, 0x1e, 0x1e, 0x1e, 0x1e, 0x1e, 0x1e, 0x1e, 0x1e, 0x1c, 0x1e, 0x1c, 0x1e, 0x1e,
-    0x1e, 0x1e, 0x1e, 0x1e, 0x1e, 0x1e, 0x1e, 0x1e, 0x1e, 0x1e, 0x1e, 0x1e, 0x1e, 0x1e, 0x1e, 0x1e,
-    0x1e, 0x1e, 0x1e, 0x1e, 0x1e, 0x1e, 0x1e, 0x1e, 0x1e, 0x1e, 0x1e, 0x1c, 0x18, 0x1c, 0x1e, 0x1e,
-    0x1e, 0x1e, 0x1e, 0x1e, 0x1e, 0x1e, 0x1e, 0x1e, 0x1e, 0x1e, 0x1e, 0x1e, 0x1e, 0x1e, 0x1e, 0x1e,
-    0x1e, 0x1e, 0x1e, 0x1e, 0x1e, 0x1e, 0x1e, 0x1e, 0x1e, 0x1e, 0x1e, 0x1c, 0x1e, 0x1c, 0x1e, 0x08,
+/// The ASCII characters of each class: bit h of number l is that of the character 16 * h + l.
+static SPACES: [u8; 16] = [
+    0x04, 0x00, 0x00, 0x00, 0x00, 0x00, 0x00, 0x00, 0x00, 0x01, 0x00, 0x00, 0x00, 0x00, 0x00, 0x00,
+];
+
+static IDENTIFIERS: [u8; 16] = [
+    0xf8, 0xfc, 0xf8, 0xf8, 0xfc, 0xfc, 0xfc, 0xfc, 0xf8, 0xf8, 0xfc, 0x54, 0xdc, 0x54, 0xfc, 0x78,
+];
+
+static LITERALS: [u8; 16] = [
+    0xfc, 0xfc, 0xf8, 0xfc, 0xfc, 0xfc, 0xfc, 0xfc, 0xfc, 0xfd, 0xfc, 0xfc, 0xdc, 0xfc, 0xfc, 0x7c,
+];
+
+static LINES: [u8; 16] = [
+    0xff, 0xff, 0xff, 0xff, 0xff, 0xff, 0xff, 0xff, 0xff, 0xff, 0xfe, 0xfe, 0xfe, 0xfe, 0xff, 0xff,
+];
+
+static UNQUOTEDS: [u8; 16] = [
+    0xfc, 0xfc, 0xf8, 0xfc, 0xfc, 0xfc, 0xfc, 0xfc, 0xfc, 0xfd, 0xfc, 0xfc, 0xfc, 0xfc, 0xfc, 0x7c,
+];
+
+static NUMBER_SIGNS: [u8; 16] = [
+    0x00, 0x00, 0x00, 0x04, 0x00, 0x00, 0x00, 0x00, 0x00, 0x00, 0x00, 0x00, 0x00, 0x00, 0x00, 0x00,
+];
+
+static QUOTES: [u8; 16] = [
+    0x00, 0x00, 0x04, 0x00, 0x00, 0x00, 0x00, 0x00, 0x00, 0x00, 0x00, 0x00, 0x00, 0x00, 0x00, 0x00,
+];
+
+static COMMENTS: [u8; 16] = [
+    0xff, 0xff, 0xff, 0xff, 0xff, 0xff, 0xff, 0xff, 0xff, 0xff, 0xfb, 0xff, 0xff, 0xff, 0xff, 0xfb,
 ];
 
 impl Class {
-    /// The bit of the class in `ASCII`.
-    #[inline]
-    fn bit(self) -> u8
-        ensures { BitOf (in_class self) result }
+    /// The table of its ASCII characters.
+    #[inline(always)]
+    fn table(self) -> &'static [u8; 16]
+        ensures { TableOf (in_class self) result.now }
     {
         match self {
-            Class::Space => 1,
-            Class::Identifier => 2,
-            Class::Literal => 4,
-            Class::Line => 8,
-            Class::Unquoted => 16,
-            Class::NumberSign => 32,
-            Class::Quote => 64,
+            Class::Space => &SPACES,
+            Class::Identifier => &IDENTIFIERS,
+            Class::Literal => &LITERALS,
+            Class::Line => &LINES,
+            Class::Unquoted => &UNQUOTEDS,
+            Class::NumberSign => &NUMBER_SIGNS,
+            Class::Quote => &QUOTES,
+            Class::Comment => &COMMENTS,
         }
     }
 
+    /// Whether the character is one of the class beyond ASCII.
+    #[inline]
+    fn has_beyond(self, c: char) -> bool
+        ensures { result ≡ (not (nat_lt c 128) && in_class self c) }
+    {
+        !c.is_ascii() && self.has(c)
+    }
+
     /// Whether the character is of the class.
-    pub fn has(self, c: char) -> bool
+    #[inline(never)]
+    fn has(self, c: char) -> bool
         ensures { result ≡ in_class self c }
     {
         match self {
@@ -174,31 +211,18 @@ impl Class {
             Class::Unquoted => is_unquoted(c),
             Class::NumberSign => c == '#',
             Class::Quote => c == '"',
+            Class::Comment => !matches!(c, '*' | '/'),
         }
     }
 }
 
-/// Whether the byte is an ASCII character of the class with this bit.
-#[inline]
-fn is_ascii_of(byte: u8, bit: u8) -> bool
-    ensures ascii { IsTrue result → byte < 128 }
-    ensures class { (p : ℕ → Bool) → BitOf p bit → IsTrue result → p byte ≡ true }
-{
-    byte.is_ascii() && ASCII[byte as usize] & bit != 0
-}
-
 /// The text behind its longest run of ASCII characters of the class, and how many these are.
 #[inline]
-#[tactic(auto, using(crate::proofs::Classes::ascii_begins, crate::proofs::Classes::ascii_turn, crate::proofs::Classes::ascii_boundary))]
+#[tactic(auto, using(crate::proofs::Classes::ascii_boundary))]
 fn skip_ascii(text: &str, class: Class) -> (&str, u64)
     ensures { AsciiOf (in_class class) text.now result.0.now result.1 }
 {
-    let bytes = text.as_bytes();
-    let bit = class.bit();
-    let mut count = 0;
-    'run: while count < bytes.len() && is_ascii_of(bytes[count], bit) {
-        count += 1;
-    }
+    let count = inside_len(text.as_bytes(), class.table());
     (&text[count..], count as u64)
 }
 
@@ -285,16 +309,18 @@ fn starts_with_two(text: &str, a: char, b: char) -> bool
     }
 }
 
-/// The text behind the longest run of characters of the class, and how many these are.
-#[inline]
+/// The same from the place on to which `skip_ascii` came, behind so many characters.
+#[inline(never)]
 #[tactic(auto, using(crate::proofs::Runs::run_begins, crate::proofs::Runs::run_turn, crate::proofs::Runs::run_stops, crate::proofs::Runs::run_ends, crate::proofs::Runs::run_counts))]
-fn skip_class(text: &str, class: Class) -> (&str, u64)
+fn skip_beyond<'a>(text: &str, behind: &'a str, read: u64, class: Class) -> (&'a str, u64)
+    requires { AsciiOf (in_class class) text.now behind.now read }
     ensures { RunOf (in_class class) text.now result.0.now result.1 }
 {
     let _len = text.len();
-    let (mut rest, mut count) = skip_ascii(text, class);
+    let mut rest = behind;
+    let mut count = read;
     'run: while let Some((c, next)) = split_first(rest) {
-        if !class.has(c) {
+        if !class.has_beyond(c) {
             break;
         }
         let (behind, more) = skip_ascii(next, class);
@@ -302,6 +328,21 @@ fn skip_class(text: &str, class: Class) -> (&str, u64)
         count += 1 + more;
     }
     (rest, count)
+}
+
+/// The text behind the longest run of characters of the class, and how many these are.
+#[inline]
+fn skip_class(text: &str, class: Class) -> (&str, u64)
+    ensures { RunOf (in_class class) text.now result.0.now result.1 }
+{
+    let (rest, count) = skip_ascii(text, class);
+    let Some(c) = first_char(rest) else {
+        return (rest, count);
+    };
+    if c.is_ascii() {
+        return (rest, count);
+    }
+    skip_beyond(text, rest, count, class)
 }
 
 /// What stands before the rest of a text.
@@ -374,6 +415,20 @@ impl<'a> Checkpoint<'a> {
         }
     }
 
+    /// The place behind the character here; the same place at the end of the text. No step.
+    pub(crate) fn next(&self) -> Checkpoint<'a>
+        ensures rest { result.rest ≡ tail self.now.rest }
+        ensures at { result.at ≡ self.now.at + first_len self.now.rest }
+    {
+        match split_first(self.rest) {
+            Some((c, rest)) => Checkpoint {
+                rest,
+                at: self.at + c.len_utf8(),
+            },
+            None => self.copied(),
+        }
+    }
+
     /// The span of the character at the place, of length 0 at the end of the text.
     pub fn char_span(&self) -> SourceSpan
         ensures offset { result.offset ≡ self.now.at }
@@ -437,6 +492,41 @@ impl<'a> Piece<'a> {
         ensures { IsTrue result ↔ (self.now ≡ chars text.now) }
     {
         same(self.text, text)
+    }
+
+    /// The same piece once more.
+    #[inline]
+    pub(crate) fn copied(&self) -> Piece<'a>
+        ensures { result ≡ self.now }
+    {
+        Piece { text: self.text }
+    }
+
+    /// How many bytes the piece has.
+    #[inline]
+    pub(crate) fn len(&self) -> usize
+        ensures { result ≡ bytes self.now }
+    {
+        byte_len(self.text)
+    }
+
+    /// Whether each character of the piece is of the class.
+    pub(crate) fn is_all(&self, class: Class) -> bool
+        ensures { result ≡ list_all (in_class class) self.now }
+    {
+        let (rest, _) = skip_class(self.text, class);
+        first_char(rest).is_none()
+    }
+
+    /// The first character, and the piece behind it.
+    #[inline]
+    pub(crate) fn split_first(&self) -> Option<(char, Piece<'a>)>
+        ensures { MatchOption result (self.now ≡ []) (λ (c, rest). self.now ≡ c ∷ rest) }
+    {
+        match split_first(self.text) {
+            Some((c, text)) => Some((c, Piece { text })),
+            None => None,
+        }
     }
 
     /// A cursor over the piece, on the given count.

@@ -6,4 +6,5 @@ pub mod error;
 pub mod numbers;
 pub mod span;
 pub mod strings;
+mod tables;
 pub mod trivia;

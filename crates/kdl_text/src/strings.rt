@@ -5,7 +5,7 @@
 ghost use Rattle.kdl_text.specs.Bare as bare;
 ghost use Rattle.kdl_text.specs.Bare.{BareString};
 ghost use Rattle.kdl_text.specs.Chars.{Text, is_digit, is_identifier_char, is_literal, is_newline_char, is_sign, starts, within};
-ghost use Rattle.kdl_text.specs.Here.{looked};
+ghost use Rattle.kdl_text.specs.Here.{in_class};
 ghost use Rattle.kdl_text.specs.MultiLine.{IsQuoted};
 ghost use Rattle.kdl_text.specs.Reading.{Moves, Costs};
 ghost use Rattle.kdl_text.specs.Strings as spec;
@@ -75,6 +75,19 @@ impl From<StringFault> for StringFailure {
     }
 }
 
+/// Goes past the longest run of characters of the class, and gives it.
+#[inline]
+fn run_of<'a>(class: Class, cursor: &mut Cursor<'a>) -> Piece<'a>
+    ensures run { Run (in_class class) cursor.old.rest cursor.new.rest }
+    ensures result { cursor.old.rest ≡ result ++ cursor.new.rest }
+    ensures moves { Moves cursor.old cursor.new }
+    ensures costs { Costs 2 1 cursor.old cursor.new }
+{
+    let start = cursor.checkpoint();
+    cursor.skip(class);
+    cursor.slice(&start)
+}
+
 fn is_word(piece: &Piece, word: &str) -> bool
     requires { list_all (within 0 127) word.now ≡ true }
     ensures { result ≡ bytes_eq piece.now word.now }
@@ -93,36 +106,37 @@ fn is_excluded(piece: &Piece) -> bool
         || is_word(piece, "nan")
 }
 
-fn eat_sign(cursor: &mut Cursor) -> bool
-    ensures signed { IsTrue result → (c : ℕ) × (is_sign c ≡ true) × (cursor.old.rest ≡ c ∷ cursor.new.rest) }
-    ensures plain { result ≡ false → (starts is_sign cursor.old.rest ≡ false) × (cursor.new.rest ≡ cursor.old.rest) }
-    ensures moves { Moves cursor.old cursor.new }
-    ensures costs { Costs 1 1 cursor.old cursor.new }
+/// Whether a point may stand before the identifier characters in a bare string.
+fn follows_point(rest: &Piece) -> bool
+    ensures { result ≡ bare.after_point rest.now }
 {
-    match cursor.look() {
-        Some('+' | '-') => {
-            cursor.step();
-            true
-        }
-        _ => false,
+    match rest.split_first() {
+        Some((c, _)) => !is_digit(c),
+        None => true,
     }
 }
 
-fn looks_digit(cursor: &mut Cursor) -> bool
-    ensures result { result ≡ starts is_digit cursor.old.rest }
-    ensures moved { cursor.new ≡ looked cursor.old }
+/// Whether a sign may stand before the identifier characters in a bare string.
+fn follows_sign(rest: &Piece) -> bool
+    ensures { result ≡ bare.after_sign rest.now }
 {
-    match cursor.look() {
-        Some(c) => is_digit(c),
+    match rest.split_first() {
+        Some(('.', behind)) => follows_point(&behind),
+        Some((c, _)) => !is_digit(c),
+        None => true,
+    }
+}
+
+/// Whether identifier characters are a bare string.
+fn has_bare_form(piece: &Piece) -> bool
+    ensures { result ≡ bare.bare_form piece.now }
+{
+    match piece.split_first() {
+        Some(('+' | '-', rest)) => follows_sign(&rest),
+        Some(('.', rest)) => follows_point(&rest),
+        Some((c, _)) => !is_digit(c) && !is_excluded(piece),
         None => false,
     }
-}
-
-/// Whether identifier characters are a bare string, by the sign, the point and the digit at their front.
-fn has_bare_form(signed: bool, pointed: bool, digit: bool, piece: &Piece) -> bool
-    ensures { result ≡ not digit && ((signed || pointed) || not (bytes_eq piece.now [] || bare.is_excluded piece.now)) }
-{
-    !digit && (signed || pointed || !(is_word(piece, "") || is_excluded(piece)))
 }
 
 /// Goes past the longest run of identifier characters, and gives it where it is a bare string
@@ -135,14 +149,12 @@ pub fn bare_string<'a>(cursor: &mut Cursor<'a>) -> Option<Piece<'a>>
     ensures costs { Costs 2 4 cursor.old cursor.new }
     ensures cost { IfSome result (λ _. Costs 24 0 cursor.old cursor.new) }
 {
-    let start = cursor.checkpoint();
-    let signed = eat_sign(cursor);
-    let pointed = cursor.eat('.');
-    let digit = looks_digit(cursor);
-    cursor.skip(Class::Identifier);
-    let piece = cursor.slice(&start);
-    let fits = has_bare_form(signed, pointed, digit, &piece);
-    if fits { Some(piece) } else { None }
+    let piece = run_of(Class::Identifier, cursor);
+    if has_bare_form(&piece) {
+        Some(piece)
+    } else {
+        None
+    }
 }
 
 fn is_blank(c: char) -> bool
@@ -264,18 +276,6 @@ fn escape(cursor: &mut Cursor, out: &mut String) -> Result<(), StringFailure>
     }
 }
 
-/// The characters from here on that stand for themselves.
-fn literal_run<'a>(cursor: &mut Cursor<'a>) -> Piece<'a>
-    ensures run { Run is_literal cursor.old.rest cursor.new.rest }
-    ensures result { cursor.old.rest ≡ result ++ cursor.new.rest }
-    ensures moves { Moves cursor.old cursor.new }
-    ensures costs { Costs 2 1 cursor.old cursor.new }
-{
-    let start = cursor.checkpoint();
-    cursor.skip(Class::Literal);
-    cursor.slice(&start)
-}
-
 /// Why the character may not stand in a quoted string.
 fn fault_at(c: char) -> StringFault
     ensures newline { is_newline_char c ≡ true → result ≡ Newline }
@@ -296,7 +296,7 @@ fn quoted_body(alloc: Global, cursor: &mut Cursor) -> Result<String, StringFailu
     ensures moves { Moves cursor.old cursor.new }
     ensures costs { Costs 3 2 cursor.old cursor.new }
 {
-    let mut out = literal_run(cursor).to_string(alloc)?;
+    let mut out = run_of(Class::Literal, cursor).to_string(alloc)?;
     'units: loop {
         match cursor.take() {
             Some('"') => return Ok(out),
@@ -304,7 +304,7 @@ fn quoted_body(alloc: Global, cursor: &mut Cursor) -> Result<String, StringFailu
             Some(c) => return Err(StringFailure::Fault(fault_at(c))),
             None => return Err(StringFailure::Fault(StringFault::Unclosed)),
         }
-        literal_run(cursor).push_to(&mut out)?;
+        run_of(Class::Literal, cursor).push_to(&mut out)?;
     }
 }
 

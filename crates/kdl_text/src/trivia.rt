@@ -69,7 +69,7 @@ fn block_end(cursor: &mut Cursor) -> bool
                     }
                 }
             }
-            Some(_) => {}
+            Some(_) => cursor.skip(Class::Comment),
         }
     }
 }

@@ -125,12 +125,13 @@ const STRIPPED: &str =
     "hello 1 2 3\nworld prop=string-value {\n    child 1\n    child 2\n    child #inf\n}\n";
 
 /// Documents in forms that no printing of their data would give.
-const DOCUMENTS: [&str; 5] = [
+const DOCUMENTS: [&str; 6] = [
     "",
     "node 1 \"two\" three;\n",
     " \n \n n +",
     "\"a\\tb\"\u{3000}-1_0\u{2028}\r\nc  ;\t",
     "e\u{301} \"\u{1F980}\"\u{85}f",
+    "\u{FEFF}\u{E9} \"\u{4E00}\u{1F980}\" // \u{E9}\r\n",
 ];
 
 #[test]
@@ -256,7 +257,7 @@ fn input_that_is_no_utf8(rt: HostRuntime) -> Result<(), Fail> {
 
 #[test]
 fn a_read_that_fails(rt: HostRuntime) -> Result<(), Fail> {
-    for fails_at in [0, 1, 5, 6, 7] {
+    for fails_at in 0..8 {
         let reads = Reads {
             input: b"node 1\n",
             step: 1,
@@ -295,6 +296,29 @@ fn a_write_that_fails(rt: HostRuntime) -> Result<(), Fail> {
             report: "writing failed\n",
         };
         comes_of(&rt, rt.alloc(), line, text(input), writes, wanted)?;
+    }
+    Ok(())
+}
+
+#[test]
+fn each_write_that_fails(rt: HostRuntime) -> Result<(), Fail> {
+    let document = "node 1 \"two\" three;\n";
+    let mut fails_at = 0;
+    for (at, _) in document.char_indices() {
+        let wanted = Wanted {
+            outcome: "WriteFailed",
+            output: document.get(..at).unwrap_or("no front").as_bytes(),
+            report: "writing failed\n",
+        };
+        comes_of(
+            &rt,
+            rt.alloc(),
+            &["cat"],
+            text(document),
+            (1, fails_at),
+            wanted,
+        )?;
+        fails_at = fails_at.saturating_add(1);
     }
     Ok(())
 }

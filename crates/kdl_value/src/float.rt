@@ -24,6 +24,12 @@ impl KdlFloat {
 
     /// A float with a copy of the text: a decimal without `_`, or one of `#inf`, `#-inf` and `#nan`.
     /// Any other text is `NotAFloat`; `Memory` where a request for memory was refused.
+    ///
+    /// ```
+    /// let half = KdlFloat::new(alloc, "0.50")?; // keeps its text: it is not equal to "0.5"
+    /// let grouped = KdlFloat::new(alloc, "1_000.5"); // `NotAFloat`, for its `_`
+    /// let whole = KdlFloat::new(alloc, "2"); // `NotAFloat`: a whole number has no fraction and no exponent
+    /// ```
     pub fn new(alloc: Global, text: &str) -> Result<KdlFloat, FloatFailure>
         ensures kept { IfOk result (λ f. float_text_of f ≡ chars text.now) }
         ensures float { IfOk result (λ f. FloatText (chars text.now)) }
@@ -39,6 +45,11 @@ impl KdlFloat {
     }
 
     /// The text.
+    ///
+    /// ```
+    /// let float = KdlFloat::new(alloc, "1.5E3")?;
+    /// let text = float.as_str(); // "1.5E3"
+    /// ```
     pub fn as_str(&self) -> &str
         ensures { chars result.now ≡ float_text_of self.now }
     {
@@ -47,6 +58,10 @@ impl KdlFloat {
 }
 
 /// A float as it was read: its text, which is a float's.
+///
+/// ```
+/// let float = parsed_float(String::from_str(alloc, "1.5")?); // the caller knows that this is a float's text
+/// ```
 pub fn parsed_float(text: String) -> KdlFloat
     requires { FloatText (chars (string_bytes text)) }
     ensures { chars (string_bytes result.text) ≡ chars (string_bytes text) }
@@ -54,6 +69,12 @@ pub fn parsed_float(text: String) -> KdlFloat
     KdlFloat { text }
 }
 
+/// A copy with the same text. Fails where memory is wanting.
+///
+/// ```
+/// let float = KdlFloat::new(alloc, "1.5")?;
+/// let same = float.clone()? == float; // true
+/// ```
 impl Clone for KdlFloat {
     ghost use Rattle.kdl_value.specs.Tree.{float_text_of};
     ghost use Rattle.std.specs.Prelude.{◌≡◌};
@@ -68,6 +89,10 @@ impl Clone for KdlFloat {
 }
 
 /// The text.
+///
+/// ```
+/// let text = KdlFloat::new(alloc, "#-inf")?.to_string(alloc)?; // "#-inf"
+/// ```
 impl fmt::Display for KdlFloat {
     ghost use Rattle.kdl_value.specs.Tree.{float_text_of};
 

@@ -10,6 +10,10 @@ use std::fmt;
 use std::fmt::{Formatter, Write};
 
 /// Writes a text as it is.
+///
+/// ```
+/// write_text("two words", f)?; // writes these nine characters, without quotes
+/// ```
 #[inline]
 pub fn write_text<W: Write>(text: &str, f: &mut Formatter<W>) -> fmt::Result
     ensures { WritesOnOk W.write_str_gives f.old result (encode_utf8_all (chars text.now)) f.new }
@@ -27,6 +31,10 @@ pub(crate) fn write_word<W: Write>(word: &str, f: &mut Formatter<W>) -> fmt::Res
 }
 
 /// Writes a character.
+///
+/// ```
+/// write_char('\n', f)?; // writes a newline, and no escape
+/// ```
 #[inline]
 pub fn write_char<W: Write>(c: char, f: &mut Formatter<W>) -> fmt::Result
     ensures { WritesOnOk W.write_str_gives f.old result (encode_utf8_all (c ∷ [])) f.new }

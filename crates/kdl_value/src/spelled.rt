@@ -180,6 +180,12 @@ fn write_escaped<W: Write>(s: &str, f: &mut Formatter<W>) -> fmt::Result
 }
 
 /// Writes a string as it is spelled: bare where that reads back, else between quotes (KDL 2.0.0, String).
+///
+/// ```
+/// write_spelled("eu-west", f)?; // writes eu-west
+/// write_spelled("two words", f)?; // writes "two words"
+/// write_spelled("", f)?; // writes ""
+/// ```
 #[tactic(auto, unfolding(crate::specs::Spelled::spelled))]
 pub fn write_spelled<W: Write>(s: &str, f: &mut Formatter<W>) -> fmt::Result
     ensures { WritesOnOk W.write_str_gives f.old result (encode_utf8_all (spec.spelled (chars s.now))) f.new }

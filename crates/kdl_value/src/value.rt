@@ -32,6 +32,11 @@ pub enum KdlValue {
 
 impl KdlValue {
     /// A string with a copy of the text. Fails where memory is wanting; an empty text takes none.
+    ///
+    /// ```
+    /// let plain = KdlValue::from_text(alloc, "eu-west")?; // prints "eu-west"
+    /// let quoted = KdlValue::from_text(alloc, "two words")?; // prints "\"two words\""
+    /// ```
     pub fn from_text(alloc: Global, text: &str) -> Result<KdlValue, AllocError>
         ensures { IfOk result (λ v. value_tree v ≡ data'.text (chars text.now)) }
     {
@@ -39,6 +44,10 @@ impl KdlValue {
     }
 
     /// Whether the value is a string.
+    ///
+    /// ```
+    /// let is_string = KdlValue::from_text(alloc, "#true")?.is_string(); // true: a string, whatever its text
+    /// ```
     pub fn is_string(&self) -> bool
         ensures { result ≡ is_some (text_value (value_tree self.now)) }
     {
@@ -46,6 +55,11 @@ impl KdlValue {
     }
 
     /// Whether the value is a whole number.
+    ///
+    /// ```
+    /// let whole = KdlValue::from(2).is_integer(); // true
+    /// let float = KdlValue::from(KdlFloat::new(alloc, "2.0")?).is_integer(); // false: it has a fraction
+    /// ```
     pub fn is_integer(&self) -> bool
         ensures { result ≡ is_some (integer_value (value_tree self.now)) }
     {
@@ -53,6 +67,10 @@ impl KdlValue {
     }
 
     /// Whether the value is a float.
+    ///
+    /// ```
+    /// let is_float = KdlValue::from(KdlFloat::new(alloc, "#inf")?).is_float(); // true
+    /// ```
     pub fn is_float(&self) -> bool
         ensures { result ≡ is_some (float_value (value_tree self.now)) }
     {
@@ -60,6 +78,10 @@ impl KdlValue {
     }
 
     /// Whether the value is a truth value.
+    ///
+    /// ```
+    /// let is_bool = KdlValue::from(false).is_bool(); // true
+    /// ```
     pub fn is_bool(&self) -> bool
         ensures { result ≡ is_some (truth_value (value_tree self.now)) }
     {
@@ -67,6 +89,10 @@ impl KdlValue {
     }
 
     /// Whether the value is null.
+    ///
+    /// ```
+    /// let is_null = KdlValue::Null.is_null(); // true
+    /// ```
     pub fn is_null(&self) -> bool
         ensures { result ≡ is_null (value_tree self.now) }
     {
@@ -74,6 +100,12 @@ impl KdlValue {
     }
 
     /// The text, where the value is a string.
+    ///
+    /// ```
+    /// let value = KdlValue::from_text(alloc, "two words")?;
+    /// let text = value.as_string(); // the text without quotes
+    /// let none = KdlValue::from(2).as_string().is_none(); // true: a number is no string
+    /// ```
     pub fn as_string(&self) -> Option<&str>
         ensures { option_map (λ s. chars s.now) result ≡ text_value (value_tree self.now) }
     {
@@ -84,6 +116,11 @@ impl KdlValue {
     }
 
     /// The number, where the value is a whole number.
+    ///
+    /// ```
+    /// let number = KdlValue::from(0x10).as_integer(); // 16
+    /// let none = KdlValue::from(KdlFloat::new(alloc, "1e3")?).as_integer(); // `None`: what has an exponent is a float
+    /// ```
     pub fn as_integer(&self) -> Option<i128>
         ensures { result ≡ integer_value (value_tree self.now) }
     {
@@ -94,6 +131,13 @@ impl KdlValue {
     }
 
     /// The float, where the value is one.
+    ///
+    /// ```
+    /// let value = KdlValue::from(KdlFloat::new(alloc, "1.50")?);
+    /// if let Some(float) = value.as_float() {
+    ///     let text = float.as_str(); // "1.50"
+    /// }
+    /// ```
     pub fn as_float(&self) -> Option<&KdlFloat>
         ensures { option_map (λ f. float_text_of f.now) result ≡ float_value (value_tree self.now) }
     {
@@ -104,6 +148,11 @@ impl KdlValue {
     }
 
     /// The truth value, where the value is one.
+    ///
+    /// ```
+    /// let truth = KdlValue::from(true).as_bool(); // true
+    /// let none = KdlValue::from_text(alloc, "true")?.as_bool(); // `None`: a truth value is written `#true`
+    /// ```
     pub fn as_bool(&self) -> Option<bool>
         ensures { result ≡ truth_value (value_tree self.now) }
     {
@@ -114,6 +163,11 @@ impl KdlValue {
     }
 }
 
+/// A whole number.
+///
+/// ```
+/// let value = KdlValue::from(0x10); // prints "16"
+/// ```
 impl From<i128> for KdlValue {
     ghost use Rattle.kdl_value.specs.Tree.{value_tree};
     ghost use Rattle.kdl_value.specs.Data as data';
@@ -126,6 +180,11 @@ impl From<i128> for KdlValue {
     }
 }
 
+/// A truth value.
+///
+/// ```
+/// let value = KdlValue::from(true); // prints "#true"
+/// ```
 impl From<bool> for KdlValue {
     ghost use Rattle.kdl_value.specs.Tree.{value_tree};
     ghost use Rattle.kdl_value.specs.Data as data';
@@ -138,6 +197,11 @@ impl From<bool> for KdlValue {
     }
 }
 
+/// A string. It takes no memory.
+///
+/// ```
+/// let value = KdlValue::from(String::from_str(alloc, "a b")?); // prints "\"a b\""
+/// ```
 impl From<String> for KdlValue {
     ghost use Rattle.kdl_value.specs.Tree.{value_tree, text_of};
     ghost use Rattle.kdl_value.specs.Data as data';
@@ -150,6 +214,11 @@ impl From<String> for KdlValue {
     }
 }
 
+/// A float.
+///
+/// ```
+/// let value = KdlValue::from(KdlFloat::new(alloc, "1.50")?); // prints "1.50"
+/// ```
 impl From<KdlFloat> for KdlValue {
     ghost use Rattle.kdl_value.specs.Tree.{value_tree, float_text_of};
     ghost use Rattle.kdl_value.specs.Data as data';
@@ -163,6 +232,11 @@ impl From<KdlFloat> for KdlValue {
 }
 
 /// Null where there is none.
+///
+/// ```
+/// let none: Option<KdlValue> = None;
+/// let value = KdlValue::from(none); // prints "#null"
+/// ```
 impl From<Option<KdlValue>> for KdlValue {
     ghost use Rattle.kdl_value.specs.Tree.{value_tree, or_null};
     ghost use Rattle.std.specs.Prelude.{◌≡◌, option_map};
@@ -177,6 +251,12 @@ impl From<Option<KdlValue>> for KdlValue {
     }
 }
 
+/// A copy that says the same. Fails where memory is wanting.
+///
+/// ```
+/// let value = KdlValue::from_text(alloc, "a")?;
+/// let same = value.clone()? == value; // true
+/// ```
 impl Clone for KdlValue {
     ghost use Rattle.kdl_value.specs.Tree.{value_tree};
     ghost use Rattle.std.specs.Prelude.{◌≡◌};
@@ -195,6 +275,10 @@ impl Clone for KdlValue {
 }
 
 /// A string as it is spelled, a whole number in base 10, a float as it is, else a keyword.
+///
+/// ```
+/// let text = KdlValue::from_text(alloc, "#true")?.to_string(alloc)?; // "\"#true\"": quoted, since it is a string
+/// ```
 impl fmt::Display for KdlValue {
     ghost output = { λ v. Some (encode_utf8_all (print_value (value_tree v))) };
 

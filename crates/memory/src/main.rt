@@ -6,9 +6,11 @@
 #![tactic(auto)]
 
 mod calls;
+mod free;
 
 use crate::calls::{CALLS, answer};
-use std::io;
+use crate::free::{calls, prepare};
+use std::{env, io};
 
 /// Nodes, a comment, a property and children.
 const HELLO: &str =
@@ -18,7 +20,23 @@ const HELLO: &str =
 const FORMS: &str =
     "\u{feff}/* c */ (t)\"a\\tb\" 1 -0x1F 0b1_0 0o17 1.5e-3 #true #null #-inf k=(u)#\"raw\"# \\ // e\n /-dropped \"\"\"\n  one\n   two\n  \"\"\" #\"\"\"\n x\n \"\"\"# /-{ x; } { b 2 /* d */; /-c; } /-{} // end\n";
 
+/// Makes what the calls that take no memory are made on, and then, where it is asked to, these calls.
+fn take_none(rt: &HostRuntime, with_calls: bool) -> io::Result<()> {
+    let alloc = rt.alloc();
+    let subjects = prepare(alloc)?;
+    let answer = if with_calls {
+        calls(alloc, subjects)
+    } else {
+        drop(subjects);
+        true
+    };
+    println!(rt; "{answer}")
+}
+
 fn main(rt: HostRuntime) -> io::Result<()> {
+    if let Some(word) = env::args(&rt)?.nth(1) {
+        return take_none(&rt, word.as_str() == "calls");
+    }
     for text in &[HELLO, FORMS] {
         for call in &CALLS {
             let line = match answer(rt.alloc(), text, *call) {

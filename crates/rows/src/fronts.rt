@@ -1,11 +1,12 @@
-//! Many texts made of one: its fronts, and those with one character replaced.
+//! Many texts made of one: its fronts, each read as a document, a node, an entry and an identifier, and those with one
+//! character replaced, doubled or taken away, read as documents.
 
 use crate::checks::Case;
 use crate::dump::Field;
 use crate::fault::{Fault, wrong};
 use crate::layout::{Comments, lays_out_document};
 use crate::notation::{Fills, decoded};
-use crate::reading::is_read;
+use crate::reading::{is_read, parts_are_read};
 
 /// Tries each front of the text, and the text itself.
 pub fn check_fronts(case: &Case<'_>) -> Result<(), Fault> {
@@ -21,6 +22,7 @@ fn check_front(case: &Case<'_>, len: usize) -> Result<(), Fault> {
         return Err(wrong(format!(in case.alloc; "no front of {len} bytes")));
     };
     let is_refused = !is_read(case.alloc, front)?;
+    parts_are_read(case.alloc, front)?;
     for wanted in case.wanted {
         match (wanted.label.as_str(), &wanted.text) {
             ("answered", None) => {}
@@ -64,7 +66,7 @@ fn has_length(case: &Case<'_>, wanted: &Field, lengths: &str, len: usize) -> Res
     Ok(is_there)
 }
 
-/// Tries each text in which one character is replaced by one of those given.
+/// Tries each text in which one character is replaced by one of those given, doubled or taken away.
 pub fn check_replaced(case: &Case<'_>) -> Result<(), Fault> {
     let Some(by) = case.by else {
         return Err(wrong(format!(in case.alloc; "`replaced` without `by`")));
@@ -80,12 +82,14 @@ pub fn check_replaced(case: &Case<'_>) -> Result<(), Fault> {
             for new in by.chars() {
                 check_new(case, &format!(in case.alloc; "{front}{new}{back}")?)?;
             }
+            check_new(case, &format!(in case.alloc; "{front}{old}{old}{back}")?)?;
+            check_new(case, &format!(in case.alloc; "{front}{back}")?)?;
         }
     }
     Ok(())
 }
 
-/// Tries a text in which one character is replaced.
+/// Tries a text in which one character is another.
 fn check_new(case: &Case<'_>, text: &str) -> Result<(), Fault> {
     is_read(case.alloc, text)?;
     for wanted in case.wanted {

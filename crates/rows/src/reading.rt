@@ -2,7 +2,9 @@
 
 use crate::fault::{Fault, wrong};
 use crate::notation::encoded;
-use kdl::{KdlDiagnostic, KdlDocument, KdlError, ParseFailure, Steps};
+use kdl::{
+    KdlDiagnostic, KdlDocument, KdlEntry, KdlError, KdlIdentifier, KdlNode, ParseFailure, Steps,
+};
 use kdl_faults::{Whole, faults};
 use std::alloc::Global;
 use std::fmt::Display;
@@ -55,19 +57,47 @@ fn is_inside(diagnostic: &KdlDiagnostic, text: &str) -> bool {
         && text.is_char_boundary(end)
 }
 
-/// Whether the text is a document. One that is read prints the text, one that is refused tells where.
-pub fn is_read(alloc: Global, text: &str) -> Result<bool, Fault> {
-    match KdlDocument::parse(alloc, text) {
-        Ok(document) => {
-            prints(alloc, &document, text)?;
-            agrees(alloc, text, Whole::Document, false)?;
+/// Whether the text is read. What is read prints the text, and of what is refused a place in it is told.
+fn is_item<T: Display + Drop>(
+    alloc: Global,
+    text: &str,
+    whole: Whole,
+    read: Result<T, ParseFailure>,
+) -> Result<bool, Fault> {
+    match read {
+        Ok(item) => {
+            prints(alloc, &item, text)?;
+            agrees(alloc, text, whole, false)?;
             Ok(true)
         }
         Err(ParseFailure::Syntax(error)) => {
             tells(alloc, &error, text)?;
-            agrees(alloc, text, Whole::Document, true)?;
+            agrees(alloc, text, whole, true)?;
             Ok(false)
         }
         Err(ParseFailure::Memory) => Err(Fault::Memory),
     }
+}
+
+/// Whether the text is a document.
+pub fn is_read(alloc: Global, text: &str) -> Result<bool, Fault> {
+    is_item(
+        alloc,
+        text,
+        Whole::Document,
+        KdlDocument::parse(alloc, text),
+    )
+}
+
+/// The text as a node, an entry and an identifier: each is read or refused, as `is_item` says.
+pub fn parts_are_read(alloc: Global, text: &str) -> Result<(), Fault> {
+    is_item(alloc, text, Whole::Node, KdlNode::parse(alloc, text))?;
+    is_item(alloc, text, Whole::Entry, KdlEntry::parse(alloc, text))?;
+    is_item(
+        alloc,
+        text,
+        Whole::Identifier,
+        KdlIdentifier::parse(alloc, text),
+    )?;
+    Ok(())
 }

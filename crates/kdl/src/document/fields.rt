@@ -1,9 +1,9 @@
 //! The parts of a document, to be set or to be changed in place, and its printed length.
 
 ghost use Rattle.kdl.specs.Change.{with_nodes, with_document_format, nodes_row};
-ghost use Rattle.kdl.specs.Cleared.{cleared_document, cleared_nodes};
+ghost use Rattle.kdl.specs.Cleared.{cleared_document};
 ghost use Rattle.kdl_grammar.specs.Print.{print_document};
-ghost use Rattle.kdl.specs.Tree.{document_tree, nodes_tree};
+ghost use Rattle.kdl.specs.Tree.{document_tree};
 ghost use Rattle.kdl.specs.contracts.document.KdlDocument.{the_row};
 ghost use Rattle.kdl_parts.specs.contracts.format.KdlDocumentFormat.{the_row as format_row};
 ghost use Rattle.kdl.specs.declared.document.KdlDocument.{out-KdlDocument};
@@ -12,6 +12,7 @@ ghost use Rattle.std.specs.Borrow.{Lends, LendsIf, sem};
 ghost use Rattle.std.specs.Prelude.{◌≡◌, ◌↔◌, IfOk, IsTrue, [], None, Some, option_map};
 ghost use Rattle.std.specs.Vec.Iter.{into_iter_items};
 
+use crate::clears::clear_all;
 use crate::document::KdlDocument;
 use crate::node::KdlNode;
 use kdl_parts::KdlDocumentFormat;
@@ -77,12 +78,10 @@ impl KdlDocument {
     /// let mut document = KdlDocument::parse(alloc, "a   0x10 { b /* none */; }")?;
     /// document.clear_format_recursive(); // no node keeps a space, a comment or a spelling
     /// ```
-    #[cycle(clear)]
     pub fn clear_format_recursive(&mut self)
         ensures { document_tree self.new ≡ cleared_document (document_tree self.old) }
     {
-        self.clear_format();
-        clear_nodes(&mut self.nodes);
+        clear_all(self);
     }
 
     /// The length of the printed text, in bytes. It prints the document: it fails where memory is wanting.
@@ -107,16 +106,6 @@ impl KdlDocument {
         ensures { IfOk result (λ b. IsTrue b ↔ (print_document (document_tree self.now) 0 ≡ [])) }
     {
         Ok(self.to_string(alloc)?.is_empty())
-    }
-}
-
-/// Drops the formats and spellings of nodes.
-#[cycle(clear)]
-fn clear_nodes(nodes: &mut Vec<KdlNode>)
-    ensures { nodes_tree nodes.new.items ≡ cleared_nodes (nodes_tree nodes.old.items) }
-{
-    for node in nodes.iter_mut() {
-        node.clear_format_recursive();
     }
 }
 

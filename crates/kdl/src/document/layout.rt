@@ -1,24 +1,26 @@
 //! Layout of documents.
 
 ghost use Rattle.kdl.specs.Tree.{document_tree, nodes_tree};
+ghost use Rattle.kdl.specs.declared.document.KdlDocument.{out-KdlDocument};
 ghost use Rattle.kdl_fmt.specs.Canonical.{Canonical, canonical, canonical_text};
 ghost use Rattle.kdl_fmt.specs.Comments.{CommentsStay};
 ghost use Rattle.kdl_fmt.specs.Config.{IsPlain, defaults, indentation, settings, without_comments};
-ghost use Rattle.kdl_fmt.specs.Formatted.{DocumentKeepsNone, bare_document, bare_nodes, formatted_document};
+ghost use Rattle.kdl_fmt.specs.Formatted.{DocumentKeepsNone, bare_document, formatted_document, or_empty_document};
 ghost use Rattle.kdl_fmt.specs.WellFormed.{AreWellFormed};
-ghost use Rattle.kdl_fmt.specs.WithComments.{AreFormattedNodes, IsFormattedChildren, IsFormattedDocument};
+ghost use Rattle.kdl_fmt.specs.WithComments.{IsBraced, IsFormattedDocument};
 ghost use Rattle.kdl_grammar.specs.Grammar.{IsDocument};
 ghost use Rattle.kdl_grammar.specs.Print.{print_document};
-ghost use Rattle.kdl_grammar.specs.Tree.{children, document_data, nodes_data};
+ghost use Rattle.kdl_grammar.specs.Tree.{document_data, nodes_data};
+ghost use Rattle.kdl_parts.specs.Formats.{document_format_tree};
 ghost use Rattle.kdl_text.specs.Chars.{is_space};
 ghost use Rattle.std.specs.List.{list_all};
-ghost use Rattle.std.specs.Prelude.{◌≡◌, ◌+◌, IfOk, false, true};
+ghost use Rattle.std.specs.Prelude.{◌≡◌, IfOk, false, option_map, true};
 ghost use Rattle.std.specs.Str.{chars};
 
 use crate::document::KdlDocument;
-use crate::node::KdlNode;
+use crate::lays::lay_out_nodes;
 use kdl_fmt::FormatConfig;
-use kdl_fmt::layout::{indentation, lay_out_braces, lay_out_content};
+use kdl_fmt::layout::{lay_out_braces, lay_out_content};
 use std::alloc::AllocError;
 
 impl KdlDocument {
@@ -112,47 +114,23 @@ impl KdlDocument {
         lay_out_nodes(&mut self.nodes, config, level)
     }
 
-    /// Lays out the document as the children of a node at a level, between braces.
-    #[cycle(autoformat)]
+    /// Lays out the document as the block of a node at a level, between braces, but for its nodes.
     pub(crate) fn lay_out_block(
         &mut self,
         config: &FormatConfig,
         level: usize,
         before: &str,
     ) -> Result<(), AllocError>
-        requires { chars before.now ≡ indentation (settings config.now) level }
-        ensures kept { bare_document (document_tree self.new) ≡ bare_document (document_tree self.old) }
-        ensures formatted { IfOk result (λ _. IsFormattedChildren (settings config.now) level (children (document_tree self.old)) (children (document_tree self.new))) }
-        ensures well_formed { IfOk result (λ _. AreWellFormed (document_data (document_tree self.old))) }
+        ensures nodes { (out-KdlDocument self.new).nodes ≡ (out-KdlDocument self.old).nodes }
+        ensures span { (out-KdlDocument self.new).span ≡ (out-KdlDocument self.old).span }
+        ensures formatted { IfOk result (λ _. chars before.now ≡ indentation (settings config.now) level
+            → IsBraced (settings config.now) level (nodes_tree (out-KdlDocument self.old).nodes.items) (or_empty_document (option_map document_format_tree (out-KdlDocument self.old).format)) (option_map document_format_tree (out-KdlDocument self.new).format)) }
     {
         let Some(inner) = level.checked_add(1) else {
             return Err(AllocError);
         };
         let alloc = *self.nodes.allocator();
         let is_empty = self.nodes.is_empty();
-        lay_out_braces(&mut self.format, alloc, config, inner, before, is_empty)?;
-        lay_out_nodes(&mut self.nodes, config, inner)
+        lay_out_braces(&mut self.format, alloc, config, inner, before, is_empty)
     }
-}
-
-/// Lays out nodes at a level. Where there are none the level counts for nothing.
-#[cycle(autoformat)]
-fn lay_out_nodes(
-    nodes: &mut Vec<KdlNode>,
-    config: &FormatConfig,
-    level: usize,
-) -> Result<(), AllocError>
-    ensures kept { bare_nodes (nodes_tree nodes.new.items) ≡ bare_nodes (nodes_tree nodes.old.items) }
-    ensures formatted { IfOk result (λ _. AreFormattedNodes (settings config.now) level (nodes_tree nodes.old.items) (nodes_tree nodes.new.items)) }
-    ensures well_formed { IfOk result (λ _. AreWellFormed (nodes_data (nodes_tree nodes.old.items))) }
-{
-    if nodes.is_empty() {
-        return Ok(());
-    }
-    let indentation = indentation(*nodes.allocator(), config, level)?;
-    let before = indentation.as_str();
-    for node in nodes.iter_mut() {
-        node.lay_out(config, level, before)?;
-    }
-    Ok(())
 }

@@ -1,12 +1,14 @@
 //! Nodes without their formats.
 
-ghost use Rattle.kdl.specs.Cleared.{cleared_node, cleared_children};
-ghost use Rattle.kdl_grammar.specs.Tree.{children_of};
-ghost use Rattle.kdl.specs.Tree.{node_tree, document_tree};
-ghost use Rattle.std.specs.Prelude.{◌≡◌, option_map};
+ghost use Rattle.kdl.specs.Cleared.{cleared_node};
+ghost use Rattle.kdl.specs.Due.{IsAlone, due};
+ghost use Rattle.kdl.specs.Tree.{node_tree};
+ghost use Rattle.std.specs.Prelude.{◌≡◌};
 
+use crate::clears::clear_all;
 use crate::document::KdlDocument;
 use crate::node::KdlNode;
+use kdl_parts::KdlNodeFormat;
 use kdl_parts::edit::clear_formats;
 
 impl KdlNode {
@@ -17,23 +19,32 @@ impl KdlNode {
     /// let mut node = KdlNode::parse(alloc, "\"a\"  0x1 { /* b */ b; }")?;
     /// node.clear_format_recursive(); // what it says stays: the name `a`, the argument 1, the child `b`
     /// ```
-    #[cycle(clear)]
     pub fn clear_format_recursive(&mut self)
         ensures { node_tree self.new ≡ cleared_node (node_tree self.old) }
+    {
+        if let Some(mut block) = self.clear_alone() {
+            clear_all(&mut block);
+            self.set_children(block);
+        }
+    }
+
+    /// Gives the node an empty format, where it has none.
+    pub(crate) fn make_due(&mut self)
+        ensures { node_tree self.new ≡ due (node_tree self.old) }
+    {
+        if self.format.is_none() {
+            self.format = Some(KdlNodeFormat::new(*self.entries.allocator()));
+        }
+    }
+
+    /// Drops the node's format, the spelling of its name, and the formats and spellings of its entries, and takes out its
+    /// block, which stays as it is.
+    pub(crate) fn clear_alone(&mut self) -> Option<KdlDocument>
+        ensures { IsAlone result self.old self.new }
     {
         self.clear_format();
         self.name.clear_format();
         clear_formats(&mut self.entries);
-        clear_block(&mut self.children);
-    }
-}
-
-/// Drops the formats and spellings of a child block, where there is one.
-#[cycle(clear)]
-fn clear_block(children: &mut Option<KdlDocument>)
-    ensures { children_of (option_map document_tree children.new) ≡ cleared_children (children_of (option_map document_tree children.old)) }
-{
-    if let Some(children) = children {
-        children.clear_format_recursive();
+        self.exchange_children(None)
     }
 }

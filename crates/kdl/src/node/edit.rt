@@ -3,7 +3,7 @@
 ghost use Rattle.kdl.specs.Change.{with_entries};
 ghost use Rattle.kdl.specs.EditLaw.{PrintsAtPlace};
 ghost use Rattle.kdl_parts.specs.Edits.{GoesUnder, HasArgumentAt, HasRoomAt, IsInserted, removed, replaced_place, under};
-ghost use Rattle.kdl_parts.specs.EntryLists.{removed_place, sought, there};
+ghost use Rattle.kdl_parts.specs.EntryLists.{is_argument, removed_place, sought, there};
 ghost use Rattle.kdl_parts.specs.Written.{entries_row};
 ghost use Rattle.kdl.specs.Tree.{node_tree};
 ghost use Rattle.kdl.specs.contracts.node.KdlNode.{the_row};
@@ -11,12 +11,14 @@ ghost use Rattle.kdl.specs.declared.node.KdlNode.{out-KdlNode};
 ghost use Rattle.kdl_entry.specs.Tree.{entry_tree};
 ghost use Rattle.std.specs.Borrow.{Lends, sem};
 ghost use Rattle.std.specs.Fn.{CalledAt};
+ghost use Rattle.std.specs.List.{count_by};
 ghost use Rattle.std.specs.List.Retain.{IsFiltered};
 ghost use Rattle.std.specs.List.Sorted.{IsPermutation, IsSortedByClosure, IsSortedByKeyClosure, IsStableByClosure, IsStableByKeyClosure};
 ghost use Rattle.std.specs.Prelude.{◌≡◌, ◌==◌, [], ◌∷◌, ◌++◌, if◌then◌else◌, IfErr, IfOk, IfSome, IsSome, IsOk, OnErr, OnOk, is_ok, length};
 
 use crate::node::KdlNode;
 use kdl_entry::KdlEntry;
+use kdl_parts::places::is_unnamed;
 use kdl_parts::{NodeKey, edit};
 use std::alloc::AllocError;
 use std::cmp::Ordering;
@@ -32,6 +34,25 @@ impl KdlNode {
         ensures { result ≡ length (out-KdlNode self.now).entries.items }
     {
         self.entries.len()
+    }
+
+    /// How many of the entries are arguments. `remove` takes an index below this number, and `insert` one up to it.
+    ///
+    /// ```
+    /// let node = KdlNode::parse(alloc, "a 1 2 b=3")?;
+    /// let count = node.argument_count(); // 2
+    /// ```
+    pub fn argument_count(&self) -> usize
+        ensures { result ≡ count_by is_argument (out-KdlNode self.now).entries.items }
+    {
+        let entries = self.entries();
+        let mut count = 0;
+        for entry in entries {
+            if is_unnamed(entry) {
+                count += 1;
+            }
+        }
+        count
     }
 
     /// Whether there are no entries.

@@ -1,25 +1,31 @@
 //! Layout of nodes.
 
-ghost use Rattle.kdl.specs.Tree.{document_tree, node_tree};
+ghost use Rattle.kdl.specs.Change.{with_nodes};
+ghost use Rattle.kdl.specs.Laid.{Laid, LaidBut, block_nodes, filled_block, nodes_in};
+ghost use Rattle.kdl.specs.Tree.{document_tree, node_tree, nodes_tree};
+ghost use Rattle.kdl.specs.declared.document.KdlDocument.{out-KdlDocument};
+ghost use Rattle.kdl.specs.declared.node.KdlNode.{out-KdlNode};
 ghost use Rattle.kdl_fmt.specs.Canonical.{CanonicalNode, canonical_node};
 ghost use Rattle.kdl_fmt.specs.Config.{IsPlain, defaults, indentation, settings, without_comments};
 ghost use Rattle.kdl_fmt.specs.Formatted.{NodeKeepsNone, bare_children, bare_node, formatted_node};
-ghost use Rattle.kdl_fmt.specs.WellFormed.{AreWellFormedChildren, IsWellFormedNode};
-ghost use Rattle.kdl_fmt.specs.WithComments.{IsFormattedChildren, IsFormattedNode};
+ghost use Rattle.kdl_fmt.specs.WellFormed.{IsWellFormedNode};
+ghost use Rattle.kdl_fmt.specs.WithComments.{AreFormattedNodes, IsFormattedChildren, IsFormattedNode};
 ghost use Rattle.kdl_grammar.specs.Data as data';
 ghost use Rattle.kdl_grammar.specs.Grammar.{IsDocument};
 ghost use Rattle.kdl_grammar.specs.Print.{print_node};
-ghost use Rattle.kdl_grammar.specs.Tree.{children_data, children_of, node_data};
+ghost use Rattle.kdl_grammar.specs.Tree.{Node, children_of, node_data, nodes_of};
 ghost use Rattle.kdl_text.specs.Chars.{is_space};
-ghost use Rattle.std.specs.List.{list_all};
-ghost use Rattle.std.specs.Prelude.{◌≡◌, IfOk, false, option_map, true};
+ghost use Rattle.std.specs.List.{AllZip, list_all};
+ghost use Rattle.std.specs.Prelude.{◌≡◌, ◌↔◌, ◌+◌, ◌<◌, IfOk, IsTrue, List, MatchOption, false, length, map, option_map, true};
 ghost use Rattle.std.specs.Str.{chars};
 
 use crate::document::KdlDocument;
+use crate::lays::lay_out_nodes;
 use crate::node::KdlNode;
 use kdl_fmt::FormatConfig;
 use kdl_fmt::layout::{clear_spelling, indentation, lay_out_entries, lay_out_line};
 use std::alloc::AllocError;
+use std::mem;
 
 impl KdlNode {
     /// Lays out the node and all below it: the node on a line of its own at level 0, four spaces for each level below
@@ -97,9 +103,8 @@ impl KdlNode {
         self.lay_out(config, level, indentation.as_str())
     }
 
-    /// Lays out the node at a level, behind the indentation of that level.
-    #[cycle(autoformat)]
-    pub(crate) fn lay_out(
+    /// Lays out the node at a level, behind the indentation of that level, and all below it.
+    fn lay_out(
         &mut self,
         config: &FormatConfig,
         level: usize,
@@ -110,31 +115,85 @@ impl KdlNode {
         ensures formatted { IfOk result (λ _. IsFormattedNode (settings config.now) level (node_tree self.old) (node_tree self.new)) }
         ensures well_formed { IfOk result (λ _. IsWellFormedNode (node_data (node_tree self.old))) }
     {
+        self.lay_out_own(config, level, before)?;
+        lay_out_below(&mut self.children, config, level)
+    }
+
+    /// Lays out the node at a level, behind the indentation of that level, but for the nodes in its block.
+    pub(crate) fn lay_out_own(
+        &mut self,
+        config: &FormatConfig,
+        level: usize,
+        before: &str,
+    ) -> Result<(), AllocError>
+        ensures kept { bare_node (node_tree self.new) ≡ bare_node (node_tree self.old) }
+        ensures block { block_nodes self.new ≡ block_nodes self.old }
+        ensures laid { IfOk result (λ _. chars before.now ≡ indentation (settings config.now) level → LaidBut (settings config.now) level (node_tree self.old) (map node_tree (block_nodes self.old)) self.new) }
+    {
         let alloc = *self.entries.allocator();
         let has_block = self.children.is_some();
         lay_out_line(&mut self.format, alloc, config, before, has_block)?;
         clear_spelling(&mut self.ty);
         self.name.clear_format();
         lay_out_entries(&mut self.entries, config)?;
-        lay_out_children(&mut self.children, config, level, before)
+        lay_out_block(&mut self.children, config, level, before)
+    }
+
+    /// Puts other nodes into the node's block, where it has one, and answers those that it had; else it answers them.
+    pub(crate) fn exchange_nodes(&mut self, nodes: Vec<KdlNode>) -> Vec<KdlNode>
+        ensures had { MatchOption (out-KdlNode self.old).children (result ≡ nodes) (λ d. result ≡ (out-KdlDocument d).nodes) }
+        ensures has { out-KdlNode self.new ≡ record (out-KdlNode self.old) { children = option_map (λ d. with_nodes d nodes) (out-KdlNode self.old).children } }
+    {
+        match &mut self.children {
+            Some(children) => mem::replace(children.nodes_mut(), nodes),
+            None => nodes,
+        }
+    }
+
+    /// Whether there are nodes in its block.
+    pub(crate) fn has_nodes(&self) -> bool
+        ensures { IsTrue result ↔ (0 < length (block_nodes self.now)) }
+    {
+        match &self.children {
+            Some(children) => !children.nodes().is_empty(),
+            None => false,
+        }
     }
 }
 
-/// Lays out the children of a node at a level, where it has some.
-#[cycle(autoformat)]
-fn lay_out_children(
+/// Lays out the block of a node at a level, but for the nodes in it.
+fn lay_out_block(
     children: &mut Option<KdlDocument>,
     config: &FormatConfig,
     level: usize,
     before: &str,
 ) -> Result<(), AllocError>
-    requires { chars before.now ≡ indentation (settings config.now) level }
     ensures kept { bare_children (children_of (option_map document_tree children.new)) ≡ bare_children (children_of (option_map document_tree children.old)) }
-    ensures formatted { IfOk result (λ _. IsFormattedChildren (settings config.now) level (children_of (option_map document_tree children.old)) (children_of (option_map document_tree children.new))) }
-    ensures well_formed { IfOk result (λ _. AreWellFormedChildren (children_data (children_of (option_map document_tree children.old)))) }
+    ensures nodes { nodes_in children.new ≡ nodes_in children.old }
+    ensures formatted { IfOk result (λ _. chars before.now ≡ indentation (settings config.now) level → (ms : List Node) → AreFormattedNodes (settings config.now) (level + 1) (nodes_tree (nodes_in children.old)) (nodes_of ms)
+        → IsFormattedChildren (settings config.now) level (children_of (option_map document_tree children.old)) (filled_block children.new ms)) }
 {
     match children {
         Some(children) => children.lay_out_block(config, level, before),
         None => Ok(()),
     }
+}
+
+/// Lays out the nodes in the block of a node at a level.
+fn lay_out_below(
+    children: &mut Option<KdlDocument>,
+    config: &FormatConfig,
+    level: usize,
+) -> Result<(), AllocError>
+    ensures block { (ms : List Node) → filled_block children.new ms ≡ filled_block children.old ms }
+    ensures kept { map bare_node (map node_tree (nodes_in children.new)) ≡ map bare_node (map node_tree (nodes_in children.old)) }
+    ensures laid { IfOk result (λ _. AllZip (Laid (settings config.now) (level + 1)) (map node_tree (nodes_in children.old)) (map node_tree (nodes_in children.new))) }
+{
+    let Some(children) = children else {
+        return Ok(());
+    };
+    let Some(inner) = level.checked_add(1) else {
+        return Err(AllocError);
+    };
+    lay_out_nodes(children.nodes_mut(), config, inner)
 }

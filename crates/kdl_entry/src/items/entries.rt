@@ -448,6 +448,11 @@ impl KdlEntry {
     /// it, and line-spaces behind it (KDL 2.0.0, Argument, Property). Its span is the whole text. `Syntax`: the text is
     /// none. Its error has a diagnostic for each fault that is found, up to what can stand in no entry, and one at
     /// least. `Memory`: a request for memory was refused. Nothing is made then.
+    ///
+    /// ```
+    /// let entry = KdlEntry::parse(alloc, "port=(u16)0x1F90")?; // prints the text
+    /// let refused = KdlEntry::parse(alloc, "port=8080 9090"); // `Syntax`: these are two entries
+    /// ```
     #[tactic(auto, using(crate::proofs::EntryAnswering::found, crate::proofs::EntryAnswering::only, crate::proofs::EntryAnswering::laid, crate::proofs::EntryAnswering::prints, crate::proofs::EntryAnswering::refused))]
     pub fn parse(alloc: Global, text: &str) -> Result<KdlEntry, ParseFailure>
         // What is answered is what the grammar derives,

@@ -67,6 +67,11 @@ impl KdlIdentifier {
     /// The identifier that the text is: one string in any spelling (KDL 2.0.0, String), with nothing before and behind
     /// it. Its spelling and its span are the whole text. `Syntax`: the text is none. Its error tells what is wrong with
     /// the string, or where what is none begins. `Memory`: a request for memory was refused. Nothing is made then.
+    ///
+    /// ```
+    /// let name = KdlIdentifier::parse(alloc, "\"two words\"")?; // the string `two words`, which prints its quotes
+    /// let refused = KdlIdentifier::parse(alloc, "two words"); // `Syntax`: these are two strings
+    /// ```
     #[tactic(auto, using(crate::proofs::IdentifierAnswering::found, crate::proofs::IdentifierAnswering::only, crate::proofs::IdentifierAnswering::prints))]
     pub fn parse(alloc: Global, text: &str) -> Result<KdlIdentifier, ParseFailure>
         // What is answered is what the grammar derives,

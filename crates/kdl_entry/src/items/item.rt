@@ -77,6 +77,14 @@ pub struct Given {
 }
 
 /// The text between two places. A step for each of its bytes.
+///
+/// ```
+/// let mut lexer = Lexer::new("ab=1", Steps::new());
+/// let from = lexer.checkpoint();
+/// let token = lexer.next(alloc)?; // the string `ab`
+/// let to = lexer.checkpoint();
+/// let text = text_between(alloc, &mut lexer, &from, &to)?; // "ab"
+/// ```
 #[tactic(auto, using(crate::proofs::Between::is_between))]
 pub fn text_between<'a>(
     alloc: Global,
@@ -93,6 +101,13 @@ pub fn text_between<'a>(
 }
 
 /// The span of what stands between two places, in the text that begins at `whole`.
+///
+/// ```
+/// let mut lexer = Lexer::new("ab=1", Steps::new());
+/// let whole = lexer.checkpoint();
+/// let token = lexer.next(alloc)?; // the string `ab`
+/// let span = span_at(&whole, &lexer.checkpoint(), &lexer.checkpoint()); // offset 2 and length 0
+/// ```
 #[tactic(auto, unfolding(crate::specs::Places::span_of))]
 pub fn span_at(whole: &Checkpoint, start: &Checkpoint, end: &Checkpoint) -> SourceSpan
     ensures { result ≡ span_of whole.now.rest start.now.rest end.now.rest }
@@ -101,6 +116,15 @@ pub fn span_at(whole: &Checkpoint, start: &Checkpoint, end: &Checkpoint) -> Sour
 }
 
 /// The string that stands between two places, in the text that begins at `whole`.
+///
+/// ```
+/// let mut lexer = Lexer::new("\"ab\"=1", Steps::new());
+/// let whole = lexer.checkpoint();
+/// let token = lexer.next(alloc)?; // the string `ab`
+/// let value = String::from_str(alloc, "ab")?;
+/// let end = lexer.checkpoint();
+/// let name = identifier_between(alloc, &mut lexer, &whole, value, &whole, &end)?; // prints "\"ab\""
+/// ```
 pub fn identifier_between<'a>(
     alloc: Global,
     lexer: &mut Lexer<'a>,
@@ -120,6 +144,10 @@ pub fn identifier_between<'a>(
 }
 
 /// An empty text, which takes no memory.
+///
+/// ```
+/// let nothing = empty(alloc); // ""
+/// ```
 #[tactic(auto, using(crate::proofs::Between::empty_text))]
 pub fn empty(alloc: Global) -> String
     ensures { text_of result ≡ [] }
@@ -128,6 +156,13 @@ pub fn empty(alloc: Global) -> String
 }
 
 /// An entry by its parts, without a text behind it.
+///
+/// ```
+/// let span = SourceSpan { offset: 0, len: 5 };
+/// let leading = String::from_str(alloc, " ")?;
+/// let repr = String::from_str(alloc, "0x10")?;
+/// let entry = entry_from(alloc, span, leading, None, None, KdlValue::from(16), repr); // prints " 0x10"
+/// ```
 pub fn entry_from(
     alloc: Global,
     span: SourceSpan,
@@ -177,6 +212,11 @@ pub fn entry_from(
 
 impl<'a> Item<'a> {
     /// No item yet, at the place. It takes no memory.
+    ///
+    /// ```
+    /// let lexer = Lexer::new("(u8)1", Steps::new());
+    /// let item = Item::new(alloc, &lexer.checkpoint()); // to be opened: `open` and `open_keyed` begin one in it
+    /// ```
     pub fn new(alloc: Global, place: &Checkpoint<'a>) -> Item<'a>
         ensures is { item_view result ≡ spec.no_item place.now.rest }
         ensures start { result.start ≡ place.now }
@@ -197,6 +237,14 @@ impl<'a> Item<'a> {
     }
 
     /// Begins an item behind the `(` of its type.
+    ///
+    /// ```
+    /// let mut lexer = Lexer::new("(u8)1", Steps::new());
+    /// let start = lexer.checkpoint();
+    /// let left = lexer.next(alloc)?; // `(`
+    /// let mut item = Item::new(alloc, &start);
+    /// item.open(true, true, empty(alloc), &start, &lexer.checkpoint()); // the type's name is due
+    /// ```
     pub fn open(
         &mut self,
         kept: bool,
@@ -219,6 +267,15 @@ impl<'a> Item<'a> {
     }
 
     /// Begins a property behind the `=`, by its key and the text before the `=`.
+    ///
+    /// ```
+    /// let mut lexer = Lexer::new("a=1", Steps::new());
+    /// let start = lexer.checkpoint();
+    /// let tokens = (lexer.next(alloc)?, lexer.next(alloc)?); // `a` and `=`
+    /// let name = KdlIdentifier::from_text(alloc, "a")?;
+    /// let mut item = Item::new(alloc, &start);
+    /// item.open_keyed(true, empty(alloc), &start, name, empty(alloc), &lexer.checkpoint()); // its value is due
+    /// ```
     pub fn open_keyed(
         &mut self,
         kept: bool,
@@ -527,6 +584,13 @@ impl<'a> Item<'a> {
 
     /// One token. It answers what the item came to, where its value stands in the token, and `None` where the
     /// item goes on. A fault where the token may not stand here.
+    ///
+    /// ```
+    /// let taken = item.take(alloc, &mut lexer, &whole, token.kind, &token.start, &token.end)?;
+    /// if let Some(given) = taken {
+    ///     let value = given.value; // the item ends with this token
+    /// }
+    /// ```
     pub fn take(
         &mut self,
         alloc: Global,

@@ -90,6 +90,10 @@ pub struct Token<'a> {
 }
 
 /// The span of a fault at the place: the character there, and nothing at the end of the text.
+///
+/// ```
+/// let span = fault_at(&Lexer::new("é", Steps::new()).checkpoint()); // offset 0 and length 2
+/// ```
 pub fn fault_at(place: &Checkpoint) -> SourceSpan
     ensures { IsFaultAt place.now result }
 {
@@ -407,6 +411,13 @@ impl<'a> Model for Lexer<'a> {
 
 impl<'a> Lexer<'a> {
     /// A lexer at the start of the text, on the given count of steps.
+    ///
+    /// ```
+    /// let mut lexer = Lexer::new("a=1", Steps::new());
+    /// while let Some(token) = lexer.next(alloc)? {
+    ///     let kind = token.kind; // the string `a`, the `=`, the value 1
+    /// }
+    /// ```
     pub fn new(text: &'a str, steps: Steps) -> Self
         ensures { result ≡ record { rest = chars text.now; at = 0; steps = steps } }
     {
@@ -416,6 +427,12 @@ impl<'a> Lexer<'a> {
     }
 
     /// The count of steps, where the lexer is done.
+    ///
+    /// ```
+    /// let mut lexer = Lexer::new("a", Steps::new());
+    /// let token = lexer.next(alloc)?;
+    /// let count = lexer.into_steps().count(); // at least 1, at most 24
+    /// ```
     pub fn into_steps(self) -> Steps
         ensures { result ≡ self.entry.steps }
     {
@@ -423,6 +440,12 @@ impl<'a> Lexer<'a> {
     }
 
     /// Where the lexer stands.
+    ///
+    /// ```
+    /// let mut lexer = Lexer::new("ab=1", Steps::new());
+    /// let start = lexer.checkpoint();
+    /// let token = lexer.next(alloc)?; // behind it the lexer stands elsewhere, and `start` where it was taken
+    /// ```
     pub fn checkpoint(&self) -> Checkpoint<'a>
         ensures rest { result.rest ≡ self.now.rest }
         ensures at { result.at ≡ self.now.at }
@@ -431,6 +454,11 @@ impl<'a> Lexer<'a> {
     }
 
     /// Goes past a U+FEFF, where one stands here, and answers whether it did. A step.
+    ///
+    /// ```
+    /// let mut lexer = Lexer::new("\u{feff}a", Steps::new());
+    /// let is_marked = lexer.eat_mark(); // true, and the string `a` is the next token
+    /// ```
     pub fn eat_mark(&mut self) -> bool
         ensures { Ate 0xFEFF result self.old self.new }
     {
@@ -438,6 +466,12 @@ impl<'a> Lexer<'a> {
     }
 
     /// Counts a look at the token that was handed out last. A step.
+    ///
+    /// ```
+    /// let mut lexer = Lexer::new("a", Steps::new());
+    /// lexer.count_look();
+    /// let count = lexer.into_steps().count(); // 1
+    /// ```
     pub fn count_look(&mut self)
         ensures { self.new ≡ looked self.old }
     {
@@ -445,6 +479,14 @@ impl<'a> Lexer<'a> {
     }
 
     /// The text from one place to another behind it. A step for each of its bytes.
+    ///
+    /// ```
+    /// let mut lexer = Lexer::new("ab=1", Steps::new());
+    /// let from = lexer.checkpoint();
+    /// let token = lexer.next(alloc)?;
+    /// let to = lexer.checkpoint();
+    /// let text = lexer.slice_between(&from, &to).to_string(alloc)?; // "ab"
+    /// ```
     pub fn slice_between(&mut self, from: &Checkpoint<'a>, to: &Checkpoint<'a>) -> Piece<'a>
         requires { Ahead from.now to.now }
         ensures result { from.now.rest ≡ result ++ to.now.rest }
@@ -458,6 +500,14 @@ impl<'a> Lexer<'a> {
     /// A fault where no token begins here, with the span of the character here; `Memory` where the memory for
     /// the token's value is missing. A token takes at most 24 steps for each of its bytes, and the end of the text one;
     /// where no token begins, each byte that was read takes at most 24, and the fault itself 24.
+    ///
+    /// ```
+    /// let mut lexer = Lexer::new("a }", Steps::new());
+    /// let name = lexer.next(alloc)?; // the string `a`, with where it begins and ends
+    /// let spaces = lexer.next(alloc)?; // the run of spaces
+    /// let closing = lexer.next(alloc)?; // the `}`: whether it may stand here is for the caller to know
+    /// let none = lexer.next(alloc)?; // `None`: the end of the text
+    /// ```
     pub fn next(&mut self, alloc: Global) -> Result<Option<Token<'a>>, LexFailure>
         ensures lexed { Lexed self.old result self.new }
         ensures moves { Moves self.old self.new }

@@ -1,14 +1,15 @@
 //! Dedent: the value of the lines of a multi-line string.
 
 ghost use Rattle.kdl_text.specs.Dedent as spec;
-ghost use Rattle.kdl_text.specs.Dedent.{Dedents, Lines, LineValue};
+ghost use Rattle.kdl_text.specs.Dedent.{Dedents, LineValue, LineValues, joined, lines_of};
+ghost use Rattle.kdl_text.specs.Lines.{line_len, lines_len, line_units};
+ghost use Rattle.kdl_text.specs.Raw.{literals};
 ghost use Rattle.kdl_text.specs.declared.strings.StringFailure.TheVariants.{Memory};
-ghost use Rattle.kdl_text.specs.declared.strings.dedent.LineUnit.TheVariants.{LineEnd};
-ghost use Rattle.std.specs.List.{list_all, prefix_len};
-ghost use Rattle.std.specs.Prelude.{◌≡◌, ◌++◌, ◌∷◌, [], ◌+◌, ◌-◌, ◌<◌, ◌≤◌, ◌↔◌, List, ℕ, length, take, drop, true, not, string_bytes, option_to_list, IsTrue, IfOk, IfErr, OnOk, MatchResult};
+ghost use Rattle.kdl_text.specs.declared.strings.dedent.LineUnit.{LineUnit};
+ghost use Rattle.std.specs.Prelude.{◌≡◌, ◌++◌, ◌∷◌, [], ◌+◌, ◌≤◌, ◌↔◌, List, ℕ, length, map, take, string_bytes, option_to_list, IsTrue, IfOk, IfErr, OnOk, MatchOption, MatchResult};
 ghost use Rattle.std.specs.Str.{chars};
 
-use crate::chars::{Steps, is_space};
+use crate::chars::{Class, Piece, Steps, is_space};
 use crate::strings::{StringFailure, StringFault};
 use std::alloc::{AllocError, Global};
 
@@ -23,11 +24,40 @@ pub enum LineUnit {
     LineEnd,
 }
 
+/// A line of a string of many lines, without its newline.
+#[derive(Drop)]
+pub enum Line<'a> {
+    /// One without escapes.
+    Plain(Piece<'a>),
+    /// The units of one with escapes.
+    Units(Vec<LineUnit>),
+}
+
+/// Appends a line.
+pub fn add_line<'a>(lines: &mut Vec<Line<'a>>, line: Line<'a>) -> Result<(), AllocError>
+    ensures { IfOk result (λ _. lines.new.items ≡ lines.old.items ++ line.entry ∷ []) }
+{
+    lines.push(line)?;
+    Ok(())
+}
+
 /// Appends a unit.
 pub fn push_unit(units: &mut Vec<LineUnit>, unit: LineUnit) -> Result<(), AllocError>
     ensures { IfOk result (λ _. units.new.items ≡ units.old.items ++ unit ∷ []) }
 {
     units.push(unit)?;
+    Ok(())
+}
+
+/// Appends the characters of the piece, each of which stands for itself.
+pub fn push_literals(units: &mut Vec<LineUnit>, piece: &Piece) -> Result<(), AllocError>
+    ensures { IfOk result (λ _. units.new.items ≡ units.old.items ++ literals piece.now) }
+{
+    let mut rest = piece.copied();
+    'chars: while let Some((c, next)) = rest.split_first() {
+        push_unit(units, LineUnit::Literal(c))?;
+        rest = next;
+    }
     Ok(())
 }
 
@@ -40,27 +70,36 @@ fn is_space_unit(unit: LineUnit) -> bool
     }
 }
 
-fn is_line_end(unit: LineUnit) -> bool
-    ensures { result ≡ spec.is_line_end unit }
+/// Whether the line is spaces alone.
+fn is_blank(line: &Line) -> bool
+    ensures { result ≡ spec.is_blank_line (line_units line.now) }
 {
-    match unit {
-        LineUnit::LineEnd => true,
-        _ => false,
+    match line {
+        Line::Plain(piece) => piece.is_all(Class::Space),
+        Line::Units(units) => units.iter().all(|unit| is_space_unit(*unit)),
     }
 }
 
-fn is_blank_line(line: &[LineUnit]) -> bool
-    ensures { result ≡ spec.is_blank_line line.now }
+/// How many looks the line takes: one for each byte of a plain one, and for each unit of another.
+fn look_count(line: &Line) -> usize
+    ensures { result ≡ line_len line.now }
 {
-    line.iter().all(|unit| is_space_unit(*unit))
+    match line {
+        Line::Plain(piece) => piece.len(),
+        Line::Units(units) => units.len(),
+    }
 }
 
-/// How many units stand before the first line end.
-fn line_len(units: &[LineUnit]) -> usize
-    ensures len { result ≡ prefix_len (λ u. not (spec.is_line_end u)) units.now }
-    ensures within { result ≤ length units.now }
+/// The units of the line.
+fn units_of(alloc: Global, line: &Line) -> Result<Vec<LineUnit>, AllocError>
+    ensures { IfOk result (λ us. us.items ≡ line_units line.now) }
 {
-    units.iter().take_while(|unit| !is_line_end(**unit)).count()
+    let mut units = Vec::new(alloc);
+    match line {
+        Line::Plain(piece) => push_literals(&mut units, piece)?,
+        Line::Units(others) => units.extend_from_slice(others)?,
+    }
+    Ok(units)
 }
 
 /// Whether the line begins with the prefix.
@@ -92,88 +131,126 @@ fn push_text(out: &mut String, units: &[LineUnit]) -> Result<(), AllocError>
     Ok(())
 }
 
-/// Appends the value of a line.
-fn push_line(out: &mut String, prefix: &[LineUnit], line: &[LineUnit]) -> Result<(), StringFailure>
-    ensures done { OnOk result ((v : List ℕ) × LineValue prefix.now line.now v × (chars (string_bytes out.new) ≡ chars (string_bytes out.old) ++ v)) }
-    ensures failed { IfErr result (λ e. (e ≡ Memory → ⊥) → (v : List ℕ) → LineValue prefix.now line.now v → ⊥) }
-{
-    if is_blank_line(line) {
-        return Ok(());
-    }
-    if line.len() < prefix.len() || !begins(line, prefix) {
-        return Err(StringFailure::Fault(StringFault::NoPrefix));
-    }
-    push_text(out, &line[prefix.len()..])?;
-    Ok(())
-}
-
-/// Appends the values of the lines, joined by line feeds. A step for each unit, and one for each line.
-fn push_lines(
+/// Appends the text of units behind the prefix.
+fn push_units(
     out: &mut String,
     prefix: &[LineUnit],
     units: &[LineUnit],
+) -> Result<(), StringFailure>
+    ensures done { OnOk result ((m : List LineUnit) × (units.now ≡ prefix.now ++ m) × (chars (string_bytes out.new) ≡ chars (string_bytes out.old) ++ spec.line_text m)) }
+    ensures failed { IfErr result (λ e. (e ≡ Memory → ⊥) → (m : List LineUnit) → units.now ≡ prefix.now ++ m → ⊥) }
+{
+    if units.len() < prefix.len() || !begins(units, prefix) {
+        return Err(StringFailure::Fault(StringFault::NoPrefix));
+    }
+    push_text(out, &units[prefix.len()..])?;
+    Ok(())
+}
+
+/// What stands behind the unit, where the characters begin with it.
+fn behind_unit<'a>(unit: LineUnit, piece: &Piece<'a>) -> Option<Piece<'a>>
+    ensures { MatchOption result ((m : List LineUnit) → literals piece.now ≡ unit ∷ m → ⊥) (λ rest. literals piece.now ≡ unit ∷ literals rest) }
+{
+    let LineUnit::Literal(c) = unit else {
+        return None;
+    };
+    let Some((d, rest)) = piece.split_first() else {
+        return None;
+    };
+    if c == d { Some(rest) } else { None }
+}
+
+/// What stands behind the prefix, where the characters begin with it.
+fn behind_prefix<'a>(prefix: &[LineUnit], piece: &Piece<'a>) -> Option<Piece<'a>>
+    ensures { MatchOption result ((m : List LineUnit) → literals piece.now ≡ prefix.now ++ m → ⊥) (λ rest. literals piece.now ≡ prefix.now ++ literals rest) }
+{
+    let mut rest = piece.copied();
+    for unit in prefix {
+        match behind_unit(*unit, &rest) {
+            Some(next) => rest = next,
+            None => return None,
+        }
+    }
+    Some(rest)
+}
+
+/// Appends the value of a line, and counts its looks and one more.
+fn push_line(
+    out: &mut String,
+    prefix: &[LineUnit],
+    line: &Line,
     steps: &mut Steps,
 ) -> Result<(), StringFailure>
-    requires { string_bytes out.old ≡ [] }
-    ensures found { OnOk result (Lines prefix.now units.now (chars (string_bytes out.new))) }
-    ensures only { (v : List ℕ) → Lines prefix.now units.now v → MatchResult result (λ _. v ≡ chars (string_bytes out.new)) (λ e. e ≡ Memory) }
-    ensures cost { steps.new ≤ steps.old + length units.now + 1 }
+    ensures done { OnOk result ((v : List ℕ) × LineValue prefix.now (line_units line.now) v × (chars (string_bytes out.new) ≡ chars (string_bytes out.old) ++ v)) }
+    ensures failed { IfErr result (λ e. (e ≡ Memory → ⊥) → (v : List ℕ) → LineValue prefix.now (line_units line.now) v → ⊥) }
+    ensures cost { steps.new ≤ steps.old + (line_len line.now + 1) }
 {
-    let mut rest = units;
-    'lines: loop {
-        let len = line_len(rest);
-        steps.raise(len as u64);
-        steps.raise(1);
-        let (line, after) = rest.split_at(len);
-        match push_line(out, prefix, line) {
-            Ok(()) => {}
-            Err(e) => return Err(e),
+    steps.raise(look_count(line) as u64);
+    steps.raise(1);
+    if is_blank(line) {
+        return Ok(());
+    }
+    match line {
+        Line::Units(units) => push_units(out, prefix, units),
+        Line::Plain(piece) => {
+            let Some(rest) = behind_prefix(prefix, piece) else {
+                return Err(StringFailure::Fault(StringFault::NoPrefix));
+            };
+            rest.push_to(out)?;
+            Ok(())
         }
-        let Some((_, next)) = after.split_first() else {
-            return Ok(());
-        };
-        out.push('\n')?;
-        rest = next;
     }
 }
 
-/// Where the last line begins.
-fn last_line(units: &[LineUnit]) -> usize
-    ensures within { result ≤ length units.now }
-    ensures inside { list_all (λ u. not (spec.is_line_end u)) (drop result units.now) ≡ true }
-    ensures newline { 0 < result → take result units.now ≡ take (result - 1) units.now ++ LineEnd ∷ [] }
+/// Appends the values of the lines, joined by line feeds.
+fn push_lines(
+    out: &mut String,
+    prefix: &[LineUnit],
+    lines: &[Line],
+    steps: &mut Steps,
+) -> Result<(), StringFailure>
+    requires { string_bytes out.old ≡ [] }
+    ensures found { OnOk result ((vs : List (List ℕ)) × LineValues prefix.now (map line_units lines.now) vs × (chars (string_bytes out.new) ≡ joined vs)) }
+    ensures only { (vs : List (List ℕ)) → LineValues prefix.now (map line_units lines.now) vs → IfErr result (λ e. e ≡ Memory) }
+    ensures cost { steps.new ≤ steps.old + lines_len lines.now }
 {
-    let mut start = units.len();
-    'back: while start > 0 {
-        if is_line_end(units[start - 1]) {
-            return start;
-        }
-        start -= 1;
+    let Some((first, others)) = lines.split_first() else {
+        return Ok(());
+    };
+    match push_line(out, prefix, first, steps) {
+        Ok(()) => {}
+        Err(e) => return Err(e),
     }
-    start
+    for line in others {
+        out.push('\n')?;
+        match push_line(out, prefix, line, steps) {
+            Ok(()) => {}
+            Err(e) => return Err(e),
+        }
+    }
+    Ok(())
 }
 
 /// The value of the lines, without the last, whose spaces are taken from the front of the others
 /// (KDL 2.0.0, Multi-line String).
-/// A step for each unit, and one for each line. A fault: the last line is not spaces alone, or another has not these
-/// spaces at its front and is not spaces alone.
-pub fn dedent(alloc: Global, units: &[LineUnit], steps: &mut Steps) -> Result<String, StringFailure>
-    ensures found { IfOk result (λ s. Dedents units.now (chars (string_bytes s))) }
-    ensures only { (v : List ℕ) → Dedents units.now v → MatchResult result (λ s. v ≡ chars (string_bytes s)) (λ e. e ≡ Memory) }
-    ensures cost { steps.new ≤ steps.old + length units.now + 2 }
+/// A step for each byte of a line without escapes and for each unit of another, and one for each line. A fault: the
+/// last line is not spaces alone, or another has not these spaces at its front and is not spaces alone.
+pub fn dedent(alloc: Global, lines: &[Line], steps: &mut Steps) -> Result<String, StringFailure>
+    ensures found { (us : List LineUnit) → lines_of us ≡ map line_units lines.now → IfOk result (λ s. Dedents us (chars (string_bytes s))) }
+    ensures only { (us : List LineUnit) (v : List ℕ) → lines_of us ≡ map line_units lines.now → Dedents us v → MatchResult result (λ s. v ≡ chars (string_bytes s)) (λ e. e ≡ Memory) }
+    ensures cost { steps.new ≤ steps.old + lines_len lines.now }
 {
-    let start = last_line(units);
-    let (front, prefix) = units.split_at(start);
-    steps.raise(prefix.len() as u64);
-    steps.raise(1);
-    if !is_blank_line(prefix) {
-        return Err(StringFailure::Fault(StringFault::BadLastLine));
-    }
     let mut out = String::new(alloc);
-    let Some((_, lines)) = front.split_last() else {
+    let Some((last, front)) = lines.split_last() else {
         return Ok(out);
     };
-    match push_lines(&mut out, prefix, lines, steps) {
+    steps.raise(look_count(last) as u64);
+    steps.raise(1);
+    if !is_blank(last) {
+        return Err(StringFailure::Fault(StringFault::BadLastLine));
+    }
+    let prefix = units_of(alloc, last)?;
+    match push_lines(&mut out, &prefix, front, steps) {
         Ok(()) => Ok(out),
         Err(e) => Err(e),
     }

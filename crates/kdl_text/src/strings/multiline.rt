@@ -1,15 +1,19 @@
 //! Strings of many lines between three quotes.
 
-ghost use Rattle.kdl_text.specs.Chars.{Newline, is_newline_char};
-ghost use Rattle.kdl_text.specs.MultiLine.{ContentUnit, Content, MultiLineBody};
+ghost use Rattle.kdl_text.specs.Chars.{Newline, Text, is_newline_char};
+ghost use Rattle.kdl_text.specs.Dedent.{lines_of};
+ghost use Rattle.kdl_text.specs.Here.{bytes};
+ghost use Rattle.kdl_text.specs.Lines.{ReadsLine, ReadsPlain, line_len, line_units, lines_len};
+ghost use Rattle.kdl_text.specs.MultiLine.{Content, MultiLineBody, kept};
 ghost use Rattle.kdl_text.specs.Reading.{Moves, Costs};
+ghost use Rattle.kdl_text.specs.Strings.{IsUnit, StringUnit};
 ghost use Rattle.kdl_text.specs.declared.strings.StringFailure.TheVariants.{Memory};
 ghost use Rattle.kdl_text.specs.declared.strings.dedent.LineUnit.{LineUnit};
-ghost use Rattle.std.specs.Prelude.{◌≡◌, ◌∷◌, List, ℕ, true, option_to_list, string_bytes, IfOk, IfErr, MatchResult};
+ghost use Rattle.std.specs.Prelude.{◌≡◌, ◌≤◌, ◌+◌, ◌∷◌, ◌++◌, List, ℕ, true, length, map, string_bytes, IfOk, IfErr, MatchResult};
 ghost use Rattle.std.specs.Str.{chars};
 
-use crate::chars::{Cursor, Steps, is_literal, is_newline_char, newline};
-use crate::strings::dedent::{LineUnit, dedent, push_unit};
+use crate::chars::{Class, Cursor, Piece, Steps, is_literal, is_newline_char, newline};
+use crate::strings::dedent::{Line, LineUnit, add_line, dedent, push_literals, push_unit};
 use crate::strings::{StringFailure, StringFault, escaped_unit};
 use std::alloc::Global;
 
@@ -25,53 +29,127 @@ pub fn end_newline(c: char, cursor: &mut Cursor)
     }
 }
 
-/// The unit that begins with the character c, which stands behind the cursor and is no quote. None: a space escape.
-fn line_unit(c: char, cursor: &mut Cursor) -> Result<Option<LineUnit>, StringFault>
-    requires { c ≡ 34 → ⊥ }
-    ensures found { IfOk result (λ o. ContentUnit (c ∷ cursor.old.rest) cursor.new.rest (option_to_list o)) }
-    ensures only { (r : List ℕ) (us : List LineUnit) → ContentUnit (c ∷ cursor.old.rest) r us → IfErr result (λ _. ⊥) }
+/// What ends characters that stand for themselves.
+#[derive(Clone, Copy)]
+enum Stop {
+    /// A newline.
+    Newline,
+    /// Three quotes.
+    Close,
+    /// The backslash of an escape.
+    Escape,
+}
+
+/// Goes past characters that stand for themselves, quotes among them, and past what ends them in a string of many
+/// lines.
+fn plain_part<'a>(cursor: &mut Cursor<'a>) -> Result<(Piece<'a>, Stop), StringFault>
+    ensures found { IfOk result (λ (p, stop). ReadsPlain Content stop cursor.old.rest p cursor.new.rest) }
+    ensures shorter { IfOk result (λ (p, _). bytes p + 1 + bytes cursor.new.rest ≤ bytes cursor.old.rest) }
+    ensures only { (r : Text) (us : List LineUnit) → Content cursor.old.rest r us → IfErr result (λ _. ⊥) }
     ensures moves { Moves cursor.old cursor.new }
-    ensures costs { Costs 1 1 cursor.old cursor.new }
+    ensures costs { Costs 3 1 cursor.old cursor.new }
+    ensures cost { IfOk result (λ _. Costs 3 0 cursor.old cursor.new) }
 {
-    if c == '\\' {
-        return match escaped_unit(cursor) {
-            Ok(Some(escaped)) => Ok(Some(LineUnit::Escape(escaped))),
-            Ok(None) => Ok(None),
-            Err(fault) => Err(fault),
-        };
-    }
-    if is_newline_char(c) {
-        end_newline(c, cursor);
-        return Ok(Some(LineUnit::LineEnd));
-    }
-    if is_literal(c) {
-        Ok(Some(LineUnit::Literal(c)))
-    } else {
-        Err(StringFault::Banned)
+    let start = cursor.checkpoint();
+    'runs: loop {
+        let end = cursor.checkpoint();
+        match cursor.take() {
+            Some('"') => {
+                if cursor.eat('"') && cursor.eat('"') {
+                    return Ok((cursor.slice_between(&start, &end), Stop::Close));
+                }
+            }
+            Some('\\') => return Ok((cursor.slice_between(&start, &end), Stop::Escape)),
+            Some(c) if is_newline_char(c) => {
+                end_newline(c, cursor);
+                return Ok((cursor.slice_between(&start, &end), Stop::Newline));
+            }
+            Some(c) if is_literal(c) => cursor.skip(Class::Literal),
+            Some(_) => return Err(StringFault::Banned),
+            None => return Err(StringFault::Unclosed),
+        }
     }
 }
 
-/// The units up to three quotes, and these.
-fn content(alloc: Global, cursor: &mut Cursor) -> Result<Vec<LineUnit>, StringFailure>
-    ensures found { IfOk result (λ us. Content cursor.old.rest cursor.new.rest us.items) }
-    ensures only { (r : List ℕ) (us : List LineUnit) → Content cursor.old.rest r us →
-        MatchResult result (λ v. (r ≡ cursor.new.rest) × (us ≡ v.items)) (λ e. e ≡ Memory) }
+/// Behind the backslash of an escape: appends its character, or nothing for spaces and newlines.
+fn push_escape(cursor: &mut Cursor, units: &mut Vec<LineUnit>) -> Result<(), StringFailure>
+    ensures found { IfOk result (λ _. (u : StringUnit) × IsUnit (92 ∷ cursor.old.rest) cursor.new.rest u × (units.new.items ≡ units.old.items ++ kept u)) }
+    ensures only { (r : Text) (u : StringUnit) → IsUnit (92 ∷ cursor.old.rest) r u → IfErr result (λ e. e ≡ Memory) }
+    ensures moves { Moves cursor.old cursor.new }
+    ensures costs { Costs 1 1 cursor.old cursor.new }
+{
+    match escaped_unit(cursor)? {
+        Some(c) => {
+            push_unit(units, LineUnit::Escape(c))?;
+            Ok(())
+        }
+        None => Ok(()),
+    }
+}
+
+/// Behind the backslash of an escape: appends the units of the line from the backslash on. Gives whether three quotes
+/// end the line.
+fn escaped_line(cursor: &mut Cursor, units: &mut Vec<LineUnit>) -> Result<bool, StringFailure>
+    ensures found { IfOk result (λ closed. (us : List LineUnit) × (units.new.items ≡ units.old.items ++ us)
+        × ReadsLine Content closed (92 ∷ cursor.old.rest) us cursor.new.rest × (length us + bytes cursor.new.rest ≤ bytes cursor.old.rest)) }
+    ensures only { (r : Text) (us : List LineUnit) → Content (92 ∷ cursor.old.rest) r us → IfErr result (λ e. e ≡ Memory) }
+    ensures moves { Moves cursor.old cursor.new }
+    ensures costs { Costs 3 1 cursor.old cursor.new }
+    ensures cost { IfOk result (λ _. Costs 3 0 cursor.old cursor.new) }
+{
+    'escapes: loop {
+        match push_escape(cursor, units) {
+            Ok(()) => {}
+            Err(e) => return Err(e),
+        }
+        let (piece, stop) = plain_part(cursor)?;
+        push_literals(units, &piece)?;
+        match stop {
+            Stop::Newline => return Ok(false),
+            Stop::Close => return Ok(true),
+            Stop::Escape => {}
+        }
+    }
+}
+
+/// Reads a line and its newline, or three quotes. Gives whether it was these.
+fn read_line<'a>(alloc: Global, cursor: &mut Cursor<'a>) -> Result<(Line<'a>, bool), StringFailure>
+    ensures found { IfOk result (λ (line, closed). ReadsLine Content closed cursor.old.rest (line_units line) cursor.new.rest) }
+    ensures shorter { IfOk result (λ (line, _). line_len line + 1 + bytes cursor.new.rest ≤ bytes cursor.old.rest) }
+    ensures only { (r : Text) (us : List LineUnit) → Content cursor.old.rest r us → IfErr result (λ e. e ≡ Memory) }
+    ensures moves { Moves cursor.old cursor.new }
+    ensures costs { Costs 3 1 cursor.old cursor.new }
+    ensures cost { IfOk result (λ _. Costs 3 0 cursor.old cursor.new) }
+{
+    let (piece, stop) = plain_part(cursor)?;
+    match stop {
+        Stop::Newline => Ok((Line::Plain(piece), false)),
+        Stop::Close => Ok((Line::Plain(piece), true)),
+        Stop::Escape => {
+            let mut units = Vec::new(alloc);
+            push_literals(&mut units, &piece)?;
+            let closed = escaped_line(cursor, &mut units)?;
+            Ok((Line::Units(units), closed))
+        }
+    }
+}
+
+/// The lines up to three quotes, and these.
+fn content<'a>(alloc: Global, cursor: &mut Cursor<'a>) -> Result<Vec<Line<'a>>, StringFailure>
+    ensures found { IfOk result (λ ls. (us : List LineUnit) × Content cursor.old.rest cursor.new.rest us × (lines_of us ≡ map line_units ls.items)) }
+    ensures shorter { IfOk result (λ ls. lines_len ls.items + bytes cursor.new.rest ≤ bytes cursor.old.rest) }
+    ensures only { (r : Text) (us : List LineUnit) → Content cursor.old.rest r us → IfErr result (λ e. e ≡ Memory) }
     ensures moves { Moves cursor.old cursor.new }
     ensures costs { Costs 3 1 cursor.old cursor.new }
 {
-    let mut units = Vec::new(alloc);
-    'units: while let Some(c) = cursor.take() {
-        if c != '"' {
-            if let Some(unit) = line_unit(c, cursor)? {
-                push_unit(&mut units, unit)?;
-            }
-        } else if cursor.eat_two('"', '"') {
-            return Ok(units);
-        } else {
-            push_unit(&mut units, LineUnit::Literal('"'))?;
+    let mut lines = Vec::new(alloc);
+    'lines: loop {
+        let (line, closed) = read_line(alloc, cursor)?;
+        add_line(&mut lines, line)?;
+        if closed {
+            return Ok(lines);
         }
     }
-    Err(StringFailure::Fault(StringFault::Unclosed))
 }
 
 /// Behind three quotes: the value of a string of many lines.
@@ -85,9 +163,9 @@ pub fn many_lines(alloc: Global, cursor: &mut Cursor) -> Result<String, StringFa
     if !newline(cursor) {
         return Err(StringFailure::Fault(StringFault::NoNewline));
     }
-    let units = content(alloc, cursor)?;
+    let lines = content(alloc, cursor)?;
     let mut steps = Steps::new();
-    let value = dedent(alloc, &units, &mut steps);
+    let value = dedent(alloc, &lines, &mut steps);
     cursor.raise(steps.count());
     value
 }

@@ -1,18 +1,21 @@
 //! Raw strings, of one line and of many.
 
 ghost use Rattle.kdl_text.specs.Chars.{Text, begins, times};
-ghost use Rattle.kdl_text.specs.Raw.{IsRaw, RawUnit, RawContent, RawPart, MultiLineRawBody, closing, literals};
+ghost use Rattle.kdl_text.specs.Dedent.{lines_of};
+ghost use Rattle.kdl_text.specs.Here.{bytes};
+ghost use Rattle.kdl_text.specs.Lines.{ReadsLine, line_units, lines_len};
+ghost use Rattle.kdl_text.specs.Raw.{IsRaw, RawUnits, RawContent, MultiLineRawBody, closing, literals};
 ghost use Rattle.kdl_text.specs.Reading.{Moves, Costs};
 ghost use Rattle.kdl_text.specs.declared.strings.StringFailure.TheVariants.{Memory};
 ghost use Rattle.kdl_text.specs.declared.strings.dedent.LineUnit.{LineUnit};
-ghost use Rattle.std.specs.Prelude.{◌≡◌, ◌<◌, ◌≤◌, ◌++◌, ◌∷◌, List, false, string_bytes, IfOk, IfErr, MatchResult};
+ghost use Rattle.std.specs.Prelude.{◌≡◌, ◌<◌, ◌≤◌, ◌+◌, ◌++◌, ◌∷◌, List, false, map, string_bytes, IfOk, IfErr, IfSome, IfNone, MatchResult};
 ghost use Rattle.std.specs.Str.{chars};
 
-use crate::chars::{Class, Cursor, Piece, Steps, is_newline_char, is_raw, newline};
-use crate::strings::dedent::{LineUnit, dedent, push_unit};
+use crate::chars::{Checkpoint, Class, Cursor, Piece, Steps, is_newline_char, is_raw, newline};
+use crate::strings::dedent::{Line, add_line, dedent};
 use crate::strings::multiline::end_newline;
 use crate::strings::{StringFailure, StringFault, fault_at};
-use std::alloc::{AllocError, Global};
+use std::alloc::Global;
 
 /// Goes past all number signs, and counts them.
 fn count_signs(cursor: &mut Cursor) -> usize
@@ -80,82 +83,92 @@ fn line_content<'a>(cursor: &mut Cursor<'a>, signs: usize) -> Result<Piece<'a>, 
     }
 }
 
-/// Appends so many literal characters.
-fn push_times(units: &mut Vec<LineUnit>, c: char, count: usize) -> Result<(), AllocError>
-    ensures { IfOk result (λ _. units.new.items ≡ units.old.items ++ literals (times count c)) }
+/// The place behind so many quotes.
+fn behind_quotes<'a>(place: &Checkpoint<'a>, count: usize) -> Checkpoint<'a>
+    ensures { (t : Text) → place.now.rest ≡ times count 34 ++ t → result.rest ≡ t }
 {
+    let mut behind = place.copied();
     for _ in 0..count {
-        push_unit(units, LineUnit::Literal(c))?;
+        behind = behind.next();
     }
-    Ok(())
+    behind
 }
 
-/// The unit that begins with the character c, which stands behind the cursor and is no quote.
-fn raw_unit(c: char, cursor: &mut Cursor, signs: usize) -> Result<LineUnit, StringFault>
-    requires { c ≡ 34 → ⊥ }
-    ensures found { IfOk result (λ u. RawUnit (closing 3 signs) (c ∷ cursor.old.rest) cursor.new.rest u) }
-    ensures only { (r : Text) (u : LineUnit) → RawUnit (closing 3 signs) (c ∷ cursor.old.rest) r u → IfErr result (λ _. ⊥) }
-    ensures moves { Moves cursor.old cursor.new }
-    ensures costs { Costs 1 1 cursor.old cursor.new }
-{
-    if is_newline_char(c) {
-        end_newline(c, cursor);
-        return Ok(LineUnit::LineEnd);
-    }
-    if is_raw(c) {
-        Ok(LineUnit::Literal(c))
-    } else {
-        Err(StringFault::Banned)
-    }
-}
-
-/// Behind a quote: goes past the quotes and number signs that follow, and appends those that stand before the closing.
-/// Gives whether this was read.
-fn read_quotes(
-    cursor: &mut Cursor,
+/// Behind the quote at a place: goes past the quotes that follow, and past the number signs where these are two or
+/// more. Gives where the closing begins, if one stands there.
+fn closing_place<'a>(
+    quote: &Checkpoint<'a>,
+    cursor: &mut Cursor<'a>,
     signs: usize,
-    units: &mut Vec<LineUnit>,
-) -> Result<bool, AllocError>
-    requires { 0 < signs }
-    ensures found { IfOk result (λ closed. (us : List LineUnit) × (units.new.items ≡ units.old.items ++ us)
-        × RawPart (closing 3 signs) closed (34 ∷ cursor.old.rest) cursor.new.rest us) }
+) -> Option<Checkpoint<'a>>
+    requires some { 0 < signs }
+    requires quote { quote.now.rest ≡ 34 ∷ cursor.old.rest }
+    ensures found { IfSome result (λ place. (p : Text) × (quote.now.rest ≡ p ++ place.rest) × RawUnits (closing 3 signs) quote.now.rest place.rest (literals p) × (place.rest ≡ closing 3 signs ++ cursor.new.rest)) }
+    ensures none { IfNone result ((p : Text) × (quote.now.rest ≡ p ++ cursor.new.rest) × RawUnits (closing 3 signs) quote.now.rest cursor.new.rest (literals p)) }
     ensures moves { Moves cursor.old cursor.new }
-    ensures costs { Costs 1 2 cursor.old cursor.new }
+    ensures costs { Costs 2 1 cursor.old cursor.new }
 {
     let more = count_quotes(cursor);
-    let count = eat_signs(cursor, signs);
-    if more >= 2 && count == signs {
-        push_times(units, '"', more - 2)?;
-        return Ok(true);
+    if more < 2 {
+        return None;
     }
-    push_unit(units, LineUnit::Literal('"'))?;
-    push_times(units, '"', more)?;
-    push_times(units, '#', count)?;
-    Ok(false)
+    if eat_signs(cursor, signs) < signs {
+        return None;
+    }
+    Some(behind_quotes(quote, more - 2))
+}
+
+/// Reads a line and its newline, or the closing of three quotes and so many number signs. Gives whether it was this.
+fn read_line<'a>(cursor: &mut Cursor<'a>, signs: usize) -> Result<(Piece<'a>, bool), StringFault>
+    requires { 0 < signs }
+    ensures found { IfOk result (λ (p, closed). ReadsLine (RawContent (closing 3 signs)) closed cursor.old.rest (literals p) cursor.new.rest) }
+    ensures shorter { IfOk result (λ (p, _). bytes p + 1 + bytes cursor.new.rest ≤ bytes cursor.old.rest) }
+    ensures only { (r : Text) (us : List LineUnit) → RawContent (closing 3 signs) cursor.old.rest r us → IfErr result (λ _. ⊥) }
+    ensures moves { Moves cursor.old cursor.new }
+    ensures costs { Costs 3 1 cursor.old cursor.new }
+    ensures cost { IfOk result (λ _. Costs 3 0 cursor.old cursor.new) }
+{
+    let start = cursor.checkpoint();
+    'parts: loop {
+        let end = cursor.checkpoint();
+        match cursor.take() {
+            Some('"') => {
+                if let Some(place) = closing_place(&end, cursor, signs) {
+                    return Ok((cursor.slice_between(&start, &place), true));
+                }
+            }
+            Some(c) if is_newline_char(c) => {
+                end_newline(c, cursor);
+                return Ok((cursor.slice_between(&start, &end), false));
+            }
+            Some(c) if is_raw(c) => cursor.skip(Class::Unquoted),
+            Some(_) => return Err(StringFault::Banned),
+            None => return Err(StringFault::Unclosed),
+        }
+    }
 }
 
 /// The lines up to the first three quotes with so many number signs behind them; the cursor goes past these.
-fn lines_content(
+fn lines_content<'a>(
     alloc: Global,
-    cursor: &mut Cursor,
+    cursor: &mut Cursor<'a>,
     signs: usize,
-) -> Result<Vec<LineUnit>, StringFailure>
+) -> Result<Vec<Line<'a>>, StringFailure>
     requires { 0 < signs }
-    ensures found { IfOk result (λ us. RawContent (closing 3 signs) cursor.old.rest cursor.new.rest us.items) }
-    ensures only { (r : Text) (us : List LineUnit) → RawContent (closing 3 signs) cursor.old.rest r us →
-        MatchResult result (λ v. (r ≡ cursor.new.rest) × (us ≡ v.items)) (λ e. e ≡ Memory) }
+    ensures found { IfOk result (λ ls. (us : List LineUnit) × RawContent (closing 3 signs) cursor.old.rest cursor.new.rest us × (lines_of us ≡ map line_units ls.items)) }
+    ensures shorter { IfOk result (λ ls. lines_len ls.items + bytes cursor.new.rest ≤ bytes cursor.old.rest) }
+    ensures only { (r : Text) (us : List LineUnit) → RawContent (closing 3 signs) cursor.old.rest r us → IfErr result (λ e. e ≡ Memory) }
     ensures moves { Moves cursor.old cursor.new }
     ensures costs { Costs 3 2 cursor.old cursor.new }
 {
-    let mut units = Vec::new(alloc);
-    'units: while let Some(c) = cursor.take() {
-        if c != '"' {
-            push_unit(&mut units, raw_unit(c, cursor, signs)?)?;
-        } else if read_quotes(cursor, signs, &mut units)? {
-            return Ok(units);
+    let mut lines = Vec::new(alloc);
+    'lines: loop {
+        let (piece, closed) = read_line(cursor, signs)?;
+        add_line(&mut lines, Line::Plain(piece))?;
+        if closed {
+            return Ok(lines);
         }
     }
-    Err(StringFailure::Fault(StringFault::Unclosed))
 }
 
 /// Behind the number signs and three quotes: the value of a raw string of many lines.
@@ -170,9 +183,9 @@ fn raw_lines(alloc: Global, cursor: &mut Cursor, signs: usize) -> Result<String,
     if !newline(cursor) {
         return Err(StringFailure::Fault(StringFault::LooksMultiLine));
     }
-    let units = lines_content(alloc, cursor, signs)?;
+    let lines = lines_content(alloc, cursor, signs)?;
     let mut steps = Steps::new();
-    let value = dedent(alloc, &units, &mut steps);
+    let value = dedent(alloc, &lines, &mut steps);
     cursor.raise(steps.count());
     value
 }

@@ -1,9 +1,10 @@
-use Rattle.std.proofs.Common.{arith, sym, ◌∙◌}
-use Rattle.kdl_text.proofs.Runs.{run_counts, run_turn}
+use Rattle.std.proofs.Common.{sym, ◌∙◌}
+use Rattle.kdl_text.specs.Here.{in_class}
+use Rattle.kdl_text.proofs.Runs.{ascii_ends, ascii_stops}
 use Rattle.kdl_text.proofs.chars.skip_class.Goals as goal
 
-pub overflow_add-count-in-Some : goal.overflow_add-count-in-Some
-overflow_add-count-in-Some c =
-    let (text, small, i) = c.run.invariant in
-    let (e, l) = c.in-Some.ensures.parts in
-    omega (arith, run_counts _ _ _ _ (run_turn _ _ _ _ _ c.in-Some.c _ _ i e l (sym c.has.ensures ∙ c.if-not-has.false) c.skip_ascii-more.ensures))
+pub returns-in_default : goal.returns-in_default
+returns-in_default c = ascii_ends (in_class c.args.class) _ _ _ c.skip_ascii-count.ensures c.in_default.ensures.first
+
+pub returns-then-is_ascii : goal.returns-then-is_ascii
+returns-then-is_ascii c = ascii_stops (in_class c.args.class) _ _ _ c.in-Some.c c.skip_ascii-count.ensures c.in-Some.ensures.first (sym c.is_ascii.ensures ∙ c.if-is_ascii.true)

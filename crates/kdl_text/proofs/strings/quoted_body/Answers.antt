@@ -5,14 +5,14 @@ use Rattle.kdl_text.proofs.Quoting.{reading_begins, reading_turn, reading_fails,
 use Rattle.kdl_text.proofs.strings.quoted_body.Goals as goal
 
 pub units-init : goal.units-init
-units-init c = reading_begins _ _ _ _ c.literal_run.ensures.run c.literal_run.ensures.result c.literal_run.ensures.moves c.literal_run.ensures.costs c.in_ok-out.ensures
+units-init c = reading_begins _ _ _ _ c.run_of.ensures.run c.run_of.ensures.result c.run_of.ensures.moves c.run_of.ensures.costs c.in_ok-out.ensures
 
 pub returns-in_err-out-clause-costs : goal.returns-in_err-out-clause-costs
-returns-in_err-out-clause-costs c = failed_early _ _ c.literal_run.ensures.moves c.literal_run.ensures.costs
+returns-in_err-out-clause-costs c = failed_early _ _ c.run_of.ensures.moves c.run_of.ensures.costs
 
 pub units-preserved : goal.units-preserved
 units-preserved c =
-    let run = c.literal_run-in-units.ensures in
+    let run = c.run_of-in-units.ensures in
     let did = c.in_ok-escape-in-Some-eq92.ensures in
     reading_turn _ _ _ c.units.invariant _ _ _ _ _ _ _ c.in-Some-eq92.ensures.took c.in-Some-eq92.field-0-test did.found did.moves did.costs run.run run.result run.moves run.costs c.in_ok-push_to.ensures
 
@@ -50,8 +50,8 @@ returns-in-None-clause-only c r w b = absurd (reading_over _ _ _ c.units.invaria
 
 pub returns-in_err-push_to-clause-moves : goal.returns-in_err-push_to-clause-moves
 returns-in_err-push_to-clause-moves c =
-    (reading_runs_out _ _ _ c.units.invariant _ _ _ _ c.in-Some-eq92.ensures.took c.escape.ensures.moves c.escape.ensures.costs c.literal_run-in-units.ensures.moves c.literal_run-in-units.ensures.costs).0
+    (reading_runs_out _ _ _ c.units.invariant _ _ _ _ c.in-Some-eq92.ensures.took c.escape.ensures.moves c.escape.ensures.costs c.run_of-in-units.ensures.moves c.run_of-in-units.ensures.costs).0
 
 pub returns-in_err-push_to-clause-costs : goal.returns-in_err-push_to-clause-costs
 returns-in_err-push_to-clause-costs c =
-    (reading_runs_out _ _ _ c.units.invariant _ _ _ _ c.in-Some-eq92.ensures.took c.escape.ensures.moves c.escape.ensures.costs c.literal_run-in-units.ensures.moves c.literal_run-in-units.ensures.costs).1
+    (reading_runs_out _ _ _ c.units.invariant _ _ _ _ c.in-Some-eq92.ensures.took c.escape.ensures.moves c.escape.ensures.costs c.run_of-in-units.ensures.moves c.run_of-in-units.ensures.costs).1

@@ -1,5 +1,5 @@
 use Rattle.std.proofs.Common.{arith}
-use Rattle.kdl_text.proofs.Turns.{starts, after_open, after_close, after_one, after_slash, after_star, after_all, after_end}
+use Rattle.kdl_text.proofs.Turns.{starts, after_open, after_close, after_run, after_slash, after_star, after_all, after_end}
 use Rattle.kdl_text.proofs.trivia.block_end.Goals as goal
 
 pub parts-init : goal.parts-init
@@ -27,4 +27,4 @@ pub parts-preserved-else-eat-2 : goal.parts-preserved-else-eat-2
 parts-preserved-else-eat-2 c = after_star _ _ _ _ _ _ c.parts.invariant c.in-Some-eq42.ensures.took c.in-Some-eq42.field-0-test c.if-eat-2.ensures
 
 pub parts-preserved : goal.parts-preserved
-parts-preserved c = after_one _ _ _ _ _ c.take.new.self c.parts.invariant c.in-Some.ensures.took c.in-Some.field-0-test.0.1 c.in-Some.field-0-test.1
+parts-preserved c = after_run _ _ _ _ _ _ c.parts.invariant c.in-Some.ensures.took c.in-Some.field-0-test.0.1 c.in-Some.field-0-test.1 c.skip.ensures

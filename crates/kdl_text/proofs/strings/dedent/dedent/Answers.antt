@@ -1,56 +1,46 @@
-use Rattle.std.proofs.Common.{List, length, drop, sym, ap, ◌∙◌, subst, string_bytes}
-use Rattle.std.specs.Str.{chars}
-use Rattle.std.proofs.lemmas.Str.{chars-nil}
+use Rattle.std.proofs.Common.{◌∙◌, sym, ap, arith}
+use Rattle.std.proofs.lemmas.List.{nil_from_length}
 use Rattle.std.proofs.lemmas.Bool.{false≢true}
-use Rattle.kdl_text.specs.Dedent.{Dedents}
-use Rattle.kdl_text.specs.declared.strings.dedent.LineUnit.{LineUnit}
-use Rattle.kdl_text.proofs.Dedents.{dedents_to, dedents_from, dedents_none, dedents_one, dedents_blank, split_last_line, only_line}
+use Rattle.kdl_text.specs.Dedent.{joined}
+use Rattle.kdl_text.proofs.Dedents.{some_lines, dedents_to, dedents_from, values_same}
+use Rattle.kdl_text.proofs.Lines.{last_len}
 use Rattle.kdl_text.proofs.strings.dedent.dedent.Goals as goal
 
-pub returns-then-not-is_blank_line-clause-only : goal.returns-then-not-is_blank_line-clause-only
-returns-then-not-is_blank_line-clause-only c v d =
-    let s = c.last_line-start.result in
-    let not_blank = sym c.is_blank_line.ensures ∙ c.if-not-is_blank_line.true in
-    absurd (false≢true (sym (rw c.split_at.ensures.back at not_blank) ∙ dedents_blank c.args.units.now s v c.last_line-start.ensures.inside c.last_line-start.ensures.newline d))
-
 pub returns-in_default-clause-found : goal.returns-in_default-clause-found
-returns-in_default-clause-found c =
-    let s = c.last_line-start.result in
-    let ts = c.args.units.now in
-    let whole = only_line ts s (ap length (sym c.split_at.ensures.front) ∙ c.in_default.ensures.cases) c.last_line-start.ensures.within in
-    let blank = rw (c.split_at.ensures.back, whole) at (sym c.is_blank_line.ensures ∙ c.if-not-is_blank_line.false) in
-    rw (c.new-out.ensures.bytes, chars-nil) (dedents_one ts (rw whole at c.last_line-start.ensures.inside) blank)
+returns-in_default-clause-found c us e = absurd (some_lines us c.args.lines.now e (nil_from_length c.args.lines.now c.in_default.ensures.cases))
 
-pub returns-in_default-clause-only : goal.returns-in_default-clause-only
-returns-in_default-clause-only c v d =
-    let s = c.last_line-start.result in
-    let ts = c.args.units.now in
-    let whole = only_line ts s (ap length (sym c.split_at.ensures.front) ∙ c.in_default.ensures.cases) c.last_line-start.ensures.within in
-    (dedents_none ts v (rw whole at c.last_line-start.ensures.inside) d).1 ∙ sym (ap chars c.new-out.ensures.bytes ∙ chars-nil)
+pub returns-then-not-is_blank-clause-only : goal.returns-then-not-is_blank-clause-only
+returns-then-not-is_blank-clause-only c us v e d =
+    let (blank, ws, l, same) = dedents_from us c.args.lines.now _ _ v e c.in-Some.ensures.cases.0 d in
+    absurd (false≢true (sym c.if-not-is_blank.true ∙ c.is_blank.ensures ∙ blank))
+
+pub returns-then-not-is_blank-clause-cost : goal.returns-then-not-is_blank-clause-cost
+returns-then-not-is_blank-clause-cost c = omega (arith, last_len c.args.lines.now _ _ c.in-Some.ensures.cases.0)
+
+pub returns-in_err-prefix-clause-cost : goal.returns-in_err-prefix-clause-cost
+returns-in_err-prefix-clause-cost c = omega (arith, last_len c.args.lines.now _ _ c.in-Some.ensures.cases.0)
 
 pub returns-in-Ok-clause-found : goal.returns-in-Ok-clause-found
-returns-in-Ok-clause-found c =
-    let s = c.last_line-start.result in
-    let ts = c.args.units.now in
-    let shape = split_last_line ts c.in-Some.lines.now s c.in-Some.field-0-0.now c.last_line-start.ensures.newline c.last_line-start.ensures.within (sym c.split_at.ensures.front ∙ c.in-Some.ensures.cases.0) in
-    let blank = rw c.split_at.ensures.back at (sym c.is_blank_line.ensures ∙ c.if-not-is_blank_line.false) in
-    let P : List LineUnit → Type 0 = λ z. Dedents z (chars (string_bytes c.push_lines.new.out)) in
-    subst P (sym shape) (dedents_to c.in-Some.lines.now (drop s ts) _ c.last_line-start.ensures.inside blank (rw c.split_at.ensures.back at c.in-Ok.ensures.found))
+returns-in-Ok-clause-found c us e =
+    let (vs, k, is) = c.in-Ok.ensures.found in
+    let prefix = c.deref.ensures.value ∙ c.in_ok-prefix.ensures in
+    rw is (dedents_to us c.args.lines.now _ _ vs e c.in-Some.ensures.cases.0 (sym c.is_blank.ensures ∙ c.if-not-is_blank.false) (rw prefix at k))
 
 pub returns-in-Ok-clause-only : goal.returns-in-Ok-clause-only
-returns-in-Ok-clause-only c v d =
-    let s = c.last_line-start.result in
-    let ts = c.args.units.now in
-    let shape = split_last_line ts c.in-Some.lines.now s c.in-Some.field-0-0.now c.last_line-start.ensures.newline c.last_line-start.ensures.within (sym c.split_at.ensures.front ∙ c.in-Some.ensures.cases.0) in
-    let P : List LineUnit → Type 0 = λ z. Dedents z v in
-    let body = (dedents_from c.in-Some.lines.now (drop s ts) v c.last_line-start.ensures.inside (subst P shape d)).1 in
-    c.in-Ok.ensures.only v (rw c.split_at.ensures.back body)
+returns-in-Ok-clause-only c us v e d =
+    let (vs, k, is) = c.in-Ok.ensures.found in
+    let prefix = c.deref.ensures.value ∙ c.in_ok-prefix.ensures in
+    let (blank, ws, l, same) = dedents_from us c.args.lines.now _ _ v e c.in-Some.ensures.cases.0 d in
+    same ∙ ap joined (values_same _ _ ws vs l (rw prefix at k)) ∙ sym is
+
+pub returns-in-Ok-clause-cost : goal.returns-in-Ok-clause-cost
+returns-in-Ok-clause-cost c = omega (arith, last_len c.args.lines.now _ _ c.in-Some.ensures.cases.0, c.push_lines.ensures.cost)
 
 pub returns-in-Err-clause-only : goal.returns-in-Err-clause-only
-returns-in-Err-clause-only c v d =
-    let s = c.last_line-start.result in
-    let ts = c.args.units.now in
-    let shape = split_last_line ts c.in-Some.lines.now s c.in-Some.field-0-0.now c.last_line-start.ensures.newline c.last_line-start.ensures.within (sym c.split_at.ensures.front ∙ c.in-Some.ensures.cases.0) in
-    let P : List LineUnit → Type 0 = λ z. Dedents z v in
-    let body = (dedents_from c.in-Some.lines.now (drop s ts) v c.last_line-start.ensures.inside (subst P shape d)).1 in
-    c.in-Err.ensures.only v (rw c.split_at.ensures.back body)
+returns-in-Err-clause-only c us v e d =
+    let prefix = c.deref.ensures.value ∙ c.in_ok-prefix.ensures in
+    let (blank, ws, l, same) = dedents_from us c.args.lines.now _ _ v e c.in-Some.ensures.cases.0 d in
+    c.in-Err.ensures.only ws (rw prefix l)
+
+pub returns-in-Err-clause-cost : goal.returns-in-Err-clause-cost
+returns-in-Err-clause-cost c = omega (arith, last_len c.args.lines.now _ _ c.in-Some.ensures.cases.0, c.push_lines.ensures.cost)

@@ -1,15 +1,16 @@
-use Rattle.std.proofs.Common.{◌≡◌, ◌++◌, ◌-◌, length, take, drop, false, sym, ap, ◌∙◌, refl, arith, length-drop, string_bytes}
-use Rattle.std.proofs.lemmas.List.{take-append-drop, take_all}
-use Rattle.std.specs.Str.{chars}
-use Rattle.kdl_text.specs.Dedent.{is_blank_line, line_text, dedented}
+use Rattle.std.proofs.Common.{sym, ◌∙◌, ap}
+use Rattle.kdl_text.specs.Dedent.{dedented}
+use Rattle.kdl_text.specs.Lines.{line_units}
+use Rattle.kdl_text.specs.Raw.{literals}
+use Rattle.kdl_text.proofs.Dedents.{dedented_value, literals_text}
 use Rattle.kdl_text.proofs.strings.dedent.push_line.Goals as goal
 
-pub returns-clause-done : goal.returns-clause-done
-returns-clause-done c =
-    let line = c.args.line.now in
-    let n = length c.args.prefix.now in
-    let some : is_blank_line line ≡ false = sym c.is_blank_line.ensures ∙ c.if-is_blank_line.false in
-    let front : take n line ≡ c.args.prefix.now = c.begins.ensures.0 c.if-not-begins.false in
-    let parts = sym (take-append-drop n line) ∙ ap (λ z. z ++ drop n line) front in
-    let whole : take (length line - n) (drop n line) ≡ drop n line = take_all (length line - n) (drop n line) (omega (arith, length-drop n line)) in
-    (line_text (drop n line), dedented (drop n line) some parts refl, c.in_ok-push_text.ensures ∙ ap (λ z. chars (string_bytes c.args.out.now) ++ line_text z) whole)
+pub returns-in-Units-clause-done : goal.returns-in-Units-clause-done
+returns-in-Units-clause-done c =
+    let e = c.deref.ensures.value ∙ ap line_units (sym c.in-Units.is) in
+    dedented_value c.push_units.result _ _ _ _ (sym c.is_blank.ensures ∙ c.if-is_blank.false) (rw e at c.push_units.ensures.done)
+
+pub returns-in_ok-push_to-in-Plain-clause-done : goal.returns-in_ok-push_to-in-Plain-clause-done
+returns-in_ok-push_to-in-Plain-clause-done c =
+    let e = ap line_units c.in-Plain.is in
+    (c.in-Some.rest, dedented (literals c.in-Some.rest) (sym c.is_blank.ensures ∙ c.if-is_blank.false) (e ∙ c.in-Some.ensures) (sym (literals_text c.in-Some.rest)), c.in_ok-push_to-in-Plain.ensures)

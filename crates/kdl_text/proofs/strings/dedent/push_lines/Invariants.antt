@@ -1,10 +1,8 @@
-use Rattle.std.proofs.Common.{◌+◌, ◌≤◌, length, string_bytes}
+use Rattle.std.proofs.Common.{◌+◌, ◌≤◌, take, string_bytes}
 use Rattle.std.specs.Str.{chars}
-use Rattle.kdl_text.proofs.Dedents.{Joins}
+use Rattle.kdl_text.specs.Lines.{lines_len}
+use Rattle.kdl_text.proofs.Dedents.{Joined}
 use Rattle.kdl_text.proofs.strings.dedent.push_lines.Given as goal
 
-abbrev pub invariant-lines : goal.invariant-lines
-invariant-lines l = Joins l.prefix l.fn.units (chars (string_bytes l.out)) l.rest × (l.steps + length l.rest ≤ l.fn.steps + length l.fn.units)
-
-abbrev pub decreases-lines : goal.decreases-lines
-decreases-lines l = length l.rest
+abbrev pub invariant-loop-line : goal.invariant-loop-line
+invariant-loop-line l = Joined l.prefix (take (l.line-index + 1) l.fn.lines) (chars (string_bytes l.out)) × (l.steps ≤ l.fn.steps + lines_len (take (l.line-index + 1) l.fn.lines))

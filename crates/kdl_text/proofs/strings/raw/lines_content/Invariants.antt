@@ -1,9 +1,10 @@
-use Rattle.std.proofs.Common.{length}
-use Rattle.kdl_text.proofs.RawLines.{InRaw}
+use Rattle.kdl_text.specs.Here.{bytes}
+use Rattle.kdl_text.specs.Raw.{RawContent, closing}
+use Rattle.kdl_text.proofs.Lines.{InLines}
 use Rattle.kdl_text.proofs.strings.raw.lines_content.Given as goal
 
-abbrev pub invariant-units : goal.invariant-units
-invariant-units l = InRaw l.signs l.fn.cursor l.cursor l.units.items
+abbrev pub invariant-lines : goal.invariant-lines
+invariant-lines l = InLines (RawContent (closing 3 l.signs)) l.fn.cursor l.cursor l.lines.items
 
-abbrev pub decreases-units : goal.decreases-units
-decreases-units l = length l.cursor.rest
+abbrev pub decreases-lines : goal.decreases-lines
+decreases-lines l = bytes l.cursor.rest

@@ -1,33 +1,38 @@
-use Rattle.std.proofs.Common.{length, ap, arith, String, Global}
+use Rattle.std.proofs.Common.{◌∙◌, map, sym, ap, arith, String, Global}
 use Rattle.std.specs.Prelude.{string_bytes}
 use Rattle.std.specs.Str.{chars}
+use Rattle.kdl_text.specs.Lines.{line_units, lines_len}
 use Rattle.kdl_text.specs.declared.strings.StringFailure.{StringFailure}
-use Rattle.kdl_text.proofs.Counts.{raw_count, raw_lines_cost, raw_lines_fail, dedent_moves}
+use Rattle.kdl_text.proofs.Counts.{raw_lines_cost, raw_lines_fail, dedent_moves}
 use Rattle.kdl_text.proofs.Going.{moves_then}
 use Rattle.kdl_text.proofs.Quoting.{failed}
 use Rattle.kdl_text.proofs.RawBodies.{raw_body_found, raw_body_only, raw_body_content}
 use Rattle.kdl_text.proofs.strings.raw.raw_lines.Goals as goal
 
-pub returns-in_err-units-clause-only : goal.returns-in_err-units-clause-only
-returns-in_err-units-clause-only c r w b =
+pub returns-in_err-lines-clause-only : goal.returns-in_err-lines-clause-only
+returns-in_err-lines-clause-only c r w b =
     let (us, x) = raw_body_content _ _ _ r w c.if-not-newline.ensures.reads b in
-    let memory = c.in_err-units.ensures.only r us x in
+    let memory = c.in_err-lines.ensures.only r us x in
     failed {T = String Global} {E = StringFailure} c.from_residual.result _ _ _ c.from_residual.ensures.1 memory
 
-pub returns-in_err-units-clause-moves : goal.returns-in_err-units-clause-moves
-returns-in_err-units-clause-moves c = moves_then c.newline.ensures.moves c.lines_content.ensures.moves
+pub returns-in_err-lines-clause-moves : goal.returns-in_err-lines-clause-moves
+returns-in_err-lines-clause-moves c = moves_then c.newline.ensures.moves c.lines_content.ensures.moves
 
-pub returns-in_err-units-clause-costs : goal.returns-in_err-units-clause-costs
-returns-in_err-units-clause-costs c = raw_lines_fail _ _ _ c.newline.ensures.moves c.newline.ensures.costs c.lines_content.ensures.moves c.lines_content.ensures.costs
+pub returns-in_err-lines-clause-costs : goal.returns-in_err-lines-clause-costs
+returns-in_err-lines-clause-costs c = raw_lines_fail _ _ _ c.newline.ensures.moves c.newline.ensures.costs c.lines_content.ensures.moves c.lines_content.ensures.costs
 
 pub returns-clause-found : goal.returns-clause-found
-returns-clause-found c = rw (ap (λ z. z.rest) c.raise.ensures) (raw_body_found c.dedent-value.result (λ v. chars (string_bytes v)) c.args.signs _ _ _ _ _ c.if-not-newline.ensures.reads c.in_ok-units.ensures.found c.deref.ensures.value c.dedent-value.ensures.found)
+returns-clause-found c =
+    let (us, x, e) = c.in_ok-lines.ensures.found in
+    rw (ap (λ z. z.rest) c.raise.ensures) (raw_body_found c.dedent-value.result (λ v. chars (string_bytes v)) c.args.signs _ _ _ us c.if-not-newline.ensures.reads x (c.dedent-value.ensures.found us (e ∙ ap (map line_units) (sym c.deref.ensures.value))))
 
 pub returns-clause-only : goal.returns-clause-only
-returns-clause-only c = rw (ap (λ z. z.rest) c.raise.ensures) (raw_body_only c.dedent-value.result (λ v. chars (string_bytes v)) c.args.signs _ _ _ _ _ c.if-not-newline.ensures.reads c.in_ok-units.ensures.only c.deref.ensures.value c.dedent-value.ensures.only)
+returns-clause-only c =
+    let (us, x, e) = c.in_ok-lines.ensures.found in
+    rw (ap (λ z. z.rest) c.raise.ensures) (raw_body_only c.dedent-value.result (λ v. chars (string_bytes v)) c.args.signs _ _ _ us _ c.if-not-newline.ensures.reads x (e ∙ ap (map line_units) (sym c.deref.ensures.value)) c.dedent-value.ensures.only)
 
 pub returns-clause-moves : goal.returns-clause-moves
 returns-clause-moves c = dedent_moves _ _ _ _ _ c.newline.ensures.moves c.lines_content.ensures.moves c.raise.ensures
 
 pub returns-clause-costs : goal.returns-clause-costs
-returns-clause-costs c = raw_lines_cost _ _ _ _ c.count.result (length c.in_ok-units.units.items) c.newline.ensures.moves c.newline.ensures.costs c.lines_content.ensures.moves c.lines_content.ensures.costs (raw_count c.in_ok-units.ensures.found) (omega (arith, c.count.ensures, c.dedent-value.ensures.cost, c.new-steps.ensures, ap length c.deref.ensures.value)) c.raise.ensures
+returns-clause-costs c = raw_lines_cost _ _ _ _ c.count.result (lines_len c.in_ok-lines.lines.items) c.newline.ensures.moves c.newline.ensures.costs c.lines_content.ensures.moves c.lines_content.ensures.costs c.in_ok-lines.ensures.shorter (omega (arith, c.count.ensures, c.dedent-value.ensures.cost, c.new-steps.ensures, ap lines_len c.deref.ensures.value)) c.raise.ensures

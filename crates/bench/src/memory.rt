@@ -1,0 +1,35 @@
+//! What memory the process takes, as Linux tells it.
+
+use crate::measure::parsed;
+use std::{fs, io};
+
+/// The bytes that the process takes at its peak while the text is parsed, beyond those that it had before; 0 where the
+/// system does not tell. None where the text is no document.
+///
+/// What was freed before and not given back serves again uncounted, so the first text of a run is told best.
+pub fn bytes_to_parse(rt: &HostRuntime, text: &str) -> io::Result<Option<u64>> {
+    // From here on the peak is counted anew.
+    let is_reset = fs::write(rt, "/proc/self/clear_refs", "5").is_ok();
+    let before = told(rt, "VmRSS:");
+    let document = parsed(rt, text)?;
+    let peak = told(rt, "VmHWM:");
+    Ok(match document {
+        Some(_) if is_reset => Some(peak.saturating_sub(before)),
+        Some(_) => Some(0),
+        None => None,
+    })
+}
+
+/// The bytes in the line of the process's status with this label; 0 where there is none.
+fn told(rt: &HostRuntime, label: &str) -> u64 {
+    let Ok(status) = fs::read_to_string(rt, "/proc/self/status") else {
+        return 0;
+    };
+    for line in status.lines() {
+        if let Some(amount) = line.strip_prefix(label) {
+            let kilobytes = amount.trim().trim_end_matches(" kB").parse::<u64>();
+            return kilobytes.unwrap_or(0).saturating_mul(1024);
+        }
+    }
+    0
+}

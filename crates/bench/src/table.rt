@@ -1,0 +1,77 @@
+//! The two tables: how fast each call is, and whether it is as fast on longer texts.
+
+use crate::measure::{CALLS, Call, least_time};
+use crate::memory::bytes_to_parse;
+use crate::texts::KINDS;
+use std::alloc::{AllocError, Global};
+use std::io;
+
+/// How long the texts of the second table are.
+const LENGTHS: [usize; 4] = [10_000, 100_000, 1_000_000, 10_000_000];
+
+/// How often a text is measured: more often where it is small.
+fn turns(text: &str) -> usize {
+    (20_000_000 / text.len().max(1)).clamp(3, 100)
+}
+
+/// Writes the heads of the first table.
+pub fn head(rt: &HostRuntime) -> io::Result<()> {
+    println!(rt; "MB/s of the text; nanoseconds a look-up; bytes of memory to parse a byte")?;
+    print!(rt; "text          bytes")?;
+    for (head, _) in &CALLS {
+        print!(rt; "{head:>9}")?;
+    }
+    println!(rt; "  node ns  property ns  memory")
+}
+
+/// Writes a row of the first table.
+pub fn row(rt: &HostRuntime, name: &str, text: &str) -> io::Result<()> {
+    let bytes = text.len();
+    let Some(memory) = bytes_to_parse(rt, text)? else {
+        return println!(rt; "{name}: no document");
+    };
+    print!(rt; "{name:<9} {bytes:>9}")?;
+    for (_, call) in &CALLS {
+        let speed = tenths(rt.alloc(), rate(rt, *call, text)?)?;
+        print!(rt; "{speed:>9}")?;
+    }
+    let node = least_time(rt, Call::Node, text, turns(text))?.as_nanos();
+    let property = least_time(rt, Call::Property, text, turns(text))?.as_nanos();
+    let memory = tenths(
+        rt.alloc(),
+        u128::from(memory).saturating_mul(10) / (bytes as u128).max(1),
+    )?;
+    println!(rt; "{node:>9}{property:>13}{memory:>8}")
+}
+
+/// Tenths of megabytes of the text in a second.
+fn rate(rt: &HostRuntime, call: Call, text: &str) -> io::Result<u128> {
+    let time = least_time(rt, call, text, turns(text))?;
+    Ok((text.len() as u128).saturating_mul(10_000) / time.as_nanos().max(1))
+}
+
+/// So many tenths as a decimal.
+fn tenths(alloc: Global, tenths: u128) -> Result<String, AllocError> {
+    let (whole, part) = (tenths / 10, tenths % 10);
+    format!(in alloc; "{whole}.{part}")
+}
+
+/// Writes the second table: the speeds on longer and longer texts, and the greatest of them by the least.
+pub fn growth(rt: &HostRuntime) -> io::Result<()> {
+    println!(rt; "\nMB/s on 10 KB, 100 KB, 1 MB and 10 MB, and the greatest by the least")?;
+    for kind in &KINDS {
+        for (head, call) in &CALLS {
+            print!(rt; "{:<9}{head:<9}", kind.name)?;
+            let (mut least, mut most) = (u128::MAX, 0);
+            for bytes in &LENGTHS {
+                let rate = rate(rt, *call, &kind.text(rt.alloc(), *bytes)?)?;
+                (least, most) = (least.min(rate), most.max(rate));
+                let speed = tenths(rt.alloc(), rate)?;
+                print!(rt; "{speed:>9}")?;
+            }
+            let quotient = tenths(rt.alloc(), most.saturating_mul(10) / least.max(1))?;
+            println!(rt; "{quotient:>6}")?;
+        }
+    }
+    Ok(())
+}

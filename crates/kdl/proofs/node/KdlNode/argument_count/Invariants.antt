@@ -1,0 +1,7 @@
+use Rattle.std.proofs.Common.{◌≡◌, ◌≤◌, take}
+use Rattle.std.specs.List.{count_by}
+use Rattle.kdl_parts.specs.EntryLists.{is_argument}
+use Rattle.kdl.proofs.node.KdlNode.argument_count.Given as goal
+
+abbrev pub invariant-loop-entry : goal.invariant-loop-entry
+invariant-loop-entry l = (l.count ≡ count_by is_argument (take l.entry-index l.entries)) × (l.count ≤ l.entry-index)

@@ -1,0 +1,55 @@
+//! The steps in which a document's nodes are cleared.
+
+ghost use Rattle.kdl.specs.Due.{AreDueFrom, ExchangedAt, HasInstead, IsAlone, IsMarked, due};
+ghost use Rattle.kdl.specs.Tree.{node_tree};
+ghost use Rattle.kdl.specs.declared.document.KdlDocument.{out-KdlDocument};
+ghost use Rattle.std.specs.Prelude.{◌≡◌, ◌<◌, length, map};
+
+use crate::document::KdlDocument;
+use crate::node::KdlNode;
+
+impl KdlDocument {
+    /// Drops the document's own format, and marks each of its nodes as due.
+    pub(crate) fn mark(&mut self)
+        ensures { IsMarked self.old self.new }
+    {
+        self.clear_format();
+        mark_nodes(&mut self.nodes);
+    }
+
+    /// Drops the format and the spellings of the node at the place, and takes out its block, which stays as it is.
+    pub(crate) fn clear_at(&mut self, at: usize) -> Option<KdlDocument>
+        requires { at < length (out-KdlDocument self.old).nodes.items }
+        ensures { ExchangedAt self.old self.new at (IsAlone result) }
+    {
+        self.nodes[at].clear_alone()
+    }
+
+    /// Puts another block into the node at the place, and answers the one that it had.
+    pub(crate) fn exchange_block(
+        &mut self,
+        at: usize,
+        block: Option<KdlDocument>,
+    ) -> Option<KdlDocument>
+        requires { at < length (out-KdlDocument self.old).nodes.items }
+        ensures { ExchangedAt self.old self.new at (HasInstead block result) }
+    {
+        self.nodes[at].exchange_children(block)
+    }
+
+    /// The place of the first node that is due, where all nodes behind it are due and none before it.
+    pub(crate) fn due_from(&self) -> usize
+        ensures { AreDueFrom self.now result }
+    {
+        self.nodes.partition_point(|node| node.format().is_none())
+    }
+}
+
+/// Marks each node as due.
+fn mark_nodes(nodes: &mut Vec<KdlNode>)
+    ensures { map node_tree nodes.new.items ≡ map due (map node_tree nodes.old.items) }
+{
+    for node in nodes.iter_mut() {
+        node.make_due();
+    }
+}

@@ -1,0 +1,160 @@
+//! How nodes are laid out: over a stack in memory and without recursion, however deep their blocks are.
+
+ghost use Rattle.kdl.specs.Laid.{GoesOn, IsUnderWay, Laid, whole};
+ghost use Rattle.kdl.specs.Tree.{node_tree};
+ghost use Rattle.kdl_fmt.specs.Config.{Settings, indentation, settings};
+ghost use Rattle.kdl_fmt.specs.Formatted.{bare_node};
+ghost use Rattle.kdl_grammar.specs.Tree.{Node};
+ghost use Rattle.kdl_value.specs.Tree.{text_of};
+ghost use Rattle.std.specs.List.{AllZip};
+ghost use Rattle.std.specs.Prelude.{◌≡◌, ◌+◌, ◌<◌, ◌≤◌, ◌++◌, ◌∷◌, [], ℕ, IfOk, List, map, vec_len, vec_capacity};
+
+use crate::node::KdlNode;
+use kdl_fmt::FormatConfig;
+use kdl_fmt::layout::indentation;
+use std::alloc::AllocError;
+use std::mem;
+
+/// The nodes of a block that is being laid out: those before `at` are laid out. In a block above, that at `at` is laid
+/// out but for its own block, whose nodes are taken out.
+#[derive(Drop)]
+struct Block {
+    nodes: Vec<KdlNode>,
+    at: usize,
+    level: usize,
+    before: String,
+}
+
+/// The blocks that are being laid out: the innermost one, and those above it.
+#[derive(Drop)]
+struct Blocks {
+    above: Vec<Block>,
+    inner: Block,
+}
+
+impl Blocks {
+    /// The level of the next node's block, and the indentation there; makes room for one more block above.
+    fn next_level(&mut self, config: &FormatConfig) -> Result<(usize, String), AllocError>
+        ensures above { self.new.above.items ≡ self.old.above.items }
+        ensures inner { self.new.inner ≡ self.old.inner }
+        ensures room { IfOk result (λ _. vec_len self.new.above < vec_capacity self.new.above) }
+        ensures level { IfOk result (λ (l, before). (l ≡ self.old.inner.level + 1) × (text_of before ≡ indentation (settings config.now) l)) }
+    {
+        let Some(level) = self.inner.level.checked_add(1) else {
+            return Err(AllocError);
+        };
+        let before = indentation(*self.above.allocator(), config, level)?;
+        self.above.reserve(1)?;
+        Ok((level, before))
+    }
+
+    /// Lays out the next node, but for the nodes in its block, and goes on with those, or else behind it.
+    fn lay_out_next(&mut self, config: &FormatConfig) -> Result<(), AllocError>
+        requires { self.old.inner.at < vec_len self.old.inner.nodes }
+        ensures kept { map bare_node (whole self.new.above.items self.new.inner) ≡ map bare_node (whole self.old.above.items self.old.inner) }
+        ensures goes_on { IfOk result (λ _. GoesOn (settings config.now) self.old.above.items self.old.inner self.new.above.items self.new.inner) }
+    {
+        let Block {
+            nodes,
+            at,
+            level,
+            before,
+        } = &mut self.inner;
+        let node = &mut nodes[*at];
+        node.lay_out_own(config, *level, before.as_str())?;
+        if !node.has_nodes() {
+            *at += 1;
+            return Ok(());
+        }
+        let (level, before) = self.next_level(config)?;
+        let alloc = *self.above.allocator();
+        let at = self.inner.at;
+        let nodes = self.inner.nodes[at].exchange_nodes(Vec::new(alloc));
+        let block = Block {
+            nodes,
+            at: 0,
+            level,
+            before,
+        };
+        let outer = mem::replace(&mut self.inner, block);
+        self.above.push_reserved(outer);
+        Ok(())
+    }
+
+    /// Puts the nodes of the innermost block back into the node that it belongs to, and goes on behind that.
+    fn leave(&mut self, outer: Block)
+        ensures whole { whole self.new.above.items self.new.inner ≡ whole (self.old.above.items ++ outer ∷ []) self.old.inner }
+        ensures goes_on { vec_len self.old.inner.nodes ≤ self.old.inner.at → (s : Settings) → GoesOn s (self.old.above.items ++ outer ∷ []) self.old.inner self.new.above.items self.new.inner }
+        ensures above { self.new.above ≡ self.old.above }
+    {
+        let done = mem::replace(&mut self.inner, outer);
+        let at = self.inner.at;
+        if let Some(node) = self.inner.nodes.get_mut(at) {
+            let _ = node.exchange_nodes(done.nodes);
+            self.inner.at = at + 1;
+        }
+    }
+
+    /// Lays out all that is left.
+    fn lay_out(&mut self, config: &FormatConfig) -> Result<(), AllocError>
+        ensures kept { map bare_node (whole self.new.above.items self.new.inner) ≡ map bare_node (whole self.old.above.items self.old.inner) }
+        ensures laid { IfOk result (λ _. (level : ℕ) (olds : List Node) → IsUnderWay (settings config.now) level olds self.old.above.items self.old.inner
+            → (self.new.above.items ≡ []) × AllZip (Laid (settings config.now) level) olds (map node_tree self.new.inner.nodes.items)) }
+    {
+        'steps: loop {
+            if self.inner.at < self.inner.nodes.len() {
+                self.lay_out_next(config)?;
+            } else if let Some(outer) = self.above.pop() {
+                self.leave(outer);
+            } else {
+                return Ok(());
+            }
+        }
+    }
+
+    /// The outermost nodes, with all blocks in their places.
+    fn into_nodes(mut self) -> Vec<KdlNode>
+        ensures { map node_tree result.items ≡ whole self.above.items self.inner }
+    {
+        'closing: while let Some(outer) = self.above.pop() {
+            self.leave(outer);
+        }
+        let Blocks { above: _, inner } = self;
+        let Block {
+            nodes,
+            at: _,
+            level: _,
+            before: _,
+        } = inner;
+        nodes
+    }
+}
+
+/// Lays out nodes at a level. Where there are none the level counts for nothing. Fails where memory is wanting, or where
+/// a level would pass `usize`: then each node is in its place, and some of them are laid out.
+pub(crate) fn lay_out_nodes(
+    nodes: &mut Vec<KdlNode>,
+    config: &FormatConfig,
+    level: usize,
+) -> Result<(), AllocError>
+    ensures kept { map bare_node (map node_tree nodes.new.items) ≡ map bare_node (map node_tree nodes.old.items) }
+    ensures laid { IfOk result (λ _. AllZip (Laid (settings config.now) level) (map node_tree nodes.old.items) (map node_tree nodes.new.items)) }
+{
+    if nodes.is_empty() {
+        return Ok(());
+    }
+    let alloc = *nodes.allocator();
+    let before = indentation(alloc, config, level)?;
+    let mut blocks = Blocks {
+        above: Vec::new(alloc),
+        inner: Block {
+            nodes: mem::replace(nodes, Vec::new(alloc)),
+            at: 0,
+            level,
+            before,
+        },
+    };
+    let outcome = blocks.lay_out(config);
+    *nodes = blocks.into_nodes();
+    outcome
+}

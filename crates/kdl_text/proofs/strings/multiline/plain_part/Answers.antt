@@ -1,0 +1,50 @@
+use Rattle.std.proofs.Common.{◌++◌, sym, ap, ◌∙◌}
+use Rattle.kdl_text.proofs.Going.{costs_less}
+use Rattle.kdl_text.proofs.Plains.{plain_run, plain_quote, plain_quotes, plain_close, plain_escape, plain_newline, plain_stuck, plain_over}
+use Rattle.kdl_text.proofs.strings.multiline.plain_part.Goals as goal
+use Rattle.kdl_text.proofs.strings.multiline.plain_part.Goals.{else-eat-via-then-eat+else-eat-2, else-eat-via-else-eat}
+
+pub returns-then-eat-2 : goal.returns-then-eat-2
+returns-then-eat-2 c =
+    let cut = c.slice_between.ensures in
+    let text = sym c.checkpoint-start.ensures.rest ∙ cut.result ∙ ap (λ z. c.slice_between.result ++ z) c.checkpoint-end.ensures.rest in
+    let (found, shorter, moved, cost) = plain_close _ _ c.runs.invariant _ _ c.in-Some-eq34.ensures.took _ _ _ c.slice_between.result c.in-Some-eq34.field-0-test c.if-eat.ensures c.if-eat-2.ensures text cut.moved in
+    record { found = found; shorter = shorter; only = λ r us x. tt; moves = moved; costs = costs_less cost; cost = cost }
+
+pub runs-preserved-else-eat : goal.runs-preserved-else-eat
+runs-preserved-else-eat c = elim c.else-eat.branch [
+  | else-eat-via-then-eat+else-eat-2 w ↦ rw w.cursor-is (plain_quotes _ _ c.runs.invariant _ _ c.in-Some-eq34.ensures.took _ _ c.in-Some-eq34.field-0-test w.if-eat.ensures w.if-eat-2.ensures)
+  | else-eat-via-else-eat w ↦ rw w.cursor-is (plain_quote _ _ c.runs.invariant _ _ c.in-Some-eq34.ensures.took _ c.in-Some-eq34.field-0-test w.if-eat.ensures)
+]
+
+pub returns-in-Some-eq92 : goal.returns-in-Some-eq92
+returns-in-Some-eq92 c =
+    let cut = c.slice_between-in-Some-eq92.ensures in
+    let text = sym c.checkpoint-start.ensures.rest ∙ cut.result ∙ ap (λ z. c.slice_between-in-Some-eq92.result ++ z) c.checkpoint-end.ensures.rest in
+    let (found, shorter, moved, cost) = plain_escape _ _ c.runs.invariant _ _ c.in-Some-eq92.ensures.took _ c.slice_between-in-Some-eq92.result c.in-Some-eq92.field-0-test text cut.moved in
+    record { found = found; shorter = shorter; only = λ r us x. tt; moves = moved; costs = costs_less cost; cost = cost }
+
+pub returns-in-Some : goal.returns-in-Some
+returns-in-Some c =
+    let cut = c.slice_between-in-Some.ensures in
+    let text = sym c.checkpoint-start.ensures.rest ∙ cut.result ∙ ap (λ z. c.slice_between-in-Some.result ++ z) c.checkpoint-end.ensures.rest in
+    let end = c.end_newline.ensures in
+    let (found, shorter, moved, cost) = plain_newline _ _ c.runs.invariant _ _ c.in-Some.ensures.took _ _ c.slice_between-in-Some.result end.newline end.moves end.costs text cut.moved in
+    record { found = found; shorter = shorter; only = λ r us x. tt; moves = moved; costs = costs_less cost; cost = cost }
+
+pub runs-preserved : goal.runs-preserved
+runs-preserved c = plain_run _ _ c.runs.invariant _ _ c.in-Some.ensures.took _ (sym c.is_literal.ensures ∙ c.if-is_literal.true) c.skip.ensures
+
+pub returns-in-Some-3-clause-only : goal.returns-in-Some-3-clause-only
+returns-in-Some-3-clause-only c = (plain_stuck _ _ c.runs.invariant _ _ c.in-Some.ensures.took c.in-Some.c-test.0.1 c.in-Some.c-test.1 (sym c.is_newline_char.ensures ∙ c.if-is_newline_char.false) (sym c.is_literal.ensures ∙ c.if-is_literal.false)).0
+
+pub returns-in-Some-3-clause-moves : goal.returns-in-Some-3-clause-moves
+returns-in-Some-3-clause-moves c = (plain_stuck _ _ c.runs.invariant _ _ c.in-Some.ensures.took c.in-Some.c-test.0.1 c.in-Some.c-test.1 (sym c.is_newline_char.ensures ∙ c.if-is_newline_char.false) (sym c.is_literal.ensures ∙ c.if-is_literal.false)).1
+
+pub returns-in-Some-3-clause-costs : goal.returns-in-Some-3-clause-costs
+returns-in-Some-3-clause-costs c = (plain_stuck _ _ c.runs.invariant _ _ c.in-Some.ensures.took c.in-Some.c-test.0.1 c.in-Some.c-test.1 (sym c.is_newline_char.ensures ∙ c.if-is_newline_char.false) (sym c.is_literal.ensures ∙ c.if-is_literal.false)).2
+
+pub returns-in-None : goal.returns-in-None
+returns-in-None c =
+    let (none, moved, cost) = plain_over _ _ _ c.runs.invariant c.in-None.ensures.took in
+    record { found = tt; shorter = tt; only = none; moves = moved; costs = cost; cost = tt }

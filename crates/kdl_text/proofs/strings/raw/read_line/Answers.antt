@@ -1,0 +1,50 @@
+use Rattle.std.proofs.Common.{◌++◌, sym, ap, ◌∙◌}
+use Rattle.kdl_text.proofs.Going.{costs_less}
+use Rattle.kdl_text.proofs.RawLines.{raw_begins, raw_run, raw_open, raw_ahead, raw_close, raw_newline, raw_stuck, raw_runs_out}
+use Rattle.kdl_text.proofs.strings.raw.read_line.Goals as goal
+
+pub parts-init : goal.parts-init
+parts-init c = raw_begins _ _
+
+pub slice_between-requires : goal.slice_between-requires
+slice_between-requires c =
+    let place = c.closing_place.ensures in
+    let (x, e) = raw_ahead c.args.signs _ _ c.parts.invariant _ _ c.in-Some-eq34.ensures.took c.checkpoint-end.result.rest _ _ c.checkpoint-end.ensures.rest place.moves place.costs c.in-Some-closing_place.ensures.found in
+    (x, c.checkpoint-start.ensures.rest ∙ e)
+
+pub returns-in-Some-closing_place : goal.returns-in-Some-closing_place
+returns-in-Some-closing_place c =
+    let place = c.closing_place.ensures in
+    let cut = c.slice_between.ensures in
+    let text = sym c.checkpoint-start.ensures.rest ∙ cut.result in
+    let (found, shorter, moved, cost) = raw_close c.args.signs _ _ c.parts.invariant _ _ c.in-Some-eq34.ensures.took c.checkpoint-end.result.rest _ _ c.checkpoint-end.ensures.rest place.moves place.costs c.in-Some-closing_place.ensures.found _ c.slice_between.result text cut.moved in
+    record { found = found; shorter = shorter; only = λ r us x. tt; moves = moved; costs = costs_less cost; cost = cost }
+
+pub returns-in-Some : goal.returns-in-Some
+returns-in-Some c =
+    let cut = c.slice_between-in-Some.ensures in
+    let text = sym c.checkpoint-start.ensures.rest ∙ cut.result ∙ ap (λ z. c.slice_between-in-Some.result ++ z) c.checkpoint-end.ensures.rest in
+    let end = c.end_newline.ensures in
+    let (found, shorter, moved, cost) = raw_newline c.args.signs _ _ c.parts.invariant _ _ c.in-Some.ensures.took _ _ c.slice_between-in-Some.result end.newline end.moves end.costs text cut.moved in
+    record { found = found; shorter = shorter; only = λ r us x. tt; moves = moved; costs = costs_less cost; cost = cost }
+
+pub parts-preserved-in_default : goal.parts-preserved-in_default
+parts-preserved-in_default c =
+    raw_open c.args.signs _ _ c.parts.invariant _ _ c.in-Some-eq34.ensures.took c.checkpoint-end.result.rest _ c.checkpoint-end.ensures.rest c.closing_place.ensures.moves c.closing_place.ensures.costs c.in_default.ensures.none
+
+pub parts-preserved : goal.parts-preserved
+parts-preserved c = raw_run _ _ _ c.parts.invariant _ _ c.in-Some.ensures.took _ c.in-Some.c-test.1 (sym c.is_raw.ensures ∙ c.if-is_raw.true) c.skip.ensures
+
+pub returns-in-Some-3-clause-only : goal.returns-in-Some-3-clause-only
+returns-in-Some-3-clause-only c = (raw_stuck c.args.signs _ _ c.parts.invariant _ _ c.in-Some.ensures.took c.in-Some.c-test.1 (sym c.is_newline_char.ensures ∙ c.if-is_newline_char.false) (sym c.is_raw.ensures ∙ c.if-is_raw.false)).0
+
+pub returns-in-Some-3-clause-moves : goal.returns-in-Some-3-clause-moves
+returns-in-Some-3-clause-moves c = (raw_stuck c.args.signs _ _ c.parts.invariant _ _ c.in-Some.ensures.took c.in-Some.c-test.1 (sym c.is_newline_char.ensures ∙ c.if-is_newline_char.false) (sym c.is_raw.ensures ∙ c.if-is_raw.false)).1
+
+pub returns-in-Some-3-clause-costs : goal.returns-in-Some-3-clause-costs
+returns-in-Some-3-clause-costs c = (raw_stuck c.args.signs _ _ c.parts.invariant _ _ c.in-Some.ensures.took c.in-Some.c-test.1 (sym c.is_newline_char.ensures ∙ c.if-is_newline_char.false) (sym c.is_raw.ensures ∙ c.if-is_raw.false)).2
+
+pub returns-in-None : goal.returns-in-None
+returns-in-None c =
+    let (none, moved, cost) = raw_runs_out _ _ _ _ c.parts.invariant c.in-None.ensures.took in
+    record { found = tt; shorter = tt; only = none; moves = moved; costs = cost; cost = tt }

@@ -1,0 +1,13 @@
+use Rattle.std.proofs.Common.{sym, ◌∙◌}
+use Rattle.kdl_text.specs.Here.{in_class}
+use Rattle.kdl_text.proofs.Slices.{ran_sliced}
+use Rattle.kdl_text.proofs.strings.run_of.Goals as goal
+
+pub returns-clause-run : goal.returns-clause-run
+returns-clause-run c = (ran_sliced (in_class c.args.class) _ _ _ _ c.skip.ensures (sym c.checkpoint-start.ensures.rest ∙ c.slice.ensures.result) c.slice.ensures.moved).run
+
+pub returns-clause-moves : goal.returns-clause-moves
+returns-clause-moves c = (ran_sliced (in_class c.args.class) _ _ _ _ c.skip.ensures (sym c.checkpoint-start.ensures.rest ∙ c.slice.ensures.result) c.slice.ensures.moved).moves
+
+pub returns-clause-costs : goal.returns-clause-costs
+returns-clause-costs c = (ran_sliced (in_class c.args.class) _ _ _ _ c.skip.ensures (sym c.checkpoint-start.ensures.rest ∙ c.slice.ensures.result) c.slice.ensures.moved).costs

@@ -1,0 +1,62 @@
+//! Runs of ASCII characters of a class, 16 bytes at a time.
+
+ghost use Rattle.kdl_text.specs.Tables.{outside, column_of, row_of, InsideLen};
+ghost use Rattle.std.specs.Prelude.{◌≡◌, map, not};
+ghost use Rattle.std.specs.Simd.Lanes.{mask_l};
+
+use std::simd::prelude::*;
+
+/// The bit of each row of a table of ASCII characters. A byte above them is in none.
+const ROW_BITS: [u8; 16] = [1, 2, 4, 8, 16, 32, 64, 128, 0, 0, 0, 0, 0, 0, 0, 0];
+
+#[inline(always)]
+fn columns(v: u8x16, table: u8x16) -> u8x16
+    ensures { result ≡ map (column_of table) v }
+{
+    table.swizzle_dyn(v & u8x16::splat(15))
+}
+
+#[inline(always)]
+fn rows(v: u8x16) -> u8x16
+    ensures { result ≡ map row_of v }
+{
+    u8x16::from_array(ROW_BITS).swizzle_dyn(v >> u8x16::splat(4))
+}
+
+/// A bit for each byte that is not in the table.
+#[inline(always)]
+fn outsiders(v: u8x16, table: u8x16) -> u64
+    ensures { result ≡ mask_l (map (outside table) v) }
+{
+    (columns(v, table) & rows(v))
+        .simd_eq(u8x16::splat(0))
+        .to_bitmask()
+}
+
+/// Whether the byte is in the table.
+#[inline(always)]
+pub fn is_inside(byte: u8, table: &[u8; 16]) -> bool
+    ensures { result ≡ not (outside table.now byte) }
+{
+    table[(byte & 15) as usize] & ROW_BITS[(byte >> 4) as usize] != 0
+}
+
+/// How many bytes at the front are in the table.
+#[inline(always)]
+pub fn inside_len(bytes: &[u8], table: &[u8; 16]) -> usize
+    ensures { InsideLen table.now bytes.now result }
+{
+    let columns = u8x16::from_array(*table);
+    let mut count = 0;
+    'vectors: while bytes.len() - count >= 16 {
+        let found = outsiders(u8x16::from_slice(&bytes[count..]), columns);
+        if found != 0 {
+            return count + found.trailing_zeros() as usize;
+        }
+        count += 16;
+    }
+    'rest: while count < bytes.len() && is_inside(bytes[count], table) {
+        count += 1;
+    }
+    count
+}
