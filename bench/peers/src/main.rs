@@ -6,6 +6,7 @@
 mod toml;
 
 use kdl::KdlDocument;
+use std::fmt::Display;
 use std::hint::black_box;
 use std::process::exit;
 use std::time::{Duration, Instant};
@@ -63,13 +64,21 @@ fn row(peer: &str, name: &str, bytes: usize, times: &[Duration], lookups: &[Dura
     println!();
 }
 
+/// How long parsing the text, parsing it and dropping the document, and printing the document take.
+fn basic_times<D: Display>(text: &str, document: &D, parse: impl Fn(&str) -> D) -> Vec<Duration> {
+    let bytes = text.len();
+    vec![
+        least(bytes, || time(|| parse(text))),
+        least(bytes, || time(|| drop(black_box(parse(text))))),
+        least(bytes, || time(|| document.to_string())),
+    ]
+}
+
 fn measure_kdl(name: &str, text: &str) {
     let bytes = text.len();
     let document = kdl_of(text);
-    let times = [
-        least(bytes, || time(|| kdl_of(text))),
-        least(bytes, || time(|| drop(black_box(kdl_of(text))))),
-        least(bytes, || time(|| document.to_string())),
+    let mut times = basic_times(text, &document, kdl_of);
+    times.extend([
         least(bytes, || {
             let mut copy = document.clone();
             time(|| copy.autoformat_no_comments())
@@ -79,7 +88,7 @@ fn measure_kdl(name: &str, text: &str) {
             time(|| copy.autoformat())
         }),
         least(bytes, || time(|| document.clone())),
-    ];
+    ]);
     let step = (document.nodes().len() / SOUGHT).max(1);
     let nodes: Vec<_> = document.nodes().iter().step_by(step).collect();
     let of_nodes = least(bytes, || {
@@ -96,14 +105,8 @@ fn measure_kdl(name: &str, text: &str) {
 }
 
 fn measure_toml(name: &str, text: &str) {
-    let bytes = text.len();
-    let document = toml_of(text);
-    let times = [
-        least(bytes, || time(|| toml_of(text))),
-        least(bytes, || time(|| drop(black_box(toml_of(text))))),
-        least(bytes, || time(|| document.to_string())),
-    ];
-    row("toml_edit", name, bytes, &times, &[]);
+    let times = basic_times(text, &toml_of(text), toml_of);
+    row("toml_edit", name, text.len(), &times, &[]);
 }
 
 fn run() {
