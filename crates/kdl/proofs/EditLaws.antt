@@ -20,9 +20,9 @@ use Rattle.kdl.specs.declared.document.KdlDocument.TheViews.{out-KdlDocument, ou
 use Rattle.kdl.specs.declared.node.KdlNode.{KdlNode}
 use Rattle.kdl_parts.specs.declared.key.NodeKey.{NodeKey}
 use Rattle.kdl_parts.specs.declared.key.NodeKey.TheVariants.{Key, Index}
-use Rattle.kdl.proofs.Printing.{print_nodes-join}
+use Rattle.kdl.proofs.Printing.PrintedParts.{print_nodes-join}
 use Rattle.kdl_parts.proofs.EntryEdits.{set_around}
-use Rattle.kdl_parts.proofs.Printing.{print_pieces-append}
+use Rattle.kdl_parts.proofs.PrintedEntries.{print_pieces-append}
 use Rattle.kdl.proofs.Trees.{NodeFields, node_of, document_tree_out, document_tree_roll, node_tree_out, node_tree_roll, nodes_tree-append}
 
 -- the tail does not look at the entries where there is a format

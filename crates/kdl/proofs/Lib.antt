@@ -1,16 +1,22 @@
+-- Layout over a stack of blocks.
+pub mod LayOut
+-- Clearing formats without recursion.
 pub mod Clearing
-pub mod ClearingEnds
-pub mod DocumentLookups
-pub mod EditLaws
-pub mod Laying
-pub mod Layouts
-pub mod Lookups
+-- Printing over a stack of blocks.
 pub mod Printing
-pub mod Readings
-pub mod Same
+-- Look-ups in nodes and documents.
+pub mod Finding
+-- What is left to copy, turn by turn.
+pub mod CopyingLoop
+-- Counts of nodes, level by level.
+pub mod NodeCounts
+-- What is printed where entries or nodes are exchanged, and what edits leave.
+pub mod EditLaws
+-- What is laid in a text keeps no form.
+pub mod FormKept
+-- What a document, or a node, that was read says of the grammar.
+pub mod ParseAnswers
+-- A node, and a document, with another span is equal to what it was.
+pub mod SpanIsIgnored
+-- The trees of a node and of a document, by their fields.
 pub mod Trees
-pub mod Counting
-pub mod Blocks
-pub mod Copying
-pub mod Left
-pub mod Kept

@@ -4,7 +4,7 @@ use Rattle.std.proofs.lemmas.List.{map-append}
 use Rattle.std.specs.List.{AllZip}
 use Rattle.kdl_entry.specs.declared.entry.KdlEntry.{KdlEntry}
 use Rattle.kdl_entry.specs.Tree.{identifier_tree, entry_tree}
-use Rattle.kdl_grammar.specs.Tree.{Document, document, Node, node, Nodes, none, first, join, nodes_of, children_of}
+use Rattle.kdl_grammar.specs.Tree.{Document, document, Node, node, Nodes, none, first, join, listed_nodes, children_of}
 use Rattle.kdl.specs.Tree.{head_tree, document_step, node_step, document_tree, node_tree, nodes_tree}
 use Rattle.kdl_parts.specs.Formats.{document_format_tree, node_format_tree}
 use Rattle.kdl.specs.declared.node.KdlNode.{KdlNode}
@@ -47,12 +47,12 @@ pub node_tree_roll : (x : NodeFields) → node_tree (roll-KdlNode x) ≡ node_of
 node_tree_roll x = fold-roll-KdlNode Document Node document_step node_step x ∙ step_mapped x
 
 -- nodes with more nodes behind them
-pub nodes_of-append : (xs ys : List Node) → nodes_of (xs ++ ys) ≡ join (nodes_of xs) (nodes_of ys)
+pub nodes_of-append : (xs ys : List Node) → listed_nodes (xs ++ ys) ≡ join (listed_nodes xs) (listed_nodes ys)
 nodes_of-append [] ys = refl
 nodes_of-append (x ∷ xs) ys = ap (first x) (nodes_of-append xs ys)
 
 pub nodes_tree-append : (xs ys : List KdlNode) → nodes_tree (xs ++ ys) ≡ join (nodes_tree xs) (nodes_tree ys)
-nodes_tree-append xs ys = ap nodes_of (map-append node_tree xs ys) ∙ nodes_of-append (map node_tree xs) (map node_tree ys)
+nodes_tree-append xs ys = ap listed_nodes (map-append node_tree xs ys) ∙ nodes_of-append (map node_tree xs) (map node_tree ys)
 
 pub join_none : (ns : Nodes) → join ns none ≡ ns
 join_none none = refl

@@ -33,6 +33,10 @@ abbrev pub with_node_there : Option ℕ → KdlDocument → KdlNode → KdlDocum
 with_node_there None d n = d
 with_node_there (Some i) d n = with_node d i n
 
+-- the same for the first node of that name
+abbrev pub with_node_named : List ℕ → KdlDocument → KdlNode → KdlDocument
+with_node_named s d n = with_node_there (node_place s d) d n
+
 -- the place of the first argument among the entries
 abbrev pub argument_place : KdlNode → Option ℕ
 argument_place n = nth_place is_argument (entries_of n) 0
@@ -57,6 +61,10 @@ with_argument_in d i (Some n) w = with_node d i (with_value_there (argument_plac
 abbrev pub with_argument_there : Option ℕ → KdlDocument → KdlValue → KdlDocument
 with_argument_there None d w = d
 with_argument_there (Some i) d w = with_argument_in d i (slice_get (nodes_of d) i) w
+
+-- the same for the first node of that name
+abbrev pub with_argument_named : List ℕ → KdlDocument → KdlValue → KdlDocument
+with_argument_named s d w = with_argument_there (node_place s d) d w
 
 -- the values of the arguments of a node, none where there is no node
 abbrev pub arguments_of : Option KdlNode → List Value

@@ -8,11 +8,12 @@ use Rattle.kdl.specs.declared.document.KdlDocument.{KdlDocument, out-KdlDocument
 use Rattle.kdl.specs.declared.node.KdlNode.{KdlNode, out-KdlNode}
 use Rattle.kdl.specs.declared.node.iter.ChildrenIterMut.{ChildrenIterMut}
 
+-- the nodes of a block, none without one
 abbrev pub nodes_in : Option KdlDocument → List KdlNode
 nodes_in None = []
 nodes_in (Some d) = (out-KdlDocument d).nodes.items
 
--- the nodes of a child block, none without one
+-- the nodes in a node's block
 abbrev pub child_nodes : KdlNode → List KdlNode
 child_nodes n = nodes_in (out-KdlNode n).children
 

@@ -1,14 +1,22 @@
+-- A node or a document with one field changed.
 pub mod Change
+-- What a node and a document print when their entries or nodes are exchanged.
 pub mod EditLaw
+-- Nodes as they are made, and nodes and documents without their formats, or wherever they stood.
 pub mod Cleared
+-- What look-ups in a document give, and what a document is once what they lent was written.
 pub mod DocumentLookups
+-- What the iterator over the children of a node has left, and what the node is once its entries are written.
 pub mod Iterators
+-- What layout makes of nodes and documents in memory.
+pub mod Layout
+-- What look-ups in a node give, and what a node is once what they lent was written.
 pub mod Lookups
+-- Which nodes, and which documents, `==` takes for one.
 pub mod Same
+-- The trees of nodes and documents in memory.
 pub mod Tree
-pub mod Count
-pub mod Laid
-pub mod Copied
-pub mod Left
-pub mod Due
+-- The words in which contracts speak of documents, passed on from one place for the crates that call this one. Declares nothing.
 pub mod Words
+-- What only proofs and contracts inside the crates need.
+pub mod Internal

@@ -30,6 +30,24 @@ entry_there place n = there place (entries_of n)
 abbrev pub value_there : Option ℕ → KdlNode → Option Value
 value_there place n = option_map (λ e. value_tree e.value) (entry_there place n)
 
+-- the value of an entry, where there is one: what it says, and as it is in memory
+abbrev pub value_of : Option KdlEntry → Option Value
+value_of o = option_map (λ e. value_tree e.value) o
+
+abbrev pub held_value : Option KdlEntry → Option KdlValue
+held_value o = option_map (λ e. e.value) o
+
+-- the entry that a key finds, and its value
+abbrev pub found_entry : NodeKey → KdlNode → Option KdlEntry
+found_entry k n = entry_there (key_place k n) n
+
+abbrev pub found_value : NodeKey → KdlNode → Option Value
+found_value k n = value_there (key_place k n) n
+
+-- the value of the last property of that name
+abbrev pub property_value : List ℕ → KdlNode → Option Value
+property_value s n = value_there (property_place s n) n
+
 -- the node with the entry at a place that was found exchanged, and all else as it was
 abbrev pub with_entry_there : Option ℕ → KdlNode → KdlEntry → KdlNode
 with_entry_there place n e = with_entries n (set_entry_there place (out-KdlNode n).entries e)
@@ -37,6 +55,13 @@ with_entry_there place n e = with_entries n (set_entry_there place (out-KdlNode 
 -- the node with the value of the entry at a place that was found exchanged, and all else as it was
 abbrev pub with_value_there : Option ℕ → KdlNode → KdlValue → KdlNode
 with_value_there place n w = with_entries n (set_value_there place (out-KdlNode n).entries w)
+
+-- the same for the entry that a key finds
+abbrev pub with_found_entry : NodeKey → KdlNode → KdlEntry → KdlNode
+with_found_entry k n e = with_entry_there (key_place k n) n e
+
+abbrev pub with_found_value : NodeKey → KdlNode → KdlValue → KdlNode
+with_found_value k n w = with_value_there (key_place k n) n w
 
 -- m is n with a property of that name and value behind its entries, and all else as it was
 pub record HasPushed (s : List ℕ) (w : Value) (n m : KdlNode) : Type 0 where

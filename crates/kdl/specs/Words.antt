@@ -8,8 +8,6 @@ pub use Rattle.kdl_entry.specs.Entries.{IsEntryText, IsIdentifierText}
 pub use Rattle.kdl_entry.specs.Laid.{LaidEntryText, LaidIdentifierText}
 pub use Rattle.kdl_entry.specs.Print.{print_entry, print_identifier}
 pub use Rattle.kdl_entry.specs.Tree.{Entry, EntryFormat, Identifier, cleared, entry_data, entry_tree, identifier_tree, plain_entry, plain_identifier}
-pub use Rattle.kdl_entry.specs.declared.entry.KdlEntry.{KdlEntry}
-pub use Rattle.kdl_entry.specs.declared.identifier.KdlIdentifier.{KdlIdentifier}
 pub use Rattle.kdl_grammar.specs.Data.{Nodes}
 pub use Rattle.kdl_grammar.specs.Grammar.{IsDocument, IsNodeText}
 pub use Rattle.kdl_grammar.specs.Laid.{LaidDocument, LaidNodeText}
@@ -17,17 +15,14 @@ pub use Rattle.kdl_grammar.specs.Print.{print_document, print_node, print_piece}
 pub use Rattle.kdl_grammar.specs.Tree.{Document, Node, document_data, node_data}
 pub use Rattle.kdl_parts.specs.Edits.{GoesUnder, HasArgumentAt, HasRoomAt, IsInserted, removed}
 pub use Rattle.kdl_parts.specs.EntryLists.{is_argument, sought, there}
-pub use Rattle.kdl_parts.specs.declared.key.NodeKey.{NodeKey}
-pub use Rattle.kdl_parts.specs.declared.key.NodeKey.TheVariants.{Index, Key}
 pub use Rattle.kdl_fmt.specs.Canonical.{canonical_text}
 pub use Rattle.kdl_fmt.specs.Comments.{CommentsStay}
 pub use Rattle.kdl_fmt.specs.Config.{defaults, settings, without_comments}
 pub use Rattle.kdl_fmt.specs.Formatted.{DocumentKeepsNone, formatted_document}
 pub use Rattle.kdl_fmt.specs.WithComments.{IsFormattedDocument}
 pub use Rattle.kdl.specs.Change.{with_entries, with_entry, with_node, with_nodes}
-pub use Rattle.kdl.specs.DocumentLookups.{argument_named, arguments_of, is_node_named, node_named, node_place, nodes_of, with_node_there}
+pub use Rattle.kdl.specs.DocumentLookups.{argument_named, arguments_of, is_node_named, node_named, node_place, nodes_of, with_argument_named, with_node_named}
 pub use Rattle.kdl.specs.EditLaw.{EntryExchanged, NodeExchanged, PrintsAtPlace}
-pub use Rattle.kdl.specs.Lookups.{entries_of, entry_there, key_place, property_place, value_there, with_entry_there}
-pub use Rattle.kdl.specs.Tree.{document_tree, node_tree, nodes_tree}
-pub use Rattle.kdl.specs.declared.document.KdlDocument.{KdlDocument, out-KdlDocument}
-pub use Rattle.kdl.specs.declared.node.KdlNode.{KdlNode, out-KdlNode}
+pub use Rattle.kdl.specs.Layout.{DocumentLaidOut, DocumentUnmarked, IndentsBySpaces, NodeCommentsStay, NodeLaidOut, NodeUnmarked, plain_document, plain_node}
+pub use Rattle.kdl.specs.Lookups.{entries_of, entry_there, found_entry, found_value, held_value, key_place, property_place, property_value, value_of, with_found_entry, with_found_value}
+pub use Rattle.kdl.specs.Tree.{document_prints, document_says, document_tree, node_prints, node_says, node_tree, nodes_tree}

@@ -1,6 +1,6 @@
 //! How nodes are copied: over a stack in memory and without recursion, however deep their blocks are.
 
-ghost use Rattle.kdl.specs.Copied.{closed};
+ghost use Rattle.kdl.specs.Internal.Copied.{closed};
 ghost use Rattle.kdl.specs.Tree.{node_tree};
 ghost use Rattle.std.specs.Prelude.{◌≡◌, map, IfOk};
 
@@ -20,7 +20,8 @@ struct Open<'a> {
 
 /// The copies up to that of the block's node, whose block has the nodes.
 fn close(opened: Open<'_>, nodes: Vec<KdlNode>) -> Result<Vec<KdlNode>, AllocError>
-    ensures { IfOk result (λ v. map node_tree v.items ≡ closed opened.entry (map node_tree nodes.items)) }
+    ensures { IfOk result (λ v. map node_tree v.items ≡
+        closed opened.entry (map node_tree nodes.items)) }
 {
     let Open {
         node,

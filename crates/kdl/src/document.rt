@@ -1,17 +1,15 @@
 //! Documents.
 
 ghost use Rattle.kdl_grammar.specs.Tree.{document, none};
-ghost use Rattle.kdl.specs.Tree.{node_tree, nodes_tree, document_tree};
-ghost use Rattle.kdl_parts.specs.Formats.{document_format_tree};
-ghost use Rattle.kdl_parser.specs.Parts.{document_by};
-ghost use Rattle.kdl_parser.specs.Whole.{whole_by};
-ghost use Rattle.kdl_grammar.specs.Laid.{with_mark};
+ghost use Rattle.kdl.specs.Tree.{node_tree, document_of, document_tree};
+ghost use Rattle.kdl_parser.specs.Internal.Parts.{document_by};
+ghost use Rattle.kdl_parser.specs.Internal.Whole.{whole_by};
+ghost use Rattle.kdl_grammar.specs.Laid.{with_bom};
 ghost use Rattle.kdl_grammar.specs.Print.{print_document};
-ghost use Rattle.kdl.specs.Left.{block_end, block_front};
+ghost use Rattle.kdl.specs.Internal.Left.{Prints, block_end, block_front};
 ghost use Rattle.kdl.specs.Same.{same_document};
 ghost use Rattle.kdl.specs.declared.document.KdlDocument.{out-KdlDocument};
-ghost use Rattle.std.specs.Fmt.{WritesOnOk};
-ghost use Rattle.std.specs.Prelude.{◌≡◌, IfOk, None, Some, option_map, true};
+ghost use Rattle.std.specs.Prelude.{◌≡◌, IfOk, None, Some, map, option_map, true};
 ghost use Rattle.std.specs.Str.{encode_utf8_all};
 
 pub mod args;
@@ -27,7 +25,7 @@ use crate::node::KdlNode;
 use crate::prints::write_nodes;
 use kdl_parser::{DocumentParts, DocumentText};
 use kdl_parts::KdlDocumentFormat;
-use kdl_parts::format::behind_mark;
+use kdl_parts::format::behind_bom;
 use kdl_parts::print::{write_after_brace, write_before_brace, write_leading, write_trailing};
 use kdl_text::span::SourceSpan;
 use std::alloc::{AllocError, Global};
@@ -103,7 +101,7 @@ impl KdlDocument {
     }
 
     /// A document as it was read.
-    pub(crate) fn parsed(parts: DocumentParts<KdlNode>) -> KdlDocument
+    pub(crate) fn from_parts(parts: DocumentParts<KdlNode>) -> KdlDocument
         ensures { document_tree result ≡ document_by node_tree parts }
     {
         let format = KdlDocumentFormat {
@@ -118,24 +116,24 @@ impl KdlDocument {
     }
 
     /// A document as it was read from a whole text, with U+FEFF before it where that begins with one.
-    pub(crate) fn made(
+    pub(crate) fn from_text(
         alloc: Global,
         text: DocumentText<KdlNode>,
     ) -> Result<KdlDocument, AllocError>
         ensures { IfOk result (λ d. document_tree d ≡ whole_by node_tree text) }
     {
-        let document = KdlDocument::parsed(text.parts);
-        if text.mark {
-            return document.marked(alloc);
+        let document = KdlDocument::from_parts(text.parts);
+        if text.has_bom {
+            return document.with_bom(alloc);
         }
         Ok(document)
     }
 
     /// The document behind a U+FEFF, with which its leading text begins then.
-    fn marked(mut self, alloc: Global) -> Result<KdlDocument, AllocError>
-        ensures { IfOk result (λ d. document_tree d ≡ with_mark (document_tree self)) }
+    fn with_bom(mut self, alloc: Global) -> Result<KdlDocument, AllocError>
+        ensures { IfOk result (λ d. document_tree d ≡ with_bom (document_tree self)) }
     {
-        self.format = Some(behind_mark(alloc, self.format.take())?);
+        self.format = Some(behind_bom(alloc, self.format.take())?);
         Ok(self)
     }
 
@@ -183,10 +181,11 @@ impl KdlDocument {
     /// let mut document = KdlDocument::new(alloc);
     /// document.set_span(SourceSpan { offset: 0, len: 12 });
     /// ```
-    #[tactic(auto, using(crate::proofs::Same::document_spanned))]
+    #[tactic(auto, using(crate::proofs::SpanIsIgnored::document_spanned))]
     pub fn set_span(&mut self, span: SourceSpan)
         ensures same { same_document self.old self.new ≡ true }
-        ensures rest { out-KdlDocument self.new ≡ record (out-KdlDocument self.old) { span = span } }
+        ensures rest { out-KdlDocument self.new ≡
+            record (out-KdlDocument self.old) { span = span } }
     {
         self.span = span;
     }
@@ -194,9 +193,9 @@ impl KdlDocument {
 
 impl KdlDocument {
     /// Writes the `{` of the block that the document is, up to its first node.
-    #[tactic(auto, using(kdl_parts::proofs::Writing::writes))]
+    #[tactic(auto, using(kdl_parts::proofs::Utf8Parts::writes))]
     pub(crate) fn write_front<W: fmt::Write>(&self, f: &mut fmt::Formatter<W>) -> fmt::Result
-        ensures { WritesOnOk W.write_str_gives f.old result (encode_utf8_all (block_front self.now)) f.new }
+        ensures { Prints W.write_str_gives f.old result (block_front self.now) f.new }
     {
         write_after_brace(&self.format, f)?;
         write_leading(&self.format, f)
@@ -204,13 +203,13 @@ impl KdlDocument {
 
     /// Writes what stands behind its last node, up to the `}` of the block that the document is, in a node at the given
     /// depth.
-    #[tactic(auto, using(kdl_parts::proofs::Writing::writes))]
+    #[tactic(auto, using(kdl_parts::proofs::Utf8Parts::writes))]
     pub(crate) fn write_end<W: fmt::Write>(
         &self,
         depth: usize,
         f: &mut fmt::Formatter<W>,
     ) -> fmt::Result
-        ensures { WritesOnOk W.write_str_gives f.old result (encode_utf8_all (block_end self.now depth)) f.new }
+        ensures { Prints W.write_str_gives f.old result (block_end self.now depth) f.new }
     {
         write_trailing(&self.format, f)?;
         write_before_brace(&self.format, depth, f)
@@ -236,7 +235,8 @@ impl fmt::Display for KdlDocument {
 impl KdlDocument {
     /// A copy of the texts around the nodes and of the span, with these nodes.
     pub(crate) fn with_nodes(&self, nodes: Vec<KdlNode>) -> Result<KdlDocument, AllocError>
-        ensures { IfOk result (λ d. document_tree d ≡ document (option_map document_format_tree (out-KdlDocument self.now).format) (out-KdlDocument self.now).span (nodes_tree nodes.items)) }
+        ensures { IfOk result (λ d. document_tree d ≡
+            document_of self.now (map node_tree nodes.items)) }
     {
         let format = self.format.clone()?;
         Ok(KdlDocument {
@@ -247,7 +247,7 @@ impl KdlDocument {
     }
 }
 
-/// A copy with the same texts and spans, at each depth. Fails where memory is wanting.
+/// A copy with the same texts and spans, at each depth. Fails where memory runs out.
 impl Clone for KdlDocument {
     ghost is_clone = { λ v w. document_tree w ≡ document_tree v };
 

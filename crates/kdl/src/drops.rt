@@ -1,6 +1,6 @@
 //! How a document is dropped: one node at a time, without recursion, however deep its blocks are.
 
-ghost use Rattle.kdl.specs.Count.{count_nodes, count_option};
+ghost use Rattle.kdl.specs.Internal.Count.{count_nodes, count_option};
 ghost use Rattle.std.specs.Prelude.{◌≡◌, ◌+◌, ◌<◌, vec_len};
 
 use crate::document::KdlDocument;
@@ -10,7 +10,8 @@ use std::mem;
 /// Puts other children into the last node, and answers those that it had.
 fn exchange_last(nodes: &mut Vec<KdlNode>, children: Option<KdlDocument>) -> Option<KdlDocument>
     requires { 0 < vec_len nodes.old }
-    ensures kept { count_nodes nodes.new.items + count_option result ≡ count_nodes nodes.old.items + count_option children }
+    ensures kept { count_nodes nodes.new.items + count_option result ≡
+        count_nodes nodes.old.items + count_option children }
     ensures less { count_option result < count_nodes nodes.old.items }
 {
     let last = nodes.len() - 1;

@@ -1,13 +1,13 @@
 //! How nodes are laid out: over a stack in memory and without recursion, however deep their blocks are.
 
-ghost use Rattle.kdl.specs.Laid.{GoesOn, IsUnderWay, Laid, whole};
+ghost use Rattle.kdl.specs.Internal.Laid.{GoesOn, IsUnderWay, Laid, whole};
 ghost use Rattle.kdl.specs.Tree.{node_tree};
 ghost use Rattle.kdl_fmt.specs.Config.{Settings, indentation, settings};
 ghost use Rattle.kdl_fmt.specs.Formatted.{bare_node};
 ghost use Rattle.kdl_grammar.specs.Tree.{Node};
 ghost use Rattle.kdl_value.specs.Tree.{text_of};
 ghost use Rattle.std.specs.List.{AllZip};
-ghost use Rattle.std.specs.Prelude.{◌≡◌, ◌+◌, ◌<◌, ◌≤◌, ◌++◌, ◌∷◌, [], ℕ, IfOk, List, map, vec_len, vec_capacity};
+ghost use Rattle.std.specs.Prelude.{◌≡◌, ◌+◌, ◌<◌, ◌≤◌, ◌++◌, ◌∷◌, [], ℕ, IfOk, List, OnOk, map, vec_len, vec_capacity};
 
 use crate::node::KdlNode;
 use kdl_fmt::FormatConfig;
@@ -37,8 +37,9 @@ impl Blocks {
     fn next_level(&mut self, config: &FormatConfig) -> Result<(usize, String), AllocError>
         ensures above { self.new.above.items ≡ self.old.above.items }
         ensures inner { self.new.inner ≡ self.old.inner }
-        ensures room { IfOk result (λ _. vec_len self.new.above < vec_capacity self.new.above) }
-        ensures level { IfOk result (λ (l, before). (l ≡ self.old.inner.level + 1) × (text_of before ≡ indentation (settings config.now) l)) }
+        ensures room { OnOk result (vec_len self.new.above < vec_capacity self.new.above) }
+        ensures level { IfOk result (λ (l, before). (l ≡ self.old.inner.level + 1)
+            × (text_of before ≡ indentation (settings config.now) l)) }
     {
         let Some(level) = self.inner.level.checked_add(1) else {
             return Err(AllocError);
@@ -51,8 +52,10 @@ impl Blocks {
     /// Lays out the next node, but for the nodes in its block, and goes on with those, or else behind it.
     fn lay_out_next(&mut self, config: &FormatConfig) -> Result<(), AllocError>
         requires { self.old.inner.at < vec_len self.old.inner.nodes }
-        ensures kept { map bare_node (whole self.new.above.items self.new.inner) ≡ map bare_node (whole self.old.above.items self.old.inner) }
-        ensures goes_on { IfOk result (λ _. GoesOn (settings config.now) self.old.above.items self.old.inner self.new.above.items self.new.inner) }
+        ensures kept { map bare_node (whole self.new.above.items self.new.inner) ≡
+            map bare_node (whole self.old.above.items self.old.inner) }
+        ensures goes_on { OnOk result (GoesOn (settings config.now)
+            self.old.above.items self.old.inner self.new.above.items self.new.inner) }
     {
         let Block {
             nodes,
@@ -83,8 +86,11 @@ impl Blocks {
 
     /// Puts the nodes of the innermost block back into the node that it belongs to, and goes on behind that.
     fn leave(&mut self, outer: Block)
-        ensures whole { whole self.new.above.items self.new.inner ≡ whole (self.old.above.items ++ outer ∷ []) self.old.inner }
-        ensures goes_on { vec_len self.old.inner.nodes ≤ self.old.inner.at → (s : Settings) → GoesOn s (self.old.above.items ++ outer ∷ []) self.old.inner self.new.above.items self.new.inner }
+        ensures whole { whole self.new.above.items self.new.inner ≡
+            whole (self.old.above.items ++ outer ∷ []) self.old.inner }
+        ensures goes_on { vec_len self.old.inner.nodes ≤ self.old.inner.at → (s : Settings)
+            → GoesOn s (self.old.above.items ++ outer ∷ []) self.old.inner
+            self.new.above.items self.new.inner }
         ensures above { self.new.above ≡ self.old.above }
     {
         let done = mem::replace(&mut self.inner, outer);
@@ -97,9 +103,13 @@ impl Blocks {
 
     /// Lays out all that is left.
     fn lay_out(&mut self, config: &FormatConfig) -> Result<(), AllocError>
-        ensures kept { map bare_node (whole self.new.above.items self.new.inner) ≡ map bare_node (whole self.old.above.items self.old.inner) }
-        ensures laid { IfOk result (λ _. (level : ℕ) (olds : List Node) → IsUnderWay (settings config.now) level olds self.old.above.items self.old.inner
-            → (self.new.above.items ≡ []) × AllZip (Laid (settings config.now) level) olds (map node_tree self.new.inner.nodes.items)) }
+        ensures kept { map bare_node (whole self.new.above.items self.new.inner) ≡
+            map bare_node (whole self.old.above.items self.old.inner) }
+        ensures laid { OnOk result ((level : ℕ) (olds : List Node)
+            → IsUnderWay (settings config.now) level olds self.old.above.items self.old.inner
+            → (self.new.above.items ≡ [])
+            × AllZip (Laid (settings config.now) level) olds
+            (map node_tree self.new.inner.nodes.items)) }
     {
         'steps: loop {
             if self.inner.at < self.inner.nodes.len() {
@@ -130,15 +140,17 @@ impl Blocks {
     }
 }
 
-/// Lays out nodes at a level. Where there are none the level counts for nothing. Fails where memory is wanting, or where
+/// Lays out nodes at a level. Where there are none the level does not matter. Fails where memory runs out, or where
 /// a level would pass `usize`: then each node is in its place, and some of them are laid out.
 pub(crate) fn lay_out_nodes(
     nodes: &mut Vec<KdlNode>,
     config: &FormatConfig,
     level: usize,
 ) -> Result<(), AllocError>
-    ensures kept { map bare_node (map node_tree nodes.new.items) ≡ map bare_node (map node_tree nodes.old.items) }
-    ensures laid { IfOk result (λ _. AllZip (Laid (settings config.now) level) (map node_tree nodes.old.items) (map node_tree nodes.new.items)) }
+    ensures kept { map bare_node (map node_tree nodes.new.items) ≡
+        map bare_node (map node_tree nodes.old.items) }
+    ensures laid { OnOk result (AllZip (Laid (settings config.now) level)
+        (map node_tree nodes.old.items) (map node_tree nodes.new.items)) }
 {
     if nodes.is_empty() {
         return Ok(());

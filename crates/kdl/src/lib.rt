@@ -44,7 +44,7 @@
 //! }
 //! ```
 //!
-//! A call that takes memory is given where from, and answers where that is wanting: by an `AllocError`, or by
+//! A call that takes memory is given where from, and answers where that runs out: by an `AllocError`, or by
 //! `ParseFailure::Memory`. Spans are in bytes of the text that was read.
 #![tactic(auto)]
 
@@ -64,7 +64,8 @@ pub use kdl_fmt::{FormatConfig, FormatConfigBuilder, is_kdl_space};
 pub use kdl_parts::iter::{ArgsIter, EntryIter, EntryIterMut};
 pub use kdl_parts::{KdlDocumentFormat, KdlNodeFormat, NodeKey};
 pub use kdl_text::chars::Steps;
-pub use kdl_text::error::{FloatFailure, KdlDiagnostic, KdlError, ParseFailure};
+pub use kdl_text::error::{KdlDiagnostic, KdlError, ParseFailure};
 pub use kdl_text::span::{Severity, SourceSpan};
+pub use kdl_value::FloatFailure;
 pub use node::KdlNode;
 pub use node::iter::{ChildrenIter, ChildrenIterMut};

@@ -2,24 +2,23 @@
 
 ghost use Rattle.kdl_grammar.specs.Tree.{node, children_of};
 ghost use Rattle.kdl.specs.Tree.{node_tree, document_tree};
-ghost use Rattle.kdl_parser.specs.NodeText.{text_by};
+ghost use Rattle.kdl_parser.specs.Internal.NodeText.{text_by};
 ghost use Rattle.kdl_grammar.specs.Print.{print_node};
-ghost use Rattle.kdl.specs.Copied.{with_children};
-ghost use Rattle.kdl.specs.Left.{front, node_before_block, node_end};
+ghost use Rattle.kdl.specs.Internal.Copied.{with_children};
+ghost use Rattle.kdl.specs.Internal.Left.{Prints, front, node_before_block, node_end};
 ghost use Rattle.kdl.specs.Same.{same_node};
 ghost use Rattle.kdl.specs.declared.node.KdlNode.{out-KdlNode};
 ghost use Rattle.kdl_entry.specs.Tree.{identifier_tree, entry_tree};
-ghost use Rattle.std.specs.Fmt.{WritesOnOk};
 ghost use Rattle.std.specs.Prelude.{◌≡◌, [], IfOk, None, Some, map, option_map, true};
 ghost use Rattle.std.specs.Str.{encode_utf8_all};
 
 mod clears;
 mod edit;
 mod fields;
+mod from_parts;
 pub mod iter;
 mod layout;
 mod lookup;
-mod parsed;
 
 use crate::document::KdlDocument;
 use crate::prints::write_nodes;
@@ -79,7 +78,7 @@ impl KdlNode {
 
 impl KdlNode {
     /// The node as it stands in a text of its own: with the text behind its terminator, and the span.
-    pub(crate) fn alone(text: NodeText<KdlNode>) -> KdlNode
+    pub(crate) fn from_text(text: NodeText<KdlNode>) -> KdlNode
         ensures { node_tree result ≡ text_by node_tree text }
     {
         let NodeText {
@@ -174,7 +173,7 @@ impl KdlNode {
     /// let mut node = KdlNode::parse(alloc, "a")?;
     /// node.set_span(SourceSpan { offset: 7, len: 1 });
     /// ```
-    #[tactic(auto, using(crate::proofs::Same::node_spanned))]
+    #[tactic(auto, using(crate::proofs::SpanIsIgnored::node_spanned))]
     pub fn set_span(&mut self, span: SourceSpan)
         ensures same { same_node self.old self.new ≡ true }
         ensures rest { out-KdlNode self.new ≡ record (out-KdlNode self.old) { span = span } }
@@ -185,13 +184,13 @@ impl KdlNode {
 
 impl KdlNode {
     /// Writes the node at the given depth, up to its last entry.
-    #[tactic(auto, using(kdl_parts::proofs::Writing::writes))]
+    #[tactic(auto, using(kdl_parts::proofs::Utf8Parts::writes))]
     pub(crate) fn write_front<W: fmt::Write>(
         &self,
         depth: usize,
         f: &mut fmt::Formatter<W>,
     ) -> fmt::Result
-        ensures { WritesOnOk W.write_str_gives f.old result (encode_utf8_all (front self.now depth)) f.new }
+        ensures { Prints W.write_str_gives f.old result (front self.now depth) f.new }
     {
         write_head(&self.ty, &self.name, &self.format, depth, f)?;
         write_pieces(&self.entries, f)
@@ -199,14 +198,14 @@ impl KdlNode {
 
     /// Writes what stands before the `{` of its block.
     pub(crate) fn write_before_block<W: fmt::Write>(&self, f: &mut fmt::Formatter<W>) -> fmt::Result
-        ensures { WritesOnOk W.write_str_gives f.old result (encode_utf8_all (node_before_block self.now)) f.new }
+        ensures { Prints W.write_str_gives f.old result (node_before_block self.now) f.new }
     {
         write_before_block(&self.format, &self.entries, f)
     }
 
     /// Writes what stands behind its last entry, or behind its block.
     pub(crate) fn write_end<W: fmt::Write>(&self, f: &mut fmt::Formatter<W>) -> fmt::Result
-        ensures { WritesOnOk W.write_str_gives f.old result (encode_utf8_all (node_end self.now)) f.new }
+        ensures { Prints W.write_str_gives f.old result (node_end self.now) f.new }
     {
         write_end(&self.format, f)
     }
@@ -248,7 +247,7 @@ impl KdlNode {
     }
 }
 
-/// A copy with the same texts and spans, at each depth. Fails where memory is wanting.
+/// A copy with the same texts and spans, at each depth. Fails where memory runs out.
 ///
 /// ```
 /// let node = KdlNode::parse(alloc, "a 1")?;

@@ -1,13 +1,13 @@
 //! Documents and nodes, read from a text.
 
-ghost use Rattle.kdl.specs.Tree.{document_tree, node_tree};
+ghost use Rattle.kdl.specs.Tree.{document_prints, document_says, document_tree, node_prints, node_says, node_tree};
 ghost use Rattle.kdl_grammar.specs.Data as data';
 ghost use Rattle.kdl_grammar.specs.Data.{Nodes};
 ghost use Rattle.kdl_grammar.specs.Grammar.{IsDocument, IsNodeText};
 ghost use Rattle.kdl_grammar.specs.Laid.{LaidNodeText};
-ghost use Rattle.kdl_grammar.specs.Machine.{Answers};
+ghost use Rattle.kdl_grammar.specs.Internal.Machine.{AnswersDocument};
 ghost use Rattle.kdl_text.specs.Failures.{IsSyntax, TellsOnSyntax};
-ghost use Rattle.kdl_text.specs.Here.{raise};
+ghost use Rattle.kdl_text.specs.Internal.Here.{raise};
 ghost use Rattle.std.specs.Prelude.{◌≡◌, ◌+◌, ◌*◌, ◌≤◌, length, true, IfOk, OnOk};
 ghost use Rattle.std.specs.Str.{chars};
 
@@ -19,8 +19,8 @@ use kdl_text::error::ParseFailure;
 use std::alloc::Global;
 
 /// The document that the machine answers on the text, which raises the count.
-fn read(alloc: Global, text: &str, steps: &mut Steps) -> Result<KdlDocument, ParseFailure>
-    ensures answers { IfOk result (λ d. Answers (chars text.now) (document_tree d)) }
+fn parse_from(alloc: Global, text: &str, steps: &mut Steps) -> Result<KdlDocument, ParseFailure>
+    ensures answers { IfOk result (λ d. AnswersDocument (chars text.now) (document_tree d)) }
     ensures refused { IsSyntax result → (x : Nodes) → IsDocument true (chars text.now) x → ⊥ }
     ensures told { TellsOnSyntax text.now result }
     ensures least { OnOk result (raise steps.old (length (chars text.now)) ≤ steps.new) }
@@ -29,7 +29,7 @@ fn read(alloc: Global, text: &str, steps: &mut Steps) -> Result<KdlDocument, Par
     ensures raised { raise steps.old 1 ≤ steps.new }
 {
     match read_document(alloc, text, steps) {
-        Ok(document) => Ok(KdlDocument::made(alloc, document)?),
+        Ok(document) => Ok(KdlDocument::from_text(alloc, document)?),
         Err(failure) => Err(failure),
     }
 }
@@ -41,7 +41,7 @@ fn read_node(alloc: Global, text: &str) -> Result<KdlNode, ParseFailure>
     ensures told { TellsOnSyntax text.now result }
 {
     match read_node_text(alloc, text) {
-        Ok(text) => Ok(KdlNode::alone(text)),
+        Ok(text) => Ok(KdlNode::from_text(text)),
         Err(failure) => Err(failure),
     }
 }
@@ -64,21 +64,25 @@ impl KdlDocument {
     /// ```
     pub fn parse(alloc: Global, text: &str) -> Result<KdlDocument, ParseFailure>
         // What is answered is what the grammar derives,
-        ensures found { IfOk result (λ d. IsDocument true (chars text.now) (document_data (document_tree d))) }
+        ensures found { IfOk result (λ d. IsDocument true (chars text.now) (document_says d)) }
         // and it derives nothing else.
-        ensures only { IfOk result (λ d. (x : Nodes) → IsDocument true (chars text.now) x → x ≡ document_data (document_tree d)) }
+        ensures only { IfOk result (λ d. (x : Nodes) → IsDocument true (chars text.now) x
+            → x ≡ document_says d) }
         // The document lies in the text, each place in its class and each span that of its piece, and prints it.
         ensures laid { IfOk result (λ d. LaidDocument true (document_tree d) (chars text.now)) }
-        ensures prints { IfOk result (λ d. print_document (document_tree d) 0 ≡ chars text.now) }
+        ensures prints { IfOk result (λ d. document_prints d ≡ chars text.now) }
         // What is refused is not derived, and an error tells where.
         ensures refused { IsSyntax result → (x : Nodes) → IsDocument true (chars text.now) x → ⊥ }
         ensures told { TellsOnSyntax text.now result }
         // What the former language derives is not refused, and is read as before.
         ensures kept { (x : Nodes) → IsFormerDocument (chars text.now) x → IsSyntax result → ⊥ }
-        ensures former { (x : Nodes) → IsFormerDocument (chars text.now) x → IfOk result (λ d. document_data (document_tree d) ≡ x) }
+        ensures former { (x : Nodes) → IsFormerDocument (chars text.now) x
+            → IfOk result (λ d. document_says d ≡ x) }
         // A document that differs from the answer in its nodes' entries alone, at each node some of its own and
         // entries without form, prints a text that is derived with its data.
-        ensures edited { IfOk result (λ d. (e : Document) → EachDocument IsEdited (document_tree d) e → IsDocument true (print_document e 0) (document_data e)) }
+        ensures edited { IfOk result (λ d. (e : Document)
+            → EachDocument IsEdited (document_tree d) e
+            → IsDocument true (print_document e 0) (document_data e)) }
     {
         let mut steps = Steps::new();
         KdlDocument::parse_counted(alloc, text, &mut steps)
@@ -95,21 +99,25 @@ impl KdlDocument {
     /// let document = KdlDocument::parse_counted(alloc, "a 1", &mut steps)?;
     /// let taken = steps.count(); // at least 3, at most 128
     /// ```
-    #[tactic(auto, using(crate::proofs::Readings::found, crate::proofs::Readings::only, crate::proofs::Readings::laid, crate::proofs::Readings::prints))]
+    #[tactic(auto, using(crate::proofs::ParseAnswers::found, crate::proofs::ParseAnswers::only, crate::proofs::ParseAnswers::laid, crate::proofs::ParseAnswers::prints))]
     pub fn parse_counted(
         alloc: Global,
         text: &str,
         steps: &mut Steps,
     ) -> Result<KdlDocument, ParseFailure>
-        ensures found { IfOk result (λ d. IsDocument true (chars text.now) (document_data (document_tree d))) }
-        ensures only { IfOk result (λ d. (x : Nodes) → IsDocument true (chars text.now) x → x ≡ document_data (document_tree d)) }
+        ensures found { IfOk result (λ d. IsDocument true (chars text.now) (document_says d)) }
+        ensures only { IfOk result (λ d. (x : Nodes) → IsDocument true (chars text.now) x
+            → x ≡ document_says d) }
         ensures laid { IfOk result (λ d. LaidDocument true (document_tree d) (chars text.now)) }
-        ensures prints { IfOk result (λ d. print_document (document_tree d) 0 ≡ chars text.now) }
+        ensures prints { IfOk result (λ d. document_prints d ≡ chars text.now) }
         ensures refused { IsSyntax result → (x : Nodes) → IsDocument true (chars text.now) x → ⊥ }
         ensures told { TellsOnSyntax text.now result }
         ensures kept { (x : Nodes) → IsFormerDocument (chars text.now) x → IsSyntax result → ⊥ }
-        ensures former { (x : Nodes) → IsFormerDocument (chars text.now) x → IfOk result (λ d. document_data (document_tree d) ≡ x) }
-        ensures edited { IfOk result (λ d. (e : Document) → EachDocument IsEdited (document_tree d) e → IsDocument true (print_document e 0) (document_data e)) }
+        ensures former { (x : Nodes) → IsFormerDocument (chars text.now) x
+            → IfOk result (λ d. document_says d ≡ x) }
+        ensures edited { IfOk result (λ d. (e : Document)
+            → EachDocument IsEdited (document_tree d) e
+            → IsDocument true (print_document e 0) (document_data e)) }
         // At least a step for each character is counted, and at most 32 for each byte and 32 more; for a text that is
         // refused, and what is told of it, at most 160.
         ensures least { OnOk result (raise steps.old (length (chars text.now)) ≤ steps.new) }
@@ -117,25 +125,29 @@ impl KdlDocument {
         ensures told_most { IsSyntax result → steps.new ≤ steps.old + 160 * (length text.now + 1) }
         ensures raised { raise steps.old 1 ≤ steps.new }
     {
-        read(alloc, text, steps)
+        parse_from(alloc, text, steps)
     }
 
     /// The document of a text of KDL 2, as by `parse`.
     ///
     /// ```
     /// let document = KdlDocument::parse_v2(alloc, "on #true")?;
-    /// let on = document.get_arg("on"); // the truth value `#true`
+    /// let on = document.get_arg("on"); // the boolean `#true`
     /// ```
     pub fn parse_v2(alloc: Global, text: &str) -> Result<KdlDocument, ParseFailure>
-        ensures found { IfOk result (λ d. IsDocument true (chars text.now) (document_data (document_tree d))) }
-        ensures only { IfOk result (λ d. (x : Nodes) → IsDocument true (chars text.now) x → x ≡ document_data (document_tree d)) }
+        ensures found { IfOk result (λ d. IsDocument true (chars text.now) (document_says d)) }
+        ensures only { IfOk result (λ d. (x : Nodes) → IsDocument true (chars text.now) x
+            → x ≡ document_says d) }
         ensures laid { IfOk result (λ d. LaidDocument true (document_tree d) (chars text.now)) }
-        ensures prints { IfOk result (λ d. print_document (document_tree d) 0 ≡ chars text.now) }
+        ensures prints { IfOk result (λ d. document_prints d ≡ chars text.now) }
         ensures refused { IsSyntax result → (x : Nodes) → IsDocument true (chars text.now) x → ⊥ }
         ensures told { TellsOnSyntax text.now result }
         ensures kept { (x : Nodes) → IsFormerDocument (chars text.now) x → IsSyntax result → ⊥ }
-        ensures former { (x : Nodes) → IsFormerDocument (chars text.now) x → IfOk result (λ d. document_data (document_tree d) ≡ x) }
-        ensures edited { IfOk result (λ d. (e : Document) → EachDocument IsEdited (document_tree d) e → IsDocument true (print_document e 0) (document_data e)) }
+        ensures former { (x : Nodes) → IsFormerDocument (chars text.now) x
+            → IfOk result (λ d. document_says d ≡ x) }
+        ensures edited { IfOk result (λ d. (e : Document)
+            → EachDocument IsEdited (document_tree d) e
+            → IsDocument true (print_document e 0) (document_data e)) }
     {
         KdlDocument::parse(alloc, text)
     }
@@ -143,10 +155,8 @@ impl KdlDocument {
 
 impl KdlNode {
     ghost use Rattle.kdl_grammar.specs.Former.{IsFormerNodeText};
-    ghost use Rattle.kdl_grammar.specs.Print.{print_node};
-    ghost use Rattle.kdl_grammar.specs.Tree.{node_data};
 
-    /// The node that the text is, with every byte of its form: line-spaces and nodes that count for nothing before
+    /// The node that the text is, with every byte of its form: line-spaces and nodes that are slashdashed before
     /// it, and behind its terminator line-spaces alone (KDL 2.0.0, Node). What stands before it is its leading text,
     /// what stands behind its terminator its trailing one, and its span is the whole text, in bytes. `Syntax`: the text
     /// is none. Its error has a diagnostic for each fault that is found, and one at least: one is at a second node, where
@@ -157,21 +167,25 @@ impl KdlNode {
     /// let node = KdlNode::parse(alloc, "// the port\nport 8080\n")?;
     /// let two = KdlNode::parse(alloc, "a; b"); // `Syntax`, at the second node
     /// ```
-    #[tactic(auto, using(crate::proofs::Readings::node_found, crate::proofs::Readings::node_only, crate::proofs::Readings::node_prints))]
+    #[tactic(auto, using(crate::proofs::ParseAnswers::node_found, crate::proofs::ParseAnswers::node_only, crate::proofs::ParseAnswers::node_prints))]
     pub fn parse(alloc: Global, text: &str) -> Result<KdlNode, ParseFailure>
         // What is answered is what the grammar derives,
-        ensures found { IfOk result (λ n. IsNodeText true (chars text.now) (node_data (node_tree n))) }
+        ensures found { IfOk result (λ n. IsNodeText true (chars text.now) (node_says n)) }
         // and it derives nothing else.
-        ensures only { IfOk result (λ n. (x : data'.Node) → IsNodeText true (chars text.now) x → x ≡ node_data (node_tree n)) }
+        ensures only { IfOk result (λ n. (x : data'.Node) → IsNodeText true (chars text.now) x
+            → x ≡ node_says n) }
         // The node lies in the text, each place in its class and each span that of its piece, and prints it.
         ensures laid { IfOk result (λ n. LaidNodeText true (chars text.now) (node_tree n)) }
-        ensures prints { IfOk result (λ n. print_node (node_tree n) 0 ≡ chars text.now) }
+        ensures prints { IfOk result (λ n. node_prints n ≡ chars text.now) }
         // What is refused is not derived, and an error tells where.
-        ensures refused { IsSyntax result → (x : data'.Node) → IsNodeText true (chars text.now) x → ⊥ }
+        ensures refused { IsSyntax result → (x : data'.Node)
+            → IsNodeText true (chars text.now) x → ⊥ }
         ensures told { TellsOnSyntax text.now result }
         // What the former language derives is not refused, and is read as before.
-        ensures kept { (x : data'.Node) → IsFormerNodeText (chars text.now) x → IsSyntax result → ⊥ }
-        ensures former { (x : data'.Node) → IsFormerNodeText (chars text.now) x → IfOk result (λ n. node_data (node_tree n) ≡ x) }
+        ensures kept { (x : data'.Node) → IsFormerNodeText (chars text.now) x
+            → IsSyntax result → ⊥ }
+        ensures former { (x : data'.Node) → IsFormerNodeText (chars text.now) x
+            → IfOk result (λ n. node_says n ≡ x) }
     {
         read_node(alloc, text)
     }

@@ -1,10 +1,8 @@
 //! How nodes are printed: over a stack in memory and without recursion, however deep their blocks are.
 
-ghost use Rattle.kdl.specs.Left.{closing, line, opening};
+ghost use Rattle.kdl.specs.Internal.Left.{Prints, closing, line, opening};
 ghost use Rattle.kdl.specs.Tree.{nodes_tree};
 ghost use Rattle.kdl_grammar.specs.Print.{print_nodes};
-ghost use Rattle.std.specs.Fmt.{WritesOnOk};
-ghost use Rattle.std.specs.Str.{encode_utf8_all};
 
 use crate::document::KdlDocument;
 use crate::node::KdlNode;
@@ -20,23 +18,23 @@ struct Open<'a> {
 }
 
 /// Writes a node without children, at the given depth.
-#[tactic(auto, using(kdl_parts::proofs::Writing::writes))]
+#[tactic(auto, using(kdl_parts::proofs::Utf8Parts::writes))]
 fn write_line<W: fmt::Write>(node: &KdlNode, depth: usize, f: &mut fmt::Formatter<W>) -> fmt::Result
-    ensures { WritesOnOk W.write_str_gives f.old result (encode_utf8_all (line node.now depth)) f.new }
+    ensures { Prints W.write_str_gives f.old result (line node.now depth) f.new }
 {
     node.write_front(depth, f)?;
     node.write_end(f)
 }
 
 /// Writes a node at the given depth up to the first node in its block.
-#[tactic(auto, using(kdl_parts::proofs::Writing::writes))]
+#[tactic(auto, using(kdl_parts::proofs::Utf8Parts::writes))]
 fn write_opening<W: fmt::Write>(
     node: &KdlNode,
     block: &KdlDocument,
     depth: usize,
     f: &mut fmt::Formatter<W>,
 ) -> fmt::Result
-    ensures { WritesOnOk W.write_str_gives f.old result (encode_utf8_all (opening node.now block.now depth)) f.new }
+    ensures { Prints W.write_str_gives f.old result (opening node.now block.now depth) f.new }
 {
     node.write_front(depth, f)?;
     node.write_before_block(f)?;
@@ -44,27 +42,27 @@ fn write_opening<W: fmt::Write>(
 }
 
 /// Writes what stands behind the last node in a block, whose node is at the given depth.
-#[tactic(auto, using(kdl_parts::proofs::Writing::writes))]
+#[tactic(auto, using(kdl_parts::proofs::Utf8Parts::writes))]
 fn write_closing<W: fmt::Write>(
     node: &KdlNode,
     block: &KdlDocument,
     depth: usize,
     f: &mut fmt::Formatter<W>,
 ) -> fmt::Result
-    ensures { WritesOnOk W.write_str_gives f.old result (encode_utf8_all (closing node.now block.now depth)) f.new }
+    ensures { Prints W.write_str_gives f.old result (closing node.now block.now depth) f.new }
 {
     block.write_end(depth, f)?;
     node.write_end(f)
 }
 
-/// Writes nodes one behind another, at depth 0. The blocks that are open stand in memory; where that is wanting,
+/// Writes nodes one behind another, at depth 0. The blocks that are open stand in memory; where that runs out,
 /// writing fails.
 pub(crate) fn write_nodes<W: fmt::Write>(
     alloc: Global,
     nodes: &[KdlNode],
     f: &mut fmt::Formatter<W>,
 ) -> fmt::Result
-    ensures { WritesOnOk W.write_str_gives f.old result (encode_utf8_all (print_nodes (nodes_tree nodes.now) 0)) f.new }
+    ensures { Prints W.write_str_gives f.old result (print_nodes (nodes_tree nodes.now) 0) f.new }
 {
     let mut above: Vec<Open> = Vec::new(alloc);
     let mut rest = nodes;

@@ -4,7 +4,7 @@ use Rattle.std.specs.Bool.{Decides}
 use Rattle.std.specs.Option.{option_eq}
 use Rattle.std.specs.String.{string_eq}
 use Rattle.std.proofs.lemmas.Bool.Decides.{Decides-and, Decides-like}
-use Rattle.kdl_value.proofs.Equality.{text_decides, truth_decides, value_decides}
+use Rattle.kdl_value.proofs.Comparing.Equality.{text_decides, truth_decides, value_decides}
 use Rattle.kdl_value.specs.Tree.{text_of}
 use Rattle.kdl_entry.specs.Tree.{Identifier, identifier_tree, entry_tree, entry_format_tree, without_span, without_spans}
 use Rattle.kdl_entry.specs.declared.identifier.KdlIdentifier.{KdlIdentifier}

@@ -1,33 +1,14 @@
-pub mod Between
-pub mod Built
-pub mod Counting
-pub mod Cutting
-pub mod Derivation
-pub mod EntryAnswering
-pub mod EntryComplete
-pub mod EntryEnds
-pub mod EntryLaws
-pub mod EntryMoves
-pub mod EntrySound
-pub mod EntryTurns
+-- Tokens: one at most, and what the lexer answers.
+pub mod Lexing
+-- Pieces before another rest, and the ends of pieces.
+pub mod Moving
+-- Entries and identifiers laid in a text: derived, printed, one at most.
+pub mod Laying
+-- Entry and identifier texts, read token by token.
+pub mod Reading
+-- What `==` of identifiers and entries means, on trees.
 pub mod Equality
+-- A whole number is one of 128 bits.
 pub mod Fitting
-pub mod FormedPrinted
-pub mod FormlessEntries
-pub mod Fronts
-pub mod Handing
-pub mod IdentifierAnswering
-pub mod IdentifierTurns
-pub mod LaidPrinted
-pub mod LeafEnds
-pub mod PieceMoves
-pub mod Placing
-pub mod Puts
-pub mod Respanned
-pub mod Standing
-pub mod StringMoves
-pub mod StringPieces
-pub mod TextLaws
-pub mod ValuesReadBack
+-- The strings of identifiers in memory are of Unicode scalar values.
 pub mod WellFormed
-pub mod WholeTexts

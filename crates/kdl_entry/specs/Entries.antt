@@ -69,7 +69,7 @@ pub data IsEntry (wide : Bool) : Text → Text → Entry → Type 0 where
 abbrev pub IsIdentifierText : Bool → Text → Text → Type 0
 IsIdentifierText wide t v = IsString wide t [] v
 
--- an entry that counts for nothing, behind a slashdash and before node-spaces
+-- an entry that is slashdashed, behind a slashdash and before node-spaces
 pub data DroppedFirst (wide : Bool) : Text → Text → Type 0 where
   dropped_first : {s t u r : Text} {e : Entry} → Slashdash s t → IsEntry wide t u e → Plus NodeSpace u r → DroppedFirst wide s r
 

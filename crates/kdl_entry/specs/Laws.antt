@@ -3,7 +3,7 @@ use Rattle.std.specs.Prelude.{◌≡◌, ◌↔◌, Bool, true}
 use Rattle.kdl_text.specs.Chars.{Text}
 use Rattle.kdl_entry.specs.Data as data'
 use Rattle.kdl_entry.specs.Entries.{IsIdentifierText, IsEntryText}
-use Rattle.kdl_entry.specs.EntryMachine.{AnswersEntry}
+use Rattle.kdl_entry.specs.Internal.EntryMachine.{AnswersEntry}
 use Rattle.kdl_entry.specs.Laid.{LaidIdentifierText, LaidEntryText}
 use Rattle.kdl_entry.specs.Print.{print_identifier, print_entry}
 use Rattle.kdl_entry.specs.Tree.{Identifier, Entry, entry_data}

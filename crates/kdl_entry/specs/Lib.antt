@@ -1,16 +1,18 @@
-pub mod Building
-pub mod Counted
+-- What an entry says, whatever its form.
 pub mod Data
+-- Strings, types, values and entries as they are written (KDL 2.0.0, String, Value, Type Annotation, Argument, Property).
 pub mod Entries
-pub mod EntryMachine
-pub mod EntryReading
+-- Entries without format and spelling, and the form in which they stand in a node.
 pub mod Formless
-pub mod Handed
-pub mod IdentifierReading
-pub mod Items
+-- Identifiers and entries laid in a text: their spellings and places, in the order of printing, are the text, and each is what it has to be.
 pub mod Laid
+-- What is proved of the written grammar of identifiers and entries.
 pub mod Laws
+-- Places: the texts between the parts of an item, and what may stand in them.
 pub mod Places
+-- What identifiers and entries print.
 pub mod Print
-pub mod Tokens
+-- Identifiers and entries with every text and span, and nothing of how memory holds them.
 pub mod Tree
+-- What only proofs and contracts inside the crates need.
+pub mod Internal

@@ -12,7 +12,7 @@ pub record Is (class : Text → Text → Type 0) (p s r : Text) : Type 0 where
   pub is : class s r
   pub text : s ≡ p ++ r
 
--- an entry that counts for nothing, behind node-spaces and a slashdash
+-- an entry that is slashdashed, behind node-spaces and a slashdash
 pub data DroppedEntry : Text → Text → Type 0 where
   dropped : {s t u r : Text} {e : Entry} → Star NodeSpace s t → Slashdash t u → IsEntry true u r e → DroppedEntry s r
 

@@ -81,8 +81,8 @@ abbrev pub cleared : Entry → Entry
 cleared e = record (unspelled_names e) { format = None }
 
 -- a format that autoformat shall keep
-abbrev pub marked : EntryFormat → EntryFormat
-marked f = record f { autoformat_keep = true }
+abbrev pub with_keep : EntryFormat → EntryFormat
+with_keep f = record f { autoformat_keep = true }
 
 -- what autoformat keeps of a format: the spelling of the value and the text before the entry, without the mark
 abbrev pub kept : EntryFormat → EntryFormat

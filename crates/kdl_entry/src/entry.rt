@@ -2,8 +2,8 @@
 
 ghost use Rattle.kdl_entry.specs.Print.{print_entry};
 ghost use Rattle.kdl_value.specs.Tree.{value_tree};
-ghost use Rattle.kdl_entry.specs.Tree.{entry_tree, entry_format_tree, identifier_tree, empty_format, plain_entry, unspelled, cleared, marked, kept, autoformatted_format, autoformatted};
-ghost use Rattle.kdl_text.specs.Here.{bytes};
+ghost use Rattle.kdl_entry.specs.Tree.{entry_tree, entry_format_tree, identifier_tree, empty_format, plain_entry, unspelled, cleared, with_keep, kept, autoformatted_format, autoformatted};
+ghost use Rattle.kdl_text.specs.Spans.{bytes};
 ghost use Rattle.std.specs.Prelude.{◌≡◌, ◌↔◌, IsTrue, IfOk, [], None, Some, option_map};
 ghost use Rattle.std.specs.Str.{encode_utf8_all};
 
@@ -81,7 +81,8 @@ impl KdlEntryFormat {
 
 /// Drops the spelling, where there is an identifier.
 fn clear_spelling(identifier: &mut Option<KdlIdentifier>)
-    ensures { option_map identifier_tree identifier.new ≡ option_map unspelled (option_map identifier_tree identifier.old) }
+    ensures { option_map identifier_tree identifier.new
+        ≡ option_map unspelled (option_map identifier_tree identifier.old) }
 {
     if let Some(identifier) = identifier {
         identifier.clear_format();
@@ -90,7 +91,8 @@ fn clear_spelling(identifier: &mut Option<KdlIdentifier>)
 
 /// Keeps what autoformat keeps of a marked format, and drops any other.
 fn autoformat_format(format: &mut Option<KdlEntryFormat>)
-    ensures { option_map entry_format_tree format.new ≡ autoformatted_format (option_map entry_format_tree format.old) }
+    ensures { option_map entry_format_tree format.new
+        ≡ autoformatted_format (option_map entry_format_tree format.old) }
 {
     match format {
         Some(marked) if marked.autoformat_keep => marked.keep_value(),
@@ -98,7 +100,7 @@ fn autoformat_format(format: &mut Option<KdlEntryFormat>)
     }
 }
 
-/// A copy with the same texts and the same mark. Fails where memory is wanting.
+/// A copy with the same texts and the same mark. Fails where memory runs out.
 ///
 /// ```
 /// let format = KdlEntryFormat::new(alloc);
@@ -158,7 +160,8 @@ impl KdlEntry {
     }
 
     fn plain(name: Option<KdlIdentifier>, value: KdlValue) -> KdlEntry
-        ensures { entry_tree result ≡ plain_entry (option_map identifier_tree name) (value_tree value) }
+        ensures { entry_tree result
+            ≡ plain_entry (option_map identifier_tree name) (value_tree value) }
     {
         KdlEntry {
             ty: None,
@@ -191,7 +194,8 @@ impl KdlEntry {
     /// }
     /// ```
     pub fn name_mut(&mut self) -> Option<&mut KdlIdentifier>
-        ensures* writes_back { sem 𝓛 (LendsIf the_row identifier_row self.entry result (λ i. record self.old { name = Some i }) self.old) }
+        ensures* writes_back { sem 𝓛 (LendsIf the_row identifier_row self.entry result
+            (λ i. record self.old { name = Some i }) self.old) }
         ensures value { option_map (λ i. i.now) result ≡ self.old.name }
     {
         self.name.as_mut()
@@ -204,7 +208,8 @@ impl KdlEntry {
     /// entry.set_name(None); // an argument now: prints "8080"
     /// ```
     pub fn set_name(&mut self, name: Option<KdlIdentifier>)
-        ensures { entry_tree self.new ≡ record (entry_tree self.old) { name = option_map identifier_tree name } }
+        ensures { entry_tree self.new
+            ≡ record (entry_tree self.old) { name = option_map identifier_tree name } }
     {
         self.name = name;
     }
@@ -229,7 +234,8 @@ impl KdlEntry {
     /// *entry.value_mut() = KdlValue::from(17); // still prints "0x10", by its spelling, until `clear_format`
     /// ```
     pub fn value_mut(&mut self) -> &mut KdlValue
-        ensures* writes_back { sem 𝓛 (Lends the_row value_row self.entry result (λ v. record self.old { value = v })) }
+        ensures* writes_back { sem 𝓛 (Lends the_row value_row self.entry result
+            (λ v. record self.old { value = v })) }
         ensures value { result.now ≡ self.old.value }
     {
         &mut self.value
@@ -296,7 +302,8 @@ impl KdlEntry {
     /// }
     /// ```
     pub fn ty_mut(&mut self) -> Option<&mut KdlIdentifier>
-        ensures* writes_back { sem 𝓛 (LendsIf the_row identifier_row self.entry result (λ i. record self.old { ty = Some i }) self.old) }
+        ensures* writes_back { sem 𝓛 (LendsIf the_row identifier_row self.entry result
+            (λ i. record self.old { ty = Some i }) self.old) }
         ensures value { option_map (λ i. i.now) result ≡ self.old.ty }
     {
         self.ty.as_mut()
@@ -309,7 +316,8 @@ impl KdlEntry {
     /// entry.set_ty(KdlIdentifier::from_text(alloc, "u16")?); // prints "(u16)8080"
     /// ```
     pub fn set_ty(&mut self, ty: KdlIdentifier)
-        ensures { entry_tree self.new ≡ record (entry_tree self.old) { ty = Some (identifier_tree ty) } }
+        ensures { entry_tree self.new
+            ≡ record (entry_tree self.old) { ty = Some (identifier_tree ty) } }
     {
         self.ty = Some(ty);
     }
@@ -338,7 +346,8 @@ impl KdlEntry {
     /// }
     /// ```
     pub fn format_mut(&mut self) -> Option<&mut KdlEntryFormat>
-        ensures* writes_back { sem 𝓛 (LendsIf the_row format_row self.entry result (λ f. record self.old { format = Some f }) self.old) }
+        ensures* writes_back { sem 𝓛 (LendsIf the_row format_row self.entry result
+            (λ f. record self.old { format = Some f }) self.old) }
         ensures value { option_map (λ f. f.now) result ≡ self.old.format }
     {
         self.format.as_mut()
@@ -353,7 +362,8 @@ impl KdlEntry {
     /// entry.set_format(format); // prints "0x10"; that this spells 16 is not tested
     /// ```
     pub fn set_format(&mut self, format: KdlEntryFormat)
-        ensures { entry_tree self.new ≡ record (entry_tree self.old) { format = Some (entry_format_tree format) } }
+        ensures { entry_tree self.new
+            ≡ record (entry_tree self.old) { format = Some (entry_format_tree format) } }
     {
         self.format = Some(format);
     }
@@ -382,7 +392,9 @@ impl KdlEntry {
     /// entry.autoformat(); // prints "0x10"; without the mark, "16"
     /// ```
     pub fn keep_format(&mut self)
-        ensures { entry_tree self.new ≡ record (entry_tree self.old) { format = option_map marked (entry_tree self.old).format } }
+        ensures { entry_tree self.new
+            ≡ record (entry_tree self.old)
+            { format = option_map with_keep (entry_tree self.old).format } }
     {
         if let Some(format) = &mut self.format {
             format.autoformat_keep = true;
@@ -404,7 +416,7 @@ impl KdlEntry {
         clear_spelling(&mut self.name);
     }
 
-    /// The length of the printed text, in bytes. It prints the entry: it fails where memory is wanting.
+    /// The length of the printed text, in bytes. It prints the entry: it fails where memory runs out.
     ///
     /// ```
     /// let bytes = KdlEntry::parse(alloc, " a=0x10")?.len(alloc)?; // 7
@@ -415,7 +427,7 @@ impl KdlEntry {
         Ok(self.to_string(alloc)?.len())
     }
 
-    /// Whether the printed text is empty. It prints the entry: it fails where memory is wanting.
+    /// Whether the printed text is empty. It prints the entry: it fails where memory runs out.
     ///
     /// ```
     /// let nothing = KdlEntry::new(KdlValue::Null).is_empty(alloc)?; // false: it prints "#null"
@@ -434,7 +446,15 @@ impl KdlEntry {
         format: KdlEntryFormat,
         span: SourceSpan,
     ) -> KdlEntry
-        ensures { entry_tree result ≡ record { ty = option_map identifier_tree ty; value = value_tree value; name = option_map identifier_tree name; format = Some (entry_format_tree format); span = span } }
+        ensures { entry_tree result
+            ≡ record {
+              ty = option_map identifier_tree ty;
+              value = value_tree value;
+              name
+                  = option_map identifier_tree name;
+              format = Some (entry_format_tree format);
+              span = span;
+            } }
     {
         KdlEntry {
             ty,
@@ -492,7 +512,7 @@ impl From<(KdlIdentifier, KdlValue)> for KdlEntry {
     }
 }
 
-/// A copy with the same texts and spans. Fails where memory is wanting.
+/// A copy with the same texts and spans. Fails where memory runs out.
 ///
 /// ```
 /// let entry = KdlEntry::parse(alloc, "a=0x10")?;

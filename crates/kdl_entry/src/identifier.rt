@@ -3,7 +3,7 @@
 ghost use Rattle.kdl_entry.specs.Print.{print_identifier};
 ghost use Rattle.kdl_value.specs.Tree.{text_of};
 ghost use Rattle.kdl_entry.specs.Tree.{identifier_tree, plain_identifier, unspelled};
-ghost use Rattle.kdl_text.specs.Here.{bytes};
+ghost use Rattle.kdl_text.specs.Spans.{bytes};
 ghost use Rattle.std.specs.Prelude.{◌≡◌, ◌↔◌, IsTrue, IfOk, [], Some, option_map};
 ghost use Rattle.std.specs.Str.{chars, encode_utf8_all};
 ghost use Rattle.std.specs.String.{string_vec};
@@ -48,7 +48,8 @@ impl KdlIdentifier {
     /// name.clear_format(); // prints "new"
     /// ```
     pub fn set_value(&mut self, value: String)
-        ensures { identifier_tree self.new ≡ record (identifier_tree self.old) { value = text_of value } }
+        ensures { identifier_tree self.new
+            ≡ record (identifier_tree self.old) { value = text_of value } }
     {
         self.value = value;
     }
@@ -99,7 +100,8 @@ impl KdlIdentifier {
     /// name.set_repr(String::from_str(alloc, "#\"a\"#")?); // prints "#\"a\"#"; that this spells `a` is not tested
     /// ```
     pub fn set_repr(&mut self, repr: String)
-        ensures { identifier_tree self.new ≡ record (identifier_tree self.old) { repr = Some (text_of repr) } }
+        ensures { identifier_tree self.new
+            ≡ record (identifier_tree self.old) { repr = Some (text_of repr) } }
     {
         self.repr = Some(repr);
     }
@@ -128,7 +130,7 @@ impl KdlIdentifier {
         self.clear_format();
     }
 
-    /// The length of the printed text, in bytes. It prints the identifier: it fails where memory is wanting.
+    /// The length of the printed text, in bytes. It prints the identifier: it fails where memory runs out.
     ///
     /// ```
     /// let bytes = KdlIdentifier::parse(alloc, "\"é\"")?.len(alloc)?; // 4: the quotes are printed too
@@ -139,7 +141,7 @@ impl KdlIdentifier {
         Ok(self.to_string(alloc)?.len())
     }
 
-    /// Whether the printed text is empty. It prints the identifier: it fails where memory is wanting.
+    /// Whether the printed text is empty. It prints the identifier: it fails where memory runs out.
     ///
     /// ```
     /// let nothing = KdlIdentifier::from_text(alloc, "")?.is_empty(alloc)?; // false: it prints "\"\""
@@ -151,7 +153,7 @@ impl KdlIdentifier {
     }
 
     /// An identifier with a copy of the text as its string, without a spelling and with the span 0 of length 0.
-    /// Fails where memory is wanting; an empty text takes none.
+    /// Fails where memory runs out; an empty text takes none.
     ///
     /// ```
     /// let name = KdlIdentifier::from_text(alloc, "two words")?; // prints "\"two words\""
@@ -171,7 +173,8 @@ impl KdlIdentifier {
 /// let name = parsed_identifier(String::from_str(alloc, "a")?, repr, span); // prints "\"a\""
 /// ```
 pub fn parsed_identifier(value: String, repr: String, span: SourceSpan) -> KdlIdentifier
-    ensures { identifier_tree result ≡ record { value = text_of value; repr = Some (text_of repr); span = span } }
+    ensures { identifier_tree result
+        ≡ record { value = text_of value; repr = Some (text_of repr); span = span } }
 {
     KdlIdentifier {
         value,
@@ -230,7 +233,7 @@ impl From<KdlIdentifier> for String {
     }
 }
 
-/// A copy with the same string, spelling and span. Fails where memory is wanting.
+/// A copy with the same string, spelling and span. Fails where memory runs out.
 ///
 /// ```
 /// let name = KdlIdentifier::parse(alloc, "\"a\"")?;

@@ -22,7 +22,9 @@ pub fn write_type<W: Write>(
     after: &str,
     f: &mut Formatter<W>,
 ) -> fmt::Result
-    ensures { WritesOnOk W.write_str_gives f.old result (encode_utf8_all (print_type (option_map identifier_tree ty.now) (chars before.now) (chars after.now))) f.new }
+    ensures { WritesOnOk W.write_str_gives f.old result
+        (encode_utf8_all (print_type (option_map identifier_tree ty.now) (chars before.now)
+        (chars after.now))) f.new }
 {
     if let Some(ty) = ty {
         write_char('(', f)?;
@@ -41,7 +43,9 @@ pub(crate) fn write_key<W: Write>(
     after_eq: &str,
     f: &mut Formatter<W>,
 ) -> fmt::Result
-    ensures { WritesOnOk W.write_str_gives f.old result (encode_utf8_all (print_key (option_map identifier_tree name.now) (chars after_key.now) (chars after_eq.now))) f.new }
+    ensures { WritesOnOk W.write_str_gives f.old result
+        (encode_utf8_all (print_key (option_map identifier_tree name.now) (chars after_key.now)
+        (chars after_eq.now))) f.new }
 {
     if let Some(name) = name {
         name.fmt(f)?;

@@ -1,7 +1,14 @@
-pub mod Ending
-pub mod Noting
+-- Value ends, from further back.
+pub mod ValueEnds
+-- Spans between places of a text, and what a reader of faults holds.
+pub mod NotedSpans
+-- Places that a cursor went past, and what its steps cost.
 pub mod Passing
+-- Where pieces stand, and how the cursor moves past them.
 pub mod PieceMoves
-pub mod Scanning
-pub mod Telling
-pub mod Turning
+-- The loops over the units of a string.
+pub mod StringLoops
+-- The diagnostics of a text, one for each fault.
+pub mod Diagnostics
+-- What the turns of a reader of faults cost.
+pub mod ReaderCost

@@ -5,14 +5,15 @@ use Rattle.std.proofs.lemmas.Str.{len_utf8_bounds}
 use Rattle.std.specs.Char.{len_utf8}
 use Rattle.std.specs.Prelude.{Option, Some, None}
 use Rattle.kdl_text.specs.Chars.{Text, begins, starts, is_newline_char, Newline, crlf, one}
-use Rattle.kdl_text.specs.Here.{Here, Spot, Skips, Ran, AteTwo, first, tail, first_len, looked, stepped, bytes}
+use Rattle.kdl_text.specs.Internal.Here.{Here, Spot, Skips, Ran, AteTwo, first, tail, first_len, looked, stepped}
+use Rattle.kdl_text.specs.Spans.{bytes}
 use Rattle.kdl_text.specs.Strings.{Run}
-use Rattle.kdl_text.specs.Reading.{Moves, ReadsNewline}
-use Rattle.kdl_text.proofs.Going.{moves_then, moves_stayed, stayed_looked, fewer_bytes, bytes-append}
-use Rattle.kdl_text.proofs.Newlines.{newline_there}
-use Rattle.kdl_text.proofs.TriviaRuns.{moves_ate_two}
-use Rattle.kdl_text.proofs.Slices.{moves_ran, costs_ran}
-use Rattle.kdl_faults.specs.Reading.{Most, Passed, OnFound}
+use Rattle.kdl_text.specs.Internal.Reading.{Moves, ReadsNewline}
+use Rattle.kdl_text.proofs.Looking.MovesJoin.{moves_then, moves_stayed, stayed_looked, fewer_bytes, bytes-append}
+use Rattle.kdl_text.proofs.Spacing.NewlineUnique.{newline_there}
+use Rattle.kdl_text.proofs.Spacing.SpaceReads.{moves_ate_two}
+use Rattle.kdl_text.proofs.Looking.SliceCost.{moves_ran, costs_ran}
+use Rattle.kdl_faults.specs.Internal.Reading.{Most, Passed, OnFound}
 use Rattle.kdl_faults.specs.declared.strings.Found.{Found}
 
 -- a step past a character

@@ -3,9 +3,10 @@ use Rattle.std.proofs.Common.{◌≡◌, ℕ, [], ◌∷◌, ◌++◌, ap, sym, 
 use Rattle.std.proofs.lemmas.Str.{len_utf8_bounds}
 use Rattle.std.specs.Prelude.{Option, Some, None}
 use Rattle.kdl_text.specs.Chars.{Text}
-use Rattle.kdl_text.specs.Here.{Here, Took, bytes}
-use Rattle.kdl_text.specs.Reading.{Moves}
-use Rattle.kdl_faults.specs.Reading.{OnUnclosed, IsEnd, Stands, Spans, Begins, gone}
+use Rattle.kdl_text.specs.Internal.Here.{Here, Took}
+use Rattle.kdl_text.specs.Spans.{bytes}
+use Rattle.kdl_text.specs.Internal.Reading.{Moves}
+use Rattle.kdl_faults.specs.Internal.Reading.{OnUnclosed, IsEnd, Stands, Spans, Begins, gone}
 use Rattle.kdl_faults.specs.declared.ends.Unclosed.{Unclosed}
 use Rattle.kdl_faults.specs.declared.ends.ValueEnd.{ValueEnd}
 use Rattle.kdl_faults.specs.declared.pieces.Piece.{Piece}

@@ -1,2 +1,4 @@
-pub mod Noted
-pub mod Reading
+-- The kinds of faults in numbers.
+pub mod Kinds
+-- What only proofs and contracts inside the crates need.
+pub mod Internal

@@ -1,9 +1,10 @@
 //! Value ends (KDL 2.0.0, Value): where a string, a number or a keyword may end.
 
-ghost use Rattle.kdl_faults.specs.Reading.{Most, IsEnd, IsUnclosed, OnUnclosed, StandsBehind};
+ghost use Rattle.kdl_faults.specs.Internal.Reading.{Most, IsEnd, IsUnclosed, OnUnclosed, StandsBehind};
 ghost use Rattle.kdl_text.specs.Chars.{begins};
-ghost use Rattle.kdl_text.specs.Here.{Stayed, bytes};
-ghost use Rattle.kdl_text.specs.Reading.{Moves};
+ghost use Rattle.kdl_text.specs.Internal.Here.{Stayed};
+ghost use Rattle.kdl_text.specs.Spans.{bytes};
+ghost use Rattle.kdl_text.specs.Internal.Reading.{Moves};
 ghost use Rattle.std.specs.Prelude.{◌≡◌, ℕ, ◌<◌, ◌≤◌, true, IfSome};
 
 use kdl_text::chars::{Checkpoint, Class, Cursor, is_newline_char, is_space, newline};

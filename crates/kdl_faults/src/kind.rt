@@ -1,5 +1,8 @@
 //! The faults that a text can have, and the words in which they are told.
 
+ghost use Rattle.kdl_faults.specs.Kinds.{form_of, kind_of};
+ghost use Rattle.std.specs.Prelude.{◌≡◌};
+
 use kdl_text::numbers::{NumberFault, Radix};
 
 /// The form of a number.
@@ -14,7 +17,9 @@ pub enum Form {
 
 impl Form {
     /// The form of a whole number in the base.
-    pub fn of(radix: Radix) -> Form {
+    pub fn of(radix: Radix) -> Form
+        ensures { result ≡ form_of radix }
+    {
         match radix {
             Radix::Binary => Form::Binary,
             Radix::Octal => Form::Octal,
@@ -77,7 +82,9 @@ pub enum Kind {
 
 impl Kind {
     /// The kind of a number's fault.
-    pub fn of(fault: NumberFault) -> Kind {
+    pub fn of(fault: NumberFault) -> Kind
+        ensures { result ≡ kind_of fault }
+    {
         match fault {
             NumberFault::Trailing(radix) => Kind::NumberEnd(Form::of(radix)),
             NumberFault::TrailingDecimal => Kind::NumberEnd(Form::Float),

@@ -16,5 +16,5 @@ mod whole;
 
 pub use kind::{Form, Kind, Words};
 pub use reader::Fault;
-pub use told::{failure, faults, refusal};
+pub use told::{failure, faults};
 pub use whole::Whole;

@@ -2,12 +2,12 @@
 //!
 //! Nothing is built: of a string, a number and a keyword the reader tells where it ends and what is wrong with it.
 
-ghost use Rattle.kdl_faults.specs.Reading.{Begins, IsPiece, Most, OnFound, Spans, Stands, WentPast, gone};
-ghost use Rattle.kdl_text.specs.Chars.{begins, is_identifier_char, is_number_sign, starts};
-ghost use Rattle.kdl_text.specs.Chars as class;
-ghost use Rattle.kdl_text.specs.Here.{Ahead, Behind as Follows, Spot, Stayed, bytes, first};
-ghost use Rattle.kdl_text.specs.Reading.{Moves};
-ghost use Rattle.std.specs.Prelude.{◌≡◌, ℕ, ◌+◌, ◌-◌, ◌*◌, ◌<◌, ◌≤◌, ◌++◌, true, IfOk, IfSome};
+ghost use Rattle.kdl_faults.specs.Internal.Reading.{Begins, IsPiece, Most, MostFrom, NoEarlier, OnFound, Spans, Stands, WentPast, gone};
+ghost use Rattle.kdl_text.specs.Chars.{is_identifier_char, is_number_sign, starts};
+ghost use Rattle.kdl_text.specs.Internal.Here.{Ahead, Behind as Follows, Spot, Stayed, first};
+ghost use Rattle.kdl_text.specs.Spans.{bytes};
+ghost use Rattle.kdl_text.specs.Internal.Reading.{Moves};
+ghost use Rattle.std.specs.Prelude.{◌≡◌, ℕ, ◌+◌, ◌*◌, ◌≤◌, true, IfOk, IfSome};
 
 use crate::ends::{Behind, Unclosed, behind_backslash, value_end};
 use crate::kind::{Form, Kind};
@@ -230,7 +230,7 @@ fn end_within<'a>(cursor: &mut Cursor<'a>, from: &Checkpoint<'a>) -> Checkpoint<
     ensures place { Ahead from.now result }
     ensures rest { cursor.new.rest ≡ cursor.old.rest }
     ensures moves { Moves cursor.old cursor.new }
-    ensures most { cursor.new.steps ≤ cursor.old.steps + 26 * (bytes from.now.rest - bytes cursor.old.rest) + 24 }
+    ensures most { MostFrom 26 24 from.now cursor.old cursor.old cursor.new }
 {
     let here = cursor.checkpoint();
     let text = cursor.slice(from);
@@ -252,7 +252,7 @@ fn end_of_fault<'a>(
     behind: Checkpoint<'a>,
     end: Checkpoint<'a>,
 ) -> Checkpoint<'a>
-    ensures { (from : Spot) → Ahead from inside.entry → Ahead from behind.entry → Ahead from end.entry → Ahead from result }
+    ensures { NoEarlier inside.entry behind.entry end.entry result }
 {
     if let Kind::RawQuotes = kind {
         return behind;

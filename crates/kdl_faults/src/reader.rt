@@ -1,10 +1,17 @@
 //! The reader of faults: it goes over a text that is refused, and notes each fault.
 
-ghost use Rattle.kdl_faults.specs.Noted.{Bounded, Keeps, KeepsAt, KeepsBetween, LiesIn, Reads};
-ghost use Rattle.kdl_faults.specs.Reading.{Most, Stands};
+ghost use Rattle.kdl_faults.specs.Internal.Noted.{
+  Bounded,
+  IsPlaceAt,
+  Keeps,
+  KeepsAt,
+  KeepsBetween,
+  KeepsUpTo,
+  IsReaderOf,
+};
+ghost use Rattle.kdl_faults.specs.Internal.Reading.{Most};
 ghost use Rattle.kdl_faults.specs.declared.pieces.PieceKind.TheVariants.{End};
-ghost use Rattle.kdl_text.specs.Chars.{Text};
-ghost use Rattle.kdl_text.specs.Reading.{Moves};
+ghost use Rattle.kdl_text.specs.Internal.Reading.{Moves};
 ghost use Rattle.std.specs.Prelude.{◌≡◌, [], true};
 ghost use Rattle.std.specs.Str.{chars};
 
@@ -81,7 +88,7 @@ fn goes_on(kind: PieceKind) -> bool {
 impl<'a> Reader<'a> {
     /// A reader at the start of the text, on the given count of steps.
     pub(crate) fn new(alloc: Global, text: &'a str, whole: Whole, steps: Steps) -> Self
-        ensures reads { Reads (chars text.now) result }
+        ensures reads { IsReaderOf (chars text.now) result }
         ensures cursor { result.cursor ≡ record { rest = chars text.now; at = 0; steps = steps } }
         ensures none { result.faults.items ≡ [] }
     {
@@ -139,7 +146,7 @@ impl<'a> Reader<'a> {
         to: &Checkpoint<'a>,
         piece: &Piece<'a>,
     ) -> Result<(), AllocError>
-        ensures keeps { (text : Text) → Reads text self.old → Stands text piece.now → LiesIn text from.now → LiesIn text to.now → Reads text self.new }
+        ensures keeps { KeepsUpTo piece.now from.now to.now self.old self.new }
         ensures cursor { self.new.cursor ≡ self.old.cursor }
         ensures same { self.new.is_over ≡ self.old.is_over }
     {
@@ -152,7 +159,7 @@ impl<'a> Reader<'a> {
 
     /// The end of a fault that the piece brings: the next value end behind a `(`, and else the piece's own.
     fn end_of(&mut self, piece: &Piece<'a>) -> Checkpoint<'a>
-        ensures end { (text : Text) → Reads text self.old → Stands text piece.now → LiesIn text result }
+        ensures end { IsPlaceAt self.old piece.now result }
         ensures keeps { Keeps self.old self.new }
         ensures moves { Moves self.old.cursor self.new.cursor }
         ensures most { Most 24 24 self.old.cursor self.new.cursor }
@@ -166,7 +173,7 @@ impl<'a> Reader<'a> {
 
     /// The start of a fault of the kind that the piece brings: in a type behind its `(`, and else the piece's own.
     fn start_of(&self, kind: Kind, piece: &Piece<'a>) -> Checkpoint<'a>
-        ensures { (text : Text) → Reads text self.now → Stands text piece.now → LiesIn text result }
+        ensures { IsPlaceAt self.now piece.now result }
     {
         match kind {
             Kind::Type => self.left.copied(),

@@ -1,10 +1,11 @@
 //! Quoted and raw strings, as far as they go, and the first fault in them.
 
-ghost use Rattle.kdl_faults.specs.Reading.{Most, OnFound, Passed};
+ghost use Rattle.kdl_faults.specs.Internal.Reading.{FindsAlso, FindsOn, Most, MostFrom, OnFound};
 ghost use Rattle.kdl_text.specs.Chars.{begins};
-ghost use Rattle.kdl_text.specs.Here.{Behind, Here, bytes, first};
-ghost use Rattle.kdl_text.specs.Reading.{Moves};
-ghost use Rattle.std.specs.Prelude.{◌≡◌, ◌+◌, ◌-◌, ◌*◌, ◌<◌, ◌≤◌, Some, true, IfOk};
+ghost use Rattle.kdl_text.specs.Internal.Here.{Behind, first};
+ghost use Rattle.kdl_text.specs.Spans.{bytes};
+ghost use Rattle.kdl_text.specs.Internal.Reading.{Moves};
+ghost use Rattle.std.specs.Prelude.{◌≡◌, ◌<◌, Some, true, IfOk};
 
 use crate::kind::Kind;
 use kdl_text::chars::{Checkpoint, Class, Cursor, Steps, is_newline_char, newline};
@@ -29,7 +30,7 @@ pub(crate) struct Scan<'a> {
 
 /// The fault that was found already, or else this one.
 fn earlier<'a>(fault: Option<Found<'a>>, kind: Kind, place: Checkpoint<'a>) -> Option<Found<'a>>
-    ensures { (old new : Here) → OnFound old fault.entry new → Passed old place.entry new → OnFound old result new }
+    ensures { FindsAlso fault.entry place.entry result }
 {
     match fault {
         Some(found) => Some(found),
@@ -39,7 +40,7 @@ fn earlier<'a>(fault: Option<Found<'a>>, kind: Kind, place: Checkpoint<'a>) -> O
 
 /// A string that ends with the text, without its closing.
 fn cut<'a>(fault: Option<Found<'a>>, kind: Kind, place: Checkpoint<'a>) -> Scan<'a>
-    ensures { (old new : Here) → OnFound old fault.entry new → Passed old place.entry new → OnFound old result.fault new }
+    ensures { FindsAlso fault.entry place.entry result.fault }
 {
     Scan {
         fault: earlier(fault, kind, place),
@@ -68,7 +69,7 @@ fn escape(cursor: &mut Cursor) -> bool
 /// Goes past a character that is no plain one of a quoted string: past an escape, or a character that can't stand there.
 fn odd_unit<'a>(cursor: &mut Cursor<'a>, c: char, fault: Option<Found<'a>>) -> Option<Found<'a>>
     requires here { first cursor.old.rest ≡ Some c }
-    ensures fault { (start : Here) → Moves start cursor.old → OnFound start fault.entry cursor.old → OnFound start result cursor.new }
+    ensures fault { FindsOn fault.entry cursor.old result cursor.new }
     ensures moves { Moves cursor.old cursor.new }
     ensures went { bytes cursor.new.rest < bytes cursor.old.rest }
     ensures most { Most 1 0 cursor.old cursor.new }
@@ -150,7 +151,7 @@ fn fault_of_lines<'a>(
     ensures fault { IfOk result (λ f. OnFound cursor.old f cursor.new) }
     ensures rest { cursor.new.rest ≡ cursor.old.rest }
     ensures moves { Moves cursor.old cursor.new }
-    ensures most { cursor.new.steps ≤ cursor.old.steps + 5 * (bytes start.now.rest - bytes cursor.old.rest) + 7 }
+    ensures most { MostFrom 5 7 start.now cursor.old cursor.old cursor.new }
 {
     let place = cursor.checkpoint();
     let text = cursor.slice(start);
@@ -286,7 +287,7 @@ fn fault_of_raw_lines<'a>(
     ensures fault { IfOk result (λ f. OnFound cursor.old f cursor.new) }
     ensures rest { cursor.new.rest ≡ cursor.old.rest }
     ensures moves { Moves cursor.old cursor.new }
-    ensures most { cursor.new.steps ≤ cursor.old.steps + 5 * (bytes start.now.rest - bytes cursor.old.rest) + 9 }
+    ensures most { MostFrom 5 9 start.now cursor.old cursor.old cursor.new }
 {
     let place = cursor.checkpoint();
     let text = cursor.slice(start);
@@ -334,7 +335,7 @@ pub(crate) fn scan_raw<'a>(
     ensures fault { IfOk result (λ s. OnFound cursor.old s.fault cursor.new) }
     ensures moves { Moves cursor.old cursor.new }
     ensures went { bytes cursor.new.rest < bytes cursor.old.rest }
-    ensures most { cursor.new.steps ≤ cursor.old.steps + 10 * (bytes start.now.rest - bytes cursor.new.rest) + 14 }
+    ensures most { MostFrom 10 14 start.now cursor.new cursor.old cursor.new }
 {
     cursor.step();
     if !cursor.eat_two('"', '"') {

@@ -1,8 +1,8 @@
 //! The error of a text that is refused.
 
-ghost use Rattle.kdl_faults.specs.Noted.{Noted};
+ghost use Rattle.kdl_faults.specs.Internal.Noted.{Noted};
 ghost use Rattle.kdl_text.specs.Failures.{IsToldOf, Tells, TellsOf};
-ghost use Rattle.kdl_text.specs.Here.{raise};
+ghost use Rattle.kdl_text.specs.Internal.Here.{raise};
 ghost use Rattle.kdl_text.specs.Spans.{InText};
 ghost use Rattle.std.specs.Prelude.{◌+◌, ◌*◌, ◌<◌, ◌≤◌, length, IfOk};
 ghost use Rattle.std.specs.Rc.{rc_str_bytes};
@@ -74,7 +74,7 @@ pub fn faults(
 
 /// The error of a text that is refused at the span: a diagnostic for each fault that is found in it, in the order of
 /// reading, and one at the span where none is.
-pub fn refusal(
+fn refusal(
     alloc: Global,
     text: &str,
     whole: Whole,
@@ -96,7 +96,7 @@ pub fn refusal(
     error_of(alloc, text, &faults)
 }
 
-/// The failure of a text that is refused at the span, or of want of memory.
+/// The failure of a text that is refused at the span, or of memory that ran out.
 pub fn failure(
     alloc: Global,
     text: &str,

@@ -1,17 +1,12 @@
-pub mod Again
-pub mod CommentsReadBack
-pub mod CommentsStay
-pub mod Entries
-pub mod FormattedAs
-pub mod Formatting
-pub mod Fronts
+-- Comments and slashdashed items that layout keeps.
 pub mod Keeping
-pub mod KeptAgain
-pub mod KeptItems
-pub mod LaidEntries
+-- What layout makes: one thing, its text, and that it reads back.
+pub mod Formatting
+-- A loop that changes the elements of a list one by one.
 pub mod Loops
-pub mod OneList
-pub mod Places
-pub mod ReadsBack
-pub mod SomeList
+-- Texts of one or four characters, and the formats of lines.
 pub mod Texts
+-- The data of an entry in memory are well formed.
+pub mod Entries
+-- What an entry prints that is laid out.
+pub mod EntryTexts

@@ -14,9 +14,9 @@ use Rattle.kdl_entry.specs.declared.entry.KdlEntryFormat.{KdlEntryFormat}
 use Rattle.kdl_grammar.specs.Tree.{NodeFormat, Nodes}
 use Rattle.kdl_parts.specs.Formats.{node_format_tree, document_format_tree}
 use Rattle.kdl_parts.specs.declared.format.KdlNodeFormat.{KdlNodeFormat}
-use Rattle.kdl_items.proofs.Pushing.{no_bytes}
+use Rattle.kdl_items.proofs.Rewriting.Pushing.{no_bytes}
 use Rattle.kdl_fmt.specs.Formatted.{newline_if_none, in_braces}
-use Rattle.kdl_fmt.specs.Kept.{without_mark}
+use Rattle.kdl_fmt.specs.Kept.{without_bom}
 use Rattle.kdl_fmt.specs.WithComments.{NodeTexts, line_of, content_of, behind}
 
 ascii : (s : Text) → list_all (λ c. nat_lt c 128) s ≡ true → IsAscii s
@@ -72,18 +72,18 @@ pub empty_string : (b : Bool) (s : String Global) → b ≡ (string_len s == 0) 
 empty_string b s e = no_bytes b (string_bytes s) (IsUtf8-string_bytes s) (e ∙ ap (λ (n : ℕ). n == 0) s.bytes.ok.0)
 
 -- the U+FEFF that begins a text
-pub mark_cut : (bs rest : List ℕ) → IsUtf8 bs → bs ≡ encode_utf8 0xFEFF ++ rest → chars rest ≡ without_mark (chars bs)
-mark_cut bs rest u e = sym (ap without_mark (chars_past_char bs rest 0xFEFF u e))
+pub mark_cut : (bs rest : List ℕ) → IsUtf8 bs → bs ≡ encode_utf8 0xFEFF ++ rest → chars rest ≡ without_bom (chars bs)
+mark_cut bs rest u e = sym (ap without_bom (chars_past_char bs rest 0xFEFF u e))
 
-unmarked : (s : Text) → ((t : Text) → s ≡ 0xFEFF ∷ t → ⊥) → s ≡ without_mark s
+unmarked : (s : Text) → ((t : Text) → s ≡ 0xFEFF ∷ t → ⊥) → s ≡ without_bom s
 unmarked [] h = refl
 unmarked (c ∷ s) h = go (c == 0xFEFF) refl
   where
-    go : (b : Bool) → (c == 0xFEFF) ≡ b → c ∷ s ≡ without_mark (c ∷ s)
+    go : (b : Bool) → (c == 0xFEFF) ≡ b → c ∷ s ≡ without_bom (c ∷ s)
     go true e = absurd (h s (ap (λ (d : ℕ). d ∷ s) (eqb-true c 0xFEFF e)))
     go false e = rw e refl
 
-pub no_mark : (bs : List ℕ) → IsUtf8 bs → ((rest : List ℕ) → bs ≢ encode_utf8 0xFEFF ++ rest) → chars bs ≡ without_mark (chars bs)
+pub no_mark : (bs : List ℕ) → IsUtf8 bs → ((rest : List ℕ) → bs ≢ encode_utf8 0xFEFF ++ rest) → chars bs ≡ without_bom (chars bs)
 no_mark bs u h = unmarked (chars bs) (λ t e. h (encode_utf8_all t) (sym (encodes-chars bs u) ∙ ap encode_utf8_all e))
 
 -- a text so many times

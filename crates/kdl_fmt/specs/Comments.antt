@@ -3,14 +3,14 @@ use Rattle.std.specs.Prelude.{true, false, List, [], ◌∷◌, ◌++◌, Option
 use Rattle.kdl_text.specs.Chars.{Text}
 use Rattle.kdl_text.specs.Trivia.{LineComment}
 use Rattle.kdl_text.specs.declared.span.SourceSpan.{SourceSpan}
-use Rattle.kdl_entry.specs.Items.{between}
+use Rattle.kdl_entry.specs.Internal.Items.{between}
 use Rattle.kdl_entry.specs.Tree.{Entry}
 use Rattle.kdl_grammar.specs.Laid.{LaidDocument}
 use Rattle.kdl_grammar.specs.Tree.{DocumentFormat, Head, Node, node, Children, no_children, children, Document, document, Nodes, none, first}
 use Rattle.kdl_items.specs.Items.{Item, comment, line_end, GapItems, before_entry, before_block, PlaceItems}
 use Rattle.kdl_items.specs.Written.{on_line}
 use Rattle.kdl_fmt.specs.Formatted.{or_empty, or_empty_document}
-use Rattle.kdl_fmt.specs.Kept.{last_place, without_mark, entry_leading}
+use Rattle.kdl_fmt.specs.Kept.{last_place, without_bom, entry_leading}
 use Rattle.kdl_fmt.specs.WithComments.{has_block}
 
 -- the items of a text in its place; none where it can't stand there
@@ -46,9 +46,13 @@ mutual
 
   -- before the nodes, in them, and behind them
   pub data DocumentItems : Document → List Item → Type 0 where
-    of_document : {f : Option DocumentFormat} {span : SourceSpan} {ns : Nodes} {a b c : List Item} → ItemsIn (GapItems (without_mark (or_empty_document f).leading)) a → NodesItems ns b
+    of_document : {f : Option DocumentFormat} {span : SourceSpan} {ns : Nodes} {a b c : List Item} → ItemsIn (GapItems (without_bom (or_empty_document f).leading)) a → NodesItems ns b
         → ItemsIn (GapItems (or_empty_document f).trailing) c → DocumentItems (document f span ns) (a ++ b ++ c)
 
 -- the items of the document are, each as it stands on a line, those of the one that is laid in the text
 abbrev pub CommentsStay : Document → Text → Type 0
 CommentsStay d t = (e : Document) (is : List Item) → DocumentItems d is → LaidDocument true e t → DocumentItems e (map on_line is)
+
+-- the same of a node that is printed alone
+abbrev pub NodeCommentsStay : Node → Text → Type 0
+NodeCommentsStay n t = (e : Document) (is : List Item) → NodeItems n is → LaidDocument true e t → DocumentItems e (map on_line is)

@@ -1,8 +1,8 @@
 -- How to lay out a document.
 use Rattle.std.specs.Prelude.{◌≡◌, ℕ, Bool, true, false, ◌∷◌, []}
-use Rattle.std.specs.List.{repeat}
+use Rattle.std.specs.List.{list_all, repeat}
 use Rattle.std.specs.Str.{chars}
-use Rattle.kdl_text.specs.Chars.{Text}
+use Rattle.kdl_text.specs.Chars.{Text, is_space}
 use Rattle.kdl_fmt.specs.declared.config.FormatConfig.{FormatConfig}
 
 -- the level of the outermost nodes, the text that stands before a node once for each level, whether comments are dropped, and whether all entries keep their form
@@ -19,6 +19,10 @@ defaults = record { indent_level = 0; indent = 32 ∷ 32 ∷ 32 ∷ 32 ∷ []; n
 -- the same without comments
 abbrev pub without_comments : Settings
 without_comments = record defaults { no_comments = true }
+
+-- the indent is of spaces
+abbrev pub IndentsBySpaces : Settings → Type 0
+IndentsBySpaces s = list_all is_space s.indent ≡ true
 
 -- comments are left out, and entries are not marked
 abbrev pub IsPlain : Settings → Type 0

@@ -1,24 +1,25 @@
 -- What layout makes of a document where comments are left out: everything is as it was, but formats and spellings.
 use Rattle.std.specs.Prelude.{◌≡◌, ℕ, ◌+◌, Bool, true, false, List, [], ◌∷◌, ◌++◌, map, Option, Some, None, option_map}
 use Rattle.kdl_text.specs.Chars.{Text}
-use Rattle.kdl_entry.specs.Tree.{Entry, unspelled, marked, autoformatted, cleared}
+use Rattle.kdl_entry.specs.Tree.{Entry, unspelled, with_keep, autoformatted, cleared}
 use Rattle.kdl_grammar.specs.Tree.{NodeFormat, DocumentFormat, Head, Node, node, Children, no_children, children, Document, document, Nodes, none, first}
+use Rattle.kdl_parts.specs.Formats.{empty_node_format}
 use Rattle.kdl_fmt.specs.Config.{Settings, indentation}
 use Rattle.kdl_fmt.specs.Kept.{is_kept_format}
 use Rattle.kdl_fmt.specs.Plain.{plain_line}
 
 -- the entry, marked to keep its form where it has a format
-abbrev pub marked_if : Bool → Entry → Entry
-marked_if false e = e
-marked_if true e = record e { format = option_map marked e.format }
+abbrev pub with_keep_if : Bool → Entry → Entry
+with_keep_if false e = e
+with_keep_if true e = record e { format = option_map with_keep e.format }
 
 -- an entry that is laid out
 abbrev pub formatted_entry : Settings → Entry → Entry
-formatted_entry s e = autoformatted (marked_if s.entry_autoformate_keep e)
+formatted_entry s e = autoformatted (with_keep_if s.entry_autoformate_keep e)
 
 -- a format whose texts are empty stands for one that is missing
 abbrev pub or_empty : Option NodeFormat → NodeFormat
-or_empty None = record { leading = []; before_ty_name = []; after_ty_name = []; after_ty = []; before_children = []; before_terminator = []; terminator = []; trailing = [] }
+or_empty None = empty_node_format
 or_empty (Some f) = f
 
 -- the same for the texts around the nodes of a document

@@ -2,7 +2,7 @@
 use Rattle.std.specs.Prelude.{◌≡◌, ℕ, Bool, true, false, ◌||◌, List, [], ◌∷◌, ◌==◌, if◌then◌else◌, Option, Some, None}
 use Rattle.kdl_text.specs.Chars.{Text}
 use Rattle.kdl_text.specs.Trivia.{LineComment}
-use Rattle.kdl_entry.specs.Items.{between}
+use Rattle.kdl_entry.specs.Internal.Items.{between}
 use Rattle.kdl_entry.specs.Tree.{EntryFormat}
 use Rattle.kdl_items.specs.Items.{Item, line_end, GapItems, Place, before_entry, before_block, behind_block, PlaceItems}
 use Rattle.kdl_items.specs.Written.{lines, tail}
@@ -47,9 +47,9 @@ KeptEnd true terminator before end = (before ≡ []) × (end ≡ [])
 KeptEnd false terminator before end = WrittenEnd terminator before end
 
 -- a text without the U+FEFF that begins it
-abbrev pub without_mark : Text → Text
-without_mark [] = []
-without_mark (c ∷ s) = if c == 0xFEFF then s else c ∷ s
+abbrev pub without_bom : Text → Text
+without_bom [] = []
+without_bom (c ∷ s) = if c == 0xFEFF then s else c ∷ s
 
 -- the text before an entry
 abbrev pub entry_leading : Option EntryFormat → Text

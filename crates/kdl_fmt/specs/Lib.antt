@@ -1,8 +1,16 @@
+-- The canonical text of what documents and nodes say, whatever their form.
 pub mod Canonical
+-- The comments in a document, and what a slashdash drops there, in the order of printing.
 pub mod Comments
+-- How to lay out a document.
 pub mod Config
+-- What layout makes of a document where comments are left out: everything is as it was, but formats and spellings.
 pub mod Formatted
+-- What layout keeps of the comments in a place, and of what a slashdash drops there.
 pub mod Kept
+-- The texts around nodes and documents that keep no comments.
 pub mod Plain
+-- Data that memory can hold.
 pub mod WellFormed
+-- What layout makes of a document, with the comments that it keeps.
 pub mod WithComments

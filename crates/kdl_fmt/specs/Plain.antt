@@ -1,7 +1,7 @@
 -- The texts around nodes and documents that keep no comments.
-use Rattle.std.specs.Prelude.{Bool, true, false, [], ◌∷◌, ◌++◌}
+use Rattle.std.specs.Prelude.{Bool, true, false, [], ◌∷◌}
 use Rattle.kdl_text.specs.Chars.{Text}
-use Rattle.kdl_grammar.specs.Tree.{NodeFormat, DocumentFormat}
+use Rattle.kdl_grammar.specs.Tree.{NodeFormat}
 
 -- a node on a line of its own: a text before it, a space before its children, a newline behind it
 abbrev pub plain_line : Text → NodeFormat
@@ -20,11 +20,3 @@ plain_line before = record {
 abbrev pub newline_if : Bool → Text
 newline_if true = 10 ∷ []
 newline_if false = []
-
--- around the nodes of a document, which may be empty
-abbrev pub plain_content : Bool → DocumentFormat
-plain_content is_empty = record { leading = []; trailing = newline_if is_empty }
-
--- the same between braces, with a text before the second one
-abbrev pub plain_block : Bool → Text → DocumentFormat
-plain_block is_empty before = record { leading = 10 ∷ []; trailing = newline_if is_empty ++ before }

@@ -5,8 +5,8 @@ use Rattle.kdl_value.specs.Print.{print_value}
 use Rattle.kdl_entry.specs.Tree.{Entry, empty_format, unspelled, autoformatted}
 use Rattle.kdl_grammar.specs.Tree.{NodeFormat, DocumentFormat, Head, Node, node, Children, no_children, children, Document, document, Nodes, none, first}
 use Rattle.kdl_fmt.specs.Config.{Settings, indentation}
-use Rattle.kdl_fmt.specs.Formatted.{marked_if, or_empty, or_empty_document, newline_if_none, in_braces}
-use Rattle.kdl_fmt.specs.Kept.{KeptLines, KeptTail, KeptBeforeBlock, last_place, KeptEnd, without_mark, KeptBefore}
+use Rattle.kdl_fmt.specs.Formatted.{with_keep_if, or_empty, or_empty_document, newline_if_none, in_braces}
+use Rattle.kdl_fmt.specs.Kept.{KeptLines, KeptTail, KeptBeforeBlock, last_place, KeptEnd, without_bom, KeptBefore}
 
 -- an entry behind what is kept of the text before it, where something is
 abbrev pub behind : Text → Entry → Entry
@@ -15,7 +15,7 @@ behind (c ∷ s) e = record e { format = Some (record empty_format { leading = (
 
 -- the second entry is the first one, laid out
 abbrev pub IsFormattedEntry : Settings → Entry → Entry → Type 0
-IsFormattedEntry s e e' = (t : Text) × KeptBefore s (marked_if s.entry_autoformate_keep e).format t × (e' ≡ behind t (autoformatted (marked_if s.entry_autoformate_keep e)))
+IsFormattedEntry s e e' = (t : Text) × KeptBefore s (with_keep_if s.entry_autoformate_keep e).format t × (e' ≡ behind t (autoformatted (with_keep_if s.entry_autoformate_keep e)))
 
 abbrev pub AreFormattedEntries : Settings → List Entry → List Entry → Type 0
 AreFormattedEntries s [] [] = Unit {0}
@@ -61,7 +61,7 @@ content_of ns before behind = record { leading = before; trailing = behind ++ ne
 
 -- what is kept of them
 pub record ContentTexts (s : Settings) (level : ℕ) (f : DocumentFormat) (before behind : Text) : Type 0 where
-  pub leading : KeptLines s level (without_mark f.leading) before
+  pub leading : KeptLines s level (without_bom f.leading) before
   pub trailing : KeptLines s level f.trailing behind
 
 abbrev pub IsContent : Settings → ℕ → Nodes → DocumentFormat → Option DocumentFormat → Type 0

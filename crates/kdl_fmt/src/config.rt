@@ -76,7 +76,8 @@ impl<'a> FormatConfigBuilder<'a> {
 
     /// Sets the level of the outermost nodes, where there is one given.
     pub fn maybe_indent_level(self, indent_level: Option<usize>) -> Self
-        ensures { settings result.0 ≡ record (settings self.entry.0) { indent_level = unwrap_or indent_level (settings self.entry.0).indent_level } }
+        ensures { settings result.0 ≡ record (settings self.entry.0)
+            { indent_level = unwrap_or indent_level (settings self.entry.0).indent_level } }
     {
         match indent_level {
             Some(indent_level) => self.indent_level(indent_level),
@@ -86,7 +87,8 @@ impl<'a> FormatConfigBuilder<'a> {
 
     /// Sets the level of the outermost nodes.
     pub fn indent_level(mut self, indent_level: usize) -> Self
-        ensures { settings result.0 ≡ record (settings self.entry.0) { indent_level = indent_level } }
+        ensures { settings result.0 ≡ record (settings self.entry.0)
+            { indent_level = indent_level } }
     {
         self.0.indent_level = indent_level;
         self
@@ -96,7 +98,8 @@ impl<'a> FormatConfigBuilder<'a> {
     pub fn maybe_indent<'b>(self, indent: Option<&'b str>) -> FormatConfigBuilder<'b>
     where
         'a: 'b,
-        ensures { settings result.0 ≡ record (settings self.entry.0) { indent = unwrap_or (option_map (λ s. chars s.now) indent.entry) (settings self.entry.0).indent } }
+        ensures { settings result.0 ≡ record (settings self.entry.0)
+            { indent = unwrap_or (option_map (λ s. chars s.now) indent.entry) (settings self.entry.0).indent } }
     {
         match indent {
             Some(indent) => self.indent(indent),
@@ -108,14 +111,16 @@ impl<'a> FormatConfigBuilder<'a> {
     pub fn indent<'b>(self, indent: &'b str) -> FormatConfigBuilder<'b>
     where
         'a: 'b,
-        ensures { settings result.0 ≡ record (settings self.entry.0) { indent = chars indent.now } }
+        ensures { settings result.0 ≡ record (settings self.entry.0)
+            { indent = chars indent.now } }
     {
         FormatConfigBuilder(FormatConfig { indent, ..self.0 })
     }
 
     /// Sets whether comments are left out, where it is given.
     pub fn maybe_no_comments(self, no_comments: Option<bool>) -> Self
-        ensures { settings result.0 ≡ record (settings self.entry.0) { no_comments = unwrap_or no_comments (settings self.entry.0).no_comments } }
+        ensures { settings result.0 ≡ record (settings self.entry.0)
+            { no_comments = unwrap_or no_comments (settings self.entry.0).no_comments } }
     {
         match no_comments {
             Some(no_comments) => self.no_comments(no_comments),
@@ -125,7 +130,8 @@ impl<'a> FormatConfigBuilder<'a> {
 
     /// Sets whether comments are left out.
     pub fn no_comments(mut self, no_comments: bool) -> Self
-        ensures { settings result.0 ≡ record (settings self.entry.0) { no_comments = no_comments } }
+        ensures { settings result.0 ≡ record (settings self.entry.0)
+            { no_comments = no_comments } }
     {
         self.0.no_comments = no_comments;
         self

@@ -3,27 +3,27 @@
 ghost use Rattle.kdl_entry.specs.Tree.{cleared, entry_data, entry_tree, identifier_tree, unspelled};
 ghost use Rattle.kdl_fmt.specs.Config.{indentation, settings};
 ghost use Rattle.kdl_fmt.specs.Formatted.{newline_if_none, or_empty, or_empty_document};
-ghost use Rattle.kdl_fmt.specs.Kept.{KeptBefore, KeptBeforeBlock, KeptEnd, KeptLines, WrittenUnless, last_place, without_mark};
+ghost use Rattle.kdl_fmt.specs.Kept.{KeptBefore, KeptBeforeBlock, KeptEnd, KeptLines, KeptTail, WrittenUnless, last_place, without_bom};
 ghost use Rattle.kdl_fmt.specs.Plain.{newline_if};
 ghost use Rattle.kdl_fmt.specs.WellFormed.{AreWellFormedEntries, IsWellFormedEntry};
 ghost use Rattle.kdl_fmt.specs.WithComments.{AreFormattedEntries, ContentTexts, IsBraced, IsContent, IsFormattedEntry, IsLine, behind};
 ghost use Rattle.kdl_grammar.specs.Tree.{Nodes};
-ghost use Rattle.kdl_items.specs.Items.{GapItems, PlaceItems};
-ghost use Rattle.kdl_items.specs.Reading.{place_view};
-ghost use Rattle.kdl_items.specs.Written.{lines, tail};
-ghost use Rattle.kdl_parts.specs.Formats.{document_format_tree, node_format_tree};
+ghost use Rattle.kdl_items.specs.Items.{GapItems};
+ghost use Rattle.kdl_items.specs.Internal.Reading.{place_view};
+ghost use Rattle.kdl_items.specs.Written.{lines};
+ghost use Rattle.kdl_parts.specs.Formats.{document_texts, node_format_tree, node_texts};
 ghost use Rattle.kdl_text.specs.Chars.{Text};
 ghost use Rattle.kdl_value.specs.Print.{print_value};
 ghost use Rattle.kdl_value.specs.Tree.{text_of, value_tree};
 ghost use Rattle.kdl_value.specs.WellFormed.{IsWellFormed};
 ghost use Rattle.std.specs.Int.{w128};
 ghost use Rattle.std.specs.List.{repeat};
-ghost use Rattle.std.specs.Prelude.{◌≡◌, ◌+◌, ◌++◌, ◌∷◌, [], ℕ, FitsSigned, IfOk, MatchOption, Some, map, option_map};
+ghost use Rattle.std.specs.Prelude.{◌≡◌, ◌+◌, ◌++◌, ◌∷◌, [], ℕ, FitsSigned, IfOk, MatchOption, OnOk, Some, map, option_map};
 ghost use Rattle.std.specs.Str.{chars};
 
 use crate::config::FormatConfig;
 use kdl_entry::{KdlEntry, KdlEntryFormat, KdlIdentifier, KdlValue};
-use kdl_items::{Place, gap_items, line_comment, place_items, push_lines, push_tail};
+use kdl_items::{Place, gap_items, line_comment, place_items, push_lines, push_tail, push_text};
 use kdl_parts::{KdlDocumentFormat, KdlNodeFormat};
 use std::alloc::{AllocError, Global};
 
@@ -43,7 +43,8 @@ pub fn well_formed(value: &KdlValue)
 
 /// Drops the spelling, where there is an identifier.
 pub fn clear_spelling(identifier: &mut Option<KdlIdentifier>)
-    ensures { option_map identifier_tree identifier.new ≡ option_map unspelled (option_map identifier_tree identifier.old) }
+    ensures { option_map identifier_tree identifier.new ≡
+        option_map unspelled (option_map identifier_tree identifier.old) }
 {
     if let Some(identifier) = identifier {
         identifier.clear_format();
@@ -76,13 +77,6 @@ pub fn indentation(alloc: Global, config: &FormatConfig, level: usize) -> Result
     repeated(alloc, config.indent, level)
 }
 
-/// The text behind another.
-fn push_text(text: &mut String, more: &str) -> Result<(), AllocError>
-    ensures { IfOk result (λ _. text_of text.new ≡ text_of text.old ++ chars more.now) }
-{
-    text.push_str(more)
-}
-
 /// What is kept of a text between nodes: a line for each item, behind a text.
 fn kept_lines(
     alloc: Global,
@@ -90,7 +84,8 @@ fn kept_lines(
     before: &str,
     place: &str,
 ) -> Result<String, AllocError>
-    ensures { IfOk result (λ t. WrittenUnless config.now.no_comments (GapItems (chars place.now)) (lines (chars before.now)) (text_of t)) }
+    ensures { IfOk result (λ t. WrittenUnless config.now.no_comments (GapItems (chars place.now))
+        (lines (chars before.now)) (text_of t)) }
 {
     let mut out = String::new(alloc);
     if config.no_comments {
@@ -109,7 +104,8 @@ fn kept_tail(
     place: Place,
     text: &str,
 ) -> Result<String, AllocError>
-    ensures { IfOk result (λ t. WrittenUnless config.now.no_comments (PlaceItems (place_view place) (chars text.now)) tail (text_of t)) }
+    ensures { IfOk result (λ t.
+        KeptTail (settings config.now) (place_view place) (chars text.now) (text_of t)) }
 {
     let mut out = String::new(alloc);
     if config.no_comments {
@@ -123,7 +119,8 @@ fn kept_tail(
 
 /// What is kept of the text before an entry.
 fn kept_before(alloc: Global, config: &FormatConfig, entry: &KdlEntry) -> Result<String, AllocError>
-    ensures { IfOk result (λ t. KeptBefore (settings config.now) (entry_tree entry.now).format (text_of t)) }
+    ensures { IfOk result (λ t.
+        KeptBefore (settings config.now) (entry_tree entry.now).format (text_of t)) }
 {
     match entry.format() {
         Some(format) if !format.autoformat_keep => kept_tail(
@@ -146,7 +143,8 @@ fn printed(alloc: Global, value: &KdlValue) -> Result<String, AllocError>
 /// Puts the entry behind a text that is kept before it, where there is one.
 fn put_behind(alloc: Global, entry: &mut KdlEntry, kept: String) -> Result<(), AllocError>
     ensures same { cleared (entry_tree entry.new) ≡ cleared (entry_tree entry.old) }
-    ensures behind { IfOk result (λ _. entry_tree entry.new ≡ behind (text_of kept) (entry_tree entry.old)) }
+    ensures behind { OnOk result (entry_tree entry.new ≡
+        behind (text_of kept) (entry_tree entry.old)) }
 {
     if kept.is_empty() {
         return Ok(());
@@ -166,7 +164,8 @@ fn lay_out_entry(
     config: &FormatConfig,
 ) -> Result<(), AllocError>
     ensures same { cleared (entry_tree entry.new) ≡ cleared (entry_tree entry.old) }
-    ensures formatted { IfOk result (λ _. IsFormattedEntry (settings config.now) (entry_tree entry.old) (entry_tree entry.new)) }
+    ensures formatted { OnOk result (IsFormattedEntry (settings config.now)
+        (entry_tree entry.old) (entry_tree entry.new)) }
     ensures well_formed { IsWellFormedEntry (entry_data (entry_tree entry.old)) }
 {
     well_formed(entry.value());
@@ -181,9 +180,12 @@ fn lay_out_entry(
 /// Lays out the entries of a node, one by one: the comments before an entry stay, and what a slashdash drops there. It
 /// takes memory for these alone.
 pub fn lay_out_entries(entries: &mut Vec<KdlEntry>, config: &FormatConfig) -> Result<(), AllocError>
-    ensures same { map cleared (map entry_tree entries.new.items) ≡ map cleared (map entry_tree entries.old.items) }
-    ensures formatted { IfOk result (λ _. AreFormattedEntries (settings config.now) (map entry_tree entries.old.items) (map entry_tree entries.new.items)) }
-    ensures well_formed { IfOk result (λ _. AreWellFormedEntries (map entry_data (map entry_tree entries.old.items))) }
+    ensures same { map cleared (map entry_tree entries.new.items) ≡
+        map cleared (map entry_tree entries.old.items) }
+    ensures formatted { OnOk result (AreFormattedEntries (settings config.now)
+        (map entry_tree entries.old.items) (map entry_tree entries.new.items)) }
+    ensures well_formed { OnOk result
+        (AreWellFormedEntries (map entry_data (map entry_tree entries.old.items))) }
 {
     let alloc = *entries.allocator();
     for entry in entries.iter_mut() {
@@ -210,7 +212,9 @@ fn before_children(
     has_block: bool,
     old: String,
 ) -> Result<String, AllocError>
-    ensures { IfOk result (λ s. (t : Text) × KeptBeforeBlock (settings config.now) has_block (text_of old) t × (text_of s ≡ t ++ (32 ∷ []))) }
+    ensures { IfOk result (λ s. (t : Text)
+        × KeptBeforeBlock (settings config.now) has_block (text_of old) t
+        × (text_of s ≡ t ++ (32 ∷ []))) }
 {
     let kept = if has_block {
         kept_tail(alloc, config, Place::BeforeBlock, old.as_str())?
@@ -233,7 +237,9 @@ fn last_place(has_block: bool) -> Place
 
 /// What is kept of a terminator: the line comment that it is, without its newline.
 fn kept_end<'a>(config: &FormatConfig, terminator: &'a str) -> Option<&'a str>
-    ensures { MatchOption result (KeptEnd config.now.no_comments (chars terminator.now) [] []) (λ comment. KeptEnd config.now.no_comments (chars terminator.now) (32 ∷ []) (chars comment.now)) }
+    ensures { MatchOption result (KeptEnd config.now.no_comments (chars terminator.now) [] [])
+        (λ comment. KeptEnd config.now.no_comments (chars terminator.now) (32 ∷ [])
+        (chars comment.now)) }
 {
     if config.no_comments {
         return None;
@@ -249,7 +255,8 @@ fn line_end(
     mut last: String,
     terminator: String,
 ) -> Result<(String, String), AllocError>
-    ensures { IfOk result (λ (l, e). (space : Text) × (comment : Text) × KeptEnd config.now.no_comments (text_of terminator) space comment
+    ensures { IfOk result (λ (l, e). (space : Text) × (comment : Text)
+        × KeptEnd config.now.no_comments (text_of terminator) space comment
         × (text_of l ≡ text_of last ++ space) × (text_of e ≡ comment ++ (10 ∷ []))) }
 {
     let mut end = String::new(alloc);
@@ -269,7 +276,10 @@ fn line_format(
     before: &str,
     has_block: bool,
 ) -> Result<KdlNodeFormat, AllocError>
-    ensures { IfOk result (λ f. (level : ℕ) → chars before.now ≡ indentation (settings config.now) level → IsLine (settings config.now) level has_block (node_format_tree old) (Some (node_format_tree f))) }
+    ensures { IfOk result (λ f. (level : ℕ)
+        → chars before.now ≡ indentation (settings config.now) level
+        → IsLine (settings config.now) level has_block (node_format_tree old)
+        (Some (node_format_tree f))) }
 {
     let mut format = KdlNodeFormat::new(alloc);
     let kept = kept_lines(alloc, config, before, old.leading.as_str())?;
@@ -290,7 +300,7 @@ fn line_format(
 
 /// The format that is there, taken out, or one of empty texts.
 fn taken(format: &mut Option<KdlNodeFormat>, alloc: Global) -> KdlNodeFormat
-    ensures { node_format_tree result ≡ or_empty (option_map node_format_tree format.old) }
+    ensures { node_format_tree result ≡ or_empty (node_texts format.old) }
 {
     match format.take() {
         Some(old) => old,
@@ -307,8 +317,9 @@ pub fn lay_out_line(
     before: &str,
     has_block: bool,
 ) -> Result<(), AllocError>
-    ensures { IfOk result (λ _. (level : ℕ) → chars before.now ≡ indentation (settings config.now) level
-        → IsLine (settings config.now) level has_block (or_empty (option_map node_format_tree format.old)) (option_map node_format_tree format.new)) }
+    ensures { OnOk result ((level : ℕ) → chars before.now ≡ indentation (settings config.now) level
+        → IsLine (settings config.now) level has_block
+        (or_empty (node_texts format.old)) (node_texts format.new)) }
 {
     let old = taken(format, alloc);
     let line = line_format(old, alloc, config, before, has_block)?;
@@ -318,7 +329,7 @@ pub fn lay_out_line(
 
 /// A newline behind a text, where it is asked for.
 fn newline_if(text: &mut String, newline: bool) -> Result<(), AllocError>
-    ensures { IfOk result (λ _. text_of text.new ≡ text_of text.old ++ newline_if newline) }
+    ensures { OnOk result (text_of text.new ≡ text_of text.old ++ newline_if newline) }
 {
     if newline {
         push_text(text, "\n")?;
@@ -327,8 +338,8 @@ fn newline_if(text: &mut String, newline: bool) -> Result<(), AllocError>
 }
 
 /// The text without the U+FEFF that may begin it.
-fn without_mark(text: &str) -> &str
-    ensures { chars result.now ≡ without_mark (chars text.now) }
+fn without_bom(text: &str) -> &str
+    ensures { chars result.now ≡ without_bom (chars text.now) }
 {
     match text.strip_prefix('\u{feff}') {
         Some(rest) => rest,
@@ -336,14 +347,15 @@ fn without_mark(text: &str) -> &str
     }
 }
 
-/// What is kept of a text between nodes at a level. Where that is nothing, the level counts for nothing.
+/// What is kept of a text between nodes at a level. Where that is nothing, the level does not matter.
 fn kept_at(
     alloc: Global,
     config: &FormatConfig,
     level: usize,
     place: &str,
 ) -> Result<String, AllocError>
-    ensures { IfOk result (λ t. KeptLines (settings config.now) level (chars place.now) (text_of t)) }
+    ensures { IfOk result (λ t.
+        KeptLines (settings config.now) level (chars place.now) (text_of t)) }
 {
     let mut out = String::new(alloc);
     if config.no_comments {
@@ -365,11 +377,12 @@ fn kept_content(
     format: &Option<KdlDocumentFormat>,
     level: usize,
 ) -> Result<(String, String), AllocError>
-    ensures { IfOk result (λ (a, b). ContentTexts (settings config.now) level (or_empty_document (option_map document_format_tree format.now)) (text_of a) (text_of b)) }
+    ensures { IfOk result (λ (a, b). ContentTexts (settings config.now) level
+        (or_empty_document (document_texts format.now)) (text_of a) (text_of b)) }
 {
     match format {
         Some(format) => {
-            let leading = kept_at(alloc, config, level, without_mark(format.leading.as_str()))?;
+            let leading = kept_at(alloc, config, level, without_bom(format.leading.as_str()))?;
             let trailing = kept_at(alloc, config, level, format.trailing.as_str())?;
             Ok((leading, trailing))
         }
@@ -386,8 +399,9 @@ pub fn lay_out_content(
     level: usize,
     is_empty: bool,
 ) -> Result<(), AllocError>
-    ensures { IfOk result (λ _. (ns : Nodes) → newline_if is_empty ≡ newline_if_none ns
-        → IsContent (settings config.now) level ns (or_empty_document (option_map document_format_tree format.old)) (option_map document_format_tree format.new)) }
+    ensures { OnOk result ((ns : Nodes) → newline_if is_empty ≡ newline_if_none ns
+        → IsContent (settings config.now) level ns
+        (or_empty_document (document_texts format.old)) (document_texts format.new)) }
 {
     let (leading, mut trailing) = kept_content(alloc, config, format, level)?;
     newline_if(&mut trailing, is_empty)?;
@@ -405,8 +419,11 @@ pub fn lay_out_braces(
     before: &str,
     is_empty: bool,
 ) -> Result<(), AllocError>
-    ensures { IfOk result (λ _. (level : ℕ) (ns : Nodes) → inner ≡ level + 1 → chars before.now ≡ indentation (settings config.now) level
-        → newline_if is_empty ≡ newline_if_none ns → IsBraced (settings config.now) level ns (or_empty_document (option_map document_format_tree format.old)) (option_map document_format_tree format.new)) }
+    ensures { OnOk result ((level : ℕ) (ns : Nodes) → inner ≡ level + 1
+        → chars before.now ≡ indentation (settings config.now) level
+        → newline_if is_empty ≡ newline_if_none ns
+        → IsBraced (settings config.now) level ns
+        (or_empty_document (document_texts format.old)) (document_texts format.new)) }
 {
     let (kept, mut trailing) = kept_content(alloc, config, format, inner)?;
     let mut leading = String::new(alloc);

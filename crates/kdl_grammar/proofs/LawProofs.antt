@@ -4,11 +4,11 @@ use Rattle.kdl_text.specs.Chars.{Text}
 use Rattle.kdl_grammar.specs.Data as data'
 use Rattle.kdl_grammar.specs.Grammar.{last_gap, node_then, IsDocument, IsNodeText, node_text}
 use Rattle.kdl_grammar.specs.Laws.{OneDocument, OneNode, IsLexed, OneAnswer, AnswersDocuments, AnswersAreLaid, LaidIsDerived, LaidNodeIsDerived, NodesAreLaid, FormerIsKept}
-use Rattle.kdl_grammar.proofs.Complete.{lines_gap, built_node}
-use Rattle.kdl_grammar.proofs.Derivation.{document_of, node_text_of}
-use Rattle.kdl_grammar.proofs.Erased as erased
-use Rattle.kdl_grammar.proofs.LaidPrinted.{printed, node_text_printed}
-use Rattle.kdl_grammar.proofs.Widening.{wider, wider_node}
+use Rattle.kdl_grammar.proofs.Reading.Complete.{lines_gap, built_node}
+use Rattle.kdl_grammar.proofs.Laying.LaidIsDerived.{document_of, node_text_of}
+use Rattle.kdl_grammar.proofs.Reading.Erased as erased
+use Rattle.kdl_grammar.proofs.Laying.LaidPrints.{printed, node_text_printed}
+use Rattle.kdl_grammar.proofs.Moving.FormerIsPresent.{wider, wider_node}
 
 pub one_document : OneDocument
 one_document wide t x y i j = erased.one_document t x y (wider wide i) (wider wide j)

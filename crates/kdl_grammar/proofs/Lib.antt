@@ -1,15 +1,10 @@
-pub mod Complete
-pub mod Control
-pub mod Derivation
-pub mod Ends
-pub mod Erased
-pub mod Examples
-pub mod Faults
-pub mod Formed
-pub mod LaidPrinted
-pub mod LawProofs
+-- The machine on tokens, and the grammar: each answers what the other does.
+pub mod Reading
+-- Documents laid in a text: derived, printed, laid again.
+pub mod Laying
+-- Pieces before another rest, and the ends of pieces.
 pub mod Moving
-pub mod Relaid
-pub mod Sound
-pub mod ValueExamples
-pub mod Widening
+-- Worked examples of the grammar.
+pub mod Examples
+-- The laws, put together.
+pub mod LawProofs

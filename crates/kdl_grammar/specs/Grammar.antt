@@ -26,7 +26,7 @@ mutual
     named : {s t u r n : Text} {y : Option Text} {es : List Entry} {k : Children} → MaybeType wide s t y → IsString wide t u n → AfterName wide u r es k
         → IsNode wide s r (node y n es k)
 
-  -- behind a name or an entry: entries, and those that count for nothing, and then blocks
+  -- behind a name or an entry: entries, and those that are slashdashed, and then blocks
   pub data AfterName (wide : Bool) : Text → Text → List Entry → Children → Type 0 where
     kept_entry : {s t u r : Text} {e : Entry} {es : List Entry} {k : Children} → Plus NodeSpace s t → IsEntry wide t u e → AfterName wide u r es k
         → AfterName wide s r (e ∷ es) k
@@ -34,19 +34,19 @@ mutual
         → AfterName wide s r es k
     blocks : {s r : Text} {k : Children} → Blocks wide false s r k → AfterName wide s r [] k
 
-  -- blocks that count for nothing, a block or none, and what follows it; braced: a `}` stands directly before
+  -- blocks that are slashdashed, a block or none, and what follows it; braced: a `}` stands directly before
   pub data Blocks (wide : Bool) : Bool → Text → Text → Children → Type 0 where
     dropped_block : {braced : Bool} {s t u v r : Text} {xs : Nodes} {k : Children} → Spaces (wide || braced) s t → Slashdash t u → IsBlock wide u v xs
         → Blocks wide true v r k → Blocks wide braced s r k
     block : {braced : Bool} {s t u r : Text} {xs : Nodes} → Star NodeSpace s t → IsBlock wide t u xs → AfterBlock wide u r → Blocks wide braced s r (children xs)
     no_block : {braced : Bool} {s r : Text} → Star NodeSpace s r → Blocks wide braced s r no_children
 
-  -- behind the node's block: blocks that count for nothing, and node-spaces
+  -- behind the node's block: blocks that are slashdashed, and node-spaces
   pub data AfterBlock (wide : Bool) : Text → Text → Type 0 where
     dropped_later : {s t u v r : Text} {xs : Nodes} → Star NodeSpace s t → Slashdash t u → IsBlock wide u v xs → AfterBlock wide v r → AfterBlock wide s r
     no_more : {s r : Text} → Star NodeSpace s r → AfterBlock wide s r
 
-  -- line-spaces, and nodes that count for nothing
+  -- line-spaces, and nodes that are slashdashed
   pub data Gap (wide : Bool) : Text → Text → Type 0 where
     no_gap : {r : Text} → Gap wide r r
     line_space : {s t r : Text} → LineSpace s t → Gap wide t r → Gap wide s r

@@ -75,18 +75,18 @@ mutual
         → Spanned exact at (content_span (span_of whole r r) (first x xs)) → LaidContent exact whole (document (Some (record { leading = []; trailing = trailing })) at (first x xs)) s r
 
 -- U+FEFF before all
-abbrev pub marked_format : Option DocumentFormat → DocumentFormat
-marked_format None = record { leading = 0xFEFF ∷ []; trailing = [] }
-marked_format (Some f) = record f { leading = 0xFEFF ∷ f.leading }
+abbrev pub bom_format : Option DocumentFormat → DocumentFormat
+bom_format None = record { leading = 0xFEFF ∷ []; trailing = [] }
+bom_format (Some f) = record f { leading = 0xFEFF ∷ f.leading }
 
 -- the document with U+FEFF before its leading text
-abbrev pub with_mark : Document → Document
-with_mark (document f at ns) = document (Some (marked_format f)) at ns
+abbrev pub with_bom : Document → Document
+with_bom (document f at ns) = document (Some (bom_format f)) at ns
 
 -- a document that is the whole text: its content, and before it U+FEFF or nothing
 pub data LaidDocument (exact : Bool) : Document → Text → Type 0 where
   unmarked : {d : Document} {t : Text} → LaidContent exact t d t [] → LaidDocument exact d t
-  marked : {d : Document} {t : Text} → LaidContent exact (0xFEFF ∷ t) d t [] → LaidDocument exact (with_mark d) (0xFEFF ∷ t)
+  marked : {d : Document} {t : Text} → LaidContent exact (0xFEFF ∷ t) d t [] → LaidDocument exact (with_bom d) (0xFEFF ∷ t)
 
 -- a node that is the whole text, which is its span, and line-spaces behind it
 pub data LaidNodeText (exact : Bool) (whole : Text) : Node → Type 0 where

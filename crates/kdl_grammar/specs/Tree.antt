@@ -61,9 +61,9 @@ abbrev mutual
   nodes_data (first n ns) = data'.first (node_data n) (nodes_data ns)
 
 -- the nodes of a list
-abbrev pub nodes_of : List Node → Nodes
-nodes_of [] = none
-nodes_of (n ∷ ns) = first n (nodes_of ns)
+abbrev pub listed_nodes : List Node → Nodes
+listed_nodes [] = none
+listed_nodes (n ∷ ns) = first n (listed_nodes ns)
 
 -- the nodes ns, and ms behind them
 abbrev pub join : Nodes → Nodes → Nodes

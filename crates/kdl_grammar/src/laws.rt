@@ -39,13 +39,13 @@ pub fn answers_are_laid()
 {}
 
 /// At most one document is laid in a text with the spans of its pieces.
-#[tactic(auto, using(crate::proofs::Complete::OneLaid::one_laid_document))]
+#[tactic(auto, using(crate::proofs::Reading::Complete::OneLaid::one_laid_document))]
 pub fn one_laid_document()
     ensures { OneLaidDocument }
 {}
 
 /// At most one node is laid as a whole text with the spans of its pieces.
-#[tactic(auto, using(crate::proofs::Complete::OneLaid::one_laid_node))]
+#[tactic(auto, using(crate::proofs::Reading::Complete::OneLaid::one_laid_node))]
 pub fn one_laid_node()
     ensures { OneLaidNode }
 {}
@@ -77,7 +77,7 @@ pub fn former_is_kept()
 
 /// A document that is laid in its own printed text, with the spellings and the forms that it prints, reads back: the
 /// text is a document with its data.
-#[tactic(auto, using(crate::proofs::Formed::reads_back))]
+#[tactic(auto, using(crate::proofs::Laying::FormedPrints::reads_back))]
 pub fn reads_back()
     ensures { ReadsBack }
 {}
@@ -85,7 +85,7 @@ pub fn reads_back()
 /// Where a document is laid, each document that differs from it, spans aside, in its nodes' entries alone, at each node
 /// some of its own entries and entries without format and spelling in any order, reads back from the text that it
 /// prints, and is laid there with the spellings and the forms that it prints.
-#[tactic(auto, using(crate::proofs::Formed::edited_is_laid))]
+#[tactic(auto, using(crate::proofs::Laying::FormedPrints::edited_is_laid))]
 pub fn edited_is_laid()
     ensures { EditedIsLaid }
 {}

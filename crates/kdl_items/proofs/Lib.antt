@@ -1,17 +1,6 @@
-pub mod BeforeNewlines
-pub mod Cuts
-pub mod DroppedNodes
-pub mod DroppedParts
-pub mod DroppedPieces
-pub mod ItemsDet
-pub mod LastCharacters
-pub mod MachineMoves
-pub mod PartTurns
-pub mod PassingTurns
-pub mod Paths
-pub mod PlacesAgain
-pub mod PlacesRead
-pub mod Pushing
-pub mod SpacesRead
-pub mod Trivia
-pub mod WrittenAgain
+-- What a slashdash drops.
+pub mod Dropping
+-- The items of a text: one list at most, and the readers that make it.
+pub mod Listing
+-- Items that layout wrote are the same items again.
+pub mod Rewriting

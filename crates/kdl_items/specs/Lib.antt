@@ -1,6 +1,6 @@
+-- The comments in a text around nodes or entries, and what a slashdash drops there, in order. Nothing inside what is dropped is an item.
 pub mod Items
-pub mod Machine
-pub mod Passed
-pub mod Passing
-pub mod Reading
+-- How items are written when a document is laid out.
 pub mod Written
+-- What only proofs and contracts inside the crates need.
+pub mod Internal

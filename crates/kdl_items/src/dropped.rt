@@ -1,13 +1,13 @@
 //! What a slashdash drops.
 
-ghost use Rattle.kdl_entry.specs.Handed.{Cuts, kind_view};
-ghost use Rattle.kdl_entry.specs.Tokens.{newline, semicolon, space};
-ghost use Rattle.kdl_grammar.proofs.Control.{at, finish};
-ghost use Rattle.kdl_items.specs.Passing.{follows_word, is_word, mark_in};
-ghost use Rattle.kdl_items.specs.Items.{GapItems, ItemEnd};
-ghost use Rattle.kdl_items.specs.Machine.{machine_view, phase_view};
-ghost use Rattle.kdl_items.specs.Passed.{Before, BehindPart, NodeAnswers, PartAnswers, PlaceTakes, of_spaces};
-ghost use Rattle.kdl_items.specs.Reading.{Takes, items_view, place_view};
+ghost use Rattle.kdl_entry.specs.Internal.Handed.{Cuts, kind_view};
+ghost use Rattle.kdl_entry.specs.Internal.Tokens.{newline, semicolon, space};
+ghost use Rattle.kdl_grammar.proofs.Reading.Control.{at, finish};
+ghost use Rattle.kdl_items.specs.Internal.Passing.{follows_word, is_word, mark_in};
+ghost use Rattle.kdl_items.specs.Items.{ItemEnd};
+ghost use Rattle.kdl_items.specs.Internal.Machine.{machine_view, phase_view};
+ghost use Rattle.kdl_items.specs.Internal.Passed.{Before, BehindPart, AnswersDroppedNode, AnswersDroppedPart, PlaceTakesHeld, of_spaces};
+ghost use Rattle.kdl_items.specs.Internal.Reading.{TakesHeld, place_view};
 ghost use Rattle.kdl_text.specs.Chars.{Text};
 ghost use Rattle.std.specs.Prelude.{◌≡◌, ◌⊎◌, ◌∷◌, IfOk, MatchOption, [], option_map, true, false, not, ◌&&◌, if◌then◌else◌};
 ghost use Rattle.std.specs.Str.{chars};
@@ -49,7 +49,8 @@ fn follows_word(kind: &TokenKind) -> bool
 
 /// Whether a string that ends what is dropped stands before the token.
 fn ends_word(machine: &Machine, kind: &TokenKind) -> bool
-    ensures { result ≡ (is_word (machine_view machine.now) && not (follows_word (kind_view kind.now))) }
+    ensures { result ≡
+        (is_word (machine_view machine.now) && not (follows_word (kind_view kind.now))) }
 {
     machine.is_word() && !follows_word(kind)
 }
@@ -67,10 +68,13 @@ fn end_behind(token: &Token, last: usize) -> usize
 
 /// The end of a node whose terminator is this token: behind a `;`, or before the newline of a line.
 fn node_end(text: &str, token: &Token) -> NodeEnd
-    requires at { Before (chars text.now) token.now.start.at token.now.start.rest × Before (chars text.now) token.now.end.at token.now.end.rest }
+    requires at { Before (chars text.now) token.now.start.at token.now.start.rest
+        × Before (chars text.now) token.now.end.at token.now.end.rest }
     requires token { Cuts token.now.start.rest (kind_view token.now.kind) token.now.end.rest }
     requires ends { (kind_view token.now.kind ≡ newline) ⊎ (kind_view token.now.kind ≡ semicolon) }
-    ensures { (i : Text) × ItemEnd token.now.start.rest token.now.end.rest i × Before (chars text.now) result.item i × Before (chars text.now) result.behind token.now.end.rest }
+    ensures { (i : Text) × ItemEnd token.now.start.rest token.now.end.rest i
+        × Before (chars text.now) result.item i
+        × Before (chars text.now) result.behind token.now.end.rest }
 {
     let behind = token.end.at();
     if let TokenKind::Semicolon = token.kind {
@@ -89,7 +93,8 @@ fn node_end(text: &str, token: &Token) -> NodeEnd
 
 /// The end of a node where the text ends: behind it stand node-spaces. None where the node can't end.
 fn last_end(machine: &Machine, last: usize) -> Option<NodeEnd>
-    ensures { MatchOption result (finish (machine_view machine.now) ≡ false) (λ e. (finish (machine_view machine.now) ≡ true) × (e.item ≡ last) × (e.behind ≡ last)) }
+    ensures { MatchOption result (finish (machine_view machine.now) ≡ false)
+        (λ e. (finish (machine_view machine.now) ≡ true) × (e.item ≡ last) × (e.behind ≡ last)) }
 {
     if machine.may_end() {
         Some(NodeEnd {
@@ -103,7 +108,8 @@ fn last_end(machine: &Machine, last: usize) -> Option<NodeEnd>
 
 /// The end of an entry that is a string, where it may end.
 fn word_end(machine: &Machine, last: usize) -> Option<PartEnd>
-    ensures { MatchOption result (is_word (machine_view machine.now) ≡ false) (λ e. (is_word (machine_view machine.now) ≡ true) × (e.at ≡ last) × (e.is_block ≡ false)) }
+    ensures { MatchOption result (is_word (machine_view machine.now) ≡ false)
+        (λ e. (is_word (machine_view machine.now) ≡ true) × (e.at ≡ last) × (e.is_block ≡ false)) }
 {
     if machine.is_word() {
         Some(PartEnd {
@@ -117,7 +123,7 @@ fn word_end(machine: &Machine, last: usize) -> Option<PartEnd>
 
 /// Where the node ends that a `/-` before the text drops; none where none does.
 fn pass_node(alloc: Global, text: &str) -> Result<Option<NodeEnd>, AllocError>
-    ensures { IfOk result (λ o. NodeAnswers (chars text.now) o) }
+    ensures { IfOk result (λ o. AnswersDroppedNode (chars text.now) o) }
 {
     let mut lexer = Lexer::new(text, Steps::new());
     let mut machine = Machine::new(alloc, Phase::Marked);
@@ -147,7 +153,7 @@ pub(crate) fn dropped_node<'a>(
     items: &mut Vec<Item<'a>>,
 ) -> Result<Option<&'a str>, AllocError>
     requires { (t : Text) × (chars text.now ≡ 47 ∷ 45 ∷ t) }
-    ensures { IfOk result (λ o. Takes GapItems GapItems (chars text.now) (option_map (λ r. chars r.now) o) (items_view items.old.items) (items_view items.new.items)) }
+    ensures { IfOk result (λ o. TakesHeld (chars text.now) o items.old.items items.new.items) }
 {
     let (_, behind) = cut(text, 2);
     let Some(end) = pass_node(alloc, behind)? else {
@@ -184,7 +190,7 @@ fn behind_part(place: Place, is_block: bool) -> Option<Place>
 
 /// Where the entry or block ends that a `/-` before the text drops in the place; none where none does.
 fn pass_part(alloc: Global, place: Place, text: &str) -> Result<Option<PartEnd>, AllocError>
-    ensures { IfOk result (λ o. PartAnswers (place_view place) (chars text.now) o) }
+    ensures { IfOk result (λ o. AnswersDroppedPart (place_view place) (chars text.now) o) }
 {
     let mut lexer = Lexer::new(text, Steps::new());
     let mut machine = Machine::new(alloc, mark_phase(place));
@@ -219,7 +225,8 @@ pub(crate) fn dropped_part<'a>(
     items: &mut Vec<Item<'a>>,
 ) -> Result<Option<(Place, &'a str)>, AllocError>
     requires { (t : Text) × (chars text.now ≡ 47 ∷ 45 ∷ t) }
-    ensures { IfOk result (λ o. PlaceTakes (place_view place) (chars text.now) (option_map (λ (q, r). (place_view q, chars r.now)) o) (items_view items.old.items) (items_view items.new.items)) }
+    ensures { IfOk result (λ o.
+        PlaceTakesHeld place (chars text.now) o items.old.items items.new.items) }
 {
     let (_, behind) = cut(text, 2);
     let Some(end) = pass_part(alloc, place, behind)? else {

@@ -14,4 +14,4 @@ mod written;
 pub use item::{Item, Place};
 pub use places::{gap_items, place_items};
 pub use terminator::line_comment;
-pub use written::{push_lines, push_tail};
+pub use written::{push_lines, push_tail, push_text};

@@ -1,9 +1,9 @@
 //! Which tokens may come behind a slashdash, up to the end of what it drops. Nothing is built.
 
-ghost use Rattle.kdl_entry.specs.Handed.{kind_view};
-ghost use Rattle.kdl_grammar.proofs.Control as control;
-ghost use Rattle.kdl_items.specs.Passing.{is_block, is_gap, is_over, is_word};
-ghost use Rattle.kdl_items.specs.Machine.{frame_view, machine_view, move_view, phase_view, spot_view};
+ghost use Rattle.kdl_entry.specs.Internal.Handed.{kind_view};
+ghost use Rattle.kdl_grammar.proofs.Reading.Control as control;
+ghost use Rattle.kdl_items.specs.Internal.Passing.{is_block, is_gap, is_over, is_word};
+ghost use Rattle.kdl_items.specs.Internal.Machine.{Moves, frame_view, machine_view, move_view, phase_view, spot_view};
 ghost use Rattle.kdl_items.specs.declared.machine.Phase.TheVariants.{InNode};
 ghost use Rattle.std.specs.Prelude.{◌≡◌, ◌∷◌, IfOk, List, MatchOption, Some, None, [], true, false, if◌then◌else◌};
 
@@ -54,7 +54,7 @@ enum Move {
 
 /// Between nodes.
 fn in_gap(kind: &TokenKind) -> Move
-    ensures { (fs : List control.Frame) → control.step (control.at control.gap fs) (kind_view kind.now) ≡ move_view result fs }
+    ensures { Moves control.gap (kind_view kind.now) result }
 {
     match kind {
         TokenKind::Space | TokenKind::Newline => Move::To(Phase::Gap),
@@ -68,7 +68,7 @@ fn in_gap(kind: &TokenKind) -> Move
 
 /// Between nodes, behind `/-`.
 fn in_marked(kind: &TokenKind) -> Move
-    ensures { (fs : List control.Frame) → control.step (control.at control.marked fs) (kind_view kind.now) ≡ move_view result fs }
+    ensures { Moves control.marked (kind_view kind.now) result }
 {
     match kind {
         TokenKind::Space | TokenKind::Newline => Move::To(Phase::Marked),
@@ -80,7 +80,7 @@ fn in_marked(kind: &TokenKind) -> Move
 
 /// Behind the `(` of a type.
 fn in_type(valued: bool, kind: &TokenKind) -> Move
-    ensures { (fs : List control.Frame) → control.step (control.at (control.type_open valued) fs) (kind_view kind.now) ≡ move_view result fs }
+    ensures { Moves (control.type_open valued) (kind_view kind.now) result }
 {
     match kind {
         TokenKind::Space => Move::To(Phase::TypeOpen(valued)),
@@ -91,7 +91,7 @@ fn in_type(valued: bool, kind: &TokenKind) -> Move
 
 /// Behind the name of a type.
 fn behind_type_name(valued: bool, kind: &TokenKind) -> Move
-    ensures { (fs : List control.Frame) → control.step (control.at (control.type_name valued) fs) (kind_view kind.now) ≡ move_view result fs }
+    ensures { Moves (control.type_name valued) (kind_view kind.now) result }
 {
     match kind {
         TokenKind::Space => Move::To(Phase::TypeName(valued)),
@@ -102,7 +102,7 @@ fn behind_type_name(valued: bool, kind: &TokenKind) -> Move
 
 /// Behind the `)` of a type.
 fn behind_type(valued: bool, kind: &TokenKind) -> Move
-    ensures { (fs : List control.Frame) → control.step (control.at (control.type_done valued) fs) (kind_view kind.now) ≡ move_view result fs }
+    ensures { Moves (control.type_done valued) (kind_view kind.now) result }
 {
     match kind {
         TokenKind::Space => Move::To(Phase::TypeDone(valued)),
@@ -114,7 +114,7 @@ fn behind_type(valued: bool, kind: &TokenKind) -> Move
 
 /// Behind the `=` of a property.
 fn in_property(kind: &TokenKind) -> Move
-    ensures { (fs : List control.Frame) → control.step (control.at control.property fs) (kind_view kind.now) ≡ move_view result fs }
+    ensures { Moves control.property (kind_view kind.now) result }
 {
     match kind {
         TokenKind::Space => Move::To(Phase::Property),
@@ -136,7 +136,8 @@ fn spaced(spot: Spot) -> Spot
 
 /// A string, a value or a type behind spaces in a node.
 fn entry(spot: Spot, phase: Phase) -> Move
-    ensures { (fs : List control.Frame) → move_view result fs ≡ control.from_spaced (spot_view spot) (control.at (phase_view phase) fs) }
+    ensures { (fs : List control.Frame) → move_view result fs ≡
+        control.from_spaced (spot_view spot) (control.at (phase_view phase) fs) }
 {
     match spot {
         Spot::Spaced(_) => Move::To(phase),
@@ -146,7 +147,7 @@ fn entry(spot: Spot, phase: Phase) -> Move
 
 /// In a node, before its block.
 fn in_node(spot: Spot, kind: &TokenKind) -> Move
-    ensures { (fs : List control.Frame) → control.step (control.at (phase_view (InNode spot)) fs) (kind_view kind.now) ≡ move_view result fs }
+    ensures { Moves (phase_view (InNode spot)) (kind_view kind.now) result }
 {
     match kind {
         TokenKind::Space => Move::To(Phase::InNode(spaced(spot))),
@@ -170,7 +171,7 @@ fn in_node(spot: Spot, kind: &TokenKind) -> Move
 
 /// Behind `/-` in a node, where an entry or a block may follow.
 fn in_entry_mark(kind: &TokenKind) -> Move
-    ensures { (fs : List control.Frame) → control.step (control.at control.entry_mark fs) (kind_view kind.now) ≡ move_view result fs }
+    ensures { Moves control.entry_mark (kind_view kind.now) result }
 {
     match kind {
         TokenKind::Space | TokenKind::Newline => Move::To(Phase::EntryMark),
@@ -184,7 +185,7 @@ fn in_entry_mark(kind: &TokenKind) -> Move
 
 /// Behind `/-` in a node, where a block may follow.
 fn in_block_mark(kind: &TokenKind) -> Move
-    ensures { (fs : List control.Frame) → control.step (control.at control.block_mark fs) (kind_view kind.now) ≡ move_view result fs }
+    ensures { Moves control.block_mark (kind_view kind.now) result }
 {
     match kind {
         TokenKind::Space | TokenKind::Newline => Move::To(Phase::BlockMark),
@@ -195,7 +196,7 @@ fn in_block_mark(kind: &TokenKind) -> Move
 
 /// Behind a node's block.
 fn in_kept(kind: &TokenKind) -> Move
-    ensures { (fs : List control.Frame) → control.step (control.at control.kept fs) (kind_view kind.now) ≡ move_view result fs }
+    ensures { Moves control.kept (kind_view kind.now) result }
 {
     match kind {
         TokenKind::Space => Move::To(Phase::Kept),
@@ -208,7 +209,7 @@ fn in_kept(kind: &TokenKind) -> Move
 
 /// Behind `/-` there.
 fn in_kept_mark(kind: &TokenKind) -> Move
-    ensures { (fs : List control.Frame) → control.step (control.at control.kept_mark fs) (kind_view kind.now) ≡ move_view result fs }
+    ensures { Moves control.kept_mark (kind_view kind.now) result }
 {
     match kind {
         TokenKind::Space | TokenKind::Newline => Move::To(Phase::KeptMark),
@@ -219,7 +220,7 @@ fn in_kept_mark(kind: &TokenKind) -> Move
 
 /// What the token does in a phase.
 fn token_move(phase: Phase, kind: &TokenKind) -> Move
-    ensures { (fs : List control.Frame) → control.step (control.at (phase_view phase) fs) (kind_view kind.now) ≡ move_view result fs }
+    ensures { Moves (phase_view phase) (kind_view kind.now) result }
 {
     match phase {
         Phase::Gap => in_gap(kind),
@@ -248,7 +249,8 @@ fn may_be_key(spot: Spot) -> bool
 
 /// Behind the block.
 fn behind_block(frame: Frame) -> Phase
-    ensures { (fs : List control.Frame) → control.popped (frame_view frame ∷ fs) ≡ Some (control.at (phase_view result) fs) }
+    ensures { (fs : List control.Frame) → control.popped (frame_view frame ∷ fs) ≡
+        Some (control.at (phase_view result) fs) }
 {
     match frame {
         Frame::Dropped => Phase::InNode(Spot::Later),
@@ -309,7 +311,9 @@ impl Machine {
 
     /// Whether an entry or a block ends directly before, and whether it is a block.
     pub(crate) fn over(&self) -> Option<bool>
-        ensures { MatchOption result (is_over (machine_view self.now) ≡ false) (λ b. (is_over (machine_view self.now) ≡ true) × (b ≡ is_block (machine_view self.now))) }
+        ensures { MatchOption result (is_over (machine_view self.now) ≡ false)
+            (λ b. (is_over (machine_view self.now) ≡ true)
+            × (b ≡ is_block (machine_view self.now))) }
     {
         if !self.frames.is_empty() {
             return None;
@@ -323,7 +327,8 @@ impl Machine {
 
     /// Goes on by a token. False: it may not come here.
     pub(crate) fn take(&mut self, kind: &TokenKind) -> Result<bool, AllocError>
-        ensures { IfOk result (λ b. control.step (machine_view self.old) (kind_view kind.now) ≡ (if b then Some (machine_view self.new) else None)) }
+        ensures { IfOk result (λ b. control.step (machine_view self.old) (kind_view kind.now) ≡
+            (if b then Some (machine_view self.new) else None)) }
     {
         match token_move(self.phase, kind) {
             Move::To(phase) => self.phase = phase,

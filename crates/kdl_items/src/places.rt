@@ -1,8 +1,8 @@
 //! The items of a text that is a gap, or that stands in a place of a node.
 
-ghost use Rattle.kdl_items.specs.Items.{GapItems, may_end, spaced};
-ghost use Rattle.kdl_items.specs.Passed.{PlaceTakes};
-ghost use Rattle.kdl_items.specs.Reading.{IsGapWith, IsPlaceWith, Takes, items_view, place_view};
+ghost use Rattle.kdl_items.specs.Items.{may_end, spaced};
+ghost use Rattle.kdl_items.specs.Internal.Passed.{PlaceTakesHeld};
+ghost use Rattle.kdl_items.specs.Internal.Reading.{IsGapWith, IsPlaceWith, TakesHeld, items_view, place_view};
 ghost use Rattle.kdl_text.specs.Chars.{begins_two};
 ghost use Rattle.std.specs.Prelude.{◌≡◌, IfOk, [], option_map, true};
 ghost use Rattle.std.specs.Str.{chars};
@@ -36,7 +36,7 @@ fn gap_piece<'a>(
     items: &mut Vec<Item<'a>>,
 ) -> Result<Option<&'a str>, AllocError>
     requires { chars text.now ≡ [] → ⊥ }
-    ensures { IfOk result (λ o. Takes GapItems GapItems (chars text.now) (option_map (λ r. chars r.now) o) (items_view items.old.items) (items_view items.new.items)) }
+    ensures { IfOk result (λ o. TakesHeld (chars text.now) o items.old.items items.new.items) }
 {
     if begins_slashdash(text) {
         dropped_node(alloc, text, items)
@@ -49,9 +49,10 @@ fn gap_piece<'a>(
 /// slashdash drops (KDL 2.0.0, Document). The last of these may end with the text; the spaces and comments behind it
 /// are no part of it.
 ///
-/// Fails where memory is wanting.
+/// Fails where memory runs out.
 pub fn gap_items<'a>(alloc: Global, text: &'a str) -> Result<Option<Vec<Item<'a>>>, AllocError>
-    ensures { IfOk result (λ o. IsGapWith (chars text.now) (option_map (λ v. items_view v.items) o)) }
+    ensures { IfOk result (λ o. IsGapWith (chars text.now)
+        (option_map (λ v. items_view v.items) o)) }
 {
     let mut items = Vec::new(alloc);
     let mut rest = text;
@@ -93,7 +94,8 @@ fn place_piece<'a>(
     items: &mut Vec<Item<'a>>,
 ) -> Result<Option<(Place, &'a str)>, AllocError>
     requires { chars text.now ≡ [] → ⊥ }
-    ensures { IfOk result (λ o. PlaceTakes (place_view place) (chars text.now) (option_map (λ (q, r). (place_view q, chars r.now)) o) (items_view items.old.items) (items_view items.new.items)) }
+    ensures { IfOk result (λ o.
+        PlaceTakesHeld place (chars text.now) o items.old.items items.new.items) }
 {
     if begins_slashdash(text) {
         return dropped_part(alloc, place, text, items);
@@ -106,13 +108,14 @@ fn place_piece<'a>(
 
 /// The items of the text in a place of a node, in order, each a slice of it; none where the text can't stand there.
 ///
-/// Fails where memory is wanting.
+/// Fails where memory runs out.
 pub fn place_items<'a>(
     alloc: Global,
     place: Place,
     text: &'a str,
 ) -> Result<Option<Vec<Item<'a>>>, AllocError>
-    ensures { IfOk result (λ o. IsPlaceWith (place_view place) (chars text.now) (option_map (λ v. items_view v.items) o)) }
+    ensures { IfOk result (λ o. IsPlaceWith (place_view place) (chars text.now)
+        (option_map (λ v. items_view v.items) o)) }
 {
     let mut items = Vec::new(alloc);
     let mut rest = text;

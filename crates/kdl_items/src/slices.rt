@@ -1,8 +1,8 @@
 //! Slices of a text at a place in bytes.
 
-ghost use Rattle.kdl_text.specs.Here.{bytes};
+ghost use Rattle.kdl_text.specs.Spans.{bytes};
 ghost use Rattle.kdl_text.specs.Chars.{Text};
-ghost use Rattle.kdl_items.specs.Reading.{Cut};
+ghost use Rattle.kdl_items.specs.Internal.Reading.{Cut};
 ghost use Rattle.std.specs.Prelude.{◌≡◌, ◌++◌};
 ghost use Rattle.std.specs.Str.{IsUtf8, chars};
 
@@ -10,7 +10,8 @@ ghost use Rattle.std.specs.Str.{IsUtf8, chars};
 #[inline]
 pub(crate) fn cut(text: &str, at: usize) -> (&str, &str)
     requires { Cut (chars text.now) at }
-    ensures parts { (p r : Text) → chars text.now ≡ p ++ r → bytes p ≡ at → (chars result.0.now ≡ p) × (chars result.1.now ≡ r) }
+    ensures parts { (p r : Text) → chars text.now ≡ p ++ r → bytes p ≡ at
+        → (chars result.0.now ≡ p) × (chars result.1.now ≡ r) }
     ensures text { IsUtf8 result.0.now × IsUtf8 result.1.now }
 {
     text.split_at(at)

@@ -1,11 +1,11 @@
 //! Node-spaces and line-spaces, with the comments in them.
 
 ghost use Rattle.kdl_items.specs.Items.{SpaceItems, LineSpaceItems, line_end};
-ghost use Rattle.kdl_items.specs.Reading.{Adds, items_view};
+ghost use Rattle.kdl_items.specs.Internal.Reading.{AddsHeld};
 ghost use Rattle.kdl_text.specs.Chars.{Newline, Space, Text, is_space, starts};
-ghost use Rattle.kdl_text.specs.Reading.{Longest};
+ghost use Rattle.kdl_text.specs.Internal.Reading.{Longest};
 ghost use Rattle.kdl_text.specs.Trivia.{BlockComment, LineComment};
-ghost use Rattle.std.specs.Prelude.{◌≡◌, ◌++◌, ◌∷◌, IfOk, MatchOption, option_map};
+ghost use Rattle.std.specs.Prelude.{◌≡◌, ◌++◌, ◌∷◌, IfOk, MatchOption};
 ghost use Rattle.std.specs.Str.{IsUtf8, chars};
 
 use crate::item::Item;
@@ -37,7 +37,8 @@ fn behind_spaces(text: &str) -> &str
 /// The block comment that begins the text, and the text behind it; none where none begins it or it isn't closed.
 fn block(text: &str) -> Option<(&str, &str)>
     ensures { MatchOption result ((r : Text) → BlockComment (chars text.now) r → ⊥)
-        (λ (comment, rest). BlockComment (chars text.now) (chars rest.now) × (chars text.now ≡ chars comment.now ++ chars rest.now)) }
+        (λ (comment, rest). BlockComment (chars text.now) (chars rest.now)
+        × (chars text.now ≡ chars comment.now ++ chars rest.now)) }
 {
     let mut cursor = Cursor::new(text, Steps::new());
     if cursor.looks_two('/', '*') && block_comment(&mut cursor) {
@@ -60,7 +61,8 @@ pub(crate) fn line(text: &str) -> (&str, &str)
 
 /// The text behind the newline that begins it.
 fn behind_newline(text: &str) -> Option<&str>
-    ensures { MatchOption result ((r : Text) → Newline (chars text.now) r → ⊥) (λ rest. Newline (chars text.now) (chars rest.now)) }
+    ensures { MatchOption result ((r : Text) → Newline (chars text.now) r → ⊥)
+        (λ rest. Newline (chars text.now) (chars rest.now)) }
 {
     let mut cursor = Cursor::new(text, Steps::new());
     if newline(&mut cursor) {
@@ -74,7 +76,8 @@ fn behind_newline(text: &str) -> Option<&str>
 /// The line comment that begins the text, without its newline, and the text behind that.
 pub(crate) fn comment(text: &str) -> Option<(&str, &str)>
     ensures { MatchOption result ((r : Text) → LineComment (chars text.now) r → ⊥)
-        (λ (comment, rest). LineComment (chars text.now) (chars rest.now) × (chars text.now ≡ chars comment.now ++ line_end (chars text.now))) }
+        (λ (comment, rest). LineComment (chars text.now) (chars rest.now)
+        × (chars text.now ≡ chars comment.now ++ line_end (chars text.now))) }
 {
     let mut cursor = Cursor::new(text, Steps::new());
     if !cursor.looks_two('/', '/') {
@@ -89,7 +92,8 @@ pub(crate) fn comment(text: &str) -> Option<(&str, &str)>
 
 /// The text behind its first character, where that is a backslash.
 fn behind_backslash(text: &str) -> Option<&str>
-    ensures { MatchOption result ((s : Text) → chars text.now ≡ 92 ∷ s → ⊥) (λ rest. chars text.now ≡ 92 ∷ chars rest.now) }
+    ensures { MatchOption result ((s : Text) → chars text.now ≡ 92 ∷ s → ⊥)
+        (λ rest. chars text.now ≡ 92 ∷ chars rest.now) }
 {
     let mut cursor = Cursor::new(text, Steps::new());
     if cursor.eat('\\') {
@@ -102,7 +106,8 @@ fn behind_backslash(text: &str) -> Option<&str>
 
 /// The text behind an escline whose backslash stands before it; none where none does. Its comments are added.
 fn escline<'a>(text: &'a str, items: &mut Vec<Item<'a>>) -> Result<Option<&'a str>, AllocError>
-    ensures { IfOk result (λ o. Adds SpaceItems (92 ∷ chars text.now) (option_map (λ r. chars r.now) o) (items_view items.old.items) (items_view items.new.items)) }
+    ensures { IfOk result (λ o.
+        AddsHeld SpaceItems (92 ∷ chars text.now) o items.old.items items.new.items) }
 {
     let mut rest = behind_spaces(text);
     'comments: while let Some((comment, behind)) = block(rest) {
@@ -124,7 +129,8 @@ pub(crate) fn node_spaces<'a>(
     text: &'a str,
     items: &mut Vec<Item<'a>>,
 ) -> Result<Option<&'a str>, AllocError>
-    ensures { IfOk result (λ o. Adds SpaceItems (chars text.now) (option_map (λ r. chars r.now) o) (items_view items.old.items) (items_view items.new.items)) }
+    ensures { IfOk result (λ o.
+        AddsHeld SpaceItems (chars text.now) o items.old.items items.new.items) }
 {
     if let Some(behind) = behind_backslash(text) {
         return escline(behind, items);
@@ -145,7 +151,8 @@ pub(crate) fn line_spaces<'a>(
     text: &'a str,
     items: &mut Vec<Item<'a>>,
 ) -> Result<Option<&'a str>, AllocError>
-    ensures { IfOk result (λ o. Adds LineSpaceItems (chars text.now) (option_map (λ r. chars r.now) o) (items_view items.old.items) (items_view items.new.items)) }
+    ensures { IfOk result (λ o.
+        AddsHeld LineSpaceItems (chars text.now) o items.old.items items.new.items) }
 {
     if let Some((comment, behind)) = comment(text) {
         items.push(Item::Comment(comment))?;

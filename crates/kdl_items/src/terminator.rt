@@ -1,6 +1,6 @@
 //! Terminators that are line comments.
 
-ghost use Rattle.kdl_entry.specs.Items.{between};
+ghost use Rattle.kdl_entry.specs.Internal.Items.{between};
 ghost use Rattle.kdl_items.specs.Items.{line_end};
 ghost use Rattle.kdl_text.specs.Trivia.{LineComment};
 ghost use Rattle.std.specs.Prelude.{◌≡◌, ◌≢◌, [], MatchBool, MatchOption};
@@ -18,7 +18,8 @@ fn is_empty(text: &str) -> bool
 /// The line comment that the whole text is, without its newline; none where it is none.
 pub fn line_comment(text: &str) -> Option<&str>
     ensures { MatchOption result (LineComment (chars text.now) [] → ⊥)
-        (λ comment. LineComment (chars text.now) [] × (chars comment.now ≡ between (chars text.now) (line_end (chars text.now)))) }
+        (λ comment. LineComment (chars text.now) []
+        × (chars comment.now ≡ between (chars text.now) (line_end (chars text.now)))) }
 {
     match comment(text) {
         Some((comment, rest)) if is_empty(rest) => Some(comment),

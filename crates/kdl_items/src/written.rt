@@ -1,24 +1,28 @@
 //! Items, as layout writes them.
 
-ghost use Rattle.kdl_items.specs.Reading.{item_view, items_view};
+ghost use Rattle.kdl_items.specs.Internal.Reading.{item_view, items_view};
 ghost use Rattle.kdl_items.specs.Written.{item_text, line_text, lines, tail};
 ghost use Rattle.kdl_value.specs.Tree.{text_of};
-ghost use Rattle.std.specs.Prelude.{◌≡◌, ◌++◌, ◌∷◌, [], IfOk};
+ghost use Rattle.std.specs.Prelude.{◌≡◌, ◌++◌, ◌∷◌, [], OnOk};
 ghost use Rattle.std.specs.Str.{chars};
 
 use crate::item::Item;
 use std::alloc::AllocError;
 
-/// The text behind another.
-fn push_text(out: &mut String, text: &str) -> Result<(), AllocError>
-    ensures { IfOk result (λ _. text_of out.new ≡ text_of out.old ++ chars text.now) }
+/// Puts the text behind another.
+///
+/// ```
+/// push_text(&mut out, "b")?; // behind `a` the text is `ab`
+/// ```
+pub fn push_text(out: &mut String, text: &str) -> Result<(), AllocError>
+    ensures { OnOk result (text_of out.new ≡ text_of out.old ++ chars text.now) }
 {
     out.push_str(text)
 }
 
 /// The text behind another, with a CR at its end written as LF.
 fn push_line_text(out: &mut String, text: &str) -> Result<(), AllocError>
-    ensures { IfOk result (λ _. text_of out.new ≡ text_of out.old ++ line_text (chars text.now)) }
+    ensures { OnOk result (text_of out.new ≡ text_of out.old ++ line_text (chars text.now)) }
 {
     match text.strip_suffix('\r') {
         Some(line) => {
@@ -31,7 +35,8 @@ fn push_line_text(out: &mut String, text: &str) -> Result<(), AllocError>
 
 /// Appends the item on a line of its own.
 fn push_line(out: &mut String, before: &str, item: Item) -> Result<(), AllocError>
-    ensures { IfOk result (λ _. text_of out.new ≡ text_of out.old ++ (chars before.now ++ line_text (item_text (item_view item.entry)) ++ (10 ∷ []))) }
+    ensures { OnOk result (text_of out.new ≡ text_of out.old
+        ++ (chars before.now ++ line_text (item_text (item_view item.entry)) ++ (10 ∷ []))) }
 {
     push_text(out, before)?;
     match item {
@@ -43,7 +48,8 @@ fn push_line(out: &mut String, before: &str, item: Item) -> Result<(), AllocErro
 /// Appends a line for each item, behind the text `before`. A CR at the end of an item, which ends an escline, is
 /// written as LF: before the newline of the line the two would be one.
 pub fn push_lines(out: &mut String, before: &str, items: &[Item]) -> Result<(), AllocError>
-    ensures { IfOk result (λ _. text_of out.new ≡ text_of out.old ++ lines (chars before.now) (items_view items.now)) }
+    ensures { OnOk result (text_of out.new ≡ text_of out.old
+        ++ lines (chars before.now) (items_view items.now)) }
 {
     for item in items {
         push_line(out, before, *item)?;
@@ -53,7 +59,7 @@ pub fn push_lines(out: &mut String, before: &str, items: &[Item]) -> Result<(), 
 
 /// Appends the item behind a space.
 fn push_behind_space(out: &mut String, item: Item) -> Result<(), AllocError>
-    ensures { IfOk result (λ _. text_of out.new ≡ text_of out.old ++ tail (item_view item.entry ∷ [])) }
+    ensures { OnOk result (text_of out.new ≡ text_of out.old ++ tail (item_view item.entry ∷ [])) }
 {
     match item {
         Item::Comment(text) => {
@@ -70,7 +76,7 @@ fn push_behind_space(out: &mut String, item: Item) -> Result<(), AllocError>
 
 /// Appends each item behind a space; a line comment ends an escline.
 pub fn push_tail(out: &mut String, items: &[Item]) -> Result<(), AllocError>
-    ensures { IfOk result (λ _. text_of out.new ≡ text_of out.old ++ tail (items_view items.now)) }
+    ensures { OnOk result (text_of out.new ≡ text_of out.old ++ tail (items_view items.now)) }
 {
     for item in items {
         push_behind_space(out, *item)?;

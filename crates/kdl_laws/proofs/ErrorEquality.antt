@@ -8,14 +8,14 @@ use Rattle.std.specs.Option.{option_eq}
 use Rattle.std.specs.Rc.{rc_str_bytes}
 use Rattle.std.specs.String.{string_eq}
 use Rattle.kdl_entry.proofs.Equality.{option_decides}
-use Rattle.kdl_text.specs.contracts.error.FloatFailurePartialEq.TheImpl as float_failure_impl
+use Rattle.kdl_value.specs.contracts.float.FloatFailurePartialEq.TheImpl as float_failure_impl
 use Rattle.kdl_text.specs.contracts.error.KdlDiagnosticPartialEq.TheImpl as diagnostic_impl
 use Rattle.kdl_text.specs.contracts.error.KdlErrorPartialEq.TheImpl as error_impl
 use Rattle.kdl_text.specs.contracts.error.ParseFailurePartialEq.TheImpl as failure_impl
 use Rattle.kdl_text.specs.contracts.span.SeverityPartialEq.TheImpl as severity_impl
 use Rattle.kdl_text.specs.contracts.span.SourceSpanPartialEq.TheImpl as span_impl
-use Rattle.kdl_text.specs.declared.error.FloatFailure.{FloatFailure}
-use Rattle.kdl_text.specs.declared.error.FloatFailure.TheVariants.{NotAFloat, Memory as NoMemory}
+use Rattle.kdl_value.specs.declared.float.FloatFailure.{FloatFailure}
+use Rattle.kdl_value.specs.declared.float.FloatFailure.TheVariants.{NotAFloat, Memory as NoMemory}
 use Rattle.kdl_text.specs.declared.error.KdlDiagnostic.{KdlDiagnostic}
 use Rattle.kdl_text.specs.declared.error.KdlError.{KdlError}
 use Rattle.kdl_text.specs.declared.error.ParseFailure.{ParseFailure}

@@ -5,11 +5,11 @@ use Rattle.kdl_text.specs.Chars.{Text, is_space}
 use Rattle.kdl_grammar.specs.Tree.{Document}
 use Rattle.kdl_items.specs.Items.{Item, GapItems, Place, PlaceItems}
 use Rattle.kdl_items.specs.Written.{lines, on_line, tail}
-use Rattle.kdl_items.proofs.ItemsDet.{gap_items_det, place_items_det}
-use Rattle.kdl_items.proofs.PlacesAgain.{tail_spaced}
-use Rattle.kdl_items.proofs.WrittenAgain.{lines_spaces}
+use Rattle.kdl_items.proofs.Listing.ItemsUnique.{gap_items_det, place_items_det}
+use Rattle.kdl_items.proofs.Rewriting.PlacesAgain.{tail_spaced}
+use Rattle.kdl_items.proofs.Rewriting.LinesAgain.{lines_spaces}
 use Rattle.kdl_fmt.specs.Comments.{DocumentItems}
-use Rattle.kdl_fmt.proofs.OneList.{document_items_det}
+use Rattle.kdl_fmt.proofs.Keeping.ListUnique.{document_items_det}
 
 pub one_list : (s : Text) (is js : List Item) → GapItems s is → GapItems s js → is ≡ js
 one_list s is js a b = gap_items_det a b

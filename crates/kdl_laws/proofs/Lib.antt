@@ -1,6 +1,12 @@
+-- What `==` of nodes and documents means, on trees.
 pub mod Equality
+-- What clones of errors have, on their trees.
 pub mod ErrorClones
+-- What `==` of errors and of their parts means, on their trees.
 pub mod ErrorEquality
+-- The lists of items, with all that they are of named.
 pub mod ItemLists
+-- What `==` of keys means, on what they look for.
 pub mod KeyEquality
-pub mod Layouts
+-- What two layouts make.
+pub mod TwoLayouts

@@ -1,2 +1,4 @@
+-- Errors with every text as its bytes, every span, and nothing of how memory holds them.
 pub mod Errors
+-- What keys look for, wherever their names stood.
 pub mod Keys

@@ -41,7 +41,8 @@ pub fn node_exchanged()
 /// had, and the pieces of these entries between them.
 #[tactic(auto, using(kdl::proofs::EditLaws::entries_exchanged))]
 pub fn exchange_entries(node: &mut KdlNode, entries: Vec<KdlEntry>)
-    ensures { IsSome (out-KdlNode node.old).format → PrintsInstead (node_tree node.old) (map entry_tree entries.items) (node_tree node.new) }
+    ensures { IsSome (out-KdlNode node.old).format
+        → PrintsInstead (node_tree node.old) (map entry_tree entries.items) (node_tree node.new) }
 {
     *node.entries_mut() = entries;
 }

@@ -12,7 +12,7 @@ use std::hash::{Hash, Hasher};
 
 /// A printed string is an identifier with that string, and what an entry without format and spelling prints is an entry
 /// with its data.
-#[tactic(auto, using(kdl_entry::proofs::FormlessEntries::formless_reads_back))]
+#[tactic(auto, using(kdl_entry::proofs::Laying::FormlessLaid::formless_reads_back))]
 pub fn formless_reads_back()
     ensures { FormlessReadsBack }
 {}
@@ -34,26 +34,28 @@ pub fn equal_formats(a: &KdlEntryFormat, b: &KdlEntryFormat) -> bool
 
 /// Two identifiers are equal exactly where their strings and their spellings are, wherever they stood.
 pub fn equal_identifiers(a: &KdlIdentifier, b: &KdlIdentifier) -> bool
-    ensures { IsTrue result ↔ (without_span (identifier_tree a.now) ≡ without_span (identifier_tree b.now)) }
+    ensures { IsTrue result
+        ↔ (without_span (identifier_tree a.now) ≡ without_span (identifier_tree b.now)) }
 {
     a == b
 }
 
 /// Two entries are equal exactly where all their parts are, wherever they stood.
 pub fn equal_entries(a: &KdlEntry, b: &KdlEntry) -> bool
-    ensures { IsTrue result ↔ (without_spans (entry_tree a.now) ≡ without_spans (entry_tree b.now)) }
+    ensures { IsTrue result
+        ↔ (without_spans (entry_tree a.now) ≡ without_spans (entry_tree b.now)) }
 {
     a == b
 }
 
 /// No text can be read as two identifiers.
-#[tactic(auto, using(kdl_entry::proofs::WholeTexts::one_identifier))]
+#[tactic(auto, using(kdl_entry::proofs::Laying::TextUnique::one_identifier))]
 pub fn unambiguous_identifier()
     ensures { OneIdentifier }
 {}
 
 /// No text can be read as two entries.
-#[tactic(auto, using(kdl_entry::proofs::WholeTexts::one_entry))]
+#[tactic(auto, using(kdl_entry::proofs::Laying::TextUnique::one_entry))]
 pub fn unambiguous_entry()
     ensures { OneEntry }
 {}
@@ -62,7 +64,8 @@ pub fn unambiguous_entry()
 pub fn hash_formats<H: Hasher>(a: &KdlEntryFormat, b: &KdlEntryFormat, one: &mut H, other: &mut H)
     requires { entry_format_tree a.now ≡ entry_format_tree b.now }
     ensures first { one.new ≡ fold H.write one.old (⟦<KdlEntryFormat as Hash>⟧.hash_input a.now) }
-    ensures second { other.new ≡ fold H.write other.old (⟦<KdlEntryFormat as Hash>⟧.hash_input a.now) }
+    ensures second { other.new
+        ≡ fold H.write other.old (⟦<KdlEntryFormat as Hash>⟧.hash_input a.now) }
     ensures equal { one.old ≡ other.old → one.new ≡ other.new }
 {
     a.hash(one);
@@ -73,7 +76,8 @@ pub fn hash_formats<H: Hasher>(a: &KdlEntryFormat, b: &KdlEntryFormat, one: &mut
 pub fn hash_identifiers<H: Hasher>(a: &KdlIdentifier, b: &KdlIdentifier, one: &mut H, other: &mut H)
     requires { without_span (identifier_tree a.now) ≡ without_span (identifier_tree b.now) }
     ensures first { one.new ≡ fold H.write one.old (⟦<KdlIdentifier as Hash>⟧.hash_input a.now) }
-    ensures second { other.new ≡ fold H.write other.old (⟦<KdlIdentifier as Hash>⟧.hash_input a.now) }
+    ensures second { other.new
+        ≡ fold H.write other.old (⟦<KdlIdentifier as Hash>⟧.hash_input a.now) }
     ensures equal { one.old ≡ other.old → one.new ≡ other.new }
 {
     a.hash(one);
@@ -92,44 +96,44 @@ pub fn hash_entries<H: Hasher>(a: &KdlEntry, b: &KdlEntry, one: &mut H, other: &
 }
 
 /// Where an identifier is laid as a whole text, the text is one with its value, and it is what the identifier prints.
-#[tactic(auto, using(kdl_entry::proofs::TextLaws::laid_identifier_is_derived))]
+#[tactic(auto, using(kdl_entry::proofs::Laying::TextLaws::laid_identifier_is_derived))]
 pub fn laid_identifier_is_derived()
     ensures { LaidIdentifierIsDerived }
 {}
 
 /// Where an entry is laid as a whole text, the text is one with its data, and it is what the entry prints.
-#[tactic(auto, using(kdl_entry::proofs::TextLaws::laid_entry_is_derived))]
+#[tactic(auto, using(kdl_entry::proofs::Laying::TextLaws::laid_entry_is_derived))]
 pub fn laid_entry_is_derived()
     ensures { LaidEntryIsDerived }
 {}
 
 /// At most one identifier is laid as a whole text with its span.
-#[tactic(auto, using(kdl_entry::proofs::EntryComplete::OneLaid::one_laid_identifier))]
+#[tactic(auto, using(kdl_entry::proofs::Reading::EntryComplete::OneLaid::one_laid_identifier))]
 pub fn one_laid_identifier()
     ensures { OneLaidIdentifier }
 {}
 
 /// At most one entry is laid as a whole text with the spans of its pieces.
-#[tactic(auto, using(kdl_entry::proofs::EntryComplete::OneLaid::one_laid_entry))]
+#[tactic(auto, using(kdl_entry::proofs::Reading::EntryComplete::OneLaid::one_laid_entry))]
 pub fn one_laid_entry()
     ensures { OneLaidEntry }
 {}
 
 /// In each text that is an identifier or an entry, one is laid with its data.
-#[tactic(auto, using(kdl_entry::proofs::TextLaws::texts_are_laid))]
+#[tactic(auto, using(kdl_entry::proofs::Laying::TextLaws::texts_are_laid))]
 pub fn texts_are_laid()
     ensures { TextsAreLaid }
 {}
 
 /// The machine that reads entry texts has one answer at most on each text.
-#[tactic(auto, using(kdl_entry::proofs::EntryLaws::one_entry_answer))]
+#[tactic(auto, using(kdl_entry::proofs::Reading::EntryLaws::one_entry_answer))]
 pub fn one_entry_answer()
     ensures { OneEntryAnswer }
 {}
 
 /// That machine answers exactly where the text is an entry, with the entry's data, and what it answers is laid in the
 /// text, with its spans.
-#[tactic(auto, using(kdl_entry::proofs::EntryLaws::entry_answers))]
+#[tactic(auto, using(kdl_entry::proofs::Reading::EntryLaws::entry_answers))]
 pub fn entry_answers()
     ensures { EntryAnswers }
 {}

@@ -41,7 +41,7 @@ pub fn equal_errors(a: &KdlError, b: &KdlError) -> bool
     a == b
 }
 
-/// Two failures to parse are equal exactly where both are for want of memory, or both of equal errors.
+/// Two failures to parse are equal exactly where both are where memory runs out, or both of equal errors.
 pub fn equal_failures(a: &ParseFailure, b: &ParseFailure) -> bool
     ensures { IsTrue result ↔ (failure_tree a.now ≡ failure_tree b.now) }
 {

@@ -29,7 +29,8 @@ pub fn hash_node_formats<H: Hasher>(
 )
     requires { node_format_tree a.now ≡ node_format_tree b.now }
     ensures first { one.new ≡ fold H.write one.old (⟦<KdlNodeFormat as Hash>⟧.hash_input a.now) }
-    ensures second { other.new ≡ fold H.write other.old (⟦<KdlNodeFormat as Hash>⟧.hash_input a.now) }
+    ensures second { other.new
+        ≡ fold H.write other.old (⟦<KdlNodeFormat as Hash>⟧.hash_input a.now) }
     ensures equal { one.old ≡ other.old → one.new ≡ other.new }
 {
     a.hash(one);
@@ -44,8 +45,10 @@ pub fn hash_document_formats<H: Hasher>(
     other: &mut H,
 )
     requires { document_format_tree a.now ≡ document_format_tree b.now }
-    ensures first { one.new ≡ fold H.write one.old (⟦<KdlDocumentFormat as Hash>⟧.hash_input a.now) }
-    ensures second { other.new ≡ fold H.write other.old (⟦<KdlDocumentFormat as Hash>⟧.hash_input a.now) }
+    ensures first { one.new ≡ fold H.write one.old
+        (⟦<KdlDocumentFormat as Hash>⟧.hash_input a.now) }
+    ensures second { other.new
+        ≡ fold H.write other.old (⟦<KdlDocumentFormat as Hash>⟧.hash_input a.now) }
     ensures equal { one.old ≡ other.old → one.new ≡ other.new }
 {
     a.hash(one);

@@ -32,7 +32,8 @@ pub fn laid_out_twice(document: &mut KdlDocument, config: &FormatConfig) -> Resu
     requires indent { list_all is_space (settings config.now).indent ≡ true }
     requires unmarked_after { config.now.entry_autoformate_keep ≡ false }
     requires unmarked { DocumentKeepsNone (document_tree document.old) }
-    ensures { IfOk result (λ _. IsFormattedDocument (settings config.now) config.now.indent_level (document_tree document.old) (document_tree document.new)) }
+    ensures { IfOk result (λ _. IsFormattedDocument (settings config.now) config.now.indent_level
+        (document_tree document.old) (document_tree document.new)) }
 {
     document.autoformat_config(config)?;
     document.autoformat_config(config)
@@ -43,14 +44,16 @@ pub fn node_laid_out_twice(node: &mut KdlNode, config: &FormatConfig) -> Result<
     requires indent { list_all is_space (settings config.now).indent ≡ true }
     requires unmarked_after { config.now.entry_autoformate_keep ≡ false }
     requires unmarked { NodeKeepsNone (node_tree node.old) }
-    ensures { IfOk result (λ _. IsFormattedNode (settings config.now) config.now.indent_level (node_tree node.old) (node_tree node.new)) }
+    ensures { IfOk result (λ _. IsFormattedNode (settings config.now) config.now.indent_level
+        (node_tree node.old) (node_tree node.new)) }
 {
     node.autoformat_config(config)?;
     node.autoformat_config(config)
 }
 
 /// Layout makes one thing of a document.
-#[tactic(auto, using(crate::proofs::Layouts::one_layout))]
+#[tactic(auto, using(crate::proofs::TwoLayouts::one_layout))]
 pub fn one_layout()
-    ensures { (s : Settings) (level : ℕ) (d x y : Document) → IsFormattedDocument s level d x → IsFormattedDocument s level d y → x ≡ y }
+    ensures { (s : Settings) (level : ℕ) (d x y : Document) → IsFormattedDocument s level d x
+        → IsFormattedDocument s level d y → x ≡ y }
 {}

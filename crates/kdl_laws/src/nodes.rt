@@ -11,14 +11,17 @@ use std::hash::{Hash, Hasher};
 
 /// Two nodes are equal exactly where all their parts are, at each depth, wherever they stood.
 pub fn equal_nodes(a: &KdlNode, b: &KdlNode) -> bool
-    ensures { IsTrue result ↔ (node_without_spans (node_tree a.now) ≡ node_without_spans (node_tree b.now)) }
+    ensures { IsTrue result
+        ↔ (node_without_spans (node_tree a.now) ≡ node_without_spans (node_tree b.now)) }
 {
     a == b
 }
 
 /// Two documents are equal exactly where all their parts are, at each depth, wherever they stood.
 pub fn equal_documents(a: &KdlDocument, b: &KdlDocument) -> bool
-    ensures { IsTrue result ↔ (document_without_spans (document_tree a.now) ≡ document_without_spans (document_tree b.now)) }
+    ensures { IsTrue result
+        ↔ (document_without_spans (document_tree a.now)
+        ≡ document_without_spans (document_tree b.now)) }
 {
     a == b
 }
@@ -36,7 +39,8 @@ pub fn hash_nodes<H: Hasher>(a: &KdlNode, b: &KdlNode, one: &mut H, other: &mut 
 
 /// Equal documents, wherever they stood, leave equal hashers equal: into both goes what the hash of the first writes.
 pub fn hash_documents<H: Hasher>(a: &KdlDocument, b: &KdlDocument, one: &mut H, other: &mut H)
-    requires { document_without_spans (document_tree a.now) ≡ document_without_spans (document_tree b.now) }
+    requires { document_without_spans (document_tree a.now)
+        ≡ document_without_spans (document_tree b.now) }
     ensures first { one.new ≡ fold H.write one.old (⟦<KdlDocument as Hash>⟧.hash_input a.now) }
     ensures second { other.new ≡ fold H.write other.old (⟦<KdlDocument as Hash>⟧.hash_input a.now) }
     ensures equal { one.old ≡ other.old → one.new ≡ other.new }

@@ -1,16 +1,4 @@
-pub mod Bridge
-pub mod Contents
-pub mod Counting
-pub mod Doing
-pub mod EditedOutcomes
-pub mod Held
-pub mod ItemTurns
-pub mod LeadingMark
-pub mod LineSpaces
-pub mod MachineSteps
-pub mod NodeTexts
-pub mod Origins
-pub mod Outcomes
-pub mod Placing
-pub mod TokenTurns
-pub mod Views
+-- What a step of the builder does, by the machine's.
+pub mod Stepping
+-- What is answered on a whole text.
+pub mod Answering

@@ -1,8 +1,2 @@
-pub mod Answered
-pub mod Building
-pub mod Counted
-pub mod LineSpaces
-pub mod NodeText
-pub mod Parts
-pub mod Steps
-pub mod Whole
+-- What only proofs and contracts inside the crates need.
+pub mod Internal

@@ -1,25 +1,21 @@
 //! The builder: a document under way, token by token.
 
-ghost use Rattle.kdl_parser.specs.Answered.{Finished};
-ghost use Rattle.kdl_grammar.specs.Machine as machine;
-ghost use Rattle.kdl_grammar.specs.Machine.{at, initial};
-ghost use Rattle.kdl_parser.specs.Building.{nodes_view, frames_view, state_view, held, Did, EndsIn, Placed};
-ghost use Rattle.kdl_parser.specs.Counted.{unsliced, SlicedOn};
-ghost use Rattle.kdl_grammar.specs.Tree.{node};
-ghost use Rattle.kdl_entry.specs.Building.{Stays};
-ghost use Rattle.kdl_value.specs.Data.{text};
-ghost use Rattle.kdl_entry.specs.Handed.{kind_view};
-ghost use Rattle.kdl_entry.specs.Items.{between};
-ghost use Rattle.kdl_text.specs.Here.{Ahead, bytes, raise};
+ghost use Rattle.kdl_parser.specs.Internal.States.{document_now, document_of_nodes, Slices, spot_of, Takes};
+ghost use Rattle.kdl_parser.specs.Internal.Answered.{Finished};
+ghost use Rattle.kdl_grammar.specs.Internal.Machine.{initial};
+ghost use Rattle.kdl_parser.specs.Internal.Building.{state_view, EndsIn, Placed};
+ghost use Rattle.kdl_parser.specs.Internal.Counted.{unsliced, SlicedOn};
+ghost use Rattle.kdl_entry.specs.Internal.Building.{Stays};
+ghost use Rattle.kdl_text.specs.Internal.Here.{Ahead, raise};
+ghost use Rattle.kdl_text.specs.Spans.{bytes};
 ghost use Rattle.kdl_parser.specs.declared.builder.Phase.{Phase};
-ghost use Rattle.kdl_parser.specs.declared.builder.Waiting.{Waiting};
-ghost use Rattle.std.specs.Prelude.{◌≡◌, ◌+◌, ◌≤◌, if◌then◌else◌, [], Some, None, true, false, OnOk};
+ghost use Rattle.std.specs.Prelude.{◌≡◌, ◌+◌, ◌≤◌, []};
 
 mod content;
 mod steps;
 
 use self::content::content;
-use crate::parts::{DocumentParts, ParsedNode};
+use crate::node_parts::{DocumentParts, ParsedNode};
 use kdl_entry::items::item::{Item, TypeParts, text_between};
 use kdl_entry::items::{LexFailure, Lexer, Token, TokenKind, fault_at};
 use kdl_entry::{KdlEntry, KdlIdentifier};
@@ -39,7 +35,7 @@ enum Phase {
     Fresh,
     /// Behind spaces there.
     Spaced,
-    /// Behind a block that counts for nothing, where the node's own may follow.
+    /// Behind a block that is slashdashed, where the node's own may follow.
     Later,
     /// Behind `/-` where an entry or a block may follow.
     EntryMark,
@@ -69,14 +65,14 @@ struct Kept<'a, N> {
     block: DocumentParts<N>,
 }
 
-/// An open block: what it belongs to, and the nodes before that. `None` for what counts for nothing.
+/// An open block: what it belongs to, and the nodes before that. `None` for what is slashdashed.
 #[derive(Drop)]
 enum Frame<'a, N> {
     /// The block of a node, and the text before it.
     Block(Option<Under<'a>>, String, Option<Vec<N>>),
-    /// A block that counts for nothing.
+    /// A block that is slashdashed.
     DroppedBlock(Option<Under<'a>>, Option<Vec<N>>),
-    /// A block that counts for nothing, behind the node's own.
+    /// A block that is slashdashed, behind the node's own.
     LaterBlock(Option<Kept<'a, N>>, Option<Vec<N>>),
 }
 
@@ -101,12 +97,12 @@ struct Slot<'a> {
 #[derive(Drop)]
 enum Waiting<'a> {
     Nothing,
-    /// One of an entry that counts for nothing.
+    /// One of an entry that is slashdashed.
     Dropped,
     Word(WaitingWord<'a>),
 }
 
-/// A document under way. Of what counts for nothing no text is held.
+/// A document under way. Of what is slashdashed no text is held.
 #[derive(Drop)]
 pub(crate) struct Builder<'a, N> {
     whole: Checkpoint<'a>,
@@ -142,7 +138,7 @@ impl<'a, N: ParsedNode> Builder<'a, N> {
     }
 
     /// A token between nodes.
-    #[tactic(auto, using(crate::proofs::Doing::does_did))]
+    #[tactic(auto, using(crate::proofs::Stepping::StepsDone::does_did))]
     fn at_gap(
         &mut self,
         alloc: Global,
@@ -154,10 +150,10 @@ impl<'a, N: ParsedNode> Builder<'a, N> {
         requires from { Ahead self.old.from start.now }
         requires token { Ahead start.now end.now }
         requires phase { self.old.phase ≡ Phase.Gap }
-        ensures did { Did (machine.step self.old.whole.rest (state_view N.tree self.old) (kind_view kind) start.now.rest end.now.rest) start.now result (state_view N.tree self.new) }
+        ensures did { Takes N.tree self.old kind start.now end.now result self.new }
         ensures whole { self.new.whole ≡ self.old.whole }
         ensures stays { Stays lexer.old lexer.new }
-        ensures sliced { SlicedOn result (unsliced self.old) (unsliced self.new) lexer.old lexer.new }
+        ensures sliced { Slices (unsliced self.old) result self.new lexer.old lexer.new }
     {
         let counts = self.nodes.is_some();
         match kind {
@@ -174,7 +170,7 @@ impl<'a, N: ParsedNode> Builder<'a, N> {
     }
 
     /// A token behind `/-` between nodes.
-    #[tactic(auto, using(crate::proofs::Doing::does_did))]
+    #[tactic(auto, using(crate::proofs::Stepping::StepsDone::does_did))]
     fn at_marked(
         &mut self,
         alloc: Global,
@@ -186,10 +182,10 @@ impl<'a, N: ParsedNode> Builder<'a, N> {
         requires from { Ahead self.old.from start.now }
         requires token { Ahead start.now end.now }
         requires phase { self.old.phase ≡ Phase.Marked }
-        ensures did { Did (machine.step self.old.whole.rest (state_view N.tree self.old) (kind_view kind) start.now.rest end.now.rest) start.now result (state_view N.tree self.new) }
+        ensures did { Takes N.tree self.old kind start.now end.now result self.new }
         ensures whole { self.new.whole ≡ self.old.whole }
         ensures stays { Stays lexer.old lexer.new }
-        ensures sliced { SlicedOn result (unsliced self.old) (unsliced self.new) lexer.old lexer.new }
+        ensures sliced { Slices (unsliced self.old) result self.new lexer.old lexer.new }
     {
         match kind {
             TokenKind::Space | TokenKind::Newline => Ok(()),
@@ -200,7 +196,7 @@ impl<'a, N: ParsedNode> Builder<'a, N> {
     }
 
     /// A token directly behind a name or an entry.
-    #[tactic(auto, using(crate::proofs::Doing::does_did, crate::proofs::Doing::none_sliced))]
+    #[tactic(auto, using(crate::proofs::Stepping::StepsDone::does_did, crate::proofs::Stepping::StepsDone::none_sliced))]
     fn at_fresh(
         &mut self,
         alloc: Global,
@@ -212,10 +208,10 @@ impl<'a, N: ParsedNode> Builder<'a, N> {
         requires from { Ahead self.old.from start.now }
         requires token { Ahead start.now end.now }
         requires phase { self.old.phase ≡ Phase.Fresh }
-        ensures did { Did (machine.step self.old.whole.rest (state_view N.tree self.old) (kind_view kind) start.now.rest end.now.rest) start.now result (state_view N.tree self.new) }
+        ensures did { Takes N.tree self.old kind start.now end.now result self.new }
         ensures whole { self.new.whole ≡ self.old.whole }
         ensures stays { Stays lexer.old lexer.new }
-        ensures sliced { SlicedOn result (unsliced self.old) (unsliced self.new) lexer.old lexer.new }
+        ensures sliced { Slices (unsliced self.old) result self.new lexer.old lexer.new }
     {
         match kind {
             TokenKind::Space => {
@@ -232,7 +228,7 @@ impl<'a, N: ParsedNode> Builder<'a, N> {
     }
 
     /// A token behind spaces in a node.
-    #[tactic(auto, using(crate::proofs::Doing::does_did, crate::proofs::Doing::none_sliced))]
+    #[tactic(auto, using(crate::proofs::Stepping::StepsDone::does_did, crate::proofs::Stepping::StepsDone::none_sliced))]
     fn at_spaced(
         &mut self,
         alloc: Global,
@@ -244,10 +240,10 @@ impl<'a, N: ParsedNode> Builder<'a, N> {
         requires from { Ahead self.old.from start.now }
         requires token { Ahead start.now end.now }
         requires phase { self.old.phase ≡ Phase.Spaced }
-        ensures did { Did (machine.step self.old.whole.rest (state_view N.tree self.old) (kind_view kind) start.now.rest end.now.rest) start.now result (state_view N.tree self.new) }
+        ensures did { Takes N.tree self.old kind start.now end.now result self.new }
         ensures whole { self.new.whole ≡ self.old.whole }
         ensures stays { Stays lexer.old lexer.new }
-        ensures sliced { SlicedOn result (unsliced self.old) (unsliced self.new) lexer.old lexer.new }
+        ensures sliced { Slices (unsliced self.old) result self.new lexer.old lexer.new }
     {
         match kind {
             TokenKind::Space => Ok(()),
@@ -263,8 +259,8 @@ impl<'a, N: ParsedNode> Builder<'a, N> {
         }
     }
 
-    /// A token behind a block that counts for nothing, before the node's own.
-    #[tactic(auto, using(crate::proofs::Doing::does_did))]
+    /// A token behind a block that is slashdashed, before the node's own.
+    #[tactic(auto, using(crate::proofs::Stepping::StepsDone::does_did))]
     fn at_later(
         &mut self,
         alloc: Global,
@@ -276,10 +272,10 @@ impl<'a, N: ParsedNode> Builder<'a, N> {
         requires from { Ahead self.old.from start.now }
         requires token { Ahead start.now end.now }
         requires phase { self.old.phase ≡ Phase.Later }
-        ensures did { Did (machine.step self.old.whole.rest (state_view N.tree self.old) (kind_view kind) start.now.rest end.now.rest) start.now result (state_view N.tree self.new) }
+        ensures did { Takes N.tree self.old kind start.now end.now result self.new }
         ensures whole { self.new.whole ≡ self.old.whole }
         ensures stays { Stays lexer.old lexer.new }
-        ensures sliced { SlicedOn result (unsliced self.old) (unsliced self.new) lexer.old lexer.new }
+        ensures sliced { Slices (unsliced self.old) result self.new lexer.old lexer.new }
     {
         match kind {
             TokenKind::Space => Ok(()),
@@ -295,7 +291,7 @@ impl<'a, N: ParsedNode> Builder<'a, N> {
     }
 
     /// A token behind `/-`, where an entry or a block may follow.
-    #[tactic(auto, using(crate::proofs::Doing::does_did, crate::proofs::Doing::none_sliced))]
+    #[tactic(auto, using(crate::proofs::Stepping::StepsDone::does_did, crate::proofs::Stepping::StepsDone::none_sliced))]
     fn at_entry_mark(
         &mut self,
         alloc: Global,
@@ -307,10 +303,10 @@ impl<'a, N: ParsedNode> Builder<'a, N> {
         requires from { Ahead self.old.from start.now }
         requires token { Ahead start.now end.now }
         requires phase { self.old.phase ≡ Phase.EntryMark }
-        ensures did { Did (machine.step self.old.whole.rest (state_view N.tree self.old) (kind_view kind) start.now.rest end.now.rest) start.now result (state_view N.tree self.new) }
+        ensures did { Takes N.tree self.old kind start.now end.now result self.new }
         ensures whole { self.new.whole ≡ self.old.whole }
         ensures stays { Stays lexer.old lexer.new }
-        ensures sliced { SlicedOn result (unsliced self.old) (unsliced self.new) lexer.old lexer.new }
+        ensures sliced { Slices (unsliced self.old) result self.new lexer.old lexer.new }
     {
         match kind {
             TokenKind::Space | TokenKind::Newline => Ok(()),
@@ -323,7 +319,7 @@ impl<'a, N: ParsedNode> Builder<'a, N> {
     }
 
     /// A token behind `/-`, where a block may follow.
-    #[tactic(auto, using(crate::proofs::Doing::does_did, crate::proofs::Doing::none_sliced))]
+    #[tactic(auto, using(crate::proofs::Stepping::StepsDone::does_did, crate::proofs::Stepping::StepsDone::none_sliced))]
     fn at_block_mark(
         &mut self,
         alloc: Global,
@@ -335,10 +331,10 @@ impl<'a, N: ParsedNode> Builder<'a, N> {
         requires from { Ahead self.old.from start.now }
         requires token { Ahead start.now end.now }
         requires phase { self.old.phase ≡ Phase.BlockMark }
-        ensures did { Did (machine.step self.old.whole.rest (state_view N.tree self.old) (kind_view kind) start.now.rest end.now.rest) start.now result (state_view N.tree self.new) }
+        ensures did { Takes N.tree self.old kind start.now end.now result self.new }
         ensures whole { self.new.whole ≡ self.old.whole }
         ensures stays { Stays lexer.old lexer.new }
-        ensures sliced { SlicedOn result (unsliced self.old) (unsliced self.new) lexer.old lexer.new }
+        ensures sliced { Slices (unsliced self.old) result self.new lexer.old lexer.new }
     {
         match kind {
             TokenKind::Space | TokenKind::Newline => Ok(()),
@@ -348,7 +344,7 @@ impl<'a, N: ParsedNode> Builder<'a, N> {
     }
 
     /// A token behind a node's block.
-    #[tactic(auto, using(crate::proofs::Doing::does_did))]
+    #[tactic(auto, using(crate::proofs::Stepping::StepsDone::does_did))]
     fn at_behind(
         &mut self,
         alloc: Global,
@@ -360,10 +356,10 @@ impl<'a, N: ParsedNode> Builder<'a, N> {
         requires from { Ahead self.old.from start.now }
         requires token { Ahead start.now end.now }
         requires phase { self.old.phase ≡ Phase.Behind }
-        ensures did { Did (machine.step self.old.whole.rest (state_view N.tree self.old) (kind_view kind) start.now.rest end.now.rest) start.now result (state_view N.tree self.new) }
+        ensures did { Takes N.tree self.old kind start.now end.now result self.new }
         ensures whole { self.new.whole ≡ self.old.whole }
         ensures stays { Stays lexer.old lexer.new }
-        ensures sliced { SlicedOn result (unsliced self.old) (unsliced self.new) lexer.old lexer.new }
+        ensures sliced { Slices (unsliced self.old) result self.new lexer.old lexer.new }
     {
         match kind {
             TokenKind::Space => Ok(()),
@@ -378,7 +374,7 @@ impl<'a, N: ParsedNode> Builder<'a, N> {
     }
 
     /// A token behind `/-`, where another block may follow.
-    #[tactic(auto, using(crate::proofs::Doing::does_did, crate::proofs::Doing::none_sliced))]
+    #[tactic(auto, using(crate::proofs::Stepping::StepsDone::does_did, crate::proofs::Stepping::StepsDone::none_sliced))]
     fn at_behind_mark(
         &mut self,
         alloc: Global,
@@ -390,10 +386,10 @@ impl<'a, N: ParsedNode> Builder<'a, N> {
         requires from { Ahead self.old.from start.now }
         requires token { Ahead start.now end.now }
         requires phase { self.old.phase ≡ Phase.BehindMark }
-        ensures did { Did (machine.step self.old.whole.rest (state_view N.tree self.old) (kind_view kind) start.now.rest end.now.rest) start.now result (state_view N.tree self.new) }
+        ensures did { Takes N.tree self.old kind start.now end.now result self.new }
         ensures whole { self.new.whole ≡ self.old.whole }
         ensures stays { Stays lexer.old lexer.new }
-        ensures sliced { SlicedOn result (unsliced self.old) (unsliced self.new) lexer.old lexer.new }
+        ensures sliced { Slices (unsliced self.old) result self.new lexer.old lexer.new }
     {
         match kind {
             TokenKind::Space | TokenKind::Newline => Ok(()),
@@ -402,8 +398,8 @@ impl<'a, N: ParsedNode> Builder<'a, N> {
         }
     }
 
-    /// One token. A fault where it may not stand here; want of memory leaves the builder as it is then.
-    #[tactic(auto, using(crate::proofs::ItemTurns::item_did, crate::proofs::ItemTurns::item_placed))]
+    /// One token. A fault where it may not stand here; running out of memory leaves the builder as it is then.
+    #[tactic(auto, using(crate::proofs::Stepping::ItemTokens::item_did, crate::proofs::Stepping::ItemTokens::item_placed))]
     pub(crate) fn take(
         &mut self,
         alloc: Global,
@@ -412,10 +408,11 @@ impl<'a, N: ParsedNode> Builder<'a, N> {
     ) -> Result<(), LexFailure>
         requires placed { Placed (state_view N.tree self.old) token.start.rest }
         requires token { Ahead token.start token.end }
-        ensures did { Did (machine.step self.old.whole.rest (state_view N.tree self.old) (kind_view token.entry.kind) token.entry.start.rest token.entry.end.rest) token.entry.start result (state_view N.tree self.new) }
+        ensures did { Takes N.tree self.old token.entry.kind token.entry.start token.entry.end
+            result self.new }
         ensures whole { self.new.whole ≡ self.old.whole }
         ensures stays { Stays lexer.old lexer.new }
-        ensures sliced { SlicedOn result (unsliced self.old + 1) (unsliced self.new) lexer.old lexer.new }
+        ensures sliced { Slices (unsliced self.old + 1) result self.new lexer.old lexer.new }
         ensures looked { raise lexer.old.steps 1 ≤ raise lexer.new.steps 0 }
     {
         lexer.count_look();
@@ -442,7 +439,8 @@ impl<'a, N: ParsedNode> Builder<'a, N> {
     ) -> Result<DocumentParts<N>, LexFailure>
         requires end { lexer.old.rest ≡ [] }
         requires from { EndsIn self.old.from.rest lexer.old.rest }
-        ensures finished { Finished N.tree (machine.finish self.old.whole.rest (state_view N.tree self.old)) (record { rest = lexer.old.rest; at = lexer.old.at }) result }
+        ensures finished { Finished N.tree (document_now N.tree self.old) (spot_of lexer.old)
+            result }
         ensures stays { Stays lexer.old lexer.new }
         ensures sliced { SlicedOn result (unsliced self.old) 0 lexer.old lexer.new }
     {
@@ -451,7 +449,7 @@ impl<'a, N: ParsedNode> Builder<'a, N> {
     }
 
     /// The document, where the text ends at the place.
-    #[tactic(auto, using(crate::proofs::Origins::between_none, crate::proofs::Origins::origin_ends, crate::proofs::ItemTurns::unfinished, crate::proofs::Doing::unfinished_for_memory))]
+    #[tactic(auto, using(crate::proofs::Stepping::Origins::between_none, crate::proofs::Stepping::Origins::origin_ends, crate::proofs::Stepping::ItemTokens::unfinished, crate::proofs::Stepping::StepsDone::unfinished_for_memory))]
     fn finish_at(
         &mut self,
         alloc: Global,
@@ -460,7 +458,7 @@ impl<'a, N: ParsedNode> Builder<'a, N> {
     ) -> Result<DocumentParts<N>, LexFailure>
         requires end { here.now.rest ≡ [] }
         requires from { Ahead self.old.from here.now }
-        ensures finished { Finished N.tree (machine.finish self.old.whole.rest (state_view N.tree self.old)) here.now result }
+        ensures finished { Finished N.tree (document_now N.tree self.old) here.now result }
         ensures stays { Stays lexer.old lexer.new }
         ensures sliced { SlicedOn result (unsliced self.old) 0 lexer.old lexer.new }
     {
@@ -491,7 +489,7 @@ impl<'a, N: ParsedNode> Builder<'a, N> {
     ) -> Result<DocumentParts<N>, LexFailure>
         requires from { Ahead self.old.from here.now }
         requires end { here.now.rest ≡ [] }
-        ensures finished { Finished N.tree (machine.at_end self.old.whole.rest (nodes_view N.tree self.old.nodes) (frames_view N.tree self.old) self.old.from.rest) here.now result }
+        ensures finished { Finished N.tree (document_of_nodes N.tree self.old) here.now result }
         ensures stays { Stays lexer.old lexer.new }
         ensures sliced { SlicedOn result (bytes self.old.from.rest) 0 lexer.old lexer.new }
     {

@@ -2,12 +2,12 @@
 #![tactic(auto)]
 
 mod builder;
+mod document_text;
 mod line_spaces;
-mod nodes;
-mod parser;
-mod parts;
-mod reading;
+mod node_parts;
+mod node_text;
+mod token_loop;
 
-pub use nodes::{NodeText, read_node_text};
-pub use parts::{DocumentParts, NodeParts, ParsedNode};
-pub use reading::{DocumentText, read_document};
+pub use document_text::{DocumentText, read_document};
+pub use node_parts::{DocumentParts, NodeParts, ParsedNode};
+pub use node_text::{NodeText, read_node_text};

@@ -1,8 +1,8 @@
 //! Line-spaces up to the end of a text.
 
-ghost use Rattle.kdl_parser.specs.Building.{EndsIn};
-ghost use Rattle.kdl_parser.specs.LineSpaces as lines;
-ghost use Rattle.kdl_parser.specs.LineSpaces.{AreLineSpaces, EndInLineSpaces};
+ghost use Rattle.kdl_parser.specs.Internal.Building.{EndsIn};
+ghost use Rattle.kdl_parser.specs.Internal.LineSpaces as lines;
+ghost use Rattle.kdl_parser.specs.Internal.LineSpaces.{AreLineSpaces, EndInLineSpaces};
 ghost use Rattle.kdl_text.specs.Spans.{InText};
 ghost use Rattle.std.specs.Prelude.{◌≡◌};
 ghost use Rattle.std.specs.Str.{chars};
@@ -21,7 +21,7 @@ fn is_line_space(kind: &TokenKind) -> bool
 
 /// Reads line-spaces to the end of the text. A fault at the first token that is none, or the first piece that is no
 /// token.
-#[tactic(auto, using(crate::proofs::LineSpaces::lines_start, crate::proofs::LineSpaces::lines_fail, crate::proofs::LineSpaces::lines_nearer))]
+#[tactic(auto, using(crate::proofs::Answering::LineSpaceReads::lines_start, crate::proofs::Answering::LineSpaceReads::lines_fail, crate::proofs::Answering::LineSpaceReads::lines_nearer))]
 fn line_spaces(alloc: Global, text: &str) -> Result<(), LexFailure>
     ensures { AreLineSpaces (chars text.now) result }
 {

@@ -1,7 +1,14 @@
+-- What edits of a list of entries leave.
 pub mod EntryEdits
-pub mod EntryPlaces
+-- Look-ups in lists, an element at a time.
+pub mod EntryLookups
+-- What `==` of formats means, on their trees.
 pub mod Equality
+-- A loop that changes the elements of a list one by one.
 pub mod Loops
-pub mod Marks
-pub mod Printing
-pub mod Writing
+-- The text of U+FEFF, and a text behind it.
+pub mod BomText
+-- What the entries of a node print, one by one.
+pub mod PrintedEntries
+-- The UTF-8 of a text, part by part.
+pub mod Utf8Parts

@@ -3,7 +3,7 @@ use Rattle.std.specs.Prelude.{◌≡◌, ℕ, ◌+◌, ◌<◌, ◌≤◌, List,
 use Rattle.std.specs.List.{count_by}
 use Rattle.kdl_entry.specs.Tree.{Entry, entry_tree}
 use Rattle.kdl_entry.specs.declared.entry.KdlEntry.{KdlEntry}
-use Rattle.kdl_parts.specs.EntryLists.{Sought, property, argument, sought, is_argument, place_of, removed_place}
+use Rattle.kdl_parts.specs.EntryLists.{Sought, property, argument, sought, is_argument, place_of, removed_place, there}
 use Rattle.kdl_parts.specs.declared.key.NodeKey.{NodeKey}
 use Rattle.kdl_parts.specs.declared.key.NodeKey.TheVariants.{Key, Index}
 
@@ -47,6 +47,10 @@ abbrev pub replaced_place : NodeKey → List KdlEntry → Option ℕ
 replaced_place (Key k) es = place_of (Key k) es
 replaced_place (Index n) es = None
 
+-- the entry that an insertion replaces
+abbrev pub replaced : NodeKey → List KdlEntry → Option KdlEntry
+replaced key es = there (replaced_place key es) es
+
 -- with e inserted: for the last property of that name, or before that argument; last where there is none
 abbrev pub inserted : NodeKey → KdlEntry → List KdlEntry → List KdlEntry
 inserted (Key k) e es = put_for (place_of (Key k) es) e es
@@ -57,6 +61,10 @@ pub record IsInserted (key : NodeKey) (e : KdlEntry) (es fs : List KdlEntry) : T
   pub entry : KdlEntry
   pub tree : entry_tree entry ≡ under (sought key) (entry_tree e)
   pub items : fs ≡ inserted key entry es
+
+-- the entry that a removal takes out
+abbrev pub taken_out : NodeKey → List KdlEntry → Option KdlEntry
+taken_out key es = there (removed_place key es) es
 
 -- the entries without the first property of that name, or without that argument
 abbrev pub removed : NodeKey → List KdlEntry → List KdlEntry

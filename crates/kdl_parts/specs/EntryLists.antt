@@ -5,6 +5,7 @@ use Rattle.std.specs.Cmp.Lexicographic.{pointwise}
 use Rattle.kdl_entry.specs.declared.entry.KdlEntry.{KdlEntry}
 use Rattle.kdl_entry.specs.declared.identifier.KdlIdentifier.{KdlIdentifier}
 use Rattle.kdl_value.specs.Data.{Value}
+use Rattle.kdl_value.specs.declared.value.KdlValue.{KdlValue}
 use Rattle.kdl_value.specs.Tree.{value_tree}
 use Rattle.kdl_entry.specs.Tree.{Identifier, identifier_tree}
 use Rattle.kdl_parts.specs.declared.key.NodeKey.{NodeKey}
@@ -71,6 +72,24 @@ removed_place (Index n) es = nth_place is_argument es n
 -- what stands at a place that was found
 abbrev pub there : {A : Type 0} → Option ℕ → List A → Option A
 there o xs = option_and_then (λ i. slice_get xs i) o
+
+-- the entry that `get` finds
+abbrev pub found : NodeKey → List KdlEntry → Option KdlEntry
+found key es = there (place_of key es) es
+
+-- the argument at that place among the arguments, and the last property of that name
+abbrev pub argument_at : ℕ → List KdlEntry → Option KdlEntry
+argument_at n es = there (nth_place is_argument es n) es
+
+abbrev pub property_named : List ℕ → List KdlEntry → Option KdlEntry
+property_named s es = there (last_place (has_name s) es) es
+
+-- the value of an entry, where there is one; the same as it is in memory
+abbrev pub value_of : Option KdlEntry → Option Value
+value_of o = option_map (λ e. value_tree e.value) o
+
+abbrev pub held_value : Option KdlEntry → Option KdlValue
+held_value o = option_map (λ e. e.value) o
 
 -- the values of the arguments among entries, in order
 abbrev pub arguments : List KdlEntry → List Value

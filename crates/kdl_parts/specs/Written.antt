@@ -12,6 +12,8 @@ use Rattle.kdl_entry.specs.declared.entry.KdlEntry.{KdlEntry}
 use Rattle.kdl_entry.specs.Tree.{entry_tree, plain_entry, plain_identifier}
 use Rattle.kdl_value.specs.Data.{Value, null}
 use Rattle.kdl_value.specs.declared.value.KdlValue.{KdlValue}
+use Rattle.kdl_parts.specs.EntryLists.{is_argument, nth_place, place_of}
+use Rattle.kdl_parts.specs.declared.key.NodeKey.{NodeKey}
 
 -- how the logic holds a list of entries
 abbrev pub entries_row : RattleType
@@ -30,6 +32,17 @@ set_value_at v i w = elim (slice_get v.items i) [ None ↦ v | Some e ↦ with_i
 abbrev pub set_value_there : Option ℕ → Vec KdlEntry Global → KdlValue → Vec KdlEntry Global
 set_value_there None v w = v
 set_value_there (Some i) v w = set_value_at v i w
+
+-- with the entry that a key finds exchanged, and with its value exchanged
+abbrev pub with_found : NodeKey → Vec KdlEntry Global → KdlEntry → Vec KdlEntry Global
+with_found key v e = set_entry_there (place_of key v.items) v e
+
+abbrev pub with_found_value : NodeKey → Vec KdlEntry Global → KdlValue → Vec KdlEntry Global
+with_found_value key v w = set_value_there (place_of key v.items) v w
+
+-- with the value of the argument at that place among the arguments exchanged
+abbrev pub with_argument_value : ℕ → Vec KdlEntry Global → KdlValue → Vec KdlEntry Global
+with_argument_value n v w = set_value_there (nth_place is_argument v.items n) v w
 
 -- fs are the entries es with a property of that name and value behind them
 pub record IsPushed (s : List ℕ) (w : Value) (es fs : List KdlEntry) : Type 0 where

@@ -1,7 +1,7 @@
 //! Edits of the entries of a node.
 
-ghost use Rattle.kdl_parts.specs.Edits.{IsInserted, put_before, put_for, removed, replaced_place, under};
-ghost use Rattle.kdl_parts.specs.EntryLists.{property, removed_place, sought, there};
+ghost use Rattle.kdl_parts.specs.Edits.{IsInserted, put_before, put_for, removed, replaced, replaced_place, taken_out, under};
+ghost use Rattle.kdl_parts.specs.EntryLists.{property, sought, there};
 ghost use Rattle.kdl_entry.specs.Tree.{cleared, entry_tree, identifier_tree};
 ghost use Rattle.std.specs.Fn.{CalledAt};
 ghost use Rattle.std.specs.List.Retain.{IsFiltered};
@@ -15,16 +15,17 @@ use std::alloc::AllocError;
 use std::cmp::Ordering;
 use std::mem;
 
-/// Puts the entry behind the others. Fails where memory is wanting: then the entry comes back, and the entries are as
+/// Puts the entry behind the others. Fails where memory runs out: then the entry comes back, and the entries are as
 /// they were.
 ///
 /// ```
 /// if let Err((entry, _)) = push(&mut entries, KdlEntry::new(KdlValue::from(9))) {
-///     drop(entry); // memory is wanting: the entry is back, and the entries are as they were
+///     drop(entry); // memory ran out: the entry is back, and the entries are as they were
 /// }
 /// ```
 pub fn push(entries: &mut Vec<KdlEntry>, entry: KdlEntry) -> Result<(), (KdlEntry, AllocError)>
-    ensures items { entries.new.items ≡ (if is_ok result then entries.old.items ++ (entry ∷ []) else entries.old.items) }
+    ensures items { entries.new.items ≡
+        (if is_ok result then entries.old.items ++ (entry ∷ []) else entries.old.items) }
     ensures back { IfErr result (λ e. e.0 ≡ entry) }
 {
     match entries.push(entry) {
@@ -37,7 +38,7 @@ pub fn push(entries: &mut Vec<KdlEntry>, entry: KdlEntry) -> Result<(), (KdlEntr
 /// that value is replaced in place and handed back, and where there is none the entry goes last. Under an index it goes
 /// directly before the argument at that place among the arguments, or last where there is none.
 ///
-/// A replacement takes no memory. Else it fails where memory is wanting: then the entry comes back, with the key for its
+/// A replacement takes no memory. Else it fails where memory runs out: then the entry comes back, with the key for its
 /// name where it had none, and the entries are as they were.
 ///
 /// ```
@@ -50,7 +51,7 @@ pub fn insert(
     entry: KdlEntry,
 ) -> Result<Option<KdlEntry>, (KdlEntry, AllocError)>
     ensures items { OnOk result (IsInserted key entry entries.old.items entries.new.items) }
-    ensures replaced { IfOk result (λ e. e ≡ there (replaced_place key entries.old.items) entries.old.items) }
+    ensures replaced { IfOk result (λ e. e ≡ replaced key entries.old.items) }
     ensures succeeds { IsSome (replaced_place key entries.old.items) → IsOk result }
     ensures back { IfErr result (λ e. entry_tree e.0 ≡ under (sought key) (entry_tree entry)) }
     ensures refused { OnErr result (entries.new.items ≡ entries.old.items) }
@@ -70,7 +71,7 @@ pub fn insert(
 /// ```
 pub fn remove(entries: &mut Vec<KdlEntry>, key: NodeKey) -> Option<KdlEntry>
     ensures items { entries.new.items ≡ removed key entries.old.items }
-    ensures value { result ≡ there (removed_place key entries.old.items) entries.old.items }
+    ensures value { result ≡ taken_out key entries.old.items }
 {
     let at = place_to_remove(entries, &key);
     drop(key);
@@ -161,7 +162,8 @@ fn put_for(
     entry: KdlEntry,
 ) -> Result<Option<KdlEntry>, (KdlEntry, AllocError)>
     requires { IfSome at (λ i. i < length entries.old.items) }
-    ensures items { entries.new.items ≡ (if is_ok result then put_for at entry entries.old.items else entries.old.items) }
+    ensures items { entries.new.items ≡
+        (if is_ok result then put_for at entry entries.old.items else entries.old.items) }
     ensures replaced { IfOk result (λ e. e ≡ there at entries.old.items) }
     ensures succeeds { IsSome at → IsOk result }
     ensures back { IfErr result (λ e. e.0 ≡ entry) }
@@ -182,7 +184,8 @@ fn put_before(
     entry: KdlEntry,
 ) -> Result<Option<KdlEntry>, (KdlEntry, AllocError)>
     requires { IfSome at (λ i. i < length entries.old.items) }
-    ensures items { entries.new.items ≡ (if is_ok result then put_before at entry entries.old.items else entries.old.items) }
+    ensures items { entries.new.items ≡
+        (if is_ok result then put_before at entry entries.old.items else entries.old.items) }
     ensures replaced { IfOk result (λ e. e ≡ None) }
     ensures back { IfErr result (λ e. e.0 ≡ entry) }
 {
@@ -201,7 +204,8 @@ fn put_before(
 /// Exchanges the entry at that place, and hands back the one that was there.
 fn replace_at(entries: &mut Vec<KdlEntry>, at: usize, entry: KdlEntry) -> KdlEntry
     requires { at < length entries.old.items }
-    ensures items { entries.new.items ≡ take at entries.old.items ++ (entry ∷ drop (at + 1) entries.old.items) }
+    ensures items { entries.new.items ≡
+        take at entries.old.items ++ (entry ∷ drop (at + 1) entries.old.items) }
     ensures value { slice_get entries.old.items at ≡ Some result }
 {
     mem::replace(&mut entries[at], entry)
@@ -214,7 +218,8 @@ fn insert_at(
     entry: KdlEntry,
 ) -> Result<(), (KdlEntry, AllocError)>
     requires { at ≤ length entries.old.items }
-    ensures items { entries.new.items ≡ (if is_ok result then take at entries.old.items ++ (entry ∷ drop at entries.old.items) else entries.old.items) }
+    ensures items { entries.new.items ≡
+        (if is_ok result then put_before (Some at) entry entries.old.items else entries.old.items) }
     ensures back { IfErr result (λ e. e.0 ≡ entry) }
 {
     match entries.insert(at, entry) {
@@ -226,7 +231,8 @@ fn insert_at(
 /// Takes out the entry at that place.
 fn remove_at(entries: &mut Vec<KdlEntry>, at: usize) -> KdlEntry
     requires { at < length entries.old.items }
-    ensures items { entries.new.items ≡ take at entries.old.items ++ drop (at + 1) entries.old.items }
+    ensures items { entries.new.items ≡
+        take at entries.old.items ++ drop (at + 1) entries.old.items }
     ensures value { slice_get entries.old.items at ≡ Some result }
 {
     entries.remove(at)

@@ -1,9 +1,9 @@
 //! The texts around nodes and documents.
 
 ghost use Rattle.kdl_value.specs.Tree.{text_of};
-ghost use Rattle.kdl_grammar.specs.Laid.{marked_format};
-ghost use Rattle.kdl_parts.specs.Formats.{document_format_tree, ended_format, node_format_tree};
-ghost use Rattle.std.specs.Prelude.{◌≡◌, ◌++◌, [], ◌∷◌, IfOk, option_map};
+ghost use Rattle.kdl_grammar.specs.Laid.{bom_format};
+ghost use Rattle.kdl_parts.specs.Formats.{document_format_tree, document_texts, empty_node_format, ended_format, node_format_tree};
+ghost use Rattle.std.specs.Prelude.{◌≡◌, ◌++◌, [], ◌∷◌, IfOk};
 ghost use Rattle.std.specs.Str.{chars};
 
 use std::alloc::{AllocError, Global};
@@ -39,9 +39,9 @@ impl KdlNodeFormat {
     /// let mut format = KdlNodeFormat::new(alloc); // nothing ends the node: the next one would stand on the same line
     /// format.terminator = String::from_str(alloc, "\n")?;
     /// ```
-    #[tactic(auto, using(crate::proofs::Writing::writes))]
+    #[tactic(auto, using(crate::proofs::Utf8Parts::writes))]
     pub fn new(alloc: Global) -> KdlNodeFormat
-        ensures { node_format_tree result ≡ record { leading = []; before_ty_name = []; after_ty_name = []; after_ty = []; before_children = []; before_terminator = []; terminator = []; trailing = [] } }
+        ensures { node_format_tree result ≡ empty_node_format }
     {
         KdlNodeFormat {
             leading: String::new(alloc),
@@ -56,7 +56,7 @@ impl KdlNodeFormat {
     }
 }
 
-/// A copy with the same texts. Fails where memory is wanting.
+/// A copy with the same texts. Fails where memory runs out.
 ///
 /// ```
 /// let format = KdlNodeFormat::new(alloc);
@@ -121,7 +121,7 @@ impl KdlDocumentFormat {
     /// let mut format = KdlDocumentFormat::new(alloc);
     /// format.trailing = String::from_str(alloc, "// the end\n")?; // printed behind the last node
     /// ```
-    #[tactic(auto, using(crate::proofs::Writing::writes))]
+    #[tactic(auto, using(crate::proofs::Utf8Parts::writes))]
     pub fn new(alloc: Global) -> KdlDocumentFormat
         ensures { document_format_tree result ≡ record { leading = []; trailing = [] } }
     {
@@ -132,7 +132,7 @@ impl KdlDocumentFormat {
     }
 }
 
-/// A copy with the same texts. Fails where memory is wanting.
+/// A copy with the same texts. Fails where memory runs out.
 ///
 /// ```
 /// let format = KdlDocumentFormat::new(alloc);
@@ -149,7 +149,7 @@ impl Clone for KdlDocumentFormat {
 }
 
 /// U+FEFF as a text.
-fn mark_text(alloc: Global) -> Result<String, AllocError>
+fn bom_text(alloc: Global) -> Result<String, AllocError>
     ensures { IfOk result (λ s. text_of s ≡ 0xFEFF ∷ []) }
 {
     let mut mark = String::new(alloc);
@@ -167,16 +167,16 @@ fn push_text(text: &mut String, more: &str) -> Result<(), AllocError>
 /// The format with U+FEFF before its leading text.
 ///
 /// ```
-/// let format = behind_mark(alloc, None)?;
+/// let format = behind_bom(alloc, None)?;
 /// let leading = format.leading.as_str(); // U+FEFF alone
 /// ```
-pub fn behind_mark(
+pub fn behind_bom(
     alloc: Global,
     format: Option<KdlDocumentFormat>,
 ) -> Result<KdlDocumentFormat, AllocError>
-    ensures { IfOk result (λ f. document_format_tree f ≡ marked_format (option_map document_format_tree format)) }
+    ensures { IfOk result (λ f. document_format_tree f ≡ bom_format (document_texts format)) }
 {
-    let mut leading = mark_text(alloc)?;
+    let mut leading = bom_text(alloc)?;
     let Some(format) = format else {
         let mut marked = KdlDocumentFormat::new(alloc);
         marked.leading = leading;

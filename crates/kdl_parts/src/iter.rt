@@ -41,7 +41,8 @@ pub fn entry_iter(entries: &[KdlEntry]) -> EntryIter<'_>
 /// }
 /// ```
 pub fn entry_iter_mut(entries: &mut Vec<KdlEntry>) -> EntryIterMut<'_>
-    ensures* writes_back { sem 𝓛 (follows entries_row (Array entry_row 0) entries.entry.ghost_name (entries_name result) (λ es. with_items entries.old es)) }
+    ensures* writes_back { sem 𝓛 (follows entries_row (Array entry_row 0) entries.entry.ghost_name
+        (entries_name result) (λ es. with_items entries.old es)) }
     ensures left { entries_left result ≡ entries.old.items }
 {
     EntryIterMut {
@@ -66,7 +67,8 @@ pub fn args_iter(entries: &[KdlEntry]) -> ArgsIter<'_>
 
 /// The value of the next argument.
 fn next_argument<'a>(entries: &mut slice::Iter<'a, KdlEntry>) -> Option<&'a KdlValue>
-    ensures { TakesFirst (λ v. value_tree v.now) (arguments (iter_rest entries.old)) result (arguments (iter_rest entries.new)) }
+    ensures { TakesFirst (λ v. value_tree v.now) (arguments (iter_rest entries.old)) result
+        (arguments (iter_rest entries.new)) }
 {
     while let Some(entry) = entries.next() {
         if is_unnamed(entry) {
@@ -137,7 +139,8 @@ impl<'a> Iterator for EntryIterMut<'a> {
     fn size_hint(&self) -> (usize, Option<usize>)
         ensures lower { IsWithinCount result.0 (at_most (length (entries_left self.now))) }
         ensures upper { IfSome result.1 (UpTo (at_most (length (entries_left self.now)))) }
-        ensures value { result ≡ (length (entries_left self.now), Some (length (entries_left self.now))) }
+        ensures value { result ≡
+            (length (entries_left self.now), Some (length (entries_left self.now))) }
     {
         let left = self.entries.len();
         (left, Some(left))

@@ -19,7 +19,7 @@ pub enum NodeKey {
 }
 
 impl NodeKey {
-    /// The key of the properties whose name is a copy of the text. Fails where memory is wanting; an empty text takes
+    /// The key of the properties whose name is a copy of the text. Fails where memory runs out; an empty text takes
     /// none.
     ///
     /// ```

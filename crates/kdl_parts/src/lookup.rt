@@ -1,7 +1,7 @@
 //! Look-ups among the entries of a node, by the name of a property or by the place of an argument.
 
-ghost use Rattle.kdl_parts.specs.EntryLists.{has_name, is_argument, last_place, nth_place, place_of, there};
-ghost use Rattle.kdl_parts.specs.Written.{entries_row, set_entry_there, set_value_at, set_value_there, HasProperty};
+ghost use Rattle.kdl_parts.specs.EntryLists.{argument_at, found, has_name, held_value, is_argument, last_place, nth_place, property_named, value_of};
+ghost use Rattle.kdl_parts.specs.Written.{entries_row, set_value_at, with_argument_value, with_found, with_found_value, HasProperty};
 ghost use Rattle.kdl_value.specs.Tree.{value_tree};
 ghost use Rattle.kdl_entry.specs.contracts.entry.KdlEntry.{the_row as entry_row};
 ghost use Rattle.kdl_value.specs.contracts.value.KdlValue.{the_row as value_row};
@@ -20,7 +20,7 @@ use std::alloc::AllocError;
 /// let found = entry(&entries, NodeKey::from(1)); // of `1 a=2 3` the argument 3
 /// ```
 pub fn entry(entries: &[KdlEntry], key: NodeKey) -> Option<&KdlEntry>
-    ensures { option_map (λ e. e.now) result ≡ there (place_of key entries.now) entries.now }
+    ensures { option_map (λ e. e.now) result ≡ found key entries.now }
 {
     let at = place(entries, &key);
     drop(key);
@@ -36,7 +36,7 @@ pub fn entry(entries: &[KdlEntry], key: NodeKey) -> Option<&KdlEntry>
 /// let found = value(&entries, NodeKey::from_text(alloc, "a")?); // of `1 a=2 a=3` the value 3
 /// ```
 pub fn value(entries: &[KdlEntry], key: NodeKey) -> Option<&KdlValue>
-    ensures { option_map (λ v. value_tree v.now) result ≡ option_map (λ e. value_tree e.value) (there (place_of key entries.now) entries.now) }
+    ensures { option_map (λ v. value_tree v.now) result ≡ value_of (found key entries.now) }
 {
     match entry(entries, key) {
         Some(entry) => Some(entry.value()),
@@ -52,8 +52,9 @@ pub fn value(entries: &[KdlEntry], key: NodeKey) -> Option<&KdlValue>
 /// }
 /// ```
 pub fn entry_mut(entries: &mut Vec<KdlEntry>, key: NodeKey) -> Option<&mut KdlEntry>
-    ensures* writes_back { sem 𝓛 (LendsIf entries_row entry_row entries.entry result (set_entry_there (place_of key entries.old.items) entries.old) entries.old) }
-    ensures value { option_map (λ e. e.now) result ≡ there (place_of key entries.old.items) entries.old.items }
+    ensures* writes_back { sem 𝓛 (LendsIf entries_row entry_row entries.entry result
+        (with_found key entries.old) entries.old) }
+    ensures value { option_map (λ e. e.now) result ≡ found key entries.old.items }
 {
     let at = place(entries, &key);
     drop(key);
@@ -71,8 +72,9 @@ pub fn entry_mut(entries: &mut Vec<KdlEntry>, key: NodeKey) -> Option<&mut KdlEn
 /// }
 /// ```
 pub fn value_mut(entries: &mut Vec<KdlEntry>, key: NodeKey) -> Option<&mut KdlValue>
-    ensures* writes_back { sem 𝓛 (LendsIf entries_row value_row entries.entry result (set_value_there (place_of key entries.old.items) entries.old) entries.old) }
-    ensures value { option_map (λ v. v.now) result ≡ option_map (λ e. e.value) (there (place_of key entries.old.items) entries.old.items) }
+    ensures* writes_back { sem 𝓛 (LendsIf entries_row value_row entries.entry result
+        (with_found_value key entries.old) entries.old) }
+    ensures value { option_map (λ v. v.now) result ≡ held_value (found key entries.old.items) }
 {
     let at = place(entries, &key);
     drop(key);
@@ -91,7 +93,8 @@ pub fn value_mut(entries: &mut Vec<KdlEntry>, key: NodeKey) -> Option<&mut KdlVa
 /// ```
 pub fn value_at_mut(entries: &mut Vec<KdlEntry>, at: usize) -> &mut KdlValue
     requires { at < length entries.old.items }
-    ensures* writes_back { sem 𝓛 (Lends entries_row value_row entries.entry result (set_value_at entries.old at)) }
+    ensures* writes_back { sem 𝓛 (Lends entries_row value_row entries.entry result
+        (set_value_at entries.old at)) }
     ensures value { option_map (λ e. e.value) (slice_get entries.old.items at) ≡ Some result.now }
 {
     entries[at].value_mut()
@@ -106,7 +109,7 @@ pub fn value_at_mut(entries: &mut Vec<KdlEntry>, at: usize) -> &mut KdlValue
 /// ```
 pub fn argument(entries: &[KdlEntry], n: usize) -> &KdlValue
     requires { IsSome (nth_place is_argument entries.now n) }
-    ensures { option_map (λ e. value_tree e.value) (there (nth_place is_argument entries.now n) entries.now) ≡ Some (value_tree result.now) }
+    ensures { value_of (argument_at n entries.now) ≡ Some (value_tree result.now) }
 {
     match nth_argument(entries, n) {
         Some(at) => entries[at].value(),
@@ -123,7 +126,7 @@ pub fn argument(entries: &[KdlEntry], n: usize) -> &KdlValue
 /// ```
 pub fn property<'a>(entries: &'a [KdlEntry], name: &str) -> &'a KdlValue
     requires { IsSome (last_place (has_name name.now) entries.now) }
-    ensures { option_map (λ e. value_tree e.value) (there (last_place (has_name name.now) entries.now) entries.now) ≡ Some (value_tree result.now) }
+    ensures { value_of (property_named name.now entries.now) ≡ Some (value_tree result.now) }
 {
     match last_property(entries, name) {
         Some(last) => entries[last].value(),
@@ -149,7 +152,8 @@ pub fn has_property(entries: &[KdlEntry], name: &str) -> bool
 /// let at = property_or_null(&mut entries, "b")?; // of `1 a=2` the place 2, where `b=#null` is pushed
 /// ```
 pub fn property_or_null(entries: &mut Vec<KdlEntry>, name: &str) -> Result<usize, AllocError>
-    ensures found { IfOk result (λ i. HasProperty (last_place (has_name name.now) entries.old.items) name.now entries.old i entries.new) }
+    ensures found { IfOk result (λ i. HasProperty (last_place (has_name name.now) entries.old.items)
+        name.now entries.old i entries.new) }
     ensures bound { IfOk result (λ i. i < length entries.new.items) }
     ensures answers { IsSome (last_place (has_name name.now) entries.old.items) → IsOk result }
     ensures missing { OnErr result (IsNone (last_place (has_name name.now) entries.old.items)) }
@@ -174,8 +178,9 @@ pub fn property_or_null(entries: &mut Vec<KdlEntry>, name: &str) -> Result<usize
 /// ```
 pub fn argument_mut(entries: &mut Vec<KdlEntry>, n: usize) -> &mut KdlValue
     requires { IsSome (nth_place is_argument entries.old.items n) }
-    ensures* writes_back { sem 𝓛 (Lends entries_row value_row entries.entry result (set_value_there (nth_place is_argument entries.old.items n) entries.old)) }
-    ensures value { option_map (λ e. e.value) (there (nth_place is_argument entries.old.items n) entries.old.items) ≡ Some result.now }
+    ensures* writes_back { sem 𝓛 (Lends entries_row value_row entries.entry result
+        (with_argument_value n entries.old)) }
+    ensures value { held_value (argument_at n entries.old.items) ≡ Some result.now }
 {
     match nth_argument(entries, n) {
         Some(at) => value_at_mut(entries, at),

@@ -28,11 +28,7 @@ pub fn is_unnamed(entry: &KdlEntry) -> bool
 }
 
 /// The place of the last property of that name.
-///
-/// ```
-/// let at = last_property(&entries, "a"); // of `1 a=2 a=3` the place 2
-/// ```
-pub fn last_property(entries: &[KdlEntry], name: &str) -> Option<usize>
+pub(crate) fn last_property(entries: &[KdlEntry], name: &str) -> Option<usize>
     ensures place { result ≡ last_place (has_name name.now) entries.now }
     ensures bound { IfSome result (λ i. i < length entries.now) }
 {
@@ -46,11 +42,7 @@ pub fn last_property(entries: &[KdlEntry], name: &str) -> Option<usize>
 }
 
 /// The place of the argument that stands at `n` among the arguments, from 0.
-///
-/// ```
-/// let at = nth_argument(&entries, 1); // of `1 a=2 3` the place 2
-/// ```
-pub fn nth_argument(entries: &[KdlEntry], n: usize) -> Option<usize>
+pub(crate) fn nth_argument(entries: &[KdlEntry], n: usize) -> Option<usize>
     ensures place { result ≡ nth_place is_argument entries.now n }
     ensures bound { IfSome result (λ i. i < length entries.now) }
 {
@@ -75,11 +67,7 @@ fn first_property(entries: &[KdlEntry], name: &str) -> Option<usize>
 }
 
 /// The place of the entry that the key finds.
-///
-/// ```
-/// let at = place(&entries, &NodeKey::from_text(alloc, "a")?); // of `1 a=2 a=3` the place 2
-/// ```
-pub fn place(entries: &[KdlEntry], key: &NodeKey) -> Option<usize>
+pub(crate) fn place(entries: &[KdlEntry], key: &NodeKey) -> Option<usize>
     ensures place { result ≡ place_of key.now entries.now }
     ensures bound { IfSome result (λ i. i < length entries.now) }
 {
@@ -90,11 +78,7 @@ pub fn place(entries: &[KdlEntry], key: &NodeKey) -> Option<usize>
 }
 
 /// The place of the entry that a removal takes out: the first property of that name, or that argument.
-///
-/// ```
-/// let at = place_to_remove(&entries, &NodeKey::from_text(alloc, "a")?); // of `1 a=2 a=3` the place 1
-/// ```
-pub fn place_to_remove(entries: &[KdlEntry], key: &NodeKey) -> Option<usize>
+pub(crate) fn place_to_remove(entries: &[KdlEntry], key: &NodeKey) -> Option<usize>
     ensures place { result ≡ removed_place key.now entries.now }
     ensures bound { IfSome result (λ i. i < length entries.now) }
 {

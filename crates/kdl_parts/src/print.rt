@@ -1,24 +1,19 @@
 //! Parts of the printed text.
 
-ghost use Rattle.kdl_grammar.specs.Print.{after_brace, before_block, before_brace, end_text, head_text, last_has_format, leading_text, print_piece, print_pieces, spaces, trailing_text};
-ghost use Rattle.kdl_parts.specs.Formats.{document_format_tree, node_format_tree};
-ghost use Rattle.kdl_entry.specs.Tree.{entry_tree, identifier_tree};
-ghost use Rattle.std.specs.Fmt.{WritesOnOk};
-ghost use Rattle.std.specs.Prelude.{◌≡◌, ◌++◌, [], ◌∷◌, map, option_map};
-ghost use Rattle.std.specs.Str.{encode_utf8_all};
+ghost use Rattle.kdl_grammar.specs.Print.{after_brace, before_brace, end_text, last_has_format, leading_text, print_piece, spaces, trailing_text};
+ghost use Rattle.kdl_parts.specs.Formats.{document_texts, node_texts};
+ghost use Rattle.kdl_parts.specs.Printed.{Prints, before_block, head_text, pieces};
+ghost use Rattle.kdl_entry.specs.Tree.{entry_tree};
+ghost use Rattle.std.specs.Prelude.{◌≡◌, ◌++◌, [], ◌∷◌, map};
 
 use crate::format::{KdlDocumentFormat, KdlNodeFormat};
 use kdl_entry::{KdlEntry, KdlIdentifier, write_text, write_type};
 use std::fmt;
 
 /// Writes the indentation at a depth: four spaces for each level.
-///
-/// ```
-/// write_spaces(2, f)?; // writes eight spaces
-/// ```
-#[tactic(auto, using(crate::proofs::Writing::writes, crate::proofs::Writing::spaces_more))]
-pub fn write_spaces<W: fmt::Write>(depth: usize, f: &mut fmt::Formatter<W>) -> fmt::Result
-    ensures { WritesOnOk W.write_str_gives f.old result (encode_utf8_all (spaces depth)) f.new }
+#[tactic(auto, using(crate::proofs::Utf8Parts::writes, crate::proofs::Utf8Parts::spaces_more))]
+fn write_spaces<W: fmt::Write>(depth: usize, f: &mut fmt::Formatter<W>) -> fmt::Result
+    ensures { Prints W.write_str_gives f.old result (spaces depth) f.new }
 {
     for _level in 0..depth {
         f.write_str("    ")?;
@@ -31,7 +26,7 @@ pub fn write_spaces<W: fmt::Write>(depth: usize, f: &mut fmt::Formatter<W>) -> f
 /// ```
 /// write_head(&None, &name, &None, 1, f)?; // writes four spaces and the name
 /// ```
-#[tactic(auto, using(crate::proofs::Writing::writes))]
+#[tactic(auto, using(crate::proofs::Utf8Parts::writes))]
 pub fn write_head<W: fmt::Write>(
     ty: &Option<KdlIdentifier>,
     name: &KdlIdentifier,
@@ -39,7 +34,8 @@ pub fn write_head<W: fmt::Write>(
     depth: usize,
     f: &mut fmt::Formatter<W>,
 ) -> fmt::Result
-    ensures { WritesOnOk W.write_str_gives f.old result (encode_utf8_all (head_text (option_map identifier_tree ty.now) (identifier_tree name.now) (option_map node_format_tree format.now) depth)) f.new }
+    ensures { Prints W.write_str_gives f.old result
+        (head_text ty.now name.now format.now depth) f.new }
 {
     match format {
         Some(format) => {
@@ -61,9 +57,9 @@ pub fn write_head<W: fmt::Write>(
 /// ```
 /// write_pieces(&entries, f)?; // of `1 a=2`, both without a format, writes " 1 a=2"
 /// ```
-#[tactic(auto, using(crate::proofs::Writing::writes, crate::proofs::Printing::pieces_written))]
+#[tactic(auto, using(crate::proofs::Utf8Parts::writes, crate::proofs::PrintedEntries::pieces_written))]
 pub fn write_pieces<W: fmt::Write>(entries: &[KdlEntry], f: &mut fmt::Formatter<W>) -> fmt::Result
-    ensures { WritesOnOk W.write_str_gives f.old result (encode_utf8_all (print_pieces (map entry_tree entries.now))) f.new }
+    ensures { Prints W.write_str_gives f.old result (pieces entries.now) f.new }
 {
     for entry in entries {
         write_piece(entry, f)?;
@@ -72,9 +68,9 @@ pub fn write_pieces<W: fmt::Write>(entries: &[KdlEntry], f: &mut fmt::Formatter<
 }
 
 /// Writes an entry of a node: one without a format stands after one space.
-#[tactic(auto, using(crate::proofs::Writing::writes))]
+#[tactic(auto, using(crate::proofs::Utf8Parts::writes))]
 fn write_piece<W: fmt::Write>(entry: &KdlEntry, f: &mut fmt::Formatter<W>) -> fmt::Result
-    ensures { WritesOnOk W.write_str_gives f.old result (encode_utf8_all (print_piece (entry_tree entry.now))) f.new }
+    ensures { Prints W.write_str_gives f.old result (print_piece (entry_tree entry.now)) f.new }
 {
     if entry.format().is_none() {
         f.write_str(" ")?;
@@ -83,11 +79,7 @@ fn write_piece<W: fmt::Write>(entry: &KdlEntry, f: &mut fmt::Formatter<W>) -> fm
 }
 
 /// Whether the last entry has a format.
-///
-/// ```
-/// let before = ends_formatted(&entries); // of entries that were read true, behind a pushed `KdlEntry::new` false
-/// ```
-pub fn ends_formatted(entries: &[KdlEntry]) -> bool
+fn ends_formatted(entries: &[KdlEntry]) -> bool
     ensures { result ≡ last_has_format (map entry_tree entries.now) }
 {
     match entries.last() {
@@ -101,13 +93,13 @@ pub fn ends_formatted(entries: &[KdlEntry]) -> bool
 /// ```
 /// write_before_block(&None, &[], f)?; // writes one space
 /// ```
-#[tactic(auto, using(crate::proofs::Writing::writes))]
+#[tactic(auto, using(crate::proofs::Utf8Parts::writes))]
 pub fn write_before_block<W: fmt::Write>(
     format: &Option<KdlNodeFormat>,
     entries: &[KdlEntry],
     f: &mut fmt::Formatter<W>,
 ) -> fmt::Result
-    ensures { WritesOnOk W.write_str_gives f.old result (encode_utf8_all (before_block (option_map node_format_tree format.now) (map entry_tree entries.now))) f.new }
+    ensures { Prints W.write_str_gives f.old result (before_block format.now entries.now) f.new }
 {
     match format {
         Some(format) => write_text(&format.before_children, f),
@@ -126,12 +118,12 @@ pub fn write_before_block<W: fmt::Write>(
 /// ```
 /// write_end(&format, f)?; // of a node `a 1 ; // kept` that was read writes " ;"; without a format nothing
 /// ```
-#[tactic(auto, using(crate::proofs::Writing::writes))]
+#[tactic(auto, using(crate::proofs::Utf8Parts::writes))]
 pub fn write_end<W: fmt::Write>(
     format: &Option<KdlNodeFormat>,
     f: &mut fmt::Formatter<W>,
 ) -> fmt::Result
-    ensures { WritesOnOk W.write_str_gives f.old result (encode_utf8_all (end_text (option_map node_format_tree format.now))) f.new }
+    ensures { Prints W.write_str_gives f.old result (end_text (node_texts format.now)) f.new }
 {
     match format {
         Some(format) => {
@@ -152,7 +144,8 @@ pub fn write_leading<W: fmt::Write>(
     format: &Option<KdlDocumentFormat>,
     f: &mut fmt::Formatter<W>,
 ) -> fmt::Result
-    ensures { WritesOnOk W.write_str_gives f.old result (encode_utf8_all (leading_text (option_map document_format_tree format.now))) f.new }
+    ensures { Prints W.write_str_gives f.old result
+        (leading_text (document_texts format.now)) f.new }
 {
     match format {
         Some(format) => write_text(&format.leading, f),
@@ -169,7 +162,8 @@ pub fn write_trailing<W: fmt::Write>(
     format: &Option<KdlDocumentFormat>,
     f: &mut fmt::Formatter<W>,
 ) -> fmt::Result
-    ensures { WritesOnOk W.write_str_gives f.old result (encode_utf8_all (trailing_text (option_map document_format_tree format.now))) f.new }
+    ensures { Prints W.write_str_gives f.old result
+        (trailing_text (document_texts format.now)) f.new }
 {
     match format {
         Some(format) => write_text(&format.trailing, f),
@@ -182,12 +176,13 @@ pub fn write_trailing<W: fmt::Write>(
 /// ```
 /// write_after_brace(&None, f)?; // writes `{` and a newline; with a format `{` alone
 /// ```
-#[tactic(auto, using(crate::proofs::Writing::writes))]
+#[tactic(auto, using(crate::proofs::Utf8Parts::writes))]
 pub fn write_after_brace<W: fmt::Write>(
     format: &Option<KdlDocumentFormat>,
     f: &mut fmt::Formatter<W>,
 ) -> fmt::Result
-    ensures { WritesOnOk W.write_str_gives f.old result (encode_utf8_all (123 ∷ after_brace (option_map document_format_tree format.now))) f.new }
+    ensures { Prints W.write_str_gives f.old result
+        (123 ∷ after_brace (document_texts format.now)) f.new }
 {
     match format {
         Some(_) => f.write_str("{"),
@@ -200,13 +195,14 @@ pub fn write_after_brace<W: fmt::Write>(
 /// ```
 /// write_before_brace(&None, 1, f)?; // writes four spaces and `}`; with a format `}` alone
 /// ```
-#[tactic(auto, using(crate::proofs::Writing::writes))]
+#[tactic(auto, using(crate::proofs::Utf8Parts::writes))]
 pub fn write_before_brace<W: fmt::Write>(
     format: &Option<KdlDocumentFormat>,
     depth: usize,
     f: &mut fmt::Formatter<W>,
 ) -> fmt::Result
-    ensures { WritesOnOk W.write_str_gives f.old result (encode_utf8_all (before_brace (option_map document_format_tree format.now) depth ++ 125 ∷ [])) f.new }
+    ensures { Prints W.write_str_gives f.old result
+        (before_brace (document_texts format.now) depth ++ 125 ∷ []) f.new }
 {
     match format {
         Some(_) => f.write_str("}"),

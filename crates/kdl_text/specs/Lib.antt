@@ -1,16 +1,22 @@
+-- Bare strings (KDL 2.0.0, Identifier String).
 pub mod Bare
+-- Texts and classes of characters (KDL 2.0.0: Unicode scalar values, spaces, newlines, disallowed code points).
 pub mod Chars
+-- Dedent (KDL 2.0.0, Multi-line Strings): what lines stand for, the last of which is spaces alone.
 pub mod Dedent
+-- What is told of a refused text.
 pub mod Failures
-pub mod Here
-pub mod Lines
+-- Quoted strings in either form (KDL 2.0.0, Quoted String and Multi-line String).
 pub mod MultiLine
-pub mod NumberReading
+-- Numbers (KDL 2.0.0, Number).
 pub mod Numbers
+-- Raw strings in either form (KDL 2.0.0, Raw String).
 pub mod Raw
-pub mod Reading
+-- Spans: places in a text, in bytes.
 pub mod Spans
+-- Quoted strings on one line (KDL 2.0.0, Quoted String). `X t r x`: an X begins the text t, leaves r, and stands for x.
 pub mod Strings
-pub mod Tables
+-- Comments, spaces, esclines, slashdashes, and what may stand behind a value (KDL 2.0.0).
 pub mod Trivia
-pub mod TriviaReading
+-- What only proofs and contracts inside the crates need.
+pub mod Internal

@@ -29,15 +29,15 @@ base_of c =
     else None
 
 -- the base whose mark begins the text
-abbrev pub marked : Text → Option ℕ
-marked [] = None
-marked (c ∷ []) = None
-marked (c ∷ d ∷ s) = if c == 48 then base_of d else None
+abbrev pub base_prefix : Text → Option ℕ
+base_prefix [] = None
+base_prefix (c ∷ []) = None
+base_prefix (c ∷ d ∷ s) = if c == 48 then base_of d else None
 
 -- the mark of a base: none for 10
-pub data BaseMark : Text → Text → ℕ → Type 0 where
-  ten : {t : Text} → marked t ≡ None → BaseMark t t 10
-  other : {c d radix : ℕ} {r : Text} → marked (c ∷ d ∷ r) ≡ Some radix → BaseMark (c ∷ d ∷ r) r radix
+pub data BasePrefix : Text → Text → ℕ → Type 0 where
+  ten : {t : Text} → base_prefix t ≡ None → BasePrefix t t 10
+  other : {c d radix : ℕ} {r : Text} → base_prefix (c ∷ d ∷ r) ≡ Some radix → BasePrefix (c ∷ d ∷ r) r radix
 
 -- digits and `_`, as many as stand here; w is the digits alone
 pub data Digits (radix : ℕ) : Text → Text → Text → Type 0 where
@@ -59,7 +59,7 @@ fits negative n = if negative then nat_le n (2 ^ 127) else nat_lt n (2 ^ 127)
 
 -- a sign, the mark of a base and an integer, which stand for z, and no identifier character behind them
 pub data WholeNumber : Text → Text → ℤ → Type 0 where
-  whole : {t s u r w : Text} {negative : Bool} {radix : ℕ} {z : ℤ} → Sign t s negative → BaseMark s u radix → Integer radix u r w → starts is_identifier_char r ≡ false
+  whole : {t s u r w : Text} {negative : Bool} {radix : ℕ} {z : ℤ} → Sign t s negative → BasePrefix s u radix → Integer radix u r w → starts is_identifier_char r ≡ false
       → fits negative (digits_value radix w) ≡ true → z ≡ signed negative (digits_value radix w) → WholeNumber t r z
 
 -- a point and an integer, or neither
@@ -68,13 +68,13 @@ pub data Fraction : Text → Text → Bool → Type 0 where
   fraction : {s r w : Text} → Integer 10 s r w → Fraction (46 ∷ s) r true
 
 -- `e` and `E`
-abbrev pub is_exponent_mark : ℕ → Bool
-is_exponent_mark c = c == 101 || c == 69
+abbrev pub is_exponent_letter : ℕ → Bool
+is_exponent_letter c = c == 101 || c == 69
 
 -- `e` or `E`, a sign and an integer, or nothing of these
 pub data Exponent : Text → Text → Bool → Type 0 where
-  none : {t : Text} → starts is_exponent_mark t ≡ false → Exponent t t false
-  exponent : {c : ℕ} {s t r w : Text} {negative : Bool} → is_exponent_mark c ≡ true → Sign s t negative → Integer 10 t r w → Exponent (c ∷ s) r true
+  none : {t : Text} → starts is_exponent_letter t ≡ false → Exponent t t false
+  exponent : {c : ℕ} {s t r w : Text} {negative : Bool} → is_exponent_letter c ≡ true → Sign s t negative → Integer 10 t r w → Exponent (c ∷ s) r true
 
 -- what makes a decimal of an integer: a fraction or an exponent or both, and no identifier character behind them
 pub data DecimalPart : Text → Text → Type 0 where

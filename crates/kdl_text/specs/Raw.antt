@@ -24,11 +24,6 @@ pub data RawUnits (close : Text) : Text → Text → List LineUnit → Type 0 wh
 pub data RawContent (close : Text) : Text → Text → List LineUnit → Type 0 where
   content : {t m r : Text} {us : List LineUnit} → RawUnits close t m us → m ≡ close ++ r → RawContent close t r us
 
--- such units, with the closing or without it
-abbrev pub RawPart : Text → Bool → Text → Text → List LineUnit → Type 0
-RawPart close true t r us = RawContent close t r us
-RawPart close false t r us = RawUnits close t r us
-
 -- the characters as units of a line
 abbrev pub literals : Text → List LineUnit
 literals [] = []

@@ -1,8 +1,13 @@
 -- Spans: places in a text, in bytes.
-use Rattle.std.specs.Prelude.{◌≡◌, ◌-◌, ◌++◌}
+use Rattle.std.specs.Prelude.{◌≡◌, ℕ, ◌+◌, ◌-◌, [], ◌∷◌, ◌++◌}
+use Rattle.std.specs.Char.{len_utf8}
 use Rattle.kdl_text.specs.Chars.{Text}
-use Rattle.kdl_text.specs.Here.{bytes}
 use Rattle.kdl_text.specs.declared.span.SourceSpan.{SourceSpan}
+
+-- the bytes of a text in UTF-8
+abbrev pub bytes : Text → ℕ
+bytes [] = 0
+bytes (c ∷ s) = len_utf8 c + bytes s
 
 -- the span, in the whole text, of what stands in t before r
 abbrev pub span_between : Text → Text → Text → SourceSpan

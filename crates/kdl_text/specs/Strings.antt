@@ -12,9 +12,9 @@ pub data StringUnit : Type 0 where
   spaces : StringUnit
 
 -- an escape with its character, or without one an escape of spaces and newlines
-abbrev pub escaped : Option ℕ → StringUnit
-escaped None = spaces
-escaped (Some c) = escape c
+abbrev pub escape_of : Option ℕ → StringUnit
+escape_of None = spaces
+escape_of (Some c) = escape c
 
 -- what a unit stands for
 abbrev pub unit_value : StringUnit → Text
@@ -28,8 +28,8 @@ values [] = []
 values (u ∷ us) = unit_value u ++ values us
 
 -- a space or a character of newlines
-abbrev pub is_blank : ℕ → Bool
-is_blank c = is_space c || is_newline_char c
+abbrev pub is_escaped_space : ℕ → Bool
+is_escaped_space c = is_space c || is_newline_char c
 
 -- a hexadecimal digit
 abbrev pub is_hex : ℕ → Bool
@@ -69,7 +69,7 @@ pub data IsUnit : Text → Text → StringUnit → Type 0 where
   one_literal : {c : ℕ} {r : Text} → is_literal c ≡ true → IsUnit (c ∷ r) r (literal c)
   one_letter : {e c : ℕ} {r : Text} → letter_escape e ≡ Some c → IsUnit (92 ∷ e ∷ r) r (escape c)
   one_number : {t r : Text} {c : ℕ} → HexNumber t r c → IsUnit (92 ∷ 117 ∷ 123 ∷ t) r (escape c)
-  one_gap : {e : ℕ} {t r : Text} → is_blank e ≡ true → Run is_blank t r → IsUnit (92 ∷ e ∷ t) r spaces
+  one_gap : {e : ℕ} {t r : Text} → is_escaped_space e ≡ true → Run is_escaped_space t r → IsUnit (92 ∷ e ∷ t) r spaces
 
 -- units in a row
 pub data AreUnits : Text → Text → List StringUnit → Type 0 where

@@ -4,9 +4,10 @@
 
 ghost use Rattle.kdl_text.specs.Chars as class;
 ghost use Rattle.kdl_text.specs.Chars.{Text, Newline};
-ghost use Rattle.kdl_text.specs.Here.{Here, Ahead, Behind, Skips, Took, Ate, AteTwo, Stayed, first, first_len, tail, looked, stepped, sliced, counted, bytes, raise, in_class, RunOf, AsciiOf};
-ghost use Rattle.kdl_text.specs.Tables.{TableOf};
-ghost use Rattle.kdl_text.specs.Reading.{Moves, Costs, ReadsNewline};
+ghost use Rattle.kdl_text.specs.Internal.Here.{Here, Ahead, Behind, Skips, Took, Ate, AteTwo, Stayed, first, first_len, tail, looked, stepped, sliced, counted, raise, in_class, RunOf, AsciiOf};
+ghost use Rattle.kdl_text.specs.Spans.{bytes};
+ghost use Rattle.kdl_text.specs.Internal.Tables.{TableOf};
+ghost use Rattle.kdl_text.specs.Internal.Reading.{Moves, Costs, ReadsNewline};
 ghost use Rattle.kdl_text.specs.Spans as spans;
 ghost use Rattle.std.specs.Char.{len_utf8};
 ghost use Rattle.std.specs.Prelude.{◌≡◌, ℕ, Bool, true, ◌+◌, ◌-◌, ◌<◌, ◌^◌, ◌++◌, ◌∷◌, [], length, MatchOption, IfSome, IfOk, IsTrue, ◌↔◌, string_bytes, nat_lt, not, ◌&&◌};
@@ -112,7 +113,7 @@ pub fn is_raw(c: char) -> bool
 /// Whether the character may stand in a line of a raw string and is no quote.
 #[inline]
 #[tactic(auto, unfolding(crate::specs::Chars::is_unquoted))]
-pub fn is_unquoted(c: char) -> bool
+fn is_unquoted(c: char) -> bool
     ensures { result ≡ class.is_unquoted c }
 {
     !(c == '"' || is_newline_char(c) || is_banned(c))
@@ -218,7 +219,7 @@ impl Class {
 
 /// The text behind its longest run of ASCII characters of the class, and how many these are.
 #[inline]
-#[tactic(auto, using(crate::proofs::Classes::ascii_boundary))]
+#[tactic(auto, using(crate::proofs::Looking::ClassTables::ascii_boundary))]
 fn skip_ascii(text: &str, class: Class) -> (&str, u64)
     ensures { AsciiOf (in_class class) text.now result.0.now result.1 }
 {
@@ -311,7 +312,7 @@ fn starts_with_two(text: &str, a: char, b: char) -> bool
 
 /// The same from the place on to which `skip_ascii` came, behind so many characters.
 #[inline(never)]
-#[tactic(auto, using(crate::proofs::Runs::run_begins, crate::proofs::Runs::run_turn, crate::proofs::Runs::run_stops, crate::proofs::Runs::run_ends, crate::proofs::Runs::run_counts))]
+#[tactic(auto, using(crate::proofs::Looking::Runs::run_begins, crate::proofs::Looking::Runs::run_turn, crate::proofs::Looking::Runs::run_stops, crate::proofs::Looking::Runs::run_ends, crate::proofs::Looking::Runs::run_counts))]
 fn skip_beyond<'a>(text: &str, behind: &'a str, read: u64, class: Class) -> (&'a str, u64)
     requires { AsciiOf (in_class class) text.now behind.now read }
     ensures { RunOf (in_class class) text.now result.0.now result.1 }
@@ -369,7 +370,7 @@ fn same(a: &str, b: &str) -> bool
 
 /// The bytes of the text.
 #[inline]
-#[tactic(auto, using(crate::proofs::Texts::chars_bytes))]
+#[tactic(auto, using(crate::proofs::Looking::Texts::chars_bytes))]
 fn byte_len(text: &str) -> usize
     ensures { result ≡ bytes (chars text.now) }
 {
@@ -384,7 +385,7 @@ pub struct Checkpoint<'a> {
 }
 
 impl<'a> Model for Checkpoint<'a> {
-    ghost use Rattle.kdl_text.specs.Here.{Spot};
+    ghost use Rattle.kdl_text.specs.Internal.Here.{Spot};
     ghost use Rattle.std.specs.Prelude.{◌+◌, ◌<◌, ◌^◌, length};
     ghost use Rattle.std.specs.Str.{chars};
 
@@ -482,7 +483,8 @@ impl<'a> Piece<'a> {
     /// Appends the piece to the text. An empty one takes no memory.
     #[inline]
     pub fn push_to(&self, out: &mut String) -> Result<(), AllocError>
-        ensures { IfOk result (λ _. chars (string_bytes out.new) ≡ chars (string_bytes out.old) ++ self.now) }
+        ensures { IfOk result (λ _. chars (string_bytes out.new)
+            ≡ chars (string_bytes out.old) ++ self.now) }
     {
         out.push_str(self.text)
     }
@@ -546,7 +548,7 @@ pub struct Cursor<'a> {
 }
 
 impl<'a> Model for Cursor<'a> {
-    ghost use Rattle.kdl_text.specs.Here.{Here};
+    ghost use Rattle.kdl_text.specs.Internal.Here.{Here};
     ghost use Rattle.std.specs.Prelude.{◌+◌, ◌<◌, ◌^◌, length};
     ghost use Rattle.std.specs.Str.{chars};
 
@@ -606,7 +608,11 @@ impl<'a> Cursor<'a> {
 
     /// Goes back or on to a place in the text. No step.
     pub fn go_to(&mut self, place: &Checkpoint<'a>)
-        ensures { self.new ≡ record { rest = place.now.rest; at = place.now.at; steps = self.old.steps } }
+        ensures { self.new ≡ record {
+          rest = place.now.rest;
+          at = place.now.at;
+          steps = self.old.steps;
+        } }
     {
         self.rest = place.rest;
         self.at = place.at;
@@ -637,8 +643,8 @@ impl<'a> Cursor<'a> {
     pub fn step(&mut self)
         ensures { self.new ≡ stepped self.old }
     {
-        if let Some((c, rest)) = split_first(self.rest) {
-            self.at += c.len_utf8();
+        if let Some((_, rest)) = split_first(self.rest) {
+            self.at += self.rest.len() - rest.len();
             self.rest = rest;
         }
     }
@@ -653,7 +659,7 @@ impl<'a> Cursor<'a> {
         self.steps.raise(1);
         match split_first(self.rest) {
             Some((c, rest)) => {
-                self.at += c.len_utf8();
+                self.at += self.rest.len() - rest.len();
                 self.rest = rest;
                 Some(c)
             }

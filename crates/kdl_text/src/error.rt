@@ -61,14 +61,3 @@ impl From<AllocError> for ParseFailure {
         ParseFailure::Memory
     }
 }
-
-/// Why no float was made of a text.
-#[derive(Clone, Copy, Debug, PartialEq, Eq, Error)]
-pub enum FloatFailure {
-    /// The text is neither a decimal without `_` nor one of `#inf`, `#-inf` and `#nan`.
-    #[error("not a KDL float")]
-    NotAFloat,
-    /// A request for memory was refused.
-    #[error("out of memory")]
-    Memory,
-}

@@ -2,11 +2,11 @@
 
 ghost use Rattle.kdl_text.specs.Chars.{starts};
 ghost use Rattle.kdl_text.specs.Chars as class;
-ghost use Rattle.kdl_text.specs.Here.{Stayed};
-ghost use Rattle.kdl_text.specs.NumberReading.{radix_of, IsBase, LooksMark, Counts, IsDigit, ReadsDigits, ReadsInteger, ReadsFront, IsFault, IsPartFault, IsPowerFault, IsNumberFault, ReadsFraction, ReadsExponent, ReadsPart, ReadsNumber, ReadsKeyword, AteMark, WordOf, is_of_number};
+ghost use Rattle.kdl_text.specs.Internal.Here.{Stayed};
+ghost use Rattle.kdl_text.specs.Internal.NumberReading.{radix_of, IsBase, LooksBasePrefix, Counts, IsDigit, ReadsDigits, ReadsInteger, ReadsFront, IsFault, IsPartFault, IsPowerFault, IsNumberFault, ReadsFraction, ReadsExponent, ReadsPart, ReadsNumber, ReadsKeyword, AteExponentLetter, WordOf, is_of_number};
 ghost use Rattle.kdl_text.specs.Numbers as spec;
-ghost use Rattle.kdl_text.specs.Numbers.{Sign, BaseMark, Decimal, FloatKeyword, FloatText};
-ghost use Rattle.kdl_text.specs.Reading.{Moves, Costs};
+ghost use Rattle.kdl_text.specs.Numbers.{Sign, BasePrefix, Decimal, FloatKeyword, FloatText};
+ghost use Rattle.kdl_text.specs.Internal.Reading.{Moves, Costs};
 ghost use Rattle.std.specs.Prelude.{◌≡◌, ℕ, ◌+◌, ◌*◌, ◌<◌, ◌≤◌, ◌||◌, not, IfOk, if◌then◌else◌, ◌↔◌, IsTrue, IfSome, string_bytes, [], length, ◌==◌};
 ghost use Rattle.std.specs.List.{list_all};
 ghost use Rattle.std.specs.Str.{chars};
@@ -145,7 +145,9 @@ impl Magnitude {
 
     /// The number with its sign, where it is one of `i128`.
     fn signed(self, minus: bool) -> Result<i128, NumberFault>
-        ensures { (n : ℕ) → Counts self n → result ≡ (if spec.fits minus n then Ok (spec.signed minus n) else Err NumberFault.OutOfRange) }
+        ensures { (n : ℕ) → Counts self n
+            → result ≡ (if spec.fits minus n then Ok (spec.signed minus n)
+            else Err NumberFault.OutOfRange) }
     {
         match self {
             Magnitude::Small(n) => Ok(if minus { -(n as i128) } else { n as i128 }),
@@ -209,7 +211,7 @@ fn sign(cursor: &mut Cursor) -> bool
 /// The base whose mark stands here.
 #[inline]
 fn marked(cursor: &mut Cursor) -> Option<Radix>
-    ensures { LooksMark result cursor.old cursor.new }
+    ensures { LooksBasePrefix result cursor.old cursor.new }
 {
     if cursor.look() != Some('0') {
         return None;
@@ -223,7 +225,7 @@ fn marked(cursor: &mut Cursor) -> Option<Radix>
 /// Goes past the mark of a base, if one stands here.
 #[inline]
 fn base_mark(cursor: &mut Cursor) -> Radix
-    ensures reads { BaseMark cursor.old.rest cursor.new.rest (radix_of result) }
+    ensures reads { BasePrefix cursor.old.rest cursor.new.rest (radix_of result) }
     ensures moves { Moves cursor.old cursor.new }
     ensures costs { Costs 2 2 cursor.old cursor.new }
 {
@@ -369,7 +371,7 @@ fn exponent(cursor: &mut Cursor) -> Result<bool, NumberFault>
 /// Goes past `e` or `E`, if it stands here.
 #[inline]
 fn eat_exponent_mark(cursor: &mut Cursor) -> bool
-    ensures { AteMark result cursor.old cursor.new }
+    ensures { AteExponentLetter result cursor.old cursor.new }
 {
     match cursor.look() {
         Some('e' | 'E') => {
@@ -428,7 +430,10 @@ fn without_marks(alloc: Global, piece: &Piece) -> Result<String, AllocError>
 
 /// The number with its sign, where it is one of `i128`.
 fn whole(number: Front) -> Result<Number, NumberFailure>
-    ensures { (n : ℕ) → Counts number.magnitude n → result ≡ (if spec.fits number.minus n then Ok (Number.Integer (spec.signed number.minus n)) else Err (NumberFailure.Fault NumberFault.OutOfRange)) }
+    ensures { (n : ℕ) → Counts number.magnitude n
+        → result ≡ (if spec.fits number.minus n
+        then Ok (Number.Integer (spec.signed number.minus n))
+        else Err (NumberFailure.Fault NumberFault.OutOfRange)) }
 {
     match number.magnitude.signed(number.minus) {
         Ok(n) => Ok(Number::Integer(n)),

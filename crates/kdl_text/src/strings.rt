@@ -5,9 +5,9 @@
 ghost use Rattle.kdl_text.specs.Bare as bare;
 ghost use Rattle.kdl_text.specs.Bare.{BareString};
 ghost use Rattle.kdl_text.specs.Chars.{Text, is_digit, is_identifier_char, is_literal, is_newline_char, is_sign, starts, within};
-ghost use Rattle.kdl_text.specs.Here.{in_class};
+ghost use Rattle.kdl_text.specs.Internal.Here.{in_class};
 ghost use Rattle.kdl_text.specs.MultiLine.{IsQuoted};
-ghost use Rattle.kdl_text.specs.Reading.{Moves, Costs};
+ghost use Rattle.kdl_text.specs.Internal.Reading.{Moves, Costs};
 ghost use Rattle.kdl_text.specs.Strings as spec;
 ghost use Rattle.kdl_text.specs.Strings.{QuotedBody, StringUnit, IsUnit, HexNumber, Run, unit_value};
 ghost use Rattle.kdl_text.specs.declared.chars.Class.TheVariants.{Literal};
@@ -143,7 +143,8 @@ fn has_bare_form(piece: &Piece) -> bool
 /// (KDL 2.0.0, Identifier String). None: no bare string begins here.
 pub fn bare_string<'a>(cursor: &mut Cursor<'a>) -> Option<Piece<'a>>
     ensures found { IfSome result (λ p. BareString cursor.old.rest cursor.new.rest p) }
-    ensures only { (r w : Text) → BareString cursor.old.rest r w → MatchOption result ⊥ (λ p. (r ≡ cursor.new.rest) × (w ≡ p)) }
+    ensures only { (r w : Text) → BareString cursor.old.rest r w
+        → MatchOption result ⊥ (λ p. (r ≡ cursor.new.rest) × (w ≡ p)) }
     ensures run { Run is_identifier_char cursor.old.rest cursor.new.rest }
     ensures moves { Moves cursor.old cursor.new }
     ensures costs { Costs 2 4 cursor.old cursor.new }
@@ -158,14 +159,14 @@ pub fn bare_string<'a>(cursor: &mut Cursor<'a>) -> Option<Piece<'a>>
 }
 
 fn is_blank(c: char) -> bool
-    ensures { result ≡ spec.is_blank c }
+    ensures { result ≡ spec.is_escaped_space c }
 {
     is_space(c) || is_newline_char(c)
 }
 
 /// Goes past spaces and newlines.
 fn skip_blanks(cursor: &mut Cursor)
-    ensures run { Run spec.is_blank cursor.old.rest cursor.new.rest }
+    ensures run { Run spec.is_escaped_space cursor.old.rest cursor.new.rest }
     ensures moves { Moves cursor.old cursor.new }
     ensures costs { Costs 1 1 cursor.old cursor.new }
 {
@@ -225,8 +226,11 @@ fn letter_escape(letter: char) -> Option<char>
 
 /// The character of the escape that begins with this letter: `u` has its number behind it, in braces.
 fn escaped_char(letter: char, cursor: &mut Cursor) -> Option<char>
-    ensures found { IfSome result (λ c. IsUnit (92 ∷ letter ∷ cursor.old.rest) cursor.new.rest (spec.escape c)) }
-    ensures none { spec.is_blank letter ≡ false → IfNone result ((r : Text) (u : StringUnit) → IsUnit (92 ∷ letter ∷ cursor.old.rest) r u → ⊥) }
+    ensures found { IfSome result
+        (λ c. IsUnit (92 ∷ letter ∷ cursor.old.rest) cursor.new.rest (spec.escape c)) }
+    ensures none { spec.is_escaped_space letter ≡ false
+        → IfNone result ((r : Text) (u : StringUnit) → IsUnit (92 ∷ letter ∷ cursor.old.rest) r u
+        → ⊥) }
     ensures moves { Moves cursor.old cursor.new }
     ensures costs { Costs 1 1 cursor.old cursor.new }
 {
@@ -241,8 +245,10 @@ fn escaped_char(letter: char, cursor: &mut Cursor) -> Option<char>
 
 /// Reads what stands behind a backslash: the character of an escape, or none of spaces and newlines.
 pub fn escaped_unit(cursor: &mut Cursor) -> Result<Option<char>, StringFault>
-    ensures found { IfOk result (λ o. IsUnit (92 ∷ cursor.old.rest) cursor.new.rest (spec.escaped o)) }
-    ensures only { (r : Text) (u : StringUnit) → IsUnit (92 ∷ cursor.old.rest) r u → IfErr result (λ _. ⊥) }
+    ensures found { IfOk result
+        (λ o. IsUnit (92 ∷ cursor.old.rest) cursor.new.rest (spec.escape_of o)) }
+    ensures only { (r : Text) (u : StringUnit) → IsUnit (92 ∷ cursor.old.rest) r u
+        → IfErr result (λ _. ⊥) }
     ensures moves { Moves cursor.old cursor.new }
     ensures costs { Costs 1 1 cursor.old cursor.new }
 {
@@ -263,7 +269,8 @@ pub fn escaped_unit(cursor: &mut Cursor) -> Result<Option<char>, StringFault>
 fn escape(cursor: &mut Cursor, out: &mut String) -> Result<(), StringFailure>
     ensures found { IfOk result (λ _. (u : StringUnit) × IsUnit (92 ∷ cursor.old.rest) cursor.new.rest u
         × (chars (string_bytes out.new) ≡ chars (string_bytes out.old) ++ unit_value u)) }
-    ensures only { (r : Text) (u : StringUnit) → IsUnit (92 ∷ cursor.old.rest) r u → IfErr result (λ e. e ≡ Memory) }
+    ensures only { (r : Text) (u : StringUnit) → IsUnit (92 ∷ cursor.old.rest) r u
+        → IfErr result (λ e. e ≡ Memory) }
     ensures moves { Moves cursor.old cursor.new }
     ensures costs { Costs 1 1 cursor.old cursor.new }
 {
@@ -290,7 +297,8 @@ fn fault_at(c: char) -> StringFault
 
 /// The units of a quoted string and its closing quote.
 fn quoted_body(alloc: Global, cursor: &mut Cursor) -> Result<String, StringFailure>
-    ensures found { IfOk result (λ v. QuotedBody cursor.old.rest cursor.new.rest (chars (string_bytes v))) }
+    ensures found { IfOk result
+        (λ v. QuotedBody cursor.old.rest cursor.new.rest (chars (string_bytes v))) }
     ensures only { (r w : Text) → QuotedBody cursor.old.rest r w →
         MatchResult result (λ v. (r ≡ cursor.new.rest) × (w ≡ chars (string_bytes v))) (λ e. e ≡ Memory) }
     ensures moves { Moves cursor.old cursor.new }
@@ -312,7 +320,8 @@ fn quoted_body(alloc: Global, cursor: &mut Cursor) -> Result<String, StringFailu
 /// and the cursor goes behind the closing quotes.
 /// A fault: no quoted string begins here. `Memory`: the memory for the value is missing.
 pub fn quoted_string(alloc: Global, cursor: &mut Cursor) -> Result<String, StringFailure>
-    ensures found { IfOk result (λ v. IsQuoted cursor.old.rest cursor.new.rest (chars (string_bytes v))) }
+    ensures found { IfOk result
+        (λ v. IsQuoted cursor.old.rest cursor.new.rest (chars (string_bytes v))) }
     ensures only { (r w : Text) → IsQuoted cursor.old.rest r w →
         MatchResult result (λ v. (r ≡ cursor.new.rest) × (w ≡ chars (string_bytes v))) (λ e. e ≡ Memory) }
     ensures moves { Moves cursor.old cursor.new }

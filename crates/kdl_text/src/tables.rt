@@ -1,6 +1,6 @@
 //! Runs of ASCII characters of a class, 16 bytes at a time.
 
-ghost use Rattle.kdl_text.specs.Tables.{outside, column_of, row_of, InsideLen};
+ghost use Rattle.kdl_text.specs.Internal.Tables.{outside, column_of, row_of, InsideLen};
 ghost use Rattle.std.specs.Prelude.{◌≡◌, map, not};
 ghost use Rattle.std.specs.Simd.Lanes.{mask_l};
 

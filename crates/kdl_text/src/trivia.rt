@@ -1,13 +1,13 @@
 //! Trivia: comments, spaces, esclines, and the mark of a slashdash.
 
 ghost use Rattle.kdl_text.specs.Chars.{begins, begins_two, Space};
-ghost use Rattle.kdl_text.specs.Here.{AteTwo};
-ghost use Rattle.kdl_text.specs.Reading.{Reads, Moves, Costs, Longest};
+ghost use Rattle.kdl_text.specs.Internal.Here.{AteTwo};
+ghost use Rattle.kdl_text.specs.Internal.Reading.{Reads, Moves, Costs, Longest};
 ghost use Rattle.kdl_text.specs.Trivia.{Parts, BlockComment, Line, LineComment, EscEnd};
-ghost use Rattle.kdl_text.specs.TriviaReading.{PieceCosts, RunsWs, ReadsEscline, ReadsSlash, SlashCosts, ReadsNodeSpace, SpaceCosts};
+ghost use Rattle.kdl_text.specs.Internal.TriviaReading.{PieceCosts, RunsWs, ReadsEscline, ReadsSlash, SlashCosts};
 ghost use Rattle.std.specs.Prelude.{◌≡◌, true, false, []};
 
-use crate::chars::{Class, Cursor, is_space, newline};
+use crate::chars::{Class, Cursor, newline};
 
 /// What is wrong where a space or a comment should be, with the offset of the piece in bytes from the start of the
 /// text.
@@ -32,17 +32,6 @@ pub enum SlashRead {
     Unclosed,
     /// None of these. The cursor has not moved.
     Other,
-}
-
-/// What a reader of one node-space met.
-#[derive(Clone, Copy)]
-pub enum SpaceRead {
-    /// One, which the cursor went past.
-    Read,
-    /// No space, no `/*` and no backslash. The cursor has not moved.
-    Absent,
-    /// A block comment that isn't closed, or a backslash that begins no escline. The cursor has moved.
-    Fault(TriviaFault),
 }
 
 /// Goes past all that follows the `/*` of a block comment. False: it isn't closed, and the cursor is at the end.
@@ -178,36 +167,6 @@ pub fn escline(cursor: &mut Cursor) -> Result<(), TriviaFault>
                 Err(TriviaFault::NotEscline(at))
             }
         }
-    }
-}
-
-/// Goes past one space, block comment or escline (KDL 2.0.0, Whitespace and Line Continuation), if one begins here.
-pub fn node_space(cursor: &mut Cursor) -> SpaceRead
-    ensures reads { ReadsNodeSpace result cursor.old cursor.new }
-    ensures moves { Moves cursor.old cursor.new }
-    ensures costs { SpaceCosts result cursor.old cursor.new }
-{
-    match cursor.look() {
-        Some('\\') => match escline(cursor) {
-            Ok(()) => SpaceRead::Read,
-            Err(fault) => SpaceRead::Fault(fault),
-        },
-        Some('/') => {
-            let at = cursor.at();
-            if !cursor.eat_two('/', '*') {
-                return SpaceRead::Absent;
-            }
-            if block_end(cursor) {
-                SpaceRead::Read
-            } else {
-                SpaceRead::Fault(TriviaFault::UnclosedComment(at))
-            }
-        }
-        Some(c) if is_space(c) => {
-            cursor.step();
-            SpaceRead::Read
-        }
-        _ => SpaceRead::Absent,
     }
 }
 

@@ -102,7 +102,8 @@ pub fn run<R: Read, W: Write>(
 
 /// What the words ask for, where they are the tool's.
 fn command_of(words: &[String]) -> Option<Command<'_>>
-    ensures { MatchOption result (AreOther (map string_bytes words.now)) (λ c. map string_bytes words.now ≡ words_of (asked_by c)) }
+    ensures { MatchOption result (AreOther (map string_bytes words.now))
+        (λ c. map string_bytes words.now ≡ words_of (asked_by c)) }
 {
     match words {
         [word] => {
@@ -129,7 +130,9 @@ fn command_of(words: &[String]) -> Option<Command<'_>>
 
 /// All that the reader has left, up to the first read that gives no byte.
 fn read_whole<R: Read>(alloc: Global, reader: &mut Watched<R>) -> Result<Vec<u8>, Unread>
-    ensures whole { IfOk result (λ input. IsInput (R.remaining reader.old.inner) (R.remaining reader.new.inner) input.items) }
+    ensures whole { IfOk result
+        (λ input. IsInput (R.remaining reader.old.inner)
+        (R.remaining reader.new.inner) input.items) }
     ensures ended { OnOk result (reader.new.ended ≡ true) }
     ensures failed { reader.new.failed ≡ (is_unread_failed result || reader.old.failed) }
 {
@@ -156,7 +159,8 @@ fn answer<W: Write>(
     writer: &mut Watched<W>,
 ) -> Outcome
     ensures unwritten { WritesNothing result → writer.new ≡ writer.old }
-    ensures answered { Answered result (words_of (asked_by command.entry)) input.now (W.contents writer.old.inner) (W.contents writer.new.inner) }
+    ensures answered { Answered result (words_of (asked_by command.entry)) input.now
+        (W.contents writer.old.inner) (W.contents writer.new.inner) }
     ensures marked { Marked result true true writer.new.failed }
     ensures write_failed { writer.new.failed ≡ (is_write_failed result || writer.old.failed) }
 {
@@ -179,7 +183,8 @@ fn answer<W: Write>(
 
 /// What the command writes of a text, where it has the value that is asked for.
 fn output(alloc: Global, command: Command<'_>, text: &str) -> Result<Option<String>, ParseFailure>
-    ensures output { IfOk result (λ o. Output (words_of (asked_by command.entry)) text.now (option_map string_bytes o)) }
+    ensures output { IfOk result
+        (λ o. Output (words_of (asked_by command.entry)) text.now (option_map string_bytes o)) }
     ensures refused { IsSyntax result → AreNoDocument text.now }
     ensures told { TellsOnSyntax text.now result }
 {
@@ -204,7 +209,9 @@ fn value_line(
     document: &KdlDocument,
     name: &str,
 ) -> Result<Option<String>, AllocError>
-    ensures { IfOk result (λ o. option_map string_bytes o ≡ value_line (first_argument (chars name.now) (document_data (document_tree document.now)))) }
+    ensures { IfOk result (λ o. option_map string_bytes o
+        ≡ value_line (first_argument (chars name.now)
+        (document_data (document_tree document.now)))) }
 {
     let Some(value) = document.get_arg(name) else {
         return Ok(None);
@@ -216,7 +223,7 @@ fn value_line(
 
 /// Writes the bytes, and answers whether all were written. It stops at the first error, and at
 /// the first write that takes no byte.
-#[tactic(auto, using(crate::proofs::Steps::written_more))]
+#[tactic(auto, using(crate::proofs::LoopSteps::written_more))]
 fn write_whole<W: Write>(bytes: &[u8], writer: &mut Watched<W>) -> bool
     ensures { Writes W.contents writer.old writer.new bytes.now result }
 {

@@ -1,10 +1,8 @@
+-- Equality and order of values.
 pub mod Comparing
-pub mod Equality
-pub mod Escapes
-pub mod FloatDecides
-pub mod FloatTexts
-pub mod NumbersReadBack
-pub mod Printing
-pub mod ReadsBack
-pub mod Spellings
+-- The texts of floats.
+pub mod Floating
+-- Printed values, and that they read back.
+pub mod Spelling
+-- Values in memory are well formed.
 pub mod WellFormed

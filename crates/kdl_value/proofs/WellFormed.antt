@@ -11,7 +11,7 @@ use Rattle.kdl_value.specs.Tree.{text_of, value_tree}
 use Rattle.kdl_value.specs.WellFormed.{IsWellFormed}
 use Rattle.kdl_value.specs.declared.value.KdlValue.{KdlValue}
 use Rattle.kdl_value.specs.declared.value.KdlValue.TheVariants.{String as StringValue, Integer, Float as FloatValue, Bool as BoolValue, Null}
-use Rattle.kdl_value.proofs.FloatDecides.{float_of}
+use Rattle.kdl_value.proofs.Floating.TextDecided.{float_of}
 
 scalar_test : (c : ℕ) → scalar c ≡ true → is_scalar c ≡ true
 scalar_test c h = grind (arith, nat_tests)

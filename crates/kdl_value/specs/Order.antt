@@ -7,7 +7,7 @@ use Rattle.std.specs.declared.cmp.Ordering.{Ordering}
 use Rattle.kdl_text.specs.Chars.{Text}
 use Rattle.kdl_value.specs.Data.{Value, text, integer, float, truth, null}
 
--- the place of a value's kind: strings, whole numbers, floats, truth values, null
+-- the place of a value's kind: strings, whole numbers, floats, booleans, null
 abbrev pub kind_place : Value → ℕ
 kind_place (text s) = 0
 kind_place (integer z) = 1

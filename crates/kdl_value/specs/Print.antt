@@ -5,7 +5,7 @@ use Rattle.kdl_text.specs.Chars.{Text}
 use Rattle.kdl_value.specs.Data.{Value, text, integer, float, truth, null}
 use Rattle.kdl_value.specs.Spelled.{spelled}
 
--- the keyword of a truth value
+-- the keyword of a boolean
 abbrev pub print_truth : Bool → Text
 print_truth true = codes "#true"
 print_truth false = codes "#false"

@@ -23,7 +23,7 @@ abbrev pub float_value : Value → Option Text
 float_value (float s) = Some s
 float_value _ = None
 
--- the truth value
+-- the boolean
 abbrev pub truth_value : Value → Option Bool
 truth_value (truth b) = Some b
 truth_value _ = None

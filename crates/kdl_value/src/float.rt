@@ -5,10 +5,21 @@ ghost use Rattle.std.specs.Prelude.{◌≡◌, ◌↔◌, IfOk, IsErrOf, Some, s
 ghost use Rattle.std.specs.Str.{chars, encode_utf8_all};
 
 use crate::print::write_text;
-use kdl_text::error::FloatFailure;
 use kdl_text::numbers::is_float_text;
 use std::alloc::{AllocError, Global};
 use std::fmt;
+use thiserror::Error;
+
+/// Why no float was made of a text.
+#[derive(Clone, Copy, Debug, PartialEq, Eq, Error)]
+pub enum FloatFailure {
+    /// The text is neither a decimal without `_` nor one of `#inf`, `#-inf` and `#nan`.
+    #[error("not a KDL float")]
+    NotAFloat,
+    /// A request for memory was refused.
+    #[error("out of memory")]
+    Memory,
+}
 
 /// A decimal or a number that no digits write, by its text (KDL 2.0.0, Number, Keyword Numbers).
 ///
@@ -69,7 +80,7 @@ pub fn parsed_float(text: String) -> KdlFloat
     KdlFloat { text }
 }
 
-/// A copy with the same text. Fails where memory is wanting.
+/// A copy with the same text. Fails where memory runs out.
 ///
 /// ```
 /// let float = KdlFloat::new(alloc, "1.5")?;

@@ -137,7 +137,7 @@ fn is_plain(c: char) -> bool
 }
 
 /// The text behind the longest run of characters that are printed as they are between quotes.
-#[tactic(auto, using(crate::proofs::Escapes::run_begins, crate::proofs::Escapes::run_turn))]
+#[tactic(auto, using(crate::proofs::Spelling::PlainRuns::run_begins, crate::proofs::Spelling::PlainRuns::run_turn))]
 fn skip_plain(s: &str) -> &str
     ensures run { PlainRun s.now result.now }
     ensures shorter { length result.now ≤ length s.now }
@@ -156,14 +156,15 @@ fn skip_plain(s: &str) -> &str
 fn before<'a>(s: &'a str, rest: &str) -> &'a str
     requires { PlainRun s.now rest.now }
     ensures parts { chars s.now ≡ chars result.now ++ chars rest.now }
-    ensures as_is { spec.escaped (chars result.now) ≡ chars result.now }
+    ensures as_is { spec.escaped_text (chars result.now) ≡ chars result.now }
 {
     &s[..s.len() - rest.len()]
 }
 
 /// Writes a text as it stands between quotes.
 fn write_escaped<W: Write>(s: &str, f: &mut Formatter<W>) -> fmt::Result
-    ensures { WritesOnOk W.write_str_gives f.old result (encode_utf8_all (spec.escaped (chars s.now))) f.new }
+    ensures { WritesOnOk W.write_str_gives f.old result
+        (encode_utf8_all (spec.escaped_text (chars s.now))) f.new }
 {
     let mut rest = s;
     'runs: loop {
@@ -188,7 +189,8 @@ fn write_escaped<W: Write>(s: &str, f: &mut Formatter<W>) -> fmt::Result
 /// ```
 #[tactic(auto, unfolding(crate::specs::Spelled::spelled))]
 pub fn write_spelled<W: Write>(s: &str, f: &mut Formatter<W>) -> fmt::Result
-    ensures { WritesOnOk W.write_str_gives f.old result (encode_utf8_all (spec.spelled (chars s.now))) f.new }
+    ensures { WritesOnOk W.write_str_gives f.old result
+        (encode_utf8_all (spec.spelled (chars s.now))) f.new }
 {
     if prints_bare(s) {
         f.write_str(s)

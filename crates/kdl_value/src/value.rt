@@ -1,4 +1,4 @@
-//! Values: strings, numbers, truth values and null.
+//! Values: strings, numbers, booleans and null.
 
 ghost use Rattle.kdl_value.specs.Print.{print_value};
 ghost use Rattle.kdl_value.specs.Tree.{value_tree, float_text_of, text_value, integer_value, float_value, truth_value, is_null};
@@ -24,14 +24,14 @@ pub enum KdlValue {
     Integer(i128),
     /// A decimal, an infinity or the value that is not a number.
     Float(KdlFloat),
-    /// A truth value.
+    /// A boolean.
     Bool(bool),
     /// No value.
     Null,
 }
 
 impl KdlValue {
-    /// A string with a copy of the text. Fails where memory is wanting; an empty text takes none.
+    /// A string with a copy of the text. Fails where memory runs out; an empty text takes none.
     ///
     /// ```
     /// let plain = KdlValue::from_text(alloc, "eu-west")?; // prints "eu-west"
@@ -77,7 +77,7 @@ impl KdlValue {
         matches!(self, KdlValue::Float(..))
     }
 
-    /// Whether the value is a truth value.
+    /// Whether the value is a boolean.
     ///
     /// ```
     /// let is_bool = KdlValue::from(false).is_bool(); // true
@@ -147,11 +147,11 @@ impl KdlValue {
         }
     }
 
-    /// The truth value, where the value is one.
+    /// The boolean, where the value is one.
     ///
     /// ```
     /// let truth = KdlValue::from(true).as_bool(); // true
-    /// let none = KdlValue::from_text(alloc, "true")?.as_bool(); // `None`: a truth value is written `#true`
+    /// let none = KdlValue::from_text(alloc, "true")?.as_bool(); // `None`: a boolean is written `#true`
     /// ```
     pub fn as_bool(&self) -> Option<bool>
         ensures { result ≡ truth_value (value_tree self.now) }
@@ -180,7 +180,7 @@ impl From<i128> for KdlValue {
     }
 }
 
-/// A truth value.
+/// A boolean.
 ///
 /// ```
 /// let value = KdlValue::from(true); // prints "#true"
@@ -251,7 +251,7 @@ impl From<Option<KdlValue>> for KdlValue {
     }
 }
 
-/// A copy that says the same. Fails where memory is wanting.
+/// A copy that says the same. Fails where memory runs out.
 ///
 /// ```
 /// let value = KdlValue::from_text(alloc, "a")?;

@@ -1,1 +1,2 @@
+-- What an edit of one number leaves of an entry.
 pub mod Edit

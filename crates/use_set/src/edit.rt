@@ -43,7 +43,8 @@ fn set(document: &mut KdlDocument, name: &str, value: KdlValue, spelling: String
 
 /// Sets the value, and its spelling where the entry keeps one. The type and what stands around the value stay.
 fn respell(entry: &mut KdlEntry, value: KdlValue, spelling: String)
-    ensures { entry_tree entry.new ≡ respelled (value_tree value) (text_of spelling) (entry_tree entry.old) }
+    ensures { entry_tree entry.new
+        ≡ respelled (value_tree value) (text_of spelling) (entry_tree entry.old) }
 {
     entry.set_value(value);
     if let Some(format) = entry.format_mut() {

@@ -56,9 +56,11 @@ impl<R: Read> Read for Watched<R> {
     /// One `read` of the inner reader.
     fn read(&mut self, buf: &mut [u8]) -> io::Result<usize>
         ensures bound { ReadsAtMost result buf.new }
-        ensures bytes { ReadConsumes (R.remaining self.old.inner) (R.remaining self.new.inner) result buf.new }
+        ensures bytes { ReadConsumes (R.remaining self.old.inner)
+            (R.remaining self.new.inner) result buf.new }
         ensures failed { self.new.failed ≡ (self.old.failed || is_err result) }
-        ensures ended { self.new.ended ≡ (if length buf.old == 0 then self.old.ended else gave_none result) }
+        ensures ended { self.new.ended
+            ≡ (if length buf.old == 0 then self.old.ended else gave_none result) }
     {
         let Watched {
             inner,
@@ -82,7 +84,8 @@ impl<W: Write> Write for Watched<W> {
     /// One `write` of the inner writer.
     fn write(&mut self, buf: &[u8]) -> io::Result<usize>
         ensures bound { WritesAtMost result buf.now }
-        ensures bytes { WriteAppends (W.contents self.old.inner) (W.contents self.new.inner) result buf.now }
+        ensures bytes { WriteAppends (W.contents self.old.inner)
+            (W.contents self.new.inner) result buf.now }
         ensures failed { self.new.failed ≡ (self.old.failed || is_refused result (length buf.now)) }
         ensures ended { self.new.ended ≡ self.old.ended }
     {

@@ -69,7 +69,8 @@ fn children(node: &KdlNode) -> &[KdlNode]
 
 /// The value of the first argument of the next node that is named `-` and has one.
 fn next_dash_argument<'a>(nodes: &mut slice::Iter<'a, KdlNode>) -> Option<&'a KdlValue>
-    ensures { TakesFirst (λ v. value_tree v.now) (dash_arguments (iter_rest nodes.old)) result (dash_arguments (iter_rest nodes.new)) }
+    ensures { TakesFirst (λ v. value_tree v.now) (dash_arguments (iter_rest nodes.old)) result
+        (dash_arguments (iter_rest nodes.new)) }
 {
     while let Some(node) = nodes.next() {
         if is_named(node, "-") {

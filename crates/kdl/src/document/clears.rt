@@ -1,6 +1,6 @@
 //! The steps in which a document's nodes are cleared.
 
-ghost use Rattle.kdl.specs.Due.{AreDueFrom, ExchangedAt, HasInstead, IsAlone, IsMarked, due};
+ghost use Rattle.kdl.specs.Internal.Due.{AreDueFrom, ExchangedAt, HasInstead, IsAlone, IsMarked, due};
 ghost use Rattle.kdl.specs.Tree.{node_tree};
 ghost use Rattle.kdl.specs.declared.document.KdlDocument.{out-KdlDocument};
 ghost use Rattle.std.specs.Prelude.{◌≡◌, ◌<◌, length, map};

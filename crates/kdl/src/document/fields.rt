@@ -7,7 +7,7 @@ ghost use Rattle.kdl.specs.Tree.{document_tree};
 ghost use Rattle.kdl.specs.contracts.document.KdlDocument.{the_row};
 ghost use Rattle.kdl_parts.specs.contracts.format.KdlDocumentFormat.{the_row as format_row};
 ghost use Rattle.kdl.specs.declared.document.KdlDocument.{out-KdlDocument};
-ghost use Rattle.kdl_text.specs.Here.{bytes};
+ghost use Rattle.kdl_text.specs.Spans.{bytes};
 ghost use Rattle.std.specs.Borrow.{Lends, LendsIf, sem};
 ghost use Rattle.std.specs.Prelude.{◌≡◌, ◌↔◌, IfOk, IsTrue, [], None, Some, option_map};
 ghost use Rattle.std.specs.Vec.Iter.{into_iter_items};
@@ -27,7 +27,8 @@ impl KdlDocument {
     /// let b = document.nodes_mut().remove(1); // what is left prints "a\nc\n"
     /// ```
     pub fn nodes_mut(&mut self) -> &mut Vec<KdlNode>
-        ensures* writes_back { sem 𝓛 (Lends the_row nodes_row self.entry result (with_nodes self.old)) }
+        ensures* writes_back { sem 𝓛 (Lends the_row nodes_row self.entry result
+            (with_nodes self.old)) }
         ensures value { result.now ≡ (out-KdlDocument self.old).nodes }
     {
         &mut self.nodes
@@ -42,7 +43,8 @@ impl KdlDocument {
     /// }
     /// ```
     pub fn format_mut(&mut self) -> Option<&mut KdlDocumentFormat>
-        ensures* writes_back { sem 𝓛 (LendsIf the_row format_row self.entry result (λ f. with_document_format self.old (Some f)) self.old) }
+        ensures* writes_back { sem 𝓛 (LendsIf the_row format_row self.entry result
+            (λ f. with_document_format self.old (Some f)) self.old) }
         ensures value { option_map (λ f. f.now) result ≡ (out-KdlDocument self.old).format }
     {
         self.format.as_mut()
@@ -55,7 +57,8 @@ impl KdlDocument {
     /// document.set_format(KdlDocumentFormat::new(alloc));
     /// ```
     pub fn set_format(&mut self, format: KdlDocumentFormat)
-        ensures { out-KdlDocument self.new ≡ record (out-KdlDocument self.old) { format = Some format } }
+        ensures { out-KdlDocument self.new ≡
+            record (out-KdlDocument self.old) { format = Some format } }
     {
         self.format = Some(format);
     }
@@ -84,7 +87,7 @@ impl KdlDocument {
         clear_all(self);
     }
 
-    /// The length of the printed text, in bytes. It prints the document: it fails where memory is wanting.
+    /// The length of the printed text, in bytes. It prints the document: it fails where memory runs out.
     ///
     /// ```
     /// let document = KdlDocument::parse(alloc, "naïve")?;
@@ -96,7 +99,7 @@ impl KdlDocument {
         Ok(self.to_string(alloc)?.len())
     }
 
-    /// Whether the printed text is empty. It prints the document: it fails where memory is wanting.
+    /// Whether the printed text is empty. It prints the document: it fails where memory runs out.
     ///
     /// ```
     /// let document = KdlDocument::parse(alloc, "// a comment")?;

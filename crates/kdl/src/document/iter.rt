@@ -16,7 +16,9 @@ use std::slice;
 impl KdlDocument {
     /// The nodes, in order, to be changed in place.
     pub(crate) fn iter_nodes_mut(&mut self) -> slice::IterMut<'_, KdlNode>
-        ensures* writes_back { sem 𝓛 (follows the_row (Array node_row 0) self.entry.ghost_name (iter_mut_name result) (λ ns. with_nodes self.old (with_items (out-KdlDocument self.old).nodes ns))) }
+        ensures* writes_back { sem 𝓛 (follows the_row (Array node_row 0) self.entry.ghost_name
+            (iter_mut_name result)
+            (λ ns. with_nodes self.old (with_items (out-KdlDocument self.old).nodes ns))) }
         ensures left { iter_mut_rest result ≡ (out-KdlDocument self.old).nodes.items }
     {
         self.nodes.iter_mut()

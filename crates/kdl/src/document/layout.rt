@@ -1,20 +1,17 @@
 //! Layout of documents.
 
-ghost use Rattle.kdl.specs.Tree.{document_tree, nodes_tree};
+ghost use Rattle.kdl.specs.Layout.{DocumentLaidOut, DocumentUnmarked, IndentsBySpaces, document_bare, plain_document};
+ghost use Rattle.kdl.specs.Tree.{document_prints, document_says, document_tree, nodes_tree};
 ghost use Rattle.kdl.specs.declared.document.KdlDocument.{out-KdlDocument};
 ghost use Rattle.kdl_fmt.specs.Canonical.{Canonical, canonical, canonical_text};
 ghost use Rattle.kdl_fmt.specs.Comments.{CommentsStay};
 ghost use Rattle.kdl_fmt.specs.Config.{IsPlain, defaults, indentation, settings, without_comments};
-ghost use Rattle.kdl_fmt.specs.Formatted.{DocumentKeepsNone, bare_document, formatted_document, or_empty_document};
+ghost use Rattle.kdl_fmt.specs.Formatted.{or_empty_document};
 ghost use Rattle.kdl_fmt.specs.WellFormed.{AreWellFormed};
-ghost use Rattle.kdl_fmt.specs.WithComments.{IsBraced, IsFormattedDocument};
+ghost use Rattle.kdl_fmt.specs.WithComments.{IsBraced};
 ghost use Rattle.kdl_grammar.specs.Grammar.{IsDocument};
-ghost use Rattle.kdl_grammar.specs.Print.{print_document};
-ghost use Rattle.kdl_grammar.specs.Tree.{document_data, nodes_data};
 ghost use Rattle.kdl_parts.specs.Formats.{document_format_tree};
-ghost use Rattle.kdl_text.specs.Chars.{is_space};
-ghost use Rattle.std.specs.List.{list_all};
-ghost use Rattle.std.specs.Prelude.{◌≡◌, IfOk, false, option_map, true};
+ghost use Rattle.std.specs.Prelude.{◌≡◌, OnOk, false, option_map, true};
 ghost use Rattle.std.specs.Str.{chars};
 
 use crate::document::KdlDocument;
@@ -32,19 +29,21 @@ impl KdlDocument {
     ///
     /// Where no entry is marked, the printed text is a document that says the same, and a second call changes nothing.
     ///
-    /// Fails where memory is wanting: then the document says what it said, and some of it may be laid out.
+    /// Fails where memory runs out: then the document says what it said, and some of it may be laid out.
     ///
     /// ```
     /// let mut document = KdlDocument::parse(alloc, "a  0x10 // one\n/- b 2;c /* two */ {  }")?;
     /// document.autoformat()?; // prints `a 16 // one`, `/- b 2;`, `c /* two */ {`, an empty line and `}`
     /// ```
     pub fn autoformat(&mut self) -> Result<(), AllocError>
-        ensures data { document_data (document_tree self.new) ≡ document_data (document_tree self.old) }
-        ensures kept { bare_document (document_tree self.new) ≡ bare_document (document_tree self.old) }
-        ensures formatted { IfOk result (λ _. IsFormattedDocument defaults 0 (document_tree self.old) (document_tree self.new)) }
-        ensures unmarked { IfOk result (λ _. DocumentKeepsNone (document_tree self.new)) }
-        ensures derived { IfOk result (λ _. DocumentKeepsNone (document_tree self.old) → IsDocument true (print_document (document_tree self.new) 0) (document_data (document_tree self.old))) }
-        ensures comments { IfOk result (λ _. DocumentKeepsNone (document_tree self.old) → CommentsStay (document_tree self.old) (print_document (document_tree self.new) 0)) }
+        ensures data { document_says self.new ≡ document_says self.old }
+        ensures kept { document_bare self.new ≡ document_bare self.old }
+        ensures formatted { OnOk result (DocumentLaidOut defaults self.old self.new) }
+        ensures unmarked { OnOk result (DocumentUnmarked self.new) }
+        ensures derived { OnOk result (DocumentUnmarked self.old
+            → IsDocument true (document_prints self.new) (document_says self.old)) }
+        ensures comments { OnOk result (DocumentUnmarked self.old
+            → CommentsStay (document_tree self.old) (document_prints self.new)) }
     {
         let config = FormatConfig::builder().build();
         self.autoformat_config(&config)
@@ -54,19 +53,21 @@ impl KdlDocument {
     ///
     /// Where no entry is marked, two documents print the same text then exactly where they say the same.
     ///
-    /// Fails where memory is wanting: then the document says what it said, and some of it may be laid out.
+    /// Fails where memory runs out: then the document says what it said, and some of it may be laid out.
     ///
     /// ```
     /// let mut document = KdlDocument::parse(alloc, "a  0x10; /* b */ \"b\" { c }")?;
     /// document.autoformat_no_comments()?; // prints `a 16`, `b {`, `    c` and `}`, each with a newline
     /// ```
     pub fn autoformat_no_comments(&mut self) -> Result<(), AllocError>
-        ensures data { document_data (document_tree self.new) ≡ document_data (document_tree self.old) }
-        ensures kept { bare_document (document_tree self.new) ≡ bare_document (document_tree self.old) }
-        ensures formatted { IfOk result (λ _. document_tree self.new ≡ formatted_document without_comments 0 (document_tree self.old)) }
-        ensures unmarked { IfOk result (λ _. DocumentKeepsNone (document_tree self.new)) }
-        ensures prints { IfOk result (λ _. DocumentKeepsNone (document_tree self.old) → print_document (document_tree self.new) 0 ≡ canonical_text (document_data (document_tree self.old))) }
-        ensures reads { IfOk result (λ _. Canonical without_comments.indent 0 (document_data (document_tree self.old))) }
+        ensures data { document_says self.new ≡ document_says self.old }
+        ensures kept { document_bare self.new ≡ document_bare self.old }
+        ensures formatted { OnOk result
+            (document_tree self.new ≡ plain_document without_comments self.old) }
+        ensures unmarked { OnOk result (DocumentUnmarked self.new) }
+        ensures prints { OnOk result (DocumentUnmarked self.old
+            → document_prints self.new ≡ canonical_text (document_says self.old)) }
+        ensures reads { OnOk result (Canonical without_comments.indent 0 (document_says self.old)) }
     {
         let config = FormatConfig::builder().no_comments(true).build();
         self.autoformat_config(&config)
@@ -75,7 +76,7 @@ impl KdlDocument {
     /// Lays out the document as the configuration says: from its level on, with its indent for each level, with or
     /// without comments, and with all entries marked or not.
     ///
-    /// Fails where memory is wanting, or where the level of a child would pass `usize`: then the document says what it
+    /// Fails where memory runs out, or where the level of a child would pass `usize`: then the document says what it
     /// said, and some of it may be laid out.
     ///
     /// ```
@@ -84,28 +85,34 @@ impl KdlDocument {
     /// document.autoformat_config(&config)?; // prints `a {`, `b` behind a tabulator, and `}`
     /// ```
     pub fn autoformat_config(&mut self, config: &FormatConfig) -> Result<(), AllocError>
-        ensures data { document_data (document_tree self.new) ≡ document_data (document_tree self.old) }
-        ensures kept { bare_document (document_tree self.new) ≡ bare_document (document_tree self.old) }
-        ensures formatted { IfOk result (λ _. IsFormattedDocument (settings config.now) config.now.indent_level (document_tree self.old) (document_tree self.new)) }
-        ensures plain { IfOk result (λ _. config.now.no_comments ≡ true → document_tree self.new ≡ formatted_document (settings config.now) config.now.indent_level (document_tree self.old)) }
-        ensures unmarked { IfOk result (λ _. DocumentKeepsNone (document_tree self.new)) }
-        ensures derived { IfOk result (λ _. list_all is_space (settings config.now).indent ≡ true → config.now.entry_autoformate_keep ≡ false → DocumentKeepsNone (document_tree self.old)
-            → IsDocument true (print_document (document_tree self.new) 0) (document_data (document_tree self.old))) }
-        ensures comments { IfOk result (λ _. list_all is_space (settings config.now).indent ≡ true → config.now.entry_autoformate_keep ≡ false → config.now.no_comments ≡ false → DocumentKeepsNone (document_tree self.old)
-            → CommentsStay (document_tree self.old) (print_document (document_tree self.new) 0)) }
-        ensures prints { IfOk result (λ _. IsPlain (settings config.now) → DocumentKeepsNone (document_tree self.old)
-            → print_document (document_tree self.new) 0 ≡ canonical (settings config.now).indent config.now.indent_level (document_data (document_tree self.old))) }
-        ensures reads { IfOk result (λ _. list_all is_space (settings config.now).indent ≡ true
-            → Canonical (settings config.now).indent config.now.indent_level (document_data (document_tree self.old))) }
+        ensures data { document_says self.new ≡ document_says self.old }
+        ensures kept { document_bare self.new ≡ document_bare self.old }
+        ensures formatted { OnOk result (DocumentLaidOut (settings config.now) self.old self.new) }
+        ensures plain { OnOk result (config.now.no_comments ≡ true
+            → document_tree self.new ≡ plain_document (settings config.now) self.old) }
+        ensures unmarked { OnOk result (DocumentUnmarked self.new) }
+        ensures derived { OnOk result (IndentsBySpaces (settings config.now)
+            → config.now.entry_autoformate_keep ≡ false → DocumentUnmarked self.old
+            → IsDocument true (document_prints self.new) (document_says self.old)) }
+        ensures comments { OnOk result (IndentsBySpaces (settings config.now)
+            → config.now.entry_autoformate_keep ≡ false → config.now.no_comments ≡ false
+            → DocumentUnmarked self.old
+            → CommentsStay (document_tree self.old) (document_prints self.new)) }
+        ensures prints { OnOk result (IsPlain (settings config.now) → DocumentUnmarked self.old
+            → document_prints self.new ≡
+            canonical (settings config.now).indent config.now.indent_level (document_says self.old)) }
+        ensures reads { OnOk result (IndentsBySpaces (settings config.now)
+            → Canonical (settings config.now).indent config.now.indent_level
+            (document_says self.old)) }
     {
         self.lay_out(config)
     }
 
     /// Lays out the document at the configuration's level.
     fn lay_out(&mut self, config: &FormatConfig) -> Result<(), AllocError>
-        ensures kept { bare_document (document_tree self.new) ≡ bare_document (document_tree self.old) }
-        ensures formatted { IfOk result (λ _. IsFormattedDocument (settings config.now) config.now.indent_level (document_tree self.old) (document_tree self.new)) }
-        ensures well_formed { IfOk result (λ _. AreWellFormed (document_data (document_tree self.old))) }
+        ensures kept { document_bare self.new ≡ document_bare self.old }
+        ensures formatted { OnOk result (DocumentLaidOut (settings config.now) self.old self.new) }
+        ensures well_formed { OnOk result (AreWellFormed (document_says self.old)) }
     {
         let alloc = *self.nodes.allocator();
         let level = config.indent_level;
@@ -123,8 +130,11 @@ impl KdlDocument {
     ) -> Result<(), AllocError>
         ensures nodes { (out-KdlDocument self.new).nodes ≡ (out-KdlDocument self.old).nodes }
         ensures span { (out-KdlDocument self.new).span ≡ (out-KdlDocument self.old).span }
-        ensures formatted { IfOk result (λ _. chars before.now ≡ indentation (settings config.now) level
-            → IsBraced (settings config.now) level (nodes_tree (out-KdlDocument self.old).nodes.items) (or_empty_document (option_map document_format_tree (out-KdlDocument self.old).format)) (option_map document_format_tree (out-KdlDocument self.new).format)) }
+        ensures formatted { OnOk result (chars before.now ≡ indentation (settings config.now) level
+            → IsBraced (settings config.now) level
+            (nodes_tree (out-KdlDocument self.old).nodes.items)
+            (or_empty_document (option_map document_format_tree (out-KdlDocument self.old).format))
+            (option_map document_format_tree (out-KdlDocument self.new).format)) }
     {
         let Some(inner) = level.checked_add(1) else {
             return Err(AllocError);

@@ -1,6 +1,7 @@
 //! Look-ups of nodes by their name.
 
-ghost use Rattle.kdl.specs.DocumentLookups.{argument_named, argument_place, first_argument, is_node_named, node_named, node_place, with_argument_there, with_node_there};
+ghost use Rattle.kdl.specs.DocumentLookups.{argument_named, argument_place, first_argument, is_node_named, node_named, with_argument_named, with_node_named};
+ghost use Rattle.kdl.specs.Lookups.{held_value, value_of};
 ghost use Rattle.kdl.specs.contracts.document.KdlDocument.{the_row};
 ghost use Rattle.kdl.specs.contracts.node.KdlNode.{the_row as node_row};
 ghost use Rattle.kdl_value.specs.Tree.{value_tree};
@@ -33,8 +34,10 @@ fn place(nodes: &[KdlNode], name: &str) -> Option<usize>
 fn place_with_argument(nodes: &[KdlNode], name: &str) -> Option<usize>
     ensures place { IfSome result (λ i. Some i ≡ position (is_node_named name.now) nodes.now) }
     ensures bound { IfSome result (λ i. i < length nodes.now) }
-    ensures there { IfSome result (λ i. IsSome (option_and_then argument_place (slice_get nodes.now i))) }
-    ensures absent { IfNone result (option_and_then first_argument (find (is_node_named name.now) nodes.now) ≡ None) }
+    ensures there { IfSome result (λ i.
+        IsSome (option_and_then argument_place (slice_get nodes.now i))) }
+    ensures absent { IfNone result
+        (option_and_then first_argument (find (is_node_named name.now) nodes.now) ≡ None) }
 {
     let Some(at) = place(nodes, name) else {
         return None;
@@ -67,7 +70,8 @@ impl KdlDocument {
     /// }
     /// ```
     pub fn get_mut(&mut self, name: &str) -> Option<&mut KdlNode>
-        ensures* writes_back { sem 𝓛 (LendsIf the_row node_row self.entry result (with_node_there (node_place name.now self.old) self.old) self.old) }
+        ensures* writes_back { sem 𝓛 (LendsIf the_row node_row self.entry result
+            (with_node_named name.now self.old) self.old) }
         ensures value { option_map (λ n. n.now) result ≡ node_named name.now self.old }
     {
         match place(&self.nodes, name) {
@@ -83,7 +87,8 @@ impl KdlDocument {
     /// let port = document.get_arg("port"); // the whole number 8080
     /// ```
     pub fn get_arg(&self, name: &str) -> Option<&KdlValue>
-        ensures { option_map (λ v. value_tree v.now) result ≡ option_map (λ e. value_tree e.value) (argument_named name.now self.now) }
+        ensures { option_map (λ v. value_tree v.now) result ≡
+            value_of (argument_named name.now self.now) }
     {
         match self.get(name) {
             Some(node) => node.get(NodeKey::Index(0)),
@@ -101,8 +106,10 @@ impl KdlDocument {
     /// }
     /// ```
     pub fn get_arg_mut(&mut self, name: &str) -> Option<&mut KdlValue>
-        ensures* writes_back { sem 𝓛 (LendsIf the_row value_row self.entry result (with_argument_there (node_place name.now self.old) self.old) self.old) }
-        ensures value { option_map (λ v. v.now) result ≡ option_map (λ e. e.value) (argument_named name.now self.old) }
+        ensures* writes_back { sem 𝓛 (LendsIf the_row value_row self.entry result
+            (with_argument_named name.now self.old) self.old) }
+        ensures value { option_map (λ v. v.now) result ≡
+            held_value (argument_named name.now self.old) }
     {
         match place_with_argument(&self.nodes, name) {
             Some(at) => Some(&mut self.nodes[at][0]),

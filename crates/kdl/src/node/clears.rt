@@ -1,7 +1,7 @@
 //! Nodes without their formats.
 
 ghost use Rattle.kdl.specs.Cleared.{cleared_node};
-ghost use Rattle.kdl.specs.Due.{IsAlone, due};
+ghost use Rattle.kdl.specs.Internal.Due.{IsAlone, due};
 ghost use Rattle.kdl.specs.Tree.{node_tree};
 ghost use Rattle.std.specs.Prelude.{◌≡◌};
 

@@ -2,8 +2,9 @@
 
 ghost use Rattle.kdl.specs.Change.{with_entries};
 ghost use Rattle.kdl.specs.EditLaw.{PrintsAtPlace};
+ghost use Rattle.kdl.specs.Lookups.{entries_of, entry_there};
 ghost use Rattle.kdl_parts.specs.Edits.{GoesUnder, HasArgumentAt, HasRoomAt, IsInserted, removed, replaced_place, under};
-ghost use Rattle.kdl_parts.specs.EntryLists.{is_argument, removed_place, sought, there};
+ghost use Rattle.kdl_parts.specs.EntryLists.{is_argument, removed_place, sought};
 ghost use Rattle.kdl_parts.specs.Written.{entries_row};
 ghost use Rattle.kdl.specs.Tree.{node_tree};
 ghost use Rattle.kdl.specs.contracts.node.KdlNode.{the_row};
@@ -31,7 +32,7 @@ impl KdlNode {
     /// let count = node.len(); // 3
     /// ```
     pub fn len(&self) -> usize
-        ensures { result ≡ length (out-KdlNode self.now).entries.items }
+        ensures { result ≡ length (entries_of self.now) }
     {
         self.entries.len()
     }
@@ -43,7 +44,7 @@ impl KdlNode {
     /// let count = node.argument_count(); // 2
     /// ```
     pub fn argument_count(&self) -> usize
-        ensures { result ≡ count_by is_argument (out-KdlNode self.now).entries.items }
+        ensures { result ≡ count_by is_argument (entries_of self.now) }
     {
         let entries = self.entries();
         let mut count = 0;
@@ -62,7 +63,7 @@ impl KdlNode {
     /// let none = node.is_empty(); // true: the argument is that of `b`
     /// ```
     pub fn is_empty(&self) -> bool
-        ensures { result ≡ (length (out-KdlNode self.now).entries.items == 0) }
+        ensures { result ≡ (length (entries_of self.now) == 0) }
     {
         self.entries.is_empty()
     }
@@ -75,7 +76,8 @@ impl KdlNode {
     /// node.entries_mut().truncate(1); // prints "a 1 // kept"
     /// ```
     pub fn entries_mut(&mut self) -> &mut Vec<KdlEntry>
-        ensures* writes_back { sem 𝓛 (Lends the_row entries_row self.entry result (with_entries self.old)) }
+        ensures* writes_back { sem 𝓛 (Lends the_row entries_row self.entry result
+            (with_entries self.old)) }
         ensures value { result.now ≡ (out-KdlNode self.old).entries }
     {
         &mut self.entries
@@ -88,13 +90,13 @@ impl KdlNode {
     /// node.clear(); // prints "a // kept"
     /// ```
     pub fn clear(&mut self)
-        ensures items { (out-KdlNode self.new).entries.items ≡ [] }
+        ensures items { entries_of self.new ≡ [] }
         ensures rest { self.new ≡ with_entries self.old (out-KdlNode self.new).entries }
     {
         edit::clear(&mut self.entries);
     }
 
-    /// Puts the entry behind the others. Fails where memory is wanting: then the entry comes back, and the node is as
+    /// Puts the entry behind the others. Fails where memory runs out: then the entry comes back, and the node is as
     /// it was.
     ///
     /// ```
@@ -103,7 +105,8 @@ impl KdlNode {
     /// ```
     #[tactic(auto, using(crate::proofs::EditLaws::refused_same))]
     pub fn push(&mut self, entry: KdlEntry) -> Result<(), (KdlEntry, AllocError)>
-        ensures items { (out-KdlNode self.new).entries.items ≡ (if is_ok result then (out-KdlNode self.old).entries.items ++ (entry ∷ []) else (out-KdlNode self.old).entries.items) }
+        ensures items { entries_of self.new ≡
+            (if is_ok result then entries_of self.old ++ (entry ∷ []) else entries_of self.old) }
         ensures rest { self.new ≡ with_entries self.old (out-KdlNode self.new).entries }
         ensures back { IfErr result (λ e. e.0 ≡ entry) }
         ensures refused { OnErr result (node_tree self.new ≡ node_tree self.old) }
@@ -117,7 +120,7 @@ impl KdlNode {
     /// arguments.
     ///
     /// The entry has no name, or under a name one of equal value; the index is at most the number of arguments. A
-    /// replacement takes no memory. Else it fails where memory is wanting: then the entry comes back, with the key for
+    /// replacement takes no memory. Else it fails where memory runs out: then the entry comes back, with the key for
     /// its name where it had none, and the node is as it was.
     ///
     /// ```
@@ -131,12 +134,17 @@ impl KdlNode {
         entry: KdlEntry,
     ) -> Result<Option<KdlEntry>, (KdlEntry, AllocError)>
         requires fits { GoesUnder (sought key) (entry_tree entry) }
-        requires room { HasRoomAt (sought key) (out-KdlNode self.old).entries.items }
-        ensures items { OnOk result (IsInserted key entry (out-KdlNode self.old).entries.items (out-KdlNode self.new).entries.items) }
+        requires room { HasRoomAt (sought key) (entries_of self.old) }
+        ensures items { OnOk result
+            (IsInserted key entry (entries_of self.old) (entries_of self.new)) }
         ensures rest { self.new ≡ with_entries self.old (out-KdlNode self.new).entries }
-        ensures replaced { IfOk result (λ e. e ≡ there (replaced_place key (out-KdlNode self.old).entries.items) (out-KdlNode self.old).entries.items) }
-        ensures prints { OnOk result (IsSome (out-KdlNode self.old).format → IfSome (replaced_place key (out-KdlNode self.old).entries.items) (λ i. PrintsAtPlace (node_tree self.old) i (under (sought key) (entry_tree entry)) (node_tree self.new))) }
-        ensures succeeds { IsSome (replaced_place key (out-KdlNode self.old).entries.items) → IsOk result }
+        ensures replaced { IfOk result (λ e.
+            e ≡ entry_there (replaced_place key (entries_of self.old)) self.old) }
+        ensures prints { OnOk result (IsSome (out-KdlNode self.old).format
+            → IfSome (replaced_place key (entries_of self.old)) (λ i.
+            PrintsAtPlace (node_tree self.old) i (under (sought key) (entry_tree entry))
+            (node_tree self.new))) }
+        ensures succeeds { IsSome (replaced_place key (entries_of self.old)) → IsOk result }
         ensures back { IfErr result (λ e. entry_tree e.0 ≡ under (sought key) (entry_tree entry)) }
         ensures refused { OnErr result (node_tree self.new ≡ node_tree self.old) }
     {
@@ -151,10 +159,11 @@ impl KdlNode {
     /// let first = node.remove(NodeKey::from_text(alloc, "b")?); // the property `b=2`; prints "a 1 b=3"
     /// ```
     pub fn remove(&mut self, key: NodeKey) -> Option<KdlEntry>
-        requires { HasArgumentAt (sought key) (out-KdlNode self.old).entries.items }
-        ensures items { (out-KdlNode self.new).entries.items ≡ removed key (out-KdlNode self.old).entries.items }
+        requires { HasArgumentAt (sought key) (entries_of self.old) }
+        ensures items { entries_of self.new ≡ removed key (entries_of self.old) }
         ensures rest { self.new ≡ with_entries self.old (out-KdlNode self.new).entries }
-        ensures value { result ≡ there (removed_place key (out-KdlNode self.old).entries.items) (out-KdlNode self.old).entries.items }
+        ensures value { result ≡
+            entry_there (removed_place key (entries_of self.old)) self.old }
     {
         edit::remove(&mut self.entries, key)
     }
@@ -168,14 +177,15 @@ impl KdlNode {
     /// ```
     pub fn retain<F: FnMut(&KdlEntry) -> bool>(&mut self, keep: F)
         requires { F.IsAlwaysCallable keep }
-        ensures items { IsFiltered (CalledAt F.FnMut) keep (out-KdlNode self.old).entries.items (out-KdlNode self.new).entries.items }
+        ensures items { IsFiltered (CalledAt F.FnMut) keep
+            (entries_of self.old) (entries_of self.new) }
         ensures rest { self.new ≡ with_entries self.old (out-KdlNode self.new).entries }
     {
         edit::retain(&mut self.entries, keep);
     }
 
     /// Sorts the entries by `compare`, a total preorder; entries that compare as equal keep their order. Fails where
-    /// memory is wanting: then the entries are in some order.
+    /// memory ran out: then the entries are in some order.
     ///
     /// ```
     /// let mut node = KdlNode::parse(alloc, "a 3 1 2")?;
@@ -186,16 +196,17 @@ impl KdlNode {
         compare: F,
     ) -> Result<(), AllocError>
         requires { F.IsAlwaysCallable compare }
-        ensures permutation { IsPermutation (out-KdlNode self.old).entries.items (out-KdlNode self.new).entries.items }
-        ensures sorted { OnOk result (IsSortedByClosure F.FnMut compare (out-KdlNode self.new).entries.items) }
-        ensures stable { IsStableByClosure F.FnMut compare (out-KdlNode self.old).entries.items (out-KdlNode self.new).entries.items }
+        ensures permutation { IsPermutation (entries_of self.old) (entries_of self.new) }
+        ensures sorted { OnOk result (IsSortedByClosure F.FnMut compare (entries_of self.new)) }
+        ensures stable { IsStableByClosure F.FnMut compare
+            (entries_of self.old) (entries_of self.new) }
         ensures rest { self.new ≡ with_entries self.old (out-KdlNode self.new).entries }
     {
         edit::sort_by(&mut self.entries, compare)
     }
 
     /// Sorts the entries by the key that `f` gives of each; entries with equal keys keep their order. Fails where
-    /// memory is wanting: then the entries are in some order.
+    /// memory ran out: then the entries are in some order.
     ///
     /// ```
     /// let mut node = KdlNode::parse(alloc, "a b=1 2 c=3 4")?;
@@ -205,9 +216,10 @@ impl KdlNode {
     where
         K: Drop,
         requires { F.IsAlwaysCallable f }
-        ensures permutation { IsPermutation (out-KdlNode self.old).entries.items (out-KdlNode self.new).entries.items }
-        ensures sorted { OnOk result (IsSortedByKeyClosure F.FnMut K.cmp f (out-KdlNode self.new).entries.items) }
-        ensures stable { IsStableByKeyClosure F.FnMut K.cmp f (out-KdlNode self.old).entries.items (out-KdlNode self.new).entries.items }
+        ensures permutation { IsPermutation (entries_of self.old) (entries_of self.new) }
+        ensures sorted { OnOk result (IsSortedByKeyClosure F.FnMut K.cmp f (entries_of self.new)) }
+        ensures stable { IsStableByKeyClosure F.FnMut K.cmp f
+            (entries_of self.old) (entries_of self.new) }
         ensures rest { self.new ≡ with_entries self.old (out-KdlNode self.new).entries }
     {
         edit::sort_by_key(&mut self.entries, f)

@@ -22,7 +22,7 @@ use std::alloc::{AllocError, Global};
 
 impl KdlNode {
     /// A node of that name, without a type, entries and children. The texts of its format are empty, but for the
-    /// trailing one, which is one newline; the span is 0 of length 0. Fails where memory is wanting.
+    /// trailing one, which is one newline; the span is 0 of length 0. Fails where memory runs out.
     ///
     /// ```
     /// let name = KdlIdentifier::from_text(alloc, "two words")?;
@@ -50,7 +50,8 @@ impl KdlNode {
     /// node.name_mut().set_value(String::from_str(alloc, "new")?);
     /// ```
     pub fn name_mut(&mut self) -> &mut KdlIdentifier
-        ensures* writes_back { sem 𝓛 (Lends the_row identifier_row self.entry result (with_name self.old)) }
+        ensures* writes_back { sem 𝓛 (Lends the_row identifier_row self.entry result
+            (with_name self.old)) }
         ensures value { result.now ≡ (out-KdlNode self.old).name }
     {
         &mut self.name
@@ -75,7 +76,8 @@ impl KdlNode {
     /// *node.ty_mut() = None; // prints "today"
     /// ```
     pub fn ty_mut(&mut self) -> &mut Option<KdlIdentifier>
-        ensures* writes_back { sem 𝓛 (Lends the_row ty_row self.entry result (with_ty self.old)) }
+        ensures* writes_back { sem 𝓛 (Lends the_row ty_row self.entry result
+            (with_ty self.old)) }
         ensures value { result.now ≡ (out-KdlNode self.old).ty }
     {
         &mut self.ty
@@ -102,7 +104,8 @@ impl KdlNode {
     /// }
     /// ```
     pub fn children_mut(&mut self) -> &mut Option<KdlDocument>
-        ensures* writes_back { sem 𝓛 (Lends the_row children_row self.entry result (with_children self.old)) }
+        ensures* writes_back { sem 𝓛 (Lends the_row children_row self.entry result
+            (with_children self.old)) }
         ensures value { result.now ≡ (out-KdlNode self.old).children }
     {
         &mut self.children
@@ -115,7 +118,8 @@ impl KdlNode {
     /// node.set_children(KdlDocument::parse(alloc, "b; c")?); // in place of those that were there
     /// ```
     pub fn set_children(&mut self, children: KdlDocument)
-        ensures { out-KdlNode self.new ≡ record (out-KdlNode self.old) { children = Some children } }
+        ensures { out-KdlNode self.new ≡
+            record (out-KdlNode self.old) { children = Some children } }
     {
         self.children = Some(children);
     }
@@ -141,9 +145,11 @@ impl KdlNode {
     /// node.ensure_children().nodes_mut().push(b)?;
     /// ```
     pub fn ensure_children(&mut self) -> &mut KdlDocument
-        ensures* writes_back { sem 𝓛 (Lends the_row document_row self.entry result (λ d. with_children self.old (Some d))) }
+        ensures* writes_back { sem 𝓛 (Lends the_row document_row self.entry result
+            (λ d. with_children self.old (Some d))) }
         ensures found { IfSome (out-KdlNode self.old).children (λ d. result.now ≡ d) }
-        ensures made { IfNone (out-KdlNode self.old).children (document_tree result.now ≡ new_document) }
+        ensures made { IfNone (out-KdlNode self.old).children
+            (document_tree result.now ≡ new_document) }
     {
         let alloc = *self.entries.allocator();
         self.children.get_or_insert(KdlDocument::new(alloc))
@@ -158,7 +164,8 @@ impl KdlNode {
     /// }
     /// ```
     pub fn format_mut(&mut self) -> Option<&mut KdlNodeFormat>
-        ensures* writes_back { sem 𝓛 (LendsIf the_row format_row self.entry result (λ f. with_format self.old (Some f)) self.old) }
+        ensures* writes_back { sem 𝓛 (LendsIf the_row format_row self.entry result
+            (λ f. with_format self.old (Some f)) self.old) }
         ensures value { option_map (λ f. f.now) result ≡ (out-KdlNode self.old).format }
     {
         self.format.as_mut()

@@ -43,7 +43,8 @@ impl KdlNode {
     /// }
     /// ```
     pub fn iter_mut(&mut self) -> EntryIterMut<'_>
-        ensures* writes_back { sem 𝓛 (follows node_row (Array entry_row 0) self.entry.ghost_name (entries_name result) (with_written_entries self.old)) }
+        ensures* writes_back { sem 𝓛 (follows node_row (Array entry_row 0) self.entry.ghost_name
+            (entries_name result) (with_written_entries self.old)) }
         ensures left { entries_left result ≡ entries_of self.old }
     {
         entry_iter_mut(&mut self.entries)
@@ -161,7 +162,8 @@ impl<'a> Iterator for ChildrenIterMut<'a> {
     fn size_hint(&self) -> (usize, Option<usize>)
         ensures lower { IsWithinCount result.0 (at_most (length (nodes_left self.now))) }
         ensures upper { IfSome result.1 (UpTo (at_most (length (nodes_left self.now)))) }
-        ensures value { result ≡ (length (nodes_left self.now), Some (length (nodes_left self.now))) }
+        ensures value { result ≡
+            (length (nodes_left self.now), Some (length (nodes_left self.now))) }
     {
         match &self.nodes {
             Some(nodes) => (nodes.len(), Some(nodes.len())),

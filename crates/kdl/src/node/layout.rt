@@ -1,22 +1,22 @@
 //! Layout of nodes.
 
 ghost use Rattle.kdl.specs.Change.{with_nodes};
-ghost use Rattle.kdl.specs.Laid.{Laid, LaidBut, block_nodes, filled_block, nodes_in};
-ghost use Rattle.kdl.specs.Tree.{document_tree, node_tree, nodes_tree};
+ghost use Rattle.kdl.specs.Iterators.{child_nodes, nodes_in};
+ghost use Rattle.kdl.specs.Internal.Laid.{Laid, LaidBut, filled_block};
+ghost use Rattle.kdl.specs.Layout.{IndentsBySpaces, NodeCommentsStay, NodeLaidOut, NodeUnmarked, node_bare, plain_node};
+ghost use Rattle.kdl.specs.Tree.{document_tree, node_prints, node_says, node_tree, nodes_tree};
 ghost use Rattle.kdl.specs.declared.document.KdlDocument.{out-KdlDocument};
 ghost use Rattle.kdl.specs.declared.node.KdlNode.{out-KdlNode};
 ghost use Rattle.kdl_fmt.specs.Canonical.{CanonicalNode, canonical_node};
 ghost use Rattle.kdl_fmt.specs.Config.{IsPlain, defaults, indentation, settings, without_comments};
-ghost use Rattle.kdl_fmt.specs.Formatted.{NodeKeepsNone, bare_children, bare_node, formatted_node};
+ghost use Rattle.kdl_fmt.specs.Formatted.{bare_children, bare_node};
 ghost use Rattle.kdl_fmt.specs.WellFormed.{IsWellFormedNode};
 ghost use Rattle.kdl_fmt.specs.WithComments.{AreFormattedNodes, IsFormattedChildren, IsFormattedNode};
 ghost use Rattle.kdl_grammar.specs.Data as data';
 ghost use Rattle.kdl_grammar.specs.Grammar.{IsDocument};
-ghost use Rattle.kdl_grammar.specs.Print.{print_node};
-ghost use Rattle.kdl_grammar.specs.Tree.{Node, children_of, node_data, nodes_of};
-ghost use Rattle.kdl_text.specs.Chars.{is_space};
-ghost use Rattle.std.specs.List.{AllZip, list_all};
-ghost use Rattle.std.specs.Prelude.{◌≡◌, ◌↔◌, ◌+◌, ◌<◌, IfOk, IsTrue, List, MatchOption, false, length, map, option_map, true};
+ghost use Rattle.kdl_grammar.specs.Tree.{Node, children_of, listed_nodes};
+ghost use Rattle.std.specs.List.{AllZip};
+ghost use Rattle.std.specs.Prelude.{◌≡◌, ◌↔◌, ◌+◌, ◌<◌, IsTrue, List, MatchOption, OnOk, false, length, map, option_map, true};
 ghost use Rattle.std.specs.Str.{chars};
 
 use crate::document::KdlDocument;
@@ -36,18 +36,22 @@ impl KdlNode {
     ///
     /// Where no entry is marked, the node prints a document of that one node, and a second call changes nothing.
     ///
-    /// Fails where memory is wanting: then the node says what it said, and some of it may be laid out.
+    /// Fails where memory runs out: then the node says what it said, and some of it may be laid out.
     ///
     /// ```
     /// let mut node = KdlNode::parse(alloc, "\"a\"  /* b */ 0x10 // c")?;
     /// node.autoformat()?; // prints `a /* b */ 16 // c` and a newline
     /// ```
     pub fn autoformat(&mut self) -> Result<(), AllocError>
-        ensures data { node_data (node_tree self.new) ≡ node_data (node_tree self.old) }
-        ensures kept { bare_node (node_tree self.new) ≡ bare_node (node_tree self.old) }
-        ensures formatted { IfOk result (λ _. IsFormattedNode defaults 0 (node_tree self.old) (node_tree self.new)) }
-        ensures unmarked { IfOk result (λ _. NodeKeepsNone (node_tree self.new)) }
-        ensures derived { IfOk result (λ _. NodeKeepsNone (node_tree self.old) → IsDocument true (print_node (node_tree self.new) 0) (data'.first (node_data (node_tree self.old)) data'.none)) }
+        ensures data { node_says self.new ≡ node_says self.old }
+        ensures kept { node_bare self.new ≡ node_bare self.old }
+        ensures formatted { OnOk result (NodeLaidOut defaults self.old self.new) }
+        ensures unmarked { OnOk result (NodeUnmarked self.new) }
+        ensures derived { OnOk result (NodeUnmarked self.old
+            → IsDocument true (node_prints self.new)
+            (data'.first (node_says self.old) data'.none)) }
+        ensures comments { OnOk result (NodeUnmarked self.old
+            → NodeCommentsStay (node_tree self.old) (node_prints self.new)) }
     {
         let config = FormatConfig::builder().build();
         self.autoformat_config(&config)
@@ -55,19 +59,22 @@ impl KdlNode {
 
     /// Lays out the node like `autoformat`, without comments: these go, and what a slashdash drops.
     ///
-    /// Fails where memory is wanting: then the node says what it said, and some of it may be laid out.
+    /// Fails where memory runs out: then the node says what it said, and some of it may be laid out.
     ///
     /// ```
     /// let mut node = KdlNode::parse(alloc, "\"a\"   0x10 { /* b */ b; }")?;
     /// node.autoformat_no_comments()?; // prints `a 16 {`, `    b` and `}`, each with a newline
     /// ```
     pub fn autoformat_no_comments(&mut self) -> Result<(), AllocError>
-        ensures data { node_data (node_tree self.new) ≡ node_data (node_tree self.old) }
-        ensures kept { bare_node (node_tree self.new) ≡ bare_node (node_tree self.old) }
-        ensures formatted { IfOk result (λ _. node_tree self.new ≡ formatted_node without_comments 0 (node_tree self.old)) }
-        ensures unmarked { IfOk result (λ _. NodeKeepsNone (node_tree self.new)) }
-        ensures prints { IfOk result (λ _. NodeKeepsNone (node_tree self.old) → print_node (node_tree self.new) 0 ≡ canonical_node without_comments.indent 0 (node_data (node_tree self.old))) }
-        ensures reads { IfOk result (λ _. CanonicalNode without_comments.indent 0 (node_data (node_tree self.old))) }
+        ensures data { node_says self.new ≡ node_says self.old }
+        ensures kept { node_bare self.new ≡ node_bare self.old }
+        ensures formatted { OnOk result
+            (node_tree self.new ≡ plain_node without_comments self.old) }
+        ensures unmarked { OnOk result (NodeUnmarked self.new) }
+        ensures prints { OnOk result (NodeUnmarked self.old
+            → node_prints self.new ≡
+            canonical_node without_comments.indent 0 (node_says self.old)) }
+        ensures reads { OnOk result (CanonicalNode without_comments.indent 0 (node_says self.old)) }
     {
         let config = FormatConfig::builder().no_comments(true).build();
         self.autoformat_config(&config)
@@ -76,7 +83,7 @@ impl KdlNode {
     /// Lays out the node and all below it as the configuration says: from its level on, with its indent for each level,
     /// with or without comments, and with all entries marked or not.
     ///
-    /// Fails where memory is wanting, or where the level of a child would pass `usize`: then the node says what it
+    /// Fails where memory runs out, or where the level of a child would pass `usize`: then the node says what it
     /// said, and some of it may be laid out.
     ///
     /// ```
@@ -85,17 +92,26 @@ impl KdlNode {
     /// node.autoformat_config(&config)?; // prints `a {` behind one tabulator, `b` behind two, `}` behind one
     /// ```
     pub fn autoformat_config(&mut self, config: &FormatConfig) -> Result<(), AllocError>
-        ensures data { node_data (node_tree self.new) ≡ node_data (node_tree self.old) }
-        ensures kept { bare_node (node_tree self.new) ≡ bare_node (node_tree self.old) }
-        ensures formatted { IfOk result (λ _. IsFormattedNode (settings config.now) config.now.indent_level (node_tree self.old) (node_tree self.new)) }
-        ensures plain { IfOk result (λ _. config.now.no_comments ≡ true → node_tree self.new ≡ formatted_node (settings config.now) config.now.indent_level (node_tree self.old)) }
-        ensures unmarked { IfOk result (λ _. NodeKeepsNone (node_tree self.new)) }
-        ensures derived { IfOk result (λ _. list_all is_space (settings config.now).indent ≡ true → config.now.entry_autoformate_keep ≡ false → NodeKeepsNone (node_tree self.old)
-            → IsDocument true (print_node (node_tree self.new) 0) (data'.first (node_data (node_tree self.old)) data'.none)) }
-        ensures prints { IfOk result (λ _. IsPlain (settings config.now) → NodeKeepsNone (node_tree self.old)
-            → print_node (node_tree self.new) 0 ≡ canonical_node (settings config.now).indent config.now.indent_level (node_data (node_tree self.old))) }
-        ensures reads { IfOk result (λ _. list_all is_space (settings config.now).indent ≡ true
-            → CanonicalNode (settings config.now).indent config.now.indent_level (node_data (node_tree self.old))) }
+        ensures data { node_says self.new ≡ node_says self.old }
+        ensures kept { node_bare self.new ≡ node_bare self.old }
+        ensures formatted { OnOk result (NodeLaidOut (settings config.now) self.old self.new) }
+        ensures plain { OnOk result (config.now.no_comments ≡ true
+            → node_tree self.new ≡ plain_node (settings config.now) self.old) }
+        ensures unmarked { OnOk result (NodeUnmarked self.new) }
+        ensures derived { OnOk result (IndentsBySpaces (settings config.now)
+            → config.now.entry_autoformate_keep ≡ false → NodeUnmarked self.old
+            → IsDocument true (node_prints self.new)
+            (data'.first (node_says self.old) data'.none)) }
+        ensures comments { OnOk result (IndentsBySpaces (settings config.now)
+            → config.now.entry_autoformate_keep ≡ false → config.now.no_comments ≡ false
+            → NodeUnmarked self.old
+            → NodeCommentsStay (node_tree self.old) (node_prints self.new)) }
+        ensures prints { OnOk result (IsPlain (settings config.now) → NodeUnmarked self.old
+            → node_prints self.new ≡
+            canonical_node (settings config.now).indent config.now.indent_level (node_says self.old)) }
+        ensures reads { OnOk result (IndentsBySpaces (settings config.now)
+            → CanonicalNode (settings config.now).indent config.now.indent_level
+            (node_says self.old)) }
     {
         let alloc = *self.entries.allocator();
         let level = config.indent_level;
@@ -111,9 +127,10 @@ impl KdlNode {
         before: &str,
     ) -> Result<(), AllocError>
         requires { chars before.now ≡ indentation (settings config.now) level }
-        ensures kept { bare_node (node_tree self.new) ≡ bare_node (node_tree self.old) }
-        ensures formatted { IfOk result (λ _. IsFormattedNode (settings config.now) level (node_tree self.old) (node_tree self.new)) }
-        ensures well_formed { IfOk result (λ _. IsWellFormedNode (node_data (node_tree self.old))) }
+        ensures kept { node_bare self.new ≡ node_bare self.old }
+        ensures formatted { OnOk result (IsFormattedNode (settings config.now) level
+            (node_tree self.old) (node_tree self.new)) }
+        ensures well_formed { OnOk result (IsWellFormedNode (node_says self.old)) }
     {
         self.lay_out_own(config, level, before)?;
         lay_out_below(&mut self.children, config, level)
@@ -126,9 +143,11 @@ impl KdlNode {
         level: usize,
         before: &str,
     ) -> Result<(), AllocError>
-        ensures kept { bare_node (node_tree self.new) ≡ bare_node (node_tree self.old) }
-        ensures block { block_nodes self.new ≡ block_nodes self.old }
-        ensures laid { IfOk result (λ _. chars before.now ≡ indentation (settings config.now) level → LaidBut (settings config.now) level (node_tree self.old) (map node_tree (block_nodes self.old)) self.new) }
+        ensures kept { node_bare self.new ≡ node_bare self.old }
+        ensures block { child_nodes self.new ≡ child_nodes self.old }
+        ensures laid { OnOk result (chars before.now ≡ indentation (settings config.now) level
+            → LaidBut (settings config.now) level (node_tree self.old)
+            (map node_tree (child_nodes self.old)) self.new) }
     {
         let alloc = *self.entries.allocator();
         let has_block = self.children.is_some();
@@ -141,8 +160,10 @@ impl KdlNode {
 
     /// Puts other nodes into the node's block, where it has one, and answers those that it had; else it answers them.
     pub(crate) fn exchange_nodes(&mut self, nodes: Vec<KdlNode>) -> Vec<KdlNode>
-        ensures had { MatchOption (out-KdlNode self.old).children (result ≡ nodes) (λ d. result ≡ (out-KdlDocument d).nodes) }
-        ensures has { out-KdlNode self.new ≡ record (out-KdlNode self.old) { children = option_map (λ d. with_nodes d nodes) (out-KdlNode self.old).children } }
+        ensures had { MatchOption (out-KdlNode self.old).children (result ≡ nodes)
+            (λ d. result ≡ (out-KdlDocument d).nodes) }
+        ensures has { out-KdlNode self.new ≡ record (out-KdlNode self.old)
+            { children = option_map (λ d. with_nodes d nodes) (out-KdlNode self.old).children } }
     {
         match &mut self.children {
             Some(children) => mem::replace(children.nodes_mut(), nodes),
@@ -152,7 +173,7 @@ impl KdlNode {
 
     /// Whether there are nodes in its block.
     pub(crate) fn has_nodes(&self) -> bool
-        ensures { IsTrue result ↔ (0 < length (block_nodes self.now)) }
+        ensures { IsTrue result ↔ (0 < length (child_nodes self.now)) }
     {
         match &self.children {
             Some(children) => !children.nodes().is_empty(),
@@ -168,10 +189,15 @@ fn lay_out_block(
     level: usize,
     before: &str,
 ) -> Result<(), AllocError>
-    ensures kept { bare_children (children_of (option_map document_tree children.new)) ≡ bare_children (children_of (option_map document_tree children.old)) }
+    ensures kept { bare_children (children_of (option_map document_tree children.new)) ≡
+        bare_children (children_of (option_map document_tree children.old)) }
     ensures nodes { nodes_in children.new ≡ nodes_in children.old }
-    ensures formatted { IfOk result (λ _. chars before.now ≡ indentation (settings config.now) level → (ms : List Node) → AreFormattedNodes (settings config.now) (level + 1) (nodes_tree (nodes_in children.old)) (nodes_of ms)
-        → IsFormattedChildren (settings config.now) level (children_of (option_map document_tree children.old)) (filled_block children.new ms)) }
+    ensures formatted { OnOk result (chars before.now ≡ indentation (settings config.now) level
+        → (ms : List Node)
+        → AreFormattedNodes (settings config.now) (level + 1)
+        (nodes_tree (nodes_in children.old)) (listed_nodes ms)
+        → IsFormattedChildren (settings config.now) level
+        (children_of (option_map document_tree children.old)) (filled_block children.new ms)) }
 {
     match children {
         Some(children) => children.lay_out_block(config, level, before),
@@ -186,8 +212,10 @@ fn lay_out_below(
     level: usize,
 ) -> Result<(), AllocError>
     ensures block { (ms : List Node) → filled_block children.new ms ≡ filled_block children.old ms }
-    ensures kept { map bare_node (map node_tree (nodes_in children.new)) ≡ map bare_node (map node_tree (nodes_in children.old)) }
-    ensures laid { IfOk result (λ _. AllZip (Laid (settings config.now) (level + 1)) (map node_tree (nodes_in children.old)) (map node_tree (nodes_in children.new))) }
+    ensures kept { map bare_node (map node_tree (nodes_in children.new)) ≡
+        map bare_node (map node_tree (nodes_in children.old)) }
+    ensures laid { OnOk result (AllZip (Laid (settings config.now) (level + 1))
+        (map node_tree (nodes_in children.old)) (map node_tree (nodes_in children.new))) }
 {
     let Some(children) = children else {
         return Ok(());

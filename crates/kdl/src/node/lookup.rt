@@ -1,6 +1,6 @@
 //! Look-ups of entries by the name of a property, or by the place of an argument.
 
-ghost use Rattle.kdl.specs.Lookups.{entry_there, key_place, property_place, value_there, with_entry_there, with_value_there, HasSameEntries, HasWritten};
+ghost use Rattle.kdl.specs.Lookups.{found_entry, found_value, held_value, key_place, property_place, property_value, with_found_entry, with_found_value, HasSameEntries, HasWritten};
 ghost use Rattle.kdl_parts.specs.declared.key.NodeKey.TheVariants.{Index as at_index};
 ghost use Rattle.kdl_value.specs.Tree.{or_null, value_tree};
 ghost use Rattle.std.specs.Borrow.{Lends, LendsIf, LendsSoOk, sem};
@@ -22,7 +22,7 @@ impl KdlNode {
     /// let three = node.entry(NodeKey::from(1)); // the argument 3, the second one
     /// ```
     pub fn entry(&self, key: NodeKey) -> Option<&KdlEntry>
-        ensures { option_map (λ e. e.now) result ≡ entry_there (key_place key self.now) self.now }
+        ensures { option_map (λ e. e.now) result ≡ found_entry key self.now }
     {
         lookup::entry(&self.entries, key)
     }
@@ -35,7 +35,7 @@ impl KdlNode {
     /// let two = node.get(NodeKey::from_text(alloc, "b")?); // 2: the last one counts
     /// ```
     pub fn get(&self, key: NodeKey) -> Option<&KdlValue>
-        ensures { option_map (λ v. value_tree v.now) result ≡ value_there (key_place key self.now) self.now }
+        ensures { option_map (λ v. value_tree v.now) result ≡ found_value key self.now }
     {
         lookup::value(&self.entries, key)
     }
@@ -68,8 +68,9 @@ impl KdlNode {
     /// }
     /// ```
     pub fn entry_mut(&mut self, key: NodeKey) -> Option<&mut KdlEntry>
-        ensures* writes_back { sem 𝓛 (LendsIf the_row entry_row self.entry result (with_entry_there (key_place key self.old) self.old) self.old) }
-        ensures value { option_map (λ e. e.now) result ≡ entry_there (key_place key self.old) self.old }
+        ensures* writes_back { sem 𝓛 (LendsIf the_row entry_row self.entry result
+            (with_found_entry key self.old) self.old) }
+        ensures value { option_map (λ e. e.now) result ≡ found_entry key self.old }
     {
         lookup::entry_mut(&mut self.entries, key)
     }
@@ -84,14 +85,15 @@ impl KdlNode {
     /// }
     /// ```
     pub fn get_mut(&mut self, key: NodeKey) -> Option<&mut KdlValue>
-        ensures* writes_back { sem 𝓛 (LendsIf the_row value_row self.entry result (with_value_there (key_place key self.old) self.old) self.old) }
-        ensures value { option_map (λ v. v.now) result ≡ option_map (λ e. e.value) (entry_there (key_place key self.old) self.old) }
+        ensures* writes_back { sem 𝓛 (LendsIf the_row value_row self.entry result
+            (with_found_value key self.old) self.old) }
+        ensures value { option_map (λ v. v.now) result ≡ held_value (found_entry key self.old) }
     {
         lookup::value_mut(&mut self.entries, key)
     }
 
     /// The value of the last property of that name, to be changed in place; a property of that name with the value null
-    /// is pushed first where there is none. Fails where memory for it is wanting: then the entries are as they were. What
+    /// is pushed first where there is none. Fails where memory for it runs out: then the entries are as they were. What
     /// is there is lent without memory.
     ///
     /// ```
@@ -99,8 +101,11 @@ impl KdlNode {
     /// *node.get_or_null_mut("b")? = KdlValue::from(1); // prints "a b=1"
     /// ```
     pub fn get_or_null_mut(&mut self, name: &str) -> Result<&mut KdlValue, AllocError>
-        ensures* writes_back { sem 𝓛 (LendsSoOk the_row value_row self.entry result (λ n w. HasWritten (property_place name.now self.old) name.now self.old w n) (λ n. HasSameEntries self.old n)) }
-        ensures value { IfOk result (λ v. value_tree v.now ≡ or_null (value_there (property_place name.now self.old) self.old)) }
+        ensures* writes_back { sem 𝓛 (LendsSoOk the_row value_row self.entry result
+            (λ n w. HasWritten (property_place name.now self.old) name.now self.old w n)
+            (λ n. HasSameEntries self.old n)) }
+        ensures value { IfOk result (λ v.
+            value_tree v.now ≡ or_null (property_value name.now self.old)) }
         ensures answers { IsSome (property_place name.now self.old) → IsOk result }
         ensures missing { OnErr result (IsNone (property_place name.now self.old)) }
     {
@@ -120,7 +125,7 @@ impl Index<usize> for KdlNode {
 
     ghost can_index = { λ n i. IsSome (key_place (at_index i) n) };
 
-    ghost index_gives = { λ n i v. value_there (key_place (at_index i) n) n ≡ Some (value_tree v) };
+    ghost index_gives = { λ n i v. found_value (at_index i) n ≡ Some (value_tree v) };
 
     fn index(&self, index: usize) -> &KdlValue {
         lookup::argument(&self.entries, index)
@@ -138,7 +143,7 @@ impl<'q> Index<&'q str> for KdlNode {
 
     ghost can_index = { λ n name. IsSome (property_place name.now n) };
 
-    ghost index_gives = { λ n name v. value_there (property_place name.now n) n ≡ Some (value_tree v) };
+    ghost index_gives = { λ n name v. property_value name.now n ≡ Some (value_tree v) };
 
     fn index(&self, name: &'q str) -> &KdlValue {
         lookup::property(&self.entries, name)
@@ -157,8 +162,9 @@ impl IndexMut<usize> for KdlNode {
 
     fn index_mut(&mut self, index: usize) -> &mut KdlValue
         requires { IsSome (key_place (at_index index) self.old) }
-        ensures* writes_back { sem 𝓛 (Lends the_row value_row self.entry result (with_value_there (key_place (at_index index) self.old) self.old)) }
-        ensures value { option_map (λ e. e.value) (entry_there (key_place (at_index index) self.old) self.old) ≡ Some result.now }
+        ensures* writes_back { sem 𝓛 (Lends the_row value_row self.entry result
+            (with_found_value (at_index index) self.old)) }
+        ensures value { held_value (found_entry (at_index index) self.old) ≡ Some result.now }
     {
         lookup::argument_mut(&mut self.entries, index)
     }

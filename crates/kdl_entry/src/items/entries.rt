@@ -1,14 +1,14 @@
 //! Entries that are a whole text, read token by token.
 
-ghost use Rattle.kdl_entry.specs.Building.{item_view, Stays};
-ghost use Rattle.kdl_entry.specs.EntryMachine as machine;
-ghost use Rattle.kdl_entry.specs.EntryMachine.{argument_of, ended, finish, keyed_item, made, opened_item, step, word_at};
-ghost use Rattle.kdl_entry.specs.EntryReading.{word_view, state_view, Answers, Stands, Stepped, Ended};
-ghost use Rattle.kdl_entry.specs.Handed.{kind_view};
-ghost use Rattle.kdl_entry.specs.Items.{between};
+ghost use Rattle.kdl_entry.specs.Internal.Building.{item_view, Stays};
+ghost use Rattle.kdl_entry.specs.Internal.EntryMachine as machine;
+ghost use Rattle.kdl_entry.specs.Internal.EntryMachine.{argument_of, ended, finish, keyed_item, entry_by, opened_item, step, word_at};
+ghost use Rattle.kdl_entry.specs.Internal.EntryReading.{word_view, state_view, AnswersEntryText, Stands, Stepped, Ended};
+ghost use Rattle.kdl_entry.specs.Internal.Handed.{kind_view};
+ghost use Rattle.kdl_entry.specs.Internal.Items.{between};
 ghost use Rattle.kdl_value.specs.Tree.{text_of, value_tree};
 ghost use Rattle.kdl_entry.specs.Tree.{entry_tree, identifier_tree};
-ghost use Rattle.kdl_text.specs.Here.{Ahead};
+ghost use Rattle.kdl_text.specs.Internal.Here.{Ahead};
 ghost use Rattle.std.specs.Prelude.{◌≡◌, [], Some, None, true, false, IfOk};
 ghost use Rattle.std.specs.Str.{chars};
 
@@ -45,7 +45,7 @@ enum State<'a> {
     Marked,
     /// An entry under way, which has a type or a key.
     Under(Item<'a>),
-    /// An entry that counts for nothing: whether it is a string, which may yet be a key, and whether spaces follow.
+    /// An entry that is slashdashed: whether it is a string, which may yet be a key, and whether spaces follow.
     Dropped(bool, bool),
     /// A string that may yet be a key, and where it ended.
     Pending(Word, Checkpoint<'a>),
@@ -78,7 +78,9 @@ fn keyed<'a>(
     before: String,
     end: &Checkpoint<'a>,
 ) -> Item<'a>
-    ensures { item_view result ≡ keyed_item whole.now.rest kept (text_of leading) (identifier_tree name) (text_of before) end.now.rest }
+    ensures { item_view result
+        ≡ keyed_item whole.now.rest kept (text_of leading) (identifier_tree name)
+        (text_of before) end.now.rest }
 {
     let mut item = Item::new(alloc, whole);
     item.open_keyed(kept, leading, whole, name, before, end);
@@ -97,7 +99,8 @@ fn word_between<'a>(
 ) -> Result<Word, AllocError>
     requires leading { Ahead whole.now start.now }
     requires token { Ahead start.now end.now }
-    ensures is { IfOk result (λ w. word_view w ≡ word_at whole.now.rest (text_of value) start.now.rest end.now.rest) }
+    ensures is { IfOk result
+        (λ w. word_view w ≡ word_at whole.now.rest (text_of value) start.now.rest end.now.rest) }
     ensures stays { Stays lexer.old lexer.new }
 {
     let leading = text_between(alloc, lexer, whole, start)?;
@@ -121,7 +124,9 @@ fn argument_between<'a>(
 ) -> Result<KdlEntry, AllocError>
     requires leading { Ahead whole.now start.now }
     requires token { Ahead start.now end.now }
-    ensures is { IfOk result (λ e. entry_tree e ≡ made (between whole.now.rest start.now.rest) None None (value_tree value) (between start.now.rest end.now.rest)) }
+    ensures is { IfOk result
+        (λ e. entry_tree e ≡ entry_by (between whole.now.rest start.now.rest) None None
+        (value_tree value) (between start.now.rest end.now.rest)) }
     ensures stays { Stays lexer.old lexer.new }
 {
     let leading = text_between(alloc, lexer, whole, start)?;
@@ -161,7 +166,8 @@ fn at_start<'a>(
 ) -> Result<State<'a>, LexFailure>
     requires leading { Ahead whole.now start.now }
     requires token { Ahead start.now end.now }
-    ensures did { Stepped (step whole.now.rest machine.ahead (kind_view kind) start.now.rest end.now.rest) start.now result }
+    ensures did { Stepped (step whole.now.rest machine.ahead
+        (kind_view kind) start.now.rest end.now.rest) start.now result }
     ensures stays { Stays lexer.old lexer.new }
 {
     match kind {
@@ -191,7 +197,8 @@ fn at_marked<'a>(
     start: &Checkpoint<'a>,
     end: &Checkpoint<'a>,
 ) -> Result<State<'a>, LexFailure>
-    ensures { Stepped (step whole.now.rest machine.marked (kind_view kind) start.now.rest end.now.rest) start.now result }
+    ensures { Stepped (step whole.now.rest machine.marked
+        (kind_view kind) start.now.rest end.now.rest) start.now result }
 {
     match kind {
         TokenKind::Space | TokenKind::Newline => Ok(State::Marked),
@@ -214,7 +221,8 @@ fn at_under<'a>(
 ) -> Result<State<'a>, LexFailure>
     requires from { Ahead item.from start.now }
     requires token { Ahead start.now end.now }
-    ensures did { Stepped (step whole.now.rest (machine.under (item_view item.entry)) (kind_view kind) start.now.rest end.now.rest) start.now result }
+    ensures did { Stepped (step whole.now.rest (machine.under (item_view item.entry))
+        (kind_view kind) start.now.rest end.now.rest) start.now result }
     ensures stays { Stays lexer.old lexer.new }
 {
     let Some(Given { key, ty, value }) = item.take(alloc, lexer, whole, kind, start, end)? else {
@@ -228,7 +236,7 @@ fn at_under<'a>(
     Ok(State::Done(entry, end.copied()))
 }
 
-/// A token directly behind an entry that counts for nothing, which is a string or not.
+/// A token directly behind an entry that is slashdashed, which is a string or not.
 fn at_dropped<'a>(
     word: bool,
     alloc: Global,
@@ -237,7 +245,8 @@ fn at_dropped<'a>(
     start: &Checkpoint<'a>,
     end: &Checkpoint<'a>,
 ) -> Result<State<'a>, LexFailure>
-    ensures { Stepped (step whole.now.rest (machine.dropped word false) (kind_view kind) start.now.rest end.now.rest) start.now result }
+    ensures { Stepped (step whole.now.rest (machine.dropped word false)
+        (kind_view kind) start.now.rest end.now.rest) start.now result }
 {
     match kind {
         TokenKind::Space => Ok(State::Dropped(word, true)),
@@ -254,7 +263,7 @@ fn at_dropped<'a>(
     }
 }
 
-/// A token behind an entry that counts for nothing and spaces.
+/// A token behind an entry that is slashdashed and spaces.
 fn at_spaced<'a>(
     word: bool,
     alloc: Global,
@@ -266,7 +275,8 @@ fn at_spaced<'a>(
 ) -> Result<State<'a>, LexFailure>
     requires leading { Ahead whole.now start.now }
     requires token { Ahead start.now end.now }
-    ensures did { Stepped (step whole.now.rest (machine.dropped word true) (kind_view kind) start.now.rest end.now.rest) start.now result }
+    ensures did { Stepped (step whole.now.rest (machine.dropped word true)
+        (kind_view kind) start.now.rest end.now.rest) start.now result }
     ensures stays { Stays lexer.old lexer.new }
 {
     match kind {
@@ -288,7 +298,8 @@ fn at_pending<'a>(
     end: &Checkpoint<'a>,
 ) -> Result<State<'a>, LexFailure>
     requires { Ahead from start.now }
-    ensures did { Stepped (step whole.now.rest (machine.word (word_view word) from.entry.rest) (kind_view kind) start.now.rest end.now.rest) start.now result }
+    ensures did { Stepped (step whole.now.rest (machine.word (word_view word) from.entry.rest)
+        (kind_view kind) start.now.rest end.now.rest) start.now result }
     ensures stays { Stays lexer.old lexer.new }
 {
     match kind {
@@ -318,7 +329,8 @@ fn at_done<'a>(
     start: &Checkpoint<'a>,
     end: &Checkpoint<'a>,
 ) -> Result<State<'a>, LexFailure>
-    ensures { Stepped (step whole.now.rest (machine.done (entry_tree entry) from.entry.rest) (kind_view kind) start.now.rest end.now.rest) start.now result }
+    ensures { Stepped (step whole.now.rest (machine.done (entry_tree entry) from.entry.rest)
+        (kind_view kind) start.now.rest end.now.rest) start.now result }
 {
     match kind {
         TokenKind::Space | TokenKind::Newline => Ok(State::Done(entry, from)),
@@ -337,7 +349,8 @@ fn ended<'a>(
 ) -> Result<KdlEntry, AllocError>
     requires end { lexer.old.rest ≡ [] }
     requires from { Ahead from.now (record { rest = lexer.old.rest; at = lexer.old.at }) }
-    ensures { IfOk result (λ e. entry_tree e ≡ machine.ended whole.now.rest (between from.now.rest []) (entry_tree entry)) }
+    ensures { IfOk result (λ e. entry_tree e
+        ≡ machine.ended whole.now.rest (between from.now.rest []) (entry_tree entry)) }
 {
     let here = lexer.checkpoint();
     let trailing = text_between(alloc, lexer, from, &here)?;
@@ -361,7 +374,9 @@ impl<'a> State<'a> {
         requires leading { Ahead whole.now token.start }
         requires from { Stands (state_view self) token.start.rest }
         requires token { Ahead token.start token.end }
-        ensures did { Stepped (step whole.now.rest (state_view self.entry) (kind_view token.entry.kind) token.entry.start.rest token.entry.end.rest) token.entry.start result }
+        ensures did { Stepped (step whole.now.rest (state_view self.entry)
+            (kind_view token.entry.kind) token.entry.start.rest token.entry.end.rest)
+            token.entry.start result }
         ensures stays { Stays lexer.old lexer.new }
     {
         let Token { kind, start, end } = token;
@@ -406,7 +421,7 @@ impl<'a> State<'a> {
 }
 
 /// The entry that the text is, of which the lexer is at the start.
-#[tactic(auto, using(crate::proofs::EntryTurns::starts_going, crate::proofs::EntryTurns::next_going, crate::proofs::EntryTurns::whole_start, crate::proofs::EntryTurns::from_start, crate::proofs::EntryTurns::start_end, crate::proofs::EntryTurns::lexer_told, crate::proofs::EntryTurns::take_told, crate::proofs::EntryTurns::all_read, crate::proofs::EntryTurns::from_end, crate::proofs::EntryTurns::at_the_end, crate::proofs::EntryTurns::no_end, crate::proofs::EntryTurns::nearer))]
+#[tactic(auto, using(crate::proofs::Reading::EntryLoop::starts_going, crate::proofs::Reading::EntryLoop::next_going, crate::proofs::Reading::EntryLoop::whole_start, crate::proofs::Reading::EntryLoop::from_start, crate::proofs::Reading::EntryLoop::start_end, crate::proofs::Reading::EntryLoop::lexer_told, crate::proofs::Reading::EntryLoop::take_told, crate::proofs::Reading::EntryLoop::all_read, crate::proofs::Reading::EntryLoop::from_end, crate::proofs::Reading::EntryLoop::at_the_end, crate::proofs::Reading::EntryLoop::no_end, crate::proofs::Reading::EntryLoop::nearer))]
 fn read_tokens<'a>(
     alloc: Global,
     lexer: &mut Lexer<'a>,
@@ -414,7 +429,7 @@ fn read_tokens<'a>(
 ) -> Result<KdlEntry, LexFailure>
     requires rest { lexer.old.rest ≡ whole.now.rest }
     requires at { lexer.old.at ≡ 0 }
-    ensures { Answers whole.now.rest result }
+    ensures { AnswersEntryText whole.now.rest result }
 {
     let mut state = State::Start;
     'tokens: while let Some(token) = lexer.next(alloc)? {
@@ -429,7 +444,7 @@ fn read_tokens<'a>(
 
 /// The entry that the text is.
 fn read_entry(alloc: Global, text: &str) -> Result<KdlEntry, LexFailure>
-    ensures { Answers (chars text.now) result }
+    ensures { AnswersEntryText (chars text.now) result }
 {
     let mut lexer = Lexer::new(text, Steps::new());
     let whole = lexer.checkpoint();
@@ -444,7 +459,7 @@ impl KdlEntry {
     ghost use Rattle.kdl_entry.specs.Tree.{entry_data};
     ghost use Rattle.kdl_text.specs.Failures.{IsSyntax, TellsOnSyntax};
 
-    /// The entry that the text is, with every byte of its form: line-spaces and entries that count for nothing before
+    /// The entry that the text is, with every byte of its form: line-spaces and entries that are slashdashed before
     /// it, and line-spaces behind it (KDL 2.0.0, Argument, Property). Its span is the whole text. `Syntax`: the text is
     /// none. Its error has a diagnostic for each fault that is found, up to what can stand in no entry, and one at
     /// least. `Memory`: a request for memory was refused. Nothing is made then.
@@ -453,17 +468,21 @@ impl KdlEntry {
     /// let entry = KdlEntry::parse(alloc, "port=(u16)0x1F90")?; // prints the text
     /// let refused = KdlEntry::parse(alloc, "port=8080 9090"); // `Syntax`: these are two entries
     /// ```
-    #[tactic(auto, using(crate::proofs::EntryAnswering::found, crate::proofs::EntryAnswering::only, crate::proofs::EntryAnswering::laid, crate::proofs::EntryAnswering::prints, crate::proofs::EntryAnswering::refused))]
+    #[tactic(auto, using(crate::proofs::Reading::EntryAnswers::found, crate::proofs::Reading::EntryAnswers::only, crate::proofs::Reading::EntryAnswers::laid, crate::proofs::Reading::EntryAnswers::prints, crate::proofs::Reading::EntryAnswers::refused))]
     pub fn parse(alloc: Global, text: &str) -> Result<KdlEntry, ParseFailure>
         // What is answered is what the grammar derives,
-        ensures found { IfOk result (λ e. IsEntryText true (chars text.now) (entry_data (entry_tree e))) }
+        ensures found { IfOk result
+            (λ e. IsEntryText true (chars text.now) (entry_data (entry_tree e))) }
         // and it derives nothing else.
-        ensures only { IfOk result (λ e. (x : data'.Entry) → IsEntryText true (chars text.now) x → x ≡ entry_data (entry_tree e)) }
+        ensures only { IfOk result
+            (λ e. (x : data'.Entry) → IsEntryText true (chars text.now) x
+            → x ≡ entry_data (entry_tree e)) }
         // The entry lies in the text, each place in its class and each span where its piece stands, and prints it.
         ensures laid { IfOk result (λ e. LaidEntryText true (chars text.now) (entry_tree e)) }
         ensures prints { IfOk result (λ e. print_entry (entry_tree e) ≡ chars text.now) }
         // What is refused is not derived, and an error tells where.
-        ensures refused { IsSyntax result → (x : data'.Entry) → IsEntryText true (chars text.now) x → ⊥ }
+        ensures refused { IsSyntax result → (x : data'.Entry) → IsEntryText true (chars text.now) x
+            → ⊥ }
         ensures told { TellsOnSyntax text.now result }
     {
         match read_entry(alloc, text) {

@@ -1,6 +1,6 @@
 //! Identifiers that are a whole text.
 
-ghost use Rattle.kdl_entry.specs.IdentifierReading.{Answers};
+ghost use Rattle.kdl_entry.specs.Internal.IdentifierReading.{AnswersIdentifierText};
 ghost use Rattle.std.specs.Prelude.{◌≡◌, ◌↔◌, IsTrue, []};
 ghost use Rattle.std.specs.Str.{chars};
 
@@ -30,7 +30,7 @@ fn read_token<'a>(
     requires rest { lexer.old.rest ≡ whole.now.rest }
     requires at { lexer.old.at ≡ 0 }
     requires start { whole.now.at ≡ 0 }
-    ensures { Answers whole.now.rest result }
+    ensures { AnswersIdentifierText whole.now.rest result }
 {
     let Token { kind, start, end } = match lexer.next(alloc) {
         Ok(Some(token)) => token,
@@ -48,7 +48,7 @@ fn read_token<'a>(
 
 /// The identifier that the text is.
 fn read_identifier(alloc: Global, text: &str) -> Result<KdlIdentifier, LexFailure>
-    ensures { Answers (chars text.now) result }
+    ensures { AnswersIdentifierText (chars text.now) result }
 {
     let mut lexer = Lexer::new(text, Steps::new());
     let whole = lexer.checkpoint();
@@ -72,17 +72,22 @@ impl KdlIdentifier {
     /// let name = KdlIdentifier::parse(alloc, "\"two words\"")?; // the string `two words`, which prints its quotes
     /// let refused = KdlIdentifier::parse(alloc, "two words"); // `Syntax`: these are two strings
     /// ```
-    #[tactic(auto, using(crate::proofs::IdentifierAnswering::found, crate::proofs::IdentifierAnswering::only, crate::proofs::IdentifierAnswering::prints))]
+    #[tactic(auto, using(crate::proofs::Reading::IdentifierAnswers::found, crate::proofs::Reading::IdentifierAnswers::only, crate::proofs::Reading::IdentifierAnswers::prints))]
     pub fn parse(alloc: Global, text: &str) -> Result<KdlIdentifier, ParseFailure>
         // What is answered is what the grammar derives,
-        ensures found { IfOk result (λ i. IsIdentifierText true (chars text.now) (identifier_tree i).value) }
+        ensures found { IfOk result
+            (λ i. IsIdentifierText true (chars text.now) (identifier_tree i).value) }
         // and it derives nothing else.
-        ensures only { IfOk result (λ i. (v : Text) → IsIdentifierText true (chars text.now) v → v ≡ (identifier_tree i).value) }
+        ensures only { IfOk result
+            (λ i. (v : Text) → IsIdentifierText true (chars text.now) v
+            → v ≡ (identifier_tree i).value) }
         // The identifier lies in the text: its spelling and its span are the whole text, which it prints.
-        ensures laid { IfOk result (λ i. LaidIdentifierText true (identifier_tree i) (chars text.now)) }
+        ensures laid { IfOk result
+            (λ i. LaidIdentifierText true (identifier_tree i) (chars text.now)) }
         ensures prints { IfOk result (λ i. print_identifier (identifier_tree i) ≡ chars text.now) }
         // What is refused is not derived, and an error tells where.
-        ensures refused { IsSyntax result → (v : Text) → IsIdentifierText true (chars text.now) v → ⊥ }
+        ensures refused { IsSyntax result → (v : Text) → IsIdentifierText true (chars text.now) v
+            → ⊥ }
         ensures told { TellsOnSyntax text.now result }
     {
         match read_identifier(alloc, text) {

@@ -2,15 +2,16 @@
 //!
 //! The rules of types, keys and values stand here once, for entries alone and for those of a document.
 
-ghost use Rattle.kdl_entry.specs.Building.{key_view, type_view, item_view, Did, Holds, Stays};
-ghost use Rattle.kdl_entry.specs.Counted.{Sliced, ItemSliced};
-ghost use Rattle.kdl_entry.specs.Handed.{kind_view};
-ghost use Rattle.kdl_entry.specs.Items as spec;
-ghost use Rattle.kdl_entry.specs.Items.{between, entry_at, identifier_at};
+ghost use Rattle.kdl_entry.specs.Internal.Building.{key_view, type_view, item_view, Did, Holds, Stays};
+ghost use Rattle.kdl_entry.specs.Internal.Counted.{Sliced, ItemSliced};
+ghost use Rattle.kdl_entry.specs.Internal.Handed.{kind_view};
+ghost use Rattle.kdl_entry.specs.Internal.Items as spec;
+ghost use Rattle.kdl_entry.specs.Internal.Items.{between, entry_at, identifier_at};
 ghost use Rattle.kdl_entry.specs.Places.{span_of};
 ghost use Rattle.kdl_value.specs.Tree.{value_tree, text_of};
 ghost use Rattle.kdl_entry.specs.Tree.{entry_tree, identifier_tree};
-ghost use Rattle.kdl_text.specs.Here.{Ahead, bytes};
+ghost use Rattle.kdl_text.specs.Internal.Here.{Ahead};
+ghost use Rattle.kdl_text.specs.Spans.{bytes};
 ghost use Rattle.std.specs.Prelude.{◌≡◌, if◌then◌else◌, [], Some, None, true, false, IfOk, OnOk, option_map};
 
 use super::lexer::{LexFailure, Lexer, TokenKind, fault_at};
@@ -85,7 +86,7 @@ pub struct Given {
 /// let to = lexer.checkpoint();
 /// let text = text_between(alloc, &mut lexer, &from, &to)?; // "ab"
 /// ```
-#[tactic(auto, using(crate::proofs::Between::is_between))]
+#[tactic(auto, using(crate::proofs::Lexing::Between::is_between))]
 pub fn text_between<'a>(
     alloc: Global,
     lexer: &mut Lexer<'a>,
@@ -134,7 +135,9 @@ pub fn identifier_between<'a>(
     end: &Checkpoint<'a>,
 ) -> Result<KdlIdentifier, AllocError>
     requires { Ahead start.now end.now }
-    ensures is { IfOk result (λ i. identifier_tree i ≡ identifier_at whole.now.rest (text_of value) start.now.rest end.now.rest) }
+    ensures is { IfOk result
+        (λ i. identifier_tree i
+        ≡ identifier_at whole.now.rest (text_of value) start.now.rest end.now.rest) }
     ensures stays { Stays lexer.old lexer.new }
     ensures sliced { Sliced (bytes start.now.rest) (bytes end.now.rest) lexer.old lexer.new }
 {
@@ -148,7 +151,7 @@ pub fn identifier_between<'a>(
 /// ```
 /// let nothing = empty(alloc); // ""
 /// ```
-#[tactic(auto, using(crate::proofs::Between::empty_text))]
+#[tactic(auto, using(crate::proofs::Lexing::Between::empty_text))]
 pub fn empty(alloc: Global) -> String
     ensures { text_of result ≡ [] }
 {
@@ -172,7 +175,9 @@ pub fn entry_from(
     value: KdlValue,
     repr: String,
 ) -> KdlEntry
-    ensures { entry_tree result ≡ entry_at span (text_of leading) (option_map key_view key) (option_map type_view ty) (value_tree value) (text_of repr) }
+    ensures { entry_tree result
+        ≡ entry_at span (text_of leading) (option_map key_view key) (option_map type_view ty)
+        (value_tree value) (text_of repr) }
 {
     let mut format = KdlEntryFormat::new(alloc);
     format.value_repr = repr;
@@ -253,7 +258,17 @@ impl<'a> Item<'a> {
         start: &Checkpoint<'a>,
         end: &Checkpoint<'a>,
     )
-        ensures is { item_view self.new ≡ record (item_view self.old) { kept = kept; valued = valued; stage = spec.opened; leading = text_of leading; start = start.now.rest; from = end.now.rest; key = None } }
+        ensures is { item_view self.new
+            ≡ record (item_view self.old) {
+              kept = kept;
+              valued = valued;
+              stage = spec.opened;
+              leading = text_of leading;
+              start
+                  = start.now.rest;
+              from = end.now.rest;
+              key = None;
+            } }
         ensures start { self.new.start ≡ start.now }
         ensures from { self.new.from ≡ end.now }
     {
@@ -285,7 +300,20 @@ impl<'a> Item<'a> {
         before: String,
         end: &Checkpoint<'a>,
     )
-        ensures is { item_view self.new ≡ record (item_view self.old) { kept = kept; valued = true; stage = spec.keyed; leading = text_of leading; start = start.now.rest; from = end.now.rest; key = None; name = identifier_tree name; before = text_of before } }
+        ensures is { item_view self.new
+            ≡ record (item_view self.old) {
+              kept = kept;
+              valued = true;
+              stage = spec.keyed;
+              leading = text_of leading;
+              start
+                  = start.now.rest;
+              from = end.now.rest;
+              key = None;
+              name = identifier_tree name;
+              before
+                  = text_of before;
+            } }
         ensures start { self.new.start ≡ start.now }
         ensures from { self.new.from ≡ end.now }
     {
@@ -312,9 +340,15 @@ impl<'a> Item<'a> {
     ) -> Result<(), AllocError>
         requires from { Ahead self.old.from start.now }
         requires token { Ahead start.now end.now }
-        ensures named { OnOk result (item_view self.new ≡ spec.named_at self.old.kept (identifier_at whole.now.rest (text_of value) start.now.rest end.now.rest) (between self.old.from.rest start.now.rest) end.now.rest (item_view self.old)) }
+        ensures named { OnOk result
+            (item_view self.new ≡ spec.named_at self.old.kept
+            (identifier_at whole.now.rest (text_of value) start.now.rest end.now.rest)
+            (between self.old.from.rest start.now.rest) end.now.rest (item_view self.old)) }
         ensures stays { Stays lexer.old lexer.new }
-        ensures sliced { OnOk result (Sliced (bytes self.old.from.rest) (if self.old.kept then bytes self.new.from.rest else bytes self.old.from.rest) lexer.old lexer.new) }
+        ensures sliced { OnOk result
+            (Sliced (bytes self.old.from.rest)
+            (if self.old.kept then bytes self.new.from.rest else bytes self.old.from.rest) lexer.old
+            lexer.new) }
         ensures from { OnOk result (Ahead self.new.from end.now) }
     {
         if self.kept {
@@ -327,7 +361,7 @@ impl<'a> Item<'a> {
     }
 
     /// Goes on behind the `)` of the type.
-    #[tactic(auto, using(crate::proofs::Counting::ahead_fewer))]
+    #[tactic(auto, using(crate::proofs::Lexing::SliceCost::ahead_fewer))]
     fn close(
         &mut self,
         alloc: Global,
@@ -337,9 +371,14 @@ impl<'a> Item<'a> {
     ) -> Result<(), AllocError>
         requires from { Ahead self.old.from start.now }
         requires token { Ahead start.now end.now }
-        ensures closed { OnOk result (item_view self.new ≡ spec.closed_at self.old.kept (between self.old.from.rest start.now.rest) end.now.rest (item_view self.old)) }
+        ensures closed { OnOk result
+            (item_view self.new ≡ spec.closed_at self.old.kept
+            (between self.old.from.rest start.now.rest) end.now.rest (item_view self.old)) }
         ensures stays { Stays lexer.old lexer.new }
-        ensures sliced { OnOk result (Sliced (bytes self.old.from.rest) (if self.old.kept then bytes self.new.from.rest else bytes self.old.from.rest) lexer.old lexer.new) }
+        ensures sliced { OnOk result
+            (Sliced (bytes self.old.from.rest)
+            (if self.old.kept then bytes self.new.from.rest else bytes self.old.from.rest) lexer.old
+            lexer.new) }
         ensures from { OnOk result (Ahead self.new.from end.now) }
     {
         if self.kept {
@@ -358,12 +397,17 @@ impl<'a> Item<'a> {
         start: &Checkpoint<'a>,
     ) -> Result<Option<TypeParts>, AllocError>
         requires from { Ahead self.old.from start.now }
-        ensures is { IfOk result (λ y. option_map type_view y ≡ spec.type_at self.old.kept (item_view self.old) start.now.rest) }
+        ensures is { IfOk result
+            (λ y. option_map type_view y
+            ≡ spec.type_at self.old.kept (item_view self.old) start.now.rest) }
         ensures key { option_map key_view self.new.key ≡ option_map key_view self.old.key }
         ensures holds { OnOk result (Holds (item_view self.old) (item_view self.new)) }
         ensures from { self.new.from ≡ self.old.from }
         ensures stays { Stays lexer.old lexer.new }
-        ensures sliced { OnOk result (Sliced (bytes self.old.from.rest) (if self.old.kept then bytes start.now.rest else bytes self.old.from.rest) lexer.old lexer.new) }
+        ensures sliced { OnOk result
+            (Sliced (bytes self.old.from.rest)
+            (if self.old.kept then bytes start.now.rest else bytes self.old.from.rest) lexer.old
+            lexer.new) }
     {
         if !self.kept {
             return Ok(None);
@@ -388,11 +432,17 @@ impl<'a> Item<'a> {
         start: &Checkpoint<'a>,
     ) -> Result<Option<KeyParts>, AllocError>
         requires from { Ahead self.old.from start.now }
-        ensures is { IfOk result (λ k. option_map key_view k ≡ spec.key_at self.old.kept (item_view self.old) start.now.rest) }
-        ensures taken { OnOk result (item_view self.new ≡ spec.emptied self.old.kept (item_view self.old)) }
+        ensures is { IfOk result
+            (λ k. option_map key_view k
+            ≡ spec.key_at self.old.kept (item_view self.old) start.now.rest) }
+        ensures taken { OnOk result
+            (item_view self.new ≡ spec.emptied self.old.kept (item_view self.old)) }
         ensures from { self.new.from ≡ self.old.from }
         ensures stays { Stays lexer.old lexer.new }
-        ensures sliced { OnOk result (Sliced (bytes self.old.from.rest) (if self.old.kept then bytes start.now.rest else bytes self.old.from.rest) lexer.old lexer.new) }
+        ensures sliced { OnOk result
+            (Sliced (bytes self.old.from.rest)
+            (if self.old.kept then bytes start.now.rest else bytes self.old.from.rest) lexer.old
+            lexer.new) }
     {
         if !self.kept {
             return Ok(None);
@@ -417,12 +467,17 @@ impl<'a> Item<'a> {
     ) -> Result<Given, AllocError>
         requires from { Ahead self.old.from start.now }
         ensures key { IfOk result (λ g. option_map key_view g.key ≡ (item_view self.old).key) }
-        ensures is { IfOk result (λ g. option_map type_view g.ty ≡ spec.type_at self.old.kept (item_view self.old) start.now.rest) }
+        ensures is { IfOk result
+            (λ g. option_map type_view g.ty
+            ≡ spec.type_at self.old.kept (item_view self.old) start.now.rest) }
         ensures value { IfOk result (λ g. g.value ≡ value) }
         ensures holds { OnOk result (Holds (item_view self.old) (item_view self.new)) }
         ensures from { self.new.from ≡ self.old.from }
         ensures stays { Stays lexer.old lexer.new }
-        ensures sliced { OnOk result (Sliced (bytes self.old.from.rest) (if self.old.kept then bytes start.now.rest else bytes self.old.from.rest) lexer.old lexer.new) }
+        ensures sliced { OnOk result
+            (Sliced (bytes self.old.from.rest)
+            (if self.old.kept then bytes start.now.rest else bytes self.old.from.rest) lexer.old
+            lexer.new) }
     {
         let ty = self.type_parts(alloc, lexer, start)?;
         let key = self.key.take();
@@ -438,13 +493,18 @@ impl<'a> Item<'a> {
         start: &Checkpoint<'a>,
     ) -> Result<Given, AllocError>
         requires from { Ahead self.old.from start.now }
-        ensures key { IfOk result (λ g. option_map key_view g.key ≡ spec.key_at self.old.kept (item_view self.old) start.now.rest) }
+        ensures key { IfOk result
+            (λ g. option_map key_view g.key
+            ≡ spec.key_at self.old.kept (item_view self.old) start.now.rest) }
         ensures is { IfOk result (λ g. option_map type_view g.ty ≡ None) }
         ensures value { IfOk result (λ g. g.value ≡ value) }
         ensures holds { OnOk result (Holds (item_view self.old) (item_view self.new)) }
         ensures from { self.new.from ≡ self.old.from }
         ensures stays { Stays lexer.old lexer.new }
-        ensures sliced { OnOk result (Sliced (bytes self.old.from.rest) (if self.old.kept then bytes start.now.rest else bytes self.old.from.rest) lexer.old lexer.new) }
+        ensures sliced { OnOk result
+            (Sliced (bytes self.old.from.rest)
+            (if self.old.kept then bytes start.now.rest else bytes self.old.from.rest) lexer.old
+            lexer.new) }
     {
         let key = self.key_parts(alloc, lexer, start)?;
         Ok(Given {
@@ -466,11 +526,13 @@ impl<'a> Item<'a> {
     ) -> Result<Option<Given>, LexFailure>
         requires from { Ahead self.old.from start.now }
         requires token { Ahead start.now end.now }
-        ensures did { Did (spec.move spec.opened whole.now.rest (item_view self.old) (kind_view kind) start.now.rest end.now.rest) start.now result (item_view self.new) }
+        ensures did { Did (spec.move spec.opened whole.now.rest (item_view self.old)
+            (kind_view kind) start.now.rest end.now.rest) start.now result (item_view self.new) }
         ensures holds { OnOk result (Holds (item_view self.old) (item_view self.new)) }
         ensures from { OnOk result (Ahead self.new.from end.now) }
         ensures stays { Stays lexer.old lexer.new }
-        ensures sliced { ItemSliced result self.old.kept (bytes self.old.from.rest) (bytes self.new.from.rest) (bytes start.now.rest) lexer.old lexer.new }
+        ensures sliced { ItemSliced result self.old.kept (bytes self.old.from.rest)
+            (bytes self.new.from.rest) (bytes start.now.rest) lexer.old lexer.new }
     {
         match kind {
             TokenKind::Space => Ok(None),
@@ -494,11 +556,13 @@ impl<'a> Item<'a> {
     ) -> Result<Option<Given>, LexFailure>
         requires from { Ahead self.old.from start.now }
         requires token { Ahead start.now end.now }
-        ensures did { Did (spec.move spec.named whole.now.rest (item_view self.old) (kind_view kind) start.now.rest end.now.rest) start.now result (item_view self.new) }
+        ensures did { Did (spec.move spec.named whole.now.rest (item_view self.old)
+            (kind_view kind) start.now.rest end.now.rest) start.now result (item_view self.new) }
         ensures holds { OnOk result (Holds (item_view self.old) (item_view self.new)) }
         ensures from { OnOk result (Ahead self.new.from end.now) }
         ensures stays { Stays lexer.old lexer.new }
-        ensures sliced { ItemSliced result self.old.kept (bytes self.old.from.rest) (bytes self.new.from.rest) (bytes start.now.rest) lexer.old lexer.new }
+        ensures sliced { ItemSliced result self.old.kept (bytes self.old.from.rest)
+            (bytes self.new.from.rest) (bytes start.now.rest) lexer.old lexer.new }
     {
         match kind {
             TokenKind::Space => Ok(None),
@@ -522,11 +586,13 @@ impl<'a> Item<'a> {
     ) -> Result<Option<Given>, LexFailure>
         requires from { Ahead self.old.from start.now }
         requires token { Ahead start.now end.now }
-        ensures did { Did (spec.move spec.closed whole.now.rest (item_view self.old) (kind_view kind) start.now.rest end.now.rest) start.now result (item_view self.new) }
+        ensures did { Did (spec.move spec.closed whole.now.rest (item_view self.old)
+            (kind_view kind) start.now.rest end.now.rest) start.now result (item_view self.new) }
         ensures holds { OnOk result (Holds (item_view self.old) (item_view self.new)) }
         ensures from { OnOk result (Ahead self.new.from end.now) }
         ensures stays { Stays lexer.old lexer.new }
-        ensures sliced { ItemSliced result self.old.kept (bytes self.old.from.rest) (bytes self.new.from.rest) (bytes start.now.rest) lexer.old lexer.new }
+        ensures sliced { ItemSliced result self.old.kept (bytes self.old.from.rest)
+            (bytes self.new.from.rest) (bytes start.now.rest) lexer.old lexer.new }
     {
         match kind {
             TokenKind::Space => Ok(None),
@@ -543,7 +609,7 @@ impl<'a> Item<'a> {
     }
 
     /// A token behind the `=` of a property.
-    #[tactic(auto, using(crate::proofs::Counting::ahead_fewer))]
+    #[tactic(auto, using(crate::proofs::Lexing::SliceCost::ahead_fewer))]
     fn at_keyed(
         &mut self,
         alloc: Global,
@@ -555,11 +621,13 @@ impl<'a> Item<'a> {
     ) -> Result<Option<Given>, LexFailure>
         requires from { Ahead self.old.from start.now }
         requires token { Ahead start.now end.now }
-        ensures did { Did (spec.move spec.keyed whole.now.rest (item_view self.old) (kind_view kind) start.now.rest end.now.rest) start.now result (item_view self.new) }
+        ensures did { Did (spec.move spec.keyed whole.now.rest (item_view self.old)
+            (kind_view kind) start.now.rest end.now.rest) start.now result (item_view self.new) }
         ensures holds { OnOk result (Holds (item_view self.old) (item_view self.new)) }
         ensures from { OnOk result (Ahead self.new.from end.now) }
         ensures stays { Stays lexer.old lexer.new }
-        ensures sliced { ItemSliced result self.old.kept (bytes self.old.from.rest) (bytes self.new.from.rest) (bytes start.now.rest) lexer.old lexer.new }
+        ensures sliced { ItemSliced result self.old.kept (bytes self.old.from.rest)
+            (bytes self.new.from.rest) (bytes start.now.rest) lexer.old lexer.new }
     {
         match kind {
             TokenKind::Space => Ok(None),
@@ -602,11 +670,13 @@ impl<'a> Item<'a> {
     ) -> Result<Option<Given>, LexFailure>
         requires from { Ahead self.old.from start.now }
         requires token { Ahead start.now end.now }
-        ensures did { Did (spec.step whole.now.rest (item_view self.old) (kind_view kind) start.now.rest end.now.rest) start.now result (item_view self.new) }
+        ensures did { Did (spec.step whole.now.rest (item_view self.old)
+            (kind_view kind) start.now.rest end.now.rest) start.now result (item_view self.new) }
         ensures holds { OnOk result (Holds (item_view self.old) (item_view self.new)) }
         ensures from { OnOk result (Ahead self.new.from end.now) }
         ensures stays { Stays lexer.old lexer.new }
-        ensures sliced { ItemSliced result self.old.kept (bytes self.old.from.rest) (bytes self.new.from.rest) (bytes start.now.rest) lexer.old lexer.new }
+        ensures sliced { ItemSliced result self.old.kept (bytes self.old.from.rest)
+            (bytes self.new.from.rest) (bytes start.now.rest) lexer.old lexer.new }
     {
         match self.stage {
             Stage::Opened => self.at_opened(alloc, lexer, whole, kind, start, end),

@@ -4,14 +4,14 @@
 
 ghost use Rattle.kdl_value.specs.Data as data';
 ghost use Rattle.kdl_entry.specs.Entries as spec;
-ghost use Rattle.kdl_entry.specs.Handed.{Lexed, LexCosts, ReadsKind, KindCosts, IsFaultAt, Passes, IsMark};
+ghost use Rattle.kdl_entry.specs.Internal.Handed.{Lexed, LexCosts, ReadsKind, KindCosts, IsFaultAt, Passes, IsPunctuation};
 ghost use Rattle.kdl_value.specs.Tree.{value_tree};
 ghost use Rattle.kdl_entry.specs.declared.items.lexer.LexFailure.TheVariants.{Memory};
 ghost use Rattle.kdl_text.specs.Chars.{starts, is_identifier_char};
 ghost use Rattle.kdl_text.specs.Numbers as numbers;
 ghost use Rattle.kdl_text.specs.Numbers.{FloatText};
-ghost use Rattle.kdl_text.specs.Here.{Ahead, Ate, Stayed, looked, sliced, first, tail};
-ghost use Rattle.kdl_text.specs.Reading.{Moves};
+ghost use Rattle.kdl_text.specs.Internal.Here.{Ahead, Ate, Stayed, looked, sliced, first, tail};
+ghost use Rattle.kdl_text.specs.Internal.Reading.{Moves};
 ghost use Rattle.std.specs.Prelude.{◌≡◌, ◌++◌, ◌==◌, ◌||◌, true, false, Some, None, IfOk};
 ghost use Rattle.std.specs.Str.{chars};
 
@@ -111,7 +111,7 @@ fn string_failure(place: &Checkpoint, failure: StringFailure) -> LexFailure
 }
 
 /// The bare string that begins here, where no number does.
-#[tactic(auto, using(crate::proofs::Handing::a_bare_here, crate::proofs::Handing::bare_costs))]
+#[tactic(auto, using(crate::proofs::Lexing::TokenReads::a_bare_here, crate::proofs::Lexing::TokenCost::bare_costs))]
 fn bare_token(
     cursor: &mut Cursor,
     alloc: Global,
@@ -130,7 +130,7 @@ fn bare_token(
 }
 
 /// The quoted string that begins here.
-#[tactic(auto, using(crate::proofs::Handing::a_quoted_here, crate::proofs::Handing::no_quoted_here, crate::proofs::Handing::quoted_costs))]
+#[tactic(auto, using(crate::proofs::Lexing::TokenReads::a_quoted_here, crate::proofs::Lexing::TokenReads::no_quoted_here, crate::proofs::Lexing::TokenCost::quoted_costs))]
 fn quoted_token(
     cursor: &mut Cursor,
     alloc: Global,
@@ -148,7 +148,7 @@ fn quoted_token(
 }
 
 /// The raw string that begins here, at a number sign with another or a quote behind it.
-#[tactic(auto, using(crate::proofs::Handing::a_raw_here, crate::proofs::Handing::no_raw_here, crate::proofs::Handing::raw_costs))]
+#[tactic(auto, using(crate::proofs::Lexing::TokenReads::a_raw_here, crate::proofs::Lexing::TokenReads::no_raw_here, crate::proofs::Lexing::TokenCost::raw_costs))]
 fn raw_token(
     cursor: &mut Cursor,
     alloc: Global,
@@ -215,7 +215,7 @@ fn looks_raw(cursor: &mut Cursor) -> bool
 }
 
 /// The raw string or the keyword that begins with the number sign here.
-#[tactic(auto, using(crate::proofs::Handing::one_look))]
+#[tactic(auto, using(crate::proofs::Lexing::TokenCost::one_look))]
 fn sign_token(
     cursor: &mut Cursor,
     alloc: Global,
@@ -271,7 +271,7 @@ fn signed_token(
 }
 
 /// The number or the bare string that begins with the identifier character c here.
-#[tactic(auto, using(crate::proofs::Handing::word_here, crate::proofs::Handing::digit_here, crate::proofs::Handing::no_digit_here, crate::proofs::Handing::few_costs))]
+#[tactic(auto, using(crate::proofs::Lexing::TokenReads::word_here, crate::proofs::Lexing::TokenReads::digit_here, crate::proofs::Lexing::TokenReads::no_digit_here, crate::proofs::Lexing::TokenReads::few_costs))]
 fn word_token(
     c: char,
     cursor: &mut Cursor,
@@ -294,7 +294,7 @@ fn word_token(
 }
 
 /// The comment or the mark `/-` that begins with the slash here.
-#[tactic(auto, using(crate::proofs::Handing::a_block_here, crate::proofs::Handing::a_line_here, crate::proofs::Handing::a_dash_here))]
+#[tactic(auto, using(crate::proofs::Lexing::TokenReads::a_block_here, crate::proofs::Lexing::TokenReads::a_line_here, crate::proofs::Lexing::TokenReads::a_dash_here))]
 fn slash_token(cursor: &mut Cursor, start: &Checkpoint) -> Result<TokenKind, LexFailure>
     requires { first cursor.old.rest ≡ Some 47 }
     ensures read { ReadsKind cursor.old.rest start.now result cursor.new.rest }
@@ -311,7 +311,7 @@ fn slash_token(cursor: &mut Cursor, start: &Checkpoint) -> Result<TokenKind, Lex
 }
 
 /// The escline that begins with the backslash here.
-#[tactic(auto, using(crate::proofs::Handing::an_escline_here))]
+#[tactic(auto, using(crate::proofs::Lexing::TokenReads::an_escline_here))]
 fn escline_token(cursor: &mut Cursor, start: &Checkpoint) -> Result<TokenKind, LexFailure>
     requires { first cursor.old.rest ≡ Some 92 }
     ensures read { ReadsKind cursor.old.rest start.now result cursor.new.rest }
@@ -326,7 +326,7 @@ fn escline_token(cursor: &mut Cursor, start: &Checkpoint) -> Result<TokenKind, L
 
 /// The kind of a token that is this character alone.
 fn mark_kind(c: char) -> Option<TokenKind>
-    ensures { IsMark c result }
+    ensures { IsPunctuation c result }
 {
     match c {
         '(' => Some(TokenKind::Left),
@@ -341,7 +341,7 @@ fn mark_kind(c: char) -> Option<TokenKind>
 }
 
 /// What token begins with the character c here, which is none of `" # / \`.
-#[tactic(auto, using(crate::proofs::Handing::spaces_here, crate::proofs::Handing::skip_moves, crate::proofs::Handing::newline_here, crate::proofs::Handing::newline_costs, crate::proofs::Handing::mark_here, crate::proofs::Handing::take_moves, crate::proofs::Handing::mark_costs))]
+#[tactic(auto, using(crate::proofs::Lexing::TokenReads::spaces_here, crate::proofs::Lexing::TokenReads::skip_moves, crate::proofs::Lexing::TokenReads::newline_here, crate::proofs::Lexing::TokenReads::newline_costs, crate::proofs::Lexing::TokenReads::mark_here, crate::proofs::Lexing::TokenReads::take_moves, crate::proofs::Lexing::TokenReads::mark_costs))]
 fn plain_token(
     c: char,
     cursor: &mut Cursor,
@@ -402,7 +402,7 @@ pub struct Lexer<'a> {
 }
 
 impl<'a> Model for Lexer<'a> {
-    ghost use Rattle.kdl_text.specs.Here.{Here};
+    ghost use Rattle.kdl_text.specs.Internal.Here.{Here};
 
     ghost Value = { Here };
 

@@ -1,26 +1,25 @@
 //! Nodes, blocks and documents by their parts.
 
-ghost use Rattle.kdl_grammar.specs.Machine as machine;
-ghost use Rattle.kdl_grammar.specs.Machine.{at};
-ghost use Rattle.kdl_parser.specs.Building.{under_view, kept_view, nodes_view, under_now, valued_at};
-ghost use Rattle.kdl_parser.specs.Counted.{up_to};
+ghost use Rattle.kdl_grammar.specs.Internal.Machine as machine;
+ghost use Rattle.kdl_grammar.specs.Internal.Machine.{at};
+ghost use Rattle.kdl_parser.specs.Internal.Building.{under_view, kept_view, nodes_view, under_now, valued_at};
+ghost use Rattle.kdl_parser.specs.Internal.States.{SlicedUpTo};
 ghost use Rattle.kdl_grammar.specs.Laid as laid;
-ghost use Rattle.kdl_grammar.specs.Laid.{node_format};
-ghost use Rattle.kdl_grammar.specs.Tree.{node, no_children, children_of};
-ghost use Rattle.kdl_parser.specs.Parts.{nodes_tree, document_by};
-ghost use Rattle.kdl_entry.specs.Building.{key_view, type_view, item_view, Stays};
-ghost use Rattle.kdl_entry.specs.Counted.{Sliced};
-ghost use Rattle.kdl_entry.specs.Items as items;
-ghost use Rattle.kdl_entry.specs.Items.{between, entry_at, type_of, before_name, after_name, behind_type};
+ghost use Rattle.kdl_grammar.specs.Tree.{no_children};
+ghost use Rattle.kdl_parser.specs.Internal.Parts.{nodes_tree, document_by, node_by};
+ghost use Rattle.kdl_entry.specs.Internal.Building.{key_view, type_view, item_view, Stays};
+ghost use Rattle.kdl_entry.specs.Internal.Counted.{Sliced};
+ghost use Rattle.kdl_entry.specs.Internal.Items.{between, entry_at};
 ghost use Rattle.kdl_entry.specs.Places.{span_of};
 ghost use Rattle.kdl_value.specs.Tree.{value_tree, text_of};
-ghost use Rattle.kdl_entry.specs.Tree.{identifier_tree, entry_tree};
-ghost use Rattle.kdl_text.specs.Here.{Ahead, bytes};
+ghost use Rattle.kdl_entry.specs.Tree.{entry_tree};
+ghost use Rattle.kdl_text.specs.Internal.Here.{Ahead};
+ghost use Rattle.kdl_text.specs.Spans.{bytes};
 ghost use Rattle.kdl_parser.specs.declared.builder.Waiting.{Waiting};
-ghost use Rattle.std.specs.Prelude.{◌≡◌, [], ◌∷◌, ◌++◌, map, Some, None, true, IfOk, OnOk, option_map};
+ghost use Rattle.std.specs.Prelude.{◌≡◌, [], ◌∷◌, ◌++◌, Some, None, true, IfOk, OnOk, option_map};
 
 use super::{Kept, Slot, Under, Waiting, WaitingWord};
-use crate::parts::{DocumentParts, NodeParts, ParsedNode};
+use crate::node_parts::{DocumentParts, NodeParts, ParsedNode};
 use kdl_entry::items::Lexer;
 use kdl_entry::items::item::{Given, Item, Stage, empty, entry_from, span_at, text_between};
 use kdl_entry::{KdlEntry, KdlValue};
@@ -52,7 +51,7 @@ pub(super) fn put<T: Drop>(place: &mut T, value: T)
 }
 
 /// The string that waits becomes an argument of the node under way.
-#[tactic(auto, using(crate::proofs::Views::entry_pushed))]
+#[tactic(auto, using(crate::proofs::Stepping::Views::entry_pushed))]
 pub(super) fn settle<'a>(
     alloc: Global,
     whole: &Checkpoint<'a>,
@@ -60,7 +59,8 @@ pub(super) fn settle<'a>(
     waiting: Waiting<'a>,
     under: &mut Option<Under<'a>>,
 ) -> Result<(), AllocError>
-    ensures { OnOk result (option_map under_view under.new ≡ under_now whole.now.rest from.now.rest waiting.entry (option_map under_view under.old)) }
+    ensures { OnOk result (option_map under_view under.new ≡
+        under_now whole.now.rest from.now.rest waiting.entry (option_map under_view under.old)) }
 {
     let Waiting::Word(
         WaitingWord {
@@ -93,7 +93,10 @@ pub(super) fn entry_between<'a>(
     end: &Checkpoint<'a>,
 ) -> Result<KdlEntry, AllocError>
     requires { Ahead start.now end.now }
-    ensures is { IfOk result (λ e. entry_tree e ≡ entry_at (span_of whole.now.rest slot.entry.start.rest end.now.rest) (text_of slot.entry.leading) (option_map key_view given.key) (option_map type_view given.ty) (value_tree given.value) (between start.now.rest end.now.rest)) }
+    ensures is { IfOk result (λ e. entry_tree e ≡ entry_at
+        (span_of whole.now.rest slot.entry.start.rest end.now.rest) (text_of slot.entry.leading)
+        (option_map key_view given.key) (option_map type_view given.ty) (value_tree given.value)
+        (between start.now.rest end.now.rest)) }
     ensures stays { Stays lexer.old lexer.new }
     ensures sliced { Sliced (bytes start.now.rest) (bytes end.now.rest) lexer.old lexer.new }
 {
@@ -120,13 +123,17 @@ pub(super) fn node_from<N: ParsedNode>(
     terminator: String,
     span: SourceSpan,
 ) -> N
-    ensures { N.tree result ≡ node (record {
-      ty = type_of (option_map type_view under.entry.ty);
-      name = identifier_tree under.entry.name;
-      entries = map entry_tree under.entry.entries.items;
-      format = Some (node_format (text_of under.entry.leading) (before_name (option_map type_view under.entry.ty)) (after_name (option_map type_view under.entry.ty)) (behind_type (option_map type_view under.entry.ty)) (text_of before_children) (text_of before_terminator) (text_of terminator) []);
+    ensures { N.tree result ≡ node_by N.tree (record {
+      leading = under.entry.leading;
+      ty = under.entry.ty;
+      name = under.entry.name;
+      entries = under.entry.entries;
+      before_children = before_children;
+      children = children;
+      before_terminator = before_terminator;
+      terminator = terminator;
       span = span;
-    }) (children_of (option_map (document_by N.tree) children)) }
+    }) }
 {
     let Under {
         leading,
@@ -136,7 +143,7 @@ pub(super) fn node_from<N: ParsedNode>(
         mut entries,
     } = under;
     entries.shrink_to_fit();
-    N::parsed(
+    N::from_parts(
         alloc,
         NodeParts {
             leading,
@@ -154,9 +161,10 @@ pub(super) fn node_from<N: ParsedNode>(
 
 /// One more node, where the nodes count.
 #[inline]
-#[tactic(auto, using(crate::proofs::Views::node_pushed))]
+#[tactic(auto, using(crate::proofs::Stepping::Views::node_pushed))]
 fn push_node<N: ParsedNode>(nodes: &mut Option<Vec<N>>, node: N) -> Result<(), AllocError>
-    ensures { OnOk result (nodes_view N.tree nodes.new ≡ machine.ended (Some (N.tree node)) (nodes_view N.tree nodes.old)) }
+    ensures { OnOk result (nodes_view N.tree nodes.new ≡
+        machine.ended (Some (N.tree node)) (nodes_view N.tree nodes.old)) }
 {
     match nodes {
         Some(nodes) => add(nodes, node),
@@ -181,10 +189,14 @@ pub(super) fn push_ended<'a, N: ParsedNode>(
 ) -> Result<(), AllocError>
     requires from { Ahead from.now start.now }
     requires token { Ahead start.now end.now }
-    ensures is { OnOk result (nodes_view N.tree nodes.new ≡ machine.ended (machine.closed whole.now.rest (option_map under_view under.old) no_children [] (between from.now.rest start.now.rest) (between start.now.rest end.now.rest) start.now.rest) (nodes_view N.tree nodes.old)) }
+    ensures is { OnOk result (nodes_view N.tree nodes.new ≡ machine.ended
+        (machine.closed whole.now.rest (option_map under_view under.old) no_children []
+        (between from.now.rest start.now.rest) (between start.now.rest end.now.rest)
+        start.now.rest)
+        (nodes_view N.tree nodes.old)) }
     ensures taken { OnOk result (under.new ≡ None) }
     ensures stays { Stays lexer.old lexer.new }
-    ensures sliced { OnOk result (Sliced (bytes from.now.rest) (up_to under.old (bytes from.now.rest) (bytes end.now.rest)) lexer.old lexer.new) }
+    ensures sliced { OnOk result (SlicedUpTo under.old from.now end.now lexer.old lexer.new) }
 {
     if under.is_none() {
         return Ok(());
@@ -213,10 +225,14 @@ pub(super) fn push_kept<'a, N: ParsedNode>(
 ) -> Result<(), AllocError>
     requires from { Ahead from.now start.now }
     requires token { Ahead start.now end.now }
-    ensures is { OnOk result (nodes_view N.tree nodes.new ≡ machine.ended (machine.closed_kept whole.now.rest (option_map (kept_view N.tree) kept.old) (between from.now.rest start.now.rest) (between start.now.rest end.now.rest) start.now.rest) (nodes_view N.tree nodes.old)) }
+    ensures is { OnOk result (nodes_view N.tree nodes.new ≡ machine.ended
+        (machine.closed_kept whole.now.rest (option_map (kept_view N.tree) kept.old)
+        (between from.now.rest start.now.rest) (between start.now.rest end.now.rest)
+        start.now.rest)
+        (nodes_view N.tree nodes.old)) }
     ensures taken { OnOk result (kept.new ≡ None) }
     ensures stays { Stays lexer.old lexer.new }
-    ensures sliced { OnOk result (Sliced (bytes from.now.rest) (up_to kept.old (bytes from.now.rest) (bytes end.now.rest)) lexer.old lexer.new) }
+    ensures sliced { OnOk result (SlicedUpTo kept.old from.now end.now lexer.old lexer.new) }
 {
     if kept.is_none() {
         return Ok(());
@@ -239,7 +255,7 @@ pub(super) fn push_kept<'a, N: ParsedNode>(
 }
 
 /// The span from where the first node begins to where the last one ends; without nodes the span given.
-#[tactic(auto, using(crate::proofs::Contents::spans, crate::proofs::Contents::nothing, crate::proofs::Contents::no_last))]
+#[tactic(auto, using(crate::proofs::Stepping::NodeSpans::spans, crate::proofs::Stepping::NodeSpans::nothing, crate::proofs::Stepping::NodeSpans::no_last))]
 pub(super) fn content_span<N: ParsedNode>(nodes: &[N], place: SourceSpan) -> SourceSpan
     ensures { result ≡ laid.content_span place (nodes_tree N.tree nodes.now) }
 {
@@ -258,7 +274,7 @@ pub(super) fn content_span<N: ParsedNode>(nodes: &[N], place: SourceSpan) -> Sou
 }
 
 /// The nodes, and the place behind them, before `end`; without nodes it stands before them.
-#[tactic(auto, using(crate::proofs::Contents::without, crate::proofs::Contents::within))]
+#[tactic(auto, using(crate::proofs::Stepping::NodeSpans::without, crate::proofs::Stepping::NodeSpans::within))]
 pub(super) fn content<N: ParsedNode>(
     alloc: Global,
     whole: &Checkpoint,
@@ -266,7 +282,8 @@ pub(super) fn content<N: ParsedNode>(
     place: String,
     end: &Checkpoint,
 ) -> DocumentParts<N>
-    ensures { document_by N.tree result ≡ machine.content_at whole.now.rest (nodes_tree N.tree nodes.items) (text_of place) end.now.rest }
+    ensures { document_by N.tree result ≡ machine.content_at
+        whole.now.rest (nodes_tree N.tree nodes.items) (text_of place) end.now.rest }
 {
     nodes.shrink_to_fit();
     let here = span_at(whole, end, &end.copied());
@@ -288,7 +305,7 @@ pub(super) fn content<N: ParsedNode>(
 }
 
 /// The node with the block of these nodes, where they count.
-#[tactic(auto, using(crate::proofs::Counting::fewer))]
+#[tactic(auto, using(crate::proofs::Stepping::TurnCost::fewer))]
 pub(super) fn with_block<'a, N: ParsedNode>(
     alloc: Global,
     lexer: &mut Lexer<'a>,
@@ -300,9 +317,11 @@ pub(super) fn with_block<'a, N: ParsedNode>(
     start: &Checkpoint<'a>,
 ) -> Result<Option<Kept<'a, N>>, AllocError>
     requires { Ahead from.now start.now }
-    ensures is { IfOk result (λ o. option_map (kept_view N.tree) o ≡ machine.with_block whole.now.rest (option_map under_view under.entry) (text_of before) (nodes_view N.tree nodes) (between from.now.rest start.now.rest) start.now.rest) }
+    ensures is { IfOk result (λ o. option_map (kept_view N.tree) o ≡ machine.with_block
+        whole.now.rest (option_map under_view under.entry) (text_of before)
+        (nodes_view N.tree nodes) (between from.now.rest start.now.rest) start.now.rest) }
     ensures stays { Stays lexer.old lexer.new }
-    ensures sliced { OnOk result (Sliced (bytes from.now.rest) (up_to under.entry (bytes from.now.rest) (bytes start.now.rest)) lexer.old lexer.new) }
+    ensures sliced { OnOk result (SlicedUpTo under.entry from.now start.now lexer.old lexer.new) }
 {
     let Some(under) = under else {
         drop(before);

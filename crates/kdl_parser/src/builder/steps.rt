@@ -1,27 +1,23 @@
 //! What the builder does at a token: nodes begin and end, blocks open and close, entries are added.
 
-ghost use Rattle.kdl_grammar.specs.Machine as machine;
-ghost use Rattle.kdl_grammar.specs.Machine.{at};
-ghost use Rattle.kdl_parser.specs.Building.{under_view, kept_view, nodes_view, node_now, frames_view, pending_now, name_slot, entry_slot, item_answer, state_view, held, Did, Does};
-ghost use Rattle.kdl_parser.specs.Counted.{up_to, unsliced, SlicedOn};
-ghost use Rattle.kdl_grammar.specs.Tree.{node, no_children};
-ghost use Rattle.kdl_entry.specs.Building.{type_view, key_view, item_view, Stays};
+ghost use Rattle.kdl_parser.specs.Internal.States.{argument_slot, around, around_kept, around_node, block_closed, block_opened, dropped_opened, dropped_property, dropped_worded, entry_unsliced, given_at, in_phase, item_step, kept_ended, later_opened, name_opened, name_unsliced, named_slot, node_ended, node_slot, property_opened, Reaches, Slices, Steps, value_opened, valued_slot, worded};
+ghost use Rattle.kdl_grammar.specs.Internal.Machine as machine;
+ghost use Rattle.kdl_parser.specs.Internal.Building.{under_view, node_now, state_view, held};
+ghost use Rattle.kdl_parser.specs.Internal.Counted.{unsliced};
+ghost use Rattle.kdl_entry.specs.Internal.Building.{type_view, key_view, Stays};
 ghost use Rattle.kdl_value.specs.Data.{text};
-ghost use Rattle.kdl_entry.specs.Handed.{kind_view};
-ghost use Rattle.kdl_entry.specs.Items as items;
-ghost use Rattle.kdl_entry.specs.Items.{between};
 ghost use Rattle.kdl_value.specs.Tree.{value_tree, text_of};
-ghost use Rattle.kdl_entry.specs.Tree.{plain_identifier};
-ghost use Rattle.kdl_text.specs.Here.{Ahead, bytes};
+ghost use Rattle.kdl_text.specs.Internal.Here.{Ahead};
+ghost use Rattle.kdl_text.specs.Spans.{bytes};
 ghost use Rattle.kdl_parser.specs.declared.builder.Phase.{Phase};
 ghost use Rattle.kdl_parser.specs.declared.builder.Waiting.{Waiting};
-ghost use Rattle.std.specs.Prelude.{◌≡◌, if◌then◌else◌, [], ◌∷◌, Some, None, true, false, OnOk, option_map};
+ghost use Rattle.std.specs.Prelude.{◌≡◌, Some, None, OnOk, option_map};
 
 use super::content::{
     add, entry_between, is_entry, lone, push_ended, push_kept, put, settle, with_block,
 };
 use super::{Builder, Frame, Phase, Slot, Under, Waiting, WaitingWord};
-use crate::parts::ParsedNode;
+use crate::node_parts::ParsedNode;
 use kdl_entry::items::item::{Given, empty, identifier_between, span_at, text_between};
 use kdl_entry::items::{LexFailure, Lexer, TokenKind, fault_at};
 use kdl_entry::{KdlIdentifier, KdlValue, parsed_identifier};
@@ -33,7 +29,8 @@ impl<'a, N: ParsedNode> Builder<'a, N> {
     /// The string that waits becomes an argument.
     pub(super) fn settle_word(&mut self, alloc: Global) -> Result<(), AllocError>
         ensures under { OnOk result (option_map under_view self.new.under ≡ node_now self.old) }
-        ensures rest { OnOk result (self.new ≡ record self.old { under = self.new.under; waiting = Waiting.Nothing }) }
+        ensures rest { OnOk result (self.new ≡
+            record self.old { under = self.new.under; waiting = Waiting.Nothing }) }
         ensures whole { self.new.whole ≡ self.old.whole }
     {
         let waiting = mem::replace(&mut self.waiting, Waiting::Nothing);
@@ -50,10 +47,11 @@ impl<'a, N: ParsedNode> Builder<'a, N> {
     ) -> Result<(), LexFailure>
         requires from { Ahead self.old.from start.now }
         requires token { Ahead start.now end.now }
-        ensures ended { Does (at machine.gap (machine.ended (machine.closed self.old.whole.rest (node_now self.old) no_children [] (between self.old.from.rest start.now.rest) (between start.now.rest end.now.rest) start.now.rest) (nodes_view N.tree self.old.nodes)) (frames_view N.tree self.old) (machine.origin (node_now self.old) self.old.from.rest end.now.rest)) result (state_view N.tree self.new) }
+        ensures ended { Reaches N.tree (node_ended N.tree self.old start.now end.now)
+            result self.new }
         ensures whole { self.new.whole ≡ self.old.whole }
         ensures stays { Stays lexer.old lexer.new }
-        ensures sliced { SlicedOn result (bytes self.old.from.rest) (unsliced self.new) lexer.old lexer.new }
+        ensures sliced { Slices (bytes self.old.from.rest) result self.new lexer.old lexer.new }
         ensures unsliced { OnOk result (unsliced self.new ≡ bytes self.new.from.rest) }
     {
         self.settle_word(alloc)?;
@@ -79,10 +77,11 @@ impl<'a, N: ParsedNode> Builder<'a, N> {
     ) -> Result<(), LexFailure>
         requires from { Ahead self.old.from start.now }
         requires token { Ahead start.now end.now }
-        ensures ended { Does (at machine.gap (machine.ended (machine.closed_kept self.old.whole.rest (option_map (kept_view N.tree) self.old.kept) (between self.old.from.rest start.now.rest) (between start.now.rest end.now.rest) start.now.rest) (nodes_view N.tree self.old.nodes)) (frames_view N.tree self.old) (machine.origin (option_map (kept_view N.tree) self.old.kept) self.old.from.rest end.now.rest)) result (state_view N.tree self.new) }
+        ensures ended { Reaches N.tree (kept_ended N.tree self.old start.now end.now)
+            result self.new }
         ensures whole { self.new.whole ≡ self.old.whole }
         ensures stays { Stays lexer.old lexer.new }
-        ensures sliced { SlicedOn result (bytes self.old.from.rest) (unsliced self.new) lexer.old lexer.new }
+        ensures sliced { Slices (bytes self.old.from.rest) result self.new lexer.old lexer.new }
         ensures unsliced { OnOk result (unsliced self.new ≡ bytes self.new.from.rest) }
     {
         let counts = self.kept.is_some();
@@ -98,7 +97,7 @@ impl<'a, N: ParsedNode> Builder<'a, N> {
     }
 
     /// Opens the block of the node under way.
-    #[tactic(auto, using(crate::proofs::Counting::fewer, crate::proofs::Views::frame_pushed))]
+    #[tactic(auto, using(crate::proofs::Stepping::TurnCost::fewer, crate::proofs::Stepping::Views::frame_pushed))]
     pub(super) fn open_block(
         &mut self,
         alloc: Global,
@@ -108,10 +107,11 @@ impl<'a, N: ParsedNode> Builder<'a, N> {
     ) -> Result<(), LexFailure>
         requires from { Ahead self.old.from start.now }
         requires token { Ahead start.now end.now }
-        ensures did { Did (Some (at machine.gap (machine.inside (node_now self.old)) (machine.in_block (node_now self.old) (between self.old.from.rest start.now.rest) (nodes_view N.tree self.old.nodes) ∷ frames_view N.tree self.old) (machine.origin (node_now self.old) self.old.from.rest end.now.rest))) start.now result (state_view N.tree self.new) }
+        ensures did { Steps N.tree (Some (block_opened N.tree self.old start.now end.now))
+            start.now result self.new }
         ensures whole { self.new.whole ≡ self.old.whole }
         ensures stays { Stays lexer.old lexer.new }
-        ensures sliced { SlicedOn result (bytes self.old.from.rest) (unsliced self.new) lexer.old lexer.new }
+        ensures sliced { Slices (bytes self.old.from.rest) result self.new lexer.old lexer.new }
     {
         self.settle_word(alloc)?;
         self.phase = Phase::Gap;
@@ -128,10 +128,10 @@ impl<'a, N: ParsedNode> Builder<'a, N> {
         Ok(())
     }
 
-    /// Opens a block that counts for nothing, before the node's own.
-    #[tactic(auto, using(crate::proofs::Views::frame_pushed))]
+    /// Opens a block that is slashdashed, before the node's own.
+    #[tactic(auto, using(crate::proofs::Stepping::Views::frame_pushed))]
     pub(super) fn open_dropped(&mut self, alloc: Global) -> Result<(), LexFailure>
-        ensures opened { Does (at machine.gap None (machine.in_dropped (node_now self.old) (nodes_view N.tree self.old.nodes) ∷ frames_view N.tree self.old) self.old.from.rest) result (state_view N.tree self.new) }
+        ensures opened { Reaches N.tree (dropped_opened N.tree self.old) result self.new }
         ensures whole { self.new.whole ≡ self.old.whole }
         ensures unsliced { OnOk result (unsliced self.new ≡ bytes self.old.from.rest) }
     {
@@ -143,10 +143,10 @@ impl<'a, N: ParsedNode> Builder<'a, N> {
         Ok(())
     }
 
-    /// Opens a block that counts for nothing, behind the node's own.
-    #[tactic(auto, using(crate::proofs::Views::frame_pushed))]
+    /// Opens a block that is slashdashed, behind the node's own.
+    #[tactic(auto, using(crate::proofs::Stepping::Views::frame_pushed))]
     pub(super) fn open_later(&mut self) -> Result<(), LexFailure>
-        ensures opened { Does (at machine.gap None (machine.in_later (option_map (kept_view N.tree) self.old.kept) (nodes_view N.tree self.old.nodes) ∷ frames_view N.tree self.old) self.old.from.rest) result (state_view N.tree self.new) }
+        ensures opened { Reaches N.tree (later_opened N.tree self.old) result self.new }
         ensures whole { self.new.whole ≡ self.old.whole }
         ensures unsliced { OnOk result (unsliced self.new ≡ bytes self.old.from.rest) }
     {
@@ -158,7 +158,7 @@ impl<'a, N: ParsedNode> Builder<'a, N> {
     }
 
     /// Gives the node its block, which ends here, and goes back to the nodes before it.
-    #[tactic(auto, using(crate::proofs::Counting::fewer))]
+    #[tactic(auto, using(crate::proofs::Stepping::TurnCost::fewer))]
     pub(super) fn close_block(
         &mut self,
         alloc: Global,
@@ -171,10 +171,11 @@ impl<'a, N: ParsedNode> Builder<'a, N> {
     ) -> Result<(), LexFailure>
         requires from { Ahead self.old.from start.now }
         requires token { Ahead start.now end.now }
-        ensures closed { Does (at (machine.kept (machine.with_block self.old.whole.rest (option_map under_view under.entry) (text_of before) (nodes_view N.tree self.old.nodes) (between self.old.from.rest start.now.rest) start.now.rest)) (nodes_view N.tree nodes) (frames_view N.tree self.old) (machine.origin (option_map under_view under.entry) self.old.from.rest end.now.rest)) result (state_view N.tree self.new) }
+        ensures closed { Reaches N.tree (block_closed N.tree self.old under.entry before nodes
+            start.now end.now) result self.new }
         ensures whole { self.new.whole ≡ self.old.whole }
         ensures stays { Stays lexer.old lexer.new }
-        ensures sliced { SlicedOn result (bytes self.old.from.rest) (unsliced self.new) lexer.old lexer.new }
+        ensures sliced { Slices (bytes self.old.from.rest) result self.new lexer.old lexer.new }
     {
         let inner = mem::replace(&mut self.nodes, nodes);
         self.phase = Phase::Behind;
@@ -201,7 +202,7 @@ impl<'a, N: ParsedNode> Builder<'a, N> {
     }
 
     /// Goes back to the node around the block that ends here.
-    #[tactic(auto, using(crate::proofs::Views::frame_pushed, crate::proofs::Doing::does_did))]
+    #[tactic(auto, using(crate::proofs::Stepping::Views::frame_pushed, crate::proofs::Stepping::StepsDone::does_did))]
     pub(super) fn close(
         &mut self,
         alloc: Global,
@@ -211,10 +212,11 @@ impl<'a, N: ParsedNode> Builder<'a, N> {
     ) -> Result<(), LexFailure>
         requires from { Ahead self.old.from start.now }
         requires token { Ahead start.now end.now }
-        ensures did { Did (machine.popped self.old.whole.rest (nodes_view N.tree self.old.nodes) (frames_view N.tree self.old) self.old.from.rest start.now.rest end.now.rest) start.now result (state_view N.tree self.new) }
+        ensures did { Steps N.tree (around N.tree self.old start.now end.now)
+            start.now result self.new }
         ensures whole { self.new.whole ≡ self.old.whole }
         ensures stays { Stays lexer.old lexer.new }
-        ensures sliced { SlicedOn result (bytes self.old.from.rest) (unsliced self.new) lexer.old lexer.new }
+        ensures sliced { Slices (bytes self.old.from.rest) result self.new lexer.old lexer.new }
     {
         match self.frames.pop() {
             Some(Frame::Block(under, before, nodes)) => self.close_block(
@@ -238,7 +240,7 @@ impl<'a, N: ParsedNode> Builder<'a, N> {
     }
 
     /// Begins a node, whose name stands between two places.
-    #[tactic(auto, using(crate::proofs::Counting::fewer))]
+    #[tactic(auto, using(crate::proofs::Stepping::TurnCost::fewer))]
     pub(super) fn begin_node(
         &mut self,
         alloc: Global,
@@ -249,10 +251,13 @@ impl<'a, N: ParsedNode> Builder<'a, N> {
         end: &Checkpoint<'a>,
     ) -> Result<(), LexFailure>
         requires token { Ahead start.now end.now }
-        ensures named { Does (machine.given self.old.whole.rest (name_slot slot.entry.kept (text_of slot.entry.leading) slot.entry.start.rest) (option_map type_view given.ty) (value_tree given.value) None (nodes_view N.tree self.old.nodes) (frames_view N.tree self.old) self.old.from.rest start.now.rest end.now.rest) result (state_view N.tree self.new) }
+        ensures named { Reaches N.tree (given_at N.tree self.old (named_slot slot.entry)
+            (option_map type_view given.ty) (value_tree given.value) start.now end.now)
+            result self.new }
         ensures whole { self.new.whole ≡ self.old.whole }
         ensures stays { Stays lexer.old lexer.new }
-        ensures sliced { SlicedOn result (if slot.entry.kept then bytes start.now.rest else bytes self.old.from.rest) (unsliced self.new) lexer.old lexer.new }
+        ensures sliced { Slices (name_unsliced self.old slot.entry.kept start.now)
+            result self.new lexer.old lexer.new }
     {
         put(&mut self.waiting, Waiting::Nothing);
         self.phase = Phase::Fresh;
@@ -285,7 +290,7 @@ impl<'a, N: ParsedNode> Builder<'a, N> {
     }
 
     /// Gives the node under way an entry, whose value stands between two places.
-    #[tactic(auto, using(crate::proofs::Views::entry_pushed))]
+    #[tactic(auto, using(crate::proofs::Stepping::Views::entry_pushed))]
     pub(super) fn add_entry(
         &mut self,
         alloc: Global,
@@ -296,10 +301,14 @@ impl<'a, N: ParsedNode> Builder<'a, N> {
         end: &Checkpoint<'a>,
     ) -> Result<(), LexFailure>
         requires token { Ahead start.now end.now }
-        ensures added { Does (machine.given self.old.whole.rest (entry_slot slot.entry.kept (option_map under_view self.old.under) (text_of slot.entry.leading) slot.entry.start.rest (option_map key_view given.key)) (option_map type_view given.ty) (value_tree given.value) None (nodes_view N.tree self.old.nodes) (frames_view N.tree self.old) self.old.from.rest start.now.rest end.now.rest) result (state_view N.tree self.new) }
+        ensures added { Reaches N.tree (given_at N.tree self.old
+            (valued_slot self.old slot.entry (option_map key_view given.key))
+            (option_map type_view given.ty) (value_tree given.value) start.now end.now)
+            result self.new }
         ensures whole { self.new.whole ≡ self.old.whole }
         ensures stays { Stays lexer.old lexer.new }
-        ensures sliced { SlicedOn result (if slot.entry.kept then up_to self.old.under (bytes self.old.from.rest) (bytes start.now.rest) else bytes self.old.from.rest) (unsliced self.new) lexer.old lexer.new }
+        ensures sliced { Slices (entry_unsliced self.old slot.entry.kept start.now)
+            result self.new lexer.old lexer.new }
     {
         put(&mut self.waiting, Waiting::Nothing);
         self.phase = Phase::Fresh;
@@ -330,10 +339,11 @@ impl<'a, N: ParsedNode> Builder<'a, N> {
     ) -> Result<(), LexFailure>
         requires from { Ahead self.old.from start.now }
         requires token { Ahead start.now end.now }
-        ensures did { Did (Some (machine.worded self.old.whole.rest (machine.entry_slot (node_now self.old) (between self.old.from.rest start.now.rest) start.now.rest) (text_of value) (nodes_view N.tree self.old.nodes) (frames_view N.tree self.old) self.old.from.rest start.now.rest end.now.rest)) start.now result (state_view N.tree self.new) }
+        ensures did { Steps N.tree (Some (worded N.tree self.old (text_of value) start.now end.now))
+            start.now result self.new }
         ensures whole { self.new.whole ≡ self.old.whole }
         ensures stays { Stays lexer.old lexer.new }
-        ensures sliced { SlicedOn result (bytes self.old.from.rest) (unsliced self.new) lexer.old lexer.new }
+        ensures sliced { Slices (bytes self.old.from.rest) result self.new lexer.old lexer.new }
     {
         self.settle_word(alloc)?;
         self.phase = Phase::Fresh;
@@ -355,7 +365,7 @@ impl<'a, N: ParsedNode> Builder<'a, N> {
     }
 
     /// What follows the `=` of a property, where a string waits for it.
-    #[tactic(auto, using(crate::proofs::Counting::fewer))]
+    #[tactic(auto, using(crate::proofs::Stepping::TurnCost::fewer))]
     pub(super) fn open_property(
         &mut self,
         alloc: Global,
@@ -365,10 +375,11 @@ impl<'a, N: ParsedNode> Builder<'a, N> {
     ) -> Result<(), LexFailure>
         requires from { Ahead self.old.from start.now }
         requires token { Ahead start.now end.now }
-        ensures did { Did (machine.stay (nodes_view N.tree self.old.nodes) (frames_view N.tree self.old) self.old.from.rest (machine.value_from (machine.fresh (pending_now self.old.whole.rest self.old.from.rest self.old.waiting (option_map under_view self.old.under))) start.now.rest end.now.rest)) start.now result (state_view N.tree self.new) }
+        ensures did { Steps N.tree (property_opened N.tree self.old start.now end.now)
+            start.now result self.new }
         ensures whole { self.new.whole ≡ self.old.whole }
         ensures stays { Stays lexer.old lexer.new }
-        ensures sliced { SlicedOn result (bytes self.old.from.rest) (unsliced self.new) lexer.old lexer.new }
+        ensures sliced { Slices (bytes self.old.from.rest) result self.new lexer.old lexer.new }
     {
         match mem::replace(&mut self.waiting, Waiting::Nothing) {
             Waiting::Nothing => Err(LexFailure::Faulty(fault_at(start))),
@@ -399,14 +410,15 @@ impl<'a, N: ParsedNode> Builder<'a, N> {
         }
     }
 
-    /// What follows the `=` of a property that counts for nothing.
+    /// What follows the `=` of a property that is slashdashed.
     pub(super) fn open_dropped_property(
         &mut self,
         alloc: Global,
         start: &Checkpoint<'a>,
         end: &Checkpoint<'a>,
     )
-        ensures opened { held (state_view N.tree self.new) ≡ held (at (machine.property (machine.no_value (option_map under_view self.old.under)) (plain_identifier []) [] end.now.rest) (nodes_view N.tree self.old.nodes) (frames_view N.tree self.old) self.old.from.rest) }
+        ensures opened { held (state_view N.tree self.new) ≡
+            held (dropped_property N.tree self.old end.now) }
         ensures whole { self.new.whole ≡ self.old.whole }
         ensures unsliced { unsliced self.new ≡ bytes self.old.from.rest }
     {
@@ -417,7 +429,7 @@ impl<'a, N: ParsedNode> Builder<'a, N> {
     }
 
     /// What follows the `(` before a node's name.
-    #[tactic(auto, using(crate::proofs::Counting::fewer))]
+    #[tactic(auto, using(crate::proofs::Stepping::TurnCost::fewer))]
     pub(super) fn open_name(
         &mut self,
         alloc: Global,
@@ -428,10 +440,11 @@ impl<'a, N: ParsedNode> Builder<'a, N> {
     ) -> Result<(), LexFailure>
         requires from { Ahead self.old.from start.now }
         requires token { Ahead start.now end.now }
-        ensures opened { Does (at (machine.type_open false (name_slot counts (between self.old.from.rest start.now.rest) start.now.rest) end.now.rest) (nodes_view N.tree self.old.nodes) (frames_view N.tree self.old) self.old.from.rest) result (state_view N.tree self.new) }
+        ensures opened { Reaches N.tree (name_opened N.tree self.old counts start.now end.now)
+            result self.new }
         ensures whole { self.new.whole ≡ self.old.whole }
         ensures stays { Stays lexer.old lexer.new }
-        ensures sliced { SlicedOn result (bytes self.old.from.rest) (unsliced self.new) lexer.old lexer.new }
+        ensures sliced { Slices (bytes self.old.from.rest) result self.new lexer.old lexer.new }
     {
         self.phase = Phase::InItem;
         if counts {
@@ -444,7 +457,7 @@ impl<'a, N: ParsedNode> Builder<'a, N> {
     }
 
     /// What follows the `(` before an entry's value.
-    #[tactic(auto, using(crate::proofs::Counting::fewer))]
+    #[tactic(auto, using(crate::proofs::Stepping::TurnCost::fewer))]
     pub(super) fn open_value(
         &mut self,
         alloc: Global,
@@ -455,10 +468,11 @@ impl<'a, N: ParsedNode> Builder<'a, N> {
     ) -> Result<(), LexFailure>
         requires from { Ahead self.old.from start.now }
         requires token { Ahead start.now end.now }
-        ensures opened { Does (at (machine.type_open true (entry_slot counts (node_now self.old) (between self.old.from.rest start.now.rest) start.now.rest None) end.now.rest) (nodes_view N.tree self.old.nodes) (frames_view N.tree self.old) self.old.from.rest) result (state_view N.tree self.new) }
+        ensures opened { Reaches N.tree (value_opened N.tree self.old counts start.now end.now)
+            result self.new }
         ensures whole { self.new.whole ≡ self.old.whole }
         ensures stays { Stays lexer.old lexer.new }
-        ensures sliced { SlicedOn result (bytes self.old.from.rest) (unsliced self.new) lexer.old lexer.new }
+        ensures sliced { Slices (bytes self.old.from.rest) result self.new lexer.old lexer.new }
     {
         self.settle_word(alloc)?;
         self.phase = Phase::InItem;
@@ -483,10 +497,12 @@ impl<'a, N: ParsedNode> Builder<'a, N> {
     ) -> Result<(), LexFailure>
         requires from { Ahead self.old.from start.now }
         requires token { Ahead start.now end.now }
-        ensures added { Does (machine.given self.old.whole.rest (entry_slot counts (node_now self.old) (between self.old.from.rest start.now.rest) start.now.rest None) None (value_tree value) None (nodes_view N.tree self.old.nodes) (frames_view N.tree self.old) self.old.from.rest start.now.rest end.now.rest) result (state_view N.tree self.new) }
+        ensures added { Reaches N.tree (given_at N.tree self.old
+            (argument_slot self.old counts start.now) None (value_tree value) start.now end.now)
+            result self.new }
         ensures whole { self.new.whole ≡ self.old.whole }
         ensures stays { Stays lexer.old lexer.new }
-        ensures sliced { SlicedOn result (bytes self.old.from.rest) (unsliced self.new) lexer.old lexer.new }
+        ensures sliced { Slices (bytes self.old.from.rest) result self.new lexer.old lexer.new }
     {
         self.settle_word(alloc)?;
         if counts && self.under.is_some() {
@@ -503,7 +519,7 @@ impl<'a, N: ParsedNode> Builder<'a, N> {
     }
 
     /// A token inside a type, or behind the `=` of a property.
-    #[tactic(auto, using(crate::proofs::Counting::stays_entry, crate::proofs::Counting::item_went, crate::proofs::Counting::on_entry_given, crate::proofs::Counting::on_name_given, crate::proofs::Doing::does_did))]
+    #[tactic(auto, using(crate::proofs::Stepping::TurnCost::stays_entry, crate::proofs::Stepping::TurnCost::item_went, crate::proofs::Stepping::TurnCost::on_entry_given, crate::proofs::Stepping::TurnCost::on_name_given, crate::proofs::Stepping::StepsDone::does_did))]
     pub(super) fn at_item(
         &mut self,
         alloc: Global,
@@ -515,10 +531,11 @@ impl<'a, N: ParsedNode> Builder<'a, N> {
         requires from { Ahead self.old.item.from start.now }
         requires token { Ahead start.now end.now }
         requires phase { self.old.phase ≡ Phase.InItem }
-        ensures did { Did (item_answer self.old.whole.rest (option_map under_view self.old.under) (item_view self.old.item) (nodes_view N.tree self.old.nodes) (frames_view N.tree self.old) self.old.from.rest start.now.rest end.now.rest (items.step self.old.whole.rest (item_view self.old.item) (kind_view kind) start.now.rest end.now.rest)) start.now result (state_view N.tree self.new) }
+        ensures did { Steps N.tree (item_step N.tree self.old kind start.now end.now)
+            start.now result self.new }
         ensures whole { self.new.whole ≡ self.old.whole }
         ensures stays { Stays lexer.old lexer.new }
-        ensures sliced { SlicedOn result (unsliced self.old) (unsliced self.new) lexer.old lexer.new }
+        ensures sliced { Slices (unsliced self.old) result self.new lexer.old lexer.new }
     {
         let entry = is_entry(&self.item);
         let Some(given) = self.item.take(alloc, lexer, &self.whole, kind, start, end)? else {
@@ -547,10 +564,11 @@ impl<'a, N: ParsedNode> Builder<'a, N> {
     ) -> Result<(), LexFailure>
         requires from { Ahead self.old.from start.now }
         requires token { Ahead start.now end.now }
-        ensures named { Does (machine.given self.old.whole.rest (name_slot counts (between self.old.from.rest start.now.rest) start.now.rest) None (text (text_of name)) None (nodes_view N.tree self.old.nodes) (frames_view N.tree self.old) self.old.from.rest start.now.rest end.now.rest) result (state_view N.tree self.new) }
+        ensures named { Reaches N.tree (given_at N.tree self.old (node_slot self.old counts start.now)
+            None (text (text_of name)) start.now end.now) result self.new }
         ensures whole { self.new.whole ≡ self.old.whole }
         ensures stays { Stays lexer.old lexer.new }
-        ensures sliced { SlicedOn result (bytes self.old.from.rest) (unsliced self.new) lexer.old lexer.new }
+        ensures sliced { Slices (bytes self.old.from.rest) result self.new lexer.old lexer.new }
     {
         if counts {
             let leading = text_between(alloc, lexer, &self.from, start)?;
@@ -573,7 +591,7 @@ impl<'a, N: ParsedNode> Builder<'a, N> {
 
     /// A string behind `/-`, which may be a key.
     pub(super) fn wait_dropped(&mut self, alloc: Global) -> Result<(), LexFailure>
-        ensures waits { Does (at (machine.in_node (node_now self.old) (machine.fresh (Some (machine.pending (machine.no_value (node_now self.old)) (plain_identifier []) [])))) (nodes_view N.tree self.old.nodes) (frames_view N.tree self.old) self.old.from.rest) result (state_view N.tree self.new) }
+        ensures waits { Reaches N.tree (dropped_worded N.tree self.old) result self.new }
         ensures whole { self.new.whole ≡ self.old.whole }
         ensures unsliced { OnOk result (unsliced self.new ≡ bytes self.old.from.rest) }
     {
@@ -585,7 +603,8 @@ impl<'a, N: ParsedNode> Builder<'a, N> {
 
     /// `/-` in a node, before its block.
     pub(super) fn mark(&mut self, alloc: Global) -> Result<(), LexFailure>
-        ensures marked { Does (at (machine.entry_mark (node_now self.old)) (nodes_view N.tree self.old.nodes) (frames_view N.tree self.old) self.old.from.rest) result (state_view N.tree self.new) }
+        ensures marked { Reaches N.tree (in_phase N.tree self.old
+            (machine.entry_mark (node_now self.old))) result self.new }
         ensures whole { self.new.whole ≡ self.old.whole }
         ensures unsliced { OnOk result (unsliced self.new ≡ bytes self.old.from.rest) }
     {
@@ -595,7 +614,7 @@ impl<'a, N: ParsedNode> Builder<'a, N> {
     }
 
     /// The `}` behind a node without a block.
-    #[tactic(auto, using(crate::proofs::Origins::between_none, crate::proofs::Origins::origin_ends, crate::proofs::Doing::failed))]
+    #[tactic(auto, using(crate::proofs::Stepping::Origins::between_none, crate::proofs::Stepping::Origins::origin_ends, crate::proofs::Stepping::StepsDone::failed))]
     pub(super) fn close_node(
         &mut self,
         alloc: Global,
@@ -605,17 +624,18 @@ impl<'a, N: ParsedNode> Builder<'a, N> {
     ) -> Result<(), LexFailure>
         requires from { Ahead self.old.from start.now }
         requires token { Ahead start.now end.now }
-        ensures did { Did (machine.popped self.old.whole.rest (machine.ended (machine.closed self.old.whole.rest (node_now self.old) no_children [] (between self.old.from.rest start.now.rest) [] start.now.rest) (nodes_view N.tree self.old.nodes)) (frames_view N.tree self.old) (machine.origin (node_now self.old) self.old.from.rest start.now.rest) start.now.rest end.now.rest) start.now result (state_view N.tree self.new) }
+        ensures did { Steps N.tree (around_node N.tree self.old start.now end.now)
+            start.now result self.new }
         ensures whole { self.new.whole ≡ self.old.whole }
         ensures stays { Stays lexer.old lexer.new }
-        ensures sliced { SlicedOn result (bytes self.old.from.rest) (unsliced self.new) lexer.old lexer.new }
+        ensures sliced { Slices (bytes self.old.from.rest) result self.new lexer.old lexer.new }
     {
         self.end_node(alloc, lexer, start, &start.copied())?;
         self.close(alloc, lexer, start, end)
     }
 
     /// The `}` behind a node with a block.
-    #[tactic(auto, using(crate::proofs::Origins::between_none, crate::proofs::Origins::origin_ends, crate::proofs::Doing::failed))]
+    #[tactic(auto, using(crate::proofs::Stepping::Origins::between_none, crate::proofs::Stepping::Origins::origin_ends, crate::proofs::Stepping::StepsDone::failed))]
     pub(super) fn close_kept(
         &mut self,
         alloc: Global,
@@ -625,10 +645,11 @@ impl<'a, N: ParsedNode> Builder<'a, N> {
     ) -> Result<(), LexFailure>
         requires from { Ahead self.old.from start.now }
         requires token { Ahead start.now end.now }
-        ensures did { Did (machine.popped self.old.whole.rest (machine.ended (machine.closed_kept self.old.whole.rest (option_map (kept_view N.tree) self.old.kept) (between self.old.from.rest start.now.rest) [] start.now.rest) (nodes_view N.tree self.old.nodes)) (frames_view N.tree self.old) (machine.origin (option_map (kept_view N.tree) self.old.kept) self.old.from.rest start.now.rest) start.now.rest end.now.rest) start.now result (state_view N.tree self.new) }
+        ensures did { Steps N.tree (around_kept N.tree self.old start.now end.now)
+            start.now result self.new }
         ensures whole { self.new.whole ≡ self.old.whole }
         ensures stays { Stays lexer.old lexer.new }
-        ensures sliced { SlicedOn result (bytes self.old.from.rest) (unsliced self.new) lexer.old lexer.new }
+        ensures sliced { Slices (bytes self.old.from.rest) result self.new lexer.old lexer.new }
     {
         self.end_kept(alloc, lexer, start, &start.copied())?;
         self.close(alloc, lexer, start, end)

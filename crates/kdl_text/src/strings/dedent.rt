@@ -2,7 +2,7 @@
 
 ghost use Rattle.kdl_text.specs.Dedent as spec;
 ghost use Rattle.kdl_text.specs.Dedent.{Dedents, LineValue, LineValues, joined, lines_of};
-ghost use Rattle.kdl_text.specs.Lines.{line_len, lines_len, line_units};
+ghost use Rattle.kdl_text.specs.Internal.Lines.{line_len, lines_len, line_units};
 ghost use Rattle.kdl_text.specs.Raw.{literals};
 ghost use Rattle.kdl_text.specs.declared.strings.StringFailure.TheVariants.{Memory};
 ghost use Rattle.kdl_text.specs.declared.strings.dedent.LineUnit.{LineUnit};
@@ -80,8 +80,8 @@ fn is_blank(line: &Line) -> bool
     }
 }
 
-/// How many looks the line takes: one for each byte of a plain one, and for each unit of another.
-fn look_count(line: &Line) -> usize
+/// How many steps the line takes: one for each byte of a plain one, and for each unit of another.
+fn step_count(line: &Line) -> usize
     ensures { result ≡ line_len line.now }
 {
     match line {
@@ -121,7 +121,8 @@ fn unit_char(unit: LineUnit) -> Option<char>
 }
 
 fn push_text(out: &mut String, units: &[LineUnit]) -> Result<(), AllocError>
-    ensures { OnOk result (chars (string_bytes out.new) ≡ chars (string_bytes out.old) ++ spec.line_text units.now) }
+    ensures { OnOk result (chars (string_bytes out.new)
+        ≡ chars (string_bytes out.old) ++ spec.line_text units.now) }
 {
     for unit in units {
         if let Some(c) = unit_char(*unit) {
@@ -137,8 +138,11 @@ fn push_units(
     prefix: &[LineUnit],
     units: &[LineUnit],
 ) -> Result<(), StringFailure>
-    ensures done { OnOk result ((m : List LineUnit) × (units.now ≡ prefix.now ++ m) × (chars (string_bytes out.new) ≡ chars (string_bytes out.old) ++ spec.line_text m)) }
-    ensures failed { IfErr result (λ e. (e ≡ Memory → ⊥) → (m : List LineUnit) → units.now ≡ prefix.now ++ m → ⊥) }
+    ensures done { OnOk result
+        ((m : List LineUnit) × (units.now ≡ prefix.now ++ m)
+        × (chars (string_bytes out.new) ≡ chars (string_bytes out.old) ++ spec.line_text m)) }
+    ensures failed { IfErr result
+        (λ e. (e ≡ Memory → ⊥) → (m : List LineUnit) → units.now ≡ prefix.now ++ m → ⊥) }
 {
     if units.len() < prefix.len() || !begins(units, prefix) {
         return Err(StringFailure::Fault(StringFault::NoPrefix));
@@ -149,7 +153,8 @@ fn push_units(
 
 /// What stands behind the unit, where the characters begin with it.
 fn behind_unit<'a>(unit: LineUnit, piece: &Piece<'a>) -> Option<Piece<'a>>
-    ensures { MatchOption result ((m : List LineUnit) → literals piece.now ≡ unit ∷ m → ⊥) (λ rest. literals piece.now ≡ unit ∷ literals rest) }
+    ensures { MatchOption result ((m : List LineUnit) → literals piece.now ≡ unit ∷ m → ⊥)
+        (λ rest. literals piece.now ≡ unit ∷ literals rest) }
 {
     let LineUnit::Literal(c) = unit else {
         return None;
@@ -162,7 +167,8 @@ fn behind_unit<'a>(unit: LineUnit, piece: &Piece<'a>) -> Option<Piece<'a>>
 
 /// What stands behind the prefix, where the characters begin with it.
 fn behind_prefix<'a>(prefix: &[LineUnit], piece: &Piece<'a>) -> Option<Piece<'a>>
-    ensures { MatchOption result ((m : List LineUnit) → literals piece.now ≡ prefix.now ++ m → ⊥) (λ rest. literals piece.now ≡ prefix.now ++ literals rest) }
+    ensures { MatchOption result ((m : List LineUnit) → literals piece.now ≡ prefix.now ++ m → ⊥)
+        (λ rest. literals piece.now ≡ prefix.now ++ literals rest) }
 {
     let mut rest = piece.copied();
     for unit in prefix {
@@ -174,18 +180,21 @@ fn behind_prefix<'a>(prefix: &[LineUnit], piece: &Piece<'a>) -> Option<Piece<'a>
     Some(rest)
 }
 
-/// Appends the value of a line, and counts its looks and one more.
+/// Appends the value of a line, and counts its steps and one more.
 fn push_line(
     out: &mut String,
     prefix: &[LineUnit],
     line: &Line,
     steps: &mut Steps,
 ) -> Result<(), StringFailure>
-    ensures done { OnOk result ((v : List ℕ) × LineValue prefix.now (line_units line.now) v × (chars (string_bytes out.new) ≡ chars (string_bytes out.old) ++ v)) }
-    ensures failed { IfErr result (λ e. (e ≡ Memory → ⊥) → (v : List ℕ) → LineValue prefix.now (line_units line.now) v → ⊥) }
+    ensures done { OnOk result
+        ((v : List ℕ) × LineValue prefix.now (line_units line.now) v
+        × (chars (string_bytes out.new) ≡ chars (string_bytes out.old) ++ v)) }
+    ensures failed { IfErr result
+        (λ e. (e ≡ Memory → ⊥) → (v : List ℕ) → LineValue prefix.now (line_units line.now) v → ⊥) }
     ensures cost { steps.new ≤ steps.old + (line_len line.now + 1) }
 {
-    steps.raise(look_count(line) as u64);
+    steps.raise(step_count(line) as u64);
     steps.raise(1);
     if is_blank(line) {
         return Ok(());
@@ -210,8 +219,11 @@ fn push_lines(
     steps: &mut Steps,
 ) -> Result<(), StringFailure>
     requires { string_bytes out.old ≡ [] }
-    ensures found { OnOk result ((vs : List (List ℕ)) × LineValues prefix.now (map line_units lines.now) vs × (chars (string_bytes out.new) ≡ joined vs)) }
-    ensures only { (vs : List (List ℕ)) → LineValues prefix.now (map line_units lines.now) vs → IfErr result (λ e. e ≡ Memory) }
+    ensures found { OnOk result
+        ((vs : List (List ℕ)) × LineValues prefix.now (map line_units lines.now) vs
+        × (chars (string_bytes out.new) ≡ joined vs)) }
+    ensures only { (vs : List (List ℕ)) → LineValues prefix.now (map line_units lines.now) vs
+        → IfErr result (λ e. e ≡ Memory) }
     ensures cost { steps.new ≤ steps.old + lines_len lines.now }
 {
     let Some((first, others)) = lines.split_first() else {
@@ -236,15 +248,17 @@ fn push_lines(
 /// A step for each byte of a line without escapes and for each unit of another, and one for each line. A fault: the
 /// last line is not spaces alone, or another has not these spaces at its front and is not spaces alone.
 pub fn dedent(alloc: Global, lines: &[Line], steps: &mut Steps) -> Result<String, StringFailure>
-    ensures found { (us : List LineUnit) → lines_of us ≡ map line_units lines.now → IfOk result (λ s. Dedents us (chars (string_bytes s))) }
-    ensures only { (us : List LineUnit) (v : List ℕ) → lines_of us ≡ map line_units lines.now → Dedents us v → MatchResult result (λ s. v ≡ chars (string_bytes s)) (λ e. e ≡ Memory) }
+    ensures found { (us : List LineUnit) → lines_of us ≡ map line_units lines.now
+        → IfOk result (λ s. Dedents us (chars (string_bytes s))) }
+    ensures only { (us : List LineUnit) (v : List ℕ) → lines_of us ≡ map line_units lines.now
+        → Dedents us v → MatchResult result (λ s. v ≡ chars (string_bytes s)) (λ e. e ≡ Memory) }
     ensures cost { steps.new ≤ steps.old + lines_len lines.now }
 {
     let mut out = String::new(alloc);
     let Some((last, front)) = lines.split_last() else {
         return Ok(out);
     };
-    steps.raise(look_count(last) as u64);
+    steps.raise(step_count(last) as u64);
     steps.raise(1);
     if !is_blank(last) {
         return Err(StringFailure::Fault(StringFault::BadLastLine));

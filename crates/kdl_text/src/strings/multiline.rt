@@ -2,10 +2,10 @@
 
 ghost use Rattle.kdl_text.specs.Chars.{Newline, Text, is_newline_char};
 ghost use Rattle.kdl_text.specs.Dedent.{lines_of};
-ghost use Rattle.kdl_text.specs.Here.{bytes};
-ghost use Rattle.kdl_text.specs.Lines.{ReadsLine, ReadsPlain, line_len, line_units, lines_len};
+ghost use Rattle.kdl_text.specs.Spans.{bytes};
+ghost use Rattle.kdl_text.specs.Internal.Lines.{ReadsLine, ReadsPlain, line_len, line_units, lines_len};
 ghost use Rattle.kdl_text.specs.MultiLine.{Content, MultiLineBody, kept};
-ghost use Rattle.kdl_text.specs.Reading.{Moves, Costs};
+ghost use Rattle.kdl_text.specs.Internal.Reading.{Moves, Costs};
 ghost use Rattle.kdl_text.specs.Strings.{IsUnit, StringUnit};
 ghost use Rattle.kdl_text.specs.declared.strings.StringFailure.TheVariants.{Memory};
 ghost use Rattle.kdl_text.specs.declared.strings.dedent.LineUnit.{LineUnit};
@@ -43,9 +43,12 @@ enum Stop {
 /// Goes past characters that stand for themselves, quotes among them, and past what ends them in a string of many
 /// lines.
 fn plain_part<'a>(cursor: &mut Cursor<'a>) -> Result<(Piece<'a>, Stop), StringFault>
-    ensures found { IfOk result (λ (p, stop). ReadsPlain Content stop cursor.old.rest p cursor.new.rest) }
-    ensures shorter { IfOk result (λ (p, _). bytes p + 1 + bytes cursor.new.rest ≤ bytes cursor.old.rest) }
-    ensures only { (r : Text) (us : List LineUnit) → Content cursor.old.rest r us → IfErr result (λ _. ⊥) }
+    ensures found { IfOk result
+        (λ (p, stop). ReadsPlain Content stop cursor.old.rest p cursor.new.rest) }
+    ensures shorter { IfOk result
+        (λ (p, _). bytes p + 1 + bytes cursor.new.rest ≤ bytes cursor.old.rest) }
+    ensures only { (r : Text) (us : List LineUnit) → Content cursor.old.rest r us
+        → IfErr result (λ _. ⊥) }
     ensures moves { Moves cursor.old cursor.new }
     ensures costs { Costs 3 1 cursor.old cursor.new }
     ensures cost { IfOk result (λ _. Costs 3 0 cursor.old cursor.new) }
@@ -73,8 +76,11 @@ fn plain_part<'a>(cursor: &mut Cursor<'a>) -> Result<(Piece<'a>, Stop), StringFa
 
 /// Behind the backslash of an escape: appends its character, or nothing for spaces and newlines.
 fn push_escape(cursor: &mut Cursor, units: &mut Vec<LineUnit>) -> Result<(), StringFailure>
-    ensures found { IfOk result (λ _. (u : StringUnit) × IsUnit (92 ∷ cursor.old.rest) cursor.new.rest u × (units.new.items ≡ units.old.items ++ kept u)) }
-    ensures only { (r : Text) (u : StringUnit) → IsUnit (92 ∷ cursor.old.rest) r u → IfErr result (λ e. e ≡ Memory) }
+    ensures found { IfOk result
+        (λ _. (u : StringUnit) × IsUnit (92 ∷ cursor.old.rest) cursor.new.rest u
+        × (units.new.items ≡ units.old.items ++ kept u)) }
+    ensures only { (r : Text) (u : StringUnit) → IsUnit (92 ∷ cursor.old.rest) r u
+        → IfErr result (λ e. e ≡ Memory) }
     ensures moves { Moves cursor.old cursor.new }
     ensures costs { Costs 1 1 cursor.old cursor.new }
 {
@@ -92,7 +98,8 @@ fn push_escape(cursor: &mut Cursor, units: &mut Vec<LineUnit>) -> Result<(), Str
 fn escaped_line(cursor: &mut Cursor, units: &mut Vec<LineUnit>) -> Result<bool, StringFailure>
     ensures found { IfOk result (λ closed. (us : List LineUnit) × (units.new.items ≡ units.old.items ++ us)
         × ReadsLine Content closed (92 ∷ cursor.old.rest) us cursor.new.rest × (length us + bytes cursor.new.rest ≤ bytes cursor.old.rest)) }
-    ensures only { (r : Text) (us : List LineUnit) → Content (92 ∷ cursor.old.rest) r us → IfErr result (λ e. e ≡ Memory) }
+    ensures only { (r : Text) (us : List LineUnit) → Content (92 ∷ cursor.old.rest) r us
+        → IfErr result (λ e. e ≡ Memory) }
     ensures moves { Moves cursor.old cursor.new }
     ensures costs { Costs 3 1 cursor.old cursor.new }
     ensures cost { IfOk result (λ _. Costs 3 0 cursor.old cursor.new) }
@@ -114,9 +121,13 @@ fn escaped_line(cursor: &mut Cursor, units: &mut Vec<LineUnit>) -> Result<bool, 
 
 /// Reads a line and its newline, or three quotes. Gives whether it was these.
 fn read_line<'a>(alloc: Global, cursor: &mut Cursor<'a>) -> Result<(Line<'a>, bool), StringFailure>
-    ensures found { IfOk result (λ (line, closed). ReadsLine Content closed cursor.old.rest (line_units line) cursor.new.rest) }
-    ensures shorter { IfOk result (λ (line, _). line_len line + 1 + bytes cursor.new.rest ≤ bytes cursor.old.rest) }
-    ensures only { (r : Text) (us : List LineUnit) → Content cursor.old.rest r us → IfErr result (λ e. e ≡ Memory) }
+    ensures found { IfOk result
+        (λ (line, closed). ReadsLine Content closed cursor.old.rest
+        (line_units line) cursor.new.rest) }
+    ensures shorter { IfOk result
+        (λ (line, _). line_len line + 1 + bytes cursor.new.rest ≤ bytes cursor.old.rest) }
+    ensures only { (r : Text) (us : List LineUnit) → Content cursor.old.rest r us
+        → IfErr result (λ e. e ≡ Memory) }
     ensures moves { Moves cursor.old cursor.new }
     ensures costs { Costs 3 1 cursor.old cursor.new }
     ensures cost { IfOk result (λ _. Costs 3 0 cursor.old cursor.new) }
@@ -136,9 +147,13 @@ fn read_line<'a>(alloc: Global, cursor: &mut Cursor<'a>) -> Result<(Line<'a>, bo
 
 /// The lines up to three quotes, and these.
 fn content<'a>(alloc: Global, cursor: &mut Cursor<'a>) -> Result<Vec<Line<'a>>, StringFailure>
-    ensures found { IfOk result (λ ls. (us : List LineUnit) × Content cursor.old.rest cursor.new.rest us × (lines_of us ≡ map line_units ls.items)) }
-    ensures shorter { IfOk result (λ ls. lines_len ls.items + bytes cursor.new.rest ≤ bytes cursor.old.rest) }
-    ensures only { (r : Text) (us : List LineUnit) → Content cursor.old.rest r us → IfErr result (λ e. e ≡ Memory) }
+    ensures found { IfOk result
+        (λ ls. (us : List LineUnit) × Content cursor.old.rest cursor.new.rest us
+        × (lines_of us ≡ map line_units ls.items)) }
+    ensures shorter { IfOk result
+        (λ ls. lines_len ls.items + bytes cursor.new.rest ≤ bytes cursor.old.rest) }
+    ensures only { (r : Text) (us : List LineUnit) → Content cursor.old.rest r us
+        → IfErr result (λ e. e ≡ Memory) }
     ensures moves { Moves cursor.old cursor.new }
     ensures costs { Costs 3 1 cursor.old cursor.new }
 {
@@ -154,7 +169,8 @@ fn content<'a>(alloc: Global, cursor: &mut Cursor<'a>) -> Result<Vec<Line<'a>>, 
 
 /// Behind three quotes: the value of a string of many lines.
 pub fn many_lines(alloc: Global, cursor: &mut Cursor) -> Result<String, StringFailure>
-    ensures found { IfOk result (λ v. MultiLineBody cursor.old.rest cursor.new.rest (chars (string_bytes v))) }
+    ensures found { IfOk result
+        (λ v. MultiLineBody cursor.old.rest cursor.new.rest (chars (string_bytes v))) }
     ensures only { (r w : List ℕ) → MultiLineBody cursor.old.rest r w →
         MatchResult result (λ v. (r ≡ cursor.new.rest) × (w ≡ chars (string_bytes v))) (λ e. e ≡ Memory) }
     ensures moves { Moves cursor.old cursor.new }

@@ -2,10 +2,10 @@
 
 ghost use Rattle.kdl_text.specs.Chars.{Text, begins, times};
 ghost use Rattle.kdl_text.specs.Dedent.{lines_of};
-ghost use Rattle.kdl_text.specs.Here.{bytes};
-ghost use Rattle.kdl_text.specs.Lines.{ReadsLine, line_units, lines_len};
+ghost use Rattle.kdl_text.specs.Spans.{bytes};
+ghost use Rattle.kdl_text.specs.Internal.Lines.{ReadsLine, line_units, lines_len};
 ghost use Rattle.kdl_text.specs.Raw.{IsRaw, RawUnits, RawContent, MultiLineRawBody, closing, literals};
-ghost use Rattle.kdl_text.specs.Reading.{Moves, Costs};
+ghost use Rattle.kdl_text.specs.Internal.Reading.{Moves, Costs};
 ghost use Rattle.kdl_text.specs.declared.strings.StringFailure.TheVariants.{Memory};
 ghost use Rattle.kdl_text.specs.declared.strings.dedent.LineUnit.{LineUnit};
 ghost use Rattle.std.specs.Prelude.{◌≡◌, ◌<◌, ◌≤◌, ◌+◌, ◌++◌, ◌∷◌, List, false, map, string_bytes, IfOk, IfErr, IfSome, IfNone, MatchResult};
@@ -62,7 +62,8 @@ fn eat_signs(cursor: &mut Cursor, most: usize) -> usize
 /// The line up to the first quote with so many number signs behind it; the cursor goes past these.
 fn line_content<'a>(cursor: &mut Cursor<'a>, signs: usize) -> Result<Piece<'a>, StringFault>
     requires { 0 < signs }
-    ensures found { IfOk result (λ p. RawContent (closing 1 signs) cursor.old.rest cursor.new.rest (literals p)) }
+    ensures found { IfOk result
+        (λ p. RawContent (closing 1 signs) cursor.old.rest cursor.new.rest (literals p)) }
     ensures only { (r w : Text) → RawContent (closing 1 signs) cursor.old.rest r (literals w) →
         MatchResult result (λ p. (r ≡ cursor.new.rest) × (w ≡ p)) (λ _. ⊥) }
     ensures moves { Moves cursor.old cursor.new }
@@ -103,8 +104,13 @@ fn closing_place<'a>(
 ) -> Option<Checkpoint<'a>>
     requires some { 0 < signs }
     requires quote { quote.now.rest ≡ 34 ∷ cursor.old.rest }
-    ensures found { IfSome result (λ place. (p : Text) × (quote.now.rest ≡ p ++ place.rest) × RawUnits (closing 3 signs) quote.now.rest place.rest (literals p) × (place.rest ≡ closing 3 signs ++ cursor.new.rest)) }
-    ensures none { IfNone result ((p : Text) × (quote.now.rest ≡ p ++ cursor.new.rest) × RawUnits (closing 3 signs) quote.now.rest cursor.new.rest (literals p)) }
+    ensures found { IfSome result
+        (λ place. (p : Text) × (quote.now.rest ≡ p ++ place.rest)
+        × RawUnits (closing 3 signs) quote.now.rest place.rest (literals p)
+        × (place.rest ≡ closing 3 signs ++ cursor.new.rest)) }
+    ensures none { IfNone result
+        ((p : Text) × (quote.now.rest ≡ p ++ cursor.new.rest)
+        × RawUnits (closing 3 signs) quote.now.rest cursor.new.rest (literals p)) }
     ensures moves { Moves cursor.old cursor.new }
     ensures costs { Costs 2 1 cursor.old cursor.new }
 {
@@ -121,9 +127,13 @@ fn closing_place<'a>(
 /// Reads a line and its newline, or the closing of three quotes and so many number signs. Gives whether it was this.
 fn read_line<'a>(cursor: &mut Cursor<'a>, signs: usize) -> Result<(Piece<'a>, bool), StringFault>
     requires { 0 < signs }
-    ensures found { IfOk result (λ (p, closed). ReadsLine (RawContent (closing 3 signs)) closed cursor.old.rest (literals p) cursor.new.rest) }
-    ensures shorter { IfOk result (λ (p, _). bytes p + 1 + bytes cursor.new.rest ≤ bytes cursor.old.rest) }
-    ensures only { (r : Text) (us : List LineUnit) → RawContent (closing 3 signs) cursor.old.rest r us → IfErr result (λ _. ⊥) }
+    ensures found { IfOk result
+        (λ (p, closed). ReadsLine (RawContent (closing 3 signs)) closed cursor.old.rest
+        (literals p) cursor.new.rest) }
+    ensures shorter { IfOk result
+        (λ (p, _). bytes p + 1 + bytes cursor.new.rest ≤ bytes cursor.old.rest) }
+    ensures only { (r : Text) (us : List LineUnit)
+        → RawContent (closing 3 signs) cursor.old.rest r us → IfErr result (λ _. ⊥) }
     ensures moves { Moves cursor.old cursor.new }
     ensures costs { Costs 3 1 cursor.old cursor.new }
     ensures cost { IfOk result (λ _. Costs 3 0 cursor.old cursor.new) }
@@ -155,9 +165,14 @@ fn lines_content<'a>(
     signs: usize,
 ) -> Result<Vec<Line<'a>>, StringFailure>
     requires { 0 < signs }
-    ensures found { IfOk result (λ ls. (us : List LineUnit) × RawContent (closing 3 signs) cursor.old.rest cursor.new.rest us × (lines_of us ≡ map line_units ls.items)) }
-    ensures shorter { IfOk result (λ ls. lines_len ls.items + bytes cursor.new.rest ≤ bytes cursor.old.rest) }
-    ensures only { (r : Text) (us : List LineUnit) → RawContent (closing 3 signs) cursor.old.rest r us → IfErr result (λ e. e ≡ Memory) }
+    ensures found { IfOk result
+        (λ ls. (us : List LineUnit)
+        × RawContent (closing 3 signs) cursor.old.rest cursor.new.rest us
+        × (lines_of us ≡ map line_units ls.items)) }
+    ensures shorter { IfOk result
+        (λ ls. lines_len ls.items + bytes cursor.new.rest ≤ bytes cursor.old.rest) }
+    ensures only { (r : Text) (us : List LineUnit)
+        → RawContent (closing 3 signs) cursor.old.rest r us → IfErr result (λ e. e ≡ Memory) }
     ensures moves { Moves cursor.old cursor.new }
     ensures costs { Costs 3 2 cursor.old cursor.new }
 {
@@ -174,7 +189,8 @@ fn lines_content<'a>(
 /// Behind the number signs and three quotes: the value of a raw string of many lines.
 fn raw_lines(alloc: Global, cursor: &mut Cursor, signs: usize) -> Result<String, StringFailure>
     requires { 0 < signs }
-    ensures found { IfOk result (λ v. MultiLineRawBody signs cursor.old.rest cursor.new.rest (chars (string_bytes v))) }
+    ensures found { IfOk result
+        (λ v. MultiLineRawBody signs cursor.old.rest cursor.new.rest (chars (string_bytes v))) }
     ensures only { (r w : Text) → MultiLineRawBody signs cursor.old.rest r w →
         MatchResult result (λ v. (r ≡ cursor.new.rest) × (w ≡ chars (string_bytes v))) (λ e. e ≡ Memory) }
     ensures moves { Moves cursor.old cursor.new }
@@ -194,7 +210,8 @@ fn raw_lines(alloc: Global, cursor: &mut Cursor, signs: usize) -> Result<String,
 /// closing. A fault: no raw string begins here; `Unopened`: no number signs with a quote behind them.
 /// `Memory`: the memory for the value is missing.
 pub fn raw_string(alloc: Global, cursor: &mut Cursor) -> Result<String, StringFailure>
-    ensures found { IfOk result (λ v. IsRaw cursor.old.rest cursor.new.rest (chars (string_bytes v))) }
+    ensures found { IfOk result
+        (λ v. IsRaw cursor.old.rest cursor.new.rest (chars (string_bytes v))) }
     ensures only { (r w : Text) → IsRaw cursor.old.rest r w →
         MatchResult result (λ v. (r ≡ cursor.new.rest) × (w ≡ chars (string_bytes v))) (λ e. e ≡ Memory) }
     ensures moves { Moves cursor.old cursor.new }

@@ -1,7 +1,7 @@
 use Rattle.kdl.specs.Cleared.{cleared_document}
 use Rattle.kdl.specs.Tree.{document_tree}
-use Rattle.kdl.proofs.Clearing.{Walk}
-use Rattle.kdl.proofs.ClearingEnds.{left_of}
+use Rattle.kdl.proofs.Clearing.ClearingLoop.{Walk}
+use Rattle.kdl.proofs.Clearing.ClearingEnds.{left_of}
 use Rattle.kdl.proofs.clears.clear_all.Given as goal
 
 abbrev pub invariant-due : goal.invariant-due

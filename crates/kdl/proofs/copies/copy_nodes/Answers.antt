@@ -1,14 +1,14 @@
 use Rattle.std.proofs.Common.{rules, arith, sym, ◌≡◌, ◌∙◌, ap, [], ◌∷◌, ◌++◌, map, List, Some, None}
 use Rattle.std.proofs.lemmas.List.{append-nil}
-use Rattle.kdl.specs.Copied.{outermost}
-use Rattle.kdl.specs.Count.{count_left}
+use Rattle.kdl.specs.Internal.Copied.{outermost}
+use Rattle.kdl.specs.Internal.Count.{count_left}
 use Rattle.kdl.specs.Tree.{node_tree}
 use Rattle.kdl.specs.declared.copies.Open.{Open}
 use Rattle.kdl.specs.declared.document.KdlDocument.TheViews.{out-KdlNode}
 use Rattle.kdl.specs.declared.node.KdlNode.{KdlNode}
-use Rattle.kdl.proofs.Copying.{none_copied, line_made, block_opened, block_closed}
-use Rattle.kdl.proofs.Counting.{line_counted, block_counted, end_counted}
-use Rattle.kdl.proofs.Left.{none_left_is}
+use Rattle.kdl.proofs.CopyingLoop.{none_copied, line_made, block_opened, block_closed}
+use Rattle.kdl.proofs.NodeCounts.{line_counted, block_counted, end_counted}
+use Rattle.kdl.proofs.Printing.PrintingLoop.{none_left_is}
 use Rattle.kdl.proofs.copies.copy_nodes.Goals as goal
 
 -- the nodes behind that of an open block

@@ -1,7 +1,7 @@
 use Rattle.std.proofs.Common.{◌≡◌, ◌++◌, map}
-use Rattle.kdl.specs.Copied.{outermost}
+use Rattle.kdl.specs.Internal.Copied.{outermost}
 use Rattle.kdl.specs.Tree.{node_tree}
-use Rattle.kdl.specs.Count.{count_left}
+use Rattle.kdl.specs.Internal.Count.{count_left}
 use Rattle.kdl.proofs.copies.copy_nodes.Given as goal
 
 abbrev pub invariant-left : goal.invariant-left

@@ -1,7 +1,7 @@
 use Rattle.std.proofs.Common.{rules, arith, ap, ◌∙◌, ◌+◌, ◌≤◌, ◌≡◌}
-use Rattle.kdl.specs.Count.{count_nodes, count_option}
+use Rattle.kdl.specs.Internal.Count.{count_nodes, count_option}
 use Rattle.kdl.specs.declared.node.KdlNode.{out-KdlNode}
-use Rattle.kdl.proofs.Counting.{left, goes_down, count_doc_out}
+use Rattle.kdl.proofs.NodeCounts.{left, goes_down, count_doc_out}
 use Rattle.kdl.proofs.drops.dismantle.Goals as goal
 use Rattle.kdl.proofs.drops.dismantle.Goals.{then-is_empty+in-Some, else-is_empty+in_default-exchange_last}
 

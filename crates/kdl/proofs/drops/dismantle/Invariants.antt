@@ -1,5 +1,5 @@
 use Rattle.std.proofs.Common.{◌+◌, ◌*◌}
-use Rattle.kdl.specs.Count.{count_nodes, count_option}
+use Rattle.kdl.specs.Internal.Count.{count_nodes, count_option}
 use Rattle.kdl.proofs.drops.dismantle.Given as goal
 
 abbrev pub decreases-loop-up : goal.decreases-loop-up

@@ -1,5 +1,5 @@
 use Rattle.std.proofs.Common.{rules, ◌-◌, ap, sym}
-use Rattle.kdl.proofs.Counting.{exchanged}
+use Rattle.kdl.proofs.NodeCounts.{exchanged}
 use Rattle.kdl.proofs.drops.exchange_last.Goals as goal
 
 pub returns-clause-kept : goal.returns-clause-kept

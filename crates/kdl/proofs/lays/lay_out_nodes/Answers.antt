@@ -1,7 +1,7 @@
 use Rattle.std.proofs.Common.{rules}
 use Rattle.kdl.specs.declared.lays.Block.{Block}
 use Rattle.kdl_fmt.specs.Config.{settings}
-use Rattle.kdl.proofs.Blocks.{all_laid}
+use Rattle.kdl.proofs.LayOut.BlockSteps.{all_laid}
 use Rattle.kdl.proofs.lays.lay_out_nodes.Goals as goal
 
 pub returns-clause-laid : goal.returns-clause-laid

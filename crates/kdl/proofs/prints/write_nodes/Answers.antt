@@ -3,14 +3,14 @@ use Rattle.std.proofs.lemmas.List.{append-nil}
 use Rattle.std.specs.Result.{IsOk}
 use Rattle.std.specs.Str.{encode_utf8_all}
 use Rattle.kdl_grammar.specs.Print.{print_nodes}
-use Rattle.kdl.specs.Count.{count_left}
-use Rattle.kdl.specs.Left.{opening, print_left}
+use Rattle.kdl.specs.Internal.Count.{count_left}
+use Rattle.kdl.specs.Internal.Left.{opening, print_left}
 use Rattle.kdl.specs.Tree.{nodes_tree}
 use Rattle.kdl.specs.declared.document.KdlDocument.TheViews.{out-KdlDocument, out-KdlNode}
 use Rattle.kdl.specs.declared.node.KdlNode.{KdlNode}
 use Rattle.kdl.specs.declared.prints.Open.{Open}
-use Rattle.kdl.proofs.Left.{line_left, block_left, end_left, written_more, none_left_is}
-use Rattle.kdl.proofs.Counting.{line_counted, block_counted, end_counted}
+use Rattle.kdl.proofs.Printing.PrintingLoop.{line_left, block_left, end_left, written_more, none_left_is}
+use Rattle.kdl.proofs.NodeCounts.{line_counted, block_counted, end_counted}
 use Rattle.kdl.proofs.prints.write_nodes.Goals as goal
 
 -- the nodes behind that of an open block

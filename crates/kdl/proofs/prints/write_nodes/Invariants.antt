@@ -2,8 +2,8 @@ use Rattle.std.proofs.Common.{◌≡◌, ℕ, ◌++◌, List}
 use Rattle.std.specs.Fmt.{HasWritten, IsPlainFormatter}
 use Rattle.std.specs.Str.{encode_utf8_all}
 use Rattle.kdl_grammar.specs.Print.{print_nodes}
-use Rattle.kdl.specs.Count.{count_left}
-use Rattle.kdl.specs.Left.{print_left}
+use Rattle.kdl.specs.Internal.Count.{count_left}
+use Rattle.kdl.specs.Internal.Left.{print_left}
 use Rattle.kdl.specs.Tree.{nodes_tree}
 use Rattle.kdl.proofs.prints.write_nodes.Given as goal
 

@@ -1,5 +1,5 @@
 use Rattle.std.proofs.Common.{rules}
-use Rattle.kdl_value.proofs.Printing.{then_writes}
+use Rattle.kdl_value.proofs.Spelling.PrintedTexts.{then_writes}
 use Rattle.kdl_entry.proofs.print.write_key.Goals as goal
 
 pub returns-in_ok-write_text-2 : goal.returns-in_ok-write_text-2

@@ -2,7 +2,7 @@ use Rattle.std.proofs.Common.{rules, [], ◌∷◌, ◌++◌}
 use Rattle.std.specs.Str.{chars}
 use Rattle.kdl_entry.specs.Print.{print_identifier}
 use Rattle.kdl_entry.specs.Tree.{identifier_tree}
-use Rattle.kdl_value.proofs.Printing.{then_writes}
+use Rattle.kdl_value.proofs.Spelling.PrintedTexts.{then_writes}
 use Rattle.kdl_entry.proofs.print.write_type.Goals as goal
 
 pub returns-in_ok-write_char-2 : goal.returns-in_ok-write_char-2

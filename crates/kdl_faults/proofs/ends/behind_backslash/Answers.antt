@@ -1,4 +1,4 @@
-use Rattle.kdl_text.proofs.Going.{moves_then, moves_stayed, stayed_looked}
+use Rattle.kdl_text.proofs.Looking.MovesJoin.{moves_then, moves_stayed, stayed_looked}
 use Rattle.kdl_faults.proofs.ends.behind_backslash.Goals as goal
 use Rattle.kdl_faults.proofs.ends.behind_backslash.Goals.{then-newline, else-newline}
 

@@ -1,5 +1,5 @@
 use Rattle.std.proofs.Common.{arith}
-use Rattle.kdl_text.proofs.Going.{stays, moves_then, fewer_bytes}
+use Rattle.kdl_text.proofs.Looking.MovesJoin.{stays, moves_then, fewer_bytes}
 use Rattle.kdl_faults.proofs.Passing.{passed_here, passed_from, stepped_begins}
 use Rattle.kdl_faults.proofs.ends.end_at_backslash.Goals as goal
 

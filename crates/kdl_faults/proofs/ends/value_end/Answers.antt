@@ -1,7 +1,8 @@
 use Rattle.std.proofs.Common.{ℕ, ◌≤◌, ap, arith}
-use Rattle.kdl_text.specs.Here.{Stayed, bytes}
-use Rattle.kdl_text.proofs.Going.{moves_then, moves_stayed, fewer_bytes}
-use Rattle.kdl_faults.proofs.Ending.{end_from, stayed_more, stayed_one, first_same, ran_moves, ran_costs}
+use Rattle.kdl_text.specs.Internal.Here.{Stayed}
+use Rattle.kdl_text.specs.Spans.{bytes}
+use Rattle.kdl_text.proofs.Looking.MovesJoin.{moves_then, moves_stayed, fewer_bytes}
+use Rattle.kdl_faults.proofs.ValueEnds.{end_from, stayed_more, stayed_one, first_same, ran_moves, ran_costs}
 use Rattle.kdl_faults.proofs.Passing.{Stepped, ended, passed_here, stepped_first}
 use Rattle.kdl_faults.proofs.ends.value_end.Goals as goal
 use Rattle.kdl_faults.proofs.ends.value_end.Goals.{in-None, in-Some-eq47, in-Some}

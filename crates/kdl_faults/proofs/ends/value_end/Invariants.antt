@@ -1,6 +1,6 @@
-use Rattle.kdl_text.specs.Here.{bytes}
-use Rattle.kdl_text.specs.Reading.{Moves}
-use Rattle.kdl_faults.specs.Reading.{Most}
+use Rattle.kdl_text.specs.Spans.{bytes}
+use Rattle.kdl_text.specs.Internal.Reading.{Moves}
+use Rattle.kdl_faults.specs.Internal.Reading.{Most}
 use Rattle.kdl_faults.proofs.ends.value_end.Given as goal
 
 abbrev pub invariant-ends : goal.invariant-ends

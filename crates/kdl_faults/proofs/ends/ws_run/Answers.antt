@@ -1,6 +1,6 @@
 use Rattle.std.proofs.Common.{ap, arith}
-use Rattle.kdl_text.specs.Here.{bytes}
-use Rattle.kdl_text.proofs.Going.{moves_then, moves_stayed, fewer_bytes}
+use Rattle.kdl_text.specs.Spans.{bytes}
+use Rattle.kdl_text.proofs.Looking.MovesJoin.{moves_then, moves_stayed, fewer_bytes}
 use Rattle.kdl_faults.proofs.Passing.{passed_here, behind_same}
 use Rattle.kdl_faults.proofs.ends.ws_run.Goals as goal
 

@@ -1,6 +1,6 @@
 use Rattle.std.proofs.Common.{refl, ap, ◌∙◌, sym, ◌++◌, arith}
-use Rattle.kdl_text.specs.Here.{bytes}
-use Rattle.kdl_text.proofs.Going.{moves_then, fewer_bytes}
+use Rattle.kdl_text.specs.Spans.{bytes}
+use Rattle.kdl_text.proofs.Looking.MovesJoin.{moves_then, fewer_bytes}
 use Rattle.kdl_faults.proofs.Passing.{behind_then}
 use Rattle.kdl_faults.proofs.PieceMoves.{begun, stands_at}
 use Rattle.kdl_faults.proofs.pieces.backslash_piece.Goals as goal

@@ -1,6 +1,6 @@
 use Rattle.std.proofs.Common.{ap, arith}
-use Rattle.kdl_text.specs.Here.{bytes}
-use Rattle.kdl_text.proofs.Going.{bytes-append}
+use Rattle.kdl_text.specs.Spans.{bytes}
+use Rattle.kdl_text.proofs.Looking.MovesJoin.{bytes-append}
 use Rattle.kdl_faults.proofs.pieces.end_within.Goals as goal
 
 pub returns-clause-most : goal.returns-clause-most

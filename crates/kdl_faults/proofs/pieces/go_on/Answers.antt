@@ -1,6 +1,6 @@
 use Rattle.std.proofs.Common.{arith}
 use Rattle.std.proofs.lemmas.Str.{len_utf8_bounds}
-use Rattle.kdl_text.proofs.Going.{moves_then, moves_one}
+use Rattle.kdl_text.proofs.Looking.MovesJoin.{moves_then, moves_one}
 use Rattle.kdl_faults.proofs.pieces.go_on.Goals as goal
 
 pub chars-preserved : goal.chars-preserved

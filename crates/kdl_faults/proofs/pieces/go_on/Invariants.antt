@@ -1,6 +1,6 @@
 use Rattle.std.proofs.Common.{◌+◌, ◌-◌, ◌≤◌}
-use Rattle.kdl_text.specs.Here.{bytes}
-use Rattle.kdl_text.specs.Reading.{Moves}
+use Rattle.kdl_text.specs.Spans.{bytes}
+use Rattle.kdl_text.specs.Internal.Reading.{Moves}
 use Rattle.kdl_faults.proofs.pieces.go_on.Given as goal
 
 abbrev pub invariant-chars : goal.invariant-chars

@@ -1,7 +1,7 @@
 use Rattle.std.proofs.Common.{ap, arith}
-use Rattle.kdl_text.specs.Here.{bytes}
-use Rattle.kdl_text.proofs.Going.{moves_then, fewer_bytes, bytes-append}
-use Rattle.kdl_text.proofs.Slices.{moves_ran, costs_ran, moves_sliced}
+use Rattle.kdl_text.specs.Spans.{bytes}
+use Rattle.kdl_text.proofs.Looking.MovesJoin.{moves_then, fewer_bytes, bytes-append}
+use Rattle.kdl_text.proofs.Looking.SliceCost.{moves_ran, costs_ran, moves_sliced}
 use Rattle.kdl_faults.proofs.Passing.{behind_then, behind_bytes}
 use Rattle.kdl_faults.proofs.pieces.keyword_piece.Goals as goal
 

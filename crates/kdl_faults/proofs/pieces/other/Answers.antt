@@ -1,6 +1,6 @@
 use Rattle.std.proofs.Common.{refl, ap, arith}
-use Rattle.kdl_text.specs.Here.{bytes}
-use Rattle.kdl_text.proofs.Going.{moves_then, fewer_bytes}
+use Rattle.kdl_text.specs.Spans.{bytes}
+use Rattle.kdl_text.proofs.Looking.MovesJoin.{moves_then, fewer_bytes}
 use Rattle.kdl_faults.proofs.PieceMoves.{begun, stands_word}
 use Rattle.kdl_faults.proofs.pieces.other.Goals as goal
 

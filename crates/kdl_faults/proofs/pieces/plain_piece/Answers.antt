@@ -1,7 +1,7 @@
 use Rattle.std.proofs.Common.{ap, arith}
-use Rattle.kdl_text.specs.Here.{bytes}
-use Rattle.kdl_text.proofs.Going.{fewer_bytes}
-use Rattle.kdl_text.proofs.Slices.{moves_ran, costs_ran}
+use Rattle.kdl_text.specs.Spans.{bytes}
+use Rattle.kdl_text.proofs.Looking.MovesJoin.{fewer_bytes}
+use Rattle.kdl_text.proofs.Looking.SliceCost.{moves_ran, costs_ran}
 use Rattle.kdl_faults.proofs.Passing.{ran_fewer, starts_first, newline_first, stepped_first}
 use Rattle.kdl_faults.proofs.pieces.plain_piece.Goals as goal
 

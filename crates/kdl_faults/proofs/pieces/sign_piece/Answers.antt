@@ -1,6 +1,6 @@
 use Rattle.std.proofs.Common.{ap, sym, ◌∙◌, arith}
-use Rattle.kdl_text.specs.Here.{bytes}
-use Rattle.kdl_text.proofs.Going.{moves_then, fewer_bytes}
+use Rattle.kdl_text.specs.Spans.{bytes}
+use Rattle.kdl_text.proofs.Looking.MovesJoin.{moves_then, fewer_bytes}
 use Rattle.kdl_faults.proofs.Passing.{ended, ran_fewer, found_from, found_at}
 use Rattle.kdl_faults.proofs.pieces.sign_piece.Goals as goal
 

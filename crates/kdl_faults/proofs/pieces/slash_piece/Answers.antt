@@ -1,5 +1,5 @@
 use Rattle.std.proofs.Common.{[], refl, ap, arith}
-use Rattle.kdl_text.specs.Here.{bytes}
+use Rattle.kdl_text.specs.Spans.{bytes}
 use Rattle.kdl_faults.proofs.pieces.slash_piece.Goals as goal
 
 pub returns-in-Unclosed-clause-piece : goal.returns-in-Unclosed-clause-piece

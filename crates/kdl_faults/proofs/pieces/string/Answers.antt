@@ -1,6 +1,6 @@
 use Rattle.std.proofs.Common.{refl, ap, arith}
-use Rattle.kdl_text.specs.Here.{bytes}
-use Rattle.kdl_text.proofs.Going.{fewer_bytes}
+use Rattle.kdl_text.specs.Spans.{bytes}
+use Rattle.kdl_text.proofs.Looking.MovesJoin.{fewer_bytes}
 use Rattle.kdl_faults.proofs.Passing.{behind_then, behind_same, behind_bytes}
 use Rattle.kdl_faults.proofs.PieceMoves.{stands_at}
 use Rattle.kdl_faults.proofs.pieces.string.Goals as goal

@@ -1,6 +1,6 @@
 use Rattle.std.proofs.Common.{arith}
-use Rattle.kdl_text.proofs.Going.{moves_then, fewer_bytes}
-use Rattle.kdl_text.proofs.Slices.{moves_ran, costs_ran}
+use Rattle.kdl_text.proofs.Looking.MovesJoin.{moves_then, fewer_bytes}
+use Rattle.kdl_text.proofs.Looking.SliceCost.{moves_ran, costs_ran}
 use Rattle.kdl_faults.proofs.Passing.{ran_fewer, starts_begins}
 use Rattle.kdl_faults.proofs.strings.closes_lines.Goals as goal
 

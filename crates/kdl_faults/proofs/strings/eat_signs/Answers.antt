@@ -1,6 +1,6 @@
 use Rattle.std.proofs.Common.{arith}
-use Rattle.kdl_text.proofs.Going.{moves_then, moves_one}
-use Rattle.kdl_text.proofs.Slices.{costs_took}
+use Rattle.kdl_text.proofs.Looking.MovesJoin.{moves_then, moves_one}
+use Rattle.kdl_text.proofs.Looking.SliceCost.{costs_took}
 use Rattle.kdl_faults.proofs.strings.eat_signs.Goals as goal
 
 pub signs-preserved : goal.signs-preserved

@@ -1,6 +1,6 @@
 use Rattle.std.proofs.Common.{◌-◌}
-use Rattle.kdl_text.specs.Reading.{Moves}
-use Rattle.kdl_faults.specs.Reading.{Most}
+use Rattle.kdl_text.specs.Internal.Reading.{Moves}
+use Rattle.kdl_faults.specs.Internal.Reading.{Most}
 use Rattle.kdl_faults.proofs.strings.eat_signs.Given as goal
 
 abbrev pub invariant-signs : goal.invariant-signs

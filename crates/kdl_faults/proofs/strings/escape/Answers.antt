@@ -1,5 +1,5 @@
 use Rattle.std.proofs.Common.{arith}
-use Rattle.kdl_text.proofs.Going.{moves_then, fewer_bytes}
+use Rattle.kdl_text.proofs.Looking.MovesJoin.{moves_then, fewer_bytes}
 use Rattle.kdl_faults.proofs.Passing.{stepped_begins}
 use Rattle.kdl_faults.proofs.strings.escape.Goals as goal
 

@@ -1,4 +1,4 @@
-use Rattle.kdl_faults.proofs.Scanning.{read_once_more}
+use Rattle.kdl_faults.proofs.StringLoops.{read_once_more}
 use Rattle.kdl_faults.proofs.strings.fault_of_lines.Goals as goal
 
 pub returns-clause-most : goal.returns-clause-most

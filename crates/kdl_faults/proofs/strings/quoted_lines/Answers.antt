@@ -1,8 +1,8 @@
 use Rattle.std.proofs.Common.{arith}
-use Rattle.kdl_text.proofs.Going.{moves_then, fewer_bytes}
-use Rattle.kdl_text.proofs.TriviaRuns.{moves_ate_two}
+use Rattle.kdl_text.proofs.Looking.MovesJoin.{moves_then, fewer_bytes}
+use Rattle.kdl_text.proofs.Spacing.SpaceReads.{moves_ate_two}
 use Rattle.kdl_faults.proofs.Passing.{looked_step, newline_fewer, ate_two_steps, found_on}
-use Rattle.kdl_faults.proofs.Scanning.{at_unit}
+use Rattle.kdl_faults.proofs.StringLoops.{at_unit}
 use Rattle.kdl_faults.proofs.strings.quoted_lines.Goals as goal
 
 pub returns-in-None-clause-fault : goal.returns-in-None-clause-fault

@@ -1,5 +1,5 @@
-use Rattle.kdl_text.specs.Here.{bytes}
-use Rattle.kdl_faults.proofs.Scanning.{Scanned}
+use Rattle.kdl_text.specs.Spans.{bytes}
+use Rattle.kdl_faults.proofs.StringLoops.{Scanned}
 use Rattle.kdl_faults.proofs.strings.quoted_lines.Given as goal
 
 abbrev pub invariant-units : goal.invariant-units

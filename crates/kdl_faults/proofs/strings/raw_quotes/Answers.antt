@@ -1,5 +1,5 @@
 use Rattle.std.proofs.Common.{arith}
-use Rattle.kdl_text.proofs.Going.{stays, moves_then, fewer_bytes}
+use Rattle.kdl_text.proofs.Looking.MovesJoin.{stays, moves_then, fewer_bytes}
 use Rattle.kdl_faults.proofs.Passing.{found_from, passed_here}
 use Rattle.kdl_faults.proofs.strings.raw_quotes.Goals as goal
 use Rattle.kdl_faults.proofs.strings.raw_quotes.Goals.{then-not-eat_signs+else-is_some, else-not-eat_signs}

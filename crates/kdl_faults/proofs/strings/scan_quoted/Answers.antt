@@ -1,5 +1,5 @@
 use Rattle.std.proofs.Common.{◌∙◌}
-use Rattle.kdl_text.proofs.Going.{moves_then}
+use Rattle.kdl_text.proofs.Looking.MovesJoin.{moves_then}
 use Rattle.kdl_faults.proofs.Passing.{opened, found_from}
 use Rattle.kdl_faults.proofs.strings.scan_quoted.Goals as goal
 

@@ -1,4 +1,4 @@
-use Rattle.kdl_faults.proofs.Telling.{noted_at, told_count, told_more}
+use Rattle.kdl_faults.proofs.Diagnostics.{noted_at, told_count, told_more}
 use Rattle.kdl_faults.proofs.told.error_of.Goals as goal
 
 pub diagnostic-requires : goal.diagnostic-requires

@@ -1,10 +1,10 @@
 use Rattle.std.proofs.Common.{ap, ◌∙◌}
 use Rattle.std.specs.Global.{Vec}
 use Rattle.std.specs.Str.{chars}
-use Rattle.kdl_text.specs.Here.{Here}
+use Rattle.kdl_text.specs.Internal.Here.{Here}
 use Rattle.kdl_faults.specs.declared.reader.Fault.{Fault}
-use Rattle.kdl_faults.proofs.Noting.{noted_same}
-use Rattle.kdl_faults.proofs.Turning.{steps_bounded}
+use Rattle.kdl_faults.proofs.NotedSpans.{noted_same}
+use Rattle.kdl_faults.proofs.ReaderCost.{steps_bounded}
 use Rattle.kdl_faults.proofs.told.faults.Goals as goal
 
 pub returns-in_err-answer-clause-most : goal.returns-in_err-answer-clause-most

@@ -1,6 +1,6 @@
 use Rattle.std.specs.Str.{chars}
-use Rattle.kdl_faults.specs.Noted.{Noted}
-use Rattle.kdl_faults.proofs.Noting.{noted_more, noted_same}
+use Rattle.kdl_faults.specs.Internal.Noted.{Noted}
+use Rattle.kdl_faults.proofs.NotedSpans.{noted_more, noted_same}
 use Rattle.kdl_faults.proofs.told.refusal.Goals as goal
 use Rattle.kdl_faults.proofs.told.refusal.Goals.{then-is_empty+in_ok-push, else-is_empty}
 

@@ -3,11 +3,11 @@ use Rattle.std.specs.Str.{chars}
 use Rattle.kdl_text.specs.Chars.{Text}
 use Rattle.kdl_value.specs.Tree.{text_of}
 use Rattle.kdl_items.specs.Items.{GapItems}
-use Rattle.kdl_items.specs.Reading.{items_view}
+use Rattle.kdl_items.specs.Internal.Reading.{items_view}
 use Rattle.kdl_items.specs.Written.{lines}
 use Rattle.kdl_items.specs.declared.item.Item.{Item}
 use Rattle.kdl_fmt.specs.Config.{indentation, settings}
-use Rattle.kdl_fmt.proofs.Keeping.{no_elements, kept_none, kept_items, kept_nothing, written_behind}
+use Rattle.kdl_fmt.proofs.Keeping.KeptReads.{no_elements, kept_none, kept_items, kept_nothing, written_behind}
 use Rattle.kdl_fmt.proofs.Texts.{no_text}
 use Rattle.kdl_fmt.proofs.layout.kept_at.Goals as goal
 use Rattle.kdl_fmt.proofs.layout.kept_at.Goals.{in-Some, then-not-is_empty+in_ok-before+in_ok-push_lines, else-not-is_empty, in_default}

@@ -3,7 +3,7 @@ use Rattle.kdl_value.specs.Tree.{text_of}
 use Rattle.kdl_entry.specs.Tree.{EntryFormat, entry_format_tree}
 use Rattle.kdl_fmt.specs.Config.{settings}
 use Rattle.kdl_fmt.specs.Kept.{KeptBefore}
-use Rattle.kdl_fmt.proofs.Keeping.{kept_marked, kept_bare}
+use Rattle.kdl_fmt.proofs.Keeping.KeptReads.{kept_marked, kept_bare}
 use Rattle.kdl_fmt.proofs.Texts.{no_text}
 use Rattle.kdl_fmt.proofs.layout.kept_before.Goals as goal
 use Rattle.kdl_fmt.proofs.layout.kept_before.Goals.{in_default-via-in-Some+else-not-format, in_default-via-in_default}

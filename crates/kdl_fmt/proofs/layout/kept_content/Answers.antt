@@ -1,5 +1,5 @@
 use Rattle.kdl_fmt.specs.Config.{settings, indentation}
-use Rattle.kdl_fmt.proofs.Keeping.{kept_empty}
+use Rattle.kdl_fmt.proofs.Keeping.KeptReads.{kept_empty}
 use Rattle.kdl_fmt.proofs.Texts.{no_text}
 use Rattle.kdl_fmt.proofs.layout.kept_content.Goals as goal
 

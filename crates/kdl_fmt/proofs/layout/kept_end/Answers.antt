@@ -1,5 +1,5 @@
 use Rattle.std.specs.Str.{chars}
-use Rattle.kdl_fmt.proofs.Keeping.{end_kept}
+use Rattle.kdl_fmt.proofs.Keeping.KeptReads.{end_kept}
 use Rattle.kdl_fmt.proofs.layout.kept_end.Goals as goal
 
 pub returns : goal.returns

@@ -2,9 +2,9 @@ use Rattle.std.proofs.Common.{ap, ◌∙◌}
 use Rattle.std.specs.Str.{chars}
 use Rattle.kdl_value.specs.Tree.{text_of}
 use Rattle.kdl_items.specs.Items.{PlaceItems}
-use Rattle.kdl_items.specs.Reading.{items_view, place_view}
+use Rattle.kdl_items.specs.Internal.Reading.{items_view, place_view}
 use Rattle.kdl_items.specs.Written.{tail}
-use Rattle.kdl_fmt.proofs.Keeping.{kept_none, kept_items, kept_nothing, written_behind}
+use Rattle.kdl_fmt.proofs.Keeping.KeptReads.{kept_none, kept_items, kept_nothing, written_behind}
 use Rattle.kdl_fmt.proofs.Texts.{no_text}
 use Rattle.kdl_fmt.proofs.layout.kept_tail.Goals as goal
 use Rattle.kdl_fmt.proofs.layout.kept_tail.Goals.{in-Some+in_ok-push_tail, in_default}

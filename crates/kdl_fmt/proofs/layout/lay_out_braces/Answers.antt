@@ -20,5 +20,5 @@ returns c = λ level ns i b n.
       kept,
       trailing,
       rw i at c.in_ok-kept.ensures,
-      ap Some (braces_made c.push_text-2.new.text c.push_text-3.new.text kept trailing (chars c.args.before.now) ns leads trails ∙ ap (λ (t : Text). in_braces t (content_of ns kept trailing)) b),
+      ap Some (braces_made c.push_text-2.new.out c.push_text-3.new.out kept trailing (chars c.args.before.now) ns leads trails ∙ ap (λ (t : Text). in_braces t (content_of ns kept trailing)) b),
     )

@@ -1,7 +1,7 @@
 use Rattle.std.proofs.Common.{arith}
 use Rattle.kdl_entry.specs.Tree.{entry_tree, cleared}
 use Rattle.kdl_fmt.specs.Config.{settings}
-use Rattle.kdl_fmt.proofs.FormattedAs.{entry_stays}
+use Rattle.kdl_fmt.proofs.Formatting.FormattedUnique.{entry_stays}
 use Rattle.kdl_fmt.proofs.Loops.{LaidEntry, turned_start, turned_more, turned_all, turned_same, turned_exchanged, entries_laid, entries_fit}
 use Rattle.kdl_fmt.proofs.layout.lay_out_entries.Goals as goal
 

@@ -3,13 +3,13 @@ use Rattle.kdl_value.specs.Data.{Value}
 use Rattle.kdl_value.specs.WellFormed.{IsWellFormed}
 use Rattle.kdl_value.specs.Tree.{text_of}
 use Rattle.kdl_entry.specs.Tree.{Entry, entry_tree, cleared, autoformatted}
-use Rattle.kdl_items.proofs.Pushing.{if_ok}
+use Rattle.kdl_items.proofs.Rewriting.Pushing.{if_ok}
 use Rattle.kdl_fmt.specs.Config.{settings}
-use Rattle.kdl_fmt.specs.Formatted.{marked_if}
+use Rattle.kdl_fmt.specs.Formatted.{with_keep_if}
 use Rattle.kdl_fmt.specs.Kept.{KeptBefore}
 use Rattle.kdl_fmt.specs.WithComments.{behind}
 use Rattle.kdl_fmt.proofs.Entries.{scalars}
-use Rattle.kdl_fmt.proofs.Formatting.{cleared_formatted}
+use Rattle.kdl_fmt.proofs.Formatting.PrintsCanonical.{cleared_formatted}
 use Rattle.kdl_fmt.proofs.layout.lay_out_entry.Goals as goal
 use Rattle.kdl_fmt.proofs.layout.lay_out_entry.Goals.{then-config, else-config}
 
@@ -22,9 +22,9 @@ pub returns-clause-same : goal.returns-clause-same
 returns-clause-same c =
     let keep = c.args.config.now.entry_autoformate_keep in
     let e = entry_tree c.args.entry.now in
-    let marked : entry_tree c.if-config.entry ≡ marked_if keep e = elim c.if-config.branch [
-      | then-config w ↦ ap entry_tree w.entry-is ∙ w.keep_format.ensures ∙ ap (λ (b : Bool). marked_if b e) (sym w.if-config.true)
-      | else-config w ↦ ap entry_tree w.entry-is ∙ ap (λ (b : Bool). marked_if b e) (sym w.if-config.false)
+    let marked : entry_tree c.if-config.entry ≡ with_keep_if keep e = elim c.if-config.branch [
+      | then-config w ↦ ap entry_tree w.entry-is ∙ w.keep_format.ensures ∙ ap (λ (b : Bool). with_keep_if b e) (sym w.if-config.true)
+      | else-config w ↦ ap entry_tree w.entry-is ∙ ap (λ (b : Bool). with_keep_if b e) (sym w.if-config.false)
     ] in
     c.put_behind.ensures.same ∙ ap cleared (c.autoformat.ensures ∙ ap autoformatted marked) ∙ cleared_formatted keep e
 
@@ -33,9 +33,9 @@ returns-clause-formatted c =
     let s = settings c.args.config.now in
     let e = entry_tree c.args.entry.now in
     let t = text_of c.in_ok-kept.kept in
-    let marked : entry_tree c.if-config.entry ≡ marked_if s.entry_autoformate_keep e = elim c.if-config.branch [
-      | then-config w ↦ ap entry_tree w.entry-is ∙ w.keep_format.ensures ∙ ap (λ (b : Bool). marked_if b e) (sym w.if-config.true)
-      | else-config w ↦ ap entry_tree w.entry-is ∙ ap (λ (b : Bool). marked_if b e) (sym w.if-config.false)
+    let marked : entry_tree c.if-config.entry ≡ with_keep_if s.entry_autoformate_keep e = elim c.if-config.branch [
+      | then-config w ↦ ap entry_tree w.entry-is ∙ w.keep_format.ensures ∙ ap (λ (b : Bool). with_keep_if b e) (sym w.if-config.true)
+      | else-config w ↦ ap entry_tree w.entry-is ∙ ap (λ (b : Bool). with_keep_if b e) (sym w.if-config.false)
     ] in
     if_ok c.put_behind.result
     (λ h. (t, subst (λ (x : Entry). KeptBefore s x.format t) marked c.in_ok-kept.ensures, h ∙ ap (behind t) (c.autoformat.ensures ∙ ap autoformatted marked)))

@@ -4,7 +4,7 @@ use Rattle.kdl_text.specs.Chars.{Text}
 use Rattle.kdl_value.specs.Tree.{text_of}
 use Rattle.kdl_fmt.specs.Config.{settings}
 use Rattle.kdl_fmt.specs.WithComments.{NodeTexts, line_of}
-use Rattle.kdl_fmt.proofs.Keeping.{lines_at, tail_at}
+use Rattle.kdl_fmt.proofs.Keeping.KeptReads.{lines_at, tail_at}
 use Rattle.kdl_fmt.proofs.Texts.{line_made}
 use Rattle.kdl_fmt.proofs.layout.line_format.Goals as goal
 

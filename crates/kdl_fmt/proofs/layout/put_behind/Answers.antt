@@ -16,5 +16,5 @@ pub returns-clause-behind : goal.returns-clause-behind
 returns-clause-behind c =
     let some = rw c.if-is_empty.false at (empty_string c.is_empty.result c.args.kept c.is_empty.ensures) in
     c.set_format.ensures
-    ∙ entry_made c.new-format.result c.in_ok-format.field-0 c.push_text.new.text (text_of c.args.kept) (entry_tree c.args.entry.now) c.new-format.ensures
+    ∙ entry_made c.new-format.result c.in_ok-format.field-0 c.push_text.new.out (text_of c.args.kept) (entry_tree c.args.entry.now) c.new-format.ensures
     (c.in_ok-format.ensures ∙ ap print_value c.value.ensures) (c.in_ok-push_text.ensures ∙ ap (λ (t : Text). text_of c.args.kept ++ t) space_text) some

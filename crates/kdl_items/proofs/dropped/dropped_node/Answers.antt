@@ -1,8 +1,8 @@
 use Rattle.std.proofs.Common.{ap, ◌∙◌}
 use Rattle.std.specs.Str.{chars}
-use Rattle.kdl_items.specs.Reading.{items_view}
+use Rattle.kdl_items.specs.Internal.Reading.{items_view}
 use Rattle.kdl_items.specs.declared.item.Item.TheVariants.{Piece}
-use Rattle.kdl_items.proofs.DroppedPieces.{dash_cut, behind_dash, node_cut, piece_cut, node_taken, no_node, items_pushed}
+use Rattle.kdl_items.proofs.Dropping.DroppedPieces.{dash_cut, behind_dash, node_cut, piece_cut, node_taken, no_node, items_pushed}
 use Rattle.kdl_items.proofs.dropped.dropped_node.Goals as goal
 
 pub cut-requires : goal.cut-requires

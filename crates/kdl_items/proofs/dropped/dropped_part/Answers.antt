@@ -1,8 +1,8 @@
 use Rattle.std.proofs.Common.{ap, ◌∙◌, option_map}
 use Rattle.std.specs.Str.{chars}
-use Rattle.kdl_items.specs.Reading.{items_view, place_view}
+use Rattle.kdl_items.specs.Internal.Reading.{items_view, place_view}
 use Rattle.kdl_items.specs.declared.item.Item.TheVariants.{Piece}
-use Rattle.kdl_items.proofs.DroppedPieces.{dash_cut, behind_dash, piece_of, piece_cut, part_taken, no_part, no_block_here, items_pushed}
+use Rattle.kdl_items.proofs.Dropping.DroppedPieces.{dash_cut, behind_dash, piece_of, piece_cut, part_taken, no_part, no_block_here, items_pushed}
 use Rattle.kdl_items.proofs.dropped.dropped_part.Goals as goal
 
 pub cut-requires : goal.cut-requires

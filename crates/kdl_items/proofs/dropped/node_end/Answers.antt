@@ -1,8 +1,8 @@
 use Rattle.std.proofs.Common.{sym, subst, ℕ}
 use Rattle.std.specs.Str.{chars}
 use Rattle.kdl_items.specs.Items.{line_end}
-use Rattle.kdl_items.specs.Passed.{Before}
-use Rattle.kdl_items.proofs.DroppedPieces.{end_semicolon, line_before, end_line}
+use Rattle.kdl_items.specs.Internal.Passed.{Before}
+use Rattle.kdl_items.proofs.Dropping.DroppedPieces.{end_semicolon, line_before, end_line}
 use Rattle.kdl_items.proofs.dropped.node_end.Goals as goal
 
 pub returns-in-Semicolon : goal.returns-in-Semicolon

@@ -1,8 +1,8 @@
 use Rattle.std.proofs.Common.{sym, ap, subst, ◌∙◌, ℕ}
 use Rattle.std.specs.Str.{chars}
-use Rattle.kdl_text.specs.Here.{Here}
-use Rattle.kdl_items.specs.Machine.{machine_view}
-use Rattle.kdl_items.proofs.PassingTurns.{NodeGoes, node_starts, node_goes_on, node_stops, node_faulty, node_refused_here, node_returns, token_places, token_ends, cut_shorter}
+use Rattle.kdl_text.specs.Internal.Here.{Here}
+use Rattle.kdl_items.specs.Internal.Machine.{machine_view}
+use Rattle.kdl_items.proofs.Dropping.NodeLoop.{NodeGoes, node_starts, node_goes_on, node_stops, node_faulty, node_refused_here, node_returns, token_places, token_ends, cut_shorter}
 use Rattle.kdl_items.proofs.dropped.pass_node.Goals as goal
 
 pub tokens-init : goal.tokens-init

@@ -1,7 +1,7 @@
 use Rattle.std.proofs.Common.{length}
-use Rattle.kdl_items.specs.Machine.{machine_view}
+use Rattle.kdl_items.specs.Internal.Machine.{machine_view}
 use Rattle.std.specs.Str.{chars}
-use Rattle.kdl_items.proofs.PassingTurns.{NodeGoes}
+use Rattle.kdl_items.proofs.Dropping.NodeLoop.{NodeGoes}
 use Rattle.kdl_items.proofs.dropped.pass_node.Given as goal
 
 abbrev pub invariant-tokens : goal.invariant-tokens

@@ -1,10 +1,10 @@
 use Rattle.std.proofs.Common.{sym, ap, subst, ◌∙◌, ℕ}
 use Rattle.std.specs.Str.{chars}
-use Rattle.kdl_text.specs.Here.{Here}
-use Rattle.kdl_items.specs.Machine.{machine_view}
-use Rattle.kdl_items.specs.Reading.{place_view}
-use Rattle.kdl_items.proofs.PassingTurns.{cut_shorter}
-use Rattle.kdl_items.proofs.PartTurns.{PartGoes, part_starts, part_goes_on, part_stops, part_faulty, part_refused_here, part_word, part_over}
+use Rattle.kdl_text.specs.Internal.Here.{Here}
+use Rattle.kdl_items.specs.Internal.Machine.{machine_view}
+use Rattle.kdl_items.specs.Internal.Reading.{place_view}
+use Rattle.kdl_items.proofs.Dropping.NodeLoop.{cut_shorter}
+use Rattle.kdl_items.proofs.Dropping.PartLoop.{PartGoes, part_starts, part_goes_on, part_stops, part_faulty, part_refused_here, part_word, part_over}
 use Rattle.kdl_items.proofs.dropped.pass_part.Goals as goal
 
 pub tokens-init : goal.tokens-init

@@ -1,8 +1,8 @@
 use Rattle.std.proofs.Common.{length}
-use Rattle.kdl_items.specs.Machine.{machine_view}
-use Rattle.kdl_items.specs.Reading.{place_view}
+use Rattle.kdl_items.specs.Internal.Machine.{machine_view}
+use Rattle.kdl_items.specs.Internal.Reading.{place_view}
 use Rattle.std.specs.Str.{chars}
-use Rattle.kdl_items.proofs.PartTurns.{PartGoes}
+use Rattle.kdl_items.proofs.Dropping.PartLoop.{PartGoes}
 use Rattle.kdl_items.proofs.dropped.pass_part.Given as goal
 
 abbrev pub invariant-tokens : goal.invariant-tokens

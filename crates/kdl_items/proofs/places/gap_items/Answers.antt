@@ -1,9 +1,9 @@
 use Rattle.std.proofs.Common.{sym, ap, ◌∙◌}
 use Rattle.std.specs.Str.{chars}
 use Rattle.kdl_items.specs.Items.{GapItems}
-use Rattle.kdl_items.specs.Reading.{items_view}
-use Rattle.kdl_items.proofs.SpacesRead.{no_chars, some_chars}
-use Rattle.kdl_items.proofs.PlacesRead.{leaves_empty, gap_shorter, gap_turn, gap_refused, gap_done}
+use Rattle.kdl_items.specs.Internal.Reading.{items_view}
+use Rattle.kdl_items.proofs.Listing.SpaceReads.{no_chars, some_chars}
+use Rattle.kdl_items.proofs.Listing.PlaceReads.{leaves_empty, gap_shorter, gap_turn, gap_refused, gap_done}
 use Rattle.kdl_items.proofs.places.gap_items.Goals as goal
 
 pub pieces-init : goal.pieces-init

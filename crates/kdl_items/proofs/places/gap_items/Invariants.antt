@@ -3,8 +3,8 @@ use denote.Text.{Utf8}
 use denote.Shadow.{shadow}
 use Rattle.std.specs.Str.{chars}
 use Rattle.kdl_items.specs.Items.{GapItems}
-use Rattle.kdl_items.specs.Reading.{items_view}
-use Rattle.kdl_items.proofs.PlacesRead.{Leaves}
+use Rattle.kdl_items.specs.Internal.Reading.{items_view}
+use Rattle.kdl_items.proofs.Listing.PlaceReads.{Leaves}
 use Rattle.kdl_items.proofs.places.gap_items.Given as goal
 
 abbrev pub invariant-pieces : goal.invariant-pieces

@@ -1,8 +1,8 @@
 use Rattle.std.proofs.Common.{option_map, sym, ◌∙◌}
 use Rattle.std.proofs.lemmas.Result.{IfOk-weaker}
 use Rattle.std.specs.Str.{chars}
-use Rattle.kdl_items.specs.Reading.{items_view}
-use Rattle.kdl_items.proofs.PlacesRead.{gap_spaces}
+use Rattle.kdl_items.specs.Internal.Reading.{items_view}
+use Rattle.kdl_items.proofs.Listing.PlaceReads.{gap_spaces}
 use Rattle.kdl_items.proofs.places.gap_piece.Goals as goal
 
 pub returns-else-begins_slashdash : goal.returns-else-begins_slashdash

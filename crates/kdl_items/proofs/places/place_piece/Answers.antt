@@ -1,6 +1,6 @@
 use Rattle.std.specs.Str.{chars}
-use Rattle.kdl_items.specs.Reading.{items_view, place_view}
-use Rattle.kdl_items.proofs.PlacesRead.{place_spaces}
+use Rattle.kdl_items.specs.Internal.Reading.{items_view, place_view}
+use Rattle.kdl_items.proofs.Listing.PlaceReads.{place_spaces}
 use Rattle.kdl_items.proofs.places.place_piece.Goals as goal
 
 pub returns-in-Some : goal.returns-in-Some

@@ -1,6 +1,6 @@
 use Rattle.std.proofs.Common.{ap, ◌∙◌}
 use Rattle.std.specs.Str.{chars}
-use Rattle.kdl_items.proofs.Cuts.{cut_boundary, cut_front, cut_behind}
+use Rattle.kdl_items.proofs.Listing.Cuts.{cut_boundary, cut_front, cut_behind}
 use Rattle.kdl_items.proofs.slices.cut.Goals as goal
 
 pub split_at-requires : goal.split_at-requires

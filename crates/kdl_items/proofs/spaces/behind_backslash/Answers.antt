@@ -1,7 +1,7 @@
 use Rattle.std.proofs.Common.{sym, ap, ◌∷◌, ◌∙◌}
 use Rattle.std.specs.Str.{chars}
 use Rattle.kdl_text.specs.Chars.{Text}
-use Rattle.kdl_items.proofs.SpacesRead.{ate_moves, cut_at, parts_at}
+use Rattle.kdl_items.proofs.Listing.SpaceReads.{ate_moves, cut_at, parts_at}
 use Rattle.kdl_items.proofs.spaces.behind_backslash.Goals as goal
 
 pub cut-requires : goal.cut-requires

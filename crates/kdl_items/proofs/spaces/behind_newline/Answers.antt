@@ -1,7 +1,7 @@
 use Rattle.std.proofs.Common.{sym, subst}
 use Rattle.std.specs.Str.{chars}
 use Rattle.kdl_text.specs.Chars.{Text, Newline}
-use Rattle.kdl_items.proofs.SpacesRead.{cut_at, parts_at, reads_newline}
+use Rattle.kdl_items.proofs.Listing.SpaceReads.{cut_at, parts_at, reads_newline}
 use Rattle.kdl_items.proofs.spaces.behind_newline.Goals as goal
 
 pub cut-requires : goal.cut-requires

@@ -1,8 +1,8 @@
 use Rattle.std.proofs.Common.{sym, subst}
 use Rattle.std.specs.Str.{chars}
 use Rattle.kdl_text.specs.Chars.{Text, Space}
-use Rattle.kdl_text.specs.Reading.{Longest}
-use Rattle.kdl_items.proofs.SpacesRead.{skips_moves, skips_spaces, parts_at}
+use Rattle.kdl_text.specs.Internal.Reading.{Longest}
+use Rattle.kdl_items.proofs.Listing.SpaceReads.{skips_moves, skips_spaces, parts_at}
 use Rattle.kdl_items.proofs.spaces.behind_spaces.Goals as goal
 
 pub returns : goal.returns

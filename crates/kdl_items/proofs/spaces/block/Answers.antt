@@ -2,8 +2,8 @@ use Rattle.std.proofs.Common.{sym, subst}
 use Rattle.std.specs.Str.{chars}
 use Rattle.kdl_text.specs.Chars.{Text}
 use Rattle.kdl_text.specs.Trivia.{BlockComment}
-use Rattle.kdl_text.proofs.Going.{moves_then, moves_stayed}
-use Rattle.kdl_items.proofs.SpacesRead.{cut_at, parts_at, reads_block}
+use Rattle.kdl_text.proofs.Looking.MovesJoin.{moves_then, moves_stayed}
+use Rattle.kdl_items.proofs.Listing.SpaceReads.{cut_at, parts_at, reads_block}
 use Rattle.kdl_items.proofs.spaces.block.Goals as goal
 
 pub cut-requires : goal.cut-requires

@@ -1,7 +1,7 @@
 use Rattle.std.proofs.Common.{ap, ◌++◌, ◌∙◌}
 use Rattle.std.specs.Str.{chars}
 use Rattle.kdl_text.specs.Chars.{Text}
-use Rattle.kdl_items.proofs.SpacesRead.{looked_slashes, comment_newline, comment_to_end}
+use Rattle.kdl_items.proofs.Listing.SpaceReads.{looked_slashes, comment_newline, comment_to_end}
 use Rattle.kdl_items.proofs.spaces.comment.Goals as goal
 
 pub returns-in-Some : goal.returns-in-Some

@@ -1,8 +1,8 @@
 use Rattle.std.proofs.Common.{sym, ◌∙◌}
 use Rattle.std.specs.Str.{chars}
-use Rattle.kdl_items.specs.Reading.{items_view}
+use Rattle.kdl_items.specs.Internal.Reading.{items_view}
 use Rattle.kdl_items.specs.declared.item.Item.TheVariants.{Comment, Piece}
-use Rattle.kdl_items.proofs.SpacesRead.{no_chars, some_chars, item_added, sofar_start, sofar_turn, turn_shorter, escline_comment, escline_ends, escline_last}
+use Rattle.kdl_items.proofs.Listing.SpaceReads.{no_chars, some_chars, item_added, sofar_start, sofar_turn, turn_shorter, escline_comment, escline_ends, escline_last}
 use Rattle.kdl_items.proofs.spaces.escline.Goals as goal
 
 pub comments-init : goal.comments-init

@@ -2,8 +2,8 @@ use Rattle.std.proofs.Common.{length}
 use denote.Text.{Utf8}
 use denote.Shadow.{shadow}
 use Rattle.std.specs.Str.{chars}
-use Rattle.kdl_items.specs.Reading.{items_view}
-use Rattle.kdl_items.proofs.SpacesRead.{Sofar}
+use Rattle.kdl_items.specs.Internal.Reading.{items_view}
+use Rattle.kdl_items.proofs.Listing.SpaceReads.{Sofar}
 use Rattle.kdl_items.proofs.spaces.escline.Given as goal
 
 abbrev pub invariant-comments : goal.invariant-comments

@@ -1,6 +1,6 @@
 use Rattle.std.proofs.Common.{◌∙◌}
 use Rattle.std.specs.Str.{chars}
-use Rattle.kdl_items.proofs.SpacesRead.{skips_moves, skips_line, parts_at}
+use Rattle.kdl_items.proofs.Listing.SpaceReads.{skips_moves, skips_line, parts_at}
 use Rattle.kdl_items.proofs.spaces.line.Goals as goal
 
 pub returns-clause-end : goal.returns-clause-end

@@ -1,9 +1,9 @@
 use Rattle.std.proofs.Common.{option_map}
 use Rattle.std.proofs.lemmas.Result.{IfOk-weaker}
 use Rattle.std.specs.Str.{chars}
-use Rattle.kdl_items.specs.Reading.{items_view}
+use Rattle.kdl_items.specs.Internal.Reading.{items_view}
 use Rattle.kdl_items.specs.declared.item.Item.TheVariants.{Comment}
-use Rattle.kdl_items.proofs.SpacesRead.{item_added, adds_comment, adds_newline, adds_lines}
+use Rattle.kdl_items.proofs.Listing.SpaceReads.{item_added, adds_comment, adds_newline, adds_lines}
 use Rattle.kdl_items.proofs.spaces.line_spaces.Goals as goal
 
 pub returns-in-Some : goal.returns-in-Some

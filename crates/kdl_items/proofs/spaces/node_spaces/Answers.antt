@@ -1,8 +1,8 @@
 use Rattle.std.proofs.Common.{sym, ◌∙◌}
 use Rattle.std.specs.Str.{chars}
-use Rattle.kdl_items.specs.Reading.{items_view}
+use Rattle.kdl_items.specs.Internal.Reading.{items_view}
 use Rattle.kdl_items.specs.declared.item.Item.TheVariants.{Piece}
-use Rattle.kdl_items.proofs.SpacesRead.{item_added, adds_block, adds_spaces}
+use Rattle.kdl_items.proofs.Listing.SpaceReads.{item_added, adds_block, adds_spaces}
 use Rattle.kdl_items.proofs.spaces.node_spaces.Goals as goal
 
 pub returns-in-Some-block : goal.returns-in-Some-block

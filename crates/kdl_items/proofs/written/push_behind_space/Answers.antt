@@ -2,10 +2,10 @@ use Rattle.std.proofs.Common.{[], ◌∷◌, ◌++◌, sym, ap, ◌∙◌, arith
 use Rattle.std.specs.Str.{chars}
 use Rattle.kdl_text.specs.Chars.{Text}
 use Rattle.kdl_value.specs.Tree.{text_of}
-use Rattle.kdl_items.specs.Reading.{item_view}
+use Rattle.kdl_items.specs.Internal.Reading.{item_view}
 use Rattle.kdl_items.specs.Written.{tail}
 use Rattle.kdl_items.specs.declared.item.Item.{Item}
-use Rattle.kdl_items.proofs.Pushing.{if_ok, one_char, two, three, escline_mark}
+use Rattle.kdl_items.proofs.Rewriting.Pushing.{if_ok, one_char, two, three, escline_mark}
 use Rattle.kdl_items.proofs.written.push_behind_space.Goals as goal
 
 pub returns-in_ok-push_text-in-Comment-2 : goal.returns-in_ok-push_text-in-Comment-2

@@ -2,9 +2,9 @@ use Rattle.std.proofs.Common.{rules, ◌≡◌, ◌++◌, ap, ◌∙◌, arith}
 use Rattle.std.specs.Str.{chars}
 use Rattle.kdl_text.specs.Chars.{Text}
 use Rattle.kdl_value.specs.Tree.{text_of}
-use Rattle.kdl_items.specs.Reading.{item_view}
+use Rattle.kdl_items.specs.Internal.Reading.{item_view}
 use Rattle.kdl_items.specs.Written.{item_text, line_text}
-use Rattle.kdl_items.proofs.Pushing.{if_ok, one_char, three}
+use Rattle.kdl_items.proofs.Rewriting.Pushing.{if_ok, one_char, three}
 use Rattle.kdl_items.proofs.written.push_line.Goals as goal
 use Rattle.kdl_items.proofs.written.push_line.Goals.{in-Comment, in-Comment-2}
 

@@ -2,7 +2,7 @@ use Rattle.std.proofs.Common.{◌++◌, sym, ap, ◌∙◌, arith}
 use Rattle.std.proofs.lemmas.Str.Pattern.{strip_suffix_char}
 use Rattle.kdl_text.specs.Chars.{Text}
 use Rattle.kdl_value.specs.Tree.{text_of}
-use Rattle.kdl_items.proofs.Pushing.{if_ok, one_char, two, line_shorter, line_same}
+use Rattle.kdl_items.proofs.Rewriting.Pushing.{if_ok, one_char, two, line_shorter, line_same}
 use Rattle.kdl_items.proofs.written.push_line_text.Goals as goal
 
 pub returns-in_ok-push_text-in-Some : goal.returns-in_ok-push_text-in-Some

@@ -3,7 +3,7 @@ use Rattle.std.specs.Str.{chars}
 use Rattle.kdl_text.specs.Chars.{Text}
 use Rattle.kdl_value.specs.Tree.{text_of}
 use Rattle.kdl_items.specs.Written.{lines}
-use Rattle.kdl_items.proofs.Pushing.{one_more, all_written, lines_behind}
+use Rattle.kdl_items.proofs.Rewriting.Pushing.{one_more, all_written, lines_behind}
 use Rattle.kdl_items.proofs.written.push_lines.Goals as goal
 
 pub loop-item-init : goal.loop-item-init

@@ -1,7 +1,7 @@
 use Rattle.std.proofs.Common.{sym, arith, append-nil}
 use Rattle.kdl_value.specs.Tree.{text_of}
 use Rattle.kdl_items.specs.Written.{tail}
-use Rattle.kdl_items.proofs.Pushing.{one_more, all_written, tail_behind}
+use Rattle.kdl_items.proofs.Rewriting.Pushing.{one_more, all_written, tail_behind}
 use Rattle.kdl_items.proofs.written.push_tail.Goals as goal
 
 pub loop-item-init : goal.loop-item-init

@@ -1,6 +1,6 @@
 use Rattle.std.proofs.Common.{◌≡◌, ◌++◌, take}
 use Rattle.kdl_value.specs.Tree.{text_of}
-use Rattle.kdl_items.specs.Reading.{items_view}
+use Rattle.kdl_items.specs.Internal.Reading.{items_view}
 use Rattle.kdl_items.specs.Written.{tail}
 use Rattle.kdl_items.proofs.written.push_tail.Given as goal
 

@@ -2,7 +2,7 @@ use Rattle.std.proofs.Common.{refl}
 use Rattle.std.proofs.lemmas.Str.{IsUtf8-string_bytes}
 use Rattle.std.specs.Prelude.{string_bytes}
 use Rattle.std.specs.Str.{chars}
-use Rattle.kdl_text.proofs.Slices.{pushed}
+use Rattle.kdl_text.proofs.Looking.SliceCost.{pushed}
 use Rattle.kdl_items.proofs.written.push_text.Goals as goal
 
 pub returns : goal.returns

@@ -1,6 +1,6 @@
 use Rattle.kdl.specs.Tree.{node_tree}
 use Rattle.kdl_fmt.specs.Config.{settings}
-use Rattle.kdl_laws.proofs.Layouts.{node_twice}
+use Rattle.kdl_laws.proofs.TwoLayouts.{node_twice}
 use Rattle.kdl_laws.proofs.layout.node_laid_out_twice.Goals as goal
 
 pub returns : goal.returns

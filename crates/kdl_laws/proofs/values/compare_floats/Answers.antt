@@ -1,5 +1,5 @@
 use Rattle.std.proofs.Common.{◌∙◌}
-use Rattle.kdl_value.proofs.Comparing.{float_ordered, float_ties}
+use Rattle.kdl_value.proofs.Comparing.OrderOnTrees.{float_ordered, float_ties}
 use Rattle.kdl_laws.proofs.values.compare_floats.Goals as goal
 
 pub returns : goal.returns

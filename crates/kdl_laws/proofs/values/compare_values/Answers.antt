@@ -1,5 +1,5 @@
 use Rattle.std.proofs.Common.{◌∙◌}
-use Rattle.kdl_value.proofs.Comparing.{value_ordered, value_ties}
+use Rattle.kdl_value.proofs.Comparing.OrderOnTrees.{value_ordered, value_ties}
 use Rattle.kdl_laws.proofs.values.compare_values.Goals as goal
 
 pub returns : goal.returns

@@ -1,4 +1,4 @@
-use Rattle.kdl_value.proofs.FloatTexts.{decimal_float}
+use Rattle.kdl_value.proofs.Floating.DecimalTexts.{decimal_float}
 use Rattle.kdl_laws.proofs.values.decimals_are_floats.Goals as goal
 
 pub returns : goal.returns

@@ -1,5 +1,5 @@
 use Rattle.std.proofs.lemmas.Bool.Decides.{Decides-at}
-use Rattle.kdl_value.proofs.Equality.{float_decides}
+use Rattle.kdl_value.proofs.Comparing.Equality.{float_decides}
 use Rattle.kdl_laws.proofs.values.equal_floats.Goals as goal
 
 pub returns : goal.returns

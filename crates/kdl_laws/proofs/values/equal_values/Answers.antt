@@ -1,5 +1,5 @@
 use Rattle.std.proofs.lemmas.Bool.Decides.{Decides-at}
-use Rattle.kdl_value.proofs.Equality.{value_decides}
+use Rattle.kdl_value.proofs.Comparing.Equality.{value_decides}
 use Rattle.kdl_laws.proofs.values.equal_values.Goals as goal
 
 pub returns : goal.returns

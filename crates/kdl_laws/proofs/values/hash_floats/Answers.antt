@@ -1,7 +1,7 @@
 use Rattle.std.proofs.Common.{sym, ap, ◌∙◌}
 use Rattle.std.specs.Prelude.{fold}
 use Rattle.kdl_value.specs.contracts.float.KdlFloatHash.TheImpl as impl_of
-use Rattle.kdl_value.proofs.Equality.{float_decides}
+use Rattle.kdl_value.proofs.Comparing.Equality.{float_decides}
 use Rattle.kdl_laws.proofs.values.hash_floats.Goals as goal
 
 pub returns-clause-equal : goal.returns-clause-equal

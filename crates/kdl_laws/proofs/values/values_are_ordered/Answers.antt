@@ -1,4 +1,4 @@
-use Rattle.kdl_value.proofs.Comparing.{value_total}
+use Rattle.kdl_value.proofs.Comparing.OrderOnTrees.{value_total}
 use Rattle.kdl_laws.proofs.values.values_are_ordered.Goals as goal
 
 pub returns : goal.returns

@@ -1,4 +1,4 @@
-use Rattle.kdl_parser.proofs.LineSpaces.{offset_fits, end_fits, told_behind}
+use Rattle.kdl_parser.proofs.Answering.LineSpaceReads.{offset_fits, end_fits, told_behind}
 use Rattle.kdl_parser.proofs.line_spaces.behind.Goals as goal
 
 pub overflow_sub-to_end : goal.overflow_sub-to_end

@@ -1,6 +1,6 @@
 use Rattle.std.proofs.Common.{sym, ◌∙◌}
 use Rattle.std.specs.Str.{chars}
-use Rattle.kdl_parser.proofs.LineSpaces.{lines_go_on, no_line_space, lines_end}
+use Rattle.kdl_parser.proofs.Answering.LineSpaceReads.{lines_go_on, no_line_space, lines_end}
 use Rattle.kdl_parser.proofs.line_spaces.line_spaces.Goals as goal
 
 pub returns-then-not-is_line_space : goal.returns-then-not-is_line_space

@@ -1,6 +1,6 @@
 use Rattle.std.proofs.Common.{length}
 use Rattle.std.specs.Str.{chars}
-use Rattle.kdl_parser.proofs.LineSpaces.{Lines}
+use Rattle.kdl_parser.proofs.Answering.LineSpaceReads.{Lines}
 use Rattle.kdl_parser.proofs.line_spaces.line_spaces.Given as goal
 
 abbrev pub invariant-tokens : goal.invariant-tokens

@@ -4,7 +4,7 @@ use Rattle.std.specs.Prelude.{string_bytes}
 use Rattle.kdl_text.specs.Chars.{Text}
 use Rattle.kdl_grammar.specs.Tree.{NodeFormat}
 use Rattle.kdl_parts.specs.Formats.{node_format_tree}
-use Rattle.kdl_parts.proofs.Marks.{one_char}
+use Rattle.kdl_parts.proofs.BomText.{one_char}
 use Rattle.kdl_parts.proofs.format.new_format.Goals as goal
 
 pub returns : goal.returns

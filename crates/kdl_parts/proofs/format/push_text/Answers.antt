@@ -1,6 +1,6 @@
 use Rattle.std.proofs.lemmas.Str.{IsUtf8-string_bytes}
 use Rattle.std.specs.Prelude.{string_bytes}
-use Rattle.kdl_parts.proofs.Marks.{joined}
+use Rattle.kdl_parts.proofs.BomText.{joined}
 use Rattle.kdl_parts.proofs.format.push_text.Goals as goal
 
 pub returns : goal.returns

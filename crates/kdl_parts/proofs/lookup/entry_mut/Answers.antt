@@ -2,7 +2,7 @@ use Rattle.std.proofs.Common.{ap, inl, length, sym, ◌∙◌}
 use Rattle.std.proofs.lemmas.Option.{slice_get_read}
 use Rattle.kdl_parts.specs.EntryLists.{place_of}
 use Rattle.kdl_parts.specs.Written.{set_entry_there}
-use Rattle.kdl_parts.proofs.EntryPlaces.{found_at}
+use Rattle.kdl_parts.proofs.EntryLookups.{found_at}
 use Rattle.kdl_parts.proofs.lookup.entry_mut.Goals as goal
 
 pub returns-in-Some : goal.returns-in-Some

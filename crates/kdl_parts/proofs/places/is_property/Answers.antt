@@ -1,5 +1,5 @@
 use Rattle.std.proofs.Common.{◌∙◌}
-use Rattle.kdl_parts.proofs.EntryPlaces.{name_compared}
+use Rattle.kdl_parts.proofs.EntryLookups.{name_compared}
 use Rattle.kdl_parts.proofs.places.is_property.Goals as goal
 
 pub returns-in-Some : goal.returns-in-Some

@@ -1,6 +1,6 @@
 use Rattle.std.proofs.Common.{◌≡◌, drop}
 use Rattle.kdl_parts.specs.EntryLists.{nth_place, is_argument}
-use Rattle.kdl_parts.proofs.EntryPlaces.{after}
+use Rattle.kdl_parts.proofs.EntryLookups.{after}
 use Rattle.kdl_parts.proofs.places.nth_argument.Given as goal
 
 abbrev pub invariant-loop-i : goal.invariant-loop-i

@@ -1,7 +1,7 @@
 use Rattle.std.proofs.Common.{◌∙◌, ap}
 use Rattle.std.proofs.lemmas.Str.{IsUtf8-string_bytes}
 use Rattle.kdl_parts.specs.EntryLists.{has_name, last_place}
-use Rattle.kdl_parts.proofs.EntryPlaces.{same_bytes}
+use Rattle.kdl_parts.proofs.EntryLookups.{same_bytes}
 use Rattle.kdl_parts.proofs.places.place.Goals as goal
 
 pub returns-in-Key-clause-place : goal.returns-in-Key-clause-place

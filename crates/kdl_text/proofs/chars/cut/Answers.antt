@@ -1,7 +1,7 @@
 use Rattle.std.proofs.Common.{◌++◌, sym, ap, ◌∙◌}
 use Rattle.std.proofs.lemmas.Str.{chars-append}
 use Rattle.std.specs.Str.{chars}
-use Rattle.kdl_text.proofs.Texts.{boundary, front, rest_shorter, range_is, bytes-chars}
+use Rattle.kdl_text.proofs.Looking.Texts.{boundary, front, rest_shorter, range_is, bytes-chars}
 use Rattle.kdl_text.proofs.chars.cut.Goals as goal
 
 pub range-requires-clause-end_boundary : goal.range-requires-clause-end_boundary

@@ -1,4 +1,4 @@
-use Rattle.kdl_text.proofs.Texts.{bytes-chars}
+use Rattle.kdl_text.proofs.Looking.Texts.{bytes-chars}
 use Rattle.kdl_text.proofs.chars.first_char.Goals as goal
 
 pub returns-clause-len : goal.returns-clause-len

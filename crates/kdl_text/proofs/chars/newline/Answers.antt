@@ -1,4 +1,4 @@
-use Rattle.kdl_text.proofs.Newlines.{reads_cr, reads_one}
+use Rattle.kdl_text.proofs.Spacing.NewlineUnique.{reads_cr, reads_one}
 use Rattle.kdl_text.proofs.chars.newline.Goals as goal
 
 pub returns-in-Some-eq13-clause-reads : goal.returns-in-Some-eq13-clause-reads

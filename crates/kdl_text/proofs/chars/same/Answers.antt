@@ -1,6 +1,6 @@
 use Rattle.std.proofs.Common.{ap}
 use Rattle.std.specs.Str.{chars}
-use Rattle.kdl_text.proofs.Texts.{chars_same}
+use Rattle.kdl_text.proofs.Looking.Texts.{chars_same}
 use Rattle.kdl_text.proofs.chars.same.Goals as goal
 
 pub returns : goal.returns

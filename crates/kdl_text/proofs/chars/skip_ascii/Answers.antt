@@ -1,6 +1,6 @@
 use Rattle.std.proofs.Common.{subst}
-use Rattle.kdl_text.specs.Tables.{InsideLen}
-use Rattle.kdl_text.proofs.Classes.{ascii_boundary, ascii_run}
+use Rattle.kdl_text.specs.Internal.Tables.{InsideLen}
+use Rattle.kdl_text.proofs.Looking.ClassTables.{ascii_boundary, ascii_run}
 use Rattle.kdl_text.proofs.chars.skip_ascii.Goals as goal
 
 pub range_from-requires : goal.range_from-requires

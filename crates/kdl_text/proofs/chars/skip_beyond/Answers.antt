@@ -1,5 +1,5 @@
 use Rattle.std.proofs.Common.{arith, sym, ◌∙◌}
-use Rattle.kdl_text.proofs.Runs.{run_counts, run_turn}
+use Rattle.kdl_text.proofs.Looking.Runs.{run_counts, run_turn}
 use Rattle.kdl_text.proofs.chars.skip_beyond.Goals as goal
 
 pub overflow_add-count-in-Some : goal.overflow_add-count-in-Some

@@ -1,8 +1,8 @@
 use Rattle.std.proofs.Common.{◌<◌, ◌^◌, length}
 use denote.Text.{Utf8}
 use denote.Shadow.{shadow}
-use Rattle.kdl_text.specs.Here.{in_class}
-use Rattle.kdl_text.proofs.Runs.{SoFar}
+use Rattle.kdl_text.specs.Internal.Here.{in_class}
+use Rattle.kdl_text.proofs.Looking.Runs.{SoFar}
 use Rattle.kdl_text.proofs.chars.skip_beyond.Given as goal
 
 abbrev pub invariant-run : goal.invariant-run

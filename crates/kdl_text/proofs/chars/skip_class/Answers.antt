@@ -1,6 +1,6 @@
 use Rattle.std.proofs.Common.{sym, ◌∙◌}
-use Rattle.kdl_text.specs.Here.{in_class}
-use Rattle.kdl_text.proofs.Runs.{ascii_ends, ascii_stops}
+use Rattle.kdl_text.specs.Internal.Here.{in_class}
+use Rattle.kdl_text.proofs.Looking.Runs.{ascii_ends, ascii_stops}
 use Rattle.kdl_text.proofs.chars.skip_class.Goals as goal
 
 pub returns-in_default : goal.returns-in_default

@@ -3,7 +3,7 @@ use Rattle.std.proofs.lemmas.Str.{chars_past_char, chars-nil, length-encode}
 use Rattle.std.proofs.lemmas.List.{nil_from_length}
 use Rattle.std.specs.Str.{chars}
 use Rattle.std.specs.Prelude.{encode_utf8}
-use Rattle.kdl_text.proofs.Texts.{bytes-chars}
+use Rattle.kdl_text.proofs.Looking.Texts.{bytes-chars}
 use Rattle.kdl_text.proofs.chars.split_first.Goals as goal
 
 pub returns-in-Some-clause-parts : goal.returns-in-Some-clause-parts

@@ -1,4 +1,4 @@
-use Rattle.kdl_text.proofs.NumberReads.{mark_ten, mark_other}
+use Rattle.kdl_text.proofs.Numeric.NumberReads.{mark_ten, mark_other}
 use Rattle.kdl_text.proofs.numbers.base_mark.Goals as goal
 
 pub returns-in_default-clause-reads : goal.returns-in_default-clause-reads

@@ -1,5 +1,5 @@
-use Rattle.kdl_text.proofs.DecimalReads.{part_broken, no_part, part_trailing, part_read, either, neither}
-use Rattle.kdl_text.proofs.Going.{moves_then, moves_stayed}
+use Rattle.kdl_text.proofs.Numeric.DecimalReads.{part_broken, no_part, part_trailing, part_read, either, neither}
+use Rattle.kdl_text.proofs.Looking.MovesJoin.{moves_then, moves_stayed}
 use Rattle.kdl_text.proofs.numbers.decimal_part.Goals as goal
 
 pub returns-in-Err-exponent-clause-reads : goal.returns-in-Err-exponent-clause-reads

@@ -1,5 +1,5 @@
 use Rattle.kdl_text.specs.Numbers.{is_part}
-use Rattle.kdl_text.proofs.NumberReads.{digits_mark, digits_digit, digits_end, digits_costs, not_part, none_here}
+use Rattle.kdl_text.proofs.Numeric.NumberReads.{digits_mark, digits_digit, digits_end, digits_costs, not_part, none_here}
 use Rattle.kdl_text.proofs.numbers.digits.Goals as goal
 
 pub digits-preserved-in-Some-eq95 : goal.digits-preserved-in-Some-eq95

@@ -1,5 +1,5 @@
 use Rattle.std.proofs.Common.{length}
-use Rattle.kdl_text.proofs.NumberReads.{InDigits}
+use Rattle.kdl_text.proofs.Numeric.NumberReads.{InDigits}
 use Rattle.kdl_text.proofs.numbers.digits.Given as goal
 
 abbrev pub invariant-digits : goal.invariant-digits

@@ -1,5 +1,5 @@
-use Rattle.kdl_text.proofs.DecimalReads.{exponent_none, exponent_some, exponent_broken}
-use Rattle.kdl_text.proofs.Going.{moves_then, moves_one}
+use Rattle.kdl_text.proofs.Numeric.DecimalReads.{exponent_none, exponent_some, exponent_broken}
+use Rattle.kdl_text.proofs.Looking.MovesJoin.{moves_then, moves_one}
 use Rattle.kdl_text.proofs.numbers.exponent.Goals as goal
 
 pub returns-then-not-eat_exponent_mark-clause-reads : goal.returns-then-not-eat_exponent_mark-clause-reads

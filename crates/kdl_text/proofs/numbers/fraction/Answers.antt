@@ -1,5 +1,5 @@
-use Rattle.kdl_text.proofs.DecimalReads.{fraction_none, fraction_some}
-use Rattle.kdl_text.proofs.Going.{moves_then, moves_one}
+use Rattle.kdl_text.proofs.Numeric.DecimalReads.{fraction_none, fraction_some}
+use Rattle.kdl_text.proofs.Looking.MovesJoin.{moves_then, moves_one}
 use Rattle.kdl_text.proofs.numbers.fraction.Goals as goal
 
 pub returns-then-not-eat-clause-reads : goal.returns-then-not-eat-clause-reads

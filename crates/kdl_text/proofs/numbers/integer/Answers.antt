@@ -1,8 +1,8 @@
 use Rattle.std.proofs.Common.{subst}
-use Rattle.kdl_text.specs.NumberReading.{ReadsDigits}
+use Rattle.kdl_text.specs.Internal.NumberReading.{ReadsDigits}
 use Rattle.kdl_text.specs.declared.numbers.Magnitude.TheVariants.{Small}
-use Rattle.kdl_text.proofs.Going.{took_from, moves_one, moves_then}
-use Rattle.kdl_text.proofs.NumberReads.{integer_read}
+use Rattle.kdl_text.proofs.Looking.MovesJoin.{took_from, moves_one, moves_then}
+use Rattle.kdl_text.proofs.Numeric.NumberReads.{integer_read}
 use Rattle.kdl_text.proofs.numbers.integer.Goals as goal
 
 pub returns-clause-reads : goal.returns-clause-reads

@@ -1,6 +1,6 @@
 use Rattle.std.proofs.Common.{ap, sym, ◌∙◌}
-use Rattle.kdl_text.proofs.DecimalReads.{at_end}
-use Rattle.kdl_text.proofs.Keywords.{float_some, float_other, float_none}
+use Rattle.kdl_text.proofs.Numeric.DecimalReads.{at_end}
+use Rattle.kdl_text.proofs.Numeric.KeywordUnique.{float_some, float_other, float_none}
 use Rattle.kdl_text.proofs.numbers.is_float_keyword.Goals as goal
 
 pub returns-then-is_of_number : goal.returns-then-is_of_number

@@ -1,5 +1,5 @@
 use Rattle.std.proofs.Common.{ap}
-use Rattle.kdl_text.proofs.DecimalReads.{plain_none, plain_other, plain_no_part, plain_rest, plain_whole, at_end}
+use Rattle.kdl_text.proofs.Numeric.DecimalReads.{plain_none, plain_other, plain_no_part, plain_rest, plain_whole, at_end}
 use Rattle.kdl_text.proofs.numbers.is_plain_decimal.Goals as goal
 
 pub returns-in_default : goal.returns-in_default

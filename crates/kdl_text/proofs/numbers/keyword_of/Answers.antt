@@ -1,6 +1,6 @@
 use Rattle.std.proofs.Common.{refl}
 use Rattle.kdl_text.specs.declared.numbers.Keyword.TheVariants.{True, False, Null, Infinity, NegativeInfinity, NotANumber}
-use Rattle.kdl_text.proofs.Keywords.{word_of, no_keyword}
+use Rattle.kdl_text.proofs.Numeric.KeywordUnique.{word_of, no_keyword}
 use Rattle.kdl_text.proofs.numbers.keyword_of.Goals as goal
 
 pub returns-then-is : goal.returns-then-is

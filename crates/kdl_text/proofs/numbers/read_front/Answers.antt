@@ -1,6 +1,6 @@
-use Rattle.kdl_text.proofs.DecimalReads.{no_front}
-use Rattle.kdl_text.proofs.Going.{moves_then, shorter}
-use Rattle.kdl_text.proofs.WholeNumbers.{shorter_integer}
+use Rattle.kdl_text.proofs.Numeric.DecimalReads.{no_front}
+use Rattle.kdl_text.proofs.Looking.MovesJoin.{moves_then, shorter}
+use Rattle.kdl_text.proofs.Numeric.NumberUnique.{shorter_integer}
 use Rattle.std.proofs.Common.{arith}
 use Rattle.kdl_text.proofs.numbers.read_front.Goals as goal
 

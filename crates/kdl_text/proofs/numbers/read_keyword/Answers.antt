@@ -1,6 +1,6 @@
 use Rattle.std.proofs.Common.{sym, ◌∙◌}
-use Rattle.kdl_text.proofs.Keywords.{keyword_here, keyword_moves}
-use Rattle.kdl_text.proofs.Mosts.{none_most, word_most}
+use Rattle.kdl_text.proofs.Numeric.KeywordUnique.{keyword_here, keyword_moves}
+use Rattle.kdl_text.proofs.Looking.MostCost.{none_most, word_most}
 use Rattle.kdl_text.proofs.numbers.read_keyword.Goals as goal
 
 pub returns-clause-reads : goal.returns-clause-reads

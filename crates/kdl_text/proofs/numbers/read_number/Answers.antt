@@ -1,9 +1,9 @@
 use Rattle.std.proofs.Common.{◌≡◌, ◌++◌, ◌∙◌, sym, ap, subst, lit≤}
 use Rattle.kdl_text.specs.Numbers.{DecimalPart}
-use Rattle.kdl_text.specs.NumberReading.{radix_of}
-use Rattle.kdl_text.proofs.DecimalReads.{front_trails, number_range, whole_costs, front_number, front_other, front_no_part, front_part, reads_number, not_ten, part_moves, part_costs}
-use Rattle.kdl_text.proofs.Going.{moves_then, moves_stayed}
-use Rattle.kdl_text.proofs.Mosts.{more, front_looked, front_all, sliced_most}
+use Rattle.kdl_text.specs.Internal.NumberReading.{radix_of}
+use Rattle.kdl_text.proofs.Numeric.DecimalReads.{front_trails, number_range, whole_costs, front_number, front_other, front_no_part, front_part, reads_number, not_ten, part_moves, part_costs}
+use Rattle.kdl_text.proofs.Looking.MovesJoin.{moves_then, moves_stayed}
+use Rattle.kdl_text.proofs.Looking.MostCost.{more, front_looked, front_all, sliced_most}
 use Rattle.kdl_text.proofs.numbers.read_number.Goals as goal
 
 pub returns-then-is_end-clause-reads : goal.returns-then-is_end-clause-reads

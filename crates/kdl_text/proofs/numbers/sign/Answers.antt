@@ -1,5 +1,5 @@
 use Rattle.std.proofs.Common.{sym, ◌∙◌}
-use Rattle.kdl_text.proofs.NumberReads.{sign_minus, sign_plus, sign_other, sign_at_end}
+use Rattle.kdl_text.proofs.Numeric.NumberReads.{sign_minus, sign_plus, sign_other, sign_at_end}
 use Rattle.kdl_text.proofs.numbers.sign.Goals as goal
 
 pub returns-in-Some-eq45-clause-reads : goal.returns-in-Some-eq45-clause-reads

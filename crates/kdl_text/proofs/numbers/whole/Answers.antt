@@ -1,5 +1,5 @@
 use Rattle.std.proofs.Common.{rules}
-use Rattle.kdl_text.proofs.DecimalReads.{whole_ok, whole_err}
+use Rattle.kdl_text.proofs.Numeric.DecimalReads.{whole_ok, whole_err}
 use mir.Val.{SFits}
 use mir.Syntax.{w128}
 use Rattle.std.proofs.Math.Facts.{to_z-of_z}

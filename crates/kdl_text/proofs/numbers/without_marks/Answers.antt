@@ -1,7 +1,7 @@
 use Rattle.std.proofs.Common.{rules, not, ◌==◌, ◌≡◌, ap, sym, ◌∙◌}
 use Rattle.std.specs.Str.{chars}
 use Rattle.std.proofs.lemmas.List.Elements.{filter_from_retain}
-use Rattle.kdl_text.proofs.DecimalReads.{kept_text, plain_same, is_unmarked}
+use Rattle.kdl_text.proofs.Numeric.DecimalReads.{kept_text, plain_same, is_unmarked}
 use Rattle.kdl_text.proofs.numbers.without_marks.Goals as goal
 
 pub returns : goal.returns

@@ -1,5 +1,5 @@
 use Rattle.std.proofs.Common.{sym, ◌∙◌}
-use Rattle.kdl_text.proofs.Bares.{past_found, past_only, past_none, past_cost, past_costs}
+use Rattle.kdl_text.proofs.Quoted.BareReads.{past_found, past_only, past_none, past_cost, past_costs}
 use Rattle.kdl_text.proofs.strings.bare_string.Goals as goal
 
 pub returns-then-has_bare_form-clause-found : goal.returns-then-has_bare_form-clause-found

@@ -1,5 +1,5 @@
 use Rattle.std.proofs.lemmas.Str.{IsUtf8-string_bytes}
-use Rattle.kdl_text.proofs.Escapes.{unit_pushed}
+use Rattle.kdl_text.proofs.Quoted.EscapeReads.{unit_pushed}
 use Rattle.kdl_text.proofs.strings.escape.Goals as goal
 
 pub returns-in_ok-push-in-Some-clause-found : goal.returns-in_ok-push-in-Some-clause-found

@@ -1,5 +1,5 @@
-use Rattle.kdl_text.proofs.Going.{moves_then, moves_one}
-use Rattle.kdl_text.proofs.Escapes.{number_found, number_none, brace_none, letter_found, letter_none}
+use Rattle.kdl_text.proofs.Looking.MovesJoin.{moves_then, moves_one}
+use Rattle.kdl_text.proofs.Quoted.EscapeReads.{number_found, number_none, brace_none, letter_found, letter_none}
 use Rattle.kdl_text.proofs.strings.escaped_char.Goals as goal
 
 pub returns-then-letter-ne117-clause-found : goal.returns-then-letter-ne117-clause-found

@@ -1,6 +1,6 @@
 use Rattle.std.proofs.Common.{sym, ◌∙◌}
-use Rattle.kdl_text.proofs.Going.{moves_then, moves_one}
-use Rattle.kdl_text.proofs.Escapes.{end_none, blank_found, char_none, unit_at}
+use Rattle.kdl_text.proofs.Looking.MovesJoin.{moves_then, moves_one}
+use Rattle.kdl_text.proofs.Quoted.EscapeReads.{end_none, blank_found, char_none, unit_at}
 use Rattle.kdl_text.proofs.strings.escaped_unit.Goals as goal
 
 pub returns-in_default-clause-only : goal.returns-in_default-clause-only

@@ -1,5 +1,5 @@
 use Rattle.std.proofs.Common.{arith}
-use Rattle.kdl_text.proofs.Hex.{digits_end, digits_none, digits_found, digits_unfound, digits_other, digits_long, digits_moves, digits_room, digits_turn}
+use Rattle.kdl_text.proofs.Quoted.HexLoop.{digits_end, digits_none, digits_found, digits_unfound, digits_other, digits_long, digits_moves, digits_room, digits_turn}
 use Rattle.kdl_text.proofs.strings.hex_number.Goals as goal
 
 pub returns-in_default-clause-none : goal.returns-in_default-clause-none

@@ -1,5 +1,5 @@
 use Rattle.std.proofs.Common.{length}
-use Rattle.kdl_text.proofs.Hex.{Digits}
+use Rattle.kdl_text.proofs.Quoted.HexLoop.{Digits}
 use Rattle.kdl_text.proofs.strings.hex_number.Given as goal
 
 abbrev pub invariant-digits : goal.invariant-digits

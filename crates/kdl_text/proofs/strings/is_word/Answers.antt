@@ -1,4 +1,4 @@
-use Rattle.kdl_text.proofs.Words.{word_test}
+use Rattle.kdl_text.proofs.Quoted.KeywordBares.{word_test}
 use Rattle.kdl_text.proofs.strings.is_word.Goals as goal
 
 pub returns : goal.returns

@@ -1,7 +1,7 @@
 use Rattle.std.proofs.Common.{arith}
 use Rattle.std.proofs.Common.{String, Global}
 use Rattle.kdl_text.specs.declared.strings.StringFailure.{StringFailure}
-use Rattle.kdl_text.proofs.Quoting.{reading_begins, reading_turn, reading_fails, reading_runs_out, reading_unit, failed, reading_ends, reading_over, reading_other, reading_past, failed_early}
+use Rattle.kdl_text.proofs.Quoted.BodyLoop.{reading_begins, reading_turn, reading_fails, reading_runs_out, reading_unit, failed, reading_ends, reading_over, reading_other, reading_past, failed_early}
 use Rattle.kdl_text.proofs.strings.quoted_body.Goals as goal
 
 pub units-init : goal.units-init

@@ -1,6 +1,6 @@
 use Rattle.std.proofs.Common.{length, string_bytes}
 use Rattle.std.specs.Str.{chars}
-use Rattle.kdl_text.proofs.Quoting.{Reading}
+use Rattle.kdl_text.proofs.Quoted.BodyLoop.{Reading}
 use Rattle.kdl_text.proofs.strings.quoted_body.Given as goal
 
 abbrev pub invariant-units : goal.invariant-units

@@ -1,7 +1,7 @@
 use Rattle.std.specs.Prelude.{string_bytes}
 use Rattle.std.specs.Str.{chars}
-use Rattle.kdl_text.proofs.Bodies.{many_found, many_only, one_found, one_only}
-use Rattle.kdl_text.proofs.Opened.{each, opened_many, opened_one}
+use Rattle.kdl_text.proofs.ManyLines.StringReads.{many_found, many_only, one_found, one_only}
+use Rattle.kdl_text.proofs.ManyLines.StringCost.{each, opened_many, opened_one}
 use Rattle.kdl_text.proofs.strings.quoted_string.Goals as goal
 
 pub returns-then-eat_two-clause-found : goal.returns-then-eat_two-clause-found

@@ -1,6 +1,6 @@
 use Rattle.std.proofs.Common.{sym, ◌∙◌}
-use Rattle.kdl_text.specs.Here.{in_class}
-use Rattle.kdl_text.proofs.Slices.{ran_sliced}
+use Rattle.kdl_text.specs.Internal.Here.{in_class}
+use Rattle.kdl_text.proofs.Looking.SliceCost.{ran_sliced}
 use Rattle.kdl_text.proofs.strings.run_of.Goals as goal
 
 pub returns-clause-run : goal.returns-clause-run

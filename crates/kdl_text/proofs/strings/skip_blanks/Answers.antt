@@ -1,5 +1,5 @@
 use Rattle.std.proofs.Common.{sym, ◌∙◌}
-use Rattle.kdl_text.proofs.Blanks.{blank_turn}
+use Rattle.kdl_text.proofs.Quoted.EscapedSpaceLoop.{blank_turn}
 use Rattle.kdl_text.proofs.strings.skip_blanks.Goals as goal
 
 pub blanks-preserved : goal.blanks-preserved

@@ -1,5 +1,5 @@
 use Rattle.std.proofs.Common.{length}
-use Rattle.kdl_text.proofs.Blanks.{Blank}
+use Rattle.kdl_text.proofs.Quoted.EscapedSpaceLoop.{Blank}
 use Rattle.kdl_text.proofs.strings.skip_blanks.Given as goal
 
 abbrev pub invariant-blanks : goal.invariant-blanks

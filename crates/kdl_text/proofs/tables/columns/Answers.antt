@@ -1,4 +1,4 @@
-use Rattle.kdl_text.proofs.Vectors.{low_ok, columns_are}
+use Rattle.kdl_text.proofs.Looking.Vectors.{low_ok, columns_are}
 use Rattle.kdl_text.proofs.tables.columns.Goals as goal
 
 pub swizzle : goal.swizzle

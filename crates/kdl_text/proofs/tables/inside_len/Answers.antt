@@ -1,6 +1,6 @@
 use Rattle.std.proofs.Common.{arith}
-use Rattle.kdl_text.specs.Tables.{outside}
-use Rattle.kdl_text.proofs.Vectors.{none_outside, first_found}
+use Rattle.kdl_text.specs.Internal.Tables.{outside}
+use Rattle.kdl_text.proofs.Looking.Vectors.{none_outside, first_found}
 use Rattle.kdl_text.proofs.tables.inside_len.Goals as goal
 
 pub returns-then-found-ne0 : goal.returns-then-found-ne0

@@ -1,5 +1,5 @@
 use Rattle.std.proofs.Common.{◌≡◌, ℕ, ◌-◌, ◌<◌, ◌≤◌, false, length, get_or}
-use Rattle.kdl_text.specs.Tables.{outside}
+use Rattle.kdl_text.specs.Internal.Tables.{outside}
 use Rattle.kdl_text.proofs.tables.inside_len.Given as goal
 
 abbrev pub invariant-vectors : goal.invariant-vectors

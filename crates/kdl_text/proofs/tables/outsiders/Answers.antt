@@ -1,4 +1,4 @@
-use Rattle.kdl_text.proofs.Vectors.{outsiders_are}
+use Rattle.kdl_text.proofs.Looking.Vectors.{outsiders_are}
 use Rattle.kdl_text.proofs.tables.outsiders.Goals as goal
 
 pub returns : goal.returns

@@ -1,4 +1,4 @@
-use Rattle.kdl_text.proofs.Vectors.{high_ok, rows_are}
+use Rattle.kdl_text.proofs.Looking.Vectors.{high_ok, rows_are}
 use Rattle.kdl_text.proofs.tables.rows.Goals as goal
 
 pub swizzle : goal.swizzle

@@ -1,6 +1,6 @@
 use Rattle.std.proofs.Common.{arith}
-use Rattle.kdl_text.proofs.Going.{moves_then, moves_two}
-use Rattle.kdl_text.proofs.TriviaRuns.{ate_two_here, block_reads, two_costs}
+use Rattle.kdl_text.proofs.Looking.MovesJoin.{moves_then, moves_two}
+use Rattle.kdl_text.proofs.Spacing.SpaceReads.{ate_two_here, block_reads, two_costs}
 use Rattle.kdl_text.proofs.trivia.block_comment.Goals as goal
 
 pub returns-clause-reads : goal.returns-clause-reads

@@ -1,5 +1,5 @@
 use Rattle.std.proofs.Common.{arith}
-use Rattle.kdl_text.proofs.Turns.{starts, after_open, after_close, after_run, after_slash, after_star, after_all, after_end}
+use Rattle.kdl_text.proofs.Spacing.CommentLoop.{starts, after_open, after_close, after_run, after_slash, after_star, after_all, after_end}
 use Rattle.kdl_text.proofs.trivia.block_end.Goals as goal
 
 pub parts-init : goal.parts-init

@@ -1,5 +1,5 @@
 use Rattle.std.proofs.Common.{length}
-use Rattle.kdl_text.proofs.Turns.{Inside}
+use Rattle.kdl_text.proofs.Spacing.CommentLoop.{Inside}
 use Rattle.kdl_text.proofs.trivia.block_end.Given as goal
 
 abbrev pub invariant-parts : goal.invariant-parts

@@ -1,7 +1,7 @@
 use Rattle.std.proofs.Common.{arith}
-use Rattle.kdl_text.proofs.Going.{moves_then}
-use Rattle.kdl_text.proofs.TriviaSpaces.{esc_read, esc_unclosed, esc_none, esc_moves, esc_costs, both_costs}
-use Rattle.kdl_text.proofs.TriviaRuns.{ate_here}
+use Rattle.kdl_text.proofs.Looking.MovesJoin.{moves_then}
+use Rattle.kdl_text.proofs.Spacing.EsclineReads.{esc_read, esc_unclosed, esc_none, esc_moves, esc_costs, both_costs}
+use Rattle.kdl_text.proofs.Spacing.SpaceReads.{ate_here}
 use Rattle.kdl_text.proofs.trivia.escline.Goals as goal
 
 pub returns-in-Err-clause-reads : goal.returns-in-Err-clause-reads

@@ -1,5 +1,5 @@
-use Rattle.kdl_text.proofs.Going.{moves_then, moves_two, moves_stayed}
-use Rattle.kdl_text.proofs.TriviaRuns.{end_comment, end_newline, end_text, end_none}
+use Rattle.kdl_text.proofs.Looking.MovesJoin.{moves_then, moves_two, moves_stayed}
+use Rattle.kdl_text.proofs.Spacing.SpaceReads.{end_comment, end_newline, end_text, end_none}
 use Rattle.kdl_text.proofs.trivia.escline_end.Goals as goal
 
 pub returns-then-eat_two-clause-reads : goal.returns-then-eat_two-clause-reads

@@ -1,5 +1,5 @@
-use Rattle.kdl_text.proofs.Going.{moves_then}
-use Rattle.kdl_text.proofs.TriviaRuns.{line_ran, line_costs, moves_ran}
+use Rattle.kdl_text.proofs.Looking.MovesJoin.{moves_then}
+use Rattle.kdl_text.proofs.Spacing.SpaceReads.{line_ran, line_costs, moves_ran}
 use Rattle.kdl_text.proofs.trivia.line_end.Goals as goal
 
 pub returns : goal.returns

@@ -1,6 +1,6 @@
 use Rattle.std.proofs.Common.{arith, refl, true}
-use Rattle.kdl_text.proofs.Going.{moves_then, moves_two, moves_stayed}
-use Rattle.kdl_text.proofs.TriviaRuns.{block_reads, opens_here, two_costs, stayed_costs, stayed_line}
+use Rattle.kdl_text.proofs.Looking.MovesJoin.{moves_then, moves_two, moves_stayed}
+use Rattle.kdl_text.proofs.Spacing.SpaceReads.{block_reads, opens_here, two_costs, stayed_costs, stayed_line}
 use Rattle.kdl_text.proofs.trivia.slash.Goals as goal
 
 pub returns-then-block_end-clause-reads : goal.returns-then-block_end-clause-reads

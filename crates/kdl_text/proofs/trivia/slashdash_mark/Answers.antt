@@ -1,4 +1,4 @@
-use Rattle.kdl_text.proofs.TriviaRuns.{moves_ate_two}
+use Rattle.kdl_text.proofs.Spacing.SpaceReads.{moves_ate_two}
 use Rattle.kdl_text.proofs.trivia.slashdash_mark.Goals as goal
 
 pub returns-clause-moves : goal.returns-clause-moves

@@ -1,4 +1,4 @@
-use Rattle.kdl_text.proofs.TriviaRuns.{spaces_ran, moves_ran, costs_ran}
+use Rattle.kdl_text.proofs.Spacing.SpaceReads.{spaces_ran, moves_ran, costs_ran}
 use Rattle.kdl_text.proofs.trivia.spaces.Goals as goal
 
 pub returns : goal.returns

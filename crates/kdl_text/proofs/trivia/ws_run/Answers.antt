@@ -1,4 +1,4 @@
-use Rattle.kdl_text.proofs.TriviaRuns.{begun, run_stops, run_unclosed, run_turn}
+use Rattle.kdl_text.proofs.Spacing.SpaceReads.{begun, run_stops, run_unclosed, run_turn}
 use Rattle.kdl_text.proofs.trivia.ws_run.Goals as goal
 
 pub run-init : goal.run-init

@@ -1,5 +1,5 @@
 use Rattle.std.proofs.Common.{length}
-use Rattle.kdl_text.proofs.TriviaRuns.{Running}
+use Rattle.kdl_text.proofs.Spacing.SpaceReads.{Running}
 use Rattle.kdl_text.proofs.trivia.ws_run.Given as goal
 
 abbrev pub invariant-run : goal.invariant-run

@@ -1,5 +1,5 @@
 use Rattle.std.proofs.Common.{◌<◌, length, sym, arith}
-use Rattle.kdl_tool.proofs.Digits.{one_long, one_put, next_long, next_put}
+use Rattle.kdl_tool.proofs.DecimalDigits.{one_long, one_put, next_long, next_put}
 use Rattle.kdl_tool.proofs.tool.+put_decimal.Goals as goal
 
 pub bounds-buffer-0 : goal.bounds-buffer-0

@@ -1,5 +1,5 @@
 use Rattle.std.proofs.Common.{[], ◌∷◌, ◌∙◌, ap, sym, arith, codes, string_bytes}
-use Rattle.kdl_tool.proofs.Steps.{alone, same_word, two}
+use Rattle.kdl_tool.proofs.LoopSteps.{alone, same_word, two}
 use Rattle.kdl_tool.proofs.tool.command_of.Goals as goal
 
 pub returns-then-eq : goal.returns-then-eq

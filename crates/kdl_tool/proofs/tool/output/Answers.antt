@@ -2,8 +2,8 @@ use Rattle.std.proofs.Common.{Some, ◌∙◌, ap}
 use Rattle.std.specs.Prelude.{encode_utf8_all}
 use Rattle.std.proofs.lemmas.Str.{encodes-chars}
 use Rattle.kdl_tool.specs.Commands.{asked_by}
-use Rattle.kdl.proofs.Kept.{laid_keeps_none}
-use Rattle.kdl_tool.proofs.Steps.{laid_out_is, written_is}
+use Rattle.kdl.proofs.FormKept.{laid_keeps_none}
+use Rattle.kdl_tool.proofs.LoopSteps.{laid_out_is, written_is}
 use Rattle.kdl_tool.proofs.tool.output.Goals as goal
 
 pub returns-in-Cat-clause-output : goal.returns-in-Cat-clause-output

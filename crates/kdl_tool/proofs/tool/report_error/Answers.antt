@@ -1,5 +1,5 @@
 use Rattle.kdl_tool.specs.Reports.{diagnostic_line}
-use Rattle.kdl_tool.proofs.Steps.{stopped}
+use Rattle.kdl_tool.proofs.LoopSteps.{stopped}
 use Rattle.kdl_tool.proofs.tool.report_error.Goals as goal
 
 pub returns-then-not-report_diagnostic : goal.returns-then-not-report_diagnostic

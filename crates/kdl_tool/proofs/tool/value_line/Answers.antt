@@ -1,7 +1,7 @@
 use Rattle.std.proofs.Common.{[], ◌∷◌, ◌++◌, Some, ◌∙◌, ap}
 use lib.Utf8.{encode}
 use Rattle.kdl_tool.specs.Commands.{value_line}
-use Rattle.kdl_tool.proofs.Found.{first_argument_found}
+use Rattle.kdl_tool.proofs.FoundValues.{first_argument_found}
 use Rattle.kdl_tool.proofs.tool.value_line.Goals as goal
 
 pub returns-in_default : goal.returns-in_default

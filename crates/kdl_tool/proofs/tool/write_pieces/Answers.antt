@@ -1,5 +1,5 @@
 use Rattle.std.proofs.Common.{[], get_or, rules}
-use Rattle.kdl_tool.proofs.Steps.{stopped}
+use Rattle.kdl_tool.proofs.LoopSteps.{stopped}
 use Rattle.kdl_tool.proofs.tool.write_pieces.Goals as goal
 
 pub returns-then-not-write_whole : goal.returns-then-not-write_whole

@@ -1,5 +1,5 @@
 use Rattle.std.proofs.Output.{has_written_of_eq}
-use Rattle.kdl_value.proofs.Printing.{char_bytes}
+use Rattle.kdl_value.proofs.Spelling.PrintedTexts.{char_bytes}
 use Rattle.kdl_value.proofs.print.write_char.Goals as goal
 
 pub returns : goal.returns

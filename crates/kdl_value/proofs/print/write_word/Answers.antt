@@ -1,7 +1,7 @@
 use Rattle.std.proofs.Common.{sym}
 use Rattle.std.proofs.Output.{has_written_of_eq}
 use Rattle.std.proofs.lemmas.Str.{encodes-IsAscii}
-use Rattle.kdl_value.proofs.Spellings.{IsAscii-from_test}
+use Rattle.kdl_value.proofs.Spelling.SpellingBytes.{IsAscii-from_test}
 use Rattle.kdl_value.proofs.print.write_word.Goals as goal
 
 pub returns : goal.returns

@@ -1,4 +1,4 @@
-use Rattle.kdl_value.proofs.Escapes.{boundary, front, front_as_is, rest_shorter}
+use Rattle.kdl_value.proofs.Spelling.PlainRuns.{boundary, front, front_as_is, rest_shorter}
 use Rattle.kdl_value.proofs.spelled.before.Goals as goal
 
 pub range-requires-clause-end_boundary : goal.range-requires-clause-end_boundary

@@ -1,5 +1,5 @@
 use Rattle.std.proofs.Common.{◌∙◌}
-use Rattle.kdl_value.proofs.Spellings.{bytes_eq-chars}
+use Rattle.kdl_value.proofs.Spelling.SpellingBytes.{bytes_eq-chars}
 use Rattle.kdl_value.proofs.spelled.is_text.Goals as goal
 
 pub returns : goal.returns

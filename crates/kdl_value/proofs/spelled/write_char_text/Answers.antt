@@ -2,7 +2,7 @@ use Rattle.std.proofs.Common.{◌≡◌, arith, true, ◌||◌}
 use Rattle.std.proofs.lemmas.Grind.{common_steps}
 use Rattle.std.proofs.Output.{has_written_of_eq}
 use Rattle.kdl_text.specs.Chars.{is_newline_char, is_banned}
-use Rattle.kdl_value.proofs.Spellings.{coded_bytes}
+use Rattle.kdl_value.proofs.Spelling.SpellingBytes.{coded_bytes}
 use Rattle.kdl_value.proofs.spelled.write_char_text.Goals as goal
 
 pub returns-then-is_banned : goal.returns-then-is_banned

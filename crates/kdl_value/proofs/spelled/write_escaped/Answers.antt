@@ -2,7 +2,7 @@ use Rattle.std.proofs.Common.{◌++◌, rules}
 use Rattle.std.specs.Str.{chars, encode_utf8_all}
 use Rattle.std.proofs.Output.{has_written_append, has_written_of_eq}
 use Rattle.kdl_value.specs.Spelled.{char_text}
-use Rattle.kdl_value.proofs.Escapes.{escaped-run, escaped-end}
+use Rattle.kdl_value.proofs.Spelling.PlainRuns.{escaped-run, escaped-end}
 use Rattle.kdl_value.proofs.spelled.write_escaped.Goals as goal
 
 pub runs-preserved : goal.runs-preserved

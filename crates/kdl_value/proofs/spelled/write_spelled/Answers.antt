@@ -1,6 +1,6 @@
 use Rattle.std.proofs.Common.{sym, ◌∙◌, rules}
 use Rattle.std.proofs.Output.{has_written_append, has_written_of_eq}
-use Rattle.kdl_value.proofs.Spellings.{bare_bytes, quoted_bytes}
+use Rattle.kdl_value.proofs.Spelling.SpellingBytes.{bare_bytes, quoted_bytes}
 use Rattle.kdl_value.proofs.spelled.write_spelled.Goals as goal
 
 pub returns-then-prints_bare : goal.returns-then-prints_bare

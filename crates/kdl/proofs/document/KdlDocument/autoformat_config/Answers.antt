@@ -1,6 +1,6 @@
 use Rattle.kdl.specs.Tree.{document_tree}
 use Rattle.kdl_fmt.specs.Config.{settings}
-use Rattle.kdl.proofs.Layouts.{same_data, plain, unmarked, derived, comments, prints, reads}
+use Rattle.kdl.proofs.LayOut.LayoutCalls.{same_data, plain, unmarked, derived, comments, prints, reads}
 use Rattle.kdl.proofs.document.KdlDocument.autoformat_config.Goals as goal
 
 pub returns-clause-data : goal.returns-clause-data

@@ -1,7 +1,7 @@
 use Rattle.std.proofs.Common.{ap, inl, length, option_and_then, option_map, position, sym, ◌∙◌}
 use Rattle.std.proofs.lemmas.Option.{slice_get_read}
 use Rattle.kdl.specs.DocumentLookups.{first_argument, is_node_named, nodes_of, with_argument_in, with_argument_there}
-use Rattle.kdl.proofs.DocumentLookups.{found_is}
+use Rattle.kdl.proofs.Finding.DocumentLookups.{found_is}
 use Rattle.kdl.proofs.document.KdlDocument.get_arg_mut.Goals as goal
 
 pub returns-in-Some : goal.returns-in-Some

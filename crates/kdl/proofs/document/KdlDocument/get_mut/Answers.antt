@@ -1,7 +1,7 @@
 use Rattle.std.proofs.Common.{ap, inl, length, position, refl, sym, ◌∙◌}
 use Rattle.std.proofs.lemmas.Option.{slice_get_read}
 use Rattle.kdl.specs.DocumentLookups.{is_node_named, nodes_of, with_node_there}
-use Rattle.kdl.proofs.DocumentLookups.{found_is, none_there}
+use Rattle.kdl.proofs.Finding.DocumentLookups.{found_is, none_there}
 use Rattle.kdl.proofs.document.KdlDocument.get_mut.Goals as goal
 
 pub returns-in-Some : goal.returns-in-Some

@@ -1,12 +1,12 @@
 use Rattle.std.proofs.Common.{rules, option_map, map, ap, subst, ◌∙◌}
 use Rattle.std.specs.List.{AllZip}
 use Rattle.kdl_parts.specs.Formats.{document_format_tree}
-use Rattle.kdl.specs.Laid.{Laid}
+use Rattle.kdl.specs.Internal.Laid.{Laid}
 use Rattle.kdl.specs.Tree.{node_tree, nodes_tree}
 use Rattle.kdl.specs.declared.document.KdlDocument.TheViews.{the_lemmas, out-KdlDocument, out-roll-KdlDocument}
 use Rattle.kdl_fmt.specs.Config.{settings}
 use Rattle.kdl_fmt.specs.Formatted.{bare_node}
-use Rattle.kdl.proofs.Laying.{if_ok, none_there, same_content, laid_content, nodes_fit, fitting_document}
+use Rattle.kdl.proofs.LayOut.PartsLaid.{if_ok, none_there, same_content, laid_content, nodes_fit, fitting_document}
 use Rattle.kdl.proofs.document.KdlDocument.lay_out.Goals as goal
 
 pub returns-clause-kept : goal.returns-clause-kept

@@ -1,12 +1,12 @@
 use Rattle.std.specs.Str.{chars}
-use Rattle.kdl.proofs.Readings.{kept, former, edited}
+use Rattle.kdl.proofs.ParseAnswers.{kept, former, edited}
 use Rattle.kdl.proofs.document.KdlDocument.parse_counted.Goals as goal
 
 pub returns-clause-kept : goal.returns-clause-kept
-returns-clause-kept c x i s = kept (chars c.args.text.now) x (c.read.ensures.refused s) i
+returns-clause-kept c x i s = kept (chars c.args.text.now) x (c.parse_from.ensures.refused s) i
 
 pub returns-clause-former : goal.returns-clause-former
-returns-clause-former c x i = former (chars c.args.text.now) c.read.result x c.read.ensures.answers i
+returns-clause-former c x i = former (chars c.args.text.now) c.parse_from.result x c.parse_from.ensures.answers i
 
 pub returns-clause-edited : goal.returns-clause-edited
-returns-clause-edited c = edited (chars c.args.text.now) c.read.result c.read.ensures.answers
+returns-clause-edited c = edited (chars c.args.text.now) c.parse_from.result c.parse_from.ensures.answers

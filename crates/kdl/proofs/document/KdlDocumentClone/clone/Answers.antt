@@ -1,5 +1,5 @@
 use Rattle.std.proofs.Common.{ap, ◌∙◌, sym, map, option_map}
-use Rattle.kdl_grammar.specs.Tree.{document, nodes_of}
+use Rattle.kdl_grammar.specs.Tree.{document, listed_nodes}
 use Rattle.kdl_parts.specs.Formats.{document_format_tree}
 use Rattle.kdl.specs.Tree.{node_tree}
 use Rattle.kdl.specs.declared.document.KdlDocument.TheViews.{out-KdlDocument}
@@ -11,6 +11,6 @@ returns c =
     let d = out-KdlDocument c.args.self.now in
     record {
       cases = c.in_ok-copy.ensures
-          ∙ ap (λ ns. document (option_map document_format_tree d.format) d.span (nodes_of ns)) (c.in_ok-nodes.ensures ∙ ap (map node_tree) c.deref.ensures.value)
+          ∙ ap (λ ns. document (option_map document_format_tree d.format) d.span (listed_nodes ns)) (c.in_ok-nodes.ensures ∙ ap (map node_tree) c.deref.ensures.value)
           ∙ sym (document_tree_out c.args.self.now);
     }

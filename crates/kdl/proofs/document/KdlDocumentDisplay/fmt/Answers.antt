@@ -1,7 +1,7 @@
 use Rattle.std.proofs.Common.{arith}
 use Rattle.std.proofs.lemmas.Grind.{common_steps}
 use Rattle.std.proofs.lemmas.Str.{encodes-append}
-use Rattle.kdl.proofs.Printing.{document_printed}
+use Rattle.kdl.proofs.Printing.PrintedParts.{document_printed}
 use Rattle.kdl.proofs.document.KdlDocumentDisplay.fmt.Goals as goal
 
 pub returns-clause-writes : goal.returns-clause-writes

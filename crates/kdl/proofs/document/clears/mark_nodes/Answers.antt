@@ -1,5 +1,5 @@
 use Rattle.std.proofs.Common.{arith}
-use Rattle.kdl.specs.Due.{due}
+use Rattle.kdl.specs.Internal.Due.{due}
 use Rattle.kdl.specs.Tree.{node_tree}
 use Rattle.kdl_parts.proofs.Loops.{changed_more, changed_all}
 use Rattle.kdl.proofs.document.clears.mark_nodes.Goals as goal

@@ -1,5 +1,5 @@
 use Rattle.std.proofs.Common.{map}
-use Rattle.kdl.specs.Due.{due}
+use Rattle.kdl.specs.Internal.Due.{due}
 use Rattle.kdl.specs.Tree.{node_tree}
 use Rattle.kdl_parts.proofs.Loops.{Changed}
 use Rattle.kdl.proofs.document.clears.mark_nodes.Given as goal

@@ -1,5 +1,5 @@
 use Rattle.std.proofs.Common.{◌∙◌}
-use Rattle.kdl.proofs.DocumentLookups.{named_compared}
+use Rattle.kdl.proofs.Finding.DocumentLookups.{named_compared}
 use Rattle.kdl.proofs.document.lookup.is_named.Goals as goal
 
 pub returns : goal.returns

@@ -1,7 +1,7 @@
 use Rattle.std.proofs.Common.{ap, length, option_and_then, refl}
 use Rattle.std.proofs.lemmas.Option.{slice_get_read}
 use Rattle.kdl.specs.DocumentLookups.{first_argument, is_node_named}
-use Rattle.kdl.proofs.DocumentLookups.{argument_absent, none_there}
+use Rattle.kdl.proofs.Finding.DocumentLookups.{argument_absent, none_there}
 use Rattle.kdl.proofs.document.lookup.place_with_argument.Goals as goal
 
 pub returns-in_default-clause-absent : goal.returns-in_default-clause-absent

@@ -1,8 +1,8 @@
 use Rattle.std.proofs.Common.{rules, refl, sym, subst, ap, ◌≡◌, ◌∙◌, ◌<◌, map}
-use Rattle.kdl.specs.Laid.{IsUnderWay, left, whole}
+use Rattle.kdl.specs.Internal.Laid.{IsUnderWay, left, whole}
 use Rattle.kdl_fmt.specs.Config.{settings}
 use Rattle.kdl_fmt.specs.Formatted.{bare_node}
-use Rattle.kdl.proofs.Blocks.{all_done}
+use Rattle.kdl.proofs.LayOut.BlockSteps.{all_done}
 use Rattle.kdl.proofs.lays.Blocks.lay_out.Goals as goal
 
 pub steps-init : goal.steps-init

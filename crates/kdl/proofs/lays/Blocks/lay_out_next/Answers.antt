@@ -4,9 +4,9 @@ use Rattle.std.specs.Vec.{with_item}
 use Rattle.kdl_fmt.specs.Config.{settings}
 use Rattle.kdl_fmt.specs.Formatted.{bare_node}
 use Rattle.kdl_value.specs.Tree.{text_of}
-use Rattle.kdl.specs.Laid.{GoesOn, whole}
+use Rattle.kdl.specs.Internal.Laid.{GoesOn, whole}
 use Rattle.kdl.specs.declared.lays.Block.{Block}
-use Rattle.kdl.proofs.Blocks.{bare_next, line_goes_on, bare_block_next, block_goes_on}
+use Rattle.kdl.proofs.LayOut.BlockSteps.{bare_next, line_goes_on, bare_block_next, block_goes_on}
 use Rattle.kdl.proofs.lays.Blocks.lay_out_next.Goals as goal
 
 pub returns-in_err-lay_out_own-clause-kept : goal.returns-in_err-lay_out_own-clause-kept

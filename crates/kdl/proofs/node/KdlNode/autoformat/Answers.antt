@@ -1,12 +1,13 @@
 use Rattle.std.proofs.Common.{rules, true}
 use Rattle.kdl.specs.Tree.{node_tree}
+use Rattle.kdl.specs.Layout.{NodeCommentsStay}
 use Rattle.kdl_fmt.specs.Config.{settings}
 use Rattle.kdl_fmt.specs.Formatted.{NodeKeepsNone}
 use Rattle.kdl_grammar.specs.Data as data'
 use Rattle.kdl_grammar.specs.Grammar.{IsDocument}
 use Rattle.kdl_grammar.specs.Print.{print_node}
 use Rattle.kdl_grammar.specs.Tree.{node_data}
-use Rattle.kdl.proofs.Layouts.{default_formatted_node, default_derived}
+use Rattle.kdl.proofs.LayOut.LayoutCalls.{default_formatted_node, default_derived, default_comments}
 use Rattle.kdl.proofs.node.KdlNode.autoformat.Goals as goal
 
 pub returns-clause-formatted : goal.returns-clause-formatted
@@ -17,3 +18,8 @@ pub returns-clause-derived : goal.returns-clause-derived
 returns-clause-derived c =
     default_derived c.autoformat_config.result (settings c.build-config.result) (NodeKeepsNone (node_tree c.args.self.now))
     (IsDocument true (print_node (node_tree c.autoformat_config.new.self) 0) (data'.first (node_data (node_tree c.args.self.now)) data'.none)) (search rules) c.autoformat_config.ensures.derived
+
+pub returns-clause-comments : goal.returns-clause-comments
+returns-clause-comments c =
+    default_comments c.autoformat_config.result (settings c.build-config.result) (NodeKeepsNone (node_tree c.args.self.now))
+    (NodeCommentsStay (node_tree c.args.self.now) (print_node (node_tree c.autoformat_config.new.self) 0)) (search rules) c.autoformat_config.ensures.comments

@@ -1,6 +1,6 @@
 use Rattle.kdl.specs.Tree.{node_tree}
 use Rattle.kdl_fmt.specs.Config.{settings}
-use Rattle.kdl.proofs.Layouts.{same_node_data, node_plain, node_unmarks, node_derives, node_prints, node_reads}
+use Rattle.kdl.proofs.LayOut.LayoutCalls.{same_node_data, node_plain, node_unmarks, node_derives, node_comments, node_prints, node_reads}
 use Rattle.kdl.proofs.node.KdlNode.autoformat_config.Goals as goal
 
 pub returns-clause-data : goal.returns-clause-data
@@ -17,6 +17,10 @@ returns-clause-unmarked c =
 pub returns-clause-derived : goal.returns-clause-derived
 returns-clause-derived c =
     node_derives c.lay_out.result (settings c.args.config.now) c.args.config.now.indent_level (node_tree c.lay_out.new.self) (node_tree c.args.self.now) c.lay_out.ensures.formatted c.lay_out.ensures.well_formed
+
+pub returns-clause-comments : goal.returns-clause-comments
+returns-clause-comments c =
+    node_comments c.lay_out.result (settings c.args.config.now) c.args.config.now.indent_level (node_tree c.lay_out.new.self) (node_tree c.args.self.now) c.lay_out.ensures.formatted c.lay_out.ensures.well_formed
 
 pub returns-clause-prints : goal.returns-clause-prints
 returns-clause-prints c =

@@ -1,5 +1,5 @@
 use Rattle.std.proofs.Common.{refl}
-use Rattle.kdl.proofs.Lookups.{written, value_found}
+use Rattle.kdl.proofs.Finding.NodeLookups.{written, value_found}
 use Rattle.kdl.proofs.node.KdlNode.get_or_null_mut.Goals as goal
 
 pub returns : goal.returns

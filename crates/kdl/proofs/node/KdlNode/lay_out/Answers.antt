@@ -1,11 +1,11 @@
 use Rattle.std.proofs.Common.{rules, sym, ap, ◌∙◌, map}
-use Rattle.kdl.specs.Laid.{block_nodes, nodes_in}
+use Rattle.kdl.specs.Iterators.{child_nodes, nodes_in}
 use Rattle.kdl.specs.Tree.{node_tree}
 use Rattle.kdl.specs.declared.document.KdlDocument.TheViews.{out-KdlNode, roll-KdlNode, out-roll-KdlNode}
 use Rattle.kdl_fmt.specs.Config.{settings}
 use Rattle.kdl_fmt.specs.Formatted.{bare_node}
-use Rattle.kdl.proofs.Blocks.{node_is, node_below, laid_below, bare_filled}
-use Rattle.kdl.proofs.Laying.{if_ok}
+use Rattle.kdl.proofs.LayOut.BlockSteps.{node_is, node_below, laid_below, bare_filled}
+use Rattle.kdl.proofs.LayOut.PartsLaid.{if_ok}
 use Rattle.kdl.proofs.node.KdlNode.lay_out.Goals as goal
 
 pub returns-clause-kept : goal.returns-clause-kept
@@ -14,7 +14,7 @@ returns-clause-kept c =
     let o = c.lay_out_below.new.children in
     let fields = record (out-KdlNode n) { children = o } in
     ap bare_node (node_below n (roll-KdlNode fields) o (out-roll-KdlNode fields) c.lay_out_below.ensures.block)
-    ∙ bare_filled n (map node_tree (nodes_in o)) (map node_tree (block_nodes n)) c.lay_out_below.ensures.kept
+    ∙ bare_filled n (map node_tree (nodes_in o)) (map node_tree (child_nodes n)) c.lay_out_below.ensures.kept
     ∙ sym (ap bare_node (node_is n))
     ∙ c.lay_out_own.ensures.kept
 

@@ -1,5 +1,5 @@
 use Rattle.std.specs.Str.{chars}
-use Rattle.kdl.proofs.Readings.{node_kept, node_former}
+use Rattle.kdl.proofs.ParseAnswers.{node_kept, node_former}
 use Rattle.kdl.proofs.node.KdlNode.parse.Goals as goal
 
 pub returns-clause-kept : goal.returns-clause-kept

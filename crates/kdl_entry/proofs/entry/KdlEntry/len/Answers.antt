@@ -1,5 +1,5 @@
 use Rattle.std.proofs.Common.{◌∙◌}
-use Rattle.kdl_value.proofs.Printing.{printed_len}
+use Rattle.kdl_value.proofs.Spelling.PrintedTexts.{printed_len}
 use Rattle.kdl_entry.proofs.entry.KdlEntry.len.Goals as goal
 
 pub returns : goal.returns

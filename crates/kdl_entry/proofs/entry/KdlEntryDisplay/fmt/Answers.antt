@@ -1,5 +1,5 @@
 use Rattle.std.proofs.Common.{rules}
-use Rattle.kdl_value.proofs.Printing.{no_chars, then_writes}
+use Rattle.kdl_value.proofs.Spelling.PrintedTexts.{no_chars, then_writes}
 use Rattle.kdl_entry.proofs.entry.KdlEntryDisplay.fmt.Goals as goal
 
 pub returns-in_ok-write_text-in-Some-3-clause-writes : goal.returns-in_ok-write_text-in-Some-3-clause-writes

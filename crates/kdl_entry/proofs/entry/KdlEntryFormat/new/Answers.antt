@@ -1,4 +1,4 @@
-use Rattle.kdl_value.proofs.Printing.{no_chars}
+use Rattle.kdl_value.proofs.Spelling.PrintedTexts.{no_chars}
 use Rattle.kdl_entry.proofs.entry.KdlEntryFormat.new.Goals as goal
 
 pub returns : goal.returns

@@ -1,4 +1,4 @@
-use Rattle.kdl_value.proofs.Printing.{printed_empty}
+use Rattle.kdl_value.proofs.Spelling.PrintedTexts.{printed_empty}
 use Rattle.kdl_entry.proofs.identifier.KdlIdentifier.is_empty.Goals as goal
 
 pub returns : goal.returns

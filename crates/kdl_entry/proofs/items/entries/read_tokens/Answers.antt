@@ -1,4 +1,4 @@
-use Rattle.kdl_entry.proofs.EntryTurns.{next_going, no_end}
+use Rattle.kdl_entry.proofs.Reading.EntryLoop.{next_going, no_end}
 use Rattle.kdl_entry.proofs.items.entries.read_tokens.Goals as goal
 
 pub tokens-preserved : goal.tokens-preserved

@@ -1,6 +1,6 @@
 use Rattle.std.proofs.Common.{length}
-use Rattle.kdl_entry.specs.EntryReading.{state_view}
-use Rattle.kdl_entry.proofs.EntryTurns.{Going}
+use Rattle.kdl_entry.specs.Internal.EntryReading.{state_view}
+use Rattle.kdl_entry.proofs.Reading.EntryLoop.{Going}
 use Rattle.kdl_entry.proofs.items.entries.read_tokens.Given as goal
 
 abbrev pub invariant-tokens : goal.invariant-tokens

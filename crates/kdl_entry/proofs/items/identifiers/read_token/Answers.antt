@@ -1,5 +1,5 @@
 use Rattle.std.proofs.Common.{refl}
-use Rattle.kdl_entry.proofs.IdentifierTurns.{no_token_told, empty_told, other_told, more_told, whole_laid}
+use Rattle.kdl_entry.proofs.Reading.IdentifierToken.{no_token_told, empty_told, other_told, more_told, whole_laid}
 use Rattle.kdl_entry.proofs.items.identifiers.read_token.Goals as goal
 
 pub returns-in-Ok-None : goal.returns-in-Ok-None

@@ -1,4 +1,4 @@
-use Rattle.kdl_entry.proofs.Counting.{piece_sliced}
+use Rattle.kdl_entry.proofs.Lexing.SliceCost.{piece_sliced}
 use Rattle.kdl_entry.proofs.items.item.text_between.Goals as goal
 
 pub returns-clause-sliced : goal.returns-clause-sliced

@@ -1,5 +1,6 @@
 use Rattle.std.proofs.Common.{arith}
-use Rattle.kdl_entry.proofs.Handing.{no_bare_here, faulty_costs}
+use Rattle.kdl_entry.proofs.Lexing.TokenCost.{faulty_costs}
+use Rattle.kdl_entry.proofs.Lexing.TokenReads.{no_bare_here}
 use Rattle.kdl_entry.proofs.items.lexer.bare_token.Goals as goal
 
 pub returns-in-None-clause-read : goal.returns-in-None-clause-read

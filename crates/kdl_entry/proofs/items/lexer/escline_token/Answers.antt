@@ -1,4 +1,4 @@
-use Rattle.kdl_entry.proofs.Handing.{no_escline_here}
+use Rattle.kdl_entry.proofs.Lexing.TokenReads.{no_escline_here}
 use Rattle.kdl_entry.proofs.items.lexer.escline_token.Goals as goal
 
 pub returns-in-Err-clause-read : goal.returns-in-Err-clause-read

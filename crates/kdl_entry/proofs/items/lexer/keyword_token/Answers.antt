@@ -1,5 +1,6 @@
 use Rattle.std.proofs.Common.{arith}
-use Rattle.kdl_entry.proofs.Handing.{a_keyword_here, no_keyword_here, keyword_costs, faulty_costs}
+use Rattle.kdl_entry.proofs.Lexing.TokenCost.{faulty_costs}
+use Rattle.kdl_entry.proofs.Lexing.TokenReads.{a_keyword_here, no_keyword_here, keyword_costs}
 use Rattle.kdl_entry.proofs.items.lexer.keyword_token.Goals as goal
 
 pub returns-in_ok-keyword_value-in-Some-clause-read : goal.returns-in_ok-keyword_value-in-Some-clause-read

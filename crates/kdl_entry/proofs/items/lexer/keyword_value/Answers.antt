@@ -1,4 +1,4 @@
-use Rattle.kdl_entry.proofs.Handing.{infinity_text, negative_infinity_text, not_a_number_text, infinity_float, negative_infinity_float, not_a_number_float, float_same}
+use Rattle.kdl_entry.proofs.Lexing.TokenReads.{infinity_text, negative_infinity_text, not_a_number_text, infinity_float, negative_infinity_float, not_a_number_float, float_same}
 use Rattle.kdl_entry.proofs.items.lexer.keyword_value.Goals as goal
 
 pub float_of-requires : goal.float_of-requires

@@ -1,4 +1,4 @@
-use Rattle.kdl_entry.specs.Tokens.{t_left, t_right, t_opening, t_closing, t_equals, t_semicolon, t_mark}
+use Rattle.kdl_entry.specs.Internal.Tokens.{t_left, t_right, t_opening, t_closing, t_equals, t_semicolon, t_mark}
 use Rattle.kdl_entry.proofs.items.lexer.mark_kind.Goals as goal
 
 pub returns-in-40 : goal.returns-in-40

@@ -1,5 +1,6 @@
 use Rattle.std.proofs.Common.{arith}
-use Rattle.kdl_entry.proofs.Handing.{integer_here, decimal_float, decimal_here, no_number_here, number_costs, faulty_costs}
+use Rattle.kdl_entry.proofs.Lexing.TokenCost.{faulty_costs}
+use Rattle.kdl_entry.proofs.Lexing.TokenReads.{integer_here, decimal_float, decimal_here, no_number_here, number_costs}
 use Rattle.kdl_entry.proofs.items.lexer.number_token.Goals as goal
 
 pub parsed_float-requires : goal.parsed_float-requires

@@ -1,5 +1,5 @@
 use Rattle.std.proofs.Common.{sym, ◌∙◌}
-use Rattle.kdl_entry.proofs.Handing.{spaces_costs, other_here}
+use Rattle.kdl_entry.proofs.Lexing.TokenReads.{spaces_costs, other_here}
 use Rattle.kdl_entry.proofs.items.lexer.plain_token.Goals as goal
 
 pub returns-then-is_space-clause-costs : goal.returns-then-is_space-clause-costs

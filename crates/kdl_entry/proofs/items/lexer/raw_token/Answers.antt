@@ -1,5 +1,5 @@
 use Rattle.std.proofs.Common.{arith}
-use Rattle.kdl_entry.proofs.Handing.{failed_costs}
+use Rattle.kdl_entry.proofs.Lexing.TokenCost.{failed_costs}
 use Rattle.kdl_entry.proofs.items.lexer.raw_token.Goals as goal
 
 pub returns-in-Err-clause-costs : goal.returns-in-Err-clause-costs

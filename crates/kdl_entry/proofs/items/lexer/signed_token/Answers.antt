@@ -1,4 +1,4 @@
-use Rattle.kdl_entry.proofs.Handing.{two_looks}
+use Rattle.kdl_entry.proofs.Lexing.TokenCost.{two_looks}
 use Rattle.kdl_entry.proofs.items.lexer.signed_token.Goals as goal
 
 pub returns-then-begins_number-clause-costs : goal.returns-then-begins_number-clause-costs

@@ -1,4 +1,4 @@
-use Rattle.kdl_entry.proofs.Handing.{unclosed_here, no_slash_here}
+use Rattle.kdl_entry.proofs.Lexing.TokenReads.{unclosed_here, no_slash_here}
 use Rattle.kdl_entry.proofs.items.lexer.slash_token.Goals as goal
 
 pub returns-in-Unclosed-clause-read : goal.returns-in-Unclosed-clause-read

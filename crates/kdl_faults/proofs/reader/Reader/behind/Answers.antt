@@ -1,4 +1,4 @@
-use Rattle.kdl_faults.proofs.Noting.{comment_lies, comment_end_lies}
+use Rattle.kdl_faults.proofs.NotedSpans.{comment_lies, comment_end_lies}
 use Rattle.kdl_faults.proofs.reader.Reader.behind.Goals as goal
 
 pub returns-in-Some-clause-keeps : goal.returns-in-Some-clause-keeps

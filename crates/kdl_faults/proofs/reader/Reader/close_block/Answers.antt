@@ -1,6 +1,6 @@
 use Rattle.std.proofs.Common.{None, Some}
-use Rattle.kdl_faults.specs.Noted.{Reads}
-use Rattle.kdl_faults.proofs.Noting.{next_lies, opened_less}
+use Rattle.kdl_faults.specs.Internal.Noted.{IsReaderOf}
+use Rattle.kdl_faults.proofs.NotedSpans.{next_lies, opened_less}
 use Rattle.kdl_faults.proofs.reader.Reader.close_block.Goals as goal
 use Rattle.kdl_faults.proofs.reader.Reader.close_block.Goals.{then-not-is_told+in_ok-note-in-None, else-not-is_told}
 
@@ -20,7 +20,7 @@ returns-in-Some-clause-keeps c text x s = record {
 pub returns-after-not-is_told-clause-keeps : goal.returns-after-not-is_told-clause-keeps
 returns-after-not-is_told-clause-keeps c text x s =
     let blocks = (opened_less text c.args.self.now.blocks.items c.pop.new.self.items None c.in-None.ensures.items x.blocks).0 in
-    let mid : Reads text c.if-not-is_told.self = elim c.if-not-is_told.branch [
+    let mid : IsReaderOf text c.if-not-is_told.self = elim c.if-not-is_told.branch [
       | then-not-is_told+in_ok-note-in-None w ↦ rw w.self-is (w.note.ensures.keeps text (record { whole = x.whole; here = x.here; left = x.left; faults = x.faults; blocks = blocks }) s.start (next_lies text c.args.piece.now s))
       | else-not-is_told w ↦ rw w.self-is (record { whole = x.whole; here = x.here; left = x.left; faults = x.faults; blocks = blocks })
     ] in

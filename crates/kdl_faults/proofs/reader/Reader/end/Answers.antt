@@ -1,4 +1,4 @@
-use Rattle.kdl_faults.proofs.Noting.{next_lies}
+use Rattle.kdl_faults.proofs.NotedSpans.{next_lies}
 use Rattle.kdl_faults.proofs.reader.Reader.end.Goals as goal
 
 pub returns-then-is_due-clause-keeps : goal.returns-then-is_due-clause-keeps

@@ -1,4 +1,4 @@
-use Rattle.kdl_faults.proofs.Noting.{moved_here, then_ends, end_lies, same_lies}
+use Rattle.kdl_faults.proofs.NotedSpans.{moved_here, then_ends, end_lies, same_lies}
 use Rattle.kdl_faults.proofs.reader.Reader.end_of.Goals as goal
 
 pub returns-in-Left-clause-end : goal.returns-in-Left-clause-end

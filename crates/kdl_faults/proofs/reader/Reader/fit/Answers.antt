@@ -1,5 +1,5 @@
-use Rattle.kdl_faults.specs.Noted.{Reads}
-use Rattle.kdl_faults.proofs.Noting.{end_lies}
+use Rattle.kdl_faults.specs.Internal.Noted.{IsReaderOf}
+use Rattle.kdl_faults.proofs.NotedSpans.{end_lies}
 use Rattle.kdl_faults.proofs.reader.Reader.fit.Goals as goal
 use Rattle.kdl_faults.proofs.reader.Reader.fit.Goals.{in-Some+in-TypeFaulty, in-Some+in_default-phase+in_ok-note-in_default-phase, in_default}
 
@@ -12,7 +12,7 @@ returns-in_err-note-in_default-phase c = record {
 
 pub returns-clause-keeps : goal.returns-clause-keeps
 returns-clause-keeps c text x s =
-    let mid : Reads text c.match-piece.self = elim c.match-piece.branch [
+    let mid : IsReaderOf text c.match-piece.self = elim c.match-piece.branch [
       | in-Some+in-TypeFaulty w ↦ rw w.self-is x
       | in-Some+in_default-phase+in_ok-note-in_default-phase w ↦ rw w.self-is (w.note.ensures.keeps text x s.start (end_lies text c.args.piece.now s))
       | in_default w ↦ rw w.self-is x

@@ -1,4 +1,4 @@
-use Rattle.kdl_faults.proofs.Noting.{next_lies, same_lies}
+use Rattle.kdl_faults.proofs.NotedSpans.{next_lies, same_lies}
 use Rattle.kdl_faults.proofs.reader.Reader.mark_left.Goals as goal
 
 pub returns-in-Left-clause-keeps : goal.returns-in-Left-clause-keeps

@@ -1,4 +1,4 @@
-use Rattle.kdl_faults.proofs.Noting.{noted_more, noted_same, span_in}
+use Rattle.kdl_faults.proofs.NotedSpans.{noted_more, noted_same, span_in}
 use Rattle.kdl_faults.proofs.reader.Reader.note.Goals as goal
 
 pub returns-in_err-push-clause-keeps : goal.returns-in_err-push-clause-keeps

@@ -1,5 +1,5 @@
 use Rattle.std.proofs.Common.{Some, None}
-use Rattle.kdl_faults.proofs.Noting.{noted_more, noted_same, opened_less}
+use Rattle.kdl_faults.proofs.NotedSpans.{noted_more, noted_same, opened_less}
 use Rattle.kdl_faults.proofs.reader.Reader.note_blocks.Goals as goal
 
 pub unclosed-preserved-in-Continue-1 : goal.unclosed-preserved-in-Continue-1

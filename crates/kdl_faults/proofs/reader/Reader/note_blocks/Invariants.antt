@@ -1,5 +1,5 @@
 use Rattle.std.proofs.Common.{◌≡◌, vec_len}
-use Rattle.kdl_faults.specs.Noted.{Keeps}
+use Rattle.kdl_faults.specs.Internal.Noted.{Keeps}
 use Rattle.kdl_faults.proofs.reader.Reader.note_blocks.Given as goal
 
 abbrev pub invariant-unclosed : goal.invariant-unclosed

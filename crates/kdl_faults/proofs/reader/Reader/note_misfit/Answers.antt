@@ -1,4 +1,4 @@
-use Rattle.kdl_faults.proofs.Noting.{next_lies}
+use Rattle.kdl_faults.proofs.NotedSpans.{next_lies}
 use Rattle.kdl_faults.proofs.reader.Reader.note_misfit.Goals as goal
 
 pub returns-in-Misplaced-clause-keeps : goal.returns-in-Misplaced-clause-keeps

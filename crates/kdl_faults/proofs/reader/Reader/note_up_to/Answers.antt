@@ -1,4 +1,4 @@
-use Rattle.kdl_faults.proofs.Noting.{next_lies}
+use Rattle.kdl_faults.proofs.NotedSpans.{next_lies}
 use Rattle.kdl_faults.proofs.reader.Reader.note_up_to.Goals as goal
 
 pub returns-then-at-clause-keeps : goal.returns-then-at-clause-keeps

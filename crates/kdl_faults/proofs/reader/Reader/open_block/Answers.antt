@@ -1,4 +1,4 @@
-use Rattle.kdl_faults.proofs.Noting.{next_lies, opened_more, opened_same, span_in}
+use Rattle.kdl_faults.proofs.NotedSpans.{next_lies, opened_more, opened_same, span_in}
 use Rattle.kdl_faults.proofs.reader.Reader.open_block.Goals as goal
 
 pub returns-in_err-push-clause-keeps : goal.returns-in_err-push-clause-keeps

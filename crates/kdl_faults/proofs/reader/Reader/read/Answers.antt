@@ -1,5 +1,5 @@
-use Rattle.kdl_faults.proofs.Noting.{moved_here, stands_in}
-use Rattle.kdl_faults.proofs.Turning.{turning_begins, turning_turn, turning_nearer, turning_fails, turning_stops}
+use Rattle.kdl_faults.proofs.NotedSpans.{moved_here, stands_in}
+use Rattle.kdl_faults.proofs.ReaderCost.{turning_begins, turning_turn, turning_nearer, turning_fails, turning_stops}
 use Rattle.kdl_faults.proofs.reader.Reader.read.Goals as goal
 
 pub pieces-init : goal.pieces-init

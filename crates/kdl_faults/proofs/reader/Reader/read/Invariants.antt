@@ -1,7 +1,7 @@
 use Rattle.std.proofs.Common.{◌+◌}
-use Rattle.kdl_text.specs.Here.{bytes}
-use Rattle.kdl_faults.specs.Noted.{Keeps}
-use Rattle.kdl_faults.proofs.Turning.{Turning, turns_left}
+use Rattle.kdl_text.specs.Spans.{bytes}
+use Rattle.kdl_faults.specs.Internal.Noted.{Keeps}
+use Rattle.kdl_faults.proofs.ReaderCost.{Turning, turns_left}
 use Rattle.kdl_faults.proofs.reader.Reader.read.Given as goal
 
 abbrev pub invariant-pieces : goal.invariant-pieces

@@ -1,8 +1,8 @@
 use Rattle.std.proofs.Common.{sym, subst}
-use Rattle.kdl_text.specs.Here.{Here}
-use Rattle.kdl_faults.specs.Noted.{Bounded}
-use Rattle.kdl_faults.proofs.Noting.{end_lies, moved_here, next_lies, stands_in}
-use Rattle.kdl_faults.proofs.Turning.{bounded_piece, looked_lies, place_lies, stepped_lies}
+use Rattle.kdl_text.specs.Internal.Here.{Here}
+use Rattle.kdl_faults.specs.Internal.Noted.{Bounded}
+use Rattle.kdl_faults.proofs.NotedSpans.{end_lies, moved_here, next_lies, stands_in}
+use Rattle.kdl_faults.proofs.ReaderCost.{bounded_piece, looked_lies, place_lies, stepped_lies}
 use Rattle.kdl_faults.proofs.reader.Reader.read_identifier.Goals as goal
 
 pub returns-in_err-piece-clause-keeps : goal.returns-in_err-piece-clause-keeps

@@ -1,5 +1,5 @@
-use Rattle.kdl_text.proofs.Slices.{ate}
-use Rattle.kdl_faults.proofs.Noting.{moved_here}
+use Rattle.kdl_text.proofs.Looking.SliceCost.{ate}
+use Rattle.kdl_faults.proofs.NotedSpans.{moved_here}
 use Rattle.kdl_faults.proofs.reader.Reader.skip_mark.Goals as goal
 
 pub returns-in-Document-clause-keeps : goal.returns-in-Document-clause-keeps

@@ -1,4 +1,4 @@
-use Rattle.kdl_faults.proofs.Noting.{same_lies}
+use Rattle.kdl_faults.proofs.NotedSpans.{same_lies}
 use Rattle.kdl_faults.proofs.reader.Reader.start_of.Goals as goal
 
 pub returns-in-Type : goal.returns-in-Type

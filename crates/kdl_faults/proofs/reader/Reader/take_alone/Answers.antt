@@ -1,4 +1,4 @@
-use Rattle.kdl_faults.proofs.Noting.{end_lies}
+use Rattle.kdl_faults.proofs.NotedSpans.{end_lies}
 use Rattle.kdl_faults.proofs.reader.Reader.take_alone.Goals as goal
 
 pub returns-in-Comment-clause-keeps : goal.returns-in-Comment-clause-keeps

@@ -1,5 +1,5 @@
 use Rattle.std.proofs.Common.{◌∙◌}
-use Rattle.kdl_faults.proofs.Turning.{same_cursor}
+use Rattle.kdl_faults.proofs.ReaderCost.{same_cursor}
 use Rattle.kdl_faults.proofs.reader.Reader.take_part.Goals as goal
 
 pub returns-in-Refuse-clause-keeps : goal.returns-in-Refuse-clause-keeps

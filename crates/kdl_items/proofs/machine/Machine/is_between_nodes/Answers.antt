@@ -1,5 +1,5 @@
 use Rattle.std.proofs.Common.{◌∙◌}
-use Rattle.kdl_items.proofs.MachineMoves.{gap_closed}
+use Rattle.kdl_items.proofs.Dropping.OpenBlocks.{gap_closed}
 use Rattle.kdl_items.proofs.machine.Machine.is_between_nodes.Goals as goal
 
 pub returns-in-Gap : goal.returns-in-Gap

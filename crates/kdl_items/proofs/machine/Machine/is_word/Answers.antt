@@ -1,4 +1,4 @@
-use Rattle.kdl_items.proofs.MachineMoves.{no_word, word_here}
+use Rattle.kdl_items.proofs.Dropping.OpenBlocks.{no_word, word_here}
 use Rattle.kdl_items.proofs.machine.Machine.is_word.Goals as goal
 
 pub returns-then-not-is_empty : goal.returns-then-not-is_empty

@@ -1,5 +1,5 @@
 use Rattle.std.proofs.Common.{◌∙◌}
-use Rattle.kdl_items.proofs.MachineMoves.{end_closed}
+use Rattle.kdl_items.proofs.Dropping.OpenBlocks.{end_closed}
 use Rattle.kdl_items.proofs.machine.Machine.may_end.Goals as goal
 
 pub returns-in-Gap : goal.returns-in-Gap

@@ -1,4 +1,4 @@
-use Rattle.kdl_items.proofs.MachineMoves.{not_over}
+use Rattle.kdl_items.proofs.Dropping.OpenBlocks.{not_over}
 use Rattle.kdl_items.proofs.machine.Machine.over.Goals as goal
 
 pub returns-then-not-is_empty : goal.returns-then-not-is_empty

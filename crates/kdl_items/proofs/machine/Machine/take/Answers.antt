@@ -1,5 +1,5 @@
-use Rattle.kdl_entry.specs.Handed.{kind_view}
-use Rattle.kdl_items.proofs.MachineMoves.{opened, closed}
+use Rattle.kdl_entry.specs.Internal.Handed.{kind_view}
+use Rattle.kdl_items.proofs.Dropping.OpenBlocks.{opened, closed}
 use Rattle.kdl_items.proofs.machine.Machine.take.Goals as goal
 
 pub returns-in_ok-push-in-Open : goal.returns-in_ok-push-in-Open

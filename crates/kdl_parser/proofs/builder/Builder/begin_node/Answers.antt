@@ -1,4 +1,4 @@
-use Rattle.kdl_parser.proofs.Counting.{begun}
+use Rattle.kdl_parser.proofs.Stepping.TurnCost.{begun}
 use Rattle.kdl_parser.proofs.builder.Builder.begin_node.Goals as goal
 
 pub returns-in_default-clause-sliced : goal.returns-in_default-clause-sliced

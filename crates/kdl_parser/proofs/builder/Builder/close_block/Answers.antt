@@ -1,5 +1,5 @@
 use Rattle.std.proofs.Common.{sym, ◌∙◌}
-use Rattle.kdl_parser.proofs.Counting.{closed_up}
+use Rattle.kdl_parser.proofs.Stepping.TurnCost.{closed_up}
 use Rattle.kdl_parser.proofs.builder.Builder.close_block.Goals as goal
 
 pub returns-then-is_some-clause-sliced : goal.returns-then-is_some-clause-sliced

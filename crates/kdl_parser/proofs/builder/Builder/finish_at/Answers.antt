@@ -1,10 +1,10 @@
 use Rattle.std.proofs.Common.{ap, ◌∙◌, option_map}
-use Rattle.kdl_text.specs.Here.{Spot}
-use Rattle.kdl_entry.specs.Building.{item_view}
-use Rattle.kdl_grammar.specs.Machine.{origin}
-use Rattle.kdl_parser.specs.Building.{node_now, under_view, kept_view, nodes_view, frames_view}
-use Rattle.kdl_parser.proofs.ItemTurns.{unfinished}
-use Rattle.kdl_parser.proofs.Origins.{origin_ends, from_of}
+use Rattle.kdl_text.specs.Internal.Here.{Spot}
+use Rattle.kdl_entry.specs.Internal.Building.{item_view}
+use Rattle.kdl_grammar.specs.Internal.Machine.{origin}
+use Rattle.kdl_parser.specs.Internal.Building.{node_now, under_view, kept_view, nodes_view, frames_view}
+use Rattle.kdl_parser.proofs.Stepping.ItemTokens.{unfinished}
+use Rattle.kdl_parser.proofs.Stepping.Origins.{origin_ends, from_of}
 use Rattle.kdl_parser.proofs.builder.Builder.finish_at.Goals as goal
 
 pub finish_nodes-requires-in-Fresh-clause-from : goal.finish_nodes-requires-in-Fresh-clause-from

@@ -1,8 +1,8 @@
 use Rattle.std.proofs.Common.{ap, sym}
 use Rattle.kdl_value.specs.Tree.{text_of}
-use Rattle.kdl_parser.specs.Building.{nodes_view}
-use Rattle.kdl_parser.specs.Parts.{nodes_tree, document_by}
-use Rattle.kdl_parser.proofs.Views.{one_open, all_closed}
+use Rattle.kdl_parser.specs.Internal.Building.{nodes_view}
+use Rattle.kdl_parser.specs.Internal.Parts.{nodes_tree, document_by}
+use Rattle.kdl_parser.proofs.Stepping.Views.{one_open, all_closed}
 use Rattle.kdl_parser.proofs.builder.Builder.finish_nodes.Goals as goal
 
 pub returns-then-not-is_empty-clause-finished : goal.returns-then-not-is_empty-clause-finished

@@ -1,5 +1,5 @@
 use Rattle.std.specs.Slice.Iter.{iter_rest}
-use Rattle.kdl_parts.proofs.EntryPlaces.{arguments_within}
+use Rattle.kdl_parts.proofs.EntryLookups.{arguments_within}
 use Rattle.kdl_parts.proofs.iter.ArgsIterIterator.size_hint.Goals as goal
 
 pub returns-clause-upper : goal.returns-clause-upper

@@ -1,4 +1,4 @@
-use Rattle.kdl_text.proofs.Classes.{table_of_space, table_of_identifier, table_of_literal, table_of_line, table_of_unquoted, table_of_number_sign, table_of_quote, table_of_comment}
+use Rattle.kdl_text.proofs.Looking.ClassTables.{table_of_space, table_of_identifier, table_of_literal, table_of_line, table_of_unquoted, table_of_number_sign, table_of_quote, table_of_comment}
 use Rattle.kdl_text.proofs.chars.Class.table.Goals as goal
 
 pub returns-in-Space : goal.returns-in-Space

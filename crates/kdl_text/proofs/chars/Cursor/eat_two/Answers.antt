@@ -1,5 +1,5 @@
 use Rattle.std.proofs.Common.{sym}
-use Rattle.kdl_text.proofs.Eats.{eats}
+use Rattle.kdl_text.proofs.Looking.Eats.{eats}
 use Rattle.kdl_text.proofs.chars.Cursor.eat_two.Goals as goal
 
 pub returns-then-eats : goal.returns-then-eats

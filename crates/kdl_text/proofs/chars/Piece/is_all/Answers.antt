@@ -1,7 +1,7 @@
 use Rattle.std.proofs.Common.{ap, ◌∙◌}
 use Rattle.std.specs.List.{list_all}
-use Rattle.kdl_text.specs.Here.{in_class}
-use Rattle.kdl_text.proofs.Runs.{all_or_not}
+use Rattle.kdl_text.specs.Internal.Here.{in_class}
+use Rattle.kdl_text.proofs.Looking.Runs.{all_or_not}
 use Rattle.kdl_text.proofs.chars.Piece.is_all.Goals as goal
 
 pub returns : goal.returns

@@ -1,6 +1,6 @@
 use Rattle.std.proofs.lemmas.Str.{IsUtf8-string_bytes}
 use Rattle.std.specs.Prelude.{string_bytes}
-use Rattle.kdl_text.proofs.Slices.{pushed}
+use Rattle.kdl_text.proofs.Looking.SliceCost.{pushed}
 use Rattle.kdl_text.proofs.chars.Piece.push_to.Goals as goal
 
 pub returns : goal.returns

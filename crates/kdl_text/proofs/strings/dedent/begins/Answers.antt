@@ -1,5 +1,5 @@
 use Rattle.std.proofs.lemmas.Slice.Eq.{slice_eq-Decides}
-use Rattle.kdl_text.proofs.Dedents.{eq_is}
+use Rattle.kdl_text.proofs.ManyLines.DedentReads.{eq_is}
 use Rattle.kdl_text.proofs.strings.dedent.begins.Goals as goal
 
 pub returns : goal.returns

@@ -1,6 +1,6 @@
 use Rattle.std.proofs.Common.{arith}
 use Rattle.kdl_text.specs.Raw.{literals}
-use Rattle.kdl_text.proofs.Dedents.{prefix_more, prefix_not, prefix_whole}
+use Rattle.kdl_text.proofs.ManyLines.DedentReads.{prefix_more, prefix_not, prefix_whole}
 use Rattle.kdl_text.proofs.strings.dedent.behind_prefix.Goals as goal
 
 pub returns-in-None : goal.returns-in-None

@@ -1,4 +1,4 @@
-use Rattle.kdl_text.proofs.Dedents.{first_literal}
+use Rattle.kdl_text.proofs.ManyLines.DedentReads.{first_literal}
 use Rattle.kdl_text.proofs.strings.dedent.behind_unit.Goals as goal
 
 pub returns-in_default : goal.returns-in_default

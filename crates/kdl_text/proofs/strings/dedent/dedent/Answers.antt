@@ -2,8 +2,8 @@ use Rattle.std.proofs.Common.{◌∙◌, sym, ap, arith}
 use Rattle.std.proofs.lemmas.List.{nil_from_length}
 use Rattle.std.proofs.lemmas.Bool.{false≢true}
 use Rattle.kdl_text.specs.Dedent.{joined}
-use Rattle.kdl_text.proofs.Dedents.{some_lines, dedents_to, dedents_from, values_same}
-use Rattle.kdl_text.proofs.Lines.{last_len}
+use Rattle.kdl_text.proofs.ManyLines.DedentReads.{some_lines, dedents_to, dedents_from, values_same}
+use Rattle.kdl_text.proofs.ManyLines.LinesJoin.{last_len}
 use Rattle.kdl_text.proofs.strings.dedent.dedent.Goals as goal
 
 pub returns-in_default-clause-found : goal.returns-in_default-clause-found

@@ -1,7 +1,7 @@
 use Rattle.std.proofs.Common.{◌∙◌, ap, sym}
 use Rattle.kdl_text.specs.Dedent.{is_blank_line}
-use Rattle.kdl_text.specs.Lines.{line_units}
-use Rattle.kdl_text.proofs.Lines.{blank_literals}
+use Rattle.kdl_text.specs.Internal.Lines.{line_units}
+use Rattle.kdl_text.proofs.ManyLines.LinesJoin.{blank_literals}
 use Rattle.kdl_text.proofs.strings.dedent.is_blank.Goals as goal
 
 pub returns-in-Plain : goal.returns-in-Plain

@@ -1,8 +1,8 @@
 use Rattle.std.proofs.Common.{sym, ◌∙◌, ap}
 use Rattle.kdl_text.specs.Dedent.{dedented}
-use Rattle.kdl_text.specs.Lines.{line_units}
+use Rattle.kdl_text.specs.Internal.Lines.{line_units}
 use Rattle.kdl_text.specs.Raw.{literals}
-use Rattle.kdl_text.proofs.Dedents.{dedented_value, literals_text}
+use Rattle.kdl_text.proofs.ManyLines.DedentReads.{dedented_value, literals_text}
 use Rattle.kdl_text.proofs.strings.dedent.push_line.Goals as goal
 
 pub returns-in-Units-clause-done : goal.returns-in-Units-clause-done

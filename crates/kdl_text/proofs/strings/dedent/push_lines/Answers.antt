@@ -3,11 +3,11 @@ use Rattle.std.specs.Str.{chars}
 use Rattle.std.proofs.lemmas.List.{nil_from_length}
 use Rattle.std.proofs.lemmas.Str.{IsUtf8-string_bytes, chars-nil}
 use Rattle.kdl_text.specs.Dedent.{LineValues, none}
-use Rattle.kdl_text.specs.Lines.{lines_len, line_units}
+use Rattle.kdl_text.specs.Internal.Lines.{lines_len, line_units}
 use Rattle.kdl_text.specs.declared.strings.dedent.Line.{Line}
-use Rattle.kdl_text.proofs.Dedents.{Joined, joined_first, joined_line, value_of, memory_if}
-use Rattle.kdl_text.proofs.Escapes.{char_pushed}
-use Rattle.kdl_text.proofs.Lines.{first_of, next_of, line_there, all_of, lines_len_take, lines_len-append}
+use Rattle.kdl_text.proofs.ManyLines.DedentReads.{Joined, joined_first, joined_line, value_of, memory_if}
+use Rattle.kdl_text.proofs.Quoted.EscapeReads.{char_pushed}
+use Rattle.kdl_text.proofs.ManyLines.LinesJoin.{first_of, next_of, line_there, all_of, lines_len_take, lines_len-append}
 use Rattle.kdl_text.proofs.strings.dedent.push_lines.Goals as goal
 use Rattle.std.proofs.Common.{List}
 

@@ -1,7 +1,7 @@
 use Rattle.std.proofs.Common.{◌+◌, ◌≤◌, take, string_bytes}
 use Rattle.std.specs.Str.{chars}
-use Rattle.kdl_text.specs.Lines.{lines_len}
-use Rattle.kdl_text.proofs.Dedents.{Joined}
+use Rattle.kdl_text.specs.Internal.Lines.{lines_len}
+use Rattle.kdl_text.proofs.ManyLines.DedentReads.{Joined}
 use Rattle.kdl_text.proofs.strings.dedent.push_lines.Given as goal
 
 abbrev pub invariant-loop-line : goal.invariant-loop-line

@@ -4,8 +4,8 @@ use Rattle.std.specs.Option.{option_to_list}
 use Rattle.std.proofs.lemmas.Str.{IsUtf8-string_bytes}
 use Rattle.kdl_text.specs.Dedent.{unit_text, line_text}
 use Rattle.kdl_text.specs.declared.strings.dedent.LineUnit.TheVariants.{Literal}
-use Rattle.kdl_text.proofs.Escapes.{char_pushed}
-use Rattle.kdl_text.proofs.Dedents.{text_more, regroup}
+use Rattle.kdl_text.proofs.Quoted.EscapeReads.{char_pushed}
+use Rattle.kdl_text.proofs.ManyLines.DedentReads.{text_more, regroup}
 use Rattle.std.proofs.Common.{take}
 use Rattle.kdl_text.proofs.strings.dedent.push_text.Goals as goal
 use Rattle.kdl_text.proofs.strings.dedent.push_text.Goals.{in-Some+in_ok-push, in_default}

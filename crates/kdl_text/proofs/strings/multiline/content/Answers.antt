@@ -1,6 +1,6 @@
 use Rattle.kdl_text.specs.MultiLine.{Content}
-use Rattle.kdl_text.proofs.Going.{costs_less, moves_then}
-use Rattle.kdl_text.proofs.Lines.{lines_turn, lines_close}
+use Rattle.kdl_text.proofs.Looking.MovesJoin.{costs_less, moves_then}
+use Rattle.kdl_text.proofs.ManyLines.LinesJoin.{lines_turn, lines_close}
 use Rattle.kdl_text.proofs.strings.multiline.content.Goals as goal
 
 pub returns-in_err-line-clause-moves : goal.returns-in_err-line-clause-moves

@@ -1,6 +1,6 @@
-use Rattle.kdl_text.specs.Here.{bytes}
+use Rattle.kdl_text.specs.Spans.{bytes}
 use Rattle.kdl_text.specs.MultiLine.{Content}
-use Rattle.kdl_text.proofs.Lines.{InLines}
+use Rattle.kdl_text.proofs.ManyLines.LinesJoin.{InLines}
 use Rattle.kdl_text.proofs.strings.multiline.content.Given as goal
 
 abbrev pub invariant-lines : goal.invariant-lines

@@ -1,5 +1,5 @@
-use Rattle.kdl_text.proofs.Newlines.{end_lf, end_one}
-use Rattle.kdl_text.proofs.Slices.{ate}
+use Rattle.kdl_text.proofs.Spacing.NewlineUnique.{end_lf, end_one}
+use Rattle.kdl_text.proofs.Looking.SliceCost.{ate}
 use Rattle.kdl_text.proofs.strings.multiline.end_newline.Goals as goal
 
 pub returns-then-c-eq13-clause-newline : goal.returns-then-c-eq13-clause-newline

@@ -1,5 +1,5 @@
-use Rattle.kdl_text.proofs.Contents.{escape_fails, escape_there, escaped_turn, escaped_ends, escaped_closes, part_fails, part_there}
-use Rattle.kdl_text.proofs.Going.{costs_less}
+use Rattle.kdl_text.proofs.ManyLines.EscapedLineLoop.{escape_fails, escape_there, escaped_turn, escaped_ends, escaped_closes, part_fails, part_there}
+use Rattle.kdl_text.proofs.Looking.MovesJoin.{costs_less}
 use Rattle.kdl_text.proofs.strings.multiline.escaped_line.Goals as goal
 
 pub returns-in-Err-clause-only : goal.returns-in-Err-clause-only

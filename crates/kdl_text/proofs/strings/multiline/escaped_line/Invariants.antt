@@ -1,5 +1,5 @@
 use Rattle.std.proofs.Common.{length}
-use Rattle.kdl_text.proofs.Contents.{InEscaped}
+use Rattle.kdl_text.proofs.ManyLines.EscapedLineLoop.{InEscaped}
 use Rattle.kdl_text.proofs.strings.multiline.escaped_line.Given as goal
 
 abbrev pub invariant-escapes : goal.invariant-escapes

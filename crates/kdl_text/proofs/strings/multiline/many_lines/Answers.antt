@@ -1,12 +1,12 @@
 use Rattle.std.proofs.Common.{◌∙◌, map, sym, ap, arith, String, Global}
 use Rattle.std.specs.Prelude.{string_bytes}
 use Rattle.std.specs.Str.{chars}
-use Rattle.kdl_text.specs.Lines.{line_units, lines_len}
+use Rattle.kdl_text.specs.Internal.Lines.{line_units, lines_len}
 use Rattle.kdl_text.specs.declared.strings.StringFailure.{StringFailure}
-use Rattle.kdl_text.proofs.Bodies.{body_found, body_only, body_content}
-use Rattle.kdl_text.proofs.Counts.{lines_cost, lines_fail, dedent_moves}
-use Rattle.kdl_text.proofs.Going.{moves_then}
-use Rattle.kdl_text.proofs.Quoting.{failed}
+use Rattle.kdl_text.proofs.ManyLines.StringReads.{body_found, body_only, body_content}
+use Rattle.kdl_text.proofs.ManyLines.LinesCost.{lines_cost, lines_fail, dedent_moves}
+use Rattle.kdl_text.proofs.Looking.MovesJoin.{moves_then}
+use Rattle.kdl_text.proofs.Quoted.BodyLoop.{failed}
 use Rattle.kdl_text.proofs.strings.multiline.many_lines.Goals as goal
 
 pub returns-in_err-lines-clause-only : goal.returns-in_err-lines-clause-only

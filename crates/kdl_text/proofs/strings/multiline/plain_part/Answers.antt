@@ -1,6 +1,6 @@
 use Rattle.std.proofs.Common.{◌++◌, sym, ap, ◌∙◌}
-use Rattle.kdl_text.proofs.Going.{costs_less}
-use Rattle.kdl_text.proofs.Plains.{plain_run, plain_quote, plain_quotes, plain_close, plain_escape, plain_newline, plain_stuck, plain_over}
+use Rattle.kdl_text.proofs.Looking.MovesJoin.{costs_less}
+use Rattle.kdl_text.proofs.ManyLines.PlainLoop.{plain_run, plain_quote, plain_quotes, plain_close, plain_escape, plain_newline, plain_stuck, plain_over}
 use Rattle.kdl_text.proofs.strings.multiline.plain_part.Goals as goal
 use Rattle.kdl_text.proofs.strings.multiline.plain_part.Goals.{else-eat-via-then-eat+else-eat-2, else-eat-via-else-eat}
 

@@ -1,5 +1,5 @@
 use Rattle.std.proofs.Common.{length}
-use Rattle.kdl_text.proofs.Plains.{InPlain}
+use Rattle.kdl_text.proofs.ManyLines.PlainLoop.{InPlain}
 use Rattle.kdl_text.proofs.strings.multiline.plain_part.Given as goal
 
 abbrev pub invariant-runs : goal.invariant-runs

@@ -1,5 +1,5 @@
-use Rattle.kdl_text.proofs.Contents.{line_escaped}
-use Rattle.kdl_text.proofs.Going.{moves_then}
+use Rattle.kdl_text.proofs.ManyLines.EscapedLineLoop.{line_escaped}
+use Rattle.kdl_text.proofs.Looking.MovesJoin.{moves_then}
 use Rattle.kdl_text.proofs.strings.multiline.read_line.Goals as goal
 
 pub returns-in_err-closed-in-Escape-clause-moves : goal.returns-in_err-closed-in-Escape-clause-moves

@@ -1,6 +1,6 @@
 use Rattle.std.proofs.Common.{◌≡◌, ◌-◌, ◌++◌, ap, ◌∙◌, arith}
 use Rattle.kdl_text.specs.Chars.{times}
-use Rattle.kdl_text.proofs.RawLines.{no_more_behind, one_behind}
+use Rattle.kdl_text.proofs.RawStrings.LinesLoop.{no_more_behind, one_behind}
 use Rattle.kdl_text.proofs.strings.raw.behind_quotes.Goals as goal
 
 pub loop-init : goal.loop-init

@@ -1,6 +1,6 @@
 use Rattle.std.proofs.Common.{◌≡◌, ◌≤◌, arith}
-use Rattle.kdl_text.proofs.Going.{moves_then}
-use Rattle.kdl_text.proofs.RawLines.{few_quotes, closing_at, closed, open_still, signs_cost}
+use Rattle.kdl_text.proofs.Looking.MovesJoin.{moves_then}
+use Rattle.kdl_text.proofs.RawStrings.LinesLoop.{few_quotes, closing_at, closed, open_still, signs_cost}
 use Rattle.kdl_text.proofs.strings.raw.closing_place.Goals as goal
 
 pub returns-then-more-lt2-clause-none : goal.returns-then-more-lt2-clause-none

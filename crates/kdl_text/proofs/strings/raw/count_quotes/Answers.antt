@@ -1,6 +1,6 @@
 use Rattle.std.proofs.Common.{refl}
-use Rattle.kdl_text.proofs.Closings.{counted}
-use Rattle.kdl_text.proofs.Slices.{moves_ran, costs_ran}
+use Rattle.kdl_text.proofs.RawStrings.ClosingPlaces.{counted}
+use Rattle.kdl_text.proofs.Looking.SliceCost.{moves_ran, costs_ran}
 use Rattle.kdl_text.proofs.strings.raw.count_quotes.Goals as goal
 
 pub returns-clause-text : goal.returns-clause-text

@@ -1,8 +1,8 @@
 use Rattle.std.proofs.Common.{ap, ◌∙◌, ◌++◌, arith}
 use Rattle.kdl_text.specs.Chars.{times}
-use Rattle.kdl_text.proofs.Closings.{times_next}
-use Rattle.kdl_text.proofs.Going.{moves_then, moves_one, costs_then}
-use Rattle.kdl_text.proofs.Slices.{costs_took}
+use Rattle.kdl_text.proofs.RawStrings.ClosingPlaces.{times_next}
+use Rattle.kdl_text.proofs.Looking.MovesJoin.{moves_then, moves_one, costs_then}
+use Rattle.kdl_text.proofs.Looking.SliceCost.{costs_took}
 use Rattle.kdl_text.proofs.strings.raw.eat_signs.Goals as goal
 
 pub signs-preserved : goal.signs-preserved

@@ -1,6 +1,6 @@
 use Rattle.std.proofs.Common.{◌≡◌, ◌-◌, ◌++◌, ◌≤◌}
 use Rattle.kdl_text.specs.Chars.{times}
-use Rattle.kdl_text.specs.Reading.{Moves, Costs}
+use Rattle.kdl_text.specs.Internal.Reading.{Moves, Costs}
 use Rattle.kdl_text.proofs.strings.raw.eat_signs.Given as goal
 
 abbrev pub invariant-signs : goal.invariant-signs

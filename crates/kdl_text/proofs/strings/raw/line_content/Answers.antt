@@ -1,6 +1,6 @@
 use Rattle.std.proofs.Common.{◌≡◌, ℕ, ◌<◌, ◌≤◌, sym, ◌∙◌, ap, ◌++◌, arith}
 use Rattle.kdl_text.specs.Chars.{times}
-use Rattle.kdl_text.proofs.RawLine.{line_begins, line_ran, line_turn, line_ends, line_stuck, line_fails, line_over}
+use Rattle.kdl_text.proofs.RawStrings.LineLoop.{line_begins, line_ran, line_turn, line_ends, line_stuck, line_fails, line_over}
 use Rattle.kdl_text.proofs.strings.raw.line_content.Goals as goal
 
 fewer : {j n : ℕ} → j ≤ n → (j ≡ n → ⊥) → j < n

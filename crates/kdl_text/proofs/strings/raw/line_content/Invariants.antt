@@ -1,5 +1,5 @@
 use Rattle.std.proofs.Common.{length}
-use Rattle.kdl_text.proofs.RawLine.{InLine}
+use Rattle.kdl_text.proofs.RawStrings.LineLoop.{InLine}
 use Rattle.kdl_text.proofs.strings.raw.line_content.Given as goal
 
 abbrev pub invariant-quotes : goal.invariant-quotes

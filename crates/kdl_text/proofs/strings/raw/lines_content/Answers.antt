@@ -1,7 +1,7 @@
 use Rattle.kdl_text.specs.Raw.{RawContent, closing}
 use Rattle.kdl_text.specs.declared.strings.dedent.Line.TheVariants.{Plain}
-use Rattle.kdl_text.proofs.Going.{costs_at, moves_then}
-use Rattle.kdl_text.proofs.Lines.{lines_turn, lines_close}
+use Rattle.kdl_text.proofs.Looking.MovesJoin.{costs_at, moves_then}
+use Rattle.kdl_text.proofs.ManyLines.LinesJoin.{lines_turn, lines_close}
 use Rattle.kdl_text.proofs.strings.raw.lines_content.Goals as goal
 
 pub returns-in_err-piece-clause-moves : goal.returns-in_err-piece-clause-moves

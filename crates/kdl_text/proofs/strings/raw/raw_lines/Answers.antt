@@ -1,12 +1,12 @@
 use Rattle.std.proofs.Common.{◌∙◌, map, sym, ap, arith, String, Global}
 use Rattle.std.specs.Prelude.{string_bytes}
 use Rattle.std.specs.Str.{chars}
-use Rattle.kdl_text.specs.Lines.{line_units, lines_len}
+use Rattle.kdl_text.specs.Internal.Lines.{line_units, lines_len}
 use Rattle.kdl_text.specs.declared.strings.StringFailure.{StringFailure}
-use Rattle.kdl_text.proofs.Counts.{raw_lines_cost, raw_lines_fail, dedent_moves}
-use Rattle.kdl_text.proofs.Going.{moves_then}
-use Rattle.kdl_text.proofs.Quoting.{failed}
-use Rattle.kdl_text.proofs.RawBodies.{raw_body_found, raw_body_only, raw_body_content}
+use Rattle.kdl_text.proofs.ManyLines.LinesCost.{raw_lines_cost, raw_lines_fail, dedent_moves}
+use Rattle.kdl_text.proofs.Looking.MovesJoin.{moves_then}
+use Rattle.kdl_text.proofs.Quoted.BodyLoop.{failed}
+use Rattle.kdl_text.proofs.RawStrings.RawReads.{raw_body_found, raw_body_only, raw_body_content}
 use Rattle.kdl_text.proofs.strings.raw.raw_lines.Goals as goal
 
 pub returns-in_err-lines-clause-only : goal.returns-in_err-lines-clause-only

@@ -2,8 +2,8 @@ use Rattle.std.proofs.Common.{◌≡◌, ℕ, ◌<◌, ◌∷◌, ◌++◌, ap, 
 use Rattle.std.specs.Prelude.{string_bytes}
 use Rattle.std.specs.Str.{chars}
 use Rattle.kdl_text.specs.Chars.{Text, times}
-use Rattle.kdl_text.proofs.Opened.{each, signed_many, signed_one, unopened}
-use Rattle.kdl_text.proofs.RawBodies.{unsigned, unquoted, many_raw, many_raw_only, one_raw, one_raw_only}
+use Rattle.kdl_text.proofs.ManyLines.StringCost.{each, signed_many, signed_one, unopened}
+use Rattle.kdl_text.proofs.RawStrings.RawReads.{unsigned, unquoted, many_raw, many_raw_only, one_raw, one_raw_only}
 use Rattle.kdl_text.proofs.strings.raw.raw_string.Goals as goal
 
 signs_text : (j : ℕ) {s d m : Text} → s ≡ times j 35 ++ d → d ≡ 34 ∷ m → s ≡ times j 35 ++ 34 ∷ m

@@ -1,6 +1,6 @@
 use Rattle.std.proofs.Common.{◌++◌, sym, ap, ◌∙◌}
-use Rattle.kdl_text.proofs.Going.{costs_less}
-use Rattle.kdl_text.proofs.RawLines.{raw_begins, raw_run, raw_open, raw_ahead, raw_close, raw_newline, raw_stuck, raw_runs_out}
+use Rattle.kdl_text.proofs.Looking.MovesJoin.{costs_less}
+use Rattle.kdl_text.proofs.RawStrings.LinesLoop.{raw_begins, raw_run, raw_open, raw_ahead, raw_close, raw_newline, raw_stuck, raw_runs_out}
 use Rattle.kdl_text.proofs.strings.raw.read_line.Goals as goal
 
 pub parts-init : goal.parts-init

@@ -1,5 +1,5 @@
 use Rattle.std.proofs.Common.{length}
-use Rattle.kdl_text.proofs.RawLines.{InRaw}
+use Rattle.kdl_text.proofs.RawStrings.LinesLoop.{InRaw}
 use Rattle.kdl_text.proofs.strings.raw.read_line.Given as goal
 
 abbrev pub invariant-parts : goal.invariant-parts

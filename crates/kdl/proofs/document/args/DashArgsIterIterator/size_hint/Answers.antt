@@ -1,5 +1,5 @@
 use Rattle.std.specs.Slice.Iter.{iter_rest}
-use Rattle.kdl.proofs.DocumentLookups.{dashes_within}
+use Rattle.kdl.proofs.Finding.DocumentLookups.{dashes_within}
 use Rattle.kdl.proofs.document.args.DashArgsIterIterator.size_hint.Goals as goal
 
 pub returns-clause-upper : goal.returns-clause-upper

@@ -1,4 +1,4 @@
-use Rattle.kdl_entry.proofs.Handing.{no_token_costs}
+use Rattle.kdl_entry.proofs.Lexing.TokenCost.{no_token_costs}
 use Rattle.kdl_entry.proofs.items.lexer.Lexer.next.Goals as goal
 
 pub returns-in_err-kind-clause-costs : goal.returns-in_err-kind-clause-costs

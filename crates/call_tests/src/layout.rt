@@ -1,0 +1,395 @@
+//! Layout where no row of text can say what is laid out: built documents, entries that keep their form, levels without
+//! bound, the configuration, and running out of memory.
+
+use crate::edits::{add, add_property, exchange};
+use crate::fields::{built, document_of};
+use crate::reading::{equal, holds, prints, read, string, text};
+use kdl::{
+    FormatConfig, FormatConfigBuilder, KdlDocument, KdlEntry, KdlEntryFormat, KdlNode,
+    KdlNodeFormat, KdlValue, ParseFailure, is_kdl_space,
+};
+use std::alloc::Global;
+use std::process::Abort;
+use std::test::Fail;
+
+/// The document prints the text once it is laid out without comments.
+fn document_becomes(rt: &impl Abort, alloc: Global, document: &mut KdlDocument, text: &str) {
+    document.autoformat_no_comments().expect(rt, "memory");
+    prints(rt, alloc, document, text);
+}
+
+/// The document prints the text once it is laid out, with comments where they are to be kept.
+fn lays_out(
+    rt: &impl Abort,
+    alloc: Global,
+    document: &mut KdlDocument,
+    no_comments: bool,
+    text: &str,
+) {
+    if no_comments {
+        document_becomes(rt, alloc, document, text);
+    } else {
+        document.autoformat().expect(rt, "memory");
+        prints(rt, alloc, document, text);
+    }
+}
+
+/// The configuration with these fields.
+fn config(indent_level: usize, indent: &str, no_comments: bool) -> FormatConfig<'_> {
+    FormatConfig {
+        indent_level,
+        indent,
+        no_comments,
+        entry_autoformate_keep: false,
+    }
+}
+
+#[test]
+fn configurations(rt: HostRuntime) {
+    let defaults = config(0, "    ", false);
+    let other = FormatConfig::builder()
+        .indent_level(12)
+        .indent(" \t")
+        .no_comments(true);
+    let cases = [
+        (FormatConfig::default(), defaults),
+        (FormatConfig::builder().build(), defaults),
+        (FormatConfigBuilder::new().build(), defaults),
+        (FormatConfigBuilder::default().build(), defaults),
+        (other.build(), config(12, " \t", true)),
+        (other.maybe_indent_level(None).build(), other.build()),
+        (other.maybe_indent(None).build(), other.build()),
+        (other.maybe_no_comments(None).build(), other.build()),
+        (
+            other.maybe_indent_level(Some(3)).build(),
+            config(3, " \t", true),
+        ),
+        (other.maybe_indent(Some("")).build(), config(12, "", true)),
+        (
+            other.maybe_no_comments(Some(false)).build(),
+            config(12, " \t", false),
+        ),
+        (
+            other.indent_level(4).indent_level(5).build(),
+            config(5, " \t", true),
+        ),
+        (other.indent("a").indent("b").build(), config(12, "b", true)),
+        (
+            other.no_comments(true).no_comments(false).build(),
+            config(12, " \t", false),
+        ),
+    ];
+    for (found, wanted) in &cases {
+        equal(&rt, found, wanted);
+    }
+}
+
+/// Texts of the 18 spaces.
+const SPACES: [&str; 20] = [
+    "",
+    "\t",
+    " ",
+    "\u{a0}",
+    "\u{1680}",
+    "\u{2000}",
+    "\u{2001}",
+    "\u{2002}",
+    "\u{2003}",
+    "\u{2004}",
+    "\u{2005}",
+    "\u{2006}",
+    "\u{2007}",
+    "\u{2008}",
+    "\u{2009}",
+    "\u{200a}",
+    "\u{202f}",
+    "\u{205f}",
+    "\u{3000}",
+    "\u{3000} \t",
+];
+
+#[test]
+fn spaces(rt: HostRuntime) {
+    for space in &SPACES {
+        holds(&rt, is_kdl_space(space), space);
+    }
+    for other in &[
+        "\n", "\u{feff}", "a", " a", "a ", "\r", "\u{b}", "\u{85}", "\u{200b}",
+    ] {
+        holds(&rt, !is_kdl_space(other), other);
+    }
+}
+
+/// The nodes `foo`, `bar` with entries and a child, and `baz`, as they are built.
+fn built_document(rt: &impl Abort, alloc: Global) -> KdlDocument {
+    let mut bar = built(rt, alloc, "bar");
+    add_property(rt, alloc, &mut bar, "prop", string(rt, alloc, "value"));
+    for value in [
+        KdlValue::from(1),
+        KdlValue::from(2),
+        KdlValue::from(false),
+        KdlValue::Null,
+    ] {
+        add(rt, &mut bar, value);
+    }
+    let child = vec![in alloc; built(rt, alloc, "barchild")];
+    bar.set_children(document_of(alloc, child.expect(rt, "memory")));
+    let nodes = vec![in alloc; built(rt, alloc, "foo"), bar, built(rt, alloc, "baz")];
+    document_of(alloc, nodes.expect(rt, "memory"))
+}
+
+/// What it prints once it is laid out.
+const BUILT: &str = "foo\nbar prop=value 1 2 #false #null {\n    barchild\n}\nbaz\n";
+
+/// A place in the format of a node.
+#[derive(Clone, Copy)]
+enum Place {
+    Leading,
+    BeforeTerminator,
+    Terminator,
+    Trailing,
+}
+
+impl Place {
+    /// Puts the text into the place.
+    fn put(self, format: &mut KdlNodeFormat, broken: String) {
+        match self {
+            Place::Leading => format.leading = broken,
+            Place::BeforeTerminator => format.before_terminator = broken,
+            Place::Terminator => format.terminator = broken,
+            Place::Trailing => format.trailing = broken,
+        }
+    }
+}
+
+/// Puts the text into the place in the format of the node.
+fn break_in_node(rt: &impl Abort, alloc: Global, node: &mut KdlNode, place: Place, broken: &str) {
+    let format = node.format_mut().expect(rt, "no format");
+    place.put(format, text(rt, alloc, broken));
+}
+
+/// A node by its index, a place of it, and a text for that place.
+const BROKEN_NODES: [(usize, Place, &str); 4] = [
+    (0, Place::Leading, "x "),
+    (0, Place::Terminator, "\nb"),
+    (1, Place::BeforeTerminator, "/-3"),
+    (2, Place::Trailing, ")"),
+];
+
+/// Checks the document as it is built, with broken formats, and without formats.
+fn becomes_built(rt: &impl Abort, alloc: Global, no_comments: bool) {
+    let mut document = built_document(rt, alloc);
+    lays_out(rt, alloc, &mut document, no_comments, BUILT);
+    document = built_document(rt, alloc);
+    for (index, place, broken) in &BROKEN_NODES {
+        let node = document.nodes_mut().get_mut(*index).expect(rt, "no node");
+        break_in_node(rt, alloc, node, *place, broken);
+    }
+    lays_out(rt, alloc, &mut document, no_comments, BUILT);
+    document = built_document(rt, alloc);
+    document.clear_format_recursive();
+    lays_out(rt, alloc, &mut document, no_comments, BUILT);
+    document = KdlDocument::new(alloc);
+    prints(rt, alloc, &document, "");
+    lays_out(rt, alloc, &mut document, no_comments, "\n");
+}
+
+#[test]
+fn a_built_document(rt: HostRuntime) {
+    becomes_built(&rt, rt.alloc(), true);
+    becomes_built(&rt, rt.alloc(), false);
+}
+
+/// The entry has the leading text and the spelling of the value, no other text, and no mark.
+fn is_kept(rt: &impl Abort, alloc: Global, entry: &KdlEntry, leading: &str, value_repr: &str) {
+    let mut wanted = KdlEntryFormat::new(alloc);
+    wanted.leading = text(rt, alloc, leading);
+    wanted.value_repr = text(rt, alloc, value_repr);
+    let format = entry.format().expect(rt, "no format");
+    equal(rt, format, &wanted);
+}
+
+/// An entry with a text in each place, and its leading text and its spelling.
+const ENTRY: &str = " \\\n \"k\" /*a*/ = /*b*/( /*c*/\"u\" )/*d*/ 0x10 /*e*/";
+
+const LEADING: &str = " \\\n ";
+
+const REPR: &str = "0x10";
+
+/// Checks a marked entry, which keeps its form once.
+fn keeps_its_form(rt: &impl Abort, alloc: Global, no_comments: bool) {
+    let mut document = read(rt, alloc, "n 1 0x2");
+    for node in document.nodes_mut().iter_mut() {
+        exchange(rt, alloc, node, 0, ENTRY);
+        let entry = node.entries_mut().first_mut().expect(rt, "no entry");
+        entry.keep_format();
+    }
+    let kept = "n \\\n k=(u)0x10 2\n";
+    lays_out(rt, alloc, &mut document, no_comments, kept);
+    for node in document.nodes() {
+        let entry = node.entries().first().expect(rt, "no entry");
+        is_kept(rt, alloc, entry, LEADING, REPR);
+    }
+    lays_out(rt, alloc, &mut document, no_comments, "n k=(u)16 2\n");
+}
+
+#[test]
+fn marked_entries_keep_their_form(rt: HostRuntime) {
+    keeps_its_form(&rt, rt.alloc(), true);
+    keeps_its_form(&rt, rt.alloc(), false);
+}
+
+/// The document prints the text once it is laid out as the configuration says.
+fn becomes(
+    rt: &impl Abort,
+    alloc: Global,
+    document: &mut KdlDocument,
+    config: &FormatConfig,
+    text: &str,
+) {
+    document.autoformat_config(config).expect(rt, "memory");
+    prints(rt, alloc, document, text);
+}
+
+/// Checks a document whose entries are all marked by the configuration: it prints the text as often as it is laid out
+/// so, and the canonical one when it is laid out without marks.
+fn keeps_all(rt: &impl Abort, alloc: Global, no_comments: bool, kept: &str, canonical: &str) {
+    let mut document = read(rt, alloc, "n 1 ( u )0x2 /*x*/ 3.0 {\n  m\t#\"a\"# // c\n}");
+    for node in document.nodes_mut().iter_mut() {
+        exchange(rt, alloc, node, 0, ENTRY);
+        add(rt, node, KdlValue::from(5));
+    }
+    let mut config = config(0, "    ", no_comments);
+    config.entry_autoformate_keep = true;
+    becomes(rt, alloc, &mut document, &config, kept);
+    becomes(rt, alloc, &mut document, &config, kept);
+    for node in document.nodes() {
+        let entry = node.entries().first().expect(rt, "no entry");
+        is_kept(rt, alloc, entry, LEADING, REPR);
+        let entry = node.entries().last().expect(rt, "no entry");
+        holds(rt, entry.format().is_none(), "a format");
+    }
+    lays_out(rt, alloc, &mut document, no_comments, canonical);
+}
+
+#[test]
+fn all_entries_keep_their_form(rt: HostRuntime) {
+    let kept = "n \\\n k=(u)0x10 (u)0x2 /*x*/ 3.0 5 {\n    m\t#\"a\"#\n}\n";
+    let canonical = "n k=(u)16 (u)2 3.0 5 {\n    m a\n}\n";
+    keeps_all(&rt, rt.alloc(), true, kept, canonical);
+    let kept = "n \\\n k=(u)0x10 (u)0x2 /*x*/ 3.0 5 {\n    m\t#\"a\"# // c\n}\n";
+    let laid_out = "n k=(u)16 (u)2 /*x*/ 3.0 5 {\n    m a // c\n}\n";
+    keeps_all(&rt, rt.alloc(), false, kept, laid_out);
+}
+
+/// The text is not laid out as the configuration says, and says then what it said.
+fn is_not_laid_out(
+    rt: &impl Abort,
+    alloc: Global,
+    source: &str,
+    config: &FormatConfig,
+    canonical: &str,
+) {
+    let mut document = read(rt, alloc, source);
+    holds(rt, document.autoformat_config(config).is_err(), source);
+    document_becomes(rt, alloc, &mut document, canonical);
+}
+
+#[test]
+fn levels_without_bound(rt: HostRuntime) {
+    let alloc = rt.alloc();
+    let bare = config(usize::MAX, "", true);
+    let wide = config(usize::MAX, "    ", true);
+    becomes(&rt, alloc, &mut read(&rt, alloc, "a"), &bare, "a\n");
+    becomes(&rt, alloc, &mut read(&rt, alloc, "// c"), &bare, "\n");
+    becomes(&rt, alloc, &mut read(&rt, alloc, "// c"), &wide, "\n");
+    is_not_laid_out(&rt, alloc, "b 0x1; a {}", &bare, "b 1\na {\n\n}\n");
+    is_not_laid_out(&rt, alloc, "b 0x1; a {}", &wide, "b 1\na {\n\n}\n");
+}
+
+#[test]
+fn levels_without_bound_with_comments(rt: HostRuntime) {
+    let alloc = rt.alloc();
+    let bare = config(usize::MAX, "", false);
+    let wide = config(usize::MAX, "    ", false);
+    becomes(&rt, alloc, &mut read(&rt, alloc, ""), &wide, "\n");
+    becomes(&rt, alloc, &mut read(&rt, alloc, "a"), &bare, "a\n");
+    let mut document = read(&rt, alloc, "// c\na 0x1 // d\n/-e");
+    becomes(&rt, alloc, &mut document, &bare, "// c\na 1 // d\n/-e\n");
+    is_not_laid_out(&rt, alloc, "a {}", &bare, "a {\n\n}\n");
+    is_not_laid_out(&rt, alloc, "/*x*/ a /-1 {}", &bare, "a {\n\n}\n");
+    is_not_laid_out(&rt, alloc, "/*x*/ a /-1", &wide, "a\n");
+    is_not_laid_out(&rt, alloc, "// c", &wide, "\n");
+}
+
+#[test]
+fn an_indent_that_is_no_space(rt: HostRuntime) {
+    let alloc = rt.alloc();
+    for no_comments in [true, false] {
+        let mut document = read(&rt, alloc, "// x\n(t)a k=0x1 { b { /-x; c; }; }");
+        let config = config(1, "x", no_comments);
+        document.autoformat_config(&config).expect(&rt, "memory");
+        let canonical = "(t)a k=1 {\n    b {\n        c\n    }\n}\n";
+        document_becomes(&rt, alloc, &mut document, canonical);
+    }
+}
+
+/// The documents and their nodes, and the names and entries of these, have the same spans.
+fn has_the_spans(rt: &impl Abort, document: &KdlDocument, other: &KdlDocument) {
+    equal(rt, &document.span(), &other.span());
+    for (node, other) in document.nodes().iter().zip(other.nodes()) {
+        equal(rt, &node.span(), &other.span());
+        equal(rt, &node.name().span(), &other.name().span());
+        for (entry, other) in node.entries().iter().zip(other.entries()) {
+            equal(rt, &entry.span(), &other.span());
+        }
+    }
+}
+
+#[test]
+fn spans_stay(rt: HostRuntime) {
+    let alloc = rt.alloc();
+    let text = " a  0x10 k = 1 /*c*/;\n\n\"b\" /- 1 (t)2";
+    let mut document = read(&rt, alloc, text);
+    let with_comments = "a 16 k=1 /*c*/\nb /- 1 (t)2\n";
+    lays_out(&rt, alloc, &mut document, false, with_comments);
+    has_the_spans(&rt, &document, &read(&rt, alloc, text));
+    document_becomes(&rt, alloc, &mut document, "a 16 k=1\nb (t)2\n");
+    has_the_spans(&rt, &document, &read(&rt, alloc, text));
+}
+
+/// What the document of the text prints once it is laid out, and that again without comments, or none for want of
+/// memory. Where memory runs out while it is laid out, it still says what it said, so that it can be laid out again.
+fn laid_out(rt: &HostRuntime, text: &str) -> Result<Option<(String, String)>, Fail> {
+    let alloc = rt.alloc();
+    match KdlDocument::parse(alloc, text) {
+        Ok(mut document) => {
+            if document.autoformat().is_err() {
+                document.autoformat_no_comments()?;
+            }
+            let first = document.to_string(alloc).ok();
+            if document.autoformat_no_comments().is_err() {
+                document.autoformat_no_comments()?;
+            }
+            Ok(first.zip(document.to_string(alloc).ok()))
+        }
+        Err(ParseFailure::Memory) => Ok(None),
+        Err(ParseFailure::Syntax(_)) => Err(Fail::from("refused")),
+    }
+}
+
+/// Here alone running out of memory is no fault: run with one allocation refused, the answer is that or one of the two texts.
+#[test]
+fn want_of_memory_or_the_texts(rt: HostRuntime) -> Result<(), Fail> {
+    let text =
+        "\nhello 1 2 3\n\n// Comment\nworld prop=string-value {\n    child 1\n    child 2\n    child #inf\n}\n";
+    let laid =
+        "hello 1 2 3\n// Comment\nworld prop=string-value {\n    child 1\n    child 2\n    child #inf\n}\n";
+    let canonical =
+        "hello 1 2 3\nworld prop=string-value {\n    child 1\n    child 2\n    child #inf\n}\n";
+    if let Some((first, second)) = laid_out(&rt, text)? {
+        assert!(rt; first.as_str() == laid || first.as_str() == canonical);
+        assert_eq!(rt; second.as_str(), canonical);
+    }
+    Ok(())
+}

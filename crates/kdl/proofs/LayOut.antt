@@ -1,0 +1,8 @@
+-- Layout over a stack of blocks.
+
+-- Blocks that are laid out, step by step.
+pub mod BlockSteps
+-- Nodes and documents whose parts were laid out.
+pub mod PartsLaid
+-- What the calls that lay out promise.
+pub mod LayoutCalls

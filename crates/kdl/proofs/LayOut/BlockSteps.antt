@@ -1,0 +1,394 @@
+-- Blocks that are laid out, step by step.
+use Rattle.std.proofs.Common.{◌≡◌, ℕ, zero, suc, ◌+◌, ◌<◌, ◌≤◌, List, [], ◌∷◌, ◌++◌, length, map, drop, set, get_or, Option, None, Some, option_map, refl, sym, ap, ◌∙◌, subst, arith, add-one, Vec, Global, Result, Ok, Err, IfOk}
+use Rattle.std.specs.List.{AllZip}
+use Rattle.std.specs.Prelude.{MatchOption}
+use Rattle.std.proofs.lemmas.List.{append-nil, drop_more, drop_all, drop-set-lt, get_or-set_same}
+use Rattle.kdl_value.specs.Tree.{text_of}
+use Rattle.kdl_fmt.specs.Config.{Settings, indentation}
+use Rattle.kdl_fmt.specs.Formatted.{bare_node, bare_children, bare_nodes}
+use Rattle.kdl_grammar.specs.Tree.{Node, node, children, children_of, document, listed_nodes}
+use Rattle.kdl_parts.specs.Formats.{document_format_tree}
+use Rattle.kdl.specs.Change.{with_nodes}
+use Rattle.kdl.specs.Internal.Count.{count_left}
+use Rattle.kdl.specs.Iterators.{child_nodes, nodes_in}
+use Rattle.kdl.specs.Internal.Laid.{filled_block, filled, with_at, outermost, whole, Laid, Partly, PartlyOpen, LaidBut, IsAtLevel, IsUnderWay, GoesOn}
+use Rattle.kdl.specs.Tree.{head_tree, node_tree, document_tree}
+use Rattle.kdl.specs.declared.node.KdlNode.{KdlNode}
+use Rattle.kdl.specs.declared.document.KdlDocument.{KdlDocument}
+use Rattle.kdl.specs.declared.document.KdlDocument.TheViews.{out-KdlDocument, out-KdlNode, out-roll-KdlDocument}
+use Rattle.kdl.specs.declared.lays.Block.{Block}
+use Rattle.kdl.proofs.NodeCounts.{line_counted, block_counted, end_counted}
+use Rattle.kdl.proofs.Trees.{node_tree_out, document_tree_out}
+
+-- blocks with other nodes in them
+block_is : (o : Option KdlDocument) → children_of (option_map document_tree o) ≡ filled_block o (map node_tree (nodes_in o))
+block_is None = refl
+block_is (Some d) = ap children (document_tree_out d)
+
+pub node_is : (n : KdlNode) → node_tree n ≡ filled n (map node_tree (child_nodes n))
+node_is n = node_tree_out n ∙ ap (λ k. node (head_tree (out-KdlNode n)) k) (block_is (out-KdlNode n).children)
+
+block_changed : (o : Option KdlDocument) (v : Vec KdlNode Global) (ns : List Node) → filled_block (option_map (λ d. with_nodes d v) o) ns ≡ filled_block o ns
+block_changed None v ns = refl
+block_changed (Some d) v ns = ap (λ x. children (document (option_map document_format_tree x.format) x.span (listed_nodes ns))) (out-roll-KdlDocument (record (out-KdlDocument d) { nodes = v }))
+
+-- a node whose block holds other nodes
+pub filled_changed : (n m : KdlNode) (v : Vec KdlNode Global) (ns : List Node) → out-KdlNode m ≡ record (out-KdlNode n) { children = option_map (λ d. with_nodes d v) (out-KdlNode n).children }
+    → filled m ns ≡ filled n ns
+filled_changed n m v ns e =
+    ap (λ x. node (head_tree x) (filled_block x.children ns)) e
+    ∙ ap (λ k. node (head_tree (out-KdlNode n)) k) (block_changed (out-KdlNode n).children v ns)
+
+nodes_changed : (o : Option KdlDocument) (v : Vec KdlNode Global) → filled_block o (map node_tree (nodes_in (option_map (λ d. with_nodes d v) o))) ≡ filled_block o (map node_tree v.items)
+nodes_changed None v = refl
+nodes_changed (Some d) v = ap (λ x. filled_block (Some d) (map node_tree x.nodes.items)) (out-roll-KdlDocument (record (out-KdlDocument d) { nodes = v }))
+
+pub node_changed : (n m : KdlNode) (v : Vec KdlNode Global) → out-KdlNode m ≡ record (out-KdlNode n) { children = option_map (λ d. with_nodes d v) (out-KdlNode n).children }
+    → node_tree m ≡ filled n (map node_tree v.items)
+node_changed n m v e =
+    node_is m
+    ∙ filled_changed n m v (map node_tree (child_nodes m)) e
+    ∙ ap (λ x. filled n (map node_tree (nodes_in x.children))) e
+    ∙ ap (λ k. node (head_tree (out-KdlNode n)) k) (nodes_changed (out-KdlNode n).children v)
+
+-- a node whose block is another, of which only the nodes differ
+pub node_below : (n m : KdlNode) (o : Option KdlDocument) → out-KdlNode m ≡ record (out-KdlNode n) { children = o } → ((ns : List Node) → filled_block o ns ≡ filled_block (out-KdlNode n).children ns)
+    → node_tree m ≡ filled n (map node_tree (nodes_in o))
+node_below n m o e f =
+    node_is m
+    ∙ ap (λ x. node (head_tree x) (filled_block x.children (map node_tree (nodes_in x.children)))) e
+    ∙ ap (λ k. node (head_tree (out-KdlNode n)) k) (f (map node_tree (nodes_in o)))
+
+-- it is laid out where these are
+pub laid_below : {E : Type 0} (r : Result (Unit {0}) E) (s : Settings) (level : ℕ) (n n' m : KdlNode) (o : Option KdlDocument) → node_tree m ≡ filled n' (map node_tree (nodes_in o)) → child_nodes n' ≡ child_nodes n
+    → LaidBut s level (node_tree n) (map node_tree (child_nodes n)) n' → IfOk r (λ _. AllZip (Laid s (level + 1)) (map node_tree (child_nodes n')) (map node_tree (nodes_in o)))
+    → IfOk r (λ _. Laid s level (node_tree n) (node_tree m))
+laid_below (Ok u) s level n n' m o e b l z = rw e (l (map node_tree (nodes_in o)) (subst (λ x. AllZip (Laid s (level + 1)) (map node_tree x) (map node_tree (nodes_in o))) b z))
+laid_below (Err x) s level n n' m o e b l z = z
+
+-- what stays in a block
+bared : (ns : List Node) → bare_nodes (listed_nodes ns) ≡ listed_nodes (map bare_node ns)
+bared [] = refl
+bared (n ∷ ns) = rw (bared ns) refl
+
+pub bare_alike : (ns ms : List Node) → map bare_node ns ≡ map bare_node ms → bare_nodes (listed_nodes ns) ≡ bare_nodes (listed_nodes ms)
+bare_alike ns ms e = bared ns ∙ ap listed_nodes e ∙ sym (bared ms)
+
+pub bare_block : (o : Option KdlDocument) (ns ms : List Node) → map bare_node ns ≡ map bare_node ms → bare_children (filled_block o ns) ≡ bare_children (filled_block o ms)
+bare_block None ns ms e = refl
+bare_block (Some d) ns ms e = rw (bare_alike ns ms e) refl
+
+pub bare_filled : (n : KdlNode) (ns ms : List Node) → map bare_node ns ≡ map bare_node ms → bare_node (filled n ns) ≡ bare_node (filled n ms)
+bare_filled n ns ms e = rw (bare_block (out-KdlNode n).children ns ms e) refl
+
+bare_with_at : (f g : KdlNode → Node) → ((n : KdlNode) → bare_node (f n) ≡ bare_node (g n)) → (ns : List KdlNode) (i : ℕ) → map bare_node (with_at f ns i) ≡ map bare_node (with_at g ns i)
+bare_with_at f g e [] i = refl
+bare_with_at f g e (n ∷ ns) zero = ap (λ x. x ∷ map bare_node (map node_tree ns)) (e n)
+bare_with_at f g e (n ∷ ns) (suc i) = ap (λ x. bare_node (node_tree n) ∷ x) (bare_with_at f g e ns i)
+
+pub bare_outermost : (above : List Block) (ns ms : List Node) → map bare_node ns ≡ map bare_node ms → map bare_node (outermost above ns) ≡ map bare_node (outermost above ms)
+bare_outermost [] ns ms e = e
+bare_outermost (b ∷ above) ns ms e =
+    bare_with_at (λ n. filled n (outermost above ns)) (λ n. filled n (outermost above ms)) (λ n. bare_filled n (outermost above ns) (outermost above ms) (bare_outermost above ns ms e)) b.nodes.items b.at
+
+pub bare_set : (ns : List KdlNode) (i : ℕ) (m d : KdlNode) → i < length ns → bare_node (node_tree m) ≡ bare_node (node_tree (get_or ns i d)) → map bare_node (map node_tree (set ns i m)) ≡ map bare_node (map node_tree ns)
+bare_set [] i m d h e = absurd (omega arith)
+bare_set (n ∷ ns) zero m d h e = ap (λ x. x ∷ map bare_node (map node_tree ns)) e
+bare_set (n ∷ ns) (suc i) m d h e = ap (λ x. bare_node (node_tree n) ∷ x) (bare_set ns i m d (omega arith) e)
+
+-- one more block above
+pub outermost_more : (above : List Block) (b : Block) (ns : List Node) → outermost (above ++ b ∷ []) ns ≡ outermost above (with_at (λ n. filled n ns) b.nodes.items b.at)
+outermost_more [] b ns = refl
+outermost_more (a ∷ above) b ns = ap (λ z. with_at (λ n. filled n z) a.nodes.items a.at) (outermost_more above b ns)
+
+pub with_at_set : (f : KdlNode → Node) (ns : List KdlNode) (i : ℕ) (m n : KdlNode) → i < length ns → f m ≡ node_tree n → with_at f (set ns i m) i ≡ map node_tree (set ns i n)
+with_at_set f [] i m n h e = absurd (omega arith)
+with_at_set f (x ∷ ns) zero m n h e = ap (λ z. z ∷ map node_tree ns) e
+with_at_set f (x ∷ ns) (suc i) m n h e = ap (λ z. node_tree x ∷ z) (with_at_set f ns i m n (omega arith) e)
+
+pub set_with_at : (f : KdlNode → Node) (ns : List KdlNode) (i : ℕ) (m d : KdlNode) → i < length ns → node_tree m ≡ f (get_or ns i d) → map node_tree (set ns i m) ≡ with_at f ns i
+set_with_at f [] i m d h e = absurd (omega arith)
+set_with_at f (n ∷ ns) zero m d h e = ap (λ x. x ∷ map node_tree ns) e
+set_with_at f (n ∷ ns) (suc i) m d h e = ap (λ x. node_tree n ∷ x) (set_with_at f ns i m d (omega arith) e)
+
+pub with_at_none : (f : KdlNode → Node) (ns : List KdlNode) (i : ℕ) → length ns ≤ i → map node_tree ns ≡ with_at f ns i
+with_at_none f [] i h = refl
+with_at_none f (n ∷ ns) zero h = absurd (omega arith)
+with_at_none f (n ∷ ns) (suc i) h = ap (λ x. node_tree n ∷ x) (with_at_none f ns i (omega arith))
+
+-- how far the nodes are laid out
+module _ (s : Settings) (level : ℕ) where
+  pub partly_none : (ns : List KdlNode) → Partly s level (map node_tree ns) ns 0
+  partly_none [] = tt
+  partly_none (n ∷ ns) = (refl, partly_none ns)
+
+  pub partly_all : (olds : List Node) (ns : List KdlNode) (i : ℕ) → length ns ≤ i → Partly s level olds ns i → AllZip (Laid s level) olds (map node_tree ns)
+  partly_all [] [] i h p = tt
+  partly_all [] (n ∷ ns) i h p = absurd p
+  partly_all (o ∷ olds) [] i h p = absurd p
+  partly_all (o ∷ olds) (n ∷ ns) zero h p = absurd (omega arith)
+  partly_all (o ∷ olds) (n ∷ ns) (suc i) h p = (p.0, partly_all olds ns i (omega arith) p.1)
+
+  pub partly_next : (olds : List Node) (ns : List KdlNode) (i : ℕ) (m d : KdlNode) → i < length ns → Laid s level (node_tree (get_or ns i d)) (node_tree m) → Partly s level olds ns i
+      → Partly s level olds (set ns i m) (suc i)
+  partly_next [] [] i m d h l p = absurd (omega arith)
+  partly_next [] (n ∷ ns) i m d h l p = absurd p
+  partly_next (o ∷ olds) [] i m d h l p = absurd p
+  partly_next (o ∷ olds) (n ∷ ns) zero m d h l p = (subst (λ x. Laid s level x (node_tree m)) p.0 l, p.1)
+  partly_next (o ∷ olds) (n ∷ ns) (suc i) m d h l p = (p.0, partly_next olds ns i m d (omega arith) l p.1)
+
+  pub partly_open : (Open : Node → KdlNode → Type 0) (olds : List Node) (ns : List KdlNode) (i : ℕ) (m d : KdlNode) → i < length ns → Open (node_tree (get_or ns i d)) m → Partly s level olds ns i
+      → PartlyOpen s level Open olds (set ns i m) i
+  partly_open Open [] [] i m d h l p = absurd (omega arith)
+  partly_open Open [] (n ∷ ns) i m d h l p = absurd p
+  partly_open Open (o ∷ olds) [] i m d h l p = absurd p
+  partly_open Open (o ∷ olds) (n ∷ ns) zero m d h l p = (subst (λ x. Open x m) p.0 l, p.1)
+  partly_open Open (o ∷ olds) (n ∷ ns) (suc i) m d h l p = (p.0, partly_open Open olds ns i m d (omega arith) l p.1)
+
+  pub partly_closed : (Open : Node → KdlNode → Type 0) (olds : List Node) (ns : List KdlNode) (i : ℕ) (m d : KdlNode) → ((o : Node) → Open o (get_or ns i d) → Laid s level o (node_tree m))
+      → PartlyOpen s level Open olds ns i → Partly s level olds (set ns i m) (suc i)
+  partly_closed Open [] [] i m d l p = absurd p
+  partly_closed Open [] (n ∷ ns) i m d l p = absurd p
+  partly_closed Open (o ∷ olds) [] i m d l p = absurd p
+  partly_closed Open (o ∷ olds) (n ∷ ns) zero m d l p = (l o p.0, p.1)
+  partly_closed Open (o ∷ olds) (n ∷ ns) (suc i) m d l p = (p.0, partly_closed Open olds ns i m d l p.1)
+
+  pub open_inside : (Open : Node → KdlNode → Type 0) (olds : List Node) (ns : List KdlNode) (i : ℕ) → PartlyOpen s level Open olds ns i → i < length ns
+  open_inside Open [] [] i p = absurd p
+  open_inside Open [] (n ∷ ns) i p = absurd p
+  open_inside Open (o ∷ olds) [] i p = absurd p
+  open_inside Open (o ∷ olds) (n ∷ ns) zero p = omega arith
+  open_inside Open (o ∷ olds) (n ∷ ns) (suc i) p = let h = open_inside Open olds ns i p.1 in omega (arith, h)
+
+  pub open_as : (Open Open' : Node → KdlNode → Type 0) → ((o : Node) (n : KdlNode) → Open o n → Open' o n) → (olds : List Node) (ns : List KdlNode) (i : ℕ)
+      → PartlyOpen s level Open olds ns i → PartlyOpen s level Open' olds ns i
+  open_as Open Open' f [] [] i p = absurd p
+  open_as Open Open' f [] (n ∷ ns) i p = absurd p
+  open_as Open Open' f (o ∷ olds) [] i p = absurd p
+  open_as Open Open' f (o ∷ olds) (n ∷ ns) zero p = (f o n p.0, p.1)
+  open_as Open Open' f (o ∷ olds) (n ∷ ns) (suc i) p = (p.0, open_as Open Open' f olds ns i p.1)
+
+-- what a step does under all blocks above
+under_way : (s : Settings) (above tail tail' : List Block) (b b' : Block) → ((level : ℕ) (olds : List Node) → IsUnderWay s level olds tail b → IsUnderWay s level olds tail' b')
+    → (level : ℕ) (olds : List Node) → IsUnderWay s level olds (above ++ tail) b → IsUnderWay s level olds (above ++ tail') b'
+under_way s [] tail tail' b b' f level olds u = f level olds u
+under_way s (a ∷ above) tail tail' b b' f level olds u = (
+  u.0,
+  open_as s level
+      (λ o n. (ns : List Node) × LaidBut s level o ns n × IsUnderWay s (level + 1) ns (above ++ tail) b)
+      (λ o n. (ns : List Node) × LaidBut s level o ns n × IsUnderWay s (level + 1) ns (above ++ tail') b')
+      (λ o n q. (q.0, q.1, under_way s above tail tail' b b' f (level + 1) q.0 q.2)) olds a.nodes.items a.at u.1,
+)
+
+-- the next node has no nodes in its block
+pub line_on : (s : Settings) (above : List Block) (b b' : Block) (m d : KdlNode) → b.at < length b.nodes.items → b'.nodes.items ≡ set b.nodes.items b.at m → b'.at ≡ b.at + 1 → b'.level ≡ b.level → b'.before ≡ b.before
+    → ((level : ℕ) → IsAtLevel s level b → Laid s level (node_tree (get_or b.nodes.items b.at d)) (node_tree m))
+    → (level : ℕ) (olds : List Node) → IsUnderWay s level olds above b → IsUnderWay s level olds above b'
+line_on s above b b' m d h ns at l t laid level olds u =
+    let f : (level : ℕ) (olds : List Node) → IsUnderWay s level olds [] b → IsUnderWay s level olds [] b' =
+    λ level olds u. (
+      rw (l, t) u.0,
+      rw (ns, at, add-one b.at) (partly_next s level olds b.nodes.items b.at m d h (laid level u.0) u.1),
+    ) in
+    subst (λ z. IsUnderWay s level olds z b') (append-nil above)
+    (under_way s above [] [] b b' f level olds (subst (λ z. IsUnderWay s level olds z b) (sym (append-nil above)) u))
+
+-- the next node's block is entered
+pub block_on : (s : Settings) (above : List Block) (b outer inner : Block) (ns : List KdlNode) (m d : KdlNode) → b.at < length b.nodes.items
+    → outer.nodes.items ≡ set b.nodes.items b.at m → outer.at ≡ b.at → outer.level ≡ b.level → outer.before ≡ b.before
+    → inner.nodes.items ≡ ns → inner.at ≡ 0
+    → ((level : ℕ) → IsAtLevel s level b → LaidBut s level (node_tree (get_or b.nodes.items b.at d)) (map node_tree ns) m × IsAtLevel s (level + 1) inner)
+    → (level : ℕ) (olds : List Node) → IsUnderWay s level olds above b → IsUnderWay s level olds (above ++ outer ∷ []) inner
+block_on s above b outer inner ns m d h is at l t holds first laid level olds u =
+    let f : (level : ℕ) (olds : List Node) → IsUnderWay s level olds [] b → IsUnderWay s level olds (outer ∷ []) inner =
+    λ level olds u.
+    let w = laid level u.0 in
+    let start : Partly s (level + 1) (map node_tree ns) inner.nodes.items inner.at = rw (holds, first) (partly_none s (level + 1) ns) in (
+      rw (l, t) u.0,
+      rw (is, at) (partly_open s level (λ o n. (ns : List Node) × LaidBut s level o ns n × IsUnderWay s (level + 1) ns [] inner) olds b.nodes.items b.at m d h (map node_tree ns, w.0, (w.1, start)) u.1),
+    ) in
+    under_way s above [] (outer ∷ []) b inner f level olds (subst (λ z. IsUnderWay s level olds z b) (sym (append-nil above)) u)
+
+-- a block is left
+pub end_on : (s : Settings) (above : List Block) (outer inner b : Block) (m d : KdlNode) → length inner.nodes.items ≤ inner.at
+    → (outer.at < length outer.nodes.items → (b.nodes.items ≡ set outer.nodes.items outer.at m) × (b.at ≡ outer.at + 1)) → b.level ≡ outer.level → b.before ≡ outer.before
+    → node_tree m ≡ filled (get_or outer.nodes.items outer.at d) (map node_tree inner.nodes.items)
+    → (level : ℕ) (olds : List Node) → IsUnderWay s level olds (above ++ outer ∷ []) inner → IsUnderWay s level olds above b
+end_on s above outer inner b m d all is l t e level olds u =
+    let f : (level : ℕ) (olds : List Node) → IsUnderWay s level olds (outer ∷ []) inner → IsUnderWay s level olds [] b =
+    λ level olds u.
+    let Open : Node → KdlNode → Type 0 = λ o n. (ns : List Node) × LaidBut s level o ns n × IsUnderWay s (level + 1) ns [] inner in
+    let w = is (open_inside s level Open olds outer.nodes.items outer.at u.1) in (
+      rw (l, t) u.0,
+      rw (w.0, w.1, add-one outer.at) (partly_closed s level Open olds outer.nodes.items outer.at m d
+          (λ o q. rw e (q.1 (map node_tree inner.nodes.items) (partly_all s (level + 1) q.0 inner.nodes.items inner.at all q.2.1))) u.1),
+    ) in
+    subst (λ z. IsUnderWay s level olds z b) (append-nil above) (under_way s above (outer ∷ []) [] inner b f level olds u)
+
+end_on_none : (s : Settings) (above : List Block) (outer inner b : Block) → length outer.nodes.items ≤ outer.at
+    → (level : ℕ) (olds : List Node) → IsUnderWay s level olds (above ++ outer ∷ []) inner → IsUnderWay s level olds above b
+end_on_none s above outer inner b h level olds u =
+    let f : (level : ℕ) (olds : List Node) → IsUnderWay s level olds (outer ∷ []) inner → IsUnderWay s level olds [] b =
+    λ level olds u.
+    let k = open_inside s level (λ o n. (ns : List Node) × LaidBut s level o ns n × IsUnderWay s (level + 1) ns [] inner) olds outer.nodes.items outer.at u.1 in
+    absurd (omega (arith, h, k)) in
+    subst (λ z. IsUnderWay s level olds z b) (append-nil above) (under_way s above (outer ∷ []) [] inner b f level olds u)
+
+-- nothing is left
+pub all_done : (s : Settings) (above : List Block) (b : Block) (level : ℕ) (olds : List Node) → above ≡ [] → length b.nodes.items ≤ b.at → IsUnderWay s level olds above b → AllZip (Laid s level) olds (map node_tree b.nodes.items)
+all_done s above b level olds e h u =
+    let w : IsUnderWay s level olds [] b = subst (λ z. IsUnderWay s level olds z b) e u in
+    partly_all s level olds b.nodes.items b.at h w.1
+
+-- what is left of a list of which one element is exchanged
+abbrev behind : Block → List KdlNode
+behind b = drop (b.at + 1) b.nodes.items
+
+-- a block is left: the whole is what it was
+pub end_whole : (above : List Block) (outer inner b : Block) (n m : KdlNode) → outer.at < length outer.nodes.items → get_or outer.nodes.items outer.at n ≡ n → node_tree m ≡ filled n (map node_tree inner.nodes.items)
+    → b.nodes.items ≡ set outer.nodes.items outer.at m → whole above b ≡ whole (above ++ outer ∷ []) inner
+end_whole above outer inner b n m h g t is =
+    let ns = map node_tree inner.nodes.items in
+    ap (λ z. outermost above (map node_tree z)) is
+    ∙ ap (outermost above) (set_with_at (λ x. filled x ns) outer.nodes.items outer.at m n h (t ∙ ap (λ x. filled x ns) (sym g)))
+    ∙ sym (outermost_more above outer ns)
+
+pub end_whole_none : (above : List Block) (outer inner b : Block) → length outer.nodes.items ≤ outer.at → b.nodes.items ≡ outer.nodes.items → whole above b ≡ whole (above ++ outer ∷ []) inner
+end_whole_none above outer inner b h is =
+    let ns = map node_tree inner.nodes.items in
+    ap (λ z. outermost above (map node_tree z)) is
+    ∙ ap (outermost above) (with_at_none (λ x. filled x ns) outer.nodes.items outer.at h)
+    ∙ sym (outermost_more above outer ns)
+
+-- and what was under way goes on
+end_goes_on : (above : List Block) (outer inner b : Block) (n m : KdlNode) → (outer.at < length outer.nodes.items → (b.nodes.items ≡ set outer.nodes.items outer.at m) × (b.at ≡ outer.at + 1))
+    → drop b.at b.nodes.items ≡ behind outer → b.level ≡ outer.level → b.before ≡ outer.before
+    → node_tree m ≡ filled (get_or outer.nodes.items outer.at n) (map node_tree inner.nodes.items) → length inner.nodes.items ≤ inner.at → (s : Settings) → GoesOn s (above ++ outer ∷ []) inner above b
+end_goes_on above outer inner b n m is left l t e all s =
+    let nothing : drop inner.at inner.nodes.items ≡ [] = drop_all inner.at inner.nodes.items all in (
+      end_on s above outer inner b m n all is l t e,
+      omega (arith, end_counted behind outer above, ap (λ r. count_left behind r above) left, ap (λ r. count_left behind r (above ++ outer ∷ [])) nothing),
+    )
+
+pub end_goes_on_there : (above : List Block) (outer inner b : Block) (n m : KdlNode) → outer.at < length outer.nodes.items → get_or outer.nodes.items outer.at n ≡ n → node_tree m ≡ filled n (map node_tree inner.nodes.items)
+    → b.nodes.items ≡ set outer.nodes.items outer.at m → b.at ≡ outer.at + 1 → b.level ≡ outer.level → b.before ≡ outer.before
+    → length inner.nodes.items ≤ inner.at → (s : Settings) → GoesOn s (above ++ outer ∷ []) inner above b
+end_goes_on_there above outer inner b n m h g e is at l t all =
+    end_goes_on above outer inner b n m (λ _. (is, at)) (rw (is, at) (drop-set-lt (outer.at + 1) outer.nodes.items outer.at m (omega arith))) l t
+    (e ∙ ap (λ x. filled x (map node_tree inner.nodes.items)) (sym g)) all
+
+pub end_goes_on_none : (above : List Block) (outer inner b : Block) → length outer.nodes.items ≤ outer.at → b.nodes.items ≡ outer.nodes.items → b.at ≡ outer.at → b.level ≡ outer.level → b.before ≡ outer.before
+    → length inner.nodes.items ≤ inner.at → (s : Settings) → GoesOn s (above ++ outer ∷ []) inner above b
+end_goes_on_none above outer inner b h is at l t all s =
+    let nothing : drop inner.at inner.nodes.items ≡ [] = drop_all inner.at inner.nodes.items all in
+    let left : drop b.at b.nodes.items ≡ behind outer = rw (is, at) (drop_all outer.at outer.nodes.items h ∙ sym (drop_all (outer.at + 1) outer.nodes.items (omega (arith, h)))) in (
+      end_on_none s above outer inner b h,
+      omega (arith, end_counted behind outer above, ap (λ r. count_left behind r above) left, ap (λ r. count_left behind r (above ++ outer ∷ [])) nothing),
+    )
+
+-- a step at the next node leaves what stays
+pub bare_next : (above : List Block) (b b' : Block) (n m : KdlNode) → b.at < length b.nodes.items → get_or b.nodes.items b.at n ≡ n → bare_node (node_tree m) ≡ bare_node (node_tree n)
+    → b'.nodes.items ≡ set b.nodes.items b.at m → map bare_node (whole above b') ≡ map bare_node (whole above b)
+bare_next above b b' n m h g e is =
+    bare_outermost above (map node_tree b'.nodes.items) (map node_tree b.nodes.items)
+    (ap (λ z. map bare_node (map node_tree z)) is ∙ bare_set b.nodes.items b.at m n h (e ∙ ap (λ x. bare_node (node_tree x)) (sym g)))
+
+-- what is laid out at a block's level
+at_level : (s : Settings) (b : Block) (n m : KdlNode) → (text_of b.before ≡ indentation s b.level → LaidBut s b.level (node_tree n) (map node_tree (child_nodes n)) m)
+    → (level : ℕ) → IsAtLevel s level b → LaidBut s level (node_tree n) (map node_tree (child_nodes n)) m
+at_level s b n m own level u = subst (λ k. LaidBut s k (node_tree n) (map node_tree (child_nodes n)) m) u.0 (own (u.1 ∙ ap (indentation s) (sym u.0)))
+
+none_is : (xs : List KdlNode) → (0 < length xs → ⊥) → xs ≡ []
+none_is [] h = refl
+none_is (x ∷ xs) h = absurd (h (omega arith))
+
+-- the next node, without nodes in its block
+pub line_goes_on : (s : Settings) (above : List Block) (b b' : Block) (n m : KdlNode) → b.at < length b.nodes.items → get_or b.nodes.items b.at n ≡ n
+    → b'.nodes.items ≡ set b.nodes.items b.at m → b'.at ≡ b.at + 1 → b'.level ≡ b.level → b'.before ≡ b.before
+    → child_nodes m ≡ child_nodes n → (0 < length (child_nodes m) → ⊥)
+    → (text_of b.before ≡ indentation s b.level → LaidBut s b.level (node_tree n) (map node_tree (child_nodes n)) m) → GoesOn s above b above b'
+line_goes_on s above b b' n m h g is at l t same none own =
+    let empty : child_nodes m ≡ [] = none_is (child_nodes m) none in
+    let tree : node_tree m ≡ filled m [] = node_is m ∙ ap (λ z. filled m (map node_tree z)) empty in
+    let laid : (level : ℕ) → IsAtLevel s level b → Laid s level (node_tree n) (node_tree m) =
+    λ level u. subst (λ x. Laid s level (node_tree n) x) (sym tree) (at_level s b n m own level u [] (subst (λ z. AllZip (Laid s (level + 1)) (map node_tree z) []) (sym empty ∙ same) tt)) in
+    let rest : drop b'.at b'.nodes.items ≡ behind b = rw (is, at) (drop-set-lt (b.at + 1) b.nodes.items b.at m (omega arith)) in
+    let first : drop b.at b.nodes.items ≡ n ∷ behind b = drop_more b.nodes.items b.at n h ∙ ap (λ x. x ∷ behind b) g in (
+      line_on s above b b' m n h is at l t (λ level u. subst (λ x. Laid s level (node_tree x) (node_tree m)) (sym g) (laid level u)),
+      omega (arith, line_counted behind n (behind b) above, ap (λ r. count_left behind r above) rest, ap (λ r. count_left behind r above) first),
+    )
+
+set_twice : (xs : List KdlNode) (i : ℕ) (y z : KdlNode) → set (set xs i y) i z ≡ set xs i z
+set_twice [] i y z = refl
+set_twice (x ∷ xs) zero y z = refl
+set_twice (x ∷ xs) (suc i) y z = ap (λ t. x ∷ t) (set_twice xs i y z)
+
+block_is_there : (o : Option KdlDocument) → 0 < length (nodes_in o) → (d : KdlDocument) × (o ≡ Some d)
+block_is_there None h = absurd (omega (arith, h))
+block_is_there (Some d) h = (d, refl)
+
+nodes_taken : (o : Option KdlDocument) (r v : Vec KdlNode Global) → 0 < length (nodes_in o) → MatchOption o (r ≡ v) (λ d. r ≡ (out-KdlDocument d).nodes) → r.items ≡ nodes_in o
+nodes_taken None r v h m = absurd (omega (arith, h))
+nodes_taken (Some d) r v h m = ap (λ (x : Vec KdlNode Global). x.items) m
+
+-- the next node, of which the nodes in its block are taken out: b is its block, b1 is that with the node laid out
+module _ (s : Settings) (above : List Block) (b b1 outer inner : Block) (n m x x' : KdlNode) (v r : Vec KdlNode Global)
+    (there : b.at < length b.nodes.items) (next : get_or b.nodes.items b.at n ≡ n)
+    (items : b1.nodes.items ≡ set b.nodes.items b.at m) (place : b1.at ≡ b.at) (open_level : b1.level ≡ b.level) (open_before : b1.before ≡ b.before)
+    (again : get_or b1.nodes.items b1.at x ≡ x)
+    (same : child_nodes m ≡ child_nodes n) (some : 0 < length (child_nodes m))
+    (had : MatchOption (out-KdlNode x).children (r ≡ v) (λ d. r ≡ (out-KdlDocument d).nodes))
+    (has : out-KdlNode x' ≡ record (out-KdlNode x) { children = option_map (λ d. with_nodes d v) (out-KdlNode x).children })
+    (exchanged : outer.nodes.items ≡ set b1.nodes.items b1.at x') (outer_at : outer.at ≡ b1.at) (outer_level : outer.level ≡ b1.level) (outer_before : outer.before ≡ b1.before)
+    (inner_nodes : inner.nodes.items ≡ r.items) where
+  x_is : x ≡ m
+  x_is = sym again ∙ ap (λ z. get_or z b1.at x) items ∙ ap (λ i. get_or (set b.nodes.items b.at m) i x) place ∙ get_or-set_same b.nodes.items b.at m x there
+
+  taken : inner.nodes.items ≡ child_nodes m
+  taken = inner_nodes ∙ nodes_taken (out-KdlNode x).children r v (subst (λ z. 0 < length (child_nodes z)) (sym x_is) some) had ∙ ap child_nodes x_is
+
+  outer_items : outer.nodes.items ≡ set b.nodes.items b.at x'
+  outer_items = exchanged ∙ ap (λ z. set z b1.at x') items ∙ ap (λ i. set (set b.nodes.items b.at m) i x') place ∙ set_twice b.nodes.items b.at m x'
+
+  as_before : (ms : List Node) → filled x' ms ≡ filled m ms
+  as_before ms = filled_changed x x' v ms has ∙ ap (λ z. filled z ms) x_is
+
+  pub bare_block_next : bare_node (node_tree m) ≡ bare_node (node_tree n) → map bare_node (whole (above ++ outer ∷ []) inner) ≡ map bare_node (whole above b)
+  bare_block_next e =
+      let f : KdlNode → Node = λ z. filled z (map node_tree inner.nodes.items) in
+      let one : f x' ≡ node_tree m = as_before (map node_tree inner.nodes.items) ∙ ap (λ z. filled m (map node_tree z)) taken ∙ sym (node_is m) in
+      let two : with_at f outer.nodes.items outer.at ≡ map node_tree (set b.nodes.items b.at m) =
+      ap (λ z. with_at f z outer.at) outer_items ∙ ap (λ i. with_at f (set b.nodes.items b.at x') i) (outer_at ∙ place) ∙ with_at_set f b.nodes.items b.at x' m there one in
+      ap (map bare_node) (outermost_more above outer (map node_tree inner.nodes.items) ∙ ap (outermost above) two)
+      ∙ bare_outermost above (map node_tree (set b.nodes.items b.at m)) (map node_tree b.nodes.items) (bare_set b.nodes.items b.at m n there (e ∙ ap (λ z. bare_node (node_tree z)) (sym next)))
+
+  pub block_goes_on : inner.at ≡ 0 → inner.level ≡ b1.level + 1 → text_of inner.before ≡ indentation s inner.level
+      → (text_of b.before ≡ indentation s b.level → LaidBut s b.level (node_tree n) (map node_tree (child_nodes n)) m) → GoesOn s above b (above ++ outer ∷ []) inner
+  block_goes_on first l t own =
+      let w = block_is_there (out-KdlNode n).children (subst (λ z. 0 < length z) same some) in
+      let laid : (level : ℕ) → IsAtLevel s level b → LaidBut s level (node_tree (get_or b.nodes.items b.at n)) (map node_tree (child_nodes n)) x' × IsAtLevel s (level + 1) inner =
+      λ level u. (
+        λ ms z. rw (as_before ms, next) (at_level s b n m own level u ms z),
+        let k : inner.level ≡ level + 1 = l ∙ ap (λ z. z + 1) (open_level ∙ u.0) in (k, t ∙ ap (indentation s) k),
+      ) in
+      let rest : behind outer ≡ behind b =
+      ap (λ z. drop (outer.at + 1) z) outer_items ∙ ap (λ i. drop (i + 1) (set b.nodes.items b.at x')) (outer_at ∙ place) ∙ drop-set-lt (b.at + 1) b.nodes.items b.at x' (omega arith) in
+      let next_is : drop b.at b.nodes.items ≡ n ∷ behind b = drop_more b.nodes.items b.at n there ∙ ap (λ z. z ∷ behind b) next in
+      let start : drop inner.at inner.nodes.items ≡ child_nodes n = ap (λ i. drop i inner.nodes.items) first ∙ taken ∙ same in
+      let is : child_nodes n ≡ (out-KdlDocument w.0).nodes.items = ap nodes_in w.1 in (
+        block_on s above b outer inner (child_nodes n) x' n there outer_items (outer_at ∙ place) (outer_level ∙ open_level) (outer_before ∙ open_before) (taken ∙ same) first laid,
+        omega (arith, block_counted behind n w.0 outer above w.1, ap (λ z. count_left behind z (above ++ outer ∷ [])) (start ∙ is), ap (λ z. count_left behind (n ∷ z) above) rest, ap (λ z. count_left behind z above) next_is),
+      )
+
+-- a layout from the start to the end
+pub all_laid : {E : Type 0} (r : Result (Unit {0}) E) (s : Settings) (level : ℕ) (olds xs : List KdlNode) (above above' : List Block) (b b' : Block)
+    → above ≡ [] → b.nodes.items ≡ olds → b.at ≡ 0 → b.level ≡ level → text_of b.before ≡ indentation s level
+    → map node_tree xs ≡ whole above' b'
+    → IfOk r (λ _. (level : ℕ) (os : List Node) → IsUnderWay s level os above b → (above' ≡ []) × AllZip (Laid s level) os (map node_tree b'.nodes.items))
+    → IfOk r (λ _. AllZip (Laid s level) (map node_tree olds) (map node_tree xs))
+all_laid (Ok u) s level olds xs above above' b b' none holds first l t tree f =
+    let start : IsUnderWay s level (map node_tree olds) above b =
+    subst (λ z. IsUnderWay s level (map node_tree olds) z b) (sym none) ((l, t), rw (holds, first) (partly_none s level olds)) in
+    let w = f level (map node_tree olds) start in
+    rw (tree ∙ ap (λ z. whole z b') w.0) w.1
+all_laid (Err e) s level olds xs above above' b b' none holds first l t tree f = f

@@ -1,0 +1,134 @@
+-- What the calls that lay out promise, from what the layout makes.
+use Rattle.std.proofs.Common.{◌≡◌, ℕ, true, false, refl, sym, ap, ◌∙◌, subst, Result, Ok, Err, IfOk}
+use Rattle.std.specs.List.{list_all}
+use Rattle.kdl_text.specs.Chars.{is_space}
+use Rattle.kdl_grammar.specs.Data as data'
+use Rattle.kdl_grammar.specs.Grammar.{IsDocument}
+use Rattle.kdl_grammar.specs.Print.{print_document, print_node}
+use Rattle.kdl_grammar.specs.Tree.{Document, document_data, Node, node_data}
+use Rattle.kdl_fmt.specs.Canonical.{canonical, canonical_node, Canonical, CanonicalNode}
+use Rattle.kdl_fmt.specs.Comments.{CommentsStay}
+use Rattle.kdl_fmt.specs.Config.{Settings, IsPlain, defaults, without_comments}
+use Rattle.kdl_fmt.specs.Formatted.{formatted_document, formatted_node, bare_document, bare_node, DocumentKeepsNone, NodeKeepsNone}
+use Rattle.kdl_fmt.specs.WellFormed.{AreWellFormed, IsWellFormedNode}
+use Rattle.kdl_fmt.specs.WithComments.{IsFormattedDocument, IsFormattedNode}
+use Rattle.kdl_fmt.proofs.Formatting.CommentsReadBack.{document_derived, node_derived}
+use Rattle.kdl_fmt.proofs.Keeping.CommentsStay.{comments_stay, node_comments_stay}
+use Rattle.kdl_fmt.proofs.Formatting.FormattedUnique as layout
+use Rattle.kdl_fmt.proofs.Formatting.PrintsCanonical.{bare_document_data, bare_node_data, document_canonical, node_canonical}
+use Rattle.kdl_fmt.proofs.Formatting.CanonicalReadsBack.{canonical_reads, canonical_node_reads}
+use Rattle.kdl.specs.Layout.{NodeCommentsStay}
+use Rattle.kdl.proofs.LayOut.PartsLaid.{if_ok}
+
+pub same_data : (x y : Document) → bare_document x ≡ bare_document y → document_data x ≡ document_data y
+same_data x y e = sym (bare_document_data x) ∙ ap document_data e ∙ bare_document_data y
+
+pub same_node_data : (x y : Node) → bare_node x ≡ bare_node y → node_data x ≡ node_data y
+same_node_data x y e = sym (bare_node_data x) ∙ ap node_data e ∙ bare_node_data y
+
+if_both : {A E P Q S : Type 0} (r : Result A E) → (P → Q → S) → IfOk r (λ (a : A). P) → IfOk r (λ (a : A). Q) → IfOk r (λ (a : A). S)
+if_both (Ok a) f p q = f p q
+if_both (Err e) f p q = p
+
+module _ {A E : Type 0} (r : Result A E) (s : Settings) (level : ℕ) where
+  module _ (x d : Document) where
+    pub plain : IfOk r (λ _. IsFormattedDocument s level d x) → IfOk r (λ _. s.no_comments ≡ true → x ≡ formatted_document s level d)
+    plain h = if_ok r (λ (f : IsFormattedDocument s level d x). λ e. layout.document_left_out s level d x e f) h
+
+    pub unmarked : IfOk r (λ _. IsFormattedDocument s level d x) → IfOk r (λ _. DocumentKeepsNone x)
+    unmarked h = if_ok r (λ (f : IsFormattedDocument s level d x). layout.document_unmarked s level d x f) h
+
+    pub derived : IfOk r (λ _. IsFormattedDocument s level d x) → IfOk r (λ _. AreWellFormed (document_data d))
+        → IfOk r (λ _. list_all is_space s.indent ≡ true → s.entry_autoformate_keep ≡ false → DocumentKeepsNone d → IsDocument true (print_document x 0) (document_data d))
+    derived h w =
+        if_both r (λ (f : IsFormattedDocument s level d x) (fit : AreWellFormed (document_data d)). λ ok keep none. document_derived s ok keep level 0 d x f none fit) h w
+
+    pub comments : IfOk r (λ _. IsFormattedDocument s level d x) → IfOk r (λ _. AreWellFormed (document_data d))
+        → IfOk r (λ _. list_all is_space s.indent ≡ true → s.entry_autoformate_keep ≡ false → s.no_comments ≡ false → DocumentKeepsNone d → CommentsStay d (print_document x 0))
+    comments h w =
+        if_both r
+        (λ (f : IsFormattedDocument s level d x) (fit : AreWellFormed (document_data d)). λ ok keep with none e is i l. comments_stay s ok keep with level 0 d x e is i f none fit l) h w
+
+    pub prints : IfOk r (λ _. IsFormattedDocument s level d x) → IfOk r (λ _. IsPlain s → DocumentKeepsNone d → print_document x 0 ≡ canonical s.indent level (document_data d))
+    prints h =
+        if_ok r
+        (λ (f : IsFormattedDocument s level d x). λ p k. ap (λ (y : Document). print_document y 0) (layout.document_left_out s level d x p.0 f) ∙ document_canonical s level 0 d p k)
+        h
+
+    pub reads : IfOk r (λ _. AreWellFormed (document_data d)) → IfOk r (λ _. list_all is_space s.indent ≡ true → Canonical s.indent level (document_data d))
+    reads h = if_ok r (λ (w : AreWellFormed (document_data d)). λ ok. canonical_reads s.indent ok level (document_data d) w) h
+
+  module _ (x n : Node) where
+    pub node_plain : IfOk r (λ _. IsFormattedNode s level n x) → IfOk r (λ _. s.no_comments ≡ true → x ≡ formatted_node s level n)
+    node_plain h = if_ok r (λ (f : IsFormattedNode s level n x). λ e. layout.left_out s level n x e f) h
+
+    pub node_unmarks : IfOk r (λ _. IsFormattedNode s level n x) → IfOk r (λ _. NodeKeepsNone x)
+    node_unmarks h = if_ok r (λ (f : IsFormattedNode s level n x). layout.unmarked s level n x f) h
+
+    pub node_derives : IfOk r (λ _. IsFormattedNode s level n x) → IfOk r (λ _. IsWellFormedNode (node_data n))
+        → IfOk r (λ _. list_all is_space s.indent ≡ true → s.entry_autoformate_keep ≡ false → NodeKeepsNone n → IsDocument true (print_node x 0) (data'.first (node_data n) data'.none))
+    node_derives h w =
+        if_both r (λ (f : IsFormattedNode s level n x) (fit : IsWellFormedNode (node_data n)). λ ok keep none. node_derived s ok keep level 0 n x f none fit) h w
+
+    pub node_comments : IfOk r (λ _. IsFormattedNode s level n x) → IfOk r (λ _. IsWellFormedNode (node_data n))
+        → IfOk r (λ _. list_all is_space s.indent ≡ true → s.entry_autoformate_keep ≡ false → s.no_comments ≡ false → NodeKeepsNone n → NodeCommentsStay n (print_node x 0))
+    node_comments h w =
+        if_both r
+        (λ (f : IsFormattedNode s level n x) (fit : IsWellFormedNode (node_data n)). λ ok keep with none e is i l. node_comments_stay s ok keep with level 0 n x e is i f none fit l) h w
+
+    pub node_prints : IfOk r (λ _. IsFormattedNode s level n x) → IfOk r (λ _. IsPlain s → NodeKeepsNone n → print_node x 0 ≡ canonical_node s.indent level (node_data n))
+    node_prints h =
+        if_ok r
+        (λ (f : IsFormattedNode s level n x). λ p k. ap (λ (y : Node). print_node y 0) (layout.left_out s level n x p.0 f) ∙ node_canonical s level 0 n p k)
+        h
+
+    pub node_reads : IfOk r (λ _. IsWellFormedNode (node_data n)) → IfOk r (λ _. list_all is_space s.indent ≡ true → CanonicalNode s.indent level (node_data n))
+    node_reads h = if_ok r (λ (w : IsWellFormedNode (node_data n)). λ ok. canonical_node_reads s.indent ok level (node_data n) w) h
+
+-- the four spaces of the default configuration
+spaces_are : list_all is_space defaults.indent ≡ true
+unfolding is_space
+spaces_are = refl
+
+pub default_derived : {A E : Type 0} (r : Result A E) (s : Settings) (P Q : Type 0) → s ≡ defaults → IfOk r (λ _. list_all is_space s.indent ≡ true → s.entry_autoformate_keep ≡ false → P → Q)
+    → IfOk r (λ _. P → Q)
+default_derived r s P Q e h =
+    if_ok r (λ (f : list_all is_space defaults.indent ≡ true → false ≡ false → P → Q). f spaces_are refl)
+    (subst (λ (z : Settings). IfOk r (λ _. list_all is_space z.indent ≡ true → z.entry_autoformate_keep ≡ false → P → Q)) e h)
+
+pub default_comments : {A E : Type 0} (r : Result A E) (s : Settings) (P Q : Type 0) → s ≡ defaults
+    → IfOk r (λ _. list_all is_space s.indent ≡ true → s.entry_autoformate_keep ≡ false → s.no_comments ≡ false → P → Q) → IfOk r (λ _. P → Q)
+default_comments r s P Q e h =
+    if_ok r (λ (f : list_all is_space defaults.indent ≡ true → false ≡ false → false ≡ false → P → Q). f spaces_are refl refl)
+    (subst (λ (z : Settings). IfOk r (λ _. list_all is_space z.indent ≡ true → z.entry_autoformate_keep ≡ false → z.no_comments ≡ false → P → Q)) e h)
+
+pub default_formatted : {A E : Type 0} (r : Result A E) (s : Settings) (d x : Document) → s ≡ defaults → IfOk r (λ _. IsFormattedDocument s s.indent_level d x) → IfOk r (λ _. IsFormattedDocument defaults 0 d x)
+default_formatted r s d x e h = subst (λ (z : Settings). IfOk r (λ _. IsFormattedDocument z z.indent_level d x)) e h
+
+pub default_formatted_node : {A E : Type 0} (r : Result A E) (s : Settings) (n x : Node) → s ≡ defaults → IfOk r (λ _. IsFormattedNode s s.indent_level n x) → IfOk r (λ _. IsFormattedNode defaults 0 n x)
+default_formatted_node r s n x e h = subst (λ (z : Settings). IfOk r (λ _. IsFormattedNode z z.indent_level n x)) e h
+
+-- and the same without comments
+pub plain_formatted : {A E : Type 0} (r : Result A E) (s : Settings) (d x : Document) → s ≡ without_comments → IfOk r (λ _. s.no_comments ≡ true → x ≡ formatted_document s s.indent_level d)
+    → IfOk r (λ _. x ≡ formatted_document without_comments 0 d)
+plain_formatted r s d x e h =
+    if_ok r (λ (f : true ≡ true → x ≡ formatted_document without_comments 0 d). f refl)
+    (subst (λ (z : Settings). IfOk r (λ _. z.no_comments ≡ true → x ≡ formatted_document z z.indent_level d)) e h)
+
+pub plain_formatted_node : {A E : Type 0} (r : Result A E) (s : Settings) (n x : Node) → s ≡ without_comments → IfOk r (λ _. s.no_comments ≡ true → x ≡ formatted_node s s.indent_level n)
+    → IfOk r (λ _. x ≡ formatted_node without_comments 0 n)
+plain_formatted_node r s n x e h =
+    if_ok r (λ (f : true ≡ true → x ≡ formatted_node without_comments 0 n). f refl)
+    (subst (λ (z : Settings). IfOk r (λ _. z.no_comments ≡ true → x ≡ formatted_node z z.indent_level n)) e h)
+
+pub four_spaces : {A E : Type 0} (r : Result A E) (s : Settings) (x : data'.Nodes) → s ≡ without_comments → IfOk r (λ _. list_all is_space s.indent ≡ true → Canonical s.indent s.indent_level x)
+    → IfOk r (λ _. Canonical without_comments.indent 0 x)
+four_spaces r s x e h =
+    if_ok r (λ (f : list_all is_space without_comments.indent ≡ true → Canonical without_comments.indent 0 x). f spaces_are)
+    (subst (λ (z : Settings). IfOk r (λ _. list_all is_space z.indent ≡ true → Canonical z.indent z.indent_level x)) e h)
+
+pub four_spaces_node : {A E : Type 0} (r : Result A E) (s : Settings) (x : data'.Node) → s ≡ without_comments → IfOk r (λ _. list_all is_space s.indent ≡ true → CanonicalNode s.indent s.indent_level x)
+    → IfOk r (λ _. CanonicalNode without_comments.indent 0 x)
+four_spaces_node r s x e h =
+    if_ok r (λ (f : list_all is_space without_comments.indent ≡ true → CanonicalNode without_comments.indent 0 x). f spaces_are)
+    (subst (λ (z : Settings). IfOk r (λ _. list_all is_space z.indent ≡ true → CanonicalNode z.indent z.indent_level x)) e h)

@@ -1,0 +1,73 @@
+-- What a document, or a node, that was read says of the grammar.
+use Rattle.std.proofs.Common.{◌≡◌, true, false, Result, Ok, Err, IfOk}
+use Rattle.kdl_text.specs.Chars.{Text}
+use Rattle.kdl_text.specs.declared.error.ParseFailure.{ParseFailure}
+use Rattle.kdl_grammar.specs.Data as data'
+use Rattle.kdl_grammar.specs.Data.{Nodes}
+use Rattle.kdl_grammar.specs.Edited.{IsEdited, EachDocument}
+use Rattle.kdl_grammar.specs.Former.{IsFormerDocument, IsFormerNodeText}
+use Rattle.kdl_grammar.specs.Grammar.{IsDocument, IsNodeText}
+use Rattle.kdl_grammar.specs.Laid.{LaidDocument, LaidNodeText}
+use Rattle.kdl_grammar.specs.Internal.Machine.{AnswersDocument}
+use Rattle.kdl_grammar.specs.Print.{print_document, print_node}
+use Rattle.kdl_grammar.specs.Tree.{Document, document_data, node_data}
+use Rattle.kdl_grammar.proofs.Moving.FormerIsPresent.{wider, wider_node}
+use Rattle.kdl.specs.Tree.{node_tree, document_tree}
+use Rattle.kdl.specs.declared.node.KdlNode.{KdlNode}
+use Rattle.kdl.specs.declared.document.KdlDocument.{KdlDocument}
+use Rattle.kdl_parser.proofs.Answering.Outcomes as outcomes
+use Rattle.kdl_parser.proofs.Answering.EditedOutcomes as edited_outcomes
+use Rattle.kdl_parser.proofs.Answering.NodeTexts as node_texts
+
+abbrev Read : Text → Result KdlDocument ParseFailure → Type 0
+Read t r = IfOk r (λ d. AnswersDocument t (document_tree d))
+
+pub found : (t : Text) (r : Result KdlDocument ParseFailure) → Read t r → IfOk r (λ d. IsDocument true t (document_data (document_tree d)))
+found t (Ok d) a = outcomes.found t (document_tree d) a
+found t (Err e) a = tt
+
+pub only : (t : Text) (r : Result KdlDocument ParseFailure) → Read t r → IfOk r (λ d. (x : Nodes) → IsDocument true t x → x ≡ document_data (document_tree d))
+only t (Ok d) a = outcomes.only t (document_tree d) a
+only t (Err e) a = tt
+
+pub laid : (t : Text) (r : Result KdlDocument ParseFailure) → Read t r → IfOk r (λ d. LaidDocument true (document_tree d) t)
+laid t (Ok d) a = outcomes.laid t (document_tree d) a
+laid t (Err e) a = tt
+
+pub prints : (t : Text) (r : Result KdlDocument ParseFailure) → Read t r → IfOk r (λ d. print_document (document_tree d) 0 ≡ t)
+prints t (Ok d) a = outcomes.prints t (document_tree d) a
+prints t (Err e) a = tt
+
+-- what the former language derives is derived
+pub kept : (t : Text) (x : Nodes) → ((y : Nodes) → IsDocument true t y → ⊥) → IsFormerDocument t x → ⊥
+kept t x n i = n x (wider false i)
+
+pub former : (t : Text) (r : Result KdlDocument ParseFailure) (x : Nodes) → Read t r → IsFormerDocument t x → IfOk r (λ d. document_data (document_tree d) ≡ x)
+former t (Ok d) x a i = outcomes.former t (document_tree d) a x i
+former t (Err e) x a i = tt
+
+pub edited : (t : Text) (r : Result KdlDocument ParseFailure) → Read t r → IfOk r (λ d. (e : Document) → EachDocument IsEdited (document_tree d) e → IsDocument true (print_document e 0) (document_data e))
+edited t (Ok d) a = λ e x. edited_outcomes.edited_found t (document_tree d) e a x
+edited t (Err e) a = tt
+
+abbrev ReadNode : Text → Result KdlNode ParseFailure → Type 0
+ReadNode t r = IfOk r (λ n. LaidNodeText true t (node_tree n))
+
+pub node_found : (t : Text) (r : Result KdlNode ParseFailure) → ReadNode t r → IfOk r (λ n. IsNodeText true t (node_data (node_tree n)))
+node_found t (Ok n) l = node_texts.found t (node_tree n) l
+node_found t (Err e) l = tt
+
+pub node_only : (t : Text) (r : Result KdlNode ParseFailure) → ReadNode t r → IfOk r (λ n. (x : data'.Node) → IsNodeText true t x → x ≡ node_data (node_tree n))
+node_only t (Ok n) l = node_texts.only t (node_tree n) l
+node_only t (Err e) l = tt
+
+pub node_prints : (t : Text) (r : Result KdlNode ParseFailure) → ReadNode t r → IfOk r (λ n. print_node (node_tree n) 0 ≡ t)
+node_prints t (Ok n) l = node_texts.prints t (node_tree n) l
+node_prints t (Err e) l = tt
+
+pub node_kept : (t : Text) (x : data'.Node) → ((y : data'.Node) → IsNodeText true t y → ⊥) → IsFormerNodeText t x → ⊥
+node_kept t x n i = n x (wider_node false i)
+
+pub node_former : (t : Text) (r : Result KdlNode ParseFailure) (x : data'.Node) → ReadNode t r → IsFormerNodeText t x → IfOk r (λ n. node_data (node_tree n) ≡ x)
+node_former t (Ok n) x l i = node_texts.former t (node_tree n) l x i
+node_former t (Err e) x l i = tt

@@ -1,0 +1,25 @@
+-- What copies there are, where some of the nodes and blocks are copied.
+use Rattle.std.specs.Prelude.{List, [], ◌∷◌, ◌++◌, map, option_map, Option}
+use Rattle.kdl_grammar.specs.Tree.{Node, node, children, children_of}
+use Rattle.kdl.specs.Tree.{head_tree, node_tree, document_tree, document_of}
+use Rattle.kdl.specs.declared.node.KdlNode.{KdlNode}
+use Rattle.kdl.specs.declared.document.KdlDocument.{KdlDocument}
+use Rattle.kdl.specs.declared.document.KdlDocument.TheViews.{out-KdlNode}
+use Rattle.kdl.specs.declared.copies.Open.{Open}
+
+-- a node, with other children
+abbrev pub with_children : KdlNode → Option KdlDocument → Node
+with_children n o = node (head_tree (out-KdlNode n)) (children_of (option_map document_tree o))
+
+-- a node with a block of such nodes
+abbrev pub with_block : KdlNode → KdlDocument → List Node → Node
+with_block n d ns = node (head_tree (out-KdlNode n)) (children (document_of d ns))
+
+-- the copies up to that of an open block's node, where its block is of these
+abbrev pub closed : Open → List Node → List Node
+closed o ns = map node_tree o.before.items ++ with_block o.node.now o.block.now ns ∷ []
+
+-- the outermost nodes: the open blocks, the outermost first, and the nodes of the innermost
+abbrev pub outermost : List Open → List Node → List Node
+outermost [] ns = ns
+outermost (o ∷ os) ns = closed o (outermost os ns) ++ map node_tree o.behind.now

@@ -1,0 +1,74 @@
+//! Nodes as they are read.
+
+ghost use Rattle.kdl.specs.Tree.{node_tree};
+ghost use Rattle.kdl_grammar.specs.Laid.{node_span};
+ghost use Rattle.kdl_parser.specs.Internal.Parts.{node_by};
+ghost use Rattle.std.specs.Prelude.{◌≡◌};
+
+use super::KdlNode;
+use crate::document::KdlDocument;
+use kdl_entry::items::item::TypeParts;
+use kdl_parser::{NodeParts, ParsedNode};
+use kdl_parts::KdlNodeFormat;
+use kdl_text::span::SourceSpan;
+use std::alloc::Global;
+
+impl ParsedNode for KdlNode {
+    ghost tree = { node_tree };
+
+    fn from_parts(alloc: Global, parts: NodeParts<KdlNode>) -> KdlNode
+        ensures { node_tree result ≡ node_by node_tree parts }
+    {
+        let NodeParts {
+            leading,
+            ty,
+            name,
+            entries,
+            before_children,
+            children,
+            before_terminator,
+            terminator,
+            span,
+        } = parts;
+        let mut format = KdlNodeFormat::new(alloc);
+        format.leading = leading;
+        format.before_children = before_children;
+        format.before_terminator = before_terminator;
+        format.terminator = terminator;
+        let ty = match ty {
+            Some(
+                TypeParts {
+                    name: ty,
+                    before,
+                    after,
+                    behind,
+                },
+            ) => {
+                format.before_ty_name = before;
+                format.after_ty_name = after;
+                format.after_ty = behind;
+                Some(ty)
+            }
+            None => None,
+        };
+        let children = match children {
+            Some(children) => Some(KdlDocument::from_parts(children)),
+            None => None,
+        };
+        KdlNode {
+            ty,
+            name,
+            entries,
+            children,
+            format: Some(format),
+            span,
+        }
+    }
+
+    #[tactic(auto, using(crate::proofs::Trees::node_tree_out))]
+    fn span(&self) -> SourceSpan
+        ensures { result ≡ node_span (node_tree self.now) }
+    {
+        self.span
+    }
+}

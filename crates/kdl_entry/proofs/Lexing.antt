@@ -1,0 +1,18 @@
+-- Tokens: one at most, and what the lexer answers.
+
+-- A text begins with one token at most.
+pub mod TokenUnique
+-- What the readers of tokens cost.
+pub mod TokenCost
+-- From what the readers answer to the tokens of the whole language.
+pub mod TokenReads
+-- What the first characters of a token tell.
+pub mod FirstCharacters
+-- Strings in any spelling, numbers and keywords: one at most.
+pub mod StringUnique
+-- The piece between two places.
+pub mod Between
+-- The piece between a text and an end of it is a place.
+pub mod Placing
+-- What slices cost.
+pub mod SliceCost

@@ -1,0 +1,29 @@
+-- The piece between two places.
+use Rattle.std.proofs.Common.{◌≡◌, ◌-◌, [], ◌++◌, length, take, sym, ap, ◌∙◌, arith, length-append, append_assoc}
+use Rattle.std.proofs.Math.Seq.{take-append_seam}
+use Rattle.std.proofs.lemmas.Str.{chars-nil}
+use Rattle.std.specs.Prelude.{String, string_bytes}
+use Rattle.std.specs.Str.{chars}
+use Rattle.std.specs.declared.alloc.Global.{Global}
+use Rattle.kdl_entry.specs.Internal.Items.{between}
+use Rattle.kdl_value.specs.Tree.{text_of}
+use Rattle.kdl_text.specs.Chars.{Text}
+use Rattle.kdl_text.specs.Internal.Here.{Spot, Ahead}
+
+pub between_is : (p s : Text) → between (p ++ s) s ≡ p
+unfolding between
+between_is p s =
+    let n : length (p ++ s) - length s ≡ length p = omega (arith, length-append p s) in
+    ap (λ k. take k (p ++ s)) n ∙ take-append_seam p s
+
+-- a piece that was cut out is the text between its ends
+pub is_between : (t s p : Text) → t ≡ p ++ s → p ≡ between t s
+is_between t s p e = sym (between_is p s) ∙ ap (λ (u : Text). between u s) (sym e)
+
+-- no bytes are no characters
+pub empty_text : (s : String Global) → string_bytes s ≡ [] → text_of s ≡ []
+empty_text s e = ap chars e ∙ chars-nil
+
+-- a place before one that lies before a third lies before the third
+pub ahead_then : (a b c : Spot) → Ahead a b → Ahead b c → Ahead a c
+ahead_then a b c x y = (x.0 ++ y.0, x.1 ∙ ap (λ (z : Text). x.0 ++ z) y.1 ∙ sym (append_assoc x.0 y.0 c.rest))

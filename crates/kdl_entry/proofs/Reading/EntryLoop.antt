@@ -1,0 +1,263 @@
+-- The turns of the loop that reads an entry text, token by token.
+use Rattle.std.proofs.Common.{◌≡◌, ◌↔◌, ℕ, ◌+◌, ◌<◌, Bool, true, false, length, [], ◌∷◌, ◌++◌, Some, None, Ok, Err, refl, sym, ap, subst, ◌∙◌, arith, append_assoc, append-nil}
+use Rattle.kdl_text.specs.Chars.{Text, Star, plus}
+use Rattle.kdl_text.specs.Chars.Star.{none as no_star, more}
+use Rattle.kdl_text.specs.Internal.Here.{Here, Spot, Ahead, first_len}
+use Rattle.kdl_text.specs.Internal.Reading.{Moves}
+use Rattle.kdl_text.specs.Spans.{InText, bytes}
+use Rattle.kdl_text.specs.Trivia.{NodeSpace}
+use Rattle.kdl_text.specs.declared.span.SourceSpan.{SourceSpan}
+use Rattle.kdl_text.proofs.Looking.MovesJoin.{bytes-append}
+use Rattle.kdl_entry.specs.Internal.Building.{Stays}
+use Rattle.kdl_entry.specs.Internal.EntryMachine.{State, ahead, marked, under, dropped, word, done, came, step, finish, Runs, stops, reads, AnswersEntry, given}
+use Rattle.kdl_entry.specs.Internal.EntryReading.{AnswersEntryText, EndsIn, Ended, Same, Stands, Stepped}
+use Rattle.kdl_value.specs.Data.{Value}
+use Rattle.kdl_entry.specs.Internal.Handed.{Cuts, one, spaces, NoToken, IsFaultAt, HandsOut, Lexed, kind_view}
+use Rattle.kdl_entry.specs.Internal.Items.{Stage, opened, named, closed, keyed, Item, Answer, TypeParts, KeyParts, named_at, closed_at, reopened, if_valued}
+use Rattle.kdl_entry.specs.Internal.Items as items
+use Rattle.kdl_entry.specs.Internal.Tokens.{Token, space, newline, slashdash, string, value, left, right, equals, BeginsToken, t_space}
+use Rattle.kdl_entry.specs.Tree.{Entry, Identifier, entry_tree}
+use Rattle.kdl_entry.specs.declared.entry.KdlEntry.{KdlEntry}
+use Rattle.kdl_entry.specs.declared.items.lexer.LexFailure.{LexFailure}
+use Rattle.kdl_entry.specs.declared.items.lexer.LexFailure.TheVariants.{Faulty, Memory}
+use Rattle.kdl_entry.specs.declared.items.lexer.Token.{Token as CodeToken}
+use Rattle.kdl_entry.proofs.Lexing.TokenUnique.{no_token, token_shorter}
+use Rattle.kdl_entry.proofs.Reading.EntryLaws.{goes_on}
+
+module _ (whole : Text) where
+  -- spaces change nothing in an item
+  item_space : (it : Item) (g : Stage) (s r : Text) → came it (items.move g whole it space s r) s r ≡ Some (under it)
+  item_space it opened s r = refl
+  item_space it named s r = refl
+  item_space it closed s r = refl
+  item_space it keyed s r = refl
+
+  -- where a space stands is all one
+  anywhere : (st : State) (s r t q : Text) → step whole st space s r ≡ step whole st space t q
+  anywhere ahead s r t q = refl
+  anywhere marked s r t q = refl
+  anywhere (under it) s r t q = item_space it it.stage s r ∙ sym (item_space it it.stage t q)
+  anywhere (dropped b c) s r t q = refl
+  anywhere (word w f) s r t q = refl
+  anywhere (done e f) s r t q = refl
+
+  -- and a space more changes nothing
+  again : (st st' : State) (s r t q : Text) → step whole st space s r ≡ Some st' → step whole st' space t q ≡ Some st'
+  again st st' s r t q e = go st e
+    where
+      same : (x : State) → Some x ≡ Some st' → step whole x space t q ≡ Some x → step whole st' space t q ≡ Some st'
+      same x e f = let y : x ≡ st' = cc in subst (λ (z : State). step whole z space t q ≡ Some z) y f
+
+      go : (st : State) → step whole st space s r ≡ Some st' → step whole st' space t q ≡ Some st'
+      go ahead e = same ahead e refl
+      go marked e = same marked e refl
+      go (under it) e = same (under it) (sym (item_space it it.stage s r) ∙ e) (item_space it it.stage t q)
+      go (dropped b c) e = same (dropped b true) e refl
+      go (word w f) e = same (word w f) e refl
+      go (done x f) e = same (done x f) e refl
+
+  read_one : (d : Entry) (st st' : State) (s r : Text) (k : Token) → BeginsToken s k r → step whole st k s r ≡ Some st' → Runs whole d st' r ↔ Runs whole d st s
+  read_one d st st' s r k t e = (λ a. reads t e a, λ a. let g = goes_on t a in let u : g.0 ≡ st' = (let v = g.1 in cc) in subst (λ (z : State). Runs whole d z r) u g.2)
+
+  read_spaces : (d : Entry) (st : State) (s r : Text) → ((t q : Text) → step whole st space t q ≡ Some st) → Star NodeSpace s r → Runs whole d st r ↔ Runs whole d st s
+  read_spaces d st s r e no_star = (λ a. a, λ a. a)
+  read_spaces d st s r e (more {t = t} n m) =
+      let x = read_one d st st s t space (t_space n) (e s t) in
+      let y = read_spaces d st t r e m in
+      (λ a. x.0 (y.0 a), λ a. y.1 (x.1 a))
+
+  -- what a token does
+  read_cut : (d : Entry) (st st' : State) (s r : Text) (k : Token) → Cuts s k r → step whole st k s r ≡ Some st' → Runs whole d st' r ↔ Runs whole d st s
+  read_cut d st st' s r k (one t) e = read_one d st st' s r k t e
+  read_cut d st st' s r k (spaces (plus {t = t} n m)) e =
+      let x = read_one d st st' s t space (t_space n) (anywhere st s t s r ∙ e) in
+      let y = read_spaces d st' t r (λ q w. again st st' s r q w e) m in
+      (λ a. x.0 (y.0 a), λ a. y.1 (x.1 a))
+
+  -- a token that the machine refuses
+  refuses : (d : Entry) (st : State) (s r : Text) (k : Token) → Cuts s k r → step whole st k s r ≡ None → Runs whole d st s → ⊥
+  refuses d st s r k (one t) e a = let g = goes_on t a in let u = g.1 in cc
+  refuses d st s r k (spaces (plus {t = t} n m)) e a = let g = goes_on (t_space n) a in let u = g.1 in let v = anywhere st s t s r in cc
+
+  faults : (d : Entry) (st : State) (s : Text) → NoToken s → Runs whole d st s → ⊥
+  faults d st s n (stops e) = n.begun refl
+  faults d st s n (reads t e a) = n.none _ _ t
+
+  at_stop : (d : Entry) (st : State) → Runs whole d st [] ↔ (finish whole st ≡ Some d)
+  at_stop d st = (λ a. go a refl, λ e. stops e)
+    where
+      go : {s : Text} → Runs whole d st s → s ≡ [] → finish whole st ≡ Some d
+      go (stops e) q = e
+      go (reads {r = r} {k = k} t e a) q = absurd (no_token (subst (λ (z : Text). BeginsToken z k r) q t))
+
+ends_here : (t : Text) → EndsIn t t
+ends_here t = ([], refl)
+
+then_ends : {t s r : Text} → EndsIn t s → EndsIn s r → EndsIn t r
+then_ends {r = r} a b = (a.0 ++ b.0, a.1 ∙ ap (λ (z : Text). a.0 ++ z) b.1 ∙ sym (append_assoc a.0 b.0 r))
+
+-- a step leaves the place under way where it began, or begins it behind the token
+module _ (whole s r : Text) (b : EndsIn s r) where
+  to : (x y : State) → Some x ≡ Some y → Stands x r → Stands y r
+  to x y e a = let q : x ≡ y = cc in subst (λ (z : State). Stands z r) q a
+
+  given_stands : (c : Bool) (q : Text) (k : Rattle.std.specs.Prelude.Option KeyParts) (y : Rattle.std.specs.Prelude.Option TypeParts) (v : Value) → Stands (given c q k y v s r) r
+  given_stands true q k y v = ends_here r
+  given_stands false q k y v = tt
+
+  named_stands : (c : Bool) (i : Identifier) (p : Text) (it : Item) → Stands (under (named_at c i p r it)) r
+  named_stands true i p it = ends_here r
+  named_stands false i p it = ends_here r
+
+  closed_stands : (c : Bool) (p : Text) (it : Item) → Stands (under (closed_at c p r it)) r
+  closed_stands true p it = ends_here r
+  closed_stands false p it = ends_here r
+
+  valued_stands : (c : Bool) (it : Item) (k : Rattle.std.specs.Prelude.Option KeyParts) (y : Rattle.std.specs.Prelude.Option TypeParts) (v : Value) (st : State) → came it (if_valued c (items.gives k y v)) s r ≡ Some st → Stands st r
+  valued_stands true it k y v st e = to _ st e (given_stands it.kept it.leading k y v)
+  valued_stands false it k y v st e = absurd cc
+
+  item_stands : (it : Item) (g : Stage) (k : Token) (st : State) → came it (items.move g whole it k s r) s r ≡ Some st → EndsIn it.from s → Stands st r
+  item_stands it opened space st e a = to (under it) st e (then_ends a b)
+  item_stands it opened (string v) st e a = to _ st e (named_stands it.kept _ _ it)
+  item_stands it named space st e a = to (under it) st e (then_ends a b)
+  item_stands it named right st e a = to _ st e (closed_stands it.kept _ it)
+  item_stands it closed space st e a = to (under it) st e (then_ends a b)
+  item_stands it closed (string v) st e a = to _ st e (given_stands it.kept _ _ _ _)
+  item_stands it closed (value v) st e a = valued_stands it.valued it _ _ v st e
+  item_stands it keyed space st e a = to (under it) st e (then_ends a b)
+  item_stands it keyed (string v) st e a = to _ st e (given_stands it.kept _ _ _ _)
+  item_stands it keyed (value v) st e a = to _ st e (given_stands it.kept _ _ _ _)
+  item_stands it keyed left st e a = to _ st e (ends_here r)
+  item_stands it _ k st e a = absurd cc
+
+  step_stands : (x st : State) (k : Token) → step whole x k s r ≡ Some st → Stands x s → Stands st r
+  step_stands ahead st space e a = to ahead st e tt
+  step_stands ahead st newline e a = to ahead st e tt
+  step_stands ahead st slashdash e a = to marked st e tt
+  step_stands ahead st (string v) e a = to _ st e (ends_here r)
+  step_stands ahead st (value v) e a = to _ st e (ends_here r)
+  step_stands ahead st left e a = to _ st e (ends_here r)
+  step_stands marked st space e a = to marked st e tt
+  step_stands marked st newline e a = to marked st e tt
+  step_stands marked st (string v) e a = to (dropped true false) st e tt
+  step_stands marked st (value v) e a = to (dropped false false) st e tt
+  step_stands marked st left e a = to _ st e (ends_here r)
+  step_stands (under it) st k e a = item_stands it it.stage k st e a
+  step_stands (dropped c d) st space e a = to (dropped c true) st e tt
+  step_stands (dropped true d) st equals e a = to _ st e (ends_here r)
+  step_stands (dropped c true) st slashdash e a = to marked st e tt
+  step_stands (dropped c true) st (string v) e a = to _ st e (ends_here r)
+  step_stands (dropped c true) st (value v) e a = to _ st e (ends_here r)
+  step_stands (dropped c true) st left e a = to _ st e (ends_here r)
+  step_stands (word w f) st space e a = to (word w f) st e (then_ends a b)
+  step_stands (word w f) st newline e a = to (done _ f) st e (then_ends a b)
+  step_stands (word w f) st equals e a = to _ st e (ends_here r)
+  step_stands (done x f) st space e a = to (done x f) st e (then_ends a b)
+  step_stands (done x f) st newline e a = to (done x f) st e (then_ends a b)
+  step_stands _ st _ e a = absurd cc
+
+-- the lexer stands in the text, and the machine goes on from here as from the start
+pub record Going (st : State) (here : Here) (t : Text) : Type 0 where
+  pub same : Same st here.rest t
+  pub from : Stands st here.rest
+  pub text : EndsIn t here.rest
+  pub at : here.at + bytes here.rest ≡ bytes t
+
+pub starts_going : (t : Text) (here : Here) → here.rest ≡ t → here.at ≡ 0 → Going ahead here t
+starts_going t here e f = record {
+  same = λ d. rw e (λ a. a, λ a. a);
+  from = tt;
+  text = ([], sym e);
+  at = omega (arith, ap bytes e);
+}
+
+pub next_going : (st st' : State) (old mid new : Here) (t : Text) (k : CodeToken) → Going st old t → HandsOut old k mid → Moves old mid
+    → step t st (kind_view k.kind) k.start.rest k.end.rest ≡ Some st' → Stays mid new → Going st' new t
+next_going st st' old mid new t k g h m e y =
+    let e' : step t st (kind_view k.kind) old.rest mid.rest ≡ Some st' = rw (h.start_rest, h.end_rest) at e in
+    let piece : EndsIn old.rest mid.rest = m.piece in
+    let went : Going st' mid t = record {
+      same = λ d. let a = read_cut t d st st' old.rest mid.rest (kind_view k.kind) h.cuts e' in let b = g.same d in (λ x. b.0 (a.0 x), λ x. a.1 (b.1 x));
+      from = step_stands t old.rest mid.rest piece st st' (kind_view k.kind) e' g.from;
+      text = then_ends g.text piece;
+      at = m.at ∙ g.at;
+    } in
+    record {
+      same = rw y.rest went.same;
+      from = rw y.rest went.from;
+      text = rw y.rest went.text;
+      at = rw (y.rest, y.at) went.at;
+    }
+
+-- what a step asks of the places
+pub whole_start : (st : State) (old mid : Here) (place : Spot) (k : CodeToken) → Going st old place.rest → HandsOut old k mid → Ahead place k.start
+whole_start st old mid place k g h = rw h.start_rest g.text
+
+pub from_start : (st : State) (old mid : Here) (t : Text) (k : CodeToken) → Going st old t → HandsOut old k mid → Stands st k.start.rest
+from_start st old mid t k g h = rw h.start_rest g.from
+
+pub start_end : (old mid : Here) (k : CodeToken) → HandsOut old k mid → Moves old mid → Ahead k.start k.end
+start_end old mid k h m = rw (h.start_rest, h.end_rest) m.piece
+
+pub bytes_before : (p s t : Text) (at : ℕ) → t ≡ p ++ s → at + bytes s ≡ bytes t → at ≡ bytes p
+bytes_before p s t at e f = omega (arith, ap bytes e, bytes-append p s, f)
+
+-- the character at a place of the text
+pub char_in : (s p t : Text) (span : SourceSpan) → t ≡ p ++ s → span.offset ≡ bytes p → span.len ≡ first_len s → InText t span
+char_in [] p t span e f g = (p, [], [], e ∙ simp append-nil, f, g)
+char_in (c ∷ s) p t span e f g = (p, c ∷ [], s, e ∙ sym (append_assoc p (c ∷ []) s), f, omega (arith, g))
+
+told : (st : State) (here : Here) (t : Text) (place : Spot) (span : SourceSpan) → Going st here t → place.rest ≡ here.rest → place.at ≡ here.at → IsFaultAt place span → InText t span
+told st here t place span g e f x =
+    char_in here.rest g.text.0 t span g.text.1 (x.offset ∙ f ∙ bytes_before g.text.0 here.rest t here.at g.text.1 g.at) (x.len ∙ ap first_len e)
+
+no_turn : (st : State) (old mid : Here) (t : Text) (k : CodeToken) → Going st old t → HandsOut old k mid → step t st (kind_view k.kind) k.start.rest k.end.rest ≡ None
+    → (e : Entry) → AnswersEntry t e → ⊥
+no_turn st old mid t k g h e d a =
+    let e' : step t st (kind_view k.kind) old.rest mid.rest ≡ None = rw (h.start_rest, h.end_rest) at e in
+    refuses t d st old.rest mid.rest (kind_view k.kind) h.cuts e' ((g.same d).1 a)
+
+-- the lexer's failure, and that of a step
+pub lexer_told : (st : State) (old new : Here) (t : Text) (e : LexFailure) → Going st old t → Lexed old (Err e) new → AnswersEntryText t (Err e)
+lexer_told st old new t (Faulty span) g x = (λ d a. faults t d st old.rest x.0 ((g.same d).1 a), told st old t (record { rest = old.rest; at = old.at }) span g refl refl x.1)
+lexer_told st old new t Memory g x = tt
+
+pub take_told : (st : State) (old mid : Here) (t : Text) (k : CodeToken) (e : LexFailure) → Going st old t → HandsOut old k mid → Stepped (step t st (kind_view k.kind) k.start.rest k.end.rest) k.start (Err e) → AnswersEntryText t (Err e)
+take_told st old mid t k (Faulty span) g h x = (no_turn st old mid t k g h x.0, told st old t k.start span g h.start_rest h.start_at x.1)
+take_told st old mid t k Memory g h x = tt
+
+-- a turn comes nearer to the end
+spaces_shorter : {s r : Text} → Star NodeSpace s r → length r < length s + 1
+spaces_shorter no_star = omega arith
+spaces_shorter (more n m) = omega (arith, token_shorter (t_space n), spaces_shorter m)
+
+cut_shorter : {s r : Text} {k : Token} → Cuts s k r → length r < length s
+cut_shorter (one t) = token_shorter t
+cut_shorter (spaces (plus n m)) = omega (arith, token_shorter (t_space n), spaces_shorter m)
+
+pub nearer : (old mid new : Here) (k : CodeToken) → HandsOut old k mid → Stays mid new → length new.rest < length old.rest
+nearer old mid new k h y = omega (arith, cut_shorter h.cuts, ap length y.rest)
+
+nothing_left : (p r : Text) → [] ≡ p ++ r → r ≡ []
+nothing_left [] r e = sym e
+nothing_left (c ∷ p) r e = cc
+
+pub all_read : (old new : Here) → old.rest ≡ [] → Moves old new → new.rest ≡ []
+all_read old new e m = nothing_left m.piece.0 new.rest (sym e ∙ m.piece.1)
+
+pub from_end : (st : State) (old new : Here) (t : Text) → Going st old t → old.rest ≡ [] → Moves old new → Stands st new.rest
+from_end st old new t g e m = rw (all_read old new e m) (rw e at g.from)
+
+-- where the text ends, the machine's entry is the answer, or there is none
+pub at_the_end : (st : State) (here : Here) (t : Text) (e : KdlEntry) → Going st here t → here.rest ≡ [] → Ended (finish t st) (Some e) → AnswersEntryText t (Ok e)
+at_the_end st here t e g x f = (g.same (entry_tree e)).0 (subst (λ (z : Text). Runs t (entry_tree e) st z) (sym x) ((at_stop t (entry_tree e) st).1 f))
+
+pub no_end : (st : State) (old new : Here) (t : Text) (place : Spot) (span : SourceSpan) → Going st old t → old.rest ≡ [] → Moves old new → place.rest ≡ new.rest → place.at ≡ new.at → Ended (finish t st) None → IsFaultAt place span → AnswersEntryText t (Err (Faulty span))
+no_end st old new t place span g x m p q f z = (
+  λ d a. (let b = (at_stop t d st).0 (subst (λ (z : Text). Runs t d st z) x ((g.same d).1 a)) in cc),
+  char_in [] t t span (simp append-nil) (z.offset ∙ q ∙ all_before) (z.len ∙ ap first_len (p ∙ all_read old new x m)),
+)
+  where
+    all_before : new.at ≡ bytes t
+    all_before = omega (arith, m.at, g.at, ap bytes (all_read old new x m))

@@ -1,0 +1,86 @@
+-- What the first token of a text says of it as an identifier.
+use Rattle.std.proofs.Common.{◌≡◌, ◌+◌, true, [], ◌++◌, Err, refl, sym, ap, subst, ◌∙◌, arith}
+use Rattle.std.specs.Prelude.{String}
+use Rattle.std.specs.declared.alloc.Global.{Global}
+use Rattle.kdl_text.specs.Chars.{Text, plus}
+use Rattle.kdl_text.specs.Internal.Here.{Here, Spot}
+use Rattle.kdl_text.specs.Internal.Reading.{Moves}
+use Rattle.kdl_text.specs.Spans.{InText, bytes}
+use Rattle.kdl_text.specs.Trivia.{ValueEnd}
+use Rattle.kdl_text.specs.Trivia.ValueEnd.{nothing}
+use Rattle.kdl_entry.specs.Entries.{StringPiece, IsString, string, IsIdentifierText}
+use Rattle.kdl_entry.specs.Internal.Handed.{Cuts, one, spaces, IsFaultAt, HandsOut, Lexed, kind_view}
+use Rattle.kdl_entry.specs.Internal.IdentifierReading.{AnswersIdentifierText}
+use Rattle.kdl_entry.specs.Internal.Items.{between, identifier_at}
+use Rattle.kdl_entry.specs.Laid.{LaidIdentifier, LaidIdentifierText, spelled}
+use Rattle.kdl_entry.specs.Places.{Is}
+use Rattle.kdl_entry.specs.Internal.Tokens as tokens
+use Rattle.kdl_entry.specs.Internal.Tokens.{BeginsToken, t_space, t_string}
+use Rattle.kdl_value.specs.Tree.{text_of}
+use Rattle.kdl_entry.specs.Tree.{Identifier}
+use Rattle.kdl_text.specs.declared.span.SourceSpan.{SourceSpan}
+use Rattle.kdl_entry.specs.declared.items.lexer.LexFailure.{LexFailure}
+use Rattle.kdl_entry.specs.declared.items.lexer.LexFailure.TheVariants.{Faulty, Memory}
+use Rattle.kdl_entry.specs.declared.items.lexer.Token.{Token as CodeToken}
+use Rattle.kdl_entry.specs.declared.items.lexer.TokenKind.{TokenKind}
+use Rattle.kdl_entry.specs.declared.items.lexer.TokenKind.TheVariants.{String as StringKind}
+use Rattle.kdl_entry.proofs.Lexing.TokenUnique.{no_token, token_det}
+use Rattle.kdl_entry.proofs.Reading.EntryLoop.{bytes_before, char_in}
+use Rattle.kdl_entry.proofs.Lexing.Placing.{place}
+use Rattle.kdl_entry.proofs.Lexing.StringUnique.{string_end}
+
+-- where a token was handed out, the text is an identifier only if the token is its string, and the text ends behind it
+is_string : {t r v : Text} {k : tokens.Token} → Cuts t k r → IsIdentifierText true t v → (r ≡ []) × (k ≡ tokens.string v)
+is_string (one u) (string p e) = token_det u (t_string p)
+is_string (spaces (plus n m)) (string p e) = let x = (token_det (t_space n) (t_string p)).1 in absurd cc
+
+laid_whole : {t r v : Text} → Cuts t (tokens.string v) r → r ≡ [] → LaidIdentifierText true (identifier_at t v t r) t
+laid_whole {t = t} {r = r} {v = v} (one (t_string p)) e = subst (λ (z : Text). LaidIdentifier true t (identifier_at t v t r) t z) e (spelled (at_end r p e) refl)
+  where
+    at_end : (r : Text) → StringPiece t r v → r ≡ [] → Is (λ s q. IsString true s q v) (between t r) t r
+    at_end r p e = place (string p (subst (λ (z : Text). ValueEnd true z) (sym e) nothing)) (string_end p)
+
+-- a place that was told stands in the text
+place_told : (t : Text) (place : Spot) (span : SourceSpan) (p : Text) → t ≡ p ++ place.rest → place.at + bytes place.rest ≡ bytes t → IsFaultAt place span → InText t span
+place_told t place span p e f x = char_in place.rest p t span e (x.offset ∙ bytes_before p place.rest t place.at e f) x.len
+
+-- where no token begins
+pub no_token_told : (t : Text) (old new : Here) (e : LexFailure) → old.rest ≡ t → old.at ≡ 0 → Lexed old (Err e) new → AnswersIdentifierText t (Err e)
+no_token_told t old new (Faulty span) e f x = (λ v d. none v (subst (λ (z : Text). IsIdentifierText true z v) (sym e) d), place_told t (record { rest = old.rest; at = old.at }) span [] (sym e) (omega (arith, ap bytes e, f)) x.1)
+  where
+    none : (v : Text) → IsIdentifierText true old.rest v → ⊥
+    none v (string p q) = x.0.none _ _ (t_string p)
+no_token_told t old new Memory e f x = tt
+
+-- where the text is empty
+pub empty_told : (t : Text) (old : Here) (place : Spot) (span : SourceSpan) → old.rest ≡ t → old.rest ≡ [] → place.rest ≡ t → place.at ≡ 0 → IsFaultAt place span → AnswersIdentifierText t (Err (Faulty span))
+empty_told t old place span e n f g x = (λ v d. none v (subst (λ (z : Text). IsIdentifierText true z v) (sym e ∙ n) d), place_told t place span [] (sym f) (omega (arith, ap bytes f, g)) x)
+  where
+    none : (v : Text) → IsIdentifierText true [] v → ⊥
+    none v (string p q) = no_token (t_string p)
+
+string_kind : (k : TokenKind) (v : Text) → kind_view k ≡ tokens.string v → ((s : String Global) → k ≡ StringKind s → ⊥) → ⊥
+string_kind (StringKind s) v e n = n s refl
+string_kind _ v e n = cc
+
+-- where the first token is no string
+pub other_told : (t : Text) (old mid : Here) (k : CodeToken) (span : SourceSpan) → old.rest ≡ t → old.at ≡ 0 → HandsOut old k mid → ((s : String Global) → k.kind ≡ StringKind s → ⊥) → IsFaultAt k.start span → AnswersIdentifierText t (Err (Faulty span))
+other_told t old mid k span e f h n x = (
+  λ v d. string_kind k.kind v (is_string (rw e at h.cuts) d).1 n,
+  place_told t k.start span [] (sym (h.start_rest ∙ e)) (omega (arith, ap bytes (h.start_rest ∙ e), h.start_at, f)) x,
+)
+
+-- where the text goes on behind the first token
+pub more_told : (t : Text) (old mid : Here) (k : CodeToken) (span : SourceSpan) → old.rest ≡ t → old.at ≡ 0 → HandsOut old k mid → Moves old mid → (k.end.rest ≡ [] → ⊥) → IsFaultAt k.end span → AnswersIdentifierText t (Err (Faulty span))
+more_told t old mid k span e f h m n x = (
+  λ v d. n (h.end_rest ∙ (is_string (rw e at h.cuts) d).0),
+  place_told t k.end span m.piece.0 (sym e ∙ m.piece.1 ∙ ap (λ (z : Text). m.piece.0 ++ z) (sym h.end_rest)) (omega (arith, ap bytes h.end_rest, h.end_at, m.at, f, ap bytes e)) x,
+)
+
+-- where the first token is a string, and the text ends behind it
+pub whole_laid : (t : Text) (old mid : Here) (k : CodeToken) (s : String Global) (i : Identifier) → old.rest ≡ t → HandsOut old k mid → k.kind ≡ StringKind s → k.end.rest ≡ []
+    → i ≡ identifier_at t (text_of s) k.start.rest k.end.rest → LaidIdentifierText true i t
+whole_laid t old mid k s i e h x n y =
+    let c : Cuts old.rest (tokens.string (text_of s)) mid.rest = subst (λ (z : tokens.Token). Cuts old.rest z mid.rest) (ap kind_view x) h.cuts in
+    let l = laid_whole (subst (λ (z : Text). Cuts z (tokens.string (text_of s)) mid.rest) e c) (sym h.end_rest ∙ n) in
+    subst (λ (z : Identifier). LaidIdentifierText true z t) (sym (rw (h.start_rest, e, h.end_rest) at y)) l

@@ -1,0 +1,18 @@
+-- What only proofs and contracts inside the crates need: no contract of a public call of `kdl` speaks of it.
+
+-- The item that a reader's fields stand for, and what its steps answer.
+pub mod Building
+-- What a call took for the texts that it sliced: at most a step for each of their bytes.
+pub mod Counted
+-- The machine that reads a text that is one entry: it goes over the tokens once. The token k stands in the text s before r, in the text `whole`.
+pub mod EntryMachine
+-- The machine's state that a reader of an entry holds, and what its steps answer.
+pub mod EntryReading
+-- What the lexer hands out.
+pub mod Handed
+-- What the reader of identifier texts answers.
+pub mod IdentifierReading
+-- An item under way: the type and value of an entry behind its key, or the type and name of a node, token by token.
+pub mod Items
+-- Tokens, and the cut of a text into tokens.
+pub mod Tokens

@@ -1,0 +1,113 @@
+-- The machine that reads a text that is one entry: it goes over the tokens once. The token k stands in the text s before r, in the text `whole`.
+-- Where a place began is kept as the text from there on. Of an entry that is slashdashed no text is held.
+use Rattle.std.specs.Prelude.{◌≡◌, Bool, true, false, [], Option, Some, None, option_map}
+use Rattle.kdl_text.specs.Chars.{Text}
+use Rattle.kdl_text.specs.declared.span.SourceSpan.{SourceSpan}
+use Rattle.kdl_value.specs.Data.{Value, text}
+use Rattle.kdl_entry.specs.Internal.Items as items
+use Rattle.kdl_entry.specs.Internal.Items.{between, entry_at, KeyParts, TypeParts, Item, opened, keyed, Answer, goes, gives, refuses}
+use Rattle.kdl_entry.specs.Places.{span_of}
+use Rattle.kdl_entry.specs.Internal.Tokens.{Token, space, newline, slashdash, string, value, left, equals, BeginsToken}
+use Rattle.kdl_entry.specs.Tree.{Identifier, EntryFormat, Entry, no_span, plain_identifier}
+
+-- a string that may yet be a key: what stands before it, what it stands for, its spelling, and its span
+pub record Word : Type 0 where
+  pub leading : Text
+  pub value : Text
+  pub repr : Text
+  pub span : SourceSpan
+
+-- ahead of the entry, behind line-spaces alone; behind a slashdash; in an entry that has a type or a key;
+-- behind an entry that is slashdashed, which may be a key or not, directly or behind spaces;
+-- behind a string that may be a key; behind the entry
+pub data State : Type 0 where
+  ahead : State
+  marked : State
+  under : Item → State
+  dropped : Bool → Bool → State
+  word : Word → Text → State
+  done : Entry → Text → State
+
+-- an entry under way, behind the `(` of its type
+abbrev pub opened_item : Text → Bool → Text → Text → Item
+opened_item whole kept leading r = record { kept = kept; valued = true; stage = opened; leading = leading; start = whole; from = r; key = None; name = plain_identifier []; before = []; after = [] }
+
+-- an entry under way, behind the `=` that stands behind its key and this text
+abbrev pub keyed_item : Text → Bool → Text → Identifier → Text → Text → Item
+keyed_item whole kept leading name before r = record { kept = kept; valued = true; stage = keyed; leading = leading; start = whole; from = r; key = None; name = name; before = before; after = [] }
+
+abbrev pub word_at : Text → Text → Text → Text → Word
+word_at whole v s r = record { leading = between whole s; value = v; repr = between s r; span = span_of whole s r }
+
+-- the word as a key
+abbrev pub word_identifier : Word → Identifier
+word_identifier w = record { value = w.value; repr = Some w.repr; span = w.span }
+
+-- the entry, whose span is not told yet
+abbrev pub entry_by : Text → Option KeyParts → Option TypeParts → Value → Text → Entry
+entry_by leading k y v repr = entry_at no_span leading k y v repr
+
+-- the word as an argument
+abbrev pub argument_of : Word → Entry
+argument_of w = entry_by w.leading None None (text w.value) w.repr
+
+-- behind an entry that is kept, or that is slashdashed
+abbrev pub given : Bool → Text → Option KeyParts → Option TypeParts → Value → Text → Text → State
+given true leading k y v s r = done (entry_by leading k y v (between s r)) r
+given false leading k y v s r = dropped false false
+
+-- what the item came to
+abbrev pub came : Item → Answer → Text → Text → Option State
+came it (goes next) s r = Some (under next)
+came it (gives k y v) s r = Some (given it.kept it.leading k y v s r)
+came it refuses s r = None
+
+-- the token k stands in s before r, in the text `whole`
+abbrev pub step : Text → State → Token → Text → Text → Option State
+step whole ahead space s r = Some ahead
+step whole ahead newline s r = Some ahead
+step whole ahead slashdash s r = Some marked
+step whole ahead (string v) s r = Some (word (word_at whole v s r) r)
+step whole ahead (value v) s r = Some (given true (between whole s) None None v s r)
+step whole ahead left s r = Some (under (opened_item whole true (between whole s) r))
+step whole marked space s r = Some marked
+step whole marked newline s r = Some marked
+step whole marked (string v) s r = Some (dropped true false)
+step whole marked (value v) s r = Some (dropped false false)
+step whole marked left s r = Some (under (opened_item whole false [] r))
+step whole (under it) k s r = came it (items.step whole it k s r) s r
+step whole (dropped b c) space s r = Some (dropped b true)
+step whole (dropped true c) equals s r = Some (under (keyed_item whole false [] (plain_identifier []) [] r))
+step whole (dropped b true) slashdash s r = Some marked
+step whole (dropped b true) (string v) s r = Some (word (word_at whole v s r) r)
+step whole (dropped b true) (value v) s r = Some (given true (between whole s) None None v s r)
+step whole (dropped b true) left s r = Some (under (opened_item whole true (between whole s) r))
+step whole (word w from) space s r = Some (word w from)
+step whole (word w from) newline s r = Some (done (argument_of w) from)
+step whole (word w from) equals s r = Some (under (keyed_item whole true w.leading (word_identifier w) (between from s) r))
+step whole (done e from) space s r = Some (done e from)
+step whole (done e from) newline s r = Some (done e from)
+step _ _ _ _ _ = None
+
+-- the format with that trailing text
+abbrev pub with_trailing : Text → EntryFormat → EntryFormat
+with_trailing p f = record f { trailing = p }
+
+-- the entry, whose span is the whole text, with the text behind it
+abbrev pub ended : Text → Text → Entry → Entry
+ended whole p e = record e { format = option_map (with_trailing p) e.format; span = span_of whole whole [] }
+
+-- what the machine answers where the text ends
+abbrev pub finish : Text → State → Option Entry
+finish whole (word w from) = Some (ended whole (between from []) (argument_of w))
+finish whole (done e from) = Some (ended whole (between from []) e)
+finish whole _ = None
+
+-- from the state on, the text is read to its end, and the answer is e
+pub data Runs (whole : Text) (e : Entry) : State → Text → Type 0 where
+  stops : {st : State} → finish whole st ≡ Some e → Runs whole e st []
+  reads : {st st' : State} {s r : Text} {k : Token} → BeginsToken s k r → step whole st k s r ≡ Some st' → Runs whole e st' r → Runs whole e st s
+
+-- the machine's answer on a text
+abbrev pub AnswersEntry : Text → Entry → Type 0
+AnswersEntry t e = Runs t e ahead t

@@ -1,0 +1,63 @@
+-- The machine's state that a reader of an entry holds, and what its steps answer.
+use Rattle.std.specs.Prelude.{◌≡◌, ◌↔◌, ◌++◌, Option, Some, None, Result, Ok, Err}
+use Rattle.kdl_text.specs.Chars.{Text}
+use Rattle.kdl_text.specs.Internal.Here.{Spot}
+use Rattle.kdl_text.specs.Spans.{InText}
+use Rattle.kdl_entry.specs.Internal.Building.{item_view}
+use Rattle.kdl_entry.specs.Internal.EntryMachine as machine
+use Rattle.kdl_entry.specs.Internal.EntryMachine.{AnswersEntry, Runs, under, word, done}
+use Rattle.kdl_entry.specs.Internal.Handed.{IsFaultAt}
+use Rattle.kdl_value.specs.Tree.{text_of}
+use Rattle.kdl_entry.specs.Tree.{entry_tree}
+use Rattle.kdl_entry.specs.Tree as tree
+use Rattle.kdl_entry.specs.declared.entry.KdlEntry.{KdlEntry}
+use Rattle.kdl_entry.specs.declared.items.entries.State.{State}
+use Rattle.kdl_entry.specs.declared.items.entries.State.TheVariants.{Start, Marked, Under, Dropped, Pending, Done}
+use Rattle.kdl_entry.specs.declared.items.entries.Word.{Word}
+use Rattle.kdl_entry.specs.declared.items.lexer.LexFailure.{LexFailure}
+use Rattle.kdl_entry.specs.declared.items.lexer.LexFailure.TheVariants.{Faulty, Memory}
+
+-- a string that may be a key, as characters
+abbrev pub word_view : Word → machine.Word
+word_view w = record { leading = text_of w.leading; value = text_of w.value; repr = text_of w.repr; span = w.span }
+
+-- the machine's state that the reader's state stands for
+abbrev pub state_view : State → machine.State
+state_view Start = machine.ahead
+state_view Marked = machine.marked
+state_view (Under it) = under (item_view it)
+state_view (Dropped b c) = machine.dropped b c
+state_view (Pending w from) = word (word_view w) from.rest
+state_view (Done e from) = done (entry_tree e) from.rest
+
+-- the second text is an end of the first
+abbrev pub EndsIn : Text → Text → Type 0
+EndsIn t s = (p : Text) × (t ≡ p ++ s)
+
+-- the place under way began before s
+abbrev pub Stands : machine.State → Text → Type 0
+Stands (under it) s = EndsIn it.from s
+Stands (word w from) s = EndsIn from s
+Stands (done e from) s = EndsIn from s
+Stands _ s = Unit {0}
+
+-- what a step did, by the machine's; of a refused token its first character is told; running out of memory says nothing
+abbrev pub Stepped : Option machine.State → Spot → Result State LexFailure → Type 0
+Stepped o place (Ok st) = o ≡ Some (state_view st)
+Stepped o place (Err (Faulty span)) = (o ≡ None) × IsFaultAt place span
+Stepped o place (Err Memory) = Unit {0}
+
+-- what is read at the end of the text: the entry, or none yet
+abbrev pub Ended : Option tree.Entry → Option KdlEntry → Type 0
+Ended o None = o ≡ None
+Ended o (Some e) = o ≡ Some (entry_tree e)
+
+-- the machine's answer on a text; of a refused text a place is told
+abbrev pub AnswersEntryText : Text → Result KdlEntry LexFailure → Type 0
+AnswersEntryText t (Ok e) = AnswersEntry t (entry_tree e)
+AnswersEntryText t (Err (Faulty span)) = ((e : tree.Entry) → AnswersEntry t e → ⊥) × InText t span
+AnswersEntryText t (Err Memory) = Unit {0}
+
+-- the machine answers from here on what it answers on the whole text
+abbrev pub Same : machine.State → Text → Text → Type 0
+Same st s t = (e : tree.Entry) → Runs t e st s ↔ AnswersEntry t e

@@ -1,0 +1,16 @@
+-- What the reader of identifier texts answers.
+use Rattle.std.specs.Prelude.{true, Result, Ok, Err}
+use Rattle.kdl_text.specs.Chars.{Text}
+use Rattle.kdl_text.specs.Spans.{InText}
+use Rattle.kdl_entry.specs.Entries.{IsIdentifierText}
+use Rattle.kdl_entry.specs.Laid.{LaidIdentifierText}
+use Rattle.kdl_entry.specs.Tree.{identifier_tree}
+use Rattle.kdl_entry.specs.declared.identifier.KdlIdentifier.{KdlIdentifier}
+use Rattle.kdl_entry.specs.declared.items.lexer.LexFailure.{LexFailure}
+use Rattle.kdl_entry.specs.declared.items.lexer.LexFailure.TheVariants.{Faulty, Memory}
+
+-- the identifier, laid in the text; of a refused text a place is told
+abbrev pub AnswersIdentifierText : Text → Result KdlIdentifier LexFailure → Type 0
+AnswersIdentifierText t (Ok i) = LaidIdentifierText true (identifier_tree i) t
+AnswersIdentifierText t (Err (Faulty span)) = ((v : Text) → IsIdentifierText true t v → ⊥) × InText t span
+AnswersIdentifierText t (Err Memory) = Unit {0}

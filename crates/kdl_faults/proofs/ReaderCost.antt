@@ -1,0 +1,86 @@
+-- What the turns of a reader of faults cost, and where its cursor goes.
+use Rattle.std.proofs.Common.{◌≡◌, ℕ, ◌+◌, ◌*◌, ◌<◌, ◌≤◌, Bool, true, false, List, [], ◌∷◌, ◌++◌, length, refl, sym, ap, ◌∙◌, arith, append_assoc}
+use Rattle.std.specs.Str.{chars, IsUtf8}
+use Rattle.kdl_text.specs.Chars.{Text}
+use Rattle.kdl_text.specs.Internal.Here.{Here, Spot, looked, raise, stepped, tail}
+use Rattle.kdl_text.specs.Spans.{bytes}
+use Rattle.kdl_text.specs.Internal.Reading.{Moves}
+use Rattle.kdl_text.proofs.Looking.MovesJoin.{fewer_bytes, stays}
+use Rattle.kdl_text.proofs.Looking.Texts.{bytes-chars}
+use Rattle.kdl_faults.specs.Internal.Noted.{Bounded, LiesIn}
+use Rattle.kdl_faults.specs.Internal.Reading.{Most, WentPast}
+use Rattle.kdl_faults.specs.declared.pieces.PieceKind.{PieceKind}
+use Rattle.kdl_faults.specs.declared.pieces.PieceKind.TheVariants.{End}
+
+pub bounded_piece : (a b : Here) → Moves a b → Most 37 65 a b → Bounded 128 a b
+bounded_piece a b m k = record { most = omega arith; counts = m.counts }
+
+same_rest : (text s r : Text) → r ≡ s → ((p : Text) × (text ≡ p ++ s)) → (p : Text) × (text ≡ p ++ r)
+same_rest text s r e x = (x.0, x.1 ∙ ap (λ (t : Text). x.0 ++ t) (sym e))
+
+pub looked_lies : (text : Text) (place : Spot) (a b : Here) (steps : ℕ) → LiesIn text place → a ≡ record { rest = place.rest; at = place.at; steps = steps } → b ≡ looked a → (p : Text) × (text ≡ p ++ b.rest)
+looked_lies text place a b steps x e f = same_rest text place.rest b.rest (ap (λ (z : Here). z.rest) f ∙ ap (λ (z : Here). z.rest) e) x
+
+behind_first : (text s : Text) → ((p : Text) × (text ≡ p ++ s)) → (p : Text) × (text ≡ p ++ tail s)
+behind_first text [] x = x
+behind_first text (c ∷ s) x = (x.0 ++ (c ∷ []), x.1 ∙ sym (append_assoc x.0 (c ∷ []) s))
+
+pub stepped_lies : (text : Text) (a b : Here) → ((p : Text) × (text ≡ p ++ a.rest)) → b ≡ stepped a → (p : Text) × (text ≡ p ++ b.rest)
+stepped_lies text a b x e = same_rest text (tail a.rest) b.rest (ap (λ (z : Here). z.rest) e) (behind_first text a.rest x)
+
+pub place_lies : (text : Text) (a : Here) (place : Spot) → ((p : Text) × (text ≡ p ++ a.rest)) → place.rest ≡ a.rest → LiesIn text place
+place_lies text a place x e = same_rest text a.rest place.rest e x
+
+-- where the loop over the pieces stands: until reading is over, a last turn is to come
+abbrev pub turns_left : Bool → ℕ
+turns_left true = 0
+turns_left false = 1
+
+pub record Turning (old new : Here) (over : Bool) : Type 0 where
+  pub counts : raise old.steps 0 ≤ raise new.steps 0
+  pub most : new.steps + 128 * bytes new.rest + 89 * turns_left over ≤ old.steps + 128 * bytes old.rest + 90
+
+one_left : (over : Bool) → turns_left over ≤ 1
+one_left true = omega arith
+one_left false = omega arith
+
+pub turning_begins : (a b : Here) (over : Bool) → Moves a b → Most 1 1 a b → Turning a b over
+turning_begins a b over m k = record { counts = m.counts; most = omega (arith, fewer_bytes m, one_left over) }
+
+still_left : (over : Bool) → over ≡ false → turns_left over ≡ 1
+still_left over e = ap turns_left e
+
+none_left : (over : Bool) → over ≡ true → turns_left over ≡ 0
+none_left over e = ap turns_left e
+
+-- a piece that was read is shorter than what was to be read, or it is the last one
+went_on : (k : PieceKind) (a b : Here) (over : Bool) → WentPast k a b → (k ≡ End → over ≡ true) → bytes b.rest + turns_left over ≤ bytes a.rest
+went_on End a b over w o = omega (arith, ap bytes w, none_left over (o refl))
+went_on _ a b over w o = omega (arith, w, one_left over)
+
+pub turning_turn : (f a b e : Here) (k : PieceKind) (over over' : Bool) → over ≡ false → Turning f a over → Moves a b → Most 37 65 a b → WentPast k a b → Moves b e → Most 24 24 b e → (k ≡ End → over' ≡ true) → Turning f e over'
+turning_turn f a b e k over over' n t m x w m' x' o = record {
+  counts = omega (arith, t.counts, m.counts, m'.counts);
+  most = omega (arith, t.most, still_left over n, fewer_bytes m, fewer_bytes m', went_on k a b over' w o);
+}
+
+pub turning_nearer : (a b e : Here) (k : PieceKind) (over over' : Bool) → over ≡ false → WentPast k a b → Moves b e → (k ≡ End → over' ≡ true) → bytes e.rest + turns_left over' < bytes a.rest + turns_left over
+turning_nearer a b e k over over' n w m o = omega (arith, still_left over n, fewer_bytes m, went_on k a b over' w o)
+
+-- where memory is refused, and at the end
+pub turning_fails : (f a b : Here) (over : Bool) → over ≡ false → Turning f a over → Moves a b → Most 37 65 a b → Bounded 128 f b
+turning_fails f a b over n t m x = record { most = omega (arith, t.most, still_left over n, fewer_bytes m); counts = omega (arith, t.counts, m.counts) }
+
+pub turning_stops : (f a b e : Here) (over : Bool) → over ≡ false → Turning f a over → Moves a b → Most 37 65 a b → Moves b e → Most 24 24 b e → Bounded 128 f e
+turning_stops f a b e over n t m x m' x' = record { most = omega (arith, t.most, still_left over n, fewer_bytes m, fewer_bytes m'); counts = omega (arith, t.counts, m.counts, m'.counts) }
+
+pub turning_ends : (f a : Here) (over : Bool) → Turning f a over → Bounded 128 f a
+turning_ends f a over t = record { most = omega (arith, t.most); counts = t.counts }
+
+-- where the cursor stays
+pub same_cursor : (a b : Here) → b ≡ a → Moves a b × Most 24 24 a b
+same_cursor a b e = (rw e (stays a), rw e (omega arith))
+
+-- the steps over a whole text
+pub steps_bounded : (text : List ℕ) (a b : Here) (before after : ℕ) → IsUtf8 text → Bounded 128 a b → a.rest ≡ chars text → a.steps ≡ before → after ≡ b.steps → after ≤ before + 128 * (length text + 1)
+steps_bounded text a b before after u x e f g = omega (arith, x.most, ap bytes e, bytes-chars text u, f, g)

@@ -1,0 +1,53 @@
+-- The loops over the units of a string, of which the first fault is kept.
+use Rattle.std.proofs.Common.{◌≡◌, ℕ, ◌+◌, ◌-◌, ◌*◌, ◌≤◌, ◌++◌, Bool, ap, arith}
+use Rattle.std.specs.Prelude.{Option, None}
+use Rattle.kdl_text.specs.Chars.{Text}
+use Rattle.kdl_text.specs.Internal.Here.{Here, Spot, Skips, looked, sliced, counted}
+use Rattle.kdl_text.specs.Spans.{bytes}
+use Rattle.kdl_text.specs.Internal.Reading.{Moves, Costs}
+use Rattle.kdl_text.proofs.Looking.MovesJoin.{stays, moves_then, moves_stayed, stayed_looked, bytes-append}
+use Rattle.kdl_text.proofs.Looking.SliceCost.{moves_ran}
+use Rattle.kdl_faults.specs.Internal.Reading.{Most, Passed, OnFound}
+use Rattle.kdl_faults.specs.declared.strings.Found.{Found}
+use Rattle.kdl_faults.proofs.Passing.{ended, passed_here, found_on}
+
+-- what was read of a string so far, and the first fault in it
+pub record Scanned (k c : ℕ) (f : Here) (kept : Option Found) (a : Here) : Type 0 where
+  pub fault : OnFound f kept a
+  pub moves : Moves f a
+  pub most : Most k c f a
+
+pub scan_begins : (k : ℕ) (f : Here) → Scanned k 0 f None f
+scan_begins k f = record { fault = tt; moves = stays f; most = omega arith }
+
+-- behind a run of plain characters and a look at what follows them
+pub record AtUnit (f a b e : Here) (kept : Option Found) : Type 0 where
+  pub fault : OnFound f kept e
+  pub moves : Moves f e
+  pub turn : Moves a e
+  pub most : Most 1 2 a e
+  pub place : (s : Spot) → s.rest ≡ b.rest → s.at ≡ b.at → Passed f s e
+  pub here : (s : Spot) → s.rest ≡ e.rest → s.at ≡ e.at → Passed f s e
+
+pub at_unit : (k c : ℕ) (f a b e : Here) (kept : Option Found) (p : ℕ → Bool) → Scanned k c f kept a → Skips p a b → e ≡ looked b → AtUnit f a b e kept
+at_unit k c f a b e kept p i (run, r) l =
+    let t = ended p a b e (run, r) l in
+    let m : Moves f e = moves_then i.moves t.moves in
+    record {
+      fault = found_on f a e kept i.fault t.moves;
+      moves = m;
+      turn = t.moves;
+      most = t.most;
+      place = λ s x y. passed_here f b e s x y (moves_then i.moves (moves_ran r)) (moves_stayed (stayed_looked b e l));
+      here = λ s x y. passed_here f e e s x y m (stays e);
+    }
+
+-- a string that is read once more, in a slice of it from the place on
+pub read_once_more : (c : ℕ) (s : Spot) (a b e i o : Here) (x : Text) (z n m : ℕ) → s.rest ≡ x ++ a.rest → b ≡ sliced x a → z ≡ 0 → i ≡ record { rest = x; at = 0; steps = z } → Costs 4 c i o → n ≡ o.steps → m ≡ n → e ≡ counted m b
+    → e.steps ≤ a.steps + 5 * (bytes s.rest - bytes a.rest) + c
+read_once_more c s a b e i o x z n m t cut zero is k done count raised =
+    let e1 = ap (λ y. y.steps) raised in
+    let b1 = ap (λ y. y.steps) cut in
+    let i1 = ap (λ y. y.steps) is in
+    let i2 = ap (λ y. bytes y.rest) is in
+    omega (arith, ap bytes t, bytes-append x a.rest, k.most)

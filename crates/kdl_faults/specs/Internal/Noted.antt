@@ -1,0 +1,55 @@
+-- What a reader of faults holds: places and spans of the text that it reads.
+use Rattle.std.specs.Prelude.{◌≡◌, ℕ, ◌+◌, ◌*◌, ◌≤◌, ◌++◌, List, All}
+use Rattle.kdl_text.specs.Chars.{Text}
+use Rattle.kdl_text.specs.Internal.Here.{Here, Spot, raise}
+use Rattle.kdl_text.specs.Spans.{InText, bytes}
+use Rattle.kdl_faults.specs.Internal.Reading.{Stands}
+use Rattle.kdl_faults.specs.declared.pieces.Piece.{Piece}
+use Rattle.kdl_faults.specs.declared.reader.Block.{Block}
+use Rattle.kdl_faults.specs.declared.reader.Fault.{Fault}
+use Rattle.kdl_faults.specs.declared.reader.Reader.{Reader}
+
+-- the place lies in the text
+abbrev pub LiesIn : Text → Spot → Type 0
+LiesIn text place = (p : Text) × (text ≡ p ++ place.rest)
+
+-- each fault has a span in the text
+abbrev pub Noted : Text → List Fault → Type 0
+Noted text faults = All (λ (f : Fault). InText text f.span) faults
+
+-- each open block has a span in the text
+abbrev pub Opened : Text → List Block → Type 0
+Opened text blocks = All (λ (b : Block). InText text b.span) blocks
+
+-- a reader of the text: all its places are in the text, all its spans too
+pub record IsReaderOf (text : Text) (r : Reader) : Type 0 where
+  pub whole : r.whole.rest ≡ text
+  pub here : (p : Text) × (text ≡ p ++ r.cursor.rest)
+  pub left : LiesIn text r.left
+  pub faults : Noted text r.faults.items
+  pub blocks : Opened text r.blocks.items
+
+-- what a reader holds of a text stays of the text
+abbrev pub Keeps : Reader → Reader → Type 0
+Keeps old new = (text : Text) → IsReaderOf text old → IsReaderOf text new
+
+-- where two places are of the text, what a reader holds of it stays of the text
+abbrev pub KeepsBetween : Spot → Spot → Reader → Reader → Type 0
+KeepsBetween a b old new = (text : Text) → IsReaderOf text old → LiesIn text a → LiesIn text b → IsReaderOf text new
+
+-- where a piece is of the text, what a reader holds of it stays of the text
+abbrev pub KeepsAt : Piece → Reader → Reader → Type 0
+KeepsAt p old new = (text : Text) → IsReaderOf text old → Stands text p → IsReaderOf text new
+
+-- where a piece and two places are of the text, what a reader holds of it stays of the text
+abbrev pub KeepsUpTo : Piece → Spot → Spot → Reader → Reader → Type 0
+KeepsUpTo p a b old new = (text : Text) → IsReaderOf text old → Stands text p → LiesIn text a → LiesIn text b → IsReaderOf text new
+
+-- where a piece is of the text that is read, the place is too
+abbrev pub IsPlaceAt : Reader → Piece → Spot → Type 0
+IsPlaceAt r p place = (text : Text) → IsReaderOf text r → Stands text p → LiesIn text place
+
+-- at most k steps for each byte that was to be read, and k more; the count did not fall
+pub record Bounded (k : ℕ) (old new : Here) : Type 0 where
+  pub most : new.steps ≤ old.steps + k * (bytes old.rest + 1)
+  pub counts : raise old.steps 0 ≤ raise new.steps 0

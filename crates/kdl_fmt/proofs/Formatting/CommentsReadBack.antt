@@ -1,0 +1,189 @@
+-- What is laid out with its comments reads back as what it says.
+use Rattle.std.proofs.Common.{◌≡◌, ℕ, ◌+◌, Bool, true, false, ◌||◌, List, [], ◌∷◌, ◌++◌, map, refl, subst, ap, ◌∙◌, Option, Some, None, option_map, append_assoc, append-nil}
+use Rattle.std.specs.List.{list_all}
+use Rattle.kdl_text.specs.Chars.{Text, is_space, Star}
+use Rattle.kdl_text.specs.Trivia.{ValueEnd}
+use Rattle.kdl_text.specs.declared.span.SourceSpan.{SourceSpan}
+use Rattle.kdl_value.specs.Data.{Value}
+use Rattle.kdl_value.specs.Print.{print_value}
+use Rattle.kdl_value.specs.Spelled.{spelled}
+use Rattle.kdl_value.specs.WellFormed.{IsWellFormed}
+use Rattle.kdl_entry.specs.Entries.{MaybeType, untyped, typed, parens, IsValue, value, IsEntry, property, argument}
+use Rattle.kdl_entry.specs.Tree.{Identifier, Entry, unspelled, kept, autoformatted, entry_data}
+use Rattle.kdl_entry.proofs.Moving.EntryMoves.{marks}
+use Rattle.kdl_entry.proofs.Laying.ValueReadsBack.{printed_string, printed_value}
+use Rattle.kdl_grammar.specs.Data as data'
+use Rattle.kdl_grammar.specs.Grammar.{named, AfterName, Gap, no_gap, AreNodes, last_gap, node_then, braces, IsDocument}
+use Rattle.kdl_grammar.specs.Print.{print_piece, print_pieces, print_head, print_node, print_tail, print_nodes, print_document}
+use Rattle.kdl_grammar.specs.Tree.{NodeFormat, DocumentFormat, Head, Node, node, Children, no_children, children, Document, document, Nodes, none, first, node_data, children_data, document_data, nodes_data}
+use Rattle.kdl_grammar.proofs.Laying.LaidIsDerived.{first_entry, plain_of, braced_of, later_of}
+use Rattle.kdl_items.specs.Items.{before_entry, before_block}
+use Rattle.kdl_fmt.specs.Config.{Settings, indentation}
+use Rattle.kdl_fmt.specs.Formatted.{with_keep_if, or_empty, or_empty_document, newline_if_none, in_braces, EntriesKeepNone, NodeKeepsNone, ChildrenKeepNone, DocumentKeepsNone, NodesKeepNone}
+use Rattle.kdl_fmt.specs.Kept.{last_place, without_bom, entry_leading, is_kept_format, KeptBefore}
+use Rattle.kdl_fmt.specs.WellFormed.{AreScalars, AreWellFormedEntries, IsWellFormedNode, AreWellFormedChildren, AreWellFormed}
+use Rattle.kdl_fmt.specs.WithComments.{behind, IsFormattedEntry, AreFormattedEntries, NodeTexts, KeepsTexts, line_of, content_of, ContentTexts, has_block, IsFormattedNode, IsFormattedChildren, AreFormattedNodes, IsFormattedDocument}
+use Rattle.kdl_fmt.proofs.EntryTexts.{name_of, type_text, key_text, type_joined, key_joined, no_format, piece_text}
+use Rattle.kdl_fmt.proofs.Keeping.KeptPlaces.{space_ends, newline_gap, gap_nodes, indentation_gap, kept_gap, Tail, tail_of, tail_ends, tail_spaced, LineEnd, line_end_of, line_terminator, last_text, last_ends}
+
+type_reads : (o : Option Identifier) (r : Text) → AreScalars (name_of o) → MaybeType true (type_text o ++ r) r (name_of o)
+type_reads None r ok = untyped
+type_reads (Some i) r ok = typed (parens Star.none (rw (type_joined (spelled i.value) r) (printed_string i.value (41 ∷ r) ok (marks 41 refl))) Star.none) Star.none
+
+value_reads : (o : Option Identifier) (v : Value) (r : Text) → AreScalars (name_of o) → IsWellFormed v → ValueEnd true r → IsValue true (type_text o ++ (print_value v ++ r)) r (name_of o) v
+value_reads o v r t ok e = value (type_reads o (print_value v ++ r) t) (printed_value v r ok e)
+
+item_reads : (k o : Option Identifier) (v : Value) (r : Text) → AreScalars (name_of k) → AreScalars (name_of o) → IsWellFormed v → ValueEnd true r
+    → IsEntry true (key_text k ++ (type_text o ++ (print_value v ++ r))) r (record { key = name_of k; ty = name_of o; value = v })
+item_reads None o v r a t ok e = argument (value_reads o v r t ok e)
+item_reads (Some i) o v r a t ok e =
+    let rest = type_text o ++ (print_value v ++ r) in
+    rw (key_joined (spelled i.value) rest) (property (printed_string i.value (61 ∷ rest) a (marks 61 refl)) Star.none Star.none (value_reads o v r t ok e))
+
+-- a node, but for its entries and its children
+node_joined : (b i t n p q r : Text) → (b ++ i ++ t ++ [] ++ n ++ p ++ q) ++ r ≡ b ++ (i ++ (t ++ (n ++ (p ++ (q ++ r)))))
+node_joined b i t n p q r = simp append_assoc
+
+end_joined : (l s c b r : Text) → (l ++ s ++ (c ++ (10 ∷ [])) ++ b) ++ r ≡ l ++ (s ++ (c ++ (10 ∷ (b ++ r))))
+end_joined l s c b r = simp append_assoc
+
+braces_joined : (l m c r : Text) → (l ++ (32 ∷ []) ++ (123 ∷ []) ++ m ++ [] ++ c) ++ r ≡ l ++ (32 ∷ 123 ∷ (m ++ (c ++ r)))
+braces_joined l m c r = simp (append_assoc, append-nil)
+
+content_joined : (a n b e i r : Text) → (a ++ n ++ (b ++ e ++ i)) ++ r ≡ a ++ (n ++ (b ++ (e ++ (i ++ r))))
+content_joined a n b e i r = simp append_assoc
+
+block_joined : (l a n b e i u r : Text) → (l ++ (32 ∷ []) ++ (123 ∷ []) ++ ((10 ∷ a) ++ n ++ (b ++ e ++ i)) ++ [] ++ (125 ∷ u)) ++ r ≡ l ++ (32 ∷ 123 ∷ 10 ∷ (a ++ (n ++ (b ++ (e ++ (i ++ (125 ∷ (u ++ r))))))))
+block_joined l a n b e i u r =
+    braces_joined l ((10 ∷ a) ++ n ++ (b ++ e ++ i)) (125 ∷ u) r ∙ ap (λ (t : Text). l ++ (32 ∷ 123 ∷ 10 ∷ t)) (content_joined a n b e i (125 ∷ (u ++ r)))
+
+module _ (h : Head) (before : Text) (k : NodeTexts) (line : h.format ≡ Some (line_of before k)) where
+  node_text : (y : Option Identifier) (i : Identifier) → h.ty ≡ option_map unspelled y → h.name ≡ unspelled i → (depth : ℕ) (p q r : Text)
+      → (print_head h depth ++ p ++ q) ++ r ≡ k.before ++ (before ++ (type_text y ++ (spelled i.value ++ (p ++ (q ++ r)))))
+  node_text y i e f depth p q r = rw (e, f, line) (node_joined k.before before (type_text y) (spelled i.value) p q r)
+
+  -- what stands behind the last entry or the `}`
+  abbrev end_of : Text → Text
+  end_of r = k.last ++ (k.space ++ (k.comment ++ (10 ∷ (k.behind ++ r))))
+
+  plain_text : (depth : ℕ) (r : Text) → print_tail h no_children depth ++ r ≡ end_of r
+  plain_text depth r = rw line (end_joined k.last k.space k.comment k.behind r)
+
+  block_text : (f : Option DocumentFormat) (span : SourceSpan) (ns ms : Nodes) (a b : Text) (depth : ℕ) (r : Text) → f ≡ Some (in_braces before (content_of ns a b))
+      → print_tail h (children (document f span ms)) depth ++ r
+      ≡ k.before_block ++ (32 ∷ 123 ∷ 10 ∷ (a ++ (print_nodes ms (depth + 1) ++ (b ++ (newline_if_none ns ++ (before ++ (125 ∷ end_of r)))))))
+  block_text f span ns ms a b depth r e =
+      let end = k.last ++ k.space ++ (k.comment ++ (10 ∷ [])) ++ k.behind in
+      rw (e, line, ← end_joined k.last k.space k.comment k.behind r) (block_joined k.before_block a (print_nodes ms (depth + 1)) b (newline_if_none ns) before end r)
+
+empty_gap : (ns : Nodes) {t r : Text} → Gap true t r → Gap true (newline_if_none ns ++ t) r
+empty_gap none g = newline_gap g
+empty_gap (first n ns) g = g
+
+module _ (s : Settings) (ok : list_all is_space s.indent ≡ true) (unmarked : s.entry_autoformate_keep ≡ false) where
+  -- what is kept before an entry, and the entry
+  entry_text : (e e' : Entry) → IsFormattedEntry s e e' → is_kept_format e.format ≡ false
+      → (t : Text) × Tail (before_entry false) t × ((r : Text) → print_piece e' ++ r ≡ t ++ (32 ∷ (key_text e.name ++ (type_text e.ty ++ (print_value e.value ++ r)))))
+  entry_text e e' (t, k, q) h = go s.entry_autoformate_keep unmarked k q
+    where
+      go : (b : Bool) → b ≡ false → KeptBefore s (with_keep_if b e).format t → e' ≡ behind t (autoformatted (with_keep_if b e))
+          → (t : Text) × Tail (before_entry false) t × ((r : Text) → print_piece e' ++ r ≡ t ++ (32 ∷ (key_text e.name ++ (type_text e.ty ++ (print_value e.value ++ r)))))
+      go true x k q = absurd cc
+      go false x k q = (t, tail_of (is_kept_format e.format || s.no_comments) (before_entry false) (entry_leading (with_keep_if false e).format) t k, λ r. ap (λ (z : Entry). print_piece z ++ r) q ∙ piece_text t e r (no_format e.format h))
+
+  entries_end : (es es' : List Entry) → AreFormattedEntries s es es' → EntriesKeepNone es → (t : Text) → ValueEnd true t → ValueEnd true (print_pieces es' ++ t)
+  entries_end [] [] f m t h = h
+  entries_end (e ∷ es) (e' ∷ es') f m t h =
+      let p = entry_text e e' f.0 m.0 in
+      rw (append_assoc (print_piece e') (print_pieces es') t, p.2 (print_pieces es' ++ t)) (tail_ends p.1 _ (space_ends _))
+  entries_end [] (e' ∷ es') f m t h = absurd f
+  entries_end (e ∷ es) [] f m t h = absurd f
+
+  entries_read : (es es' : List Entry) → AreFormattedEntries s es es' → EntriesKeepNone es → AreWellFormedEntries (map entry_data es) → {k : data'.Children} {t r : Text} → ValueEnd true t → AfterName true t r [] k
+      → AfterName true (print_pieces es' ++ t) r (map entry_data es) k
+  entries_read [] [] f m w h d = d
+  entries_read (e ∷ es) (e' ∷ es') f m w {t = t} h d =
+      let p = entry_text e e' f.0 m.0 in
+      let rest = print_pieces es' ++ t in
+      rw (append_assoc (print_piece e') (print_pieces es') t, p.2 rest)
+      (first_entry (tail_spaced (before_entry false) p.1 _) (item_reads e.name e.ty e.value rest w.0.0 w.0.1 w.0.2 (entries_end es es' f.1 m.1 t h)) (entries_read es es' f.1 m.1 w.1 h d))
+  entries_read [] (e' ∷ es') f m w h d = absurd f
+  entries_read (e ∷ es) [] f m w h d = absurd f
+
+  -- what is kept around the parts of a node
+  last_tail : (level : ℕ) (has : Bool) (f : NodeFormat) (t : NodeTexts) → KeepsTexts s level has f t → Tail (last_place has) t.last
+  last_tail level has f t k = tail_of s.no_comments (last_place has) f.before_terminator t.last k.last
+
+  block_tail : (level : ℕ) (f : NodeFormat) (t : NodeTexts) → KeepsTexts s level true f t → Tail before_block t.before_block
+  block_tail level f t k = tail_of s.no_comments before_block f.before_children t.before_block k.before_block
+
+  line_end : (level : ℕ) (has : Bool) (f : NodeFormat) (t : NodeTexts) → KeepsTexts s level has f t → LineEnd t.space t.comment
+  line_end level has f t k = line_end_of s.no_comments f.terminator t.space t.comment k.end
+
+  content_gap : (level : ℕ) (f : DocumentFormat) (a b : Text) → ContentTexts s level f a b → (t : Text) → Gap true (a ++ t) t
+  content_gap level f a b k t = kept_gap s ok level (without_bom f.leading) a k.leading no_gap
+
+  content_end : (level : ℕ) (f : DocumentFormat) (a b : Text) → ContentTexts s level f a b → {t r : Text} → Gap true t r → Gap true (b ++ t) r
+  content_end level f a b k g = kept_gap s ok level f.trailing b k.trailing g
+
+  children_end : (level depth : ℕ) (h : Head) (f : NodeFormat) (t : NodeTexts) (k k' : Children) → h.format ≡ Some (line_of (indentation s level) t) → IsFormattedChildren s level k k'
+      → KeepsTexts s level (has_block k) f t → (r : Text) → ValueEnd true (print_tail h k' depth ++ r)
+  children_end level depth h f t no_children no_children line c kept r =
+      rw (plain_text h (indentation s level) t line depth r) (last_ends (last_tail level false f t kept) (line_end level false f t kept) (t.behind ++ r))
+  children_end level depth h f t (children (document g span ns)) (children (document g' span' ns')) line (c, same, nodes) kept r =
+      rw (block_text h (indentation s level) t line g' span' ns ns' c.0 c.1 depth r c.3) (tail_ends (block_tail level f t kept) _ (space_ends _))
+  children_end level depth h f t no_children (children d') line c kept r = absurd c
+  children_end level depth h f t (children (document g span ns)) no_children line c kept r = absurd c
+
+  mutual
+    children_read : (level depth : ℕ) (h : Head) (f : NodeFormat) (t : NodeTexts) (k k' : Children) → h.format ≡ Some (line_of (indentation s level) t) → IsFormattedChildren s level k k'
+        → KeepsTexts s level (has_block k) f t → ChildrenKeepNone k → AreWellFormedChildren (children_data k) → (r : Text)
+        → AfterName true (print_tail h k' depth ++ r) (t.comment ++ (10 ∷ (t.behind ++ r))) [] (children_data k)
+    children_read level depth h f t no_children no_children line c kept m w r =
+        rw (plain_text h (indentation s level) t line depth r) (plain_of (last_text false (last_tail level false f t kept) (line_end level false f t kept) (t.behind ++ r)))
+    children_read level depth h f t (children (document g span ns)) (children (document g' span' ns')) line (c, same, nodes) kept m w r =
+        rw (block_text h (indentation s level) t line g' span' ns ns' c.0 c.1 depth r c.3)
+        (braced_of (tail_spaced before_block (block_tail level f t kept) _)
+        (braces (gap_nodes (newline_gap (content_gap (level + 1) (or_empty_document g) c.0 c.1 c.2 _))
+        (nodes_read (level + 1) (depth + 1) ns ns' nodes m w (content_end (level + 1) (or_empty_document g) c.0 c.1 c.2 (empty_gap ns (indentation_gap s ok level no_gap))))))
+        (later_of (last_text true (last_tail level true f t kept) (line_end level true f t kept) (t.behind ++ r))))
+    children_read level depth h f t no_children (children d') line c kept m w r = absurd c
+    children_read level depth h f t (children (document g span ns)) no_children line c kept m w r = absurd c
+
+    -- a node before nodes
+    node_reads : (level depth : ℕ) (n n' : Node) → IsFormattedNode s level n n' → NodeKeepsNone n → IsWellFormedNode (node_data n) → {r q : Text} {xs : data'.Nodes} → AreNodes true r q xs
+        → AreNodes true (print_node n' depth ++ r) q (data'.first (node_data n) xs)
+    node_reads level depth (node h k) (node h' k') (f, c) m w {r = r} d =
+        let (t, kept, line) = f.format in
+        let i = indentation s level in
+        rw (node_text h' i t line h.ty h.name f.ty f.name depth (print_pieces h'.entries) (print_tail h' k' depth) r)
+        (node_then (kept_gap s ok level (or_empty h.format).leading t.before kept.before (indentation_gap s ok level no_gap))
+        (let last = children_end level depth h' (or_empty h.format) t k k' line c kept r in
+        named (type_reads h.ty _ w.0) (printed_string h.name.value _ w.1 (entries_end h.entries h'.entries f.entries m.0 _ last))
+        (entries_read h.entries h'.entries f.entries m.0 w.2 last (children_read level depth h' (or_empty h.format) t k k' line c kept m.1 w.3 r)))
+        (line_terminator (line_end level (has_block k) (or_empty h.format) t kept) (t.behind ++ r)) (gap_nodes (kept_gap s ok level (or_empty h.format).trailing t.behind kept.behind no_gap) d))
+
+    nodes_read : (level depth : ℕ) (ns ns' : Nodes) → AreFormattedNodes s level ns ns' → NodesKeepNone ns → AreWellFormed (nodes_data ns) → {t r : Text} → Gap true t r
+        → AreNodes true (print_nodes ns' depth ++ t) r (nodes_data ns)
+    nodes_read level depth none none f m w g = last_gap g
+    nodes_read level depth (first n ns) (first n' ns') f m w {t = t} g =
+        rw (append_assoc (print_node n' depth) (print_nodes ns' depth) t) (node_reads level depth n n' f.0 m.0 w.0 (nodes_read level depth ns ns' f.1 m.1 w.1 g))
+    nodes_read level depth none (first n' ns') f m w g = absurd f
+    nodes_read level depth (first n ns) none f m w g = absurd f
+
+  -- the text is a document with what the document says
+  pub document_derived : (level depth : ℕ) (d d' : Document) → IsFormattedDocument s level d d' → DocumentKeepsNone d → AreWellFormed (document_data d)
+      → IsDocument true (print_document d' depth) (document_data d)
+  document_derived level depth (document f span ns) (document f' span' ns') (c, same, nodes) m w =
+      IsDocument.unmarked (subst (λ (t : Text). AreNodes true t [] (nodes_data ns)) (document_joined f' ns' c.3)
+      (gap_nodes (content_gap level (or_empty_document f) c.0 c.1 c.2 _) (nodes_read level depth ns ns' nodes m w (content_end level (or_empty_document f) c.0 c.1 c.2 (empty_gap ns no_gap)))))
+    where
+      document_joined : (f' : Option DocumentFormat) (ns' : Nodes) → f' ≡ Some (content_of ns c.0 c.1)
+          → c.0 ++ (print_nodes ns' depth ++ (c.1 ++ (newline_if_none ns ++ []))) ≡ print_document (document f' span' ns') depth
+      document_joined f' ns' e = rw e (simp (append_assoc, append-nil))
+
+  -- the text of a node is a document with that node
+  pub node_derived : (level depth : ℕ) (n n' : Node) → IsFormattedNode s level n n' → NodeKeepsNone n → IsWellFormedNode (node_data n)
+      → IsDocument true (print_node n' depth) (data'.first (node_data n) data'.none)
+  node_derived level depth n n' f m w =
+      IsDocument.unmarked (subst (λ (t : Text). AreNodes true t [] (data'.first (node_data n) data'.none)) (append-nil (print_node n' depth)) (node_reads level depth n n' f m w (last_gap no_gap)))

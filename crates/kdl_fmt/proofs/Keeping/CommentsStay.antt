@@ -1,0 +1,299 @@
+-- Layout loses no comment: what a document holds of them is, each as it stands on a line, what is held by the document that is laid in the printed text.
+use Rattle.std.proofs.Common.{◌≡◌, ℕ, ◌+◌, Bool, true, false, List, [], ◌∷◌, ◌++◌, map, refl, sym, ap, subst, ◌∙◌, Option, Some, option_map, append_assoc, append-nil}
+use Rattle.std.proofs.lemmas.List.{map-append}
+use Rattle.std.specs.List.{list_all}
+use Rattle.kdl_text.specs.Chars.{Text, is_space}
+use Rattle.kdl_text.specs.Trivia.{ValueEnd}
+use Rattle.kdl_text.specs.declared.span.SourceSpan.{SourceSpan}
+use Rattle.kdl_value.specs.Spelled.{spelled}
+use Rattle.kdl_entry.specs.Places.{span_of}
+use Rattle.kdl_entry.specs.Tree.{Identifier, unspelled}
+use Rattle.kdl_grammar.specs.Grammar.{Terminator, Gap}
+use Rattle.kdl_grammar.specs.Laid.{node_format, content_span, laid_node, LaidChildren, no_block, a_block, LaidNodes, no_node, a_node, LaidContent, without_nodes, with_nodes, LaidDocument}
+use Rattle.kdl_grammar.specs.Places.{BeforeChildren, AfterChildren}
+use Rattle.kdl_grammar.specs.Print.{print_pieces, print_head, print_node, print_tail, print_nodes, print_document}
+use Rattle.kdl_grammar.specs.Tree.{NodeFormat, DocumentFormat, Head, Node, node, Children, no_children, children, Document, document, Nodes, none, first, node_data, children_data, document_data, nodes_data}
+use Rattle.kdl_grammar.proofs.Reading.Complete.OneLaid.{one_laid_document}
+use Rattle.kdl_items.specs.Items.{Item, before_block, GapItems, PlaceItems}
+use Rattle.kdl_items.specs.Written.{on_line}
+use Rattle.kdl_fmt.specs.Comments.{ItemsIn, NodeItems, of_node, ChildrenItems, block, NodesItems, DocumentItems, of_document}
+use Rattle.kdl_fmt.specs.Config.{Settings, indentation}
+use Rattle.kdl_fmt.specs.Formatted.{or_empty, or_empty_document, newline_if_none, in_braces, NodeKeepsNone, ChildrenKeepNone, DocumentKeepsNone, NodesKeepNone}
+use Rattle.kdl_fmt.specs.Kept.{last_place, without_bom}
+use Rattle.kdl_fmt.specs.WellFormed.{IsWellFormedNode, AreWellFormedChildren, AreWellFormed}
+use Rattle.kdl_fmt.specs.WithComments.{NodeTexts, KeepsTexts, line_of, content_of, ContentTexts, has_block, IsFormattedNode, IsFormattedChildren, AreFormattedNodes, IsFormattedDocument}
+use Rattle.kdl_fmt.proofs.Keeping.GapFronts.{Front, nothing, joined, alone, here, newline, newline_if, indented, kept_front, gap_unmarked}
+use Rattle.kdl_fmt.proofs.Keeping.KeptItems.{KeptIn, kept_in, kept_end, kept_last}
+use Rattle.kdl_fmt.proofs.EntryTexts.{type_text}
+use Rattle.kdl_fmt.proofs.Formatting.LaidEntries.{identifier_at, identifier_laid, type_laid, entries_laid}
+use Rattle.kdl_fmt.proofs.Keeping.KeptPlaces.{space_ends, tail_ends, tail_spaced, LineEnd, line_end_of, line_terminator, last_text, last_ends}
+
+-- what a node prints, with a rest behind it
+node_joined : (l t n p q r : Text) → (l ++ t ++ [] ++ n ++ p ++ q) ++ r ≡ l ++ (t ++ (n ++ (p ++ (q ++ r))))
+node_joined l t n p q r = simp (append_assoc, append-nil)
+
+end_joined : (l s c b r : Text) → (l ++ s ++ (c ++ (10 ∷ [])) ++ b) ++ r ≡ (l ++ s) ++ ((c ++ (10 ∷ [])) ++ (b ++ r))
+end_joined l s c b r = simp append_assoc
+
+last_joined : (l s c r : Text) → l ++ (s ++ (c ++ (10 ∷ r))) ≡ (l ++ s) ++ ((c ++ (10 ∷ [])) ++ r)
+last_joined l s c r = simp append_assoc
+
+braces_joined : (l m c r : Text) → (l ++ (32 ∷ []) ++ (123 ∷ []) ++ m ++ [] ++ c) ++ r ≡ l ++ (32 ∷ 123 ∷ (m ++ (c ++ r)))
+braces_joined l m c r = simp (append_assoc, append-nil)
+
+content_joined : (a n b r : Text) → (a ++ n ++ b) ++ r ≡ a ++ (n ++ (b ++ r))
+content_joined a n b r = simp append_assoc
+
+module _ (h : Head) (before : Text) (k : NodeTexts) (line : h.format ≡ Some (line_of before k)) where
+  node_text : (y : Option Identifier) (i : Identifier) → h.ty ≡ option_map unspelled y → h.name ≡ unspelled i → (depth : ℕ) (p q r : Text)
+      → (print_head h depth ++ p ++ q) ++ r ≡ (k.before ++ before) ++ (type_text y ++ (spelled i.value ++ (p ++ (q ++ r))))
+  node_text y i e f depth p q r = rw (e, f, line) (node_joined (k.before ++ before) (type_text y) (spelled i.value) p q r)
+
+  -- what stands behind the last entry or the `}`
+  abbrev end_of : Text → Text
+  end_of r = (k.last ++ k.space) ++ ((k.comment ++ (10 ∷ [])) ++ (k.behind ++ r))
+
+  plain_text : (depth : ℕ) (r : Text) → print_tail h no_children depth ++ r ≡ end_of r
+  plain_text depth r = rw line (end_joined k.last k.space k.comment k.behind r)
+
+  block_text : (f : Option DocumentFormat) (span : SourceSpan) (ns ms : Nodes) (a b : Text) (depth : ℕ) (r : Text) → f ≡ Some (in_braces before (content_of ns a b))
+      → print_tail h (children (document f span ms)) depth ++ r
+      ≡ k.before_block ++ (32 ∷ 123 ∷ ((10 ∷ a) ++ (print_nodes ms (depth + 1) ++ ((b ++ newline_if_none ns ++ before) ++ (125 ∷ end_of r)))))
+  block_text f span ns ms a b depth r e =
+      let end = k.last ++ k.space ++ (k.comment ++ (10 ∷ [])) ++ k.behind in
+      let n = print_nodes ms (depth + 1) in
+      let behind = b ++ newline_if_none ns ++ before in
+      rw (e, line, ← end_joined k.last k.space k.comment k.behind r)
+      (braces_joined k.before_block ((10 ∷ a) ++ n ++ behind) (125 ∷ end) r ∙ ap (λ (t : Text). k.before_block ++ (32 ∷ 123 ∷ t)) (content_joined (10 ∷ a) n behind (125 ∷ (end ++ r))))
+
+-- a node in a text: what is kept behind it stands before what follows it
+record NodeLaid (whole s r : Text) (is : List Item) : Type 0 where
+  tree : Node
+  pending : Text
+  own : List Item
+  later : List Item
+  laid : {xs : Nodes} {q : Text} → LaidNodes true whole xs (pending ++ r) q → LaidNodes true whole (first tree xs) s q
+  items : NodeItems tree own
+  front : Front pending later
+  same : own ++ later ≡ is
+
+-- nodes, likewise
+record NodesLaid (whole s r : Text) (is : List Item) : Type 0 where
+  tree : Nodes
+  pending : Text
+  own : List Item
+  later : List Item
+  laid : LaidNodes true whole tree s (pending ++ r)
+  items : NodesItems tree own
+  front : Front pending later
+  same : own ++ later ≡ is
+
+-- a document or what stands in a block
+record ContentLaid (whole s r : Text) (is : List Item) : Type 0 where
+  tree : Document
+  laid : LaidContent true whole tree s r
+  items : DocumentItems tree is
+
+-- what stands between the last entry and the terminator: a block and what it holds, and the items behind it
+record ChildrenLaid (whole s r : Text) (is js : List Item) : Type 0 where
+  tree : Children
+  before : Text
+  place : Text
+  laid : LaidChildren true whole tree before place s r
+  inside : ChildrenItems before tree is
+  behind : ItemsIn (PlaceItems (last_place (has_block tree)) place) js
+  ends : ValueEnd true s
+
+-- nodes and the gap behind them are the content of a document
+content_of_nodes : (whole s r g : Text) {is js : List Item} {xs : Nodes} → LaidNodes true whole xs s (g ++ r) → NodesItems xs is → Front g js → ContentLaid whole s r (is ++ js)
+content_of_nodes whole _ r g {js = js} no_node NodesItems.no_node f = record {
+  tree = document (Some (record { leading = g; trailing = [] })) (span_of whole r r) none;
+  laid = without_nodes (here f r) refl;
+  items = subst (λ (l : List Item). DocumentItems (document (Some (record { leading = g; trailing = [] })) (span_of whole r r) none) l) (append-nil (js ++ []) ∙ append-nil js)
+      (of_document (ItemsIn.items (subst (λ (t : Text). GapItems t js) (sym (gap_unmarked g (alone f))) (alone f))) NodesItems.no_node (ItemsIn.items GapItems.none));
+}
+content_of_nodes whole s r g (a_node {x = x} {xs = xs} l n e z ns) i f = record {
+  tree = document (Some (record { leading = []; trailing = g })) (content_span (span_of whole r r) (first x xs)) (first x xs);
+  laid = with_nodes (a_node l n e z ns) (here f r) refl;
+  items = of_document (ItemsIn.items GapItems.none) i (ItemsIn.items (alone f));
+}
+
+content_laid : {whole s r g : Text} {is js : List Item} → NodesLaid whole s (g ++ r) is → Front g js → ContentLaid whole s r (is ++ js)
+content_laid {whole} {s} {r} {g} {is} {js} x f =
+    subst (λ (l : List Item). ContentLaid whole s r l) (sym (append_assoc x.own x.later js) ∙ ap (λ (l : List Item). l ++ js) x.same)
+    (content_of_nodes whole s r (x.pending ++ g) (subst (λ (t : Text). LaidNodes true whole x.tree s t) (sym (append_assoc x.pending g r)) x.laid) x.items (joined x.front f))
+
+-- the lists of items in a node, in a block and in a document
+node_same : (p a b c d e f : List Item) → ((p ++ (map on_line a ++ [])) ++ map on_line b ++ map on_line c ++ map on_line d ++ map on_line e ++ []) ++ map on_line f ≡ p ++ map on_line (a ++ b ++ c ++ d ++ e ++ f)
+node_same p a b c d e f = simp (map-append, append_assoc, append-nil)
+
+block_lists : (p a b c : List Item) → p ++ (map on_line a ++ map on_line b ++ (map on_line c ++ [] ++ [])) ≡ p ++ map on_line (a ++ b ++ c)
+block_lists p a b c = simp (map-append, append_assoc, append-nil)
+
+content_lists : (a b c : List Item) → map on_line a ++ map on_line b ++ (map on_line c ++ []) ≡ map on_line (a ++ b ++ c)
+content_lists a b c = simp (map-append, append_assoc, append-nil)
+
+module _ (s : Settings) (ok : list_all is_space s.indent ≡ true) (unmarked : s.entry_autoformate_keep ≡ false) (with : s.no_comments ≡ false) (whole : Text) where
+  -- what is kept of the texts around nodes
+  content_front : (level : ℕ) (f : DocumentFormat) (a b : Text) → ContentTexts s level f a b → {is : List Item} → ItemsIn (GapItems (without_bom f.leading)) is → Front a (map on_line is)
+  content_front level f a b k i = kept_front s ok with level (without_bom f.leading) a k.leading i
+
+  content_end : (level : ℕ) (f : DocumentFormat) (a b : Text) → ContentTexts s level f a b → {is : List Item} → ItemsIn (GapItems f.trailing) is → Front b (map on_line is)
+  content_end level f a b k i = kept_front s ok with level f.trailing b k.trailing i
+
+  last_in : (level : ℕ) (has : Bool) (f : NodeFormat) (t : NodeTexts) → KeepsTexts s level has f t → {is : List Item} → ItemsIn (PlaceItems (last_place has) f.before_terminator) is
+      → KeptIn (last_place has) t.last (map on_line is)
+  last_in level has f t k i = kept_in s.no_comments with f.before_terminator t.last k.last i
+
+  block_in : (level : ℕ) (f : NodeFormat) (t : NodeTexts) → KeepsTexts s level true f t → {is : List Item} → ItemsIn (PlaceItems before_block f.before_children) is → KeptIn before_block t.before_block (map on_line is)
+  block_in level f t k i = kept_in s.no_comments with f.before_children t.before_block k.before_block i
+
+  line_end : (level : ℕ) (has : Bool) (f : NodeFormat) (t : NodeTexts) → KeepsTexts s level has f t → LineEnd t.space t.comment
+  line_end level has f t k = line_end_of s.no_comments f.terminator t.space t.comment k.end
+
+  mutual
+    children_laid : (level depth : ℕ) (h : Head) (f : NodeFormat) (t : NodeTexts) (k k' : Children) → h.format ≡ Some (line_of (indentation s level) t) → IsFormattedChildren s level k k'
+        → KeepsTexts s level (has_block k) f t → ChildrenKeepNone k → AreWellFormedChildren (children_data k) → {is js : List Item} → ChildrenItems f.before_children k is
+        → ItemsIn (PlaceItems (last_place (has_block k)) f.before_terminator) js → (r : Text)
+        → ChildrenLaid whole (print_tail h k' depth ++ r) ((t.comment ++ (10 ∷ [])) ++ (t.behind ++ r)) (map on_line is) (map on_line js)
+    children_laid level depth h f t no_children no_children line c kept m w ChildrenItems.no_block i r =
+        let end = line_end level false f t kept in
+        let last = last_in level false f t kept i in
+        let rest = t.behind ++ r in
+        let e = last_joined t.last t.space t.comment rest in
+        rw (plain_text h (indentation s level) t line depth r)
+        (record {
+          tree = no_children;
+          before = [];
+          place = t.last ++ t.space;
+          laid = no_block (record {
+            is = subst (λ (x : Text). BeforeChildren x ((t.comment ++ (10 ∷ [])) ++ rest)) e
+                (subst (λ (x : Text). BeforeChildren (t.last ++ (t.space ++ (t.comment ++ (10 ∷ rest)))) x) (sym (append_assoc t.comment (10 ∷ []) rest)) (last_text false last.stands end rest));
+            text = refl;
+          });
+          inside = ChildrenItems.no_block;
+          behind = ItemsIn.items (kept_last s.no_comments with false f.terminator t.space t.comment t.last kept.end last);
+          ends = subst (ValueEnd true) e (last_ends last.stands end rest);
+        })
+    children_laid level depth h f t (children (document g span ns)) (children (document g' span' ns')) line (c, same, nodes) kept m w (block {is = is} {js = ks} i (of_document {a = a} {b = b} {c = d} ia ib id)) j r =
+        let end = line_end level true f t kept in
+        let last = last_in level true f t kept j in
+        let before = block_in level f t kept i in
+        let rest = t.behind ++ r in
+        let e = last_joined t.last t.space t.comment rest in
+        let after = (t.last ++ t.space) ++ ((t.comment ++ (10 ∷ [])) ++ rest) in
+        let behind = c.1 ++ newline_if_none ns ++ indentation s level in
+        let x = nodes_laid (level + 1) (depth + 1) ns ns' nodes m w ib (joined newline (content_front (level + 1) (or_empty_document g) c.0 c.1 c.2 ia)) (behind ++ (125 ∷ after)) in
+        let y = content_laid x (joined (joined (content_end (level + 1) (or_empty_document g) c.0 c.1 c.2 id) (newline_if ns)) (indented s ok level)) in
+        rw (block_text h (indentation s level) t line g' span' ns ns' c.0 c.1 depth r c.3)
+        (record {
+          tree = children y.tree;
+          before = t.before_block ++ (32 ∷ []);
+          place = t.last ++ t.space;
+          laid = a_block (record { is = tail_spaced before_block before.stands _; text = sym (append_assoc t.before_block (32 ∷ []) _) }) y.laid
+              (record {
+                is = subst (λ (x : Text). AfterChildren x ((t.comment ++ (10 ∷ [])) ++ rest)) e
+                    (subst (λ (x : Text). AfterChildren (t.last ++ (t.space ++ (t.comment ++ (10 ∷ rest)))) x) (sym (append_assoc t.comment (10 ∷ []) rest)) (last_text true last.stands end rest));
+                text = refl;
+              });
+          inside = subst (λ (l : List Item). ChildrenItems (t.before_block ++ (32 ∷ [])) (children y.tree) l) (block_lists (map on_line is) a b d ∙ sym (map-append on_line is (a ++ b ++ d)))
+              (block (ItemsIn.items before.spaced) y.items);
+          behind = ItemsIn.items (kept_last s.no_comments with true f.terminator t.space t.comment t.last kept.end last);
+          ends = tail_ends before.stands _ (space_ends _);
+        })
+    children_laid level depth h f t no_children (children d') line c kept m w i j r = absurd c
+    children_laid level depth h f t (children (document g span ns)) no_children line c kept m w i j r = absurd c
+
+    -- a node behind a gap
+    node_laid : (level depth : ℕ) (n n' : Node) → IsFormattedNode s level n n' → NodeKeepsNone n → IsWellFormedNode (node_data n) → {is : List Item} → NodeItems n is
+        → {p : Text} {ps : List Item} → Front p ps → (r : Text) → NodeLaid whole (p ++ (print_node n' depth ++ r)) r (ps ++ map on_line is)
+    node_laid level depth (node h k) (node h' k') (f, c) m w (of_node {a = a} {b = b} {c = ci} {d = d} {e = e} {f = g} ia ib ic id ie ig) {p} {ps} front r =
+        let (t, kept, line) = f.format in
+        let i = indentation s level in
+        let format = or_empty h.format in
+        let has = has_block k in
+        let tail = print_tail h' k' depth ++ r in
+        let v = t.behind ++ r in
+        let end = t.comment ++ (10 ∷ []) in
+        let lines = joined (kept_front s ok with level format.leading t.before kept.before ia) (indented s ok level) in
+        let x = children_laid level depth h' format t k k' line c kept m.1 w.3 ic id r in
+        let y = entries_laid s unmarked with whole h.entries h'.entries f.entries m.0 w.2 ib tail x.ends in
+        let pieces = print_pieces h'.entries ++ tail in
+        let named = identifier_at whole h.name.value pieces in
+        let ty = type_laid whole h.ty (spelled h.name.value ++ pieces) w.0 in
+        let start = type_text h.ty ++ (spelled h.name.value ++ pieces) in
+        let leading = p ++ (t.before ++ i) in
+        rw (node_text h' i t line h.ty h.name f.ty f.name depth (print_pieces h'.entries) (print_tail h' k' depth) r)
+        (record {
+          tree = node (record { ty = ty.0; name = named; entries = y.entries; format = Some (node_format leading [] [] [] x.before x.place end []); span = span_of whole start (end ++ v) }) x.tree;
+          pending = t.behind;
+          own = (ps ++ (map on_line a ++ [])) ++ map on_line b ++ map on_line ci ++ map on_line d ++ map on_line e ++ [];
+          later = map on_line g;
+          laid = λ ns. a_node {leading = leading} {end = end} {t = start} {u = end ++ v} {v = v} (record { is = front.gap (lines.gap Gap.no_gap); text = sym (append_assoc p (t.before ++ i) start) })
+              (laid_node ty.1 (identifier_laid whole h.name.value pieces w.1 y.ends) y.laid x.laid)
+              (record { is = subst (λ (z : Text). Terminator z v) (sym (append_assoc t.comment (10 ∷ []) v)) (line_terminator (line_end level has format t kept) v); text = refl }) refl ns;
+          items = of_node (ItemsIn.items (alone (joined front lines))) y.items x.inside x.behind (kept_end s.no_comments with format.terminator t.space t.comment kept.end ie) (ItemsIn.items GapItems.none);
+          front = kept_front s ok with level format.trailing t.behind kept.behind ig;
+          same = node_same ps a b ci d e g;
+        })
+
+    nodes_laid : (level depth : ℕ) (ns ns' : Nodes) → AreFormattedNodes s level ns ns' → NodesKeepNone ns → AreWellFormed (nodes_data ns) → {is : List Item} → NodesItems ns is
+        → {p : Text} {ps : List Item} → Front p ps → (t : Text) → NodesLaid whole (p ++ (print_nodes ns' depth ++ t)) t (ps ++ map on_line is)
+    nodes_laid level depth none none f m w NodesItems.no_node {p} {ps} front t =
+        record { tree = none; pending = p; own = []; later = ps; laid = no_node; items = NodesItems.no_node; front = front; same = sym (append-nil ps) }
+    nodes_laid level depth (first n ns) (first n' ns') f m w (NodesItems.a_node {is = is} {js = js} i k) {p} {ps} front t =
+        let x = node_laid level depth n n' f.0 m.0 w.0 i front (print_nodes ns' depth ++ t) in
+        let y = nodes_laid level depth ns ns' f.1 m.1 w.1 k x.front t in
+        rw (append_assoc (print_node n' depth) (print_nodes ns' depth) t)
+        (record {
+          tree = first x.tree y.tree;
+          pending = y.pending;
+          own = x.own ++ y.own;
+          later = y.later;
+          laid = x.laid y.laid;
+          items = NodesItems.a_node x.items y.items;
+          front = y.front;
+          same = append_assoc x.own y.own y.later ∙ ap (λ (l : List Item). x.own ++ l) y.same ∙ sym (append_assoc x.own x.later (map on_line js)) ∙ ap (λ (l : List Item). l ++ map on_line js) x.same
+              ∙ append_assoc ps (map on_line is) (map on_line js) ∙ ap (λ (l : List Item). ps ++ l) (sym (map-append on_line is js));
+        })
+    nodes_laid level depth none (first n' ns') f m w i front t = absurd f
+    nodes_laid level depth (first n ns) none f m w i front t = absurd f
+
+  -- the content of a document that is laid out
+  document_content : (level depth : ℕ) (d d' : Document) (is : List Item) → DocumentItems d is → IsFormattedDocument s level d d' → DocumentKeepsNone d → AreWellFormed (document_data d)
+      → ContentLaid whole (print_document d' depth) [] (map on_line is)
+  document_content level depth (document f span ns) (document f' span' ns') _ (of_document {a = a} {b = b} {c = d} ia ib id) (c, same, nodes) m w =
+      let behind = c.1 ++ newline_if_none ns in
+      let x = nodes_laid level depth ns ns' nodes m w ib (content_front level (or_empty_document f) c.0 c.1 c.2 ia) (behind ++ []) in
+      let y = content_laid x (joined (content_end level (or_empty_document f) c.0 c.1 c.2 id) (newline_if ns)) in
+      subst (λ (l : List Item). ContentLaid whole (print_document (document f' span' ns') depth) [] l) (content_lists a b d)
+      (subst (λ (t : Text). ContentLaid whole t [] (map on_line a ++ map on_line b ++ (map on_line d ++ []))) (document_joined f' ns' c.3) y)
+    where
+      document_joined : (f' : Option DocumentFormat) (ns' : Nodes) → f' ≡ Some (content_of ns c.0 c.1)
+          → c.0 ++ (print_nodes ns' depth ++ ((c.1 ++ newline_if_none ns) ++ [])) ≡ print_document (document f' span' ns') depth
+      document_joined f' ns' e = rw e (simp (append_assoc, append-nil))
+
+  -- a node that is laid out, as the content of a document
+  node_content : (level depth : ℕ) (n n' : Node) (is : List Item) → NodeItems n is → IsFormattedNode s level n n' → NodeKeepsNone n → IsWellFormedNode (node_data n)
+      → ContentLaid whole (print_node n' depth) [] (map on_line is)
+  node_content level depth n n' is i f m w =
+      let x = node_laid level depth n n' f m w i nothing [] in
+      subst (λ (l : List Item). ContentLaid whole (print_node n' depth) [] l) (ap (λ (l : List Item). l ++ x.later) (append-nil x.own) ∙ x.same)
+      (subst (λ (t : Text). ContentLaid whole t [] (x.own ++ [] ++ x.later)) (append-nil (print_node n' depth))
+      (content_of_nodes whole (print_node n' depth ++ []) [] x.pending (x.laid no_node) (NodesItems.a_node x.items NodesItems.no_node) x.front))
+
+-- each item of the document is one of the laid text, as it stands on a line, in the same order
+pub comments_stay : (s : Settings) → list_all is_space s.indent ≡ true → s.entry_autoformate_keep ≡ false → s.no_comments ≡ false → (level depth : ℕ) → (d d' e : Document) → (is : List Item)
+    → DocumentItems d is → IsFormattedDocument s level d d' → DocumentKeepsNone d → AreWellFormed (document_data d) → LaidDocument true e (print_document d' depth) → DocumentItems e (map on_line is)
+comments_stay s ok unmarked with level depth d d' e is i f m w laid =
+    let t = print_document d' depth in
+    let x = document_content s ok unmarked with t level depth d d' is i f m w in
+    subst (λ (y : Document). DocumentItems y (map on_line is)) (one_laid_document t x.tree e (LaidDocument.unmarked x.laid) laid) x.items
+
+-- the same for a node that is printed alone
+pub node_comments_stay : (s : Settings) → list_all is_space s.indent ≡ true → s.entry_autoformate_keep ≡ false → s.no_comments ≡ false → (level depth : ℕ) → (n n' : Node) → (e : Document) → (is : List Item)
+    → NodeItems n is → IsFormattedNode s level n n' → NodeKeepsNone n → IsWellFormedNode (node_data n) → LaidDocument true e (print_node n' depth) → DocumentItems e (map on_line is)
+node_comments_stay s ok unmarked with level depth n n' e is i f m w laid =
+    let t = print_node n' depth in
+    let x = node_content s ok unmarked with t level depth n n' is i f m w in
+    subst (λ (y : Document). DocumentItems y (map on_line is)) (one_laid_document t x.tree e (LaidDocument.unmarked x.laid) laid) x.items

@@ -1,0 +1,98 @@
+-- Gaps that stand before any other gap, with their items.
+use Rattle.std.proofs.Common.{◌≡◌, ℕ, ◌==◌, Bool, true, false, List, [], ◌∷◌, ◌++◌, map, refl, sym, subst, ◌∙◌, append_assoc, append-nil, arith}
+use Rattle.std.proofs.lemmas.Bool.Decides.{nat_tests}
+use Rattle.std.proofs.lemmas.Bool.{and_parts}
+use Rattle.std.proofs.lemmas.List.Folds.{list_all-append}
+use Rattle.std.specs.Cmp.Derive.{both_true}
+use Rattle.std.specs.List.{list_all, repeat}
+use Rattle.std.specs.Prelude.{zero, suc, if◌then◌else◌}
+use Rattle.kdl_text.specs.Chars.{Text, is_space, space as a_space}
+use Rattle.kdl_text.specs.Trivia.{LineSpace}
+use Rattle.kdl_entry.specs.Places.{Is}
+use Rattle.kdl_entry.specs.Internal.Tokens.{t_space, t_newline, t_mark}
+use Rattle.kdl_entry.proofs.Lexing.TokenUnique.{token_det}
+use Rattle.kdl_grammar.specs.Grammar.{Gap, no_gap}
+use Rattle.kdl_grammar.specs.Tree.{Nodes, first}
+use Rattle.kdl_items.specs.Items.{Item, SpaceItems, LineSpaceItems, GapItems}
+use Rattle.kdl_items.specs.Written.{lines, on_line}
+use Rattle.kdl_items.proofs.Rewriting.BeforeNewlines.{a_newline}
+use Rattle.kdl_items.proofs.Listing.ItemsUnique.{gap_items_det}
+use Rattle.kdl_items.proofs.Listing.SpaceItems.{gap_none}
+use Rattle.kdl_items.proofs.Rewriting.LinesAgain.{lines_again, lines_gap}
+use Rattle.kdl_fmt.specs.Comments.{ItemsIn}
+use Rattle.kdl_fmt.specs.Config.{Settings, indentation}
+use Rattle.kdl_fmt.specs.Formatted.{newline_if_none}
+use Rattle.kdl_fmt.specs.Kept.{Written, WrittenUnless, KeptLines, without_bom}
+use Rattle.kdl_fmt.proofs.Keeping.KeptPlaces.{newline_gap, indentation_gap}
+
+-- a gap before each other one, and its items before the other's
+pub record Front (p : Text) (is : List Item) : Type 0 where
+  pub gap : {t r : Text} → Gap true t r → Gap true (p ++ t) r
+  pub items : {t : Text} {js : List Item} → GapItems t js → GapItems (p ++ t) (is ++ js)
+
+pub nothing : Front [] []
+nothing = record { gap = λ g. g; items = λ g. g }
+
+pub joined : {p q : Text} {is js : List Item} → Front p is → Front q js → Front (p ++ q) (is ++ js)
+joined {p} {q} {is} {js} f g = record {
+  gap = λ {t} {r} h. subst (λ (s : Text). Gap true s r) (sym (append_assoc p q t)) (f.gap (g.gap h));
+  items = λ {t} {js = ks} h. subst (λ (s : Text). GapItems s (is ++ js ++ ks)) (sym (append_assoc p q t))
+      (subst (λ (l : List Item). GapItems (p ++ (q ++ t)) l) (sym (append_assoc is js ks)) (f.items (g.items h)));
+}
+
+-- as a whole text
+pub alone : {p : Text} {is : List Item} → Front p is → GapItems p is
+alone {p} {is} f = subst (λ (s : Text). GapItems s is) (append-nil p) (subst (λ (l : List Item). GapItems (p ++ []) l) (append-nil is) (f.items GapItems.none))
+
+-- before any rest
+pub here : {p : Text} {is : List Item} → Front p is → (r : Text) → Is (Gap true) p (p ++ r) r
+here f r = record { is = f.gap no_gap; text = refl }
+
+pub newline : Front (10 ∷ []) []
+newline = record { gap = λ g. newline_gap g; items = λ {t} g. GapItems.space (LineSpaceItems.newline (a_newline t)) g }
+
+pub newline_if : (ns : Nodes) → Front (newline_if_none ns) []
+newline_if Nodes.none = newline
+newline_if (first n ns) = nothing
+
+-- spaces
+level_spaces : (indent : Text) → list_all is_space indent ≡ true → (level : ℕ) → list_all is_space (repeat level indent) ≡ true
+level_spaces indent ok zero = refl
+level_spaces indent ok (suc level) = list_all-append is_space indent (repeat level indent) ∙ both_true ok (level_spaces indent ok level)
+
+space_items : (s : Text) → list_all is_space s ≡ true → {t : Text} {js : List Item} → GapItems t js → GapItems (s ++ t) js
+space_items [] ok g = g
+space_items (c ∷ s) ok g =
+    let (here, others) = and_parts (is_space c) (list_all is_space s) ok in
+    GapItems.space (LineSpaceItems.space (SpaceItems.space (a_space here))) (space_items s others g)
+
+pub indented : (s : Settings) → list_all is_space s.indent ≡ true → (level : ℕ) → Front (indentation s level) []
+indented s ok level = record { gap = λ g. indentation_gap s ok level g; items = λ g. space_items (indentation s level) (level_spaces s.indent ok level) g }
+
+-- what is kept of a text between nodes holds its items, each as it stands on a line
+written : (before : Text) → list_all is_space before ≡ true → (place t : Text) {is : List Item} → Written (GapItems place) (lines before) t → ItemsIn (GapItems place) is → Front t (map on_line is)
+written before ok place _ (Written.items {is = js} d) (ItemsIn.items {is = is} e) =
+    subst (λ (l : List Item). Front (lines before js) (map on_line l)) (gap_items_det d e) (record { gap = λ g. lines_gap before ok d g; items = λ g. lines_again before ok d g })
+written before ok place _ (Written.none f) (ItemsIn.no_items h) = nothing
+written before ok place _ (Written.items {is = js} d) (ItemsIn.no_items h) = absurd (h js d)
+written before ok place _ (Written.none f) (ItemsIn.items {is = is} e) = absurd (f is e)
+
+pub kept_front : (s : Settings) → list_all is_space s.indent ≡ true → s.no_comments ≡ false → (level : ℕ) (place t : Text) {is : List Item} → KeptLines s level place t → ItemsIn (GapItems place) is → Front t (map on_line is)
+kept_front s ok with level place t k i =
+    written (indentation s level) (level_spaces s.indent ok level) place t (subst (λ (b : Bool). WrittenUnless b (GapItems place) (lines (indentation s level)) t) with k) i
+
+-- U+FEFF begins no gap
+mark_line : (s : Text) {r : Text} → LineSpace (0xFEFF ∷ s) r → ⊥
+mark_line s (LineSpace.space n) = let e = (token_det (t_space n) t_mark).1 in cc
+mark_line s (LineSpace.«break» n) = let e = (token_det (t_newline n) t_mark).1 in cc
+
+mark_gap : (s : Text) {is : List Item} → GapItems (0xFEFF ∷ s) is → ⊥
+mark_gap s {is} g = gap_none (λ e. cc) (λ r l. mark_line s l) (λ t e. cc) is g
+
+pub gap_unmarked : (t : Text) {is : List Item} → GapItems t is → without_bom t ≡ t
+gap_unmarked [] g = refl
+gap_unmarked (c ∷ s) {is} g = go (c == 0xFEFF) refl
+  where
+    go : (b : Bool) → (c == 0xFEFF) ≡ b → (if b then s else c ∷ s) ≡ c ∷ s
+    go false e = refl
+    go true e = let h : c ≡ 0xFEFF = grind (arith, nat_tests) in absurd (mark_gap s (subst (λ (d : ℕ). GapItems (d ∷ s) is) h g))

@@ -1,0 +1,70 @@
+-- What is kept of a text, from the items that were read in it.
+use Rattle.std.proofs.Common.{◌≡◌, ℕ, suc, Bool, true, false, List, [], ◌∷◌, ◌++◌, ◌==◌, length, refl, sym, ap, subst, ◌∙◌, Option, Some, None, MatchOption, Bor}
+use Rattle.std.proofs.lemmas.Bool.{eqb-true}
+use Rattle.std.specs.Str.{chars}
+use Rattle.kdl_text.specs.Chars.{Text}
+use Rattle.kdl_text.specs.Trivia.{LineComment}
+use Rattle.kdl_entry.specs.Internal.Items.{between}
+use Rattle.kdl_entry.specs.Tree.{EntryFormat}
+use Rattle.kdl_items.specs.Items.{Item, line_end, GapItems, Place, before_entry, PlaceItems}
+use Rattle.kdl_items.specs.Written.{lines, tail}
+use Rattle.kdl_items.proofs.Listing.SpaceItems.{place_end}
+use Rattle.kdl_fmt.specs.Kept.{Written, WrittenUnless, KeptLines, KeptTail, WrittenEnd, KeptEnd, KeptBefore, is_kept_format}
+use Rattle.kdl_fmt.specs.Config.{Settings, indentation}
+
+-- where comments are left out
+pub kept_none : (b : Bool) (has : List Item → Type 0) (write : List Item → Text) (t : Text) → b ≡ true → t ≡ [] → WrittenUnless b has write t
+kept_none true has write t e x = x
+kept_none false has write t e x = absurd cc
+
+-- where the text has items
+pub kept_items : (b : Bool) (has : List Item → Type 0) (write : List Item → Text) (is : List Item) (t : Text) → b ≡ false → has is → t ≡ write is → WrittenUnless b has write t
+kept_items true has write is t e h x = absurd cc
+kept_items false has write is t e h x = subst (Written has write) (sym x) (Written.items h)
+
+-- where it has none
+pub kept_nothing : (b : Bool) (has : List Item → Type 0) (write : List Item → Text) (t : Text) → b ≡ false → ((is : List Item) → has is → ⊥) → t ≡ [] → WrittenUnless b has write t
+kept_nothing true has write t e h x = absurd cc
+kept_nothing false has write t e h x = subst (Written has write) (sym x) (Written.none h)
+
+-- they are written behind an empty text
+pub written_behind : (write : List Item → Text) (t u : Text) (is js : List Item) → t ≡ u ++ write js → u ≡ [] → js ≡ is → t ≡ write is
+written_behind write t u is js e x y = e ∙ ap (λ (z : Text). z ++ write js) x ∙ ap write y
+
+-- of an empty gap
+pub kept_empty : (b : Bool) (before t : Text) → t ≡ [] → WrittenUnless b (GapItems []) (lines before) t
+kept_empty true before t e = e
+kept_empty false before t e = subst (Written (GapItems []) (lines before)) (sym e) (Written.items {is = []} GapItems.none)
+
+-- of the text before an entry that keeps its form, and of one that has no format
+pub kept_marked : (s : Settings) (f : Option EntryFormat) (t : Text) → is_kept_format f ≡ true → t ≡ [] → KeptBefore s f t
+kept_marked s None t m e = absurd cc
+kept_marked s (Some f) t m e = rw m e
+
+no_place : (is : List Item) → PlaceItems (before_entry false) [] is → ⊥
+no_place is d = let h : false ≡ true = ((place_end (before_entry false) is).0 d).0 in absurd cc
+
+pub kept_bare : (b : Bool) (t : Text) → t ≡ [] → WrittenUnless b (PlaceItems (before_entry false) []) tail t
+kept_bare true t e = e
+kept_bare false t e = subst (Written (PlaceItems (before_entry false) []) tail) (sym e) (Written.none no_place)
+
+-- of a terminator
+pub end_kept : (b : Bool) (terminator : Text) (o : Option (Bor (List ℕ))) → b ≡ false
+    → MatchOption o (LineComment terminator [] → ⊥) (λ c. LineComment terminator [] × (chars c.now ≡ between terminator (line_end terminator)))
+    → MatchOption o (KeptEnd b terminator [] []) (λ c. KeptEnd b terminator (32 ∷ []) (chars c.now))
+end_kept true terminator o e h = absurd cc
+end_kept false terminator None e h = WrittenEnd.other h
+end_kept false terminator (Some c) e h = subst (WrittenEnd terminator (32 ∷ [])) (sym h.1) (WrittenEnd.comment h.0)
+
+-- of the same text, under another name
+pub lines_at : (s : Settings) (level : ℕ) {place place' before : Text} (t : Text) → place ≡ place' → before ≡ indentation s level → WrittenUnless s.no_comments (GapItems place) (lines before) t → KeptLines s level place' t
+lines_at s level {place} {place'} {before} t e h k =
+    subst (λ (b : Text). WrittenUnless s.no_comments (GapItems place') (lines b) t) h (subst (λ (p : Text). WrittenUnless s.no_comments (GapItems p) (lines before) t) e k)
+
+pub tail_at : (s : Settings) {p q : Place} {place place' : Text} (t : Text) → p ≡ q → place ≡ place' → WrittenUnless s.no_comments (PlaceItems p place) tail t → KeptTail s q place' t
+tail_at s {p} {q} {place} {place'} t e h k = subst (λ (x : Place). KeptTail s x place' t) e (subst (λ (x : Text). KeptTail s p x t) h k)
+
+-- a list without a length has no elements
+pub no_elements : {A : Type 0} (xs : List A) (n : ℕ) (b : Bool) → n ≡ length xs → b ≡ (n == 0) → b ≡ true → xs ≡ []
+no_elements [] n b l e t = refl
+no_elements (x ∷ xs) n b l e t = let z : suc (length xs) ≡ 0 = sym l ∙ eqb-true n 0 (sym e ∙ t) in absurd cc

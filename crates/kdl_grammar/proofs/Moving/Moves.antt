@@ -1,0 +1,221 @@
+-- Gaps, nodes and blocks stand before another rest too.
+use Rattle.std.proofs.Common.{◌≡◌, ℕ, Bool, true, false, List, [], ◌∷◌, Option, Some, refl, sym, subst}
+use Rattle.kdl_text.specs.Chars.{Text, Star, none, more, Plus, plus}
+use Rattle.kdl_text.specs.Internal.Here.{first}
+use Rattle.kdl_text.specs.Trivia.{NodeSpace, Break, Slashdash, ValueEnd}
+use Rattle.kdl_text.proofs.Spacing.ValueEnds.{space_ends, break_ends}
+use Rattle.kdl_entry.specs.Data.{Entry}
+use Rattle.kdl_entry.specs.Entries.{IsString, MaybeType, IsEntry}
+use Rattle.kdl_entry.specs.Places.{DroppedEntry, dropped as dropped_e}
+use Rattle.kdl_entry.proofs.Moving.StringMoves.{move_newline}
+use Rattle.kdl_entry.proofs.Moving.EntryMoves.{move_comment, move_spaces, move_plus, move_slashdash, move_line_space, move_string, move_maybe, move_entry, marks, spaces_end, spaces_dash}
+use Rattle.kdl_entry.proofs.Moving.Puts.{Put, stands, also, joined, same, nothing, Move}
+use Rattle.kdl_grammar.specs.Data as data'
+use Rattle.kdl_grammar.specs.Data.{Node, Children, Nodes}
+use Rattle.kdl_grammar.specs.Grammar.{Terminator, IsNode, named, AfterName, kept_entry, dropped_entry, Blocks, dropped_block, block, no_block, AfterBlock, dropped_later, no_more, Gap, no_gap, line_space, dropped_node, AreNodes, last_gap, node_then, IsBlock, braces}
+use Rattle.kdl_grammar.specs.Places.{DroppedBlock, dropped, AfterChildren, after, BeforeChildren, before}
+
+begun : (c : ℕ) (u : Text) → first u ≡ Some c → (t : Text) × (u ≡ c ∷ t)
+begun c [] e = cc
+begun c (d ∷ t) e = (t, cc)
+
+pub terminator_end : {r v : Text} → Terminator r v → ValueEnd true r
+terminator_end Terminator.semicolon = marks 59 refl
+terminator_end (Terminator.newline n) = ValueEnd.newline n
+terminator_end (Terminator.comment n) = break_ends (Break.comment n)
+terminator_end Terminator.at_end = ValueEnd.nothing
+terminator_end Terminator.at_close = marks 125 refl
+
+closes_here : (u : Text) → first u ≡ Some 125 → Terminator u u
+closes_here u e = let t = begun 125 u e in subst (λ (z : Text). Terminator z z) (sym t.1) Terminator.at_close
+
+pub move_terminator : {r v : Text} → Terminator r v → Move Terminator r v
+move_terminator Terminator.semicolon = record { at = also 59 stands; there = λ u e. Terminator.semicolon }
+move_terminator (Terminator.newline n) = let m = move_newline n in record { at = m.at; there = λ u e. Terminator.newline (m.there u e) }
+move_terminator (Terminator.comment n) = let m = move_comment n in record { at = m.at; there = λ u e. Terminator.comment (m.there u e) }
+move_terminator Terminator.at_end = record { at = stands; there = λ u e. subst (λ (z : Text). Terminator z z) (sym (nothing u e)) Terminator.at_end }
+move_terminator Terminator.at_close = record { at = stands; there = λ u e. closes_here u e }
+
+-- with the terminator
+data NameEnds (es : List Entry) (k : Children) : Text → Text → Type 0 where
+  ends : {s r v : Text} → AfterName true s r es k → Terminator r v → NameEnds es k s v
+
+data BlocksEnd (k : Children) : Bool → Text → Text → Type 0 where
+  ends : {b : Bool} {s r v : Text} → Blocks true b s r k → Terminator r v → BlocksEnd k b s v
+
+data LaterEnds : Text → Text → Type 0 where
+  ends : {s r v : Text} → AfterBlock true s r → Terminator r v → LaterEnds s v
+
+data NodeEnds (x : Node) : Text → Text → Type 0 where
+  ends : {s r v : Text} → IsNode true s r x → Terminator r v → NodeEnds x s v
+
+block_end : {s r : Text} {xs : Nodes} → Star NodeSpace s r → {v : Text} → IsBlock true r v xs → ValueEnd true s
+block_end ss (braces ns) = spaces_end ss (marks 123 refl)
+
+blocks_end : {b : Bool} {s v : Text} {k : Children} → BlocksEnd k b s v → ValueEnd true s
+blocks_end (BlocksEnd.ends (dropped_block ss m b d) e) = spaces_dash ss m
+blocks_end (BlocksEnd.ends (block ss b d) e) = block_end ss b
+blocks_end (BlocksEnd.ends (no_block ss) e) = spaces_end ss (terminator_end e)
+
+name_end : {s v : Text} {es : List Entry} {k : Children} → NameEnds es k s v → ValueEnd true s
+name_end (NameEnds.ends (kept_entry (plus n ss) i d) e) = space_ends n
+name_end (NameEnds.ends (dropped_entry ss m i d) e) = spaces_dash ss m
+name_end (NameEnds.ends (AfterName.blocks d) e) = blocks_end (BlocksEnd.ends d e)
+
+-- it stands before every rest
+record Closed (R : Text → Text → Type 0) (s r : Text) : Type 0 where
+  at : Put s r
+  full : (u : Text) → first (at.put u) ≡ first s
+  there : (u : Text) → R (at.put u) u
+
+add_entry : {s t r : Text} {x : Entry} {es : List Entry} {k : Children} → Plus NodeSpace s t → {u : Text} → IsEntry true t u x → NameEnds es k u r → NameEnds (x ∷ es) k s r
+add_entry n i (NameEnds.ends d e) = NameEnds.ends (kept_entry n i d) e
+
+drop_entry : {s t u v r : Text} {x : Entry} {es : List Entry} {k : Children} → Star NodeSpace s t → Slashdash t u → IsEntry true u v x → NameEnds es k v r → NameEnds es k s r
+drop_entry ss m i (NameEnds.ends d e) = NameEnds.ends (dropped_entry ss m i d) e
+
+only_blocks : {s r : Text} {k : Children} → BlocksEnd k false s r → NameEnds [] k s r
+only_blocks (BlocksEnd.ends d e) = NameEnds.ends (AfterName.blocks d) e
+
+drop_block : {b : Bool} {s t u v r : Text} {xs : Nodes} {k : Children} → Star NodeSpace s t → Slashdash t u → IsBlock true u v xs → BlocksEnd k true v r → BlocksEnd k b s r
+drop_block ss m b (BlocksEnd.ends d e) = BlocksEnd.ends (dropped_block ss m b d) e
+
+add_block : {b : Bool} {s t u r : Text} {xs : Nodes} → Star NodeSpace s t → IsBlock true t u xs → LaterEnds u r → BlocksEnd (data'.children xs) b s r
+add_block ss b (LaterEnds.ends d e) = BlocksEnd.ends (block ss b d) e
+
+drop_later : {s t u v r : Text} {xs : Nodes} → Star NodeSpace s t → Slashdash t u → IsBlock true u v xs → LaterEnds v r → LaterEnds s r
+drop_later ss m b (LaterEnds.ends d e) = LaterEnds.ends (dropped_later ss m b d) e
+
+name_it : {s t u r w : Text} {y : Option Text} {es : List Entry} {k : Children} → MaybeType true s t y → IsString true t u w → NameEnds es k u r → NodeEnds (data'.node y w es k) s r
+name_it y w (NameEnds.ends d e) = NodeEnds.ends (named y w d) e
+
+drop_node : {s t u r : Text} {x : Node} → Slashdash s t → NodeEnds x t u → Gap true u r → Gap true s r
+drop_node m (NodeEnds.ends x e) g = dropped_node m x e g
+
+first_node : {s t u r : Text} {x : Node} {xs : Nodes} → Gap true s t → NodeEnds x t u → AreNodes true u r xs → AreNodes true s r (data'.first x xs)
+first_node g (NodeEnds.ends x e) ds = node_then g x e ds
+
+mutual
+  move_name : {s r : Text} {es : List Entry} {k : Children} → AfterName true s r es k → {v : Text} → Terminator r v → Move (NameEnds es k) s v
+  move_name (kept_entry n i d) e =
+      let a = move_plus n in let b = move_entry i in let c = move_name d e in
+      record { at = joined a.at (joined b.at c.at); there = λ u f. let last = c.there u f in add_entry (a.there (b.at.put (c.at.put u)) (b.full (c.at.put u))) (b.there (c.at.put u) (name_end last)) last }
+  move_name (dropped_entry ss m i d) e =
+      let a = move_spaces ss in let o = move_slashdash m in let b = move_entry i in let c = move_name d e in
+      record {
+        at = joined a.at (joined o.at (joined b.at c.at));
+        there = λ u f.
+            let last = c.there u f in let g = b.full (c.at.put u) in
+            drop_entry (a.there (o.at.put (b.at.put (c.at.put u))) (same o.at (b.at.put (c.at.put u)) g)) (o.there (b.at.put (c.at.put u)) g) (b.there (c.at.put u) (name_end last)) last;
+      }
+  move_name (AfterName.blocks d) e = let a = move_blocks d e in record { at = a.at; there = λ u f. only_blocks (a.there u f) }
+
+  move_blocks : {b : Bool} {s r : Text} {k : Children} → Blocks true b s r k → {v : Text} → Terminator r v → Move (BlocksEnd k b) s v
+  move_blocks (dropped_block ss m b d) e =
+      let a = move_spaces ss in let o = move_slashdash m in let c = move_block b in let k = move_blocks d e in
+      record {
+        at = joined a.at (joined o.at (joined c.at k.at));
+        there = λ u f.
+            let g = c.full (k.at.put u) in
+            drop_block (a.there (o.at.put (c.at.put (k.at.put u))) (same o.at (c.at.put (k.at.put u)) g)) (o.there (c.at.put (k.at.put u)) g) (c.there (k.at.put u)) (k.there u f);
+      }
+  move_blocks (block ss b d) e =
+      let a = move_spaces ss in let c = move_block b in let k = move_later d e in
+      record { at = joined a.at (joined c.at k.at); there = λ u f. add_block (a.there (c.at.put (k.at.put u)) (c.full (k.at.put u))) (c.there (k.at.put u)) (k.there u f) }
+  move_blocks (no_block ss) e =
+      let a = move_spaces ss in let k = move_terminator e in
+      record { at = joined a.at k.at; there = λ u f. BlocksEnd.ends (no_block (a.there (k.at.put u) (same k.at u f))) (k.there u f) }
+
+  move_later : {s r : Text} → AfterBlock true s r → {v : Text} → Terminator r v → Move LaterEnds s v
+  move_later (dropped_later ss m b d) e =
+      let a = move_spaces ss in let o = move_slashdash m in let c = move_block b in let k = move_later d e in
+      record {
+        at = joined a.at (joined o.at (joined c.at k.at));
+        there = λ u f.
+            let g = c.full (k.at.put u) in
+            drop_later (a.there (o.at.put (c.at.put (k.at.put u))) (same o.at (c.at.put (k.at.put u)) g)) (o.there (c.at.put (k.at.put u)) g) (c.there (k.at.put u)) (k.there u f);
+      }
+  move_later (no_more ss) e =
+      let a = move_spaces ss in let k = move_terminator e in
+      record { at = joined a.at k.at; there = λ u f. LaterEnds.ends (no_more (a.there (k.at.put u) (same k.at u f))) (k.there u f) }
+
+  pub move_gap : {s r : Text} → Gap true s r → Move (Gap true) s r
+  move_gap no_gap = record { at = stands; there = λ u e. no_gap }
+  move_gap (line_space n g) = let a = move_line_space n in let b = move_gap g in record { at = joined a.at b.at; there = λ u e. line_space (a.there (b.at.put u) (same b.at u e)) (b.there u e) }
+  move_gap (dropped_node m (named y w d) e g) =
+      let a = move_slashdash m in let b = move_maybe y in let o = move_string w in let c = move_name d e in let k = move_gap g in
+      record {
+        at = joined a.at (joined b.at (joined o.at (joined c.at k.at)));
+        there = λ u f.
+            let last = c.there (k.at.put u) (same k.at u f) in
+            let g = o.full (c.at.put (k.at.put u)) in
+            let h = same b.at (o.at.put (c.at.put (k.at.put u))) g in
+            drop_node (a.there (b.at.put (o.at.put (c.at.put (k.at.put u)))) h) (name_it (b.there (o.at.put (c.at.put (k.at.put u))) g) (o.there (c.at.put (k.at.put u)) (name_end last)) last) (k.there u f);
+      }
+
+  pub move_nodes : {s r : Text} {xs : Nodes} → AreNodes true s r xs → Move (λ s r. AreNodes true s r xs) s r
+  move_nodes (last_gap g) = let a = move_gap g in record { at = a.at; there = λ u e. last_gap (a.there u e) }
+  move_nodes (node_then g (named y w d) e ds) =
+      let a = move_gap g in let b = move_maybe y in let o = move_string w in let c = move_name d e in let k = move_nodes ds in
+      record {
+        at = joined a.at (joined b.at (joined o.at (joined c.at k.at)));
+        there = λ u f.
+            let last = c.there (k.at.put u) (same k.at u f) in
+            let g = o.full (c.at.put (k.at.put u)) in
+            let h = same b.at (o.at.put (c.at.put (k.at.put u))) g in
+            first_node (a.there (b.at.put (o.at.put (c.at.put (k.at.put u)))) h) (name_it (b.there (o.at.put (c.at.put (k.at.put u))) g) (o.there (c.at.put (k.at.put u)) (name_end last)) last) (k.there u f);
+      }
+
+  move_block : {s r : Text} {xs : Nodes} → IsBlock true s r xs → Closed (λ s r. IsBlock true s r xs) s r
+  move_block (braces ns) =
+      let a = move_nodes ns in
+      record { at = also 123 (joined a.at (also 125 stands)); full = λ u. refl; there = λ u. braces (a.there (125 ∷ u) refl) }
+
+-- the places before and behind a block
+after_end : {s r : Text} → AfterChildren s r → ValueEnd true r → ValueEnd true s
+after_end (after none ss) e = spaces_end ss e
+after_end (after (more (dropped us m b) ds) ss) e = spaces_dash us m
+
+pub before_end : {s r : Text} → BeforeChildren s r → ValueEnd true r → ValueEnd true s
+before_end (before none a) e = after_end a e
+before_end (before (more (dropped_e ss m i) ds) a) e = spaces_dash ss m
+
+one_block : {s t r : Text} → DroppedBlock s t → AfterChildren t r → AfterChildren s r
+one_block d (after ds ss) = after (more d ds) ss
+
+one_entry : {s t r : Text} → DroppedEntry s t → BeforeChildren t r → BeforeChildren s r
+one_entry d (before ds a) = before (more d ds) a
+
+move_blocks_then : {s t r : Text} → Star DroppedBlock s t → Star NodeSpace t r → Move AfterChildren s r
+move_blocks_then none ss = let m = move_spaces ss in record { at = m.at; there = λ u e. after none (m.there u e) }
+move_blocks_then (more (dropped us m b) ds) ss =
+    let a = move_spaces us in let o = move_slashdash m in let c = move_block b in let k = move_blocks_then ds ss in
+    record {
+      at = joined a.at (joined o.at (joined c.at k.at));
+      there = λ u f.
+          let g = c.full (k.at.put u) in
+          one_block (dropped (a.there (o.at.put (c.at.put (k.at.put u))) (same o.at (c.at.put (k.at.put u)) g)) (o.there (c.at.put (k.at.put u)) g) (c.there (k.at.put u))) (k.there u f);
+    }
+
+pub move_after : {s r : Text} → AfterChildren s r → Move AfterChildren s r
+move_after (after ds ss) = move_blocks_then ds ss
+
+-- it stands before each rest that begins with the same character and ends a value
+pub record MoveEnd (R : Text → Text → Type 0) (s r : Text) : Type 0 where
+  pub at : Put s r
+  pub there : (u : Text) → first u ≡ first r → ValueEnd true u → R (at.put u) u
+
+move_entries_then : {s t r : Text} → Star DroppedEntry s t → AfterChildren t r → MoveEnd BeforeChildren s r
+move_entries_then none a = let m = move_after a in record { at = m.at; there = λ u f e. before none (m.there u f) }
+move_entries_then (more (dropped_e ss m i) ds) x =
+    let a = move_spaces ss in let b = move_slashdash m in let c = move_entry i in let k = move_entries_then ds x in
+    record {
+      at = joined a.at (joined b.at (joined c.at k.at));
+      there = λ u f e.
+          let last = k.there u f e in
+          let g = c.full (k.at.put u) in
+          one_entry (dropped_e (a.there (b.at.put (c.at.put (k.at.put u))) (same b.at (c.at.put (k.at.put u)) g)) (b.there (c.at.put (k.at.put u)) g) (c.there (k.at.put u) (before_end last e))) last;
+    }
+
+pub move_before : {s r : Text} → BeforeChildren s r → MoveEnd BeforeChildren s r
+move_before (before ds a) = move_entries_then ds a

@@ -1,0 +1,12 @@
+-- The machine on tokens, and the grammar: each answers what the other does.
+
+-- What the grammar derives, the machine reads, and the tree that it builds is laid.
+pub mod Complete
+-- What the machine without data accepts, the grammar derives.
+pub mod Sound
+-- The machine without data: which tokens may come.
+pub mod Control
+-- Without data and places the machine is the one that says which tokens may come.
+pub mod Erased
+-- Where no token begins before the end of the text, the text is no document.
+pub mod NoToken

@@ -1,0 +1,130 @@
+-- The machine without data: which tokens may come, in the present language.
+use Rattle.std.specs.Prelude.{Bool, true, false, List, [], ◌∷◌, Option, Some, None}
+use Rattle.kdl_entry.specs.Internal.Tokens.{Token, space, newline, slashdash, string, value, left, right, opening, closing, equals, semicolon}
+
+-- in a node before its block: directly behind the name or an entry, which may be a key, or behind spaces, or behind a block that is slashdashed
+pub data Spot : Type 0 where
+  fresh : Bool → Spot
+  spaced : Bool → Spot
+  later : Spot
+
+-- a type is for a name, or for a value
+pub data Phase : Type 0 where
+  gap : Phase
+  marked : Phase
+  type_open : Bool → Phase
+  type_name : Bool → Phase
+  type_done : Bool → Phase
+  in_node : Spot → Phase
+  property : Phase
+  entry_mark : Phase
+  block_mark : Phase
+  kept : Phase
+  kept_mark : Phase
+
+-- the block of a node, a block that is slashdashed, or one that does so behind the node's block
+pub data Frame : Type 0 where
+  in_block : Frame
+  in_dropped : Frame
+  in_later : Frame
+
+pub data Control : Type 0 where
+  at : Phase → List Frame → Control
+
+abbrev pub popped : List Frame → Option Control
+popped [] = None
+popped (in_block ∷ fs) = Some (at kept fs)
+popped (in_dropped ∷ fs) = Some (at (in_node later) fs)
+popped (in_later ∷ fs) = Some (at kept fs)
+
+abbrev pub spaced_of : Spot → Spot
+spaced_of (fresh b) = spaced b
+spaced_of (spaced b) = spaced b
+spaced_of later = later
+
+abbrev pub mark_of : Spot → Phase
+mark_of (fresh b) = entry_mark
+mark_of (spaced b) = entry_mark
+mark_of later = block_mark
+
+-- behind spaces
+abbrev pub from_spaced : Spot → Control → Option Control
+from_spaced (spaced b) c = Some c
+from_spaced _ c = None
+
+-- behind a string that may be a key
+abbrev pub value_from : Spot → Control → Option Control
+value_from (fresh true) c = Some c
+value_from (spaced true) c = Some c
+value_from _ c = None
+
+-- where a value may stand
+abbrev pub for_value : Bool → Control → Option Control
+for_value true c = Some c
+for_value false c = None
+
+abbrev pub step : Control → Token → Option Control
+step (at gap fs) space = Some (at gap fs)
+step (at gap fs) newline = Some (at gap fs)
+step (at gap fs) slashdash = Some (at marked fs)
+step (at gap fs) (string v) = Some (at (in_node (fresh false)) fs)
+step (at gap fs) left = Some (at (type_open false) fs)
+step (at gap fs) closing = popped fs
+step (at marked fs) space = Some (at marked fs)
+step (at marked fs) newline = Some (at marked fs)
+step (at marked fs) (string v) = Some (at (in_node (fresh false)) fs)
+step (at marked fs) left = Some (at (type_open false) fs)
+step (at (type_open b) fs) space = Some (at (type_open b) fs)
+step (at (type_open b) fs) (string v) = Some (at (type_name b) fs)
+step (at (type_name b) fs) space = Some (at (type_name b) fs)
+step (at (type_name b) fs) right = Some (at (type_done b) fs)
+step (at (type_done b) fs) space = Some (at (type_done b) fs)
+step (at (type_done b) fs) (string v) = Some (at (in_node (fresh false)) fs)
+step (at (type_done b) fs) (value v) = for_value b (at (in_node (fresh false)) fs)
+step (at property fs) space = Some (at property fs)
+step (at property fs) (string v) = Some (at (in_node (fresh false)) fs)
+step (at property fs) (value v) = Some (at (in_node (fresh false)) fs)
+step (at property fs) left = Some (at (type_open true) fs)
+step (at (in_node p) fs) space = Some (at (in_node (spaced_of p)) fs)
+step (at (in_node p) fs) newline = Some (at gap fs)
+step (at (in_node p) fs) semicolon = Some (at gap fs)
+step (at (in_node p) fs) closing = popped fs
+step (at (in_node p) fs) opening = Some (at gap (in_block ∷ fs))
+step (at (in_node p) fs) slashdash = Some (at (mark_of p) fs)
+step (at (in_node p) fs) (string v) = from_spaced p (at (in_node (fresh true)) fs)
+step (at (in_node p) fs) (value v) = from_spaced p (at (in_node (fresh false)) fs)
+step (at (in_node p) fs) left = from_spaced p (at (type_open true) fs)
+step (at (in_node p) fs) equals = value_from p (at property fs)
+step (at entry_mark fs) space = Some (at entry_mark fs)
+step (at entry_mark fs) newline = Some (at entry_mark fs)
+step (at entry_mark fs) (string v) = Some (at (in_node (fresh true)) fs)
+step (at entry_mark fs) (value v) = Some (at (in_node (fresh false)) fs)
+step (at entry_mark fs) left = Some (at (type_open true) fs)
+step (at entry_mark fs) opening = Some (at gap (in_dropped ∷ fs))
+step (at block_mark fs) space = Some (at block_mark fs)
+step (at block_mark fs) newline = Some (at block_mark fs)
+step (at block_mark fs) opening = Some (at gap (in_dropped ∷ fs))
+step (at kept fs) space = Some (at kept fs)
+step (at kept fs) newline = Some (at gap fs)
+step (at kept fs) semicolon = Some (at gap fs)
+step (at kept fs) closing = popped fs
+step (at kept fs) slashdash = Some (at kept_mark fs)
+step (at kept_mark fs) space = Some (at kept_mark fs)
+step (at kept_mark fs) newline = Some (at kept_mark fs)
+step (at kept_mark fs) opening = Some (at gap (in_later ∷ fs))
+step _ _ = None
+
+abbrev pub finish : Control → Bool
+finish (at gap []) = true
+finish (at (in_node p) []) = true
+finish (at kept []) = true
+finish _ = false
+
+abbrev pub held : (Control → Bool) → Option Control → Bool
+held f None = false
+held f (Some c) = f c
+
+-- the tokens may come, and the text may end behind them
+abbrev pub accepts : Control → List Token → Bool
+accepts c [] = finish c
+accepts c (k ∷ ks) = held (λ c'. accepts c' ks) (step c k)

@@ -1,0 +1,136 @@
+-- Without data and places the machine is the one that says which tokens may come; so what it answers is derived.
+use Rattle.std.proofs.Common.{◌≡◌, Bool, true, false, List, [], ◌∷◌, Option, Some, None, option_map, refl, sym, ap, subst, ◌∙◌}
+use Rattle.kdl_text.specs.Chars.{Text}
+use Rattle.kdl_entry.specs.Internal.Tokens.{Token, value, closing, mark, t_mark, Lexes, done, next}
+use Rattle.kdl_entry.proofs.Lexing.TokenUnique.{token_det}
+use Rattle.kdl_grammar.specs.Data as data'
+use Rattle.kdl_grammar.specs.Grammar.{AreNodes, IsDocument}
+use Rattle.kdl_grammar.specs.Laid.{LaidDocument, LaidContent, with_bom}
+use Rattle.kdl_grammar.specs.Tree.{Document, Nodes, document_data}
+use Rattle.kdl_grammar.specs.Internal.Machine.{Pending, pending, Spot, fresh, spaced, later, Phase, gap, marked, type_open, type_name, type_done, in_node, property, entry_mark, block_mark, kept, kept_mark, Frame, in_block, in_dropped, in_later, State, at, popped, step, finish, initial, Runs, stops, reads, AnswersDocument}
+use Rattle.kdl_grammar.proofs.Reading.Control as c
+use Rattle.kdl_grammar.proofs.Reading.Complete.{runs_det, placed, built, mark_data}
+use Rattle.kdl_grammar.proofs.Reading.Sound.{derives}
+
+abbrev is_there : Option Pending → Bool
+is_there None = false
+is_there (Some s) = true
+
+abbrev a_spot : Spot → c.Spot
+a_spot (fresh o) = c.fresh (is_there o)
+a_spot (spaced o) = c.spaced (is_there o)
+a_spot later = c.later
+
+abbrev a_phase : Phase → c.Phase
+a_phase gap = c.gap
+a_phase marked = c.marked
+a_phase (type_open b s a) = c.type_open b
+a_phase (type_name b s q y a) = c.type_name b
+a_phase (type_done b s q y d a) = c.type_done b
+a_phase (in_node h p) = c.in_node (a_spot p)
+a_phase (property s k b a) = c.property
+a_phase (entry_mark h) = c.entry_mark
+a_phase (block_mark h) = c.block_mark
+a_phase (kept x) = c.kept
+a_phase (kept_mark x) = c.kept_mark
+
+abbrev a_frame : Frame → c.Frame
+a_frame (in_block h q l) = c.in_block
+a_frame (in_dropped h l) = c.in_dropped
+a_frame (in_later x l) = c.in_later
+
+abbrev a_stack : List Frame → List c.Frame
+a_stack [] = []
+a_stack (f ∷ fs) = a_frame f ∷ a_stack fs
+
+abbrev a_state : State → c.Control
+a_state (at p l fs from) = c.at (a_phase p) (a_stack fs)
+
+module _ (whole : Text) where
+  popped_is : (l : Option Nodes) (fs : List Frame) (from s r : Text) → c.popped (a_stack fs) ≡ option_map a_state (popped whole l fs from s r)
+  popped_is l [] from s r = refl
+  popped_is l (in_block h q m ∷ fs) from s r = refl
+  popped_is l (in_dropped h m ∷ fs) from s r = refl
+  popped_is l (in_later x m ∷ fs) from s r = refl
+
+  erased : (st : State) (k : Token) (s r : Text) → c.step (a_state st) k ≡ option_map a_state (step whole st k s r)
+  erased (at gap l fs f) closing s r = popped_is l fs _ s r
+  erased (at (kept x) l fs f) closing s r = popped_is _ fs _ s r
+  erased (at (in_node h (fresh None)) l fs f) closing s r = popped_is _ fs _ s r
+  erased (at (in_node h (fresh (Some (pending c k a)))) l fs f) closing s r = popped_is _ fs _ s r
+  erased (at (in_node h (spaced None)) l fs f) closing s r = popped_is _ fs _ s r
+  erased (at (in_node h (spaced (Some (pending c k a)))) l fs f) closing s r = popped_is _ fs _ s r
+  erased (at (in_node h later) l fs f) closing s r = popped_is _ fs _ s r
+  erased (at (type_done true c q y d a) l fs f) (value v) s r = refl
+  erased (at (type_done false c q y d a) l fs f) (value v) s r = refl
+  erased (at marked l fs f) closing s r = refl
+  erased (at (type_open b c a) l fs f) closing s r = refl
+  erased (at (type_name b c q y a) l fs f) closing s r = refl
+  erased (at (type_done b c q y d a) l fs f) closing s r = refl
+  erased (at (property c k b a) l fs f) closing s r = refl
+  erased (at (entry_mark h) l fs f) closing s r = refl
+  erased (at (block_mark h) l fs f) closing s r = refl
+  erased (at (kept_mark x) l fs f) closing s r = refl
+  erased _ _ s r = refl
+
+  finished : (st : State) (x : Document) → finish whole st ≡ Some x → c.finish (a_state st) ≡ true
+  finished (at gap l [] f) x e = refl
+  finished (at (in_node h p) l [] f) x e = refl
+  finished (at (kept y) l [] f) x e = refl
+  finished _ x e = cc
+
+  record Accepted (st : State) (s : Text) : Type 0 where
+    tokens : List Token
+    lexed : Lexes s tokens
+    accepts : c.accepts (a_state st) tokens ≡ true
+
+  accepted : {x : Document} {st : State} {s : Text} → Runs whole x st s → Accepted st s
+  accepted {x = x} {st = st} (stops e) = record { tokens = []; lexed = done; accepts = finished st x e }
+  accepted {st = st} {s = s} (reads {r = r} {k = k} t e a) =
+      let b = accepted a in
+      record { tokens = k ∷ b.tokens; lexed = next t b.lexed; accepts = ap (c.held (λ c'. c.accepts c' b.tokens)) (erased st k s r ∙ ap (option_map a_state) e) ∙ b.accepts }
+
+  -- what the machine answers is laid in the text, and the text is derived with its data
+  pub sound_runs : {d : Document} {s : Text} → Runs whole d (initial s) s → LaidContent true whole d s [] × AreNodes true s [] (document_data d)
+  sound_runs {d = d} {s = s} a =
+      let b = accepted a in
+      let n = derives b.lexed b.accepts in
+      let p = placed whole n.1 in
+      let same = runs_det p.runs a in
+      (subst (λ (z : Document). LaidContent true whole z s []) same p.laid, subst (λ (z : data'.Nodes). AreNodes true s [] z) (sym p.same ∙ ap document_data same) n.1)
+
+  pub lexed_runs : {d : Document} {s : Text} → Runs whole d (initial s) s → (ks : List Token) × Lexes s ks
+  lexed_runs a = let b = accepted a in (b.tokens, b.lexed)
+
+-- U+FEFF ends what the machine reads from between nodes
+no_mark : {whole s : Text} {d : Document} {l : Option Nodes} {fs : List Frame} {from : Text} → Runs whole d (at gap l fs from) (0xFEFF ∷ s) → ⊥
+no_mark {whole = whole} {s = s} {l = l} {fs = fs} {from = from} (reads {r = r} t e a) =
+    let k = (token_det t t_mark).1 in
+    let f = ap (λ (j : Token). step whole (at gap l fs from) j (0xFEFF ∷ s) r) (sym k) ∙ e in
+    cc
+
+-- the machine has one answer at most
+pub answers_det : {t : Text} {x y : Document} → AnswersDocument t x → AnswersDocument t y → x ≡ y
+answers_det (AnswersDocument.unmarked a) (AnswersDocument.unmarked b) = runs_det a b
+answers_det (AnswersDocument.marked a) (AnswersDocument.marked b) = ap with_bom (runs_det a b)
+answers_det (AnswersDocument.unmarked a) (AnswersDocument.marked b) = absurd (no_mark a)
+answers_det (AnswersDocument.marked a) (AnswersDocument.unmarked b) = absurd (no_mark b)
+
+pub sound : (t : Text) (d : Document) → AnswersDocument t d → LaidDocument true d t × IsDocument true t (document_data d)
+sound t d (AnswersDocument.unmarked a) = let p = sound_runs t a in (LaidDocument.unmarked p.0, IsDocument.unmarked p.1)
+sound t d' (AnswersDocument.marked {t = s} {d = d} a) = let p = sound_runs t a in (LaidDocument.marked p.0, subst (λ (z : data'.Nodes). IsDocument true t z) (sym (mark_data d)) (IsDocument.marked p.1))
+
+pub answered : (t : Text) (x : data'.Nodes) → IsDocument true t x → (d : Document) × AnswersDocument t d × (document_data d ≡ x)
+answered t x i = let b = built i in (b.tree, b.answers, b.same)
+
+-- no text is two documents
+pub one_document : (t : Text) (x y : data'.Nodes) → IsDocument true t x → IsDocument true t y → x ≡ y
+one_document t x y i j = let a = built i in let b = built j in sym a.same ∙ ap document_data (answers_det a.answers b.answers) ∙ b.same
+
+-- a text that is derived is cut into tokens
+pub lexed : (t : Text) (x : data'.Nodes) → IsDocument true t x → (ks : List Token) × Lexes t ks
+lexed t x i = go (built i).answers
+  where
+    go : {t : Text} {d : Document} → AnswersDocument t d → (ks : List Token) × Lexes t ks
+    go (AnswersDocument.unmarked {t = t} a) = lexed_runs t a
+    go (AnswersDocument.marked {t = s} a) = let b = lexed_runs (0xFEFF ∷ s) a in (mark ∷ b.0, next t_mark b.1)

@@ -1,0 +1,279 @@
+-- The machine that builds the tree: it goes over the tokens of a text once, with a stack of open blocks.
+-- The token k stands in the text s before r. Where a place or an item began is kept as the text from there on.
+-- A `None` in the place of a node or of nodes is inside what is slashdashed, of which nothing is built.
+use Rattle.std.specs.Prelude.{◌≡◌, Bool, true, false, List, [], ◌∷◌, ◌++◌, Option, Some, None}
+use Rattle.kdl_text.specs.Chars.{Text}
+use Rattle.kdl_value.specs.Data.{Value, text}
+use Rattle.kdl_entry.specs.Internal.Tokens.{Token, space, newline, slashdash, string, value, left, right, opening, closing, equals, semicolon, BeginsToken}
+use Rattle.kdl_entry.specs.Internal.Items.{between, TypeParts, KeyParts, type_of, before_name, after_name, behind_type, identifier_at, entry_at}
+use Rattle.kdl_entry.specs.Places.{span_of}
+use Rattle.kdl_entry.specs.Tree.{Identifier, Entry}
+use Rattle.kdl_grammar.specs.Laid.{node_format, content_span, with_bom}
+use Rattle.kdl_grammar.specs.Tree.{Node, node, Children, no_children, children, Document, document, Nodes, none, first, join}
+
+-- a node under way
+pub record Under : Type 0 where
+  pub leading : Text
+  pub start : Text
+  pub ty : Option TypeParts
+  pub name : Identifier
+  pub entries : List Entry
+
+-- a node with its block, and the text before the block
+pub record Kept : Type 0 where
+  pub under : Under
+  pub before : Text
+  pub block : Document
+
+-- what a type and a string or value are for: a node's name or a value, which are kept or not
+pub data Slot : Type 0 where
+  no_name : Slot
+  for_name : Text → Text → Slot
+  no_value : Option Under → Slot
+  for_value : Under → Text → Text → Option KeyParts → Slot
+
+-- a string that may be a key, and where the place behind it began
+pub data Pending : Type 0 where
+  pending : Slot → Identifier → Text → Pending
+
+-- in a node before its block: directly behind the name or an entry, or behind spaces, or behind a block that is slashdashed
+pub data Spot : Type 0 where
+  fresh : Option Pending → Spot
+  spaced : Option Pending → Spot
+  later : Spot
+
+-- a type is for a name, or for a value
+pub data Phase : Type 0 where
+  gap : Phase
+  marked : Phase
+  type_open : Bool → Slot → Text → Phase
+  type_name : Bool → Slot → Text → Identifier → Text → Phase
+  type_done : Bool → Slot → Text → Identifier → Text → Text → Phase
+  in_node : Option Under → Spot → Phase
+  property : Slot → Identifier → Text → Text → Phase
+  entry_mark : Option Under → Phase
+  block_mark : Option Under → Phase
+  kept : Option Kept → Phase
+  kept_mark : Option Kept → Phase
+
+-- an open block: of the node under way, or one that is slashdashed before or behind the node's own; with the nodes around it
+pub data Frame : Type 0 where
+  in_block : Option Under → Text → Option Nodes → Frame
+  in_dropped : Option Under → Option Nodes → Frame
+  in_later : Option Kept → Option Nodes → Frame
+
+-- where the machine stands: its phase, the nodes so far, the open blocks, and where the place under way began
+pub data State : Type 0 where
+  at : Phase → Option Nodes → List Frame → Text → State
+
+-- the place under way begins anew with an item that is kept
+abbrev pub origin : {A : Type 0} → Option A → Text → Text → Text
+origin None from t = from
+origin (Some x) from t = t
+
+-- the place under way begins anew, at t, behind what is kept
+abbrev pub moved : Slot → Text → Text → Text
+moved no_name from t = from
+moved (for_name leading start) from t = t
+moved (no_value u) from t = from
+moved (for_value u leading start k) from t = t
+
+-- the slot of a node's name, where nodes are built
+abbrev pub name_slot : Option Nodes → Text → Text → Slot
+name_slot None leading start = no_name
+name_slot (Some ns) leading start = for_name leading start
+
+-- the slot of an entry's value, where the node is built
+abbrev pub entry_slot : Option Under → Text → Text → Slot
+entry_slot None leading start = no_value None
+entry_slot (Some u) leading start = for_value u leading start None
+
+-- the slot of a value behind its key
+abbrev pub keyed : Slot → KeyParts → Slot
+keyed (for_value u leading start k') k = for_value u leading start (Some k)
+keyed c k = c
+
+-- the node with one more entry
+abbrev pub with_entry : Under → Entry → Under
+with_entry u e = record u { entries = u.entries ++ (e ∷ []) }
+
+-- the node under way once its name, or the value of an entry, stands in s before r
+abbrev pub filled : Text → Slot → Option TypeParts → Value → Text → Text → Option Under
+filled whole no_name y v s r = None
+filled whole (for_name leading start) y (text v) s r = Some (record { leading = leading; start = start; ty = y; name = identifier_at whole v s r; entries = [] })
+filled whole (for_name leading start) y _ s r = None
+filled whole (no_value u) y v s r = u
+filled whole (for_value u leading start k) y v s r = Some (with_entry u (entry_at (span_of whole start r) leading k y v (between s r)))
+
+-- a node that ends where s begins
+abbrev pub node_at : Text → Under → Children → Text → Text → Text → Text → Node
+node_at whole u k before_children before_terminator end s = node (record {
+  ty = type_of u.ty;
+  name = u.name;
+  entries = u.entries;
+  format = Some (node_format u.leading (before_name u.ty) (after_name u.ty) (behind_type u.ty) before_children before_terminator end []);
+  span = span_of whole u.start s;
+}) k
+
+-- that node, where it is built
+abbrev pub closed : Text → Option Under → Children → Text → Text → Text → Text → Option Node
+closed whole None k before place end s = None
+closed whole (Some u) k before place end s = Some (node_at whole u k before place end s)
+
+-- the node with its block, where it is built
+abbrev pub closed_kept : Text → Option Kept → Text → Text → Text → Option Node
+closed_kept whole None place end s = None
+closed_kept whole (Some x) place end s = closed whole (Some x.under) (children x.block) x.before place end s
+
+-- the nodes, and one more
+abbrev pub ended : Option Node → Option Nodes → Option Nodes
+ended None l = l
+ended (Some x) None = None
+ended (Some x) (Some ns) = Some (join ns (first x none))
+
+-- the nodes inside a block that opens: none yet, where its node is built
+abbrev pub inside : Option Under → Option Nodes
+inside None = None
+inside (Some u) = Some none
+
+-- the nodes, and the place behind them; without nodes it stands before them, and s is what follows
+abbrev pub content_at : Text → Nodes → Text → Text → Document
+content_at whole none place s = document (Some (record { leading = place; trailing = [] })) (span_of whole s s) none
+content_at whole (first n ns) place s = document (Some (record { leading = []; trailing = place })) (content_span (span_of whole s s) (first n ns)) (first n ns)
+
+-- the node with the block of these nodes, where both are built
+abbrev pub with_block : Text → Option Under → Text → Option Nodes → Text → Text → Option Kept
+with_block whole None before l place s = None
+with_block whole (Some u) before None place s = None
+with_block whole (Some u) before (Some ns) place s = Some (record { under = u; before = before; block = content_at whole ns place s })
+
+-- behind the `}` that stands in s before r
+abbrev pub popped : Text → Option Nodes → List Frame → Text → Text → Text → Option State
+popped whole l [] from s r = None
+popped whole l (in_block u before m ∷ fs) from s r = Some (at (kept (with_block whole u before l (between from s) s)) m fs (origin u from r))
+popped whole l (in_dropped u m ∷ fs) from s r = Some (at (in_node u later) m fs from)
+popped whole l (in_later x m ∷ fs) from s r = Some (at (kept x) m fs from)
+
+-- the spot behind spaces
+abbrev pub spaced_of : Spot → Spot
+spaced_of (fresh o) = spaced o
+spaced_of (spaced o) = spaced o
+spaced_of later = later
+
+-- behind `/-` at that spot: an entry or a block may follow, behind a block that is slashdashed a block alone
+abbrev pub mark_of : Option Under → Spot → Phase
+mark_of u (fresh o) = entry_mark u
+mark_of u (spaced o) = entry_mark u
+mark_of u later = block_mark u
+
+-- an entry stands behind spaces alone
+abbrev pub from_spaced : Spot → State → Option State
+from_spaced (spaced o) st = Some st
+from_spaced _ st = None
+
+-- a number or a keyword stands where a value may
+abbrev pub where_value : Bool → State → Option State
+where_value true st = Some st
+where_value false st = None
+
+-- behind the `=` that follows a string
+abbrev pub value_from : Spot → Text → Text → Option Phase
+value_from (fresh (Some (pending c k a))) s r = Some (property c k (between a s) r)
+value_from (spaced (Some (pending c k a))) s r = Some (property c k (between a s) r)
+value_from _ s r = None
+
+-- the machine with another phase, if there is one
+abbrev pub stay : Option Nodes → List Frame → Text → Option Phase → Option State
+stay l fs from None = None
+stay l fs from (Some p) = Some (at p l fs from)
+
+-- behind the slot's type and its string or value
+abbrev pub given : Text → Slot → Option TypeParts → Value → Option Pending → Option Nodes → List Frame → Text → Text → Text → State
+given whole c y v o l fs from s r = at (in_node (filled whole c y v s r) (fresh o)) l fs (moved c from r)
+
+-- behind a string in the slot that may be a key
+abbrev pub worded : Text → Slot → Text → Option Nodes → List Frame → Text → Text → Text → State
+worded whole c v l fs from s r = given whole c None (text v) (Some (pending c (identifier_at whole v s r) r)) l fs from s r
+
+-- the type, where what follows its `)` begins at s
+abbrev pub typed : Text → Identifier → Text → Text → Text → Option TypeParts
+typed before i after a s = Some (record { name = i; before = before; after = after; behind = between a s })
+
+-- the token k stands in s before r, in the text `whole`
+abbrev pub step : Text → State → Token → Text → Text → Option State
+step whole (at gap l fs from) space s r = Some (at gap l fs from)
+step whole (at gap l fs from) newline s r = Some (at gap l fs from)
+step whole (at gap l fs from) slashdash s r = Some (at marked l fs from)
+step whole (at gap l fs from) (string v) s r = Some (given whole (name_slot l (between from s) s) None (text v) None l fs from s r)
+step whole (at gap l fs from) left s r = Some (at (type_open false (name_slot l (between from s) s) r) l fs from)
+step whole (at gap l fs from) closing s r = popped whole l fs from s r
+step whole (at marked l fs from) space s r = Some (at marked l fs from)
+step whole (at marked l fs from) newline s r = Some (at marked l fs from)
+step whole (at marked l fs from) (string v) s r = Some (given whole no_name None (text v) None l fs from s r)
+step whole (at marked l fs from) left s r = Some (at (type_open false no_name r) l fs from)
+step whole (at (type_open b c a) l fs from) space s r = Some (at (type_open b c a) l fs from)
+step whole (at (type_open b c a) l fs from) (string v) s r = Some (at (type_name b c (between a s) (identifier_at whole v s r) r) l fs from)
+step whole (at (type_name b c q i a) l fs from) space s r = Some (at (type_name b c q i a) l fs from)
+step whole (at (type_name b c q i a) l fs from) right s r = Some (at (type_done b c q i (between a s) r) l fs from)
+step whole (at (type_done b c q i d a) l fs from) space s r = Some (at (type_done b c q i d a) l fs from)
+step whole (at (type_done b c q i d a) l fs from) (string v) s r = Some (given whole c (typed q i d a s) (text v) None l fs from s r)
+step whole (at (type_done b c q i d a) l fs from) (value v) s r = where_value b (given whole c (typed q i d a s) v None l fs from s r)
+step whole (at (property c k b a) l fs from) space s r = Some (at (property c k b a) l fs from)
+step whole (at (property c k b a) l fs from) (string v) s r = Some (given whole (keyed c (record { name = k; before = b; behind = between a s })) None (text v) None l fs from s r)
+step whole (at (property c k b a) l fs from) (value v) s r = Some (given whole (keyed c (record { name = k; before = b; behind = between a s })) None v None l fs from s r)
+step whole (at (property c k b a) l fs from) left s r = Some (at (type_open true (keyed c (record { name = k; before = b; behind = between a s })) r) l fs from)
+step whole (at (in_node u p) l fs from) space s r = Some (at (in_node u (spaced_of p)) l fs from)
+step whole (at (in_node u p) l fs from) newline s r = Some (at gap (ended (closed whole u no_children [] (between from s) (between s r) s) l) fs (origin u from r))
+step whole (at (in_node u p) l fs from) semicolon s r = Some (at gap (ended (closed whole u no_children [] (between from s) (between s r) s) l) fs (origin u from r))
+step whole (at (in_node u p) l fs from) closing s r = popped whole (ended (closed whole u no_children [] (between from s) [] s) l) fs (origin u from s) s r
+step whole (at (in_node u p) l fs from) opening s r = Some (at gap (inside u) (in_block u (between from s) l ∷ fs) (origin u from r))
+step whole (at (in_node u p) l fs from) slashdash s r = Some (at (mark_of u p) l fs from)
+step whole (at (in_node u p) l fs from) (string v) s r = from_spaced p (worded whole (entry_slot u (between from s) s) v l fs from s r)
+step whole (at (in_node u p) l fs from) (value v) s r = from_spaced p (given whole (entry_slot u (between from s) s) None v None l fs from s r)
+step whole (at (in_node u p) l fs from) left s r = from_spaced p (at (type_open true (entry_slot u (between from s) s) r) l fs from)
+step whole (at (in_node u p) l fs from) equals s r = stay l fs from (value_from p s r)
+step whole (at (entry_mark u) l fs from) space s r = Some (at (entry_mark u) l fs from)
+step whole (at (entry_mark u) l fs from) newline s r = Some (at (entry_mark u) l fs from)
+step whole (at (entry_mark u) l fs from) (string v) s r = Some (worded whole (no_value u) v l fs from s r)
+step whole (at (entry_mark u) l fs from) (value v) s r = Some (given whole (no_value u) None v None l fs from s r)
+step whole (at (entry_mark u) l fs from) left s r = Some (at (type_open true (no_value u) r) l fs from)
+step whole (at (entry_mark u) l fs from) opening s r = Some (at gap None (in_dropped u l ∷ fs) from)
+step whole (at (block_mark u) l fs from) space s r = Some (at (block_mark u) l fs from)
+step whole (at (block_mark u) l fs from) newline s r = Some (at (block_mark u) l fs from)
+step whole (at (block_mark u) l fs from) opening s r = Some (at gap None (in_dropped u l ∷ fs) from)
+step whole (at (kept x) l fs from) space s r = Some (at (kept x) l fs from)
+step whole (at (kept x) l fs from) newline s r = Some (at gap (ended (closed_kept whole x (between from s) (between s r) s) l) fs (origin x from r))
+step whole (at (kept x) l fs from) semicolon s r = Some (at gap (ended (closed_kept whole x (between from s) (between s r) s) l) fs (origin x from r))
+step whole (at (kept x) l fs from) closing s r = popped whole (ended (closed_kept whole x (between from s) [] s) l) fs (origin x from s) s r
+step whole (at (kept x) l fs from) slashdash s r = Some (at (kept_mark x) l fs from)
+step whole (at (kept_mark x) l fs from) space s r = Some (at (kept_mark x) l fs from)
+step whole (at (kept_mark x) l fs from) newline s r = Some (at (kept_mark x) l fs from)
+step whole (at (kept_mark x) l fs from) opening s r = Some (at gap None (in_later x l ∷ fs) from)
+step _ _ _ _ _ = None
+
+-- the document where the text ends: no block may be open
+abbrev pub at_end : Text → Option Nodes → List Frame → Text → Option Document
+at_end whole l (f ∷ fs) from = None
+at_end whole None [] from = None
+at_end whole (Some ns) [] from = Some (content_at whole ns (between from []) [])
+
+-- what the machine answers where the text ends
+abbrev pub finish : Text → State → Option Document
+finish whole (at gap l fs from) = at_end whole l fs from
+finish whole (at (in_node u p) l fs from) = at_end whole (ended (closed whole u no_children [] (between from []) [] []) l) fs (origin u from [])
+finish whole (at (kept x) l fs from) = at_end whole (ended (closed_kept whole x (between from []) [] []) l) fs (origin x from [])
+finish whole _ = None
+
+-- before the first token
+abbrev pub initial : Text → State
+initial s = at gap (Some none) [] s
+
+-- from the state on, the text is read to its end, and the answer is d
+pub data Runs (whole : Text) (d : Document) : State → Text → Type 0 where
+  stops : {st : State} → finish whole st ≡ Some d → Runs whole d st []
+  reads : {st st' : State} {s r : Text} {k : Token} → BeginsToken s k r → step whole st k s r ≡ Some st' → Runs whole d st' r → Runs whole d st s
+
+-- the machine's answer on a text: where U+FEFF begins it, the rest is read
+pub data AnswersDocument : Text → Document → Type 0 where
+  unmarked : {t : Text} {d : Document} → Runs t d (initial t) t → AnswersDocument t d
+  marked : {t : Text} {d : Document} → Runs (0xFEFF ∷ t) d (initial t) t → AnswersDocument (0xFEFF ∷ t) (with_bom d)

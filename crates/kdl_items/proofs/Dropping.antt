@@ -1,0 +1,18 @@
+-- What a slashdash drops.
+
+-- Behind a slashdash between nodes: what the machine passes over is the dropped node.
+pub mod DroppedNodes
+-- One part at most, and where no `=` follows.
+pub mod NoEquals
+-- What a slashdash drops in a place of a node, and where it ends.
+pub mod DroppedParts
+-- What a slashdash drops is cut out of the text.
+pub mod DroppedPieces
+-- The loop that passes over a dropped entry or block.
+pub mod PartLoop
+-- The loop that passes over a dropped node.
+pub mod NodeLoop
+-- Where the grammar derives a piece, the machine goes on over it.
+pub mod Paths
+-- The open blocks of the machine, the last one at the end.
+pub mod OpenBlocks

@@ -1,0 +1,12 @@
+-- The items of a text: one list at most, and the readers that make it.
+
+-- A gap, or a place in a node, has one list of items at most.
+pub mod ItemsUnique
+-- The items of node-spaces and line-spaces.
+pub mod SpaceItems
+-- The items of a gap and of a place, piece by piece.
+pub mod PlaceReads
+-- What the readers of spaces and comments answer, and the items that they add.
+pub mod SpaceReads
+-- A text that is cut at a place in bytes.
+pub mod Cuts

@@ -1,0 +1,55 @@
+-- What the fields of the machine behind a slashdash stand for.
+use Rattle.std.specs.Prelude.{◌≡◌, List, [], ◌∷◌, Option, Some, None}
+use Rattle.kdl_entry.specs.Internal.Tokens.{Token}
+use Rattle.kdl_grammar.proofs.Reading.Control as c
+use Rattle.kdl_items.specs.declared.machine.Frame.{Frame}
+use Rattle.kdl_items.specs.declared.machine.Frame.TheVariants.{Node, Dropped, Later as LaterBlock}
+use Rattle.kdl_items.specs.declared.machine.Machine.{Machine}
+use Rattle.kdl_items.specs.declared.machine.Move.{Move}
+use Rattle.kdl_items.specs.declared.machine.Move.TheVariants.{To, Open, Close, Refuse}
+use Rattle.kdl_items.specs.declared.machine.Phase.{Phase}
+use Rattle.kdl_items.specs.declared.machine.Phase.TheVariants.{Gap, Marked, TypeOpen, TypeName, TypeDone, InNode, Property, EntryMark, BlockMark, Kept, KeptMark}
+use Rattle.kdl_items.specs.declared.machine.Spot.{Spot}
+use Rattle.kdl_items.specs.declared.machine.Spot.TheVariants.{Fresh, Spaced, Later}
+
+abbrev pub spot_view : Spot → c.Spot
+spot_view (Fresh b) = c.fresh b
+spot_view (Spaced b) = c.spaced b
+spot_view Later = c.later
+
+abbrev pub phase_view : Phase → c.Phase
+phase_view Gap = c.gap
+phase_view Marked = c.marked
+phase_view (TypeOpen b) = c.type_open b
+phase_view (TypeName b) = c.type_name b
+phase_view (TypeDone b) = c.type_done b
+phase_view (InNode p) = c.in_node (spot_view p)
+phase_view Property = c.property
+phase_view EntryMark = c.entry_mark
+phase_view BlockMark = c.block_mark
+phase_view Kept = c.kept
+phase_view KeptMark = c.kept_mark
+
+abbrev pub frame_view : Frame → c.Frame
+frame_view Node = c.in_block
+frame_view Dropped = c.in_dropped
+frame_view LaterBlock = c.in_later
+
+-- the open blocks, with those in acc around them; the last one is on top
+abbrev pub stacked : List c.Frame → List Frame → List c.Frame
+stacked acc [] = acc
+stacked acc (f ∷ fs) = stacked (frame_view f ∷ acc) fs
+
+abbrev pub machine_view : Machine → c.Control
+machine_view m = c.at (phase_view m.phase) (stacked [] m.frames.items)
+
+-- where a move goes, with these blocks open
+abbrev pub move_view : Move → List c.Frame → Option c.Control
+move_view (To p) fs = Some (c.at (phase_view p) fs)
+move_view (Open f) fs = Some (c.at c.gap (frame_view f ∷ fs))
+move_view Close fs = c.popped fs
+move_view Refuse fs = None
+
+-- this move is the step of the machine at the token, in the phase, whatever blocks are open
+abbrev pub Moves : c.Phase → Token → Move → Type 0
+Moves p k m = (fs : List c.Frame) → c.step (c.at p fs) k ≡ move_view m fs

@@ -1,0 +1,65 @@
+-- What the machine without data does behind a slashdash, up to where what is dropped ends.
+use Rattle.std.specs.Prelude.{◌≡◌, Bool, true, false, ◌&&◌, not, [], Some}
+use Rattle.kdl_text.specs.Chars.{Text}
+use Rattle.kdl_entry.specs.Internal.Tokens.{Token, space, equals, BeginsToken}
+use Rattle.kdl_grammar.proofs.Reading.Control.{Control, at, gap, in_node, fresh, spaced, later, entry_mark, block_mark, Phase, step, finish}
+use Rattle.kdl_items.specs.Items.{Place, takes_entries}
+
+-- where the last token that is no node-space ends
+abbrev pub moved : Token → Text → Text → Text
+moved space last r = last
+moved _ last r = r
+
+-- between the nodes of the place again
+abbrev pub is_gap : Control → Bool
+is_gap (at gap []) = true
+is_gap _ = false
+
+-- a node that is dropped ends with the terminator, a token that stands in a text before another, or with the place: then node-spaces stand behind it
+pub data NodeEnd : Type 0 where
+  returned : Token → Text → Text → NodeEnd
+  ended : Text → NodeEnd
+
+-- the machine goes on over the text s, in which the last token that is no node-space ended before `last`
+pub data NodePasses : Control → Text → Text → NodeEnd → Type 0 where
+  returns : {c : Control} {last s r : Text} {k : Token} → BeginsToken s k r → step c k ≡ Some (at gap []) → NodePasses c last s (returned k s r)
+  ends : {c : Control} {last : Text} → is_gap c ≡ false → finish c ≡ true → NodePasses c last [] (ended last)
+  goes : {c d : Control} {last s r : Text} {k : Token} {e : NodeEnd} → BeginsToken s k r → step c k ≡ Some d → is_gap d ≡ false → NodePasses d (moved k last r) r e → NodePasses c last s e
+
+-- what is dropped in a node ends directly behind a value or a block
+abbrev pub is_over : Control → Bool
+is_over (at (in_node (fresh false)) []) = true
+is_over (at (in_node later) []) = true
+is_over _ = false
+
+-- it is a block
+abbrev pub is_block : Control → Bool
+is_block (at (in_node later) []) = true
+is_block _ = false
+
+-- a string may be a key: it ends where no `=` follows
+abbrev pub is_word : Control → Bool
+is_word (at (in_node (fresh true)) []) = true
+is_word (at (in_node (spaced true)) []) = true
+is_word _ = false
+
+abbrev pub follows_word : Token → Bool
+follows_word space = true
+follows_word equals = true
+follows_word _ = false
+
+-- likewise for an entry or a block; whether it is a block, and where it ends
+pub data PartPasses : Control → Text → Text → Bool → Text → Type 0 where
+  over : {c : Control} {last s : Text} → is_over c ≡ true → PartPasses c last s (is_block c) last
+  word_ends : {c : Control} {last : Text} → is_word c ≡ true → PartPasses c last [] false last
+  word_over : {c : Control} {last s r : Text} {k : Token} → is_word c ≡ true → BeginsToken s k r → follows_word k ≡ false → PartPasses c last s false last
+  goes : {c d : Control} {last s r : Text} {k : Token} {b : Bool} {e : Text} → is_over c ≡ false → (is_word c && not (follows_word k)) ≡ false → BeginsToken s k r → step c k ≡ Some d
+      → PartPasses d (moved k last r) r b e → PartPasses c last s b e
+
+-- the phase behind the `/-` in a place of a node
+abbrev pub mark_phase : Bool → Phase
+mark_phase true = entry_mark
+mark_phase false = block_mark
+
+abbrev pub mark_in : Place → Control
+mark_in p = at (mark_phase (takes_entries p)) []

@@ -1,0 +1,32 @@
+-- What two layouts make.
+use Rattle.std.proofs.Common.{◌≡◌, ℕ, true, false, sym, ap, ◌∙◌, subst, ◌↔◌, Result, Ok, Err, IfOk}
+use Rattle.std.specs.List.{list_all}
+use Rattle.kdl_text.specs.Chars.{Text, is_space}
+use Rattle.kdl_grammar.specs.Data as data'
+use Rattle.kdl_grammar.specs.Grammar.{IsDocument}
+use Rattle.kdl_grammar.specs.Tree.{Document, Node}
+use Rattle.kdl_fmt.specs.Canonical.{canonical, Canonical}
+use Rattle.kdl_fmt.specs.Config.{Settings}
+use Rattle.kdl_fmt.specs.Formatted.{DocumentKeepsNone, NodeKeepsNone}
+use Rattle.kdl_fmt.specs.WithComments.{IsFormattedDocument, IsFormattedNode}
+use Rattle.kdl_fmt.proofs.Formatting.Again.{document_stays, node_stays}
+use Rattle.kdl_fmt.proofs.Formatting.FormattedUnique.{formatted_det}
+
+-- two canonical texts are the same exactly where the data are
+pub same_texts : (indent : Text) (level : ℕ) (x y : data'.Nodes) (t u : Text) → Canonical indent level x → Canonical indent level y → t ≡ canonical indent level x → u ≡ canonical indent level y → (t ≡ u) ↔ (x ≡ y)
+same_texts indent level x y t u c d a b =
+    (λ e. sym (c.alone y (subst (λ (s : Text). IsDocument true s y) (sym b ∙ sym e ∙ a) d.derived)), λ e. a ∙ ap (canonical indent level) e ∙ sym b)
+
+pub one_layout : (s : Settings) (level : ℕ) (d x y : Document) → IsFormattedDocument s level d x → IsFormattedDocument s level d y → x ≡ y
+one_layout s level d x y a b = formatted_det s level d x y a b
+
+-- the second layout changes nothing
+pub twice : {A E : Type 0} (r : Result A E) (s : Settings) (level : ℕ) (d x y : Document) → list_all is_space s.indent ≡ true → s.entry_autoformate_keep ≡ false → DocumentKeepsNone d
+    → IsFormattedDocument s level d x → IfOk r (λ _. IsFormattedDocument s level x y) → IfOk r (λ _. IsFormattedDocument s level d y)
+twice (Ok v) s level d x y ok keep none f g = subst (λ (z : Document). IsFormattedDocument s level d z) (sym (document_stays s level ok keep d x y f none g)) f
+twice (Err v) s level d x y ok keep none f g = tt
+
+pub node_twice : {A E : Type 0} (r : Result A E) (s : Settings) (level : ℕ) (n x y : Node) → list_all is_space s.indent ≡ true → s.entry_autoformate_keep ≡ false → NodeKeepsNone n
+    → IsFormattedNode s level n x → IfOk r (λ _. IsFormattedNode s level x y) → IfOk r (λ _. IsFormattedNode s level n y)
+node_twice (Ok v) s level n x y ok keep none f g = subst (λ (z : Node). IsFormattedNode s level n z) (sym (node_stays s level ok keep n x y f none g)) f
+node_twice (Err v) s level n x y ok keep none f g = tt

@@ -1,0 +1,14 @@
+-- What is answered on a whole text.
+
+-- The loop over the tokens of a text.
+pub mod TokenLoop
+-- What the answer on a whole text says of the grammar.
+pub mod Outcomes
+-- Every edited document of an answer reads back.
+pub mod EditedOutcomes
+-- A text with U+FEFF before it, or without.
+pub mod LeadingBom
+-- Line-spaces, read token by token to the end of a text.
+pub mod LineSpaceReads
+-- Nodes that are a whole text.
+pub mod NodeTexts

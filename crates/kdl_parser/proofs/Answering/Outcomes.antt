@@ -1,0 +1,89 @@
+-- What the answer on a whole text says of the grammar.
+use Rattle.std.proofs.Common.{◌≡◌, ℕ, List, ◌+◌, ◌*◌, ◌≤◌, length, arith, true, false, ◌∷◌, Ok, Err, refl, sym, ap, subst, ◌∙◌}
+use Rattle.std.specs.Str.{chars, IsUtf8}
+use Rattle.kdl_text.specs.Chars.{Text, begins}
+use Rattle.kdl_text.specs.Spans.{bytes}
+use Rattle.kdl_entry.specs.Internal.Tokens.{Token, t_mark}
+use Rattle.kdl_entry.specs.declared.items.lexer.LexFailure.{LexFailure}
+use Rattle.kdl_entry.specs.declared.items.lexer.LexFailure.TheVariants.{Faulty, Memory}
+use Rattle.kdl_entry.proofs.Lexing.TokenUnique.{token_det}
+use Rattle.kdl_text.proofs.Looking.Texts.{bytes-chars}
+use Rattle.kdl_grammar.specs.Data.{Nodes}
+use Rattle.kdl_grammar.specs.Former.{IsFormerDocument}
+use Rattle.kdl_grammar.specs.Grammar.{IsDocument}
+use Rattle.kdl_grammar.specs.Laid.{LaidDocument, with_bom}
+use Rattle.kdl_grammar.specs.Internal.Machine.{step, initial, Runs, reads, AnswersDocument}
+use Rattle.kdl_grammar.specs.Print.{print_document}
+use Rattle.kdl_grammar.specs.Tree.{Node, Document, document_data}
+use Rattle.kdl_parser.specs.Internal.Answered.{AnswersParts}
+use Rattle.kdl_parser.specs.Internal.Parts.{document_by}
+use Rattle.kdl_parser.specs.Internal.Steps.{Counted}
+use Rattle.kdl_parser.specs.Internal.Whole.{AnswersDocumentText}
+use Rattle.kdl_parser.specs.declared.node_parts.DocumentParts.{DocumentParts}
+use Rattle.kdl_grammar.proofs.Reading.Erased.{sound, answered, one_document}
+use Rattle.kdl_grammar.proofs.Laying.LaidPrints.{printed}
+use Rattle.kdl_grammar.proofs.Moving.FormerIsPresent.{wider}
+
+-- U+FEFF ends what the machine reads
+no_mark : (whole s : Text) (d : Document) → Runs whole d (initial (0xFEFF ∷ s)) (0xFEFF ∷ s) → ⊥
+no_mark whole s d (reads {r = r} t e a) =
+    let k = (token_det t t_mark).1 in
+    let f = ap (λ (j : Token). step whole (initial (0xFEFF ∷ s)) j (0xFEFF ∷ s) r) (sym k) ∙ e in
+    cc
+
+-- a text that does not begin with U+FEFF
+no_unmarked : {t : Text} {d : Document} → AnswersDocument t d → ((u : Text) → t ≡ 0xFEFF ∷ u → ⊥) → ((d : Document) → Runs t d (initial t) t → ⊥) → ⊥
+no_unmarked (AnswersDocument.unmarked {d = d} a) n f = f d a
+no_unmarked (AnswersDocument.marked {t = s} a) n f = n s refl
+
+pub unmarked_answer : {N : Type 0} (tree : N → Node) (t : Text) (p : DocumentParts N) → AnswersParts tree t t (Ok p) → AnswersDocumentText tree t (Ok (record { parts = p; has_bom = false }))
+unmarked_answer tree t p a = AnswersDocument.unmarked a
+
+pub unmarked_failure : {N : Type 0} (tree : N → Node) (t : Text) (e : LexFailure) → ((u : Text) → t ≡ 0xFEFF ∷ u → ⊥) → AnswersParts tree t t (Err e) → AnswersDocumentText tree t (Err e)
+unmarked_failure tree t (Faulty span) n a = (λ d x. no_unmarked x n a.0, a.1)
+unmarked_failure tree t Memory n a = tt
+
+pub not_begins : (t : Text) → begins 0xFEFF t ≡ false → (u : Text) → t ≡ 0xFEFF ∷ u → ⊥
+not_begins t n u e = let f = ap (begins 0xFEFF) e in cc
+
+-- a text that begins with U+FEFF
+no_marked : {t : Text} {d : Document} → AnswersDocument t d → (u : Text) → t ≡ 0xFEFF ∷ u → ((d : Document) → Runs t d (initial u) u → ⊥) → ⊥
+no_marked (AnswersDocument.unmarked {t = t} {d = d} a) u e f = no_mark t u d (subst (λ (z : Text). Runs t d (initial z) z) e a)
+no_marked (AnswersDocument.marked {t = s} {d = d} a) u e f = let g : s ≡ u = cc in f d (subst (λ (z : Text). Runs (0xFEFF ∷ s) d (initial z) z) g a)
+
+pub marked_answer : {N : Type 0} (tree : N → Node) (t u : Text) (p : DocumentParts N) → t ≡ 0xFEFF ∷ u → AnswersParts tree t u (Ok p) → AnswersDocumentText tree t (Ok (record { parts = p; has_bom = true }))
+marked_answer tree t u p e a =
+    let b : Runs (0xFEFF ∷ u) (document_by tree p) (initial u) u = subst (λ (z : Text). Runs z (document_by tree p) (initial u) u) e a in
+    subst (λ (z : Text). AnswersDocument z (with_bom (document_by tree p))) (sym e) (AnswersDocument.marked b)
+
+pub marked_failure : {N : Type 0} (tree : N → Node) (t u : Text) (e : LexFailure) → t ≡ 0xFEFF ∷ u → AnswersParts tree t u (Err e) → AnswersDocumentText tree t (Err e)
+marked_failure tree t u (Faulty span) e a = (λ d x. no_marked x u e a.0, a.1)
+marked_failure tree t u Memory e a = tt
+
+-- what is answered is what the grammar derives, laid in the text, and prints it
+pub found : (t : Text) (d : Document) → AnswersDocument t d → IsDocument true t (document_data d)
+found t d a = (sound t d a).1
+
+pub only : (t : Text) (d : Document) → AnswersDocument t d → (x : Nodes) → IsDocument true t x → x ≡ document_data d
+only t d a x i = one_document t x (document_data d) i (found t d a)
+
+pub laid : (t : Text) (d : Document) → AnswersDocument t d → LaidDocument true d t
+laid t d a = (sound t d a).0
+
+pub prints : (t : Text) (d : Document) → AnswersDocument t d → print_document d 0 ≡ t
+prints t d a = printed true d t (laid t d a)
+
+pub refused : (t : Text) → ((d : Document) → AnswersDocument t d → ⊥) → (x : Nodes) → IsDocument true t x → ⊥
+refused t n x i = let a = answered t x i in n a.0 a.1
+
+-- the former language
+pub former : (t : Text) (d : Document) → AnswersDocument t d → (x : Nodes) → IsFormerDocument t x → document_data d ≡ x
+former t d a x i = sym (only t d a x (wider false i))
+
+-- the bound on the steps, in bytes of the text
+pub most_counted : (text : List ℕ) (old new : ℕ) → IsUtf8 text → Counted (chars text) old new → new ≤ old + 32 * (length text + 1)
+most_counted text old new u c = omega (arith, c.most, bytes-chars text u)
+
+-- where it is refused, and the faults are told from mid on
+pub told_counted : (text : List ℕ) (old mid new : ℕ) → IsUtf8 text → mid ≤ old + 32 * (bytes (chars text) + 1) → new ≤ mid + 128 * (length text + 1) → new ≤ old + 160 * (length text + 1)
+told_counted text old mid new u c d = omega (arith, c, d, bytes-chars text u)

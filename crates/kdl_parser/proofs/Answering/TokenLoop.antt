@@ -1,0 +1,179 @@
+-- The turns of the loop over the tokens of a text, and what they answer.
+use Rattle.std.proofs.Common.{◌≡◌, ◌↔◌, ℕ, ◌+◌, ◌<◌, ◌≤◌, length, [], ◌∷◌, ◌++◌, Some, None, option_map, Result, Ok, Err, refl, sym, ap, subst, ◌∙◌, arith, append_assoc, append-nil}
+use Rattle.kdl_text.specs.Chars.{Text, Star, plus}
+use Rattle.kdl_text.specs.Chars.Star.{none as no_star, more}
+use Rattle.kdl_text.specs.Internal.Here.{Here, Spot, first_len}
+use Rattle.kdl_text.specs.Internal.Reading.{Moves}
+use Rattle.kdl_text.specs.Spans.{InText, bytes}
+use Rattle.kdl_text.specs.Trivia.{NodeSpace}
+use Rattle.kdl_text.specs.declared.span.SourceSpan.{SourceSpan}
+use Rattle.kdl_text.proofs.Looking.MovesJoin.{bytes-append}
+use Rattle.kdl_entry.specs.Internal.Building.{Stays}
+use Rattle.kdl_entry.specs.Internal.Handed.{Cuts, one, spaces, NoToken, IsFaultAt, kind_view, HandsOut, Lexed}
+use Rattle.kdl_entry.specs.Internal.Tokens.{Token, t_space}
+use Rattle.kdl_entry.specs.declared.items.lexer.LexFailure.{LexFailure}
+use Rattle.kdl_entry.specs.declared.items.lexer.LexFailure.TheVariants.{Faulty, Memory}
+use Rattle.kdl_entry.specs.declared.items.lexer.Token.{Token as CodeToken}
+use Rattle.kdl_entry.proofs.Lexing.TokenUnique.{token_shorter}
+use Rattle.kdl_parser.specs.Internal.Answered.{AnswersParts, Finished}
+use Rattle.kdl_grammar.specs.Internal.Machine.{State, step, finish, initial, Runs}
+use Rattle.kdl_parser.specs.Internal.Building.{state_view, held, Did, EndsIn, Placed}
+use Rattle.kdl_grammar.specs.Tree.{Node, Document}
+use Rattle.kdl_parser.specs.Internal.Parts.{document_by}
+use Rattle.kdl_parser.specs.declared.builder.Builder.{Builder}
+use Rattle.kdl_parser.specs.declared.node_parts.DocumentParts.{DocumentParts}
+use Rattle.kdl_parser.proofs.Stepping.PlacesAhead.{placed_step, then_ends}
+use Rattle.kdl_parser.proofs.Stepping.MachineSteps.{read_cut, refuses, faults, at_stop}
+
+-- the machine answers from here on what it answers on u
+abbrev pub Same : Text → Text → State → Text → Type 0
+Same whole u st s = (d : Document) → Runs whole d st s ↔ Runs whole d (initial u) u
+
+-- the lexer stands in the text t, and the machine goes on from here as from the start of u
+pub record Going {N : Type 0} (tree : N → Node) (b : Builder N) (here : Here) (t u : Text) : Type 0 where
+  pub same : Same t u (state_view tree b) here.rest
+  pub whole : b.whole.rest ≡ t
+  pub placed : Placed (state_view tree b) here.rest
+  pub text : EndsIn t here.rest
+  pub at : here.at + bytes here.rest ≡ bytes t
+
+-- the same of a state and of texts
+start_same : (t u s : Text) (st : State) → st ≡ initial u → s ≡ u → Same t u st s
+start_same t u s st e f d = rw (e, f) (λ a. a, λ a. a)
+
+start_placed : (u s : Text) (st : State) → st ≡ initial u → s ≡ u → Placed st s
+start_placed u s st e f = subst (λ (z : State). Placed z s) (sym e) (([], sym f), tt)
+
+told_step : (w t s r s' r' : Text) (st st' : State) (k : Token) → w ≡ t → s' ≡ s → r' ≡ r → option_map held (step w st k s' r') ≡ Some (held st') → option_map held (step t st k s r) ≡ Some (held st')
+told_step w t s r s' r' st st' k e f g h = rw (e, f, g) at h
+
+told_none : (w t s r s' r' : Text) (st : State) (k : Token) → w ≡ t → s' ≡ s → r' ≡ r → step w st k s' r' ≡ None → step t st k s r ≡ None
+told_none w t s r s' r' st k e f g h = rw (e, f, g) at h
+
+turn_same : (t u s r : Text) (st st' : State) (k : Token) → Same t u st s → Cuts s k r → option_map held (step t st k s r) ≡ Some (held st') → Same t u st' r
+turn_same t u s r st st' k a c e d = let x = read_cut t d st st' s r k c e in let y = a d in (λ z. y.0 (x.0 z), λ z. x.1 (y.1 z))
+
+same_at : (t u s r : Text) (st : State) → r ≡ s → Same t u st s → Same t u st r
+same_at t u s r st e a = rw e a
+
+-- the start of a text, or behind its U+FEFF
+pub starts : {N : Type 0} (tree : N → Node) (t u : Text) (b : Builder N) (here : Here) → state_view tree b ≡ initial u → b.whole.rest ≡ t → here.rest ≡ u → EndsIn t u → here.at + bytes u ≡ bytes t → Going tree b here t u
+starts tree t u b here e w f x n = record {
+  same = start_same t u here.rest (state_view tree b) e f;
+  whole = w;
+  placed = start_placed u here.rest (state_view tree b) e f;
+  text = subst (λ (z : Text). EndsIn t z) (sym f) x;
+  at = ap (λ (z : Text). here.at + bytes z) f ∙ n;
+}
+
+-- a token's turn
+pub goes_on : {N : Type 0} (tree : N → Node) (b b' : Builder N) (before mid after : Here) (t u : Text) (k : CodeToken) → Going tree b before t u → HandsOut before k mid → Moves before mid
+    → option_map held (step b.whole.rest (state_view tree b) (kind_view k.kind) k.start.rest k.end.rest) ≡ Some (held (state_view tree b')) → b'.whole ≡ b.whole → Stays mid after → Going tree b' after t u
+goes_on tree b b' before mid after t u k g h m e w y =
+    let e' = told_step b.whole.rest t before.rest mid.rest k.start.rest k.end.rest (state_view tree b) (state_view tree b') (kind_view k.kind) g.whole h.start_rest h.end_rest e in
+    let piece : EndsIn before.rest mid.rest = m.piece in
+    let placed = placed_step t (state_view tree b) (state_view tree b') (kind_view k.kind) before.rest mid.rest e' g.placed piece in
+    record {
+      same = same_at t u mid.rest after.rest (state_view tree b') y.rest (turn_same t u before.rest mid.rest (state_view tree b) (state_view tree b') (kind_view k.kind) g.same h.cuts e');
+      whole = ap (λ (z : Spot). z.rest) w ∙ g.whole;
+      placed = subst (λ (z : Text). Placed (state_view tree b') z) (sym y.rest) placed;
+      text = subst (λ (z : Text). EndsIn t z) (sym y.rest) (then_ends g.text piece);
+      at = omega (arith, y.at, ap bytes y.rest, m.at, g.at);
+    }
+
+-- what the builder asks of the places
+pub placed_start : {N : Type 0} (tree : N → Node) (b : Builder N) (before mid : Here) (t u : Text) (k : CodeToken) → Going tree b before t u → HandsOut before k mid → Placed (state_view tree b) k.start.rest
+placed_start tree b before mid t u k g h = subst (λ (z : Text). Placed (state_view tree b) z) (sym h.start_rest) g.placed
+
+pub start_end : (before mid : Here) (k : CodeToken) → HandsOut before k mid → Moves before mid → EndsIn k.start.rest k.end.rest
+start_end before mid k h m = rw (h.start_rest, h.end_rest) m.piece
+
+-- a turn comes nearer to the end
+spaces_shorter : {s r : Text} → Star NodeSpace s r → length r ≤ length s
+spaces_shorter no_star = omega arith
+spaces_shorter (more n m) = omega (arith, token_shorter (t_space n), spaces_shorter m)
+
+pub cut_shorter : {s r : Text} {k : Token} → Cuts s k r → length r < length s
+cut_shorter (one t) = token_shorter t
+cut_shorter (spaces (plus n m)) = omega (arith, token_shorter (t_space n), spaces_shorter m)
+
+pub nearer : (before mid after : Here) (k : CodeToken) → HandsOut before k mid → Stays mid after → length after.rest < length before.rest
+nearer before mid after k h y = omega (arith, cut_shorter h.cuts, ap length y.rest)
+
+-- the character at a place of the text
+bytes_before : (p s t : Text) (at : ℕ) → t ≡ p ++ s → at + bytes s ≡ bytes t → at ≡ bytes p
+bytes_before p s t at e f = omega (arith, ap bytes e, bytes-append p s, f)
+
+char_in : (s p t : Text) (span : SourceSpan) → t ≡ p ++ s → span.offset ≡ bytes p → span.len ≡ first_len s → InText t span
+char_in [] p t span e f g = (p, [], [], e ∙ simp append-nil, f, g)
+char_in (c ∷ s) p t span e f g = (p, c ∷ [], s, e ∙ sym (append_assoc p (c ∷ []) s), f, omega (arith, g))
+
+pub told : {N : Type 0} (tree : N → Node) (b : Builder N) (here : Here) (t u : Text) (place : Spot) (span : SourceSpan) → Going tree b here t u → place.rest ≡ here.rest → place.at ≡ here.at → IsFaultAt place span → InText t span
+told tree b here t u place span g e f x =
+    char_in here.rest g.text.0 t span g.text.1 (x.offset ∙ f ∙ bytes_before g.text.0 here.rest t here.at g.text.1 g.at) (x.len ∙ ap first_len e)
+
+no_reading : {N : Type 0} (tree : N → Node) (b : Builder N) (here : Here) (t u : Text) → Going tree b here t u → NoToken here.rest → (d : Document) → Runs t d (initial u) u → ⊥
+no_reading tree b here t u g n d a = faults t d (state_view tree b) here.rest n.begun n.none ((g.same d).1 a)
+
+no_turn : {N : Type 0} (tree : N → Node) (b : Builder N) (before mid : Here) (t u : Text) (k : CodeToken) → Going tree b before t u → HandsOut before k mid → step b.whole.rest (state_view tree b) (kind_view k.kind) k.start.rest k.end.rest ≡ None
+    → (d : Document) → Runs t d (initial u) u → ⊥
+no_turn tree b before mid t u k g h e d a =
+    let e' = told_none b.whole.rest t before.rest mid.rest k.start.rest k.end.rest (state_view tree b) (kind_view k.kind) g.whole h.start_rest h.end_rest e in
+    refuses t d (state_view tree b) before.rest mid.rest (kind_view k.kind) h.cuts e' ((g.same d).1 a)
+
+-- the lexer's failure, and a token that is refused
+pub lexer_told : {N : Type 0} (tree : N → Node) (b : Builder N) (before after : Here) (t u : Text) (e : LexFailure) → Going tree b before t u → Lexed before (Err e) after → AnswersParts tree t u (Err e)
+lexer_told tree b before after t u (Faulty span) g x = (no_reading tree b before t u g x.0, told tree b before t u (record { rest = before.rest; at = before.at }) span g refl refl x.1)
+lexer_told tree b before after t u Memory g x = tt
+
+pub take_told : {N : Type 0} (tree : N → Node) (b b' : Builder N) (before mid : Here) (t u : Text) (k : CodeToken) (e : LexFailure) → Going tree b before t u → HandsOut before k mid
+    → Did {A = Unit {0}} (step b.whole.rest (state_view tree b) (kind_view k.kind) k.start.rest k.end.rest) k.start (Err e) (state_view tree b') → AnswersParts tree t u (Err e)
+take_told tree b b' before mid t u k (Faulty span) g h x = (no_turn tree b before mid t u k g h x.0, told tree b before t u k.start span g h.start_rest h.start_at x.1)
+take_told tree b b' before mid t u k Memory g h x = tt
+
+-- the end of the text
+nothing_left : (p r : Text) → [] ≡ p ++ r → r ≡ []
+nothing_left [] r e = sym e
+nothing_left (c ∷ p) r e = absurd cc
+
+pub all_read : (before after : Here) → before.rest ≡ [] → Moves before after → after.rest ≡ []
+all_read before after e m = nothing_left m.piece.0 after.rest (sym e ∙ m.piece.1)
+
+pub stops_going : {N : Type 0} (tree : N → Node) (b : Builder N) (before after : Here) (t u : Text) → Going tree b before t u → before.rest ≡ [] → Moves before after → Going tree b after t u
+stops_going tree b before after t u g e m =
+    let f : after.rest ≡ before.rest = all_read before after e m ∙ sym e in
+    record {
+      same = same_at t u before.rest after.rest (state_view tree b) f g.same;
+      whole = g.whole;
+      placed = subst (λ (z : Text). Placed (state_view tree b) z) (sym f) g.placed;
+      text = subst (λ (z : Text). EndsIn t z) (sym f) g.text;
+      at = m.at ∙ g.at;
+    }
+
+pub from_now : {N : Type 0} (tree : N → Node) (b : Builder N) (here : Here) (t u : Text) → Going tree b here t u → EndsIn b.from.rest here.rest
+from_now tree b here t u g = g.placed.0
+
+-- where the text ends, the machine's document is the answer
+run_there : (t u s : Text) (st : State) (d : Document) → Same t u st s → s ≡ [] → finish t st ≡ Some d → Runs t d (initial u) u
+run_there t u s st d a e f = (a d).0 (subst (λ (z : Text). Runs t d st z) (sym e) ((at_stop t d st).1 f))
+
+no_run_there : (t u s : Text) (st : State) → Same t u st s → s ≡ [] → finish t st ≡ None → (d : Document) → Runs t d (initial u) u → ⊥
+no_run_there t u s st a e f d x =
+    let y : finish t st ≡ Some d = (at_stop t d st).0 (subst (λ (z : Text). Runs t d st z) e ((a d).1 x)) in
+    cc
+
+pub at_the_end : {N : Type 0} (tree : N → Node) (b : Builder N) (here : Here) (t u : Text) (d : DocumentParts N) → Going tree b here t u → here.rest ≡ [] → finish b.whole.rest (state_view tree b) ≡ Some (document_by tree d) → AnswersParts tree t u (Ok d)
+at_the_end tree b here t u d g e f =
+    let f' = subst (λ (w : Text). finish w (state_view tree b) ≡ Some (document_by tree d)) g.whole f in
+    run_there t u here.rest (state_view tree b) (document_by tree d) g.same e f'
+
+pub no_end : {N : Type 0} (tree : N → Node) (b : Builder N) (here : Here) (t u : Text) → Going tree b here t u → here.rest ≡ [] → finish b.whole.rest (state_view tree b) ≡ None → (d : Document) → Runs t d (initial u) u → ⊥
+no_end tree b here t u g e f =
+    let f' = subst (λ (w : Text). finish w (state_view tree b) ≡ None) g.whole f in
+    no_run_there t u here.rest (state_view tree b) g.same e f'
+
+pub finish_told : {N : Type 0} (tree : N → Node) (b : Builder N) (here : Here) (t u : Text) (place : Spot) (result : Result (DocumentParts N) LexFailure) → Going tree b here t u → here.rest ≡ [] → place.rest ≡ here.rest → place.at ≡ here.at
+    → Finished tree (finish b.whole.rest (state_view tree b)) place result → AnswersParts tree t u result
+finish_told tree b here t u place (Ok d) g e f n x = at_the_end tree b here t u d g e x
+finish_told tree b here t u place (Err (Faulty span)) g e f n x = (no_end tree b here t u g e x.0, told tree b here t u place span g f n x.1)
+finish_told tree b here t u place (Err Memory) g e f n x = tt

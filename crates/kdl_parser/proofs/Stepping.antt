@@ -1,0 +1,22 @@
+-- What a step of the builder does, by the machine's.
+
+-- In an item the machine's step is the item's own.
+pub mod ItemSteps
+-- The span of nodes, from the first to the last, and their document.
+pub mod NodeSpans
+-- What the turns of the loop over the tokens cost.
+pub mod TurnCost
+-- What a step did that no token refuses.
+pub mod StepsDone
+-- What the machine holds of a dropped item changes nothing.
+pub mod Held
+-- What a token did inside an item.
+pub mod ItemTokens
+-- What a token, a fault and the end do to the machine's runs.
+pub mod MachineSteps
+-- Where the place under way begins.
+pub mod Origins
+-- The places that the builder holds lie before the text that is left.
+pub mod PlacesAhead
+-- One more entry, one more node.
+pub mod Views

@@ -1,9 +1,0 @@
-use Rattle.std.proofs.Common.{ap}
-use Rattle.std.specs.Str.{chars}
-use Rattle.kdl_text.specs.Here.{Here}
-use Rattle.kdl_parser.proofs.NodeTexts.{nothing_read}
-use Rattle.kdl_parser.proofs.nodes.read.Goals as goal
-
-pub returns-in-Err : goal.returns-in-Err
-returns-in-Err g c =
-    nothing_read g.N.ParsedNode.tree (chars c.args.text.now) c.checkpoint-whole.result.rest c.new-lexer.result c.in-Err.failure c.checkpoint-whole.ensures.rest (ap (λ (l : Here). l.rest) c.new-lexer.ensures) c.in-Err.ensures.answers

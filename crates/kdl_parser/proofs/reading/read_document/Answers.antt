@@ -1,6 +1,0 @@
-use Rattle.kdl_parser.proofs.Outcomes.{told_counted}
-use Rattle.kdl_parser.proofs.reading.read_document.Goals as goal
-
-pub returns-in-Err-Faulty-clause-told_most : goal.returns-in-Err-Faulty-clause-told_most
-returns-in-Err-Faulty-clause-told_most g c =
-    λ _. told_counted c.args.text.now c.args.steps.now c.read.new.steps c.failure.new.steps c.utf8.text (rw (c.in-Err-Faulty.is, c.in-Err-Faulty.field-0-is) at c.read.ensures.counted) c.failure.ensures.most

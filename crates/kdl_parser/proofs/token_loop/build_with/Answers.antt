@@ -1,0 +1,11 @@
+use Rattle.kdl_parser.proofs.Stepping.TurnCost.{counting_goes_on}
+use Rattle.kdl_parser.proofs.Answering.TokenLoop.{goes_on}
+use Rattle.kdl_parser.proofs.token_loop.build_with.Goals as goal
+
+pub tokens-preserved : goal.tokens-preserved
+tokens-preserved g c =
+    let handed = rw c.in-Some.is at c.in_ok-token.ensures.lexed in
+    let costs = rw c.in-Some.is at c.in_ok-token.ensures.costs in (
+      goes_on g.N.ParsedNode.tree c.tokens.builder c.take.new.self c.tokens.lexer c.next.new.self c.take.new.lexer _ _ c.in-Some.token c.tokens.invariant.0 handed c.next.ensures.moves c.in_ok-take.ensures.did c.take.ensures.whole c.take.ensures.stays,
+      counting_goes_on _ c.tokens.lexer c.next.new.self c.take.new.lexer c.in-Some.token _ _ c.tokens.invariant.1 handed c.next.ensures.moves costs c.in_ok-take.ensures.sliced c.take.ensures.stays,
+    )

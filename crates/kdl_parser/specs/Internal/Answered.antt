@@ -1,0 +1,24 @@
+-- What is answered on what the lexer has before it, by the tree of a node.
+use Rattle.std.specs.Prelude.{◌≡◌, Option, Some, None, Result, Ok, Err}
+use Rattle.kdl_text.specs.Chars.{Text}
+use Rattle.kdl_text.specs.Internal.Here.{Spot}
+use Rattle.kdl_text.specs.Spans.{InText}
+use Rattle.kdl_entry.specs.Internal.Handed.{IsFaultAt}
+use Rattle.kdl_entry.specs.declared.items.lexer.LexFailure.{LexFailure}
+use Rattle.kdl_entry.specs.declared.items.lexer.LexFailure.TheVariants.{Faulty, Memory}
+use Rattle.kdl_grammar.specs.Internal.Machine.{initial, Runs}
+use Rattle.kdl_grammar.specs.Tree.{Node, Document}
+use Rattle.kdl_parser.specs.Internal.Parts.{document_by}
+use Rattle.kdl_parser.specs.declared.node_parts.DocumentParts.{DocumentParts}
+
+-- what the machine answers on u, the text t or what follows its U+FEFF; of a refused text a place is told
+abbrev pub AnswersParts : {N : Type 0} → (N → Node) → Text → Text → Result (DocumentParts N) LexFailure → Type 0
+AnswersParts tree t u (Ok d) = Runs t (document_by tree d) (initial u) u
+AnswersParts tree t u (Err (Faulty span)) = ((d : Document) → Runs t d (initial u) u → ⊥) × InText t span
+AnswersParts tree t u (Err Memory) = Unit {0}
+
+-- what is answered where the text ends, by the machine's; of a refused text the place is told
+abbrev pub Finished : {N : Type 0} → (N → Node) → Option Document → Spot → Result (DocumentParts N) LexFailure → Type 0
+Finished tree o place (Ok d) = o ≡ Some (document_by tree d)
+Finished tree o place (Err (Faulty span)) = (o ≡ None) × IsFaultAt place span
+Finished tree o place (Err Memory) = Unit {0}

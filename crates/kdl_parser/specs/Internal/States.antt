@@ -1,0 +1,179 @@
+-- The states to which the builder's methods bring it, as the machine has them, and what is not sliced there yet.
+-- A token stands at s and ends at r.
+use Rattle.std.specs.Prelude.{ℕ, Bool, true, false, if◌then◌else◌, [], ◌∷◌, Option, Some, None, option_map, Result}
+use Rattle.std.specs.declared.alloc.Global.{Global}
+use Rattle.std.specs.declared.string.String.{String}
+use Rattle.std.specs.declared.vec.Vec.{Vec}
+use Rattle.kdl_text.specs.Chars.{Text}
+use Rattle.kdl_text.specs.Internal.Here.{Here, Spot}
+use Rattle.kdl_text.specs.Spans.{bytes}
+use Rattle.kdl_value.specs.Data.{Value}
+use Rattle.kdl_value.specs.Tree.{text_of}
+use Rattle.kdl_entry.specs.Internal.Building.{key_view, item_view}
+use Rattle.kdl_entry.specs.Internal.Counted.{Sliced}
+use Rattle.kdl_entry.specs.Internal.Handed.{kind_view}
+use Rattle.kdl_entry.specs.Internal.Items as items
+use Rattle.kdl_entry.specs.Internal.Items.{between, TypeParts, KeyParts}
+use Rattle.kdl_entry.specs.Tree.{plain_identifier}
+use Rattle.kdl_entry.specs.declared.items.lexer.LexFailure.{LexFailure}
+use Rattle.kdl_entry.specs.declared.items.lexer.TokenKind.{TokenKind}
+use Rattle.kdl_grammar.specs.Internal.Machine as machine
+use Rattle.kdl_grammar.specs.Internal.Machine.{State, at}
+use Rattle.kdl_grammar.specs.Tree.{Node, Nodes, Document, no_children}
+use Rattle.kdl_parser.specs.Internal.Building.{under_view, kept_view, nodes_view, frames_view, node_now, pending_now, name_slot, entry_slot, item_answer, state_view, Did, Does}
+use Rattle.kdl_parser.specs.Internal.Counted.{up_to, unsliced, SlicedOn}
+use Rattle.kdl_parser.specs.declared.builder.Builder.{Builder}
+use Rattle.kdl_parser.specs.declared.builder.Slot.{Slot}
+use Rattle.kdl_parser.specs.declared.builder.Under.{Under}
+
+-- the machine's step at a token of the kind
+abbrev pub token_step : {N : Type 0} → (N → Node) → Builder N → TokenKind → Spot → Spot → Option State
+token_step tree b kind s r = machine.step b.whole.rest (state_view tree b) (kind_view kind) s.rest r.rest
+
+-- what a token of the kind does inside an item
+abbrev pub item_step : {N : Type 0} → (N → Node) → Builder N → TokenKind → Spot → Spot → Option State
+item_step tree b kind s r =
+    item_answer b.whole.rest (option_map under_view b.under) (item_view b.item) (nodes_view tree b.nodes) (frames_view tree b) b.from.rest s.rest r.rest
+    (items.step b.whole.rest (item_view b.item) (kind_view kind) s.rest r.rest)
+
+-- in another phase, and else as it was
+abbrev pub in_phase : {N : Type 0} → (N → Node) → Builder N → machine.Phase → State
+in_phase tree b p = at p (nodes_view tree b.nodes) (frames_view tree b) b.from.rest
+
+-- the node with its block, which is behind it
+abbrev pub kept_now : {N : Type 0} → (N → Node) → Builder N → Option machine.Kept
+kept_now tree b = option_map (kept_view tree) b.kept
+
+-- the nodes, and the node under way behind them: it has no block, and ends at s with the terminator
+abbrev pub nodes_and : {N : Type 0} → (N → Node) → Builder N → Spot → Text → Option Nodes
+nodes_and tree b s terminator = machine.ended (machine.closed b.whole.rest (node_now b) no_children [] (between b.from.rest s.rest) terminator s.rest) (nodes_view tree b.nodes)
+
+-- the same of the node with its block
+abbrev pub nodes_and_kept : {N : Type 0} → (N → Node) → Builder N → Spot → Text → Option Nodes
+nodes_and_kept tree b s terminator = machine.ended (machine.closed_kept b.whole.rest (kept_now tree b) (between b.from.rest s.rest) terminator s.rest) (nodes_view tree b.nodes)
+
+-- behind a node without a block, of which the token is the terminator
+abbrev pub node_ended : {N : Type 0} → (N → Node) → Builder N → Spot → Spot → State
+node_ended tree b s r = at machine.gap (nodes_and tree b s (between s.rest r.rest)) (frames_view tree b) (machine.origin (node_now b) b.from.rest r.rest)
+
+-- behind a node with a block, of which the token is the terminator
+abbrev pub kept_ended : {N : Type 0} → (N → Node) → Builder N → Spot → Spot → State
+kept_ended tree b s r = at machine.gap (nodes_and_kept tree b s (between s.rest r.rest)) (frames_view tree b) (machine.origin (kept_now tree b) b.from.rest r.rest)
+
+-- behind the `}` that ends the block around the builder's nodes
+abbrev pub around : {N : Type 0} → (N → Node) → Builder N → Spot → Spot → Option State
+around tree b s r = machine.popped b.whole.rest (nodes_view tree b.nodes) (frames_view tree b) b.from.rest s.rest r.rest
+
+-- behind the `}` that ends a node without a block, and the block around it
+abbrev pub around_node : {N : Type 0} → (N → Node) → Builder N → Spot → Spot → Option State
+around_node tree b s r = machine.popped b.whole.rest (nodes_and tree b s []) (frames_view tree b) (machine.origin (node_now b) b.from.rest s.rest) s.rest r.rest
+
+-- behind the `}` that ends a node with a block, and the block around it
+abbrev pub around_kept : {N : Type 0} → (N → Node) → Builder N → Spot → Spot → Option State
+around_kept tree b s r = machine.popped b.whole.rest (nodes_and_kept tree b s []) (frames_view tree b) (machine.origin (kept_now tree b) b.from.rest s.rest) s.rest r.rest
+
+-- in the block of the node under way, which the token opens
+abbrev pub block_opened : {N : Type 0} → (N → Node) → Builder N → Spot → Spot → State
+block_opened tree b s r =
+    at machine.gap (machine.inside (node_now b)) (machine.in_block (node_now b) (between b.from.rest s.rest) (nodes_view tree b.nodes) ∷ frames_view tree b)
+    (machine.origin (node_now b) b.from.rest r.rest)
+
+-- in a block that is slashdashed, before the node's own
+abbrev pub dropped_opened : {N : Type 0} → (N → Node) → Builder N → State
+dropped_opened tree b = at machine.gap None (machine.in_dropped (node_now b) (nodes_view tree b.nodes) ∷ frames_view tree b) b.from.rest
+
+-- in a block that is slashdashed, behind the node's own
+abbrev pub later_opened : {N : Type 0} → (N → Node) → Builder N → State
+later_opened tree b = at machine.gap None (machine.in_later (kept_now tree b) (nodes_view tree b.nodes) ∷ frames_view tree b) b.from.rest
+
+-- behind the block of the node, which ends with the token, and among the nodes before that node
+abbrev pub block_closed : {N : Type 0} → (N → Node) → Builder N → Option Under → String Global → Option (Vec N Global) → Spot → Spot → State
+block_closed tree b under before nodes s r =
+    at (machine.kept (machine.with_block b.whole.rest (option_map under_view under) (text_of before) (nodes_view tree b.nodes) (between b.from.rest s.rest) s.rest))
+    (nodes_view tree nodes) (frames_view tree b) (machine.origin (option_map under_view under) b.from.rest r.rest)
+
+-- what a string is for that begins a node here, and where it counts
+abbrev pub node_slot : {N : Type 0} → Builder N → Bool → Spot → machine.Slot
+node_slot b counts s = name_slot counts (between b.from.rest s.rest) s.rest
+
+-- what a value is for that is an argument of the node under way, and where it counts
+abbrev pub argument_slot : {N : Type 0} → Builder N → Bool → Spot → machine.Slot
+argument_slot b counts s = entry_slot counts (node_now b) (between b.from.rest s.rest) s.rest None
+
+-- what a name is for, and a value with its key
+abbrev pub named_slot : Slot → machine.Slot
+named_slot slot = name_slot slot.kept (text_of slot.leading) slot.start.rest
+
+abbrev pub valued_slot : {N : Type 0} → Builder N → Slot → Option KeyParts → machine.Slot
+valued_slot b slot key = entry_slot slot.kept (option_map under_view b.under) (text_of slot.leading) slot.start.rest key
+
+-- behind a name or a value, with its type
+abbrev pub given_at : {N : Type 0} → (N → Node) → Builder N → machine.Slot → Option TypeParts → Value → Spot → Spot → State
+given_at tree b slot ty value s r = machine.given b.whole.rest slot ty value None (nodes_view tree b.nodes) (frames_view tree b) b.from.rest s.rest r.rest
+
+-- behind a string that may be a key
+abbrev pub worded : {N : Type 0} → (N → Node) → Builder N → Text → Spot → Spot → State
+worded tree b value s r =
+    machine.worded b.whole.rest (machine.entry_slot (node_now b) (between b.from.rest s.rest) s.rest) value (nodes_view tree b.nodes) (frames_view tree b) b.from.rest s.rest r.rest
+
+-- behind a string that may be a key, where it is slashdashed
+abbrev pub dropped_worded : {N : Type 0} → (N → Node) → Builder N → State
+dropped_worded tree b = in_phase tree b (machine.in_node (node_now b) (machine.fresh (Some (machine.pending (machine.no_value (node_now b)) (plain_identifier []) []))))
+
+-- behind the `=`, where a string waits for it
+abbrev pub property_opened : {N : Type 0} → (N → Node) → Builder N → Spot → Spot → Option State
+property_opened tree b s r =
+    machine.stay (nodes_view tree b.nodes) (frames_view tree b) b.from.rest
+    (machine.value_from (machine.fresh (pending_now b.whole.rest b.from.rest b.waiting (option_map under_view b.under))) s.rest r.rest)
+
+-- behind the `=` of a property that is slashdashed
+abbrev pub dropped_property : {N : Type 0} → (N → Node) → Builder N → Spot → State
+dropped_property tree b r = in_phase tree b (machine.property (machine.no_value (option_map under_view b.under)) (plain_identifier []) [] r.rest)
+
+-- inside the `(` of a type before the name of a node
+abbrev pub name_opened : {N : Type 0} → (N → Node) → Builder N → Bool → Spot → Spot → State
+name_opened tree b counts s r = in_phase tree b (machine.type_open false (node_slot b counts s) r.rest)
+
+-- inside the `(` of a type before a value
+abbrev pub value_opened : {N : Type 0} → (N → Node) → Builder N → Bool → Spot → Spot → State
+value_opened tree b counts s r = in_phase tree b (machine.type_open true (argument_slot b counts s) r.rest)
+
+-- the document where the text ends here
+abbrev pub document_now : {N : Type 0} → (N → Node) → Builder N → Option Document
+document_now tree b = machine.finish b.whole.rest (state_view tree b)
+
+-- the document of the nodes, where no block is open
+abbrev pub document_of_nodes : {N : Type 0} → (N → Node) → Builder N → Option Document
+document_of_nodes tree b = machine.at_end b.whole.rest (nodes_view tree b.nodes) (frames_view tree b) b.from.rest
+
+-- the place where the lexer stands
+abbrev pub spot_of : Here → Spot
+spot_of here = record { rest = here.rest; at = here.at }
+
+-- what a token of the kind did, by the machine's step
+abbrev pub Takes : {A N : Type 0} → (N → Node) → Builder N → TokenKind → Spot → Spot → Result A LexFailure → Builder N → Type 0
+Takes tree old kind s r result new = Did (token_step tree old kind s r) s result (state_view tree new)
+
+-- a step by the machine's o, at a token that stands at s
+abbrev pub Steps : {A N : Type 0} → (N → Node) → Option State → Spot → Result A LexFailure → Builder N → Type 0
+Steps tree o s result new = Did o s result (state_view tree new)
+
+-- a step that is refused at no token, to that state
+abbrev pub Reaches : {A N : Type 0} → (N → Node) → State → Result A LexFailure → Builder N → Type 0
+Reaches tree want result new = Does want result (state_view tree new)
+
+-- of the m bytes that were not sliced yet, all may have been but those that are not sliced now
+abbrev pub Slices : {A N : Type 0} → ℕ → Result A LexFailure → Builder N → Here → Here → Type 0
+Slices m result new before behind = SlicedOn result m (unsliced new) before behind
+
+-- not sliced behind a name that begins at s, if it counts, and else behind the place under way
+abbrev pub name_unsliced : {N : Type 0} → Builder N → Bool → Spot → ℕ
+name_unsliced b kept s = if kept then bytes s.rest else bytes b.from.rest
+
+-- not sliced behind an entry that begins at s, if it and its node count, and else behind the place under way
+abbrev pub entry_unsliced : {N : Type 0} → Builder N → Bool → Spot → ℕ
+entry_unsliced b kept s = if kept then up_to b.under (bytes b.from.rest) (bytes s.rest) else bytes b.from.rest
+
+-- from the one place on, the text up to the other one may have been sliced where x counts, and else nothing
+abbrev pub SlicedUpTo : {A : Type 0} → Option A → Spot → Spot → Here → Here → Type 0
+SlicedUpTo x from to old new = Sliced (bytes from.rest) (up_to x (bytes from.rest) (bytes to.rest)) old new

@@ -1,0 +1,94 @@
+//! Documents that are a whole text.
+
+ghost use Rattle.kdl_grammar.specs.Data.{Nodes};
+ghost use Rattle.kdl_grammar.specs.Grammar.{IsDocument};
+ghost use Rattle.kdl_grammar.specs.Internal.Machine.{AnswersDocument};
+ghost use Rattle.kdl_parser.specs.Internal.Steps.{CountedOn};
+ghost use Rattle.kdl_parser.specs.Internal.Whole.{AnswersDocumentText, whole_by};
+ghost use Rattle.kdl_text.specs.Failures.{IsSyntax, TellsOnSyntax};
+ghost use Rattle.kdl_text.specs.Internal.Here.{raise};
+ghost use Rattle.std.specs.Prelude.{◌≡◌, ◌+◌, ◌*◌, ◌≤◌, length, true, IfOk, OnOk};
+ghost use Rattle.std.specs.Str.{chars};
+
+use crate::node_parts::{DocumentParts, ParsedNode};
+use crate::token_loop::build;
+use kdl_entry::items::{LexFailure, Lexer};
+use kdl_faults::{Whole, failure};
+use kdl_text::chars::Steps;
+use kdl_text::error::ParseFailure;
+use std::alloc::Global;
+use std::mem;
+
+/// A document that is a whole text.
+#[derive(Drop)]
+pub struct DocumentText<N> {
+    /// What stands in it, behind the U+FEFF.
+    pub parts: DocumentParts<N>,
+    /// Whether the text begins with U+FEFF.
+    pub has_bom: bool,
+}
+
+/// The machine's answer on the text that the lexer is at the start of.
+#[tactic(auto, using(crate::proofs::Answering::LeadingBom::mark_ends, crate::proofs::Answering::LeadingBom::mark_at, crate::proofs::Answering::LeadingBom::whole_answer))]
+fn read_all<'a, N: ParsedNode>(
+    alloc: Global,
+    lexer: &mut Lexer<'a>,
+) -> Result<DocumentText<N>, LexFailure>
+    requires { lexer.old.at ≡ 0 }
+    ensures answers { AnswersDocumentText N.tree lexer.old.rest result }
+    ensures counted { CountedOn result lexer.old.rest lexer.old.steps lexer.new.steps }
+    ensures raised { raise lexer.old.steps 1 ≤ lexer.new.steps }
+{
+    let whole = lexer.checkpoint();
+    let has_bom = lexer.eat_mark();
+    match build(alloc, whole, lexer) {
+        Ok(parts) => Ok(DocumentText { parts, has_bom }),
+        Err(failure) => Err(failure),
+    }
+}
+
+/// The machine's answer on the text, which raises the count.
+fn read_counted<N: ParsedNode>(
+    alloc: Global,
+    text: &str,
+    steps: &mut Steps,
+) -> Result<DocumentText<N>, LexFailure>
+    ensures answers { AnswersDocumentText N.tree (chars text.now) result }
+    ensures counted { CountedOn result (chars text.now) steps.old steps.new }
+    ensures raised { raise steps.old 1 ≤ steps.new }
+{
+    let mut lexer = Lexer::new(text, mem::replace(steps, Steps::new()));
+    let answer = read_all(alloc, &mut lexer);
+    *steps = lexer.into_steps();
+    answer
+}
+
+/// The document that the text is (KDL 2.0.0, Document), which raises the count by the steps that it takes, up to the
+/// greatest `u64`. Each place and each spelling that the document keeps is sliced once, but for a U+FEFF, which is not;
+/// values are decoded by the lexer, which slices what it needs for that, of what is slashdashed too. `Syntax`: the
+/// text is none; its error has a diagnostic for each fault that is found, and one at least. To tell them the text is
+/// read once more. `Memory`: a request for memory was refused.
+#[tactic(auto, using(crate::proofs::Answering::Outcomes::refused, crate::proofs::Answering::Outcomes::most_counted))]
+pub fn read_document<N: ParsedNode>(
+    alloc: Global,
+    text: &str,
+    steps: &mut Steps,
+) -> Result<DocumentText<N>, ParseFailure>
+    // What is answered is what the machine answers on the text.
+    ensures found { IfOk result (λ d. AnswersDocument (chars text.now) (whole_by N.tree d)) }
+    // What is refused is not derived, and an error tells where.
+    ensures refused { IsSyntax result → (x : Nodes) → IsDocument true (chars text.now) x → ⊥ }
+    ensures told { TellsOnSyntax text.now result }
+    // At least a step for each character is counted, and at most 32 for each byte and 32 more; for a text that is
+    // refused, and what is told of it, at most 160.
+    ensures least { OnOk result (raise steps.old (length (chars text.now)) ≤ steps.new) }
+    ensures most { OnOk result (steps.new ≤ steps.old + 32 * (length text.now + 1)) }
+    ensures told_most { IsSyntax result → steps.new ≤ steps.old + 160 * (length text.now + 1) }
+    ensures raised { raise steps.old 1 ≤ steps.new }
+{
+    match read_counted(alloc, text, steps) {
+        Ok(document) => Ok(document),
+        Err(LexFailure::Faulty(span)) => Err(failure(alloc, text, Whole::Document, span, steps)),
+        Err(LexFailure::Memory) => Err(ParseFailure::Memory),
+    }
+}

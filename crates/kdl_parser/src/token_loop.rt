@@ -1,0 +1,59 @@
+//! Documents, read from the tokens of a text one by one.
+
+ghost use Rattle.kdl_parser.specs.Internal.Answered.{AnswersParts};
+ghost use Rattle.kdl_grammar.specs.Internal.Machine.{initial};
+ghost use Rattle.kdl_parser.specs.Internal.Building.{EndsIn, state_view};
+ghost use Rattle.kdl_parser.specs.Internal.Counted.{ReadOn, unsliced};
+ghost use Rattle.kdl_text.specs.Internal.Here.{raise};
+ghost use Rattle.kdl_text.specs.Spans.{bytes};
+ghost use Rattle.std.specs.Prelude.{◌≡◌, ◌+◌, ◌≤◌};
+
+use crate::builder::Builder;
+use crate::node_parts::{DocumentParts, ParsedNode};
+use kdl_entry::items::{LexFailure, Lexer};
+use kdl_text::chars::Checkpoint;
+use std::alloc::Global;
+
+/// The machine's answer on what the lexer has before it, by a builder that has seen no token yet.
+#[tactic(auto, using(crate::proofs::Stepping::TurnCost::counting_starts, crate::proofs::Stepping::TurnCost::counting_ends, crate::proofs::Answering::TokenLoop::starts, crate::proofs::Answering::TokenLoop::goes_on, crate::proofs::Answering::TokenLoop::placed_start, crate::proofs::Answering::TokenLoop::start_end, crate::proofs::Answering::TokenLoop::lexer_told, crate::proofs::Answering::TokenLoop::take_told, crate::proofs::Answering::TokenLoop::all_read, crate::proofs::Answering::TokenLoop::stops_going, crate::proofs::Answering::TokenLoop::from_now, crate::proofs::Answering::TokenLoop::finish_told, crate::proofs::Answering::TokenLoop::nearer))]
+fn build_with<'a, N: ParsedNode>(
+    alloc: Global,
+    builder: &mut Builder<'a, N>,
+    lexer: &mut Lexer<'a>,
+) -> Result<DocumentParts<N>, LexFailure>
+    requires state { state_view N.tree builder.old ≡ initial lexer.old.rest }
+    requires unsliced { unsliced builder.old ≡ bytes lexer.old.rest }
+    requires text { EndsIn builder.old.whole.rest lexer.old.rest }
+    requires at { lexer.old.at + bytes lexer.old.rest ≡ bytes builder.old.whole.rest }
+    ensures answers { AnswersParts N.tree builder.old.whole.rest lexer.old.rest result }
+    ensures counted { ReadOn result lexer.old lexer.new }
+    ensures counts { raise lexer.old.steps 0 ≤ raise lexer.new.steps 0 }
+{
+    'tokens: while let Some(token) = lexer.next(alloc)? {
+        builder.take(alloc, lexer, token)?;
+    }
+    builder.finish(alloc, lexer)
+}
+
+/// The document that the lexer has before it: the text `whole`, or what follows its U+FEFF. A fault at the first token
+/// that fits nothing, or at the first piece that is no token; its span lies in the text. `Memory`: a request for memory
+/// was refused.
+///
+/// The builder slices each place and each spelling that the document keeps once. Of what is slashdashed it slices
+/// nothing by itself: its text is part of the place in which it stands.
+pub fn build<'a, N: ParsedNode>(
+    alloc: Global,
+    whole: Checkpoint<'a>,
+    lexer: &mut Lexer<'a>,
+) -> Result<DocumentParts<N>, LexFailure>
+    requires text { EndsIn whole.rest lexer.old.rest }
+    requires at { lexer.old.at + bytes lexer.old.rest ≡ bytes whole.rest }
+    ensures answers { AnswersParts N.tree whole.entry.rest lexer.old.rest result }
+    ensures counted { ReadOn result lexer.old lexer.new }
+    ensures counts { raise lexer.old.steps 0 ≤ raise lexer.new.steps 0 }
+{
+    let mut builder = Builder::new(alloc, whole, lexer.checkpoint());
+    let answer = build_with(alloc, &mut builder, lexer);
+    drop(builder);
+    answer
+}

@@ -1,0 +1,24 @@
+-- The cursor: looks, runs of characters, slices, and what they cost.
+
+-- The tables of ASCII characters of a class, and runs of them.
+pub mod ClassTables
+-- Vectors of 16 bytes, and the bytes that they find in a table.
+pub mod Vectors
+-- Runs of characters of a class.
+pub mod Runs
+-- What runs and slices cost.
+pub mod SliceCost
+-- Characters that are read where they stand, and else left.
+pub mod Eats
+-- Moves and costs, one behind another.
+pub mod MovesJoin
+-- How a reader of a value goes on.
+pub mod ValueGoes
+-- What a reader costs, whether or not it finds a fault.
+pub mod MostCost
+-- Texts in bytes and characters.
+pub mod Texts
+-- Pieces in a row.
+pub mod Stars
+-- What follows a piece is an end of the text.
+pub mod Ends

@@ -1,0 +1,66 @@
+-- Whole strings: from their quotes, their lines and their dedent.
+use Rattle.std.proofs.Common.{◌≡◌, Bool, true, false, ◌&&◌, ◌==◌, List, [], ◌∷◌, refl, sym, ap, ◌∙◌, subst}
+use Rattle.std.proofs.lemmas.Bool.{true≢false}
+use Rattle.std.specs.Prelude.{Result, Ok, Err, IfOk, MatchResult}
+use Rattle.kdl_text.specs.Chars.{Text, Newline, begins_two, begins_with}
+use Rattle.kdl_text.specs.Dedent.{Dedents, lines_of}
+use Rattle.kdl_text.specs.Strings.{QuotedBody, quoted}
+use Rattle.kdl_text.specs.MultiLine.{Content, MultiLineBody, lines, multi_line, IsQuoted, on_one_line, on_many_lines}
+use Rattle.kdl_text.specs.declared.strings.StringFailure.{StringFailure}
+use Rattle.kdl_text.specs.declared.strings.StringFailure.TheVariants.{Memory}
+use Rattle.kdl_text.specs.declared.strings.dedent.LineUnit.{LineUnit}
+use Rattle.kdl_text.proofs.ManyLines.LinesUnique.{content_det}
+use Rattle.kdl_text.proofs.Spacing.NewlineUnique.{newline_det}
+
+dedent_made : {T : Type 0} (o : Result T StringFailure) (f : T → Text) (r e w : Text) → r ≡ e → MatchResult o (λ s. w ≡ f s) (λ x. x ≡ Memory) → MatchResult o (λ v. (r ≡ e) × (w ≡ f v)) (λ x. x ≡ Memory)
+dedent_made (Ok v) f r e w ends k = (ends, k)
+dedent_made (Err x) f r e w ends k = k
+
+-- the dedent of lines whose units are known
+pub dedent_only : {T : Type 0} (o : Result T StringFailure) (f : T → Text) (us xs : List LineUnit) (ls : List (List LineUnit)) (r e w : Text) → (r ≡ e) × (xs ≡ us) → lines_of us ≡ ls
+    → ((us : List LineUnit) (v : Text) → lines_of us ≡ ls → Dedents us v → MatchResult o (λ s. v ≡ f s) (λ x. x ≡ Memory)) → Dedents xs w → MatchResult o (λ v. (r ≡ e) × (w ≡ f v)) (λ x. x ≡ Memory)
+dedent_only o f us xs ls r e w (ends, same) h only d = dedent_made o f r e w ends (only us w h (subst (λ z. Dedents z w) same d))
+
+pub body_found : {T E : Type 0} (o : Result T E) (f : T → Text) (t m r : Text) (us : List LineUnit) → Newline t m → Content m r us → IfOk o (λ v. Dedents us (f v)) → IfOk o (λ v. MultiLineBody t r (f v))
+body_found (Ok v) f t m r us n x d = lines n x d
+body_found (Err e) f t m r us n x d = tt
+
+pub body_only : {T : Type 0} (o : Result T StringFailure) (f : T → Text) (t m e : Text) (us : List LineUnit) (ls : List (List LineUnit)) → Newline t m → Content m e us → lines_of us ≡ ls
+    → ((us : List LineUnit) (v : Text) → lines_of us ≡ ls → Dedents us v → MatchResult o (λ s. v ≡ f s) (λ x. x ≡ Memory)) → (r w : Text) → MultiLineBody t r w → MatchResult o (λ v. (r ≡ e) × (w ≡ f v)) (λ x. x ≡ Memory)
+body_only o f t m e us ls n here h dedents r w (lines {us = xs} k x d) =
+    dedent_only o f us xs ls r e w (content_det (subst (λ z. Content z r xs) (newline_det k n) x) here) h dedents d
+
+pub body_content : (t m r w : Text) → Newline t m → MultiLineBody t r w → (us : List LineUnit) × Content m r us
+body_content t m r w n (lines {us = us} k x d) = (us, subst (λ z. Content z r us) (newline_det k n) x)
+
+whole : (x : Bool) → (x && true) ≡ x
+whole true = refl
+whole false = refl
+
+-- three quotes are a quote and two
+pub two_of_three : (s : Text) → begins_two 34 34 s ≡ false → begins_with (34 ∷ 34 ∷ []) s ≡ false
+two_of_three [] h = refl
+two_of_three (c ∷ []) h = h
+two_of_three (c ∷ d ∷ s) h = ap (λ z. (c == 34) && z) (whole (d == 34)) ∙ h
+
+pub many_found : {T E : Type 0} (o : Result T E) (f : T → Text) (s m t r : Text) → s ≡ 34 ∷ m → m ≡ 34 ∷ 34 ∷ t → IfOk o (λ v. MultiLineBody t r (f v)) → IfOk o (λ v. IsQuoted s r (f v))
+many_found (Ok v) f s m t r h k b = rw (h, k) (on_many_lines (multi_line b))
+many_found (Err e) f s m t r h k b = tt
+
+many_body : {t r w : Text} → IsQuoted (34 ∷ 34 ∷ 34 ∷ t) r w → MultiLineBody t r w
+many_body (on_one_line h q) = absurd (true≢false h)
+many_body (on_many_lines (multi_line b)) = b
+
+pub many_only : (s m t r w : Text) → s ≡ 34 ∷ m → m ≡ 34 ∷ 34 ∷ t → IsQuoted s r w → MultiLineBody t r w
+many_only s m t r w h k q = many_body (subst (λ z. IsQuoted z r w) (h ∙ ap (λ z. 34 ∷ z) k) q)
+
+pub one_found : {T E : Type 0} (o : Result T E) (f : T → Text) (s m n r : Text) → s ≡ 34 ∷ m → begins_two 34 34 m ≡ false → n ≡ m → IfOk o (λ v. QuotedBody n r (f v)) → IfOk o (λ v. IsQuoted s r (f v))
+one_found (Ok v) f s m n r h k e b = rw h (on_one_line (two_of_three m k) (quoted (subst (λ z. QuotedBody z r (f v)) e b)))
+one_found (Err e) f s m n r h k e' b = tt
+
+one_body : {m r w : Text} → begins_two 34 34 m ≡ false → IsQuoted (34 ∷ m) r w → QuotedBody m r w
+one_body h (on_one_line k (quoted b)) = b
+one_body h (on_many_lines (multi_line b)) = absurd (true≢false h)
+
+pub one_only : (s m n r w : Text) → s ≡ 34 ∷ m → begins_two 34 34 m ≡ false → n ≡ m → IsQuoted s r w → QuotedBody n r w
+one_only s m n r w h k e q = subst (λ z. QuotedBody z r w) (sym e) (one_body k (subst (λ z. IsQuoted z r w) h q))

@@ -1,0 +1,307 @@
+-- Readers of numbers that may be decimals, a step at a time.
+use Rattle.std.proofs.Common.{◌≡◌, ℕ, ◌<◌, ◌≤◌, List, [], ◌∷◌, ◌++◌, Bool, true, false, not, ◌||◌, ◌==◌, length, refl, ap, sym, ◌∙◌, subst, arith, ℤ, Some, ◌↔◌, lit≤, length-append, ◌⊎◌, inl, inr, append-nil, IsTrue, cond, suc, ◌&&◌}
+use Rattle.std.specs.Prelude.{if◌then◌else◌, Result, Ok, Err, IfOk, Option}
+use Rattle.std.specs.Option.{is_some}
+use Rattle.std.specs.List.{list_all}
+use Rattle.std.specs.Str.{encode_utf8_all}
+use Rattle.std.proofs.Math.Utf8.{scalars}
+use lib.Utf8.{scalar}
+use Rattle.std.proofs.lemmas.Str.{chars-encodes}
+use Rattle.std.proofs.lemmas.Bool.{and_parts}
+use Rattle.std.specs.Str.Parse.{digits_value}
+use Rattle.std.specs.Str.{chars}
+use Rattle.kdl_text.specs.Chars.{Text, is_identifier_char, starts}
+use Rattle.kdl_text.specs.Internal.Here.{Here, Stayed, Ate, sliced, first}
+use Rattle.kdl_text.specs.Spans.{bytes}
+use Rattle.kdl_text.specs.Internal.Reading.{Moves, Costs}
+use Rattle.kdl_text.specs.Numbers.{is_digit_of, Sign, BasePrefix, Integer, WholeNumber, whole, signed, fits, Fraction, Exponent, is_exponent_letter, DecimalPart, part, plain, Decimal, decimal, IsNumber, is_whole, is_decimal, NumberValue, decimal_text}
+use Rattle.kdl_text.specs.Numbers.BasePrefix.{ten, other}
+use Rattle.kdl_text.specs.Numbers.Fraction.{none as no_fraction, fraction}
+use Rattle.kdl_text.specs.Numbers.Exponent.{none as no_exponent, exponent}
+use Rattle.kdl_text.specs.Internal.NumberReading.{Begun, FaultAt, IsNumberFault, Counts, IsFront, ReadsInteger, ReadsNumber, AteExponentLetter, radix_of}
+use Rattle.kdl_text.specs.declared.numbers.Magnitude.{Magnitude}
+use Rattle.kdl_text.specs.declared.numbers.Front.{Front}
+use Rattle.kdl_text.specs.declared.numbers.Radix.{Radix}
+use Rattle.kdl_text.specs.declared.numbers.Radix.TheVariants.{Binary, Octal, Decimal as TenDigits, Hexadecimal}
+use Rattle.kdl_text.specs.declared.numbers.Number.{Number}
+use Rattle.kdl_text.specs.declared.numbers.Number.TheVariants.{Integer as IntegerNumber}
+use Rattle.kdl_text.specs.declared.numbers.NumberFailure.{NumberFailure}
+use Rattle.kdl_text.specs.declared.numbers.NumberFailure.TheVariants.{Fault}
+use Rattle.kdl_text.specs.declared.numbers.NumberFault.{NumberFault}
+use Rattle.kdl_text.specs.declared.numbers.NumberFault.TheVariants.{OutOfRange, Trailing}
+use Rattle.kdl_text.proofs.Looking.MovesJoin.{moves_then, moves_stayed, stayed_looked, bytes-append, shorter, costs_then}
+use Rattle.kdl_text.proofs.Looking.Runs.{length-bytes}
+use Rattle.kdl_text.proofs.Numeric.NumberUnique.{sign_det, integer_digit, whole_is, whole_digit}
+use Rattle.kdl_text.proofs.Numeric.DecimalUnique.{part_det, part_is, fraction_det, no_ten, mark_is_ten, part_of, part_begins, number_det}
+use Rattle.kdl_text.proofs.Numeric.NumberReads.{tight}
+
+-- no number begins where no digit stands behind the sign and the mark
+pub no_front : (t s u : Text) (n : Bool) (k j : ℕ) → Sign t s n → BasePrefix s u k → j ≡ k → starts (is_digit_of j) u ≡ false → (r : Text) (x : NumberValue) → IsNumber t r x → ⊥
+no_front t s u n k j a b e h r x (is_whole {z = z} w) = let y = whole_digit t s u r n k z a b w in let y' : starts (is_digit_of k) u ≡ false = rw (← e) h in cc
+no_front t s u n k j a b e h r x (is_decimal (decimal {s = s'} {u = u'} {v = v} p a' i d f g)) =
+    let i' = subst (λ q. Integer 10 q u' v) (sym (sign_det a a').0) i in
+    let m = mark_is_ten i' d b in
+    let y = integer_digit i' in
+    let z : starts (is_digit_of 10) s ≡ false = rw (← m.1, ← m.0, ← e) h in cc
+
+ten_mark_stays : {s u : Text} → BasePrefix s u 10 → u ≡ s
+ten_mark_stays (ten h) = refl
+ten_mark_stays (other {c = c} {d = d} {r = r} h) = absurd (no_ten c d r h)
+
+-- a number by its front
+module _ (f : Front) (t u : Text) (x : IsFront f t u) where
+  -- a decimal is of base 10, and goes on
+  pub front_decimal : (r w : Text) → Decimal t r w → (radix_of f.radix ≡ 10) × DecimalPart u r
+  front_decimal r w d = part_of t x.behind_sign x.behind_mark u x.digits r f.minus (radix_of f.radix) w x.sign x.mark x.int d
+
+  pub front_trailing : false ≡ not (starts is_identifier_char u) → (r : Text) (z : ℤ) → WholeNumber t r z → ⊥
+  front_trailing h r z w =
+      let e = (whole_is t x.behind_sign x.behind_mark u x.digits r f.minus (radix_of f.radix) z x.sign x.mark x.int w).ends in
+      let y : false ≡ true = h ∙ ap not e in cc
+
+  -- a whole number ends here, and so no decimal
+  pub front_number : (rest : Text) (result : Result Number NumberFailure) → rest ≡ u → true ≡ not (starts is_identifier_char u)
+      → ((q : ℕ) → Counts f.magnitude q → result ≡ (if fits f.minus q then Ok (IntegerNumber (signed f.minus q)) else Err (Fault OutOfRange))) → ReadsNumber result t rest
+  front_number rest result r h g = rw (g (digits_value (radix_of f.radix) x.digits) x.counts) (go (fits f.minus (digits_value (radix_of f.radix) x.digits)) refl)
+    where
+      ends : (b : Bool) → true ≡ not b → b ≡ false
+      ends true h = cc
+      ends false h = refl
+
+      found : fits f.minus (digits_value (radix_of f.radix) x.digits) ≡ true → WholeNumber t rest (signed f.minus (digits_value (radix_of f.radix) x.digits))
+      found y = rw r (whole x.sign x.mark x.int (ends _ h) y refl)
+
+      none : (v : Text) (w : NumberValue) → fits f.minus (digits_value (radix_of f.radix) x.digits) ≡ false → IsNumber t v w → ⊥
+      none v w y (is_whole {z = z} i) = let c = (whole_is t x.behind_sign x.behind_mark u x.digits v f.minus (radix_of f.radix) z x.sign x.mark x.int i).fits in cc
+      none v w y (is_decimal {w = w'} d) = let c = part_begins (front_decimal v w' d).1 in let e = ends _ h in cc
+
+      go : (b : Bool) → fits f.minus (digits_value (radix_of f.radix) x.digits) ≡ b
+          → ReadsNumber (if b then Ok (IntegerNumber (signed f.minus (digits_value (radix_of f.radix) x.digits))) else Err (Fault OutOfRange)) t rest
+      go true y = λ v z. (λ w. number_det w (is_whole (found y)), λ (p, q). rw (p, q) (is_whole (found y)))
+      go false y = λ v w i. none v w y i
+
+  -- a digit of another base, and then no end
+  pub front_other : (radix_of f.radix ≡ 10 → ⊥) → false ≡ not (starts is_identifier_char u) → (r : Text) (v : NumberValue) → IsNumber t r v → ⊥
+  front_other n h r v (is_whole {z = z} w) = front_trailing h r z w
+  front_other n h r v (is_decimal {w = w} d) = n (front_decimal r w d).0
+
+  -- nothing follows that makes a decimal
+  pub front_no_part : ((r : Text) → DecimalPart u r → ⊥) → false ≡ not (starts is_identifier_char u) → (r : Text) (v : NumberValue) → IsNumber t r v → ⊥
+  front_no_part n h r v (is_whole {z = z} w) = front_trailing h r z w
+  front_no_part n h r v (is_decimal {w = w} d) = n r (front_decimal r w d).1
+
+  -- a decimal was read
+  pub front_part : (r p : Text) → radix_of f.radix ≡ 10 → DecimalPart u r → t ≡ p ++ r → Decimal t r (plain p)
+  front_part r p e d g =
+      let m = ten_mark_stays (subst (λ q. BasePrefix x.behind_sign x.behind_mark q) e x.mark) in
+      let i : Integer 10 x.behind_sign u x.digits = subst (λ q. Integer 10 q u x.digits) m (subst (λ q. Integer q x.behind_mark u x.digits) e x.int) in
+      decimal p x.sign i d g refl
+
+-- a number that was read is the only one
+pub reads_number : (t r p : Text) (s : Text) → s ≡ plain p → Decimal t r (plain p) → (v : Text) (w : NumberValue) → IsNumber t v w ↔ ((v ≡ r) × (w ≡ decimal_text s))
+reads_number t r p s e d v w = let d' : Decimal t r s = rw e d in (λ i. number_det i (is_decimal d'), λ (x, y). rw (x, y) (is_decimal d'))
+
+abbrev pub result : ℤ → Result ℤ NumberFault
+result n = Ok n
+
+abbrev pub number : ℤ → Result Number NumberFailure
+number n = Ok (IntegerNumber n)
+
+abbrev pub broken_result : NumberFault → Result ℤ NumberFault
+broken_result e = Err e
+
+abbrev pub broken_number : Result Number NumberFailure
+broken_number = Err (Fault OutOfRange)
+
+-- fractions and exponents
+pub fraction_none : (a b : Here) → Ate 46 false a b → Fraction a.rest b.rest false
+fraction_none a b (h, e) = subst (λ q. Fraction a.rest q false) (sym (stayed_looked a b e).rest) (no_fraction h)
+
+pub fraction_some : (m : Magnitude) (a b e : Here) → Ate 46 true a b → ReadsInteger 10 (Some m) b.rest e.rest → Fraction a.rest e.rest true
+fraction_some m a b e t i = subst (λ q. Fraction q e.rest true) (sym t.0) (fraction i.1)
+
+pub exponent_none : (a b : Here) → AteExponentLetter false a b → Exponent a.rest b.rest false
+exponent_none a b (h, s) = subst (λ q. Exponent a.rest q false) (sym s.rest) (no_exponent h)
+
+pub exponent_some : (m : Magnitude) (n : Bool) (a b d e : Here) → AteExponentLetter true a b → Sign b.rest d.rest n → ReadsInteger 10 (Some m) d.rest e.rest → Exponent a.rest e.rest true
+exponent_some m n a b d e (c, is, t) g i = subst (λ q. Exponent q e.rest true) (sym t.0) (exponent is g i.1)
+
+broken : {c : ℕ} {q d r : Text} {n p : Bool} → is_exponent_letter c ≡ true → Sign q d n → starts (is_digit_of 10) d ≡ false → Exponent (c ∷ q) r p → ⊥
+broken is g h (no_exponent y) = cc
+broken {r = r} is g h (exponent {t = u} {w = w} y k i) = let z = integer_digit (subst (λ q. Integer 10 q r w) (sym (sign_det g k).0) i) in cc
+
+pub exponent_broken : (n : Bool) (a b d : Here) → AteExponentLetter true a b → Sign b.rest d.rest n → starts (is_digit_of 10) d.rest ≡ false → (r : Text) (p : Bool) → Exponent a.rest r p → ⊥
+exponent_broken n a b d (c, is, t) g h r p x = broken is g h (subst (λ q. Exponent q r p) t.0 x)
+
+pub either : (a b : Bool) → ((a ≡ false) × (b ≡ true)) ⊎ (a ≡ true) → (a || b) ≡ true
+either true b h = refl
+either false b (inl h) = h.1
+either false b (inr h) = cc
+
+pub neither : (a b : Bool) → a ≡ false → b ≡ false → (a || b) ≡ false
+neither a b x y = rw (x, y) refl
+
+-- the part that makes a decimal
+pub part_broken : (t s : Text) (a : Bool) → Fraction t s a → ((r : Text) (b : Bool) → Exponent s r b → ⊥) → (r : Text) → DecimalPart t r → ⊥
+part_broken t s a f n r (part {s = u} {power = d} g h x y) = n r d (subst (λ z. Exponent z r d) (sym (fraction_det f g).0) h)
+
+pub no_part : (t s r : Text) (a b : Bool) → Fraction t s a → Exponent s r b → (a || b) ≡ false → (v : Text) → DecimalPart t v → ⊥
+no_part t s r a b f e h v d = let k = (part_is t s r v a b f e d).either in cc
+
+pub part_trailing : (t s r : Text) (a b : Bool) → Fraction t s a → Exponent s r b → false ≡ not (starts is_identifier_char r) → (v : Text) → DecimalPart t v → ⊥
+part_trailing t s r a b f e h v d = let k = (part_is t s r v a b f e d).ends in let y : false ≡ true = h ∙ ap not k in cc
+
+pub part_read : (t s r q : Text) (a b : Bool) → Fraction t s a → Exponent s r b → (a || b) ≡ true → true ≡ not (starts is_identifier_char r) → q ≡ r → DecimalPart t q
+part_read t s r q a b f e o h x = rw x (part f e o (ends _ h))
+  where
+    ends : (b : Bool) → true ≡ not b → b ≡ false
+    ends true h = cc
+    ends false h = refl
+
+is_ten : (r : Radix) → radix_of r ≡ 10 → r ≡ TenDigits
+is_ten Binary e = absurd (omega (arith, e))
+is_ten Octal e = absurd (omega (arith, e))
+is_ten TenDigits e = refl
+is_ten Hexadecimal e = absurd (omega (arith, e))
+
+-- a base that isn't 10
+pub not_ten : (r : Radix) → (r ≡ TenDigits → ⊥) → radix_of r ≡ 10 → ⊥
+not_ten r n e = n (is_ten r e)
+
+-- what `whole` makes of an integer
+pub whole_ok : (b : Bool) (n z : ℤ) → result n ≡ (if b then Ok z else Err OutOfRange) → number n ≡ (if b then Ok (IntegerNumber z) else Err (Fault OutOfRange))
+whole_ok true n z h = let e : n ≡ z = cc in ap number e
+whole_ok false n z h = cc
+
+pub whole_err : (b : Bool) (e : NumberFault) (z : ℤ) → broken_result e ≡ (if b then Ok z else Err OutOfRange) → broken_number ≡ (if b then Ok (IntegerNumber z) else Err (Fault OutOfRange))
+whole_err true e z h = cc
+whole_err false e z h = refl
+
+pub slice_costs : (c : ℕ) (p : Text) (a b e : Here) → a.rest ≡ p ++ b.rest → Costs 2 c a b → e ≡ sliced p b → c ≤ 17 → length b.rest < length a.rest → Costs 20 0 a e
+slice_costs c p a b e h k x le less =
+    let more : 1 ≤ bytes p = omega (arith, ap length h, length-append p b.rest, less, length-bytes p) in
+    record {
+      most = omega (arith, k.most, ap bytes h, bytes-append p b.rest, ap (λ z. z.steps) x, ap (λ z. bytes z.rest) x, more, le);
+      least = omega (arith, k.least, ap (λ z. z.steps) x, ap (λ z. length z.rest) x);
+    }
+
+costs_stayed : (a b : Here) → Stayed 1 a b → Costs 2 1 a b
+costs_stayed a b s = record { most = omega (arith, ap bytes s.rest, s.steps); least = omega (arith, ap length s.rest, s.steps) }
+
+always : {A E : Type 0} (r : Result A E) (P : Type 0) → P → IfOk r (λ n. P)
+always (Ok n) P h = h
+always (Err x) P h = tt
+
+-- what a whole number costs: its front, and a look behind it
+pub whole_costs : {A E : Type 0} (r : Result A E) (f a b : Here) → Moves f a → Costs 2 4 f a → length a.rest < length f.rest → Stayed 1 a b → IfOk r (λ n. Costs 20 0 f b)
+whole_costs r f a b m c less s =
+    always r (Costs 20 0 f b) (tight 5 f b (lit≤ tt) (moves_then m (moves_stayed s)) (omega (arith, less, ap length s.rest)) (costs_then 2 4 1 f a b c (costs_stayed a b s)))
+
+-- the front, a look, and the part behind it
+pub part_moves : (f a b d : Here) → Moves f a → Stayed 1 a b → Moves b d → Moves f d
+part_moves f a b d m s n = moves_then m (moves_then (moves_stayed s) n)
+
+pub part_costs : (p : Text) (f a b d e : Here) → Moves f a → Costs 2 4 f a → length a.rest < length f.rest → Stayed 1 a b → Moves b d → Costs 2 6 b d → f.rest ≡ p ++ d.rest → e ≡ sliced p d → Costs 20 0 f e
+part_costs p f a b d e m c less s n k h x =
+    slice_costs 11 p f d e h (costs_then 2 4 7 f a d c (costs_then 2 1 6 a b d (costs_stayed a b s) k)) x (lit≤ tt) (omega (arith, less, ap length s.rest, shorter n))
+
+-- the end of a text, seen by a look
+pub at_end : (s : Text) (o : Option ℕ) (b : Bool) → o ≡ first s → is_some o ≡ not b → IsTrue b ↔ (s ≡ [])
+at_end [] o true h e = (λ y. refl, λ y. refl)
+at_end [] o false h e = let x : is_some o ≡ false = ap is_some h in cc
+at_end (c ∷ s) o true h e = let x : is_some o ≡ true = ap is_some h in cc
+at_end (c ∷ s) o false h e = (λ y. cc, λ y. cc)
+
+-- texts without `_`
+abbrev pub is_unmarked : Text → Bool
+is_unmarked s = list_all (λ c. not (c == 95)) s
+
+plain_shorter : (s : Text) → length (plain s) ≤ length s
+plain_shorter [] = omega arith
+plain_shorter (c ∷ s) = go (not (c == 95)) (plain_shorter s)
+  where
+    go : (b : Bool) → length (plain s) ≤ length s → length (cond b (c ∷ plain s) (plain s)) ≤ suc (length s)
+    go true i = omega (arith, i)
+    go false i = omega (arith, i)
+
+pub plain_same : (s : Text) → is_unmarked s ≡ true → plain s ≡ s
+plain_same [] h = refl
+plain_same (c ∷ s) h = go (not (c == 95)) h (plain_same s)
+  where
+    go : (b : Bool) → (b && is_unmarked s) ≡ true → (is_unmarked s ≡ true → plain s ≡ s) → cond b (c ∷ plain s) (plain s) ≡ c ∷ s
+    go true h i = ap (λ z. c ∷ z) (i h)
+    go false h i = cc
+
+pub same_plain : (s : Text) → plain s ≡ s → is_unmarked s ≡ true
+same_plain [] h = refl
+same_plain (c ∷ s) h = go (not (c == 95)) h (same_plain s) (plain_shorter s)
+  where
+    go : (b : Bool) → cond b (c ∷ plain s) (plain s) ≡ c ∷ s → (plain s ≡ s → is_unmarked s ≡ true) → length (plain s) ≤ length s → (b && is_unmarked s) ≡ true
+    go true h i le = let e : plain s ≡ s = cc in i e
+    go false h i le = absurd (omega (arith, ap length h, le))
+
+own_text : {t w r : Text} → Decimal t r w → r ≡ [] → w ≡ t → plain t ≡ t
+own_text {t = t} {w = w} {r = r} (decimal p a i d f g) e h =
+    let x : p ≡ t = sym (append-nil p) ∙ ap (λ z. p ++ z) (sym e) ∙ sym f in
+    ap plain (sym x) ∙ sym g ∙ h
+
+-- whether the whole text is a decimal without `_`
+pub plain_none : (s t : Text) → s ≡ t → ((r : Text) (v : NumberValue) → IsNumber s r v → ⊥) → IsTrue false ↔ Decimal t [] t
+plain_none s t e h = (λ y. cc, λ d. absurd (h [] (decimal_text t) (subst (λ z. IsNumber z [] (decimal_text t)) (sym e) (is_decimal d))))
+
+module _ (f : Front) (s t u : Text) (e : s ≡ t) (x : IsFront f s u) where
+  pub plain_other : (f.radix ≡ TenDigits → ⊥) → IsTrue false ↔ Decimal t [] t
+  plain_other n = (λ y. cc, λ d. absurd (not_ten f.radix n (front_decimal f s u x [] t (subst (λ z. Decimal z [] t) (sym e) d)).0))
+
+  pub plain_no_part : ((r : Text) → DecimalPart u r → ⊥) → IsTrue false ↔ Decimal t [] t
+  plain_no_part n = (λ y. cc, λ d. absurd (n [] (front_decimal f s u x [] t (subst (λ z. Decimal z [] t) (sym e) d)).1))
+
+  pub plain_rest : (v : Text) (b : Bool) → b ≡ false → (IsTrue b ↔ (v ≡ [])) → DecimalPart u v → IsTrue b ↔ Decimal t [] t
+  plain_rest v b n h p = (λ y. let z : IsTrue false = subst IsTrue n y in cc, λ d. h.1 (part_det p (front_decimal f s u x [] t (subst (λ z. Decimal z [] t) (sym e) d)).1))
+
+  pub plain_whole : (v : Text) (b : Bool) → v ≡ [] → DecimalPart u v → f.radix ≡ TenDigits → b ≡ is_unmarked t → IsTrue b ↔ Decimal t [] t
+  plain_whole v b n p base m = (λ y. to (sym m ∙ y), λ d. m ∙ same_plain t (own_text d refl refl))
+    where
+      to : is_unmarked t ≡ true → Decimal t [] t
+      to h =
+          let part : DecimalPart u [] = subst (DecimalPart u) n p in
+          let d : Decimal s [] (plain s) = front_part f s u x [] s (ap radix_of base) part (sym (append-nil s)) in
+          subst (λ z. Decimal t [] z) (plain_same t h) (subst (λ z. Decimal z [] (plain z)) e d)
+
+-- what `retain` leaves
+scalars_kept : (s : Text) → scalars s ≡ true → scalars (plain s) ≡ true
+scalars_kept [] h = refl
+scalars_kept (c ∷ s) h = let k = and_parts (scalar c) (scalars s) h in go (not (c == 95)) k.0 (scalars_kept s k.1)
+  where
+    go : (b : Bool) → scalar c ≡ true → scalars (plain s) ≡ true → scalars (cond b (c ∷ plain s) (plain s)) ≡ true
+    go true x y = rw (x, y) refl
+    go false x y = y
+
+pub kept_text : (bs out all kept piece : List ℕ) → scalars all ≡ true → encode_utf8_all all ≡ bs → kept ≡ plain all → out ≡ encode_utf8_all kept → chars bs ≡ piece → chars out ≡ plain piece
+kept_text bs out all kept piece s e k o h =
+    let x : chars bs ≡ all = ap chars (sym e) ∙ chars-encodes all s in
+    let y : chars (encode_utf8_all (plain all)) ≡ plain all = chars-encodes (plain all) (scalars_kept all s) in
+    ap chars (o ∙ ap encode_utf8_all k) ∙ y ∙ ap plain (sym x ∙ h)
+
+-- which fault is answered
+module _ (f : Front) (t u : Text) (x : IsFront f t u) where
+  begun : (rest : Text) → rest ≡ u → Begun f.radix t rest
+  begun rest e =
+      rw e (record { behind_sign = x.behind_sign; behind_mark = x.behind_mark; digits = x.digits; negative = f.minus; sign = x.sign; mark = x.mark; int = x.int })
+
+  range : (rest : Text) → rest ≡ u → fits f.minus (digits_value (radix_of f.radix) x.digits) ≡ false → FaultAt OutOfRange t rest
+  range rest e h = rw e (f.radix, record { behind_sign = x.behind_sign; behind_mark = x.behind_mark; digits = x.digits; negative = f.minus; sign = x.sign; mark = x.mark; int = x.int }, h)
+
+  pub number_range : (rest : Text) (result : Result Number NumberFailure) → rest ≡ u → ((q : ℕ) → Counts f.magnitude q → result ≡ (if fits f.minus q then Ok (IntegerNumber (signed f.minus q)) else Err (Fault OutOfRange))) → IsNumberFault result t rest
+  number_range rest result e g = rw (g (digits_value (radix_of f.radix) x.digits) x.counts) (go (fits f.minus (digits_value (radix_of f.radix) x.digits)) refl)
+    where
+      go : (b : Bool) → fits f.minus (digits_value (radix_of f.radix) x.digits) ≡ b → IsNumberFault {A = Number} (if b then Ok (IntegerNumber (signed f.minus (digits_value (radix_of f.radix) x.digits))) else Err (Fault OutOfRange)) t rest
+      go true h = tt
+      go false h = range rest e h
+
+  pub front_trails : (rest : Text) → rest ≡ u → false ≡ not (starts is_identifier_char u) → FaultAt (Trailing f.radix) t rest
+  front_trails rest e h = (begun rest e, rw e (starts_so (starts is_identifier_char u) h))
+    where
+      starts_so : (b : Bool) → false ≡ not b → b ≡ true
+      starts_so true h = refl
+      starts_so false h = cc

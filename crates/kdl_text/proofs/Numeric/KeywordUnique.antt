@@ -1,0 +1,193 @@
+-- Keywords: a text begins with one at most.
+use Rattle.std.proofs.Common.{◌≡◌, ℕ, ◌<◌, [], ◌∷◌, ◌++◌, Bool, true, false, ◌==◌, refl, ap, sym, ◌∙◌, subst, arith, Some, None, ◌↔◌, inl, inr, IsTrue, lit<, zero, suc}
+use Rattle.std.proofs.lemmas.Bool.{and_parts}
+use Rattle.std.proofs.lemmas.List.{append_cancel_right}
+use Rattle.std.specs.Prelude.{if◌then◌else◌, Option, codes, nat_lt}
+use Rattle.std.specs.List.{list_all}
+use Rattle.std.specs.Str.{chars, IsAscii}
+use Rattle.std.proofs.lemmas.Str.{chars-IsAscii}
+use borrow.Author.Tests.{ltb-true}
+use Rattle.kdl_text.specs.Chars.{Text, is_identifier_char, is_space, is_newline_char, is_banned, is_mark, starts}
+use Rattle.kdl_text.specs.Internal.Here.{Here, Took, Ran, sliced}
+use Rattle.kdl_text.specs.Spans.{bytes}
+use Rattle.kdl_text.specs.Internal.Reading.{Moves}
+use Rattle.kdl_text.specs.Numbers.{IsKeyword, keyword, keyword_text, FloatKeyword}
+use Rattle.kdl_text.specs.Internal.NumberReading.{ReadsKeyword, WordOf, is_of_number}
+use Rattle.kdl_text.specs.declared.numbers.Keyword.{Keyword}
+use Rattle.kdl_text.specs.declared.numbers.Keyword.TheVariants.{True, False, Null, Infinity, NegativeInfinity, NotANumber}
+use Rattle.kdl_text.proofs.Looking.MovesJoin.{bytes-append, moves_then, moves_one}
+
+-- the word behind the `#`
+abbrev pub word : Keyword → Text
+word True = codes "true"
+word False = codes "false"
+word Null = codes "null"
+word Infinity = codes "inf"
+word NegativeInfinity = codes "-inf"
+word NotANumber = codes "nan"
+
+text_of : (k : Keyword) → keyword_text k ≡ 35 ∷ word k
+text_of True = refl
+text_of False = refl
+text_of Null = refl
+text_of Infinity = refl
+text_of NegativeInfinity = refl
+text_of NotANumber = refl
+
+word_all : (k : Keyword) → list_all is_identifier_char (word k) ≡ true
+unfolding is_identifier_char is_space is_newline_char is_banned is_mark
+word_all True = refl
+word_all False = refl
+word_all Null = refl
+word_all Infinity = refl
+word_all NegativeInfinity = refl
+word_all NotANumber = refl
+
+-- a keyword by the first two characters of its word
+abbrev pub which : Text → Keyword
+which [] = True
+which (c ∷ []) = True
+which (c ∷ d ∷ s) =
+    if c == 116 then True
+    else if c == 102 then False
+    else if c == 105 then Infinity
+    else if c == 45 then NegativeInfinity
+    else if d == 117 then Null
+    else NotANumber
+
+which_is : (k : Keyword) → which (word k) ≡ k
+which_is True = refl
+which_is False = refl
+which_is Null = refl
+which_is Infinity = refl
+which_is NegativeInfinity = refl
+which_is NotANumber = refl
+
+same_word : (k x : Keyword) → word k ≡ word x → k ≡ x
+same_word k x e = sym (which_is k) ∙ ap which e ∙ which_is x
+
+-- the longest run of a class is one
+pub run_det : (f : ℕ → Bool) (p q r s : Text) → p ++ r ≡ q ++ s → list_all f p ≡ true → list_all f q ≡ true → starts f r ≡ false → starts f s ≡ false → (p ≡ q) × (r ≡ s)
+run_det f [] [] r s e a b x y = (refl, e)
+run_det f [] (c ∷ q) r s e a b x y = let h : starts f r ≡ f c = ap (starts f) e in let k = (and_parts (f c) (list_all f q) b).0 in cc
+run_det f (c ∷ p) [] r s e a b x y = let h : starts f s ≡ f c = ap (starts f) (sym e) in let k = (and_parts (f c) (list_all f p) a).0 in cc
+run_det f (c ∷ p) (d ∷ q) r s e a b x y =
+    let h : c ≡ d = cc in
+    let t : p ++ r ≡ q ++ s = cc in
+    let i = run_det f p q r s t (and_parts (f c) (list_all f p) a).1 (and_parts (f d) (list_all f q) b).1 x y in
+    (ap (λ z. z ∷ p) h ∙ ap (λ z. d ∷ z) i.0, i.1)
+
+-- a keyword stands at the front of a text whose word is known
+pub keyword_is : (t p rest r : Text) (x : Keyword) → t ≡ 35 ∷ (p ++ rest) → list_all is_identifier_char p ≡ true → starts is_identifier_char rest ≡ false → IsKeyword t r x → (word x ≡ p) × (r ≡ rest)
+keyword_is t p rest r x e a n (keyword f m) =
+    let g : 35 ∷ (word x ++ r) ≡ 35 ∷ (p ++ rest) = ap (λ z. z ++ r) (sym (text_of x)) ∙ sym f ∙ e in
+    let h : word x ++ r ≡ p ++ rest = cc in
+    run_det is_identifier_char (word x) p r rest h (word_all x) a m n
+
+-- a text begins with one keyword at most
+pub keyword_det : {t r s : Text} {x y : Keyword} → IsKeyword t r x → IsKeyword t s y → (r ≡ s) × (x ≡ y)
+keyword_det {t = t} {r = r} {s = s} {x = x} {y = y} i (keyword f m) =
+    let e = keyword_is t (word y) s r x (f ∙ ap (λ z. z ++ s) (text_of y)) (word_all y) m i in
+    (e.1, same_word x y e.0)
+
+-- a keyword is `#` and an identifier character, and more
+word_starts : (k : Keyword) → (c : ℕ) × (w : Text) × (word k ≡ c ∷ w) × (is_identifier_char c ≡ true)
+unfolding is_identifier_char is_space is_newline_char is_banned is_mark
+word_starts True = (_, _, refl, refl)
+word_starts False = (_, _, refl, refl)
+word_starts Null = (_, _, refl, refl)
+word_starts Infinity = (_, _, refl, refl)
+word_starts NegativeInfinity = (_, _, refl, refl)
+word_starts NotANumber = (_, _, refl, refl)
+
+pub keyword_begins : {t r : Text} {k : Keyword} → IsKeyword t r k → (c : ℕ) × (s : Text) × (t ≡ 35 ∷ c ∷ s) × (is_identifier_char c ≡ true)
+keyword_begins {r = r} {k = k} (keyword f m) =
+    let (c, w, e, i) = word_starts k in
+    (c, w ++ r, f ∙ ap (λ z. z ++ r) (text_of k ∙ ap (λ z. 35 ∷ z) e), i)
+
+pub keyword_read : (o : Option Keyword) (t p rest : Text) → t ≡ 35 ∷ (p ++ rest) → list_all is_identifier_char p ≡ true → starts is_identifier_char rest ≡ false → WordOf o p → ReadsKeyword o t rest
+keyword_read (Some k) t p rest e a n w =
+    let found : IsKeyword t rest k = keyword (e ∙ ap (λ z. z ++ rest) (sym w)) n in
+    λ r x. (λ i. keyword_det i found, λ (u, v). rw (u, v) found)
+keyword_read None t p rest e a n w = λ r x i. let h = (keyword_is t p rest r x e a n i).0 in w x (text_of x ∙ ap (λ z. 35 ∷ z) h)
+
+ascii : (s : Text) → list_all (λ c. nat_lt c 128) s ≡ true → IsAscii s
+ascii [] h i = lit< tt
+ascii (c ∷ s) h zero = ltb-true c 128 (and_parts (nat_lt c 128) (list_all (λ c. nat_lt c 128) s) h).0
+ascii (c ∷ s) h (suc i) = ascii s (and_parts (nat_lt c 128) (list_all (λ c. nat_lt c 128) s) h).1 i
+
+word_ascii : (k : Keyword) → list_all (λ c. nat_lt c 128) (word k) ≡ true
+word_ascii True = refl
+word_ascii False = refl
+word_ascii Null = refl
+word_ascii Infinity = refl
+word_ascii NegativeInfinity = refl
+word_ascii NotANumber = refl
+
+chars_word : (k : Keyword) → chars (word k) ≡ word k
+chars_word k = chars-IsAscii (word k) (ascii (word k) (word_ascii k))
+
+-- the word of a keyword, as a test of the text's bytes finds it
+pub word_of : (k : Keyword) (p : Text) → p ≡ chars (word k) → keyword_text k ≡ 35 ∷ p
+word_of k p e = text_of k ∙ ap (λ z. 35 ∷ z) (sym (e ∙ chars_word k))
+
+pub no_word : (p : Text) → ((k : Keyword) → p ≡ chars (word k) → ⊥) → (k : Keyword) → keyword_text k ≡ 35 ∷ p → ⊥
+no_word p n k e = let h : 35 ∷ word k ≡ 35 ∷ p = sym (text_of k) ∙ e in let g : p ≡ word k = cc in n k (g ∙ sym (chars_word k))
+
+none_of : (p : Text) → (p ≡ chars (word True) → ⊥) → (p ≡ chars (word False) → ⊥) → (p ≡ chars (word Null) → ⊥) → (p ≡ chars (word Infinity) → ⊥) → (p ≡ chars (word NegativeInfinity) → ⊥) → (p ≡ chars (word NotANumber) → ⊥)
+    → (k : Keyword) → p ≡ chars (word k) → ⊥
+none_of p a b c d e f True h = a h
+none_of p a b c d e f False h = b h
+none_of p a b c d e f Null h = c h
+none_of p a b c d e f Infinity h = d h
+none_of p a b c d e f NegativeInfinity h = e h
+none_of p a b c d e f NotANumber h = f h
+
+never : {P : Type 0} → (P → IsTrue false) → P → ⊥
+never h p = let x = h p in cc
+
+pub no_keyword : (p : Text) → (p ≡ chars (word True) → IsTrue false) → (p ≡ chars (word False) → IsTrue false) → (p ≡ chars (word Null) → IsTrue false) → (p ≡ chars (word Infinity) → IsTrue false)
+    → (p ≡ chars (word NegativeInfinity) → IsTrue false) → (p ≡ chars (word NotANumber) → IsTrue false) → (k : Keyword) → keyword_text k ≡ 35 ∷ p → ⊥
+no_keyword p a b c d e f = no_word p (none_of p (never a) (never b) (never c) (never d) (never e) (never f))
+
+-- the word behind a `#`, cut out
+pub keyword_here : (o : Option Keyword) (p run : Text) (a b d e : Here) → Took (Some 35) a b → Ran is_identifier_char run b d → b.rest ≡ p ++ d.rest → e ≡ sliced p d → WordOf o p → ReadsKeyword o a.rest e.rest
+keyword_here o p run a b d e t s x m w =
+    let same : run ≡ p = append_cancel_right run p d.rest (sym s.text ∙ x) in
+    let rest : e.rest ≡ d.rest = ap (λ h. h.rest) m in
+    keyword_read o a.rest p e.rest (t.0 ∙ ap (λ z. 35 ∷ z) (x ∙ ap (λ z. p ++ z) (sym rest))) (rw (← same) s.all) (rw rest s.stops) w
+
+pub keyword_moves : (p run : Text) (a b d e : Here) → Took (Some 35) a b → Ran is_identifier_char run b d → e ≡ sliced p d → Moves a e
+keyword_moves p run a b d e t s m =
+    moves_then (moves_one t) (rw m (record { piece = (run, s.text); at = omega (arith, s.at, ap bytes s.text, bytes-append run d.rest); counts = omega (arith, s.steps) }))
+
+-- the keyword of a number is the whole text
+float_to : (t : Text) (k : Keyword) → is_of_number k ≡ true → IsKeyword t [] k → FloatKeyword t
+float_to t True n (keyword f m) = cc
+float_to t False n (keyword f m) = cc
+float_to t Null n (keyword f m) = cc
+float_to t Infinity n (keyword f m) = inl f
+float_to t NegativeInfinity n (keyword f m) = inr (inl f)
+float_to t NotANumber n (keyword f m) = inr (inr f)
+
+float_from : (t : Text) → FloatKeyword t → (k : Keyword) × (is_of_number k ≡ true) × IsKeyword t [] k
+float_from t (inl f) = (Infinity, refl, keyword f refl)
+float_from t (inr (inl f)) = (NegativeInfinity, refl, keyword f refl)
+float_from t (inr (inr f)) = (NotANumber, refl, keyword f refl)
+
+module _ (s t : Text) (q : s ≡ t) where
+  pub float_none : ((r : Text) (x : Keyword) → IsKeyword s r x → ⊥) → IsTrue false ↔ FloatKeyword t
+  float_none h = (λ y. cc, λ f. let (x, m, i) = float_from s (rw q f) in absurd (h [] x i))
+
+module _ (b : Bool) (k : Keyword) (rest s t : Text) (q : s ≡ t) (h : (r : Text) (x : Keyword) → IsKeyword s r x ↔ ((r ≡ rest) × (x ≡ k))) where
+  pub float_some : is_of_number k ≡ true → (IsTrue b ↔ (rest ≡ [])) → IsTrue b ↔ FloatKeyword t
+  float_some n e = (
+    λ y. subst FloatKeyword q (float_to s k n (subst (λ z. IsKeyword s z k) (e.0 y) ((h rest k).1 (refl, refl)))),
+    λ f. let (x, m, i) = float_from s (rw q f) in e.1 (sym ((h [] x).0 i).0),
+  )
+
+  pub float_other : b ≡ false → b ≡ is_of_number k → IsTrue b ↔ FloatKeyword t
+  float_other n e = (
+    λ y. let z : IsTrue false = subst IsTrue n y in cc,
+    λ f. let (x, m, i) = float_from s (rw q f) in e ∙ ap is_of_number (sym ((h [] x).0 i).1) ∙ m,
+  )

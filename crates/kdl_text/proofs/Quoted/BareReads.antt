@@ -1,0 +1,65 @@
+-- Bare strings: a text begins with one at most, and the reader's cases.
+use Rattle.std.proofs.Common.{◌≡◌, ◌<◌, true, false, [], ◌∷◌, ◌++◌, length, refl, sym, ap, ◌∙◌, arith, length-append}
+use Rattle.std.proofs.lemmas.Bool.{and_parts, false≢true}
+use Rattle.std.specs.List.{list_all}
+use Rattle.kdl_text.specs.Chars.{Text, is_identifier_char, starts}
+use Rattle.kdl_text.specs.Bare.{BareString, bare, is_bare, bare_form}
+use Rattle.kdl_text.specs.Internal.Here.{Here}
+use Rattle.kdl_text.specs.Spans.{bytes}
+use Rattle.kdl_text.specs.Internal.Reading.{Costs}
+use Rattle.kdl_text.specs.Strings.{Run}
+use Rattle.kdl_text.proofs.Looking.MovesJoin.{bytes-append}
+use Rattle.kdl_text.proofs.Looking.Runs.{length-bytes}
+use Rattle.kdl_text.proofs.Looking.SliceCost.{all_of_run}
+use Rattle.kdl_text.proofs.Quoted.UnitUnique.{run_same}
+
+bare_parts : (w : Text) → is_bare w ≡ true → (list_all is_identifier_char w ≡ true) × (bare_form w ≡ true)
+unfolding is_bare
+bare_parts w h = and_parts (list_all is_identifier_char w) (bare_form w) h
+
+bare_join : (w : Text) → list_all is_identifier_char w ≡ true → bare_form w ≡ true → is_bare w ≡ true
+unfolding is_bare
+bare_join w h k = rw (h, k) refl
+
+-- a text begins with one bare string at most
+pub bare_det : {t r s v w : Text} → BareString t r v → BareString t s w → (r ≡ s) × (v ≡ w)
+bare_det {r = r} {s = s} {v = v} {w = w} (bare e h k) (bare f i l) =
+    let (same, ends) = run_same is_identifier_char v w r s (bare_parts v h).0 (bare_parts w i).0 k l (sym e ∙ f) in (ends, same)
+
+bare_front : (w r : Text) → list_all is_identifier_char w ≡ true → bare_form w ≡ true → starts is_identifier_char (w ++ r) ≡ true
+bare_front [] r h k = cc
+bare_front (c ∷ w) r h k = (and_parts (is_identifier_char c) _ h).0
+
+-- a bare string begins with an identifier character
+pub bare_begins : {t r w : Text} → BareString t r w → starts is_identifier_char t ≡ true
+bare_begins {r = r} {w = w} (bare e h k) = let (all, form) = bare_parts w h in ap (starts is_identifier_char) e ∙ bare_front w r all form
+
+some_form : (w : Text) → bare_form w ≡ true → 0 < length w
+some_form [] h = cc
+some_form (c ∷ w) h = omega arith
+
+pub bare_shorter : {t r w : Text} → BareString t r w → length r < length t
+bare_shorter {r = r} {w = w} (bare e h k) = omega (arith, some_form w (bare_parts w h).1, ap length e, length-append w r)
+
+-- a run x of identifier characters
+module _ (x t r : Text) (i : Run is_identifier_char t r) (e : t ≡ x ++ r) where
+  pub past_found : bare_form x ≡ true → BareString t r x
+  past_found v = bare e (bare_join x (all_of_run is_identifier_char x t r i e) v) i.stops
+
+  pub past_only : (s w : Text) → BareString t s w → (s ≡ r) × (w ≡ x)
+  past_only s w (bare f h k) =
+      let (same, ends) = run_same is_identifier_char w x s r (bare_parts w h).0 (all_of_run is_identifier_char x t r i e) k i.stops (sym f ∙ e) in
+      (ends, same)
+
+  pub past_none : bare_form x ≡ false → (s w : Text) → BareString t s w → ⊥
+  past_none v s w (bare f h k) =
+      let (ends, same) = past_only s w (bare f h k) in
+      false≢true (sym v ∙ ap bare_form (sym same) ∙ (bare_parts w h).1)
+
+pub past_costs : {a e : Here} → Costs 2 1 a e → Costs 2 4 a e
+past_costs k = record { most = omega (arith, k.most); least = k.least }
+
+pub past_cost : (x : Text) (a e : Here) → a.rest ≡ x ++ e.rest → bare_form x ≡ true → Costs 2 1 a e → Costs 24 0 a e
+past_cost x a e t v k =
+    let n = some_form x v in
+    record { most = omega (arith, k.most, ap bytes t, bytes-append x e.rest, length-bytes x); least = k.least }

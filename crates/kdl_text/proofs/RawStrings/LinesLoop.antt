@@ -1,0 +1,180 @@
+-- The lines of raw strings of many lines.
+use Rattle.std.proofs.Common.{◌≡◌, ℕ, zero, suc, ◌+◌, ◌-◌, ◌<◌, ◌≤◌, true, false, List, [], ◌∷◌, ◌++◌, length, refl, sym, ap, ◌∙◌, subst, arith, append_assoc}
+use Rattle.std.proofs.lemmas.List.{append_cancel_right}
+use Rattle.std.proofs.lemmas.Str.{len_utf8_bounds}
+use Rattle.std.specs.Prelude.{Some, None}
+use Rattle.kdl_text.specs.Chars.{Text, Newline, begins, begins_with, times, is_newline_char, is_raw, is_unquoted}
+use Rattle.kdl_text.specs.Internal.Here.{Here, Took, Skips, sliced, tail}
+use Rattle.kdl_text.specs.Spans.{bytes}
+use Rattle.kdl_text.specs.Internal.Lines.{ReadsLine}
+use Rattle.kdl_text.specs.Raw.{closing, literals, line, RawUnits, none, more, RawContent, content}
+use Rattle.kdl_text.specs.Internal.Reading.{Moves, Costs}
+use Rattle.kdl_text.specs.declared.strings.dedent.LineUnit.{LineUnit}
+use Rattle.kdl_text.specs.declared.strings.dedent.LineUnit.TheVariants.{LineEnd}
+use Rattle.kdl_text.proofs.RawStrings.ClosingPlaces.{few_signs, quotes_pass, signs_pass, quotes_before, units_then, literals-append}
+use Rattle.kdl_text.proofs.Looking.MovesJoin.{stays, moves_then, moves_one, fewer_bytes, bytes-append}
+use Rattle.kdl_text.proofs.ManyLines.LinesJoin.{literals_inside}
+use Rattle.kdl_text.proofs.RawStrings.LineLoop.{unquoted_pass}
+use Rattle.kdl_text.proofs.RawStrings.RawUnique.{raw_over, goes_raw, raw_char, raw_content_unit, no_raw_unit}
+use Rattle.kdl_text.proofs.Looking.SliceCost.{ended, moves_ran, costs_ran, moves_sliced}
+
+times_front : (m c : ℕ) (x : Text) → c ∷ (times m c ++ x) ≡ times m c ++ (c ∷ x)
+times_front zero c x = refl
+times_front (suc m) c x = ap (λ z. c ∷ z) (times_front m c x)
+
+three_front : (m : ℕ) (x : Text) → 34 ∷ 34 ∷ 34 ∷ (times m 34 ++ x) ≡ times m 34 ++ (34 ∷ 34 ∷ 34 ∷ x)
+three_front m x = ap (λ z. 34 ∷ 34 ∷ z) (times_front m 34 x) ∙ ap (λ z. 34 ∷ z) (times_front m 34 (34 ∷ x)) ∙ times_front m 34 (34 ∷ 34 ∷ x)
+
+-- one quote less
+pub one_behind : (n i : ℕ) (s r t : Text) → i < n → s ≡ times (n - i) 34 ++ t → r ≡ tail s → r ≡ times (n - (i + 1)) 34 ++ t
+one_behind n i s r t h e f =
+    let m : n - i ≡ suc (n - (i + 1)) = omega arith in
+    f ∙ ap tail (e ∙ ap (λ k. times k 34 ++ t) m)
+
+pub no_more_behind : (n i : ℕ) (s t : Text) → n ≤ i → s ≡ times (n - i) 34 ++ t → s ≡ t
+no_more_behind n i s t h e = let m : n - i ≡ 0 = omega arith in e ∙ ap (λ k. times k 34 ++ t) m
+
+-- a quote, more of them, and number signs
+module _ (n k : ℕ) (q a b : Text) (some : 0 < n) (first : q ≡ 34 ∷ a) (t : a ≡ times k 34 ++ b) (s : begins 34 b ≡ false) where
+  -- a quote, and one more or none
+  pub few_quotes : k < 2 → (p : Text) × (q ≡ p ++ b) × RawUnits (closing 3 n) q b (literals p)
+  few_quotes h =
+      let e : q ≡ times (suc k) 34 ++ b = first ∙ ap (λ z. 34 ∷ z) t in
+      (times (suc k) 34, e, subst (λ z. RawUnits (closing 3 n) z b (literals (times (suc k) 34))) (sym e) (quotes_pass n k (suc k) b some s (λ le. absurd (omega arith)) (omega arith)))
+
+module _ (n k j : ℕ) (q a b d : Text) (some : 0 < n) (first : q ≡ 34 ∷ a) (t : a ≡ times k 34 ++ b) (s : begins 34 b ≡ false) (u : b ≡ times j 35 ++ d) (few : j ≤ n) (stops : j < n → begins 35 d ≡ false) where
+  -- where the closing begins
+  pub closing_at : 2 ≤ k → j ≡ n → q ≡ times (k - 2) 34 ++ (closing 3 n ++ d)
+  closing_at h e =
+      let m : k ≡ suc (suc (k - 2)) = omega arith in
+      first ∙ ap (λ z. 34 ∷ z) (t ∙ ap (λ i. times i 34 ++ b) m) ∙ ap (λ z. 34 ∷ 34 ∷ 34 ∷ (times (k - 2) 34 ++ z)) (u ∙ ap (λ i. times i 35 ++ d) e) ∙ three_front (k - 2) (times n 35 ++ d)
+
+  pub closed : (r : Text) → 2 ≤ k → j ≡ n → r ≡ closing 3 n ++ d → (p : Text) × (q ≡ p ++ r) × RawUnits (closing 3 n) q r (literals p) × (r ≡ closing 3 n ++ d)
+  closed r h e is =
+      let text : q ≡ times (k - 2) 34 ++ (closing 3 n ++ d) = closing_at h e in
+      let units : RawUnits (closing 3 n) q (closing 3 n ++ d) (literals (times (k - 2) 34)) = subst (λ z. RawUnits (closing 3 n) z (closing 3 n ++ d) (literals (times (k - 2) 34))) (sym text) (quotes_before n (k - 2) d some) in
+      (times (k - 2) 34, text ∙ ap (λ z. times (k - 2) 34 ++ z) (sym is), subst (λ z. RawUnits (closing 3 n) q z (literals (times (k - 2) 34))) (sym is) units, is)
+
+  pub open_still : j < n → (p : Text) × (q ≡ p ++ d) × RawUnits (closing 3 n) q d (literals p)
+  open_still lt =
+      let fewer : 2 ≤ k → begins_with (times n 35) b ≡ false = λ le. ap (begins_with (times n 35)) u ∙ few_signs n j d lt (stops lt) in
+      let quotes : RawUnits (closing 3 n) (34 ∷ (times k 34 ++ b)) b (literals (times (suc k) 34)) = quotes_pass n k (suc k) b some s fewer (omega arith) in
+      let signs : RawUnits (closing 3 n) b d (literals (times j 35)) = subst (λ z. RawUnits (closing 3 n) z d (literals (times j 35))) (sym u) (signs_pass (34 ∷ 34 ∷ times n 35) j d) in
+      let e : q ≡ 34 ∷ (times k 34 ++ b) = first ∙ ap (λ z. 34 ∷ z) t in
+      let p = times (suc k) 34 ++ times j 35 in (
+        p,
+        e ∙ ap (λ z. times (suc k) 34 ++ z) u ∙ sym (append_assoc (times (suc k) 34) (times j 35) d),
+        subst (λ z. RawUnits (closing 3 n) z d (literals p)) (sym e) (subst (λ z. RawUnits (closing 3 n) (34 ∷ (times k 34 ++ b)) d z) (sym (literals-append (times (suc k) 34) (times j 35))) (units_then quotes signs)),
+      )
+
+quotes_bytes : (k : ℕ) → k ≤ bytes (times k 34)
+quotes_bytes zero = omega arith
+quotes_bytes (suc k) = omega (arith, quotes_bytes k, (len_utf8_bounds 34).0)
+
+-- two quotes or more, and number signs
+pub signs_cost : (k : ℕ) (a b d : Here) → a.rest ≡ times k 34 ++ b.rest → 2 ≤ k → Costs 1 1 a b → Moves b d → Costs 1 1 b d → Costs 2 1 a d
+signs_cost k a b d t h x m y = record { most = omega (arith, x.most, y.most, fewer_bytes m, ap bytes t, bytes-append (times k 34) b.rest, quotes_bytes k); least = omega (arith, x.least, y.least) }
+
+-- the line read so far
+pub record InRaw (n : ℕ) (f a : Here) : Type 0 where
+  pub read : Text
+  pub text : f.rest ≡ read ++ a.rest
+  pub units : RawUnits (closing 3 n) f.rest a.rest (literals read)
+  pub moves : Moves f a
+  pub costs : Costs 2 0 f a
+
+pub raw_begins : (n : ℕ) (f : Here) → InRaw n f f
+raw_begins n f = record { read = []; text = refl; units = none; moves = stays f; costs = record { most = omega arith; least = omega arith } }
+
+raw_on : (n : ℕ) (f a b : Here) (p : Text) → InRaw n f a → a.rest ≡ p ++ b.rest → RawUnits (closing 3 n) a.rest b.rest (literals p) → Moves a b → Costs 2 0 a b → InRaw n f b
+raw_on n f a b p i e u m k = record {
+  read = i.read ++ p;
+  text = i.text ∙ ap (λ z. i.read ++ z) e ∙ sym (append_assoc i.read p b.rest);
+  units = subst (RawUnits (closing 3 n) f.rest b.rest) (sym (literals-append i.read p)) (units_then i.units u);
+  moves = moves_then i.moves m;
+  costs = record { most = omega (arith, i.costs.most, k.most); least = omega (arith, i.costs.least, k.least) };
+}
+
+module _ (n : ℕ) (f a : Here) (i : InRaw n f a) (c : ℕ) (b : Here) (t : Took (Some c) a b) where
+  -- a character that is no quote, and a run of others
+  pub raw_run : (d : Here) → (c ≡ 34 → ⊥) → is_raw c ≡ true → Skips is_unquoted b d → InRaw n f d
+  raw_run d ne h (run, r) =
+      let e : a.rest ≡ (c ∷ run) ++ d.rest = t.0 ∙ ap (λ z. c ∷ z) r.text in
+      let units : RawUnits (closing 3 n) (c ∷ (run ++ d.rest)) d.rest (literals (c ∷ run)) = more (raw_char ne h) (unquoted_pass (34 ∷ 34 ∷ times n 35) run d.rest r.all) in
+      let k = costs_ran r in
+      let x = fewer_bytes (moves_ran r) in
+      raw_on n f a d (c ∷ run) i e (subst (λ z. RawUnits (closing 3 n) z d.rest (literals (c ∷ run))) (sym e) units) (moves_then (moves_one t) (moves_ran r)) (record {
+        most = omega (arith, ap bytes t.0, t.2, (len_utf8_bounds c).0, k.most);
+        least = omega (arith, ap length t.0, t.2, k.least);
+      })
+
+  part_costs : (d : Here) → Costs 2 1 b d → Costs 2 0 a d
+  part_costs d k = record { most = omega (arith, ap bytes t.0, t.2, (len_utf8_bounds c).0, k.most); least = omega (arith, ap length t.0, t.2, k.least) }
+
+  -- quotes and number signs that are no closing
+  pub raw_open : (q : Text) (d : Here) → q ≡ a.rest → Moves b d → Costs 2 1 b d → (p : Text) × (q ≡ p ++ d.rest) × RawUnits (closing 3 n) q d.rest (literals p) → InRaw n f d
+  raw_open q d same m k (p, e, u) = raw_on n f a d p i (sym same ∙ e) (subst (λ z. RawUnits (closing 3 n) z d.rest (literals p)) same u) (moves_then (moves_one t) m) (part_costs d k)
+
+  module _ (q : Text) (d : Here) (r : Text) (same : q ≡ a.rest) (m : Moves b d) (k : Costs 2 1 b d) (found : (p : Text) × (q ≡ p ++ r) × RawUnits (closing 3 n) q r (literals p) × (r ≡ closing 3 n ++ d.rest)) where
+    before : f.rest ≡ (i.read ++ found.0) ++ r
+    before = i.text ∙ ap (λ z. i.read ++ z) (sym same ∙ found.1) ∙ sym (append_assoc i.read found.0 r)
+
+    pub raw_ahead : (x : Text) × (f.rest ≡ x ++ r)
+    raw_ahead = (i.read ++ found.0, before)
+
+    -- the closing
+    pub raw_close : (h : Here) (p : Text) → f.rest ≡ p ++ r → h ≡ sliced p d
+        → ReadsLine (RawContent (closing 3 n)) true f.rest (literals p) h.rest × (bytes p + 1 + bytes h.rest ≤ bytes f.rest) × Moves f h × Costs 3 0 f h
+    raw_close h p e made =
+        let is : i.read ++ found.0 ≡ p = append_cancel_right (i.read ++ found.0) p r (sym before ∙ e) in
+        let here : RawUnits (closing 3 n) a.rest r (literals found.0) = subst (λ z. RawUnits (closing 3 n) z r (literals found.0)) same found.2 in
+        let units : RawUnits (closing 3 n) f.rest r (literals (i.read ++ found.0)) = subst (RawUnits (closing 3 n) f.rest r) (sym (literals-append i.read found.0)) (units_then i.units here) in
+        let l = part_costs d k in
+        rw (made, ← is) (
+          (literals_inside (i.read ++ found.0), content units found.3),
+          omega (arith, ap bytes before, bytes-append (i.read ++ found.0) r, ap bytes found.3, (len_utf8_bounds 34).0, bytes-append (times n 35) d.rest),
+          moves_sliced (i.read ++ found.0) f d (sliced (i.read ++ found.0) d) refl (moves_then i.moves (moves_then (moves_one t) m)),
+          record {
+            most = omega (arith, i.costs.most, l.most, ap bytes before, bytes-append (i.read ++ found.0) r, ap bytes found.3, bytes-append (times n 35) d.rest);
+            least = omega (arith, i.costs.least, l.least);
+          },
+        )
+
+  -- a newline
+  pub raw_newline : (d h : Here) (p : Text) → Newline (c ∷ b.rest) d.rest → Moves b d → Costs 1 1 b d → f.rest ≡ p ++ a.rest → h ≡ sliced p d
+      → ReadsLine (RawContent (closing 3 n)) false f.rest (literals p) h.rest × (bytes p + 1 + bytes h.rest ≤ bytes f.rest) × Moves f h × Costs 3 0 f h
+  raw_newline d h p nl m k e made =
+      let same : i.read ≡ p = append_cancel_right i.read p a.rest (sym i.text ∙ e) in
+      let x = fewer_bytes m in
+      let end : RawUnits (closing 3 n) a.rest d.rest (LineEnd ∷ []) = subst (λ z. RawUnits (closing 3 n) z d.rest (LineEnd ∷ [])) (sym t.0) (more (line nl) none) in
+      rw (made, ← same) (
+        (literals_inside i.read, goes_raw (units_then i.units end)),
+        omega (arith, ap bytes i.text, bytes-append i.read a.rest, ap bytes t.0, (len_utf8_bounds c).0, x),
+        moves_sliced i.read f d (sliced i.read d) refl (moves_then i.moves (moves_then (moves_one t) m)),
+        record {
+          most = omega (arith, i.costs.most, ap bytes i.text, bytes-append i.read a.rest, ap bytes t.0, t.2, (len_utf8_bounds c).0, k.most, x);
+          least = omega (arith, i.costs.least, ap length t.0, t.2, k.least);
+        },
+      )
+
+  -- a character that may not stand there
+  pub raw_stuck : (c ≡ 34 → ⊥) → is_newline_char c ≡ false → is_raw c ≡ false → ((r : Text) (us : List LineUnit) → RawContent (closing 3 n) f.rest r us → ⊥) × Moves f b × Costs 3 1 f b
+  raw_stuck ne nl bad = (
+    λ r us x.
+        let (v, e, rest) = (goes_raw i.units).back r us x in
+        let (m, u, there) = raw_content_unit ne (subst (λ z. RawContent (closing 3 n) z r v) t.0 rest) in
+        no_raw_unit nl bad there,
+    moves_then i.moves (moves_one t),
+    record { most = omega (arith, i.costs.most, fewer_bytes i.moves, ap bytes t.0, t.2, (len_utf8_bounds c).0); least = omega (arith, i.costs.least, ap length t.0, t.2) },
+  )
+
+-- the end of the text
+pub raw_runs_out : (n : ℕ) (f a b : Here) → InRaw n f a → Took None a b → ((r : Text) (us : List LineUnit) → RawContent (closing 3 n) f.rest r us → ⊥) × Moves f b × Costs 3 1 f b
+raw_runs_out n f a b i t =
+    let (v, k) = ended t in
+    let x = fewer_bytes i.moves in
+    let y = fewer_bytes v in (
+      raw_over (34 ∷ 34 ∷ times n 35) f.rest a.rest (literals i.read) i.units t.0,
+      moves_then i.moves v,
+      record { most = omega (arith, i.costs.most, k.most); least = omega (arith, i.costs.least, k.least) },
+    )

@@ -1,0 +1,18 @@
+-- Newlines, spaces, comments and esclines.
+
+-- A text begins with one newline at most.
+pub mod NewlineUnique
+-- A text begins with one comment, or one space, at most.
+pub mod SpaceUnique
+-- Comments and spaces are pieces of their text.
+pub mod SpacePieces
+-- What the readers of lines, spaces, comments and esclines answer.
+pub mod SpaceReads
+-- What the readers of esclines answer, and why none was read.
+pub mod EsclineReads
+-- Block comments inside each other: what the count of open ones says.
+pub mod CommentDepth
+-- The loop over a block comment.
+pub mod CommentLoop
+-- What may stand behind a value.
+pub mod ValueEnds

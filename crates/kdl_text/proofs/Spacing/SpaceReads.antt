@@ -1,0 +1,196 @@
+-- What the readers of comments and spaces have read: lines, runs of spaces and block comments, esclines.
+use Rattle.std.proofs.Common.{◌≡◌, ℕ, ◌+◌, ◌≤◌, ◌↔◌, [], ◌∷◌, ◌++◌, Bool, true, false, not, length, refl, ap, sym, ◌∙◌, subst, arith, length-append}
+use Rattle.std.proofs.lemmas.Bool.{and_parts}
+use Rattle.std.proofs.lemmas.Str.{len_utf8_bounds}
+use Rattle.std.specs.Prelude.{Some, None, Result, Ok, Err}
+use Rattle.std.specs.List.{list_all}
+use Rattle.kdl_text.specs.Chars.{Text, is_space, is_newline_char, begins, begins_two, starts, Newline, Star, Space}
+use Rattle.kdl_text.specs.Chars.Star.{none, more}
+use Rattle.kdl_text.specs.Chars.Space.{space}
+use Rattle.kdl_text.specs.Internal.Here.{Here, Ran, Took, TookTwo, Stayed, Ate, AteTwo, looked, first}
+use Rattle.kdl_text.specs.Spans.{bytes}
+use Rattle.kdl_text.specs.Internal.Reading.{Reads, Moves, Costs, Longest, ReadsNewline}
+use Rattle.kdl_text.specs.Trivia.{Parts, BlockComment, Line, LineComment, Ws, EscEnd}
+use Rattle.kdl_text.specs.Trivia.BlockComment.{block}
+use Rattle.kdl_text.specs.Trivia.Line.{ends as line_ends, newline as line_newline, other as line_other}
+use Rattle.kdl_text.specs.Trivia.LineComment.{line}
+use Rattle.kdl_text.specs.Trivia.Ws.{space as ws_space, comment as ws_comment}
+use Rattle.kdl_text.specs.Trivia.EscEnd.{comment, newline, ends}
+use Rattle.kdl_text.specs.Internal.TriviaReading.{PieceCosts, Opens, RunsWs}
+use Rattle.kdl_text.proofs.Spacing.NewlineUnique.{not_newline}
+use Rattle.kdl_text.proofs.Looking.Runs.{length-bytes}
+use Rattle.kdl_text.proofs.Looking.Stars.{join, snoc, star_map}
+use Rattle.kdl_text.proofs.Looking.MovesJoin.{stays, moves_then, moves_stayed, moves_two, fewer_bytes, bytes-append, stayed_looked}
+use Rattle.kdl_text.proofs.Spacing.SpaceUnique.{block_det, line_det, line_comment_det, esc_end_det, no_line_comment}
+
+-- one piece was found, and there is one at most
+pub reads_found : (R : Text → Text → Type 0) (s t : Text) → R s t → ((r : Text) → R s r → r ≡ t) → (r : Text) → R s r ↔ (r ≡ t)
+reads_found R s t found same r = (same r, λ x. subst (R s) (sym x) found)
+
+pub moves_ran : {p : ℕ → Bool} {run : Text} {a b : Here} → Ran p run a b → Moves a b
+moves_ran {run = run} {b = b} r = record { piece = (run, r.text); at = omega (arith, r.at, ap bytes r.text, bytes-append run b.rest); counts = omega (arith, r.steps) }
+
+pub costs_ran : {p : ℕ → Bool} {run : Text} {a b : Here} → Ran p run a b → Costs 1 1 a b
+costs_ran {run = run} {b = b} r = record {
+  most = omega (arith, r.steps, ap bytes r.text, bytes-append run b.rest, length-bytes run);
+  least = omega (arith, r.steps, ap length r.text, length-append run b.rest);
+}
+
+-- spaces
+star_run : (run rest : Text) → list_all is_space run ≡ true → Star Space (run ++ rest) rest
+star_run [] rest h = none
+star_run (c ∷ run) rest h = let k = and_parts (is_space c) (list_all is_space run) h in more (space k.0) (star_run run rest k.1)
+
+no_more : {s t : Text} → starts is_space s ≡ false → Space s t → ⊥
+no_more x (space y) = cc
+
+pub spaces_ran : {run : Text} {a b : Here} → Ran is_space run a b → Longest Space a.rest b.rest
+spaces_ran {run = run} {b = b} r = (rw r.text (star_run run b.rest r.all), λ t. no_more r.stops)
+
+-- the rest of a line
+line_run : (run rest r : Text) → list_all (λ c. not (is_newline_char c)) run ≡ true → Line rest r → Line (run ++ rest) r
+line_run [] rest r h l = l
+line_run (c ∷ run) rest r h l = let k = and_parts (not (is_newline_char c)) _ h in line_other (plain (is_newline_char c) k.0) (line_run run rest r k.1 l)
+  where
+    plain : (b : Bool) → not b ≡ true → b ≡ false
+    plain true h = cc
+    plain false h = refl
+
+nothing_left : (s : Text) → starts (λ c. not (is_newline_char c)) s ≡ false → ((t : Text) → Newline s t → ⊥) → Line s s
+nothing_left [] x n = line_ends
+nothing_left (c ∷ s) x n = let y = rw (not_newline c s n) at x in cc
+
+ends_line : (b : Bool) (m e : Here) → starts (λ c. not (is_newline_char c)) m.rest ≡ false → ReadsNewline b m e → Line m.rest e.rest
+ends_line true m e x n = line_newline n
+ends_line false m e x (s, n) = subst (Line m.rest) (sym s.rest) (nothing_left m.rest x n)
+
+pub line_ran : (b : Bool) (run : Text) (a m e : Here) → Ran (λ c. not (is_newline_char c)) run a m → ReadsNewline b m e → (r : Text) → Line a.rest r ↔ (r ≡ e.rest)
+line_ran b run a m e r n = let found : Line a.rest e.rest = rw r.text (line_run run m.rest e.rest r.all (ends_line b m e r.stops n)) in reads_found Line _ _ found (λ t l. line_det l found)
+
+pub line_costs : (run : Text) (a m e : Here) → Ran (λ c. not (is_newline_char c)) run a m → Moves m e → Costs 2 1 m e → Costs 2 2 a e
+line_costs run a m e r v c = let k = costs_ran r in record { most = omega (arith, k.most, c.most, fewer_bytes (moves_ran r)); least = omega (arith, k.least, c.least) }
+
+-- what the caller knows to stand here was eaten
+pub ate_here : (c : ℕ) (b : Bool) (old new : Here) → begins c old.rest ≡ true → Ate c b old new → Took (Some c) old new
+ate_here c true old new h t = t
+ate_here c false old new h (x, t) = cc
+
+pub ate_two_here : (c d : ℕ) (b : Bool) (old new : Here) → begins_two c d old.rest ≡ true → AteTwo c d b old new → TookTwo c d old new
+ate_two_here c d true old new h t = t
+ate_two_here c d false old new h (x, t) = cc
+
+pub moves_ate_two : (c d : ℕ) (b : Bool) (old new : Here) → AteTwo c d b old new → Moves old new
+moves_ate_two c d true old new t = moves_two t
+moves_ate_two c d false old new (x, s) = moves_stayed s
+
+-- comments behind their first two characters
+block_parts : {s r : Text} → BlockComment (47 ∷ 42 ∷ s) r → Parts s r
+block_parts (block p) = p
+
+pub block_reads : (b : Bool) (a m : Here) (e : Text) → TookTwo 47 42 a m → Reads Parts b m.rest e → Reads BlockComment b a.rest e
+block_reads true a m e t p = let found : BlockComment a.rest e = rw t.rest (block ((p e).1 refl)) in reads_found BlockComment _ _ found (λ r w. block_det w found)
+block_reads false a m e t p = λ r w. p r (block_parts (rw t.rest at w))
+
+pub opens_here : (a m : Here) (e : Text) → TookTwo 47 42 a m → Reads Parts false m.rest e → Opens a.rest
+opens_here a m e t p = record { opens = rw t.rest refl; unclosed = block_reads false a m e t p }
+
+pub line_reads : (a m : Here) (e : Text) → TookTwo 47 47 a m → ((r : Text) → Line m.rest r ↔ (r ≡ e)) → (r : Text) → LineComment a.rest r ↔ (r ≡ e)
+line_reads a m e t p = let found : LineComment a.rest e = rw t.rest (line ((p e).1 refl)) in reads_found LineComment _ _ found (λ r l. line_comment_det l found)
+
+pub two_costs : (c d k : ℕ) (a m e : Here) → TookTwo c d a m → Moves m e → Costs 2 k m e → k ≤ 2 → PieceCosts 9 a e
+two_costs c d k a m e t v h s =
+    let x = ap bytes t.rest in
+    let y = (len_utf8_bounds c).0 in
+    record {
+      fewer = omega (arith, x, y, fewer_bytes v);
+      costs = record { most = omega (arith, t.steps, x, y, (len_utf8_bounds d).0, h.most, fewer_bytes v); least = omega (arith, t.steps, ap length t.rest, h.least) };
+    }
+
+-- the same after looks
+pub stayed_costs : (n c d k : ℕ) (a b m e : Here) → Stayed n a b → n ≤ 4 → TookTwo c d b m → Moves m e → Costs 2 k m e → k ≤ 2 → PieceCosts 9 a e
+stayed_costs n c d k a b m e s few t v h small =
+    let x = ap bytes (sym s.rest ∙ t.rest) in
+    let y = (len_utf8_bounds c).0 in
+    record {
+      fewer = omega (arith, x, y, fewer_bytes v);
+      costs = record { most = omega (arith, s.steps, t.steps, x, y, (len_utf8_bounds d).0, h.most, fewer_bytes v); least = omega (arith, s.steps, t.steps, ap length (sym s.rest ∙ t.rest), h.least) };
+    }
+
+pub stayed_line : (n : ℕ) (a b m : Here) (e : Text) → Stayed n a b → TookTwo 47 47 b m → ((r : Text) → Line m.rest r ↔ (r ≡ e)) → (r : Text) → LineComment a.rest r ↔ (r ≡ e)
+stayed_line n a b m e s t p r = rw s.rest at (line_reads b m e t p r)
+
+-- a run of spaces and block comments so far
+pub record Running (f a : Here) : Type 0 where
+  pub run : Star Ws f.rest a.rest
+  pub moves : Moves f a
+  pub costs : Costs 3 0 f a
+
+pub begun : (f : Here) → Running f f
+begun f = record { run = none; moves = stays f; costs = record { most = omega arith; least = omega arith } }
+
+pub no_ws_here : {s t : Text} → ((u : Text) → Space s u → ⊥) → begins_two 47 42 s ≡ false → Ws s t → ⊥
+no_ws_here n x (ws_space p) = n _ p
+no_ws_here n x (ws_comment (block p)) = cc
+
+-- a run that was read, or stopped at a comment that isn't closed
+pub record RanWs (r : Result (Unit {0}) ℕ) (f e : Here) : Type 0 where
+  pub reads : RunsWs r f e
+  pub moves : Moves f e
+  pub costs : Costs 3 3 f e
+
+module _ (f a b : Here) (i : Running f a) (l : Longest Space a.rest b.rest) (m : Moves a b) (c : Costs 1 1 a b) where
+  spaced : Star Ws f.rest b.rest
+  spaced = join i.run (star_map (λ u v. ws_space) l.0)
+
+  pub run_stops : (d : Here) → AteTwo 47 42 false b d → RanWs (Ok tt) f d
+  run_stops d (x, s) = record {
+    reads = let y : begins_two 47 42 d.rest ≡ false = rw s.rest x in ((subst (Star Ws f.rest) (sym s.rest) spaced, λ t. no_ws_here (rw (← s.rest) at l.1) y), y);
+    moves = moves_then i.moves (moves_then m (moves_stayed s));
+    costs = record { most = omega (arith, i.costs.most, c.most, s.steps, ap bytes s.rest, fewer_bytes m); least = omega (arith, i.costs.least, c.least, s.steps, ap length s.rest) };
+  }
+
+  module _ (d e : Here) (two : TookTwo 47 42 b d) (v : Moves d e) (h : Costs 2 1 d e) where
+    past_moves : Moves f e
+    past_moves = moves_then i.moves (moves_then m (moves_then (moves_two two) v))
+
+    past_costs : Costs 3 0 f e
+    past_costs = record { most = omega (arith, i.costs.most, c.most, two.steps, ap bytes two.rest, h.most, fewer_bytes m, fewer_bytes v); least = omega (arith, i.costs.least, c.least, two.steps, ap length two.rest, h.least) }
+
+    pub run_unclosed : (at : ℕ) → at ≡ b.at → Reads Parts false d.rest e.rest → RanWs (Err at) f e
+    run_unclosed at x p = record {
+      reads = (b.rest, spaced, opens_here b d e.rest two p, ap (λ z. z + bytes b.rest) x ∙ (moves_then i.moves m).at);
+      moves = past_moves;
+      costs = record { most = omega (arith, past_costs.most); least = past_costs.least };
+    }
+
+    pub run_turn : Reads Parts true d.rest e.rest → Running f e
+    run_turn p = record { run = snoc spaced (ws_comment ((block_reads true b d e.rest two p e.rest).1 refl)); moves = past_moves; costs = past_costs }
+
+-- the end of an escline
+pub end_comment : (a m : Here) (e : Text) → TookTwo 47 47 a m → ((r : Text) → Line m.rest r ↔ (r ≡ e)) → (r : Text) → EscEnd a.rest r ↔ (r ≡ e)
+end_comment a m e t p = let found : EscEnd a.rest e = comment ((line_reads a m e t p e).1 refl) in reads_found EscEnd _ _ found (λ r x. esc_end_det x found)
+
+pub end_newline : (a b : Here) (e : Text) → Stayed 2 a b → Newline b.rest e → (r : Text) → EscEnd a.rest r ↔ (r ≡ e)
+end_newline a b e s n = let found : EscEnd a.rest e = newline (rw s.rest at n) in reads_found EscEnd _ _ found (λ r x. esc_end_det x found)
+
+pub end_text : (a b d e : Here) → Stayed 2 a b → Stayed 1 b d → None ≡ first d.rest → e ≡ looked d → (r : Text) → EscEnd a.rest r ↔ (r ≡ e.rest)
+end_text a b d e s t n l =
+    let x : d.rest ≡ [] = nothing d.rest n in
+    let y : a.rest ≡ [] = sym s.rest ∙ sym t.rest ∙ x in
+    let z : e.rest ≡ [] = (stayed_looked d e l).rest ∙ x in
+    let found : EscEnd a.rest e.rest = rw (y, z) ends in reads_found EscEnd _ _ found (λ r x. esc_end_det x found)
+  where
+    nothing : (v : Text) → None ≡ first v → v ≡ []
+    nothing [] n = refl
+    nothing (c ∷ v) n = cc
+
+no_end : {c : ℕ} {s r : Text} → begins_two 47 47 (c ∷ s) ≡ false → ((t : Text) → Newline (c ∷ s) t → ⊥) → EscEnd (c ∷ s) r → ⊥
+no_end x n (comment l) = no_line_comment x l
+no_end x n (newline m) = n _ m
+
+pub end_none : (c : ℕ) (a b d : Here) → AteTwo 47 47 false a b → ReadsNewline false b d → Some c ≡ first d.rest → (r : Text) → EscEnd a.rest r → ⊥
+end_none c a b d (x, s) (t, n) h r = go d.rest (t.rest ∙ s.rest) h
+  where
+    go : (v : Text) → v ≡ a.rest → Some c ≡ first v → EscEnd a.rest r → ⊥
+    go [] e h p = cc
+    go (k ∷ v) e h p = no_end (rw (← e) at x) (λ u w. n u (subst (λ z. Newline z u) (e ∙ sym s.rest) w)) (rw (← e) at p)

@@ -1,0 +1,14 @@
+-- What only proofs and contracts inside the crates need: no contract of a public call of `kdl` speaks of it.
+
+-- A place in a text that is read from left to right, and what a cursor's calls do to it.
+pub mod Here
+-- Lines of strings of many lines, as they are read.
+pub mod Lines
+-- How a reader of numbers stands to the text while the number is under way.
+pub mod NumberReading
+-- How a reader's answer stands to a relation, and what it costs.
+pub mod Reading
+-- Tables of ASCII characters: bit h of number l is that of the character 16 * h + l.
+pub mod Tables
+-- How the answers of the readers of comments and spaces stand to the text.
+pub mod TriviaReading

@@ -1,0 +1,132 @@
+-- A place in a text that is read from left to right, and what a cursor's calls do to it.
+use Rattle.std.specs.Prelude.{◌≡◌, ℕ, ◌+◌, ◌-◌, ◌^◌, min, nat_lt, ◌&&◌, List, [], ◌∷◌, ◌++◌, length, Bool, true, false, not, Option, Some, None}
+use Rattle.std.specs.List.{list_all}
+use Rattle.std.specs.Char.{len_utf8}
+use Rattle.std.specs.Str.{chars}
+use Rattle.kdl_text.specs.Chars.{Text, begins, begins_two, starts, is_space, is_identifier_char, is_literal, is_newline_char, is_unquoted, is_number_sign, is_quote, is_comment_char}
+use Rattle.kdl_text.specs.Spans.{bytes}
+use Rattle.kdl_text.specs.declared.chars.Class.{Class}
+use Rattle.kdl_text.specs.declared.chars.Class.TheVariants.{Space, Identifier, Literal, Line, Unquoted, NumberSign, Quote, Comment}
+
+-- what a cursor has before it: the characters to come, where it stands in bytes, and the steps so far
+pub record Here : Type 0 where
+  pub rest : Text
+  pub at : ℕ
+  pub steps : ℕ
+
+-- a place to which a slice can go back: the characters that follow it, and where it stands in bytes
+pub record Spot : Type 0 where
+  pub rest : Text
+  pub at : ℕ
+
+-- a count raised by so many steps, up to the greatest number of 64 bits
+abbrev pub raise : ℕ → ℕ → ℕ
+raise count by = min (count + by) (2 ^ 64 - 1)
+
+-- the first character
+abbrev pub first : Text → Option ℕ
+first [] = None
+first (c ∷ s) = Some c
+
+-- the text behind the first character
+abbrev pub tail : Text → Text
+tail [] = []
+tail (c ∷ s) = s
+
+-- the bytes of the first character
+abbrev pub first_len : Text → ℕ
+first_len [] = 0
+first_len (c ∷ s) = len_utf8 c
+
+-- after a look
+abbrev pub looked : Here → Here
+looked h = record h { steps = raise h.steps 1 }
+
+-- after so many steps more
+abbrev pub counted : ℕ → Here → Here
+counted k h = record h { steps = raise h.steps k }
+
+-- past one character, if there is one
+abbrev pub stepped : Here → Here
+stepped h = record { rest = tail h.rest; at = h.at + first_len h.rest; steps = h.steps }
+
+-- after a slice of the piece p
+abbrev pub sliced : Text → Here → Here
+sliced p h = record h { steps = raise h.steps (bytes p) }
+
+-- some piece lies between the two
+abbrev pub Behind : Spot → Here → Type 0
+Behind old new = (p : Text) × (old.rest ≡ p ++ new.rest)
+
+-- some piece lies between the two places
+abbrev pub Ahead : Spot → Spot → Type 0
+Ahead from to = (p : Text) × (from.rest ≡ p ++ to.rest)
+
+-- a look at the character here, and a step past it
+abbrev pub Took : Option ℕ → Here → Here → Type 0
+Took None old new = (old.rest ≡ []) × (new ≡ looked old)
+Took (Some c) old new = (old.rest ≡ c ∷ new.rest) × (new.at ≡ old.at + len_utf8 c) × (new.steps ≡ raise old.steps 1)
+
+-- a look whether c stands here, and a step past it where it does
+abbrev pub Ate : ℕ → Bool → Here → Here → Type 0
+Ate c true old new = Took (Some c) old new
+Ate c false old new = (begins c old.rest ≡ false) × (new ≡ looked old)
+
+-- the cursor has not moved, and k steps were counted
+pub record Stayed (k : ℕ) (old new : Here) : Type 0 where
+  pub rest : new.rest ≡ old.rest
+  pub at : new.at ≡ old.at
+  pub steps : new.steps ≡ raise old.steps k
+
+-- past the characters a and b
+pub record TookTwo (a b : ℕ) (old new : Here) : Type 0 where
+  pub rest : old.rest ≡ a ∷ b ∷ new.rest
+  pub at : new.at ≡ old.at + len_utf8 a + len_utf8 b
+  pub steps : new.steps ≡ raise old.steps 2
+
+-- a look at two characters, and a step past them where they are these
+abbrev pub AteTwo : ℕ → ℕ → Bool → Here → Here → Type 0
+AteTwo a b true old new = TookTwo a b old new
+AteTwo a b false old new = (begins_two a b old.rest ≡ false) × Stayed 2 old new
+
+-- whether the character is of the class
+abbrev pub in_class : Class → ℕ → Bool
+in_class Space c = is_space c
+in_class Identifier c = is_identifier_char c
+in_class Literal c = is_literal c
+in_class Line c = not (is_newline_char c)
+in_class Unquoted c = is_unquoted c
+in_class NumberSign c = is_number_sign c
+in_class Quote c = is_quote c
+in_class Comment c = is_comment_char c
+
+-- past the longest run of characters of a class, each looked at once, and the one behind it
+pub record Ran (p : ℕ → Bool) (run : Text) (old new : Here) : Type 0 where
+  pub text : old.rest ≡ run ++ new.rest
+  pub all : list_all p run ≡ true
+  pub stops : starts p new.rest ≡ false
+  pub at : new.at ≡ old.at + bytes run
+  pub steps : new.steps ≡ raise old.steps (length run + 1)
+
+-- so many ASCII characters of the class begin the UTF-8 text `old` and leave `new`, where no other follows
+pub record AsciiOf (p : ℕ → Bool) (old new : List ℕ) (count : ℕ) : Type 0 where
+  pub run : Text
+  pub text : chars old ≡ run ++ chars new
+  pub all : list_all p run ≡ true
+  pub stops : starts (λ c. nat_lt c 128 && p c) (chars new) ≡ false
+  pub len : length old ≡ count + length new
+  pub count_is : length run ≡ count
+  pub bytes_is : bytes run ≡ count
+
+-- a run of the class begins the UTF-8 text `old` and leaves `new`, where it stops; it has so many characters
+pub record RunOf (p : ℕ → Bool) (old new : List ℕ) (count : ℕ) : Type 0 where
+  pub run : Text
+  pub text : chars old ≡ run ++ chars new
+  pub all : list_all p run ≡ true
+  pub stops : starts p (chars new) ≡ false
+  pub len : length old ≡ bytes run + length new
+  pub count_is : count ≡ length run
+
+-- the longest run of the class, whichever it is
+abbrev pub Skips : (ℕ → Bool) → Here → Here → Type 0
+Skips p old new = (run : Text) × Ran p run old new

@@ -1,0 +1,177 @@
+-- How a reader of numbers stands to the text while the number is under way.
+use Rattle.std.specs.Prelude.{◌≡◌, ℕ, ◌<◌, ◌≤◌, ◌^◌, ◌↔◌, true, false, Option, Some, None, Result, Ok, Err}
+use Rattle.std.specs.Prelude.{string_bytes, ◌∷◌, Bool}
+use Rattle.std.specs.Str.{chars}
+use Rattle.std.specs.Char.{digit_value}
+use Rattle.std.specs.Str.Parse.{digits_value, digits_value_after}
+use Rattle.kdl_text.specs.Chars.{Text, starts, is_identifier_char}
+use Rattle.kdl_text.specs.Internal.Here.{Here, Stayed, Took}
+use Rattle.kdl_text.specs.Numbers.{is_digit_of, fits, base_prefix, Digits, Integer, Sign, BasePrefix, Fraction, Exponent, DecimalPart, NumberValue, whole_value, decimal_text, IsNumber, IsKeyword, keyword_text, is_exponent_letter}
+use Rattle.kdl_text.specs.declared.numbers.Magnitude.{Magnitude}
+use Rattle.kdl_text.specs.declared.numbers.Magnitude.TheVariants.{Small, Large, Huge}
+use Rattle.kdl_text.specs.declared.numbers.Radix.{Radix}
+use Rattle.kdl_text.specs.declared.numbers.Radix.TheVariants.{Binary, Octal, Decimal, Hexadecimal}
+use Rattle.kdl_text.specs.declared.numbers.NumberFault.{NumberFault}
+use Rattle.kdl_text.specs.declared.numbers.NumberFault.TheVariants.{Trailing, TrailingDecimal, MissingDigits, MissingFraction, MissingExponent, OutOfRange}
+use Rattle.kdl_text.specs.declared.numbers.NumberFailure.{NumberFailure}
+use Rattle.kdl_text.specs.declared.numbers.NumberFailure.TheVariants.{Fault, Memory}
+use Rattle.kdl_text.specs.declared.numbers.Number.{Number}
+use Rattle.kdl_text.specs.declared.numbers.Number.TheVariants.{Integer as IntegerNumber, Decimal as DecimalNumber}
+use Rattle.kdl_text.specs.declared.numbers.Front.{Front}
+use Rattle.kdl_text.specs.declared.numbers.Keyword.{Keyword}
+use Rattle.kdl_text.specs.declared.numbers.Keyword.TheVariants.{Infinity, NegativeInfinity, NotANumber}
+
+-- the base as a number
+abbrev pub radix_of : Radix → ℕ
+radix_of Binary = 2
+radix_of Octal = 8
+radix_of Decimal = 10
+radix_of Hexadecimal = 16
+
+-- the base that a letter marks
+abbrev pub IsBase : Option Radix → Option ℕ → Type 0
+IsBase (Some b) k = k ≡ Some (radix_of b)
+IsBase None k = k ≡ None
+
+-- the base whose mark stands here, at which one or two looks were made
+abbrev pub LooksBasePrefix : Option Radix → Here → Here → Type 0
+LooksBasePrefix (Some b) old new = (base_prefix old.rest ≡ Some (radix_of b)) × Stayed 2 old new
+LooksBasePrefix None old new = (base_prefix old.rest ≡ None) × (k : ℕ) × (k ≤ 2) × Stayed k old new
+
+-- the magnitude is n, or n doesn't fit 128 bits
+abbrev pub Counts : Magnitude → ℕ → Type 0
+Counts (Small v) n = v ≡ n
+Counts (Large v) n = v ≡ n
+Counts Huge n = 2 ^ 128 ≤ n
+
+-- what the character counts as a digit of the base, or that it is none
+abbrev pub IsDigit : ℕ → ℕ → Option ℕ → Type 0
+IsDigit radix c None = is_digit_of radix c ≡ false
+IsDigit radix c (Some d) = (is_digit_of radix c ≡ true) × (d ≡ digit_value c) × (d < radix)
+
+-- the digits and `_` here were read, and follow the number that is under way
+abbrev pub ReadsDigits : ℕ → Magnitude → Magnitude → Text → Text → Type 0
+ReadsDigits radix before after s rest = (w : Text) × Digits radix s rest w × ((n : ℕ) → Counts before n → Counts after (digits_value_after radix n w))
+
+-- an integer was read, or no digit of the base stands here
+abbrev pub ReadsInteger : ℕ → Option Magnitude → Text → Text → Type 0
+ReadsInteger radix (Some m) s rest = (w : Text) × Integer radix s rest w × Counts m (digits_value radix w)
+ReadsInteger radix None s rest = (rest ≡ s) × (starts (is_digit_of radix) s ≡ false)
+
+-- the front of a number, as far as its first integer
+pub record IsFront (f : Front) (t rest : Text) : Type 0 where
+  pub behind_sign : Text
+  pub behind_mark : Text
+  pub digits : Text
+  pub sign : Sign t behind_sign f.minus
+  pub mark : BasePrefix behind_sign behind_mark (radix_of f.radix)
+  pub int : Integer (radix_of f.radix) behind_mark rest digits
+  pub counts : Counts f.magnitude (digits_value (radix_of f.radix) digits)
+
+-- a sign, the mark of the base and an integer of it begin the text and leave u
+pub record Begun (b : Radix) (t u : Text) : Type 0 where
+  pub behind_sign : Text
+  pub behind_mark : Text
+  pub digits : Text
+  pub negative : Bool
+  pub sign : Sign t behind_sign negative
+  pub mark : BasePrefix behind_sign behind_mark (radix_of b)
+  pub int : Integer (radix_of b) behind_mark u digits
+
+-- a point, and no digit where the text is left
+abbrev pub PointFault : Text → Text → Type 0
+PointFault s rest = (s ≡ 46 ∷ rest) × (starts (is_digit_of 10) rest ≡ false)
+
+-- `e` or `E` and a sign, and no digit where the text is left
+abbrev pub PowerFault : Text → Text → Type 0
+PowerFault s rest = (c : ℕ) × (t : Text) × (n : Bool) × (s ≡ c ∷ t) × (is_exponent_letter c ≡ true) × Sign t rest n × (starts (is_digit_of 10) rest ≡ false)
+
+-- what is wrong behind the first integer of a decimal, where the text is left
+abbrev pub PartFault : NumberFault → Text → Text → Type 0
+PartFault MissingFraction s rest = PointFault s rest
+PartFault MissingExponent s rest = (t : Text) × (point : Bool) × Fraction s t point × PowerFault t rest
+PartFault TrailingDecimal s rest = (t : Text) × (point power : Bool) × Fraction s t point × Exponent t rest power × (starts is_identifier_char rest ≡ true)
+PartFault (Trailing b) s rest = (b ≡ Decimal) × (rest ≡ s)
+PartFault _ s rest = ⊥
+
+-- what is wrong with the number that begins the text, where the text is left
+abbrev pub FaultAt : NumberFault → Text → Text → Type 0
+FaultAt (MissingDigits b) t rest = (s : Text) × (n : Bool) × Sign t s n × BasePrefix s rest (radix_of b) × (starts (is_digit_of (radix_of b)) rest ≡ false)
+FaultAt (Trailing b) t rest = Begun b t rest × (starts is_identifier_char rest ≡ true)
+FaultAt OutOfRange t rest = (b : Radix) × (x : Begun b t rest) × (fits x.negative (digits_value (radix_of b) x.digits) ≡ false)
+FaultAt MissingFraction t rest = (u : Text) × Begun Decimal t u × PartFault MissingFraction u rest
+FaultAt MissingExponent t rest = (u : Text) × Begun Decimal t u × PartFault MissingExponent u rest
+FaultAt TrailingDecimal t rest = (u : Text) × Begun Decimal t u × PartFault TrailingDecimal u rest
+
+-- where a fault is answered, it is the one that is there
+abbrev pub IsFault : {A : Type 0} → Result A NumberFault → Text → Text → Type 0
+IsFault (Ok x) t rest = Unit {0}
+IsFault (Err e) t rest = FaultAt e t rest
+
+-- likewise behind an integer
+abbrev pub IsPartFault : {A : Type 0} → Result A NumberFault → Text → Text → Type 0
+IsPartFault (Ok x) t rest = Unit {0}
+IsPartFault (Err e) t rest = PartFault e t rest
+
+-- likewise of an exponent
+abbrev pub IsPowerFault : {A : Type 0} → Result A NumberFault → Text → Text → Type 0
+IsPowerFault (Ok x) t rest = Unit {0}
+IsPowerFault (Err e) t rest = (e ≡ MissingExponent) × PowerFault t rest
+
+-- likewise where memory may be refused
+abbrev pub IsNumberFault : {A : Type 0} → Result A NumberFailure → Text → Text → Type 0
+IsNumberFault (Err (Fault e)) t rest = FaultAt e t rest
+IsNumberFault _ t rest = Unit {0}
+
+-- the front of a number was read, or no number begins here
+abbrev pub ReadsFront : Result Front NumberFault → Text → Text → Type 0
+ReadsFront (Ok f) s rest = IsFront f s rest
+ReadsFront (Err e) s rest = (r : Text) (v : NumberValue) → IsNumber s r v → ⊥
+
+-- a fraction was read, or seen not to stand here; or its point has no digit behind it
+abbrev pub ReadsFraction : Result Bool NumberFault → Text → Text → Type 0
+ReadsFraction (Ok b) s rest = Fraction s rest b
+ReadsFraction (Err e) s rest = (r : Text) (b : Bool) → Fraction s r b → ⊥
+
+-- an exponent was read, or seen not to stand here; or its mark has no digit behind it
+abbrev pub ReadsExponent : Result Bool NumberFault → Text → Text → Type 0
+ReadsExponent (Ok b) s rest = Exponent s rest b
+ReadsExponent (Err e) s rest = (r : Text) (b : Bool) → Exponent s r b → ⊥
+
+-- the part was read that makes a decimal of an integer, or none stands here
+abbrev pub ReadsPart : {A : Type 0} → Result A NumberFault → Text → Text → Type 0
+ReadsPart (Ok x) s rest = DecimalPart s rest
+ReadsPart (Err e) s rest = (r : Text) → DecimalPart s r → ⊥
+
+-- what the number stands for
+abbrev pub number_value : Number → NumberValue
+number_value (IntegerNumber n) = whole_value n
+number_value (DecimalNumber s) = decimal_text (chars (string_bytes s))
+
+-- a number begins here, and stands for x alone; or none begins here; or memory was refused
+abbrev pub ReadsNumber : Result Number NumberFailure → Text → Text → Type 0
+ReadsNumber (Ok x) s rest = (r : Text) (v : NumberValue) → IsNumber s r v ↔ ((r ≡ rest) × (v ≡ number_value x))
+ReadsNumber (Err (Fault e)) s rest = (r : Text) (v : NumberValue) → IsNumber s r v → ⊥
+ReadsNumber (Err Memory) s rest = Unit {0}
+
+-- a keyword begins here, and it is k alone; or none begins here
+abbrev pub ReadsKeyword : Option Keyword → Text → Text → Type 0
+ReadsKeyword (Some k) s rest = (r : Text) (x : Keyword) → IsKeyword s r x ↔ ((r ≡ rest) × (x ≡ k))
+ReadsKeyword None s rest = (r : Text) (x : Keyword) → IsKeyword s r x → ⊥
+
+-- `e` or `E` was read where it stands, and else the cursor stayed
+abbrev pub AteExponentLetter : Bool → Here → Here → Type 0
+AteExponentLetter true old new = (c : ℕ) × (is_exponent_letter c ≡ true) × Took (Some c) old new
+AteExponentLetter false old new = (starts is_exponent_letter old.rest ≡ false) × Stayed 1 old new
+
+-- the keyword whose word behind `#` this is, or none has it
+abbrev pub WordOf : Option Keyword → Text → Type 0
+WordOf (Some k) w = keyword_text k ≡ 35 ∷ w
+WordOf None w = (k : Keyword) → keyword_text k ≡ 35 ∷ w → ⊥
+
+-- the keyword is that of a number
+abbrev pub is_of_number : Keyword → Bool
+is_of_number Infinity = true
+is_of_number NegativeInfinity = true
+is_of_number NotANumber = true
+is_of_number _ = false

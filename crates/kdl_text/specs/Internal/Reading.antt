@@ -1,0 +1,35 @@
+-- How a reader's answer stands to a relation, and what it costs.
+use Rattle.std.specs.Prelude.{◌≡◌, ℕ, ◌+◌, ◌*◌, ◌≤◌, ◌↔◌, Bool, true, false, List, ◌++◌, length}
+use Rattle.kdl_text.specs.Chars.{Text, Star, Newline}
+use Rattle.kdl_text.specs.Internal.Here.{Here, raise, Stayed}
+use Rattle.kdl_text.specs.Spans.{bytes}
+
+-- exactly one piece begins here, and rest is what is left of the text behind it, or none does
+abbrev pub Reads : (Text → Text → Type 0) → Bool → Text → Text → Type 0
+Reads R true s rest = (r : Text) → R s r ↔ (r ≡ rest)
+Reads R false s rest = (r : Text) → R s r → ⊥
+
+-- the cursor went on in the same text, and its count did not fall
+pub record Moves (old new : Here) : Type 0 where
+  pub piece : (p : Text) × (old.rest ≡ p ++ new.rest)
+  pub at : new.at + bytes new.rest ≡ old.at + bytes old.rest
+  pub counts : raise old.steps 0 ≤ raise new.steps 0
+
+-- at most k steps for each byte that was read, and c more, and at least one for each character
+pub record Costs (k c : ℕ) (old new : Here) : Type 0 where
+  pub most : new.steps + k * bytes new.rest ≤ old.steps + k * bytes old.rest + c
+  pub least : raise old.steps (length old.rest) ≤ raise new.steps (length new.rest)
+
+-- a run of pieces begins here, and none more behind it
+abbrev pub Longest : (Text → Text → Type 0) → Text → Text → Type 0
+Longest R s rest = Star R s rest × ((t : Text) → R rest t → ⊥)
+
+-- a newline was read where one begins, and else nothing
+abbrev pub ReadsNewline : Bool → Here → Here → Type 0
+ReadsNewline true old new = Newline old.rest new.rest
+ReadsNewline false old new = Stayed 1 old new × ((t : Text) → Newline old.rest t → ⊥)
+
+-- an X from s stands for `out`, and then for what an X from t stands for
+pub record Goes {A : Type 0} (X : Text → Text → List A → Type 0) (s : Text) (out : List A) (t : Text) : Type 0 where
+  pub on : (r : Text) (v : List A) → X t r v → X s r (out ++ v)
+  pub back : (r : Text) (w : List A) → X s r w → (v : List A) × (w ≡ out ++ v) × X t r v
