@@ -4,7 +4,7 @@ use crate::hash_of;
 use crate::reading::{
     differ, equal, float, holds, identifier, node, node_text, read, string, text,
 };
-use kdl::{KdlEntry, KdlNode, KdlValue, SourceSpan};
+use kdl::{KdlEntry, KdlIdentifier, KdlNode, KdlValue, SourceSpan};
 use std::alloc::Global;
 use std::cmp::Ordering;
 use std::process::Abort;
@@ -87,6 +87,40 @@ fn identifiers_by_value_and_spelling(rt: HostRuntime) {
     other.set_value(text(&rt, alloc, "b"));
     differ(&rt, &other, &name);
     drop(name);
+    drop(other);
+}
+
+/// The identifier that the text is.
+fn bare_word(rt: &impl Abort, alloc: Global, text: &str) -> KdlIdentifier {
+    match KdlIdentifier::parse(alloc, text) {
+        Ok(name) => name,
+        Err(failure) => panic!(rt; "{text:?}: {failure}"),
+    }
+}
+
+/// Both are equal, and so are their hashes.
+fn are_one(rt: &impl Abort, a: &KdlIdentifier, b: &KdlIdentifier) {
+    equal(rt, a, b);
+    equal(rt, &hash_of(a), &hash_of(b));
+}
+
+#[test]
+fn identifiers_spelled_as_their_values(rt: HostRuntime) {
+    let alloc = rt.alloc();
+    let mut bare = bare_word(&rt, alloc, "a");
+    equal(&rt, &bare.repr(), &Some("a"));
+    let mut other = identifier(&rt, alloc, "a");
+    differ(&rt, &bare, &other);
+    other.set_repr(text(&rt, alloc, "a"));
+    are_one(&rt, &bare, &other);
+    bare.set_value(text(&rt, alloc, "b"));
+    equal(&rt, &bare.repr(), &Some("a"));
+    differ(&rt, &bare, &other);
+    other.set_value(text(&rt, alloc, "b"));
+    are_one(&rt, &bare, &other);
+    bare.clear_format();
+    equal(&rt, &bare, &identifier(&rt, alloc, "b"));
+    drop(bare);
     drop(other);
 }
 

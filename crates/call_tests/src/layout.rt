@@ -200,7 +200,7 @@ fn a_built_document(rt: HostRuntime) {
     becomes_built(&rt, rt.alloc(), false);
 }
 
-/// The entry has the leading text and the spelling of the value, no other text, and no mark.
+/// The entry has the leading text and the spelling of the value, no other text, and no flag.
 fn is_kept(rt: &impl Abort, alloc: Global, entry: &KdlEntry, leading: &str, value_repr: &str) {
     let mut wanted = KdlEntryFormat::new(alloc);
     wanted.leading = text(rt, alloc, leading);
@@ -216,7 +216,7 @@ const LEADING: &str = " \\\n ";
 
 const REPR: &str = "0x10";
 
-/// Checks a marked entry, which keeps its form once.
+/// Checks a flagged entry, which keeps its form once.
 fn keeps_its_form(rt: &impl Abort, alloc: Global, no_comments: bool) {
     let mut document = read(rt, alloc, "n 1 0x2");
     for node in document.nodes_mut().iter_mut() {
@@ -234,7 +234,7 @@ fn keeps_its_form(rt: &impl Abort, alloc: Global, no_comments: bool) {
 }
 
 #[test]
-fn marked_entries_keep_their_form(rt: HostRuntime) {
+fn flagged_entries_keep_their_form(rt: HostRuntime) {
     keeps_its_form(&rt, rt.alloc(), true);
     keeps_its_form(&rt, rt.alloc(), false);
 }
@@ -251,8 +251,8 @@ fn becomes(
     prints(rt, alloc, document, text);
 }
 
-/// Checks a document whose entries are all marked by the configuration: it prints the text as often as it is laid out
-/// so, and the canonical one when it is laid out without marks.
+/// Checks a document whose entries are all flagged by the configuration: it prints the text as often as it is laid out
+/// so, and the canonical one when it is laid out without flags.
 fn keeps_all(rt: &impl Abort, alloc: Global, no_comments: bool, kept: &str, canonical: &str) {
     let mut document = read(rt, alloc, "n 1 ( u )0x2 /*x*/ 3.0 {\n  m\t#\"a\"# // c\n}");
     for node in document.nodes_mut().iter_mut() {

@@ -33,10 +33,10 @@ module _ (exact : Bool) (whole : Text) where
     nodes_keep_none no_node = tt
     nodes_keep_none (a_node l n e z ns) = (node_keeps_none n, nodes_keep_none ns)
 
-mark_keeps_none : {exact : Bool} {whole : Text} {d : Document} {s r : Text} → LaidContent exact whole d s r → DocumentKeepsNone d → DocumentKeepsNone (with_bom d)
-mark_keeps_none (without_nodes g z) h = h
-mark_keeps_none (with_nodes ns g z) h = h
+bom_keeps_none : {exact : Bool} {whole : Text} {d : Document} {s r : Text} → LaidContent exact whole d s r → DocumentKeepsNone d → DocumentKeepsNone (with_bom d)
+bom_keeps_none (without_nodes g z) h = h
+bom_keeps_none (with_nodes ns g z) h = h
 
 pub laid_keeps_none : (exact : Bool) (d : Document) (t : Text) → LaidDocument exact d t → DocumentKeepsNone d
-laid_keeps_none exact d t (LaidDocument.unmarked c) = content_keeps_none exact t c
-laid_keeps_none exact d t (LaidDocument.marked {t = u} c) = mark_keeps_none c (content_keeps_none exact t c)
+laid_keeps_none exact d t (LaidDocument.no_bom c) = content_keeps_none exact t c
+laid_keeps_none exact d t (LaidDocument.behind_bom {t = u} c) = bom_keeps_none c (content_keeps_none exact t c)

@@ -1,22 +1,13 @@
 -- What layout makes of nodes and documents in memory.
-use Rattle.std.specs.List.{list_all}
-use Rattle.std.specs.Prelude.{◌≡◌, List, map, true}
-use Rattle.kdl_text.specs.Chars.{Text, is_space}
-use Rattle.kdl_fmt.specs.Comments.{DocumentItems, NodeItems}
+pub use Rattle.kdl_fmt.specs.Comments.{NodeCommentsStay}
+pub use Rattle.kdl_fmt.specs.Config.{IndentsBySpaces}
 use Rattle.kdl_fmt.specs.Config.{Settings}
 use Rattle.kdl_fmt.specs.Formatted.{DocumentKeepsNone, NodeKeepsNone, bare_document, bare_node, formatted_document, formatted_node}
 use Rattle.kdl_fmt.specs.WithComments.{IsFormattedDocument, IsFormattedNode}
-use Rattle.kdl_grammar.specs.Laid.{LaidDocument}
 use Rattle.kdl_grammar.specs.Tree.{Document, Node}
-use Rattle.kdl_items.specs.Items.{Item}
-use Rattle.kdl_items.specs.Written.{on_line}
 use Rattle.kdl.specs.Tree.{document_tree, node_tree}
 use Rattle.kdl.specs.declared.document.KdlDocument.{KdlDocument}
 use Rattle.kdl.specs.declared.node.KdlNode.{KdlNode}
-
--- the indent is of spaces
-abbrev pub IndentsBySpaces : Settings → Type 0
-IndentsBySpaces s = list_all is_space s.indent ≡ true
 
 -- all but formats and spellings
 abbrev pub node_bare : KdlNode → Node
@@ -25,12 +16,12 @@ node_bare n = bare_node (node_tree n)
 abbrev pub document_bare : KdlDocument → Document
 document_bare d = bare_document (document_tree d)
 
--- no entry is marked to keep its form, at any depth
-abbrev pub NodeUnmarked : KdlNode → Type 0
-NodeUnmarked n = NodeKeepsNone (node_tree n)
+-- no entry is flagged to keep its form, at any depth
+abbrev pub NodeKeepsNoForm : KdlNode → Type 0
+NodeKeepsNoForm n = NodeKeepsNone (node_tree n)
 
-abbrev pub DocumentUnmarked : KdlDocument → Type 0
-DocumentUnmarked d = DocumentKeepsNone (document_tree d)
+abbrev pub DocumentKeepsNoForm : KdlDocument → Type 0
+DocumentKeepsNoForm d = DocumentKeepsNone (document_tree d)
 
 -- m is n, laid out from the level of the settings on; e is d
 abbrev pub NodeLaidOut : Settings → KdlNode → KdlNode → Type 0
@@ -45,7 +36,3 @@ plain_node s n = formatted_node s s.indent_level (node_tree n)
 
 abbrev pub plain_document : Settings → KdlDocument → Document
 plain_document s d = formatted_document s s.indent_level (document_tree d)
-
--- the comments of a node that is printed alone, and what a slashdash drops there, are those of the text, each as it stands on a line
-abbrev pub NodeCommentsStay : Node → Text → Type 0
-NodeCommentsStay n t = (e : Document) (is : List Item) → NodeItems n is → LaidDocument true e t → DocumentItems e (map on_line is)

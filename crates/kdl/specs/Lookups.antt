@@ -5,6 +5,7 @@ use Rattle.kdl_value.specs.Tree.{value_tree}
 use Rattle.kdl_entry.specs.declared.entry.KdlEntry.{KdlEntry}
 use Rattle.kdl_value.specs.declared.value.KdlValue.{KdlValue}
 use Rattle.kdl.specs.Change.{with_entries, with_value}
+pub use Rattle.kdl_parts.specs.EntryLists.{held_value, value_of}
 use Rattle.kdl_parts.specs.EntryLists.{place_of, last_place, has_name, there}
 use Rattle.kdl_parts.specs.Written.{set_entry_there, set_value_there, IsPushed}
 use Rattle.kdl_parts.specs.declared.key.NodeKey.{NodeKey}
@@ -29,13 +30,6 @@ entry_there place n = there place (entries_of n)
 -- the value of the entry at a place that was found
 abbrev pub value_there : Option ℕ → KdlNode → Option Value
 value_there place n = option_map (λ e. value_tree e.value) (entry_there place n)
-
--- the value of an entry, where there is one: what it says, and as it is in memory
-abbrev pub value_of : Option KdlEntry → Option Value
-value_of o = option_map (λ e. value_tree e.value) o
-
-abbrev pub held_value : Option KdlEntry → Option KdlValue
-held_value o = option_map (λ e. e.value) o
 
 -- the entry that a key finds, and its value
 abbrev pub found_entry : NodeKey → KdlNode → Option KdlEntry

@@ -23,6 +23,6 @@ pub use Rattle.kdl_fmt.specs.WithComments.{IsFormattedDocument}
 pub use Rattle.kdl.specs.Change.{with_entries, with_entry, with_node, with_nodes}
 pub use Rattle.kdl.specs.DocumentLookups.{argument_named, arguments_of, is_node_named, node_named, node_place, nodes_of, with_argument_named, with_node_named}
 pub use Rattle.kdl.specs.EditLaw.{EntryExchanged, NodeExchanged, PrintsAtPlace}
-pub use Rattle.kdl.specs.Layout.{DocumentLaidOut, DocumentUnmarked, IndentsBySpaces, NodeCommentsStay, NodeLaidOut, NodeUnmarked, plain_document, plain_node}
+pub use Rattle.kdl.specs.Layout.{DocumentLaidOut, DocumentKeepsNoForm, IndentsBySpaces, NodeCommentsStay, NodeLaidOut, NodeKeepsNoForm, plain_document, plain_node}
 pub use Rattle.kdl.specs.Lookups.{entries_of, entry_there, found_entry, found_value, held_value, key_place, property_place, property_value, value_of, with_found_entry, with_found_value}
 pub use Rattle.kdl.specs.Tree.{document_prints, document_says, document_tree, node_prints, node_says, node_tree, nodes_tree}

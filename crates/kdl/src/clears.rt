@@ -15,13 +15,13 @@ use std::mem;
 pub(crate) fn clear_all(here: &mut KdlDocument)
     ensures { document_tree here.new ≡ cleared_document (document_tree here.old) }
 {
-    here.mark();
+    here.set_due();
     let mut above: Option<KdlDocument> = None;
     let mut at = 0;
     'due: loop {
         if at < here.nodes().len() {
             if let Some(mut block) = here.clear_at(at) {
-                block.mark();
+                block.set_due();
                 here.exchange_block(at, above);
                 above = Some(mem::replace(here, block));
                 at = 0;

@@ -7,7 +7,7 @@ ghost use Rattle.kdl_grammar.specs.Grammar.{IsDocument, IsNodeText};
 ghost use Rattle.kdl_grammar.specs.Laid.{LaidNodeText};
 ghost use Rattle.kdl_grammar.specs.Internal.Machine.{AnswersDocument};
 ghost use Rattle.kdl_text.specs.Failures.{IsSyntax, TellsOnSyntax};
-ghost use Rattle.kdl_text.specs.Internal.Here.{raise};
+ghost use Rattle.kdl_text.specs.Spans.{raise};
 ghost use Rattle.std.specs.Prelude.{◌≡◌, ◌+◌, ◌*◌, ◌≤◌, length, true, IfOk, OnOk};
 ghost use Rattle.std.specs.Str.{chars};
 

@@ -6,7 +6,7 @@ use Rattle.std.specs.String.{string_eq}
 use Rattle.std.proofs.lemmas.Bool.Decides.{Decides-and, Decides-like}
 use Rattle.kdl_value.proofs.Comparing.Equality.{text_decides, truth_decides, value_decides}
 use Rattle.kdl_value.specs.Tree.{text_of}
-use Rattle.kdl_entry.specs.Tree.{Identifier, identifier_tree, entry_tree, entry_format_tree, without_span, without_spans}
+use Rattle.kdl_entry.specs.Tree.{Identifier, identifier_tree, spelling_of, entry_tree, entry_format_tree, without_span, without_spans}
 use Rattle.kdl_entry.specs.declared.identifier.KdlIdentifier.{KdlIdentifier}
 use Rattle.kdl_entry.specs.declared.entry.KdlEntry.{KdlEntry}
 use Rattle.kdl_entry.specs.declared.entry.KdlEntryFormat.{KdlEntryFormat}
@@ -26,9 +26,9 @@ option_decides eq f d (Some x) (Some y) = (λ e. ap (λ z. Some z) ((d x y).0 e)
 pub identifier_decides : (i j : KdlIdentifier) → Decides (identifier_impl.ghosts.eq i j) (without_span (identifier_tree i) ≡ without_span (identifier_tree j))
 identifier_decides i j =
     Decides-like _ (λ e. cc) (λ e. (ap (λ x. x.value) e, ap (λ x. x.repr) e))
-    (Decides-and _ _ (text_decides i.value j.value) (option_decides string_eq text_of text_decides i.repr j.repr))
+    (Decides-and _ _ (text_decides i.value j.value) (option_decides string_eq text_of text_decides (spelling_of i) (spelling_of j)))
 
--- formats are equal exactly where all their texts and marks are
+-- formats are equal exactly where all their texts and flags are
 pub format_decides : (f g : KdlEntryFormat) → Decides (format_impl.ghosts.eq f g) (entry_format_tree f ≡ entry_format_tree g)
 format_decides f g =
     let last = Decides-and _ _ (text_decides f.after_eq g.after_eq) (truth_decides f.autoformat_keep g.autoformat_keep) in
@@ -37,7 +37,7 @@ format_decides f g =
     let ends = Decides-and _ _ (text_decides f.trailing g.trailing) (Decides-and _ _ (text_decides f.after_ty g.after_ty) types) in
     let all = Decides-and _ _ (text_decides f.value_repr g.value_repr) (Decides-and _ _ (text_decides f.leading g.leading) ends) in
     Decides-like _
-    (λ (value, (leading, (trailing, (ty, (before, (behind, (key, (eq, mark)))))))). cc)
+    (λ (value, (leading, (trailing, (ty, (before, (behind, (key, (eq, keep)))))))). cc)
     (λ e. (
       ap (λ x. x.value_repr) e,
       (

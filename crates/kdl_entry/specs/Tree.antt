@@ -1,11 +1,14 @@
 -- Identifiers and entries with every text and span, and nothing of how memory holds them.
-use Rattle.std.specs.Prelude.{[], Bool, true, false, if◌then◌else◌, Option, Some, None, option_map}
+use Rattle.std.specs.Prelude.{[], Bool, true, false, if◌then◌else◌, Option, Some, None, option_map, String}
+use Rattle.std.specs.declared.alloc.Global.{Global}
 use Rattle.kdl_text.specs.Chars.{Text}
 use Rattle.kdl_text.specs.declared.span.SourceSpan.{SourceSpan}
 use Rattle.kdl_value.specs.Data.{Value}
 use Rattle.kdl_value.specs.Tree.{text_of, value_tree}
 use Rattle.kdl_entry.specs.Data as data'
 use Rattle.kdl_entry.specs.declared.identifier.KdlIdentifier.{KdlIdentifier}
+use Rattle.kdl_entry.specs.declared.identifier.Spelling.{Spelling}
+use Rattle.kdl_entry.specs.declared.identifier.Spelling.TheVariants.{NotKept, AsValue, Own}
 use Rattle.kdl_entry.specs.declared.entry.KdlEntry.{KdlEntry}
 use Rattle.kdl_entry.specs.declared.entry.KdlEntryFormat.{KdlEntryFormat}
 
@@ -42,7 +45,7 @@ no_span = record { offset = 0; len = 0 }
 abbrev pub plain_identifier : Text → Identifier
 plain_identifier s = record { value = s; repr = None; span = no_span }
 
--- empty texts, without the mark
+-- empty texts, without the flag
 abbrev pub empty_format : EntryFormat
 empty_format = record {
   value_repr = [];
@@ -84,11 +87,11 @@ cleared e = record (unspelled_names e) { format = None }
 abbrev pub with_keep : EntryFormat → EntryFormat
 with_keep f = record f { autoformat_keep = true }
 
--- what autoformat keeps of a format: the spelling of the value and the text before the entry, without the mark
+-- what autoformat keeps of a format: the spelling of the value and the text before the entry, without the flag
 abbrev pub kept : EntryFormat → EntryFormat
 kept f = record empty_format { value_repr = f.value_repr; leading = f.leading }
 
--- a format as autoformat leaves it: what it keeps of a marked one, and none of any other
+-- a format as autoformat leaves it: what it keeps of a flagged one, and none of any other
 abbrev pub autoformatted_format : Option EntryFormat → Option EntryFormat
 autoformatted_format None = None
 autoformatted_format (Some f) = if f.autoformat_keep then Some (kept f) else None
@@ -97,9 +100,18 @@ autoformatted_format (Some f) = if f.autoformat_keep then Some (kept f) else Non
 abbrev pub autoformatted : Entry → Entry
 autoformatted e = record (unspelled_names e) { format = autoformatted_format e.format }
 
+-- what spells an identifier in memory: nothing, its string, or a text of its own
+abbrev pub spelling_of : KdlIdentifier → Option (String Global)
+spelling_of i = spelled_by i.repr
+  where
+    spelled_by : Spelling → Option (String Global)
+    spelled_by NotKept = None
+    spelled_by AsValue = Some i.value
+    spelled_by (Own s) = Some s
+
 -- the identifier in memory, with texts as characters
 abbrev pub identifier_tree : KdlIdentifier → Identifier
-identifier_tree i = record { value = text_of i.value; repr = option_map text_of i.repr; span = i.span }
+identifier_tree i = record { value = text_of i.value; repr = option_map text_of (spelling_of i); span = i.span }
 
 -- the format of an entry in memory, with texts as characters
 abbrev pub entry_format_tree : KdlEntryFormat → EntryFormat

@@ -41,7 +41,7 @@ pub struct KdlEntryFormat {
 }
 
 impl KdlEntryFormat {
-    /// A format of empty texts, without the mark. It takes no memory.
+    /// A format of empty texts, without the flag. It takes no memory.
     ///
     /// ```
     /// let mut format = KdlEntryFormat::new(alloc); // an entry with it prints no value, since `value_repr` is empty
@@ -65,7 +65,7 @@ impl KdlEntryFormat {
         }
     }
 
-    /// Leaves the spelling of the value and the leading text alone, and takes the mark away.
+    /// Leaves the spelling of the value and the leading text alone, and takes the flag away.
     fn keep_value(&mut self)
         ensures { entry_format_tree self.new ≡ kept (entry_format_tree self.old) }
     {
@@ -89,18 +89,18 @@ fn clear_spelling(identifier: &mut Option<KdlIdentifier>)
     }
 }
 
-/// Keeps what autoformat keeps of a marked format, and drops any other.
+/// Keeps what autoformat keeps of a flagged format, and drops any other.
 fn autoformat_format(format: &mut Option<KdlEntryFormat>)
     ensures { option_map entry_format_tree format.new
         ≡ autoformatted_format (option_map entry_format_tree format.old) }
 {
     match format {
-        Some(marked) if marked.autoformat_keep => marked.keep_value(),
+        Some(format) if format.autoformat_keep => format.keep_value(),
         _ => *format = None,
     }
 }
 
-/// A copy with the same texts and the same mark. Fails where memory runs out.
+/// A copy with the same texts and the same flag. Fails where memory runs out.
 ///
 /// ```
 /// let format = KdlEntryFormat::new(alloc);
@@ -383,13 +383,13 @@ impl KdlEntry {
         clear_spelling(&mut self.name);
     }
 
-    /// Marks the format, where the entry has one: the next autoformat keeps the spelling of the value and the leading
+    /// Sets the flag of the format, where the entry has one: the next autoformat keeps the spelling of the value and the leading
     /// text.
     ///
     /// ```
     /// let mut entry = KdlEntry::parse(alloc, "0x10")?;
     /// entry.keep_format();
-    /// entry.autoformat(); // prints "0x10"; without the mark, "16"
+    /// entry.autoformat(); // prints "0x10"; without the flag, "16"
     /// ```
     pub fn keep_format(&mut self)
         ensures { entry_tree self.new
@@ -401,8 +401,8 @@ impl KdlEntry {
         }
     }
 
-    /// Drops the format and the spellings of the type and the key. Of a marked format the spelling of the value and
-    /// the leading text stay; the other texts become empty, and the mark is taken away.
+    /// Drops the format and the spellings of the type and the key. Of a flagged format the spelling of the value and
+    /// the leading text stay; the other texts become empty, and the flag is taken away.
     ///
     /// ```
     /// let mut entry = KdlEntry::parse(alloc, "\"a\" = 0x10")?;

@@ -2,31 +2,55 @@
 
 ghost use Rattle.kdl_entry.specs.Print.{print_identifier};
 ghost use Rattle.kdl_value.specs.Tree.{text_of};
-ghost use Rattle.kdl_entry.specs.Tree.{identifier_tree, plain_identifier, unspelled};
+ghost use Rattle.kdl_entry.specs.Tree.{identifier_tree, plain_identifier, spelling_of, unspelled};
 ghost use Rattle.kdl_text.specs.Spans.{bytes};
+ghost use Rattle.std.proofs.Common.{rules};
+ghost use Rattle.std.specs.Cmp.Rules.{comparing, hashing};
 ghost use Rattle.std.specs.Prelude.{◌≡◌, ◌↔◌, IsTrue, IfOk, [], Some, option_map};
 ghost use Rattle.std.specs.Str.{chars, encode_utf8_all};
 ghost use Rattle.std.specs.String.{string_vec};
 ghost use Rattle.std.specs.Vec.{vec_allocator};
 
+use kdl_text::chars::Piece;
 use kdl_text::span::SourceSpan;
 use kdl_value::{write_spelled, write_text};
 use std::alloc::{AllocError, Global};
-use std::fmt;
+use std::hash::{Hash, Hasher};
+use std::{fmt, mem};
+
+/// The spelling of a string.
+#[derive(Drop)]
+enum Spelling {
+    /// None is kept.
+    NotKept,
+    /// The string itself, as of what was read from a bare word: its text stands in memory once.
+    AsValue,
+    /// Its own text.
+    Own(String),
+}
 
 /// A name or a type: a string, with its spelling where it keeps one.
 ///
 /// Equality and hash ignore the span and regard the spelling.
-#[derive(Debug, Drop)]
-#[derive_where(PartialEq, Eq, Hash)]
+#[derive(Drop)]
 pub struct KdlIdentifier {
     value: String,
-    repr: Option<String>,
-    #[derive_where(skip(EqHashOrd))]
+    repr: Spelling,
     span: SourceSpan,
 }
 
 impl KdlIdentifier {
+    /// The text of the spelling, where the identifier keeps one.
+    fn spelling(&self) -> Option<&String>
+        ensures { option_map (λ r. r.now) result ≡ spelling_of self.now }
+    {
+        match &self.repr {
+            Spelling::NotKept => None,
+            Spelling::AsValue => Some(&self.value),
+            Spelling::Own(repr) => Some(repr),
+        }
+    }
+
     /// The string.
     ///
     /// ```
@@ -51,7 +75,10 @@ impl KdlIdentifier {
         ensures { identifier_tree self.new
             ≡ record (identifier_tree self.old) { value = text_of value } }
     {
-        self.value = value;
+        let old = mem::replace(&mut self.value, value);
+        if let Spelling::AsValue = self.repr {
+            self.repr = Spelling::Own(old);
+        }
     }
 
     /// Where the identifier stood in the text that it was parsed from, in bytes.
@@ -88,8 +115,9 @@ impl KdlIdentifier {
         ensures { option_map (λ r. chars r.now) result ≡ (identifier_tree self.now).repr }
     {
         match &self.repr {
-            Some(repr) => Some(repr.as_str()),
-            None => None,
+            Spelling::NotKept => None,
+            Spelling::AsValue => Some(self.value.as_str()),
+            Spelling::Own(repr) => Some(repr.as_str()),
         }
     }
 
@@ -103,7 +131,7 @@ impl KdlIdentifier {
         ensures { identifier_tree self.new
             ≡ record (identifier_tree self.old) { repr = Some (text_of repr) } }
     {
-        self.repr = Some(repr);
+        self.repr = Spelling::Own(repr);
     }
 
     /// Drops the spelling.
@@ -115,7 +143,7 @@ impl KdlIdentifier {
     pub fn clear_format(&mut self)
         ensures { identifier_tree self.new ≡ unspelled (identifier_tree self.old) }
     {
-        self.repr = None;
+        self.repr = Spelling::NotKept;
     }
 
     /// Drops the spelling.
@@ -172,15 +200,46 @@ impl KdlIdentifier {
 /// let repr = String::from_str(alloc, "\"a\"")?;
 /// let name = parsed_identifier(String::from_str(alloc, "a")?, repr, span); // prints "\"a\""
 /// ```
+#[inline]
 pub fn parsed_identifier(value: String, repr: String, span: SourceSpan) -> KdlIdentifier
     ensures { identifier_tree result
         ≡ record { value = text_of value; repr = Some (text_of repr); span = span } }
 {
     KdlIdentifier {
         value,
-        repr: Some(repr),
+        repr: Spelling::Own(repr),
         span,
     }
+}
+
+/// An identifier as it was read: its string, the piece of the text that spells it, and where it stood. Where the piece is
+/// the string, as a bare word is, the text stands in memory once, and none is taken. Else it fails where memory runs
+/// out.
+///
+/// ```
+/// let mut lexer = Lexer::new("ab=1", Steps::new());
+/// let whole = lexer.checkpoint();
+/// let token = lexer.next(alloc)?; // the string `ab`
+/// let piece = lexer.slice_between(&whole, &lexer.checkpoint());
+/// let span = SourceSpan { offset: 0, len: 2 };
+/// let name = sliced_identifier(alloc, String::from_str(alloc, "ab")?, &piece, span)?; // prints "ab"
+/// ```
+#[inline]
+pub(crate) fn sliced_identifier(
+    alloc: Global,
+    value: String,
+    piece: &Piece,
+    span: SourceSpan,
+) -> Result<KdlIdentifier, AllocError>
+    ensures { IfOk result (λ i. identifier_tree i
+        ≡ record { value = text_of value; repr = Some piece.now; span = span }) }
+{
+    let repr = if piece.is(value.as_str()) {
+        Spelling::AsValue
+    } else {
+        Spelling::Own(piece.to_string(alloc)?)
+    };
+    Ok(KdlIdentifier { value, repr, span })
 }
 
 /// The allocator of the identifier's string.
@@ -210,7 +269,7 @@ impl From<String> for KdlIdentifier {
     fn from(value: String) -> KdlIdentifier {
         KdlIdentifier {
             value,
-            repr: None,
+            repr: Spelling::NotKept,
             span: SourceSpan { offset: 0, len: 0 },
         }
     }
@@ -247,7 +306,11 @@ impl Clone for KdlIdentifier {
 
     fn clone(&self) -> Result<KdlIdentifier, AllocError> {
         let value = self.value.clone()?;
-        let repr = self.repr.clone()?;
+        let repr = match &self.repr {
+            Spelling::NotKept => Spelling::NotKept,
+            Spelling::AsValue => Spelling::AsValue,
+            Spelling::Own(repr) => Spelling::Own(repr.clone()?),
+        };
         Ok(KdlIdentifier {
             value,
             repr,
@@ -267,8 +330,66 @@ impl fmt::Display for KdlIdentifier {
 
     fn fmt<W: fmt::Write>(&self, f: &mut fmt::Formatter<W>) -> fmt::Result {
         match &self.repr {
-            Some(repr) => write_text(repr.as_str(), f),
-            None => write_spelled(self.value.as_str(), f),
+            Spelling::NotKept => write_spelled(self.value.as_str(), f),
+            Spelling::AsValue => write_text(self.value.as_str(), f),
+            Spelling::Own(repr) => write_text(repr.as_str(), f),
         }
+    }
+}
+
+/// Whether the strings and the spellings are equal, wherever the identifiers stood.
+///
+/// ```
+/// let bare = KdlIdentifier::parse(alloc, "a")?;
+/// let quoted = KdlIdentifier::parse(alloc, "\"a\"")?;
+/// let same = bare == quoted; // false: they are spelled otherwise
+/// ```
+impl PartialEq for KdlIdentifier {
+    ghost use Rattle.kdl_entry.specs.Tree.{spelling_of};
+    ghost use Rattle.std.specs.Option.{option_eq};
+    ghost use Rattle.std.specs.Ordering.{eq_of_both, on};
+    ghost use Rattle.std.specs.String.{string_eq};
+
+    ghost eq = { eq_of_both (on (λ i. i.value) string_eq) (on spelling_of (option_eq string_eq)) };
+
+    ghost laws = { Prim.search (comparing, rules) };
+
+    fn eq(&self, other: &KdlIdentifier) -> bool {
+        self.value == other.value && self.spelling() == other.spelling()
+    }
+}
+
+impl Eq for KdlIdentifier {
+    ghost laws = { Prim.search (comparing, rules) };
+}
+
+/// Writes the string and the spelling: equal identifiers write the same.
+///
+/// ```
+/// KdlIdentifier::parse(alloc, "a")?.hash(&mut hasher); // as each bare `a` does, wherever it stood
+/// ```
+impl Hash for KdlIdentifier {
+    ghost use Rattle.kdl_entry.specs.Tree.{spelling_of};
+    ghost use Rattle.std.specs.Hash as fed;
+    ghost use Rattle.std.specs.Prelude.{◌++◌, string_bytes};
+
+    ghost hash_input = { λ i. fed.str (string_bytes i.value)
+        ++ fed.option (λ s. fed.str (string_bytes s)) (spelling_of i) };
+
+    ghost respects_eq = { Prim.search (hashing, rules) };
+
+    fn hash<H: Hasher>(&self, state: &mut H) {
+        self.value.hash(state);
+        self.spelling().hash(state);
+    }
+}
+
+impl fmt::Debug for KdlIdentifier {
+    fn fmt<W: fmt::Write>(&self, f: &mut fmt::Formatter<W>) -> fmt::Result {
+        f.debug_struct("KdlIdentifier")
+            .field("value", &self.value)
+            .field("repr", &self.spelling())
+            .field("span", &self.span)
+            .finish()
     }
 }

@@ -82,7 +82,7 @@ fn ends_value(c: char) -> bool {
     matches!(c, '=' | ')' | '{' | '}' | ';') || is_space(c) || is_newline_char(c)
 }
 
-/// Whether a comment or the mark of a slashdash begins here.
+/// Whether a comment or a `/-` begins here.
 fn begins_slash_piece(cursor: &mut Cursor) -> bool
     ensures stayed { (k : ℕ) × (k ≤ 6) × Stayed k cursor.old cursor.new }
 {

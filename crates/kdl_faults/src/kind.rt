@@ -58,7 +58,7 @@ pub enum Kind {
     Raw,
     /// Behind a number stands no value end.
     NumberEnd(Form),
-    /// Behind the mark of a base stands no digit of it.
+    /// Behind the prefix of a base stands no digit of it.
     Digits(Form),
     /// Behind the point of a decimal stands no digit.
     Fraction,

@@ -34,7 +34,7 @@ pub(crate) enum Phase {
     /// Between nodes.
     Gap,
     /// Between nodes, behind `/-`.
-    Marked,
+    NodeSlashdash,
     /// Behind the name or an entry of a node.
     Node,
     /// Behind a string there that may be a key.
@@ -78,7 +78,7 @@ impl Phase {
     /// What is wrong where a piece does not fit.
     pub(crate) fn misfit(self) -> Kind {
         match self {
-            Phase::Gap | Phase::Marked | Phase::TypeDone(Typed::Node) => Kind::Name,
+            Phase::Gap | Phase::NodeSlashdash | Phase::TypeDone(Typed::Node) => Kind::Name,
             Phase::Property | Phase::TypeDone(Typed::Property) => Kind::Value,
             Phase::TypeOpen(_) | Phase::TypeName(_) => Kind::Type,
             _ => Kind::Misplaced,
@@ -104,10 +104,10 @@ impl Phase {
     pub(crate) fn takes(self, kind: PieceKind) -> Move {
         match self {
             Phase::Gap => in_gap(kind),
-            Phase::Marked => in_marked(kind),
+            Phase::NodeSlashdash => in_node_slashdash(kind),
             Phase::Node => in_node(kind, false),
             Phase::Word => in_node(kind, true),
-            Phase::Drop(dropped) => behind_mark(dropped, kind),
+            Phase::Drop(dropped) => behind_slashdash(dropped, kind),
             Phase::Later => behind_dropped_block(kind),
             Phase::Behind => behind_block(kind),
             Phase::Property => at_value(Typed::Property, kind),
@@ -140,7 +140,7 @@ impl Phase {
 fn in_gap(kind: PieceKind) -> Move {
     match kind {
         PieceKind::Newline => Move::To(Phase::Gap),
-        PieceKind::Slashdash => Move::To(Phase::Marked),
+        PieceKind::Slashdash => Move::To(Phase::NodeSlashdash),
         PieceKind::String => Move::To(Phase::Node),
         PieceKind::Left => Move::To(Phase::TypeOpen(Typed::Node)),
         PieceKind::Closing => Move::Close,
@@ -149,9 +149,9 @@ fn in_gap(kind: PieceKind) -> Move {
 }
 
 /// Between nodes, behind `/-`.
-fn in_marked(kind: PieceKind) -> Move {
+fn in_node_slashdash(kind: PieceKind) -> Move {
     match kind {
-        PieceKind::Newline => Move::To(Phase::Marked),
+        PieceKind::Newline => Move::To(Phase::NodeSlashdash),
         PieceKind::String => Move::To(Phase::Node),
         PieceKind::Left => Move::To(Phase::TypeOpen(Typed::Node)),
         _ => Move::Refuse,
@@ -181,7 +181,7 @@ fn in_node(kind: PieceKind, is_key: bool) -> Move {
 }
 
 /// Behind `/-` in a node.
-fn behind_mark(dropped: Dropped, kind: PieceKind) -> Move {
+fn behind_slashdash(dropped: Dropped, kind: PieceKind) -> Move {
     match (kind, dropped) {
         (PieceKind::Newline, _) => Move::To(Phase::Drop(dropped)),
         (PieceKind::Opening, Dropped::Last) => Move::Open(Phase::Behind),

@@ -298,16 +298,16 @@ fn string<'a>(
     }
 }
 
-/// The form of the whole number that the slice begins with, by its mark.
+/// The form of the whole number that the slice begins with, by its prefix.
 fn form_of(number: &Slice, cursor: &mut Cursor) -> Form
     ensures { (k : ℕ) × (k ≤ 4) × Stayed k cursor.old cursor.new }
 {
     let mut inside = number.cursor(Steps::new());
     let _ = inside.eat('-') || inside.eat('+');
     let _ = inside.eat('0');
-    let mark = inside.look();
+    let letter = inside.look();
     cursor.raise(inside.into_steps().count());
-    match mark {
+    match letter {
         Some('x' | 'X') => Form::Hexadecimal,
         Some('o' | 'O') => Form::Octal,
         Some('b' | 'B') => Form::Binary,
@@ -426,7 +426,7 @@ fn sign_piece<'a>(
 }
 
 /// The kind of a piece that is this character alone.
-fn mark_kind(c: char) -> Option<PieceKind>
+fn sign_kind(c: char) -> Option<PieceKind>
     ensures { IfSome result (λ k. k ≡ PieceKind.End → ⊥) }
 {
     match c {
@@ -457,7 +457,7 @@ fn plain_piece<'a>(c: char, cursor: &mut Cursor<'a>, start: Start<'a>) -> Piece<
         let _ = newline(cursor);
         return plain(PieceKind::Newline, start);
     }
-    match mark_kind(c) {
+    match sign_kind(c) {
         Some(kind) => {
             cursor.step();
             plain(kind, start)

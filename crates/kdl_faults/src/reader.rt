@@ -258,7 +258,7 @@ impl<'a> Reader<'a> {
         }
     }
 
-    /// Marks that the only node or entry of a text begins with the piece, or an entry that is dropped.
+    /// Notes that the only node or entry of a text begins with the piece, or an entry that is dropped.
     fn begin(&mut self, kind: PieceKind)
         ensures keeps { Keeps self.old self.new }
         ensures cursor { self.new.cursor ≡ self.old.cursor }
@@ -345,8 +345,8 @@ impl<'a> Reader<'a> {
         }
     }
 
-    /// Marks the place behind a `(`.
-    fn mark_left(&mut self, piece: &Piece<'a>)
+    /// Notes the place behind a `(`.
+    fn note_left(&mut self, piece: &Piece<'a>)
         ensures keeps { KeepsAt piece.now self.old self.new }
         ensures cursor { self.new.cursor ≡ self.old.cursor }
         ensures same { self.new.is_over ≡ self.old.is_over }
@@ -363,7 +363,7 @@ impl<'a> Reader<'a> {
         ensures same { self.new.is_over ≡ self.old.is_over }
     {
         self.go_on(piece, step, is_told)?;
-        self.mark_left(piece);
+        self.note_left(piece);
         Ok(())
     }
 
@@ -396,7 +396,7 @@ impl<'a> Reader<'a> {
             let step = self.move_of(piece);
             return self.apply(piece, step, true);
         }
-        self.mark_left(piece);
+        self.note_left(piece);
         Ok(())
     }
 
@@ -525,7 +525,7 @@ impl<'a> Reader<'a> {
     }
 
     /// Goes past a U+FEFF at the start of a document.
-    fn skip_mark(&mut self)
+    fn skip_bom(&mut self)
         ensures keeps { Keeps self.old self.new }
         ensures moves { Moves self.old.cursor self.new.cursor }
         ensures most { Most 1 1 self.old.cursor self.new.cursor }
@@ -543,7 +543,7 @@ impl<'a> Reader<'a> {
         if let Whole::Identifier = self.text {
             return self.read_identifier();
         }
-        self.skip_mark();
+        self.skip_bom();
         'pieces: while !self.is_over {
             let piece = next_piece(self.alloc, &mut self.cursor)?;
             self.take(&piece)?;

@@ -2,8 +2,7 @@
 
 ghost use Rattle.kdl_faults.specs.Internal.Noted.{Noted};
 ghost use Rattle.kdl_text.specs.Failures.{IsToldOf, Tells, TellsOf};
-ghost use Rattle.kdl_text.specs.Internal.Here.{raise};
-ghost use Rattle.kdl_text.specs.Spans.{InText};
+ghost use Rattle.kdl_text.specs.Spans.{InText, raise};
 ghost use Rattle.std.specs.Prelude.{◌+◌, ◌*◌, ◌<◌, ◌≤◌, length, IfOk};
 ghost use Rattle.std.specs.Rc.{rc_str_bytes};
 ghost use Rattle.std.specs.Str.{chars};

@@ -72,19 +72,19 @@ pub empty_string : (b : Bool) (s : String Global) → b ≡ (string_len s == 0) 
 empty_string b s e = no_bytes b (string_bytes s) (IsUtf8-string_bytes s) (e ∙ ap (λ (n : ℕ). n == 0) s.bytes.ok.0)
 
 -- the U+FEFF that begins a text
-pub mark_cut : (bs rest : List ℕ) → IsUtf8 bs → bs ≡ encode_utf8 0xFEFF ++ rest → chars rest ≡ without_bom (chars bs)
-mark_cut bs rest u e = sym (ap without_bom (chars_past_char bs rest 0xFEFF u e))
+pub bom_cut : (bs rest : List ℕ) → IsUtf8 bs → bs ≡ encode_utf8 0xFEFF ++ rest → chars rest ≡ without_bom (chars bs)
+bom_cut bs rest u e = sym (ap without_bom (chars_past_char bs rest 0xFEFF u e))
 
-unmarked : (s : Text) → ((t : Text) → s ≡ 0xFEFF ∷ t → ⊥) → s ≡ without_bom s
-unmarked [] h = refl
-unmarked (c ∷ s) h = go (c == 0xFEFF) refl
+same_without_bom : (s : Text) → ((t : Text) → s ≡ 0xFEFF ∷ t → ⊥) → s ≡ without_bom s
+same_without_bom [] h = refl
+same_without_bom (c ∷ s) h = go (c == 0xFEFF) refl
   where
     go : (b : Bool) → (c == 0xFEFF) ≡ b → c ∷ s ≡ without_bom (c ∷ s)
     go true e = absurd (h s (ap (λ (d : ℕ). d ∷ s) (eqb-true c 0xFEFF e)))
     go false e = rw e refl
 
-pub no_mark : (bs : List ℕ) → IsUtf8 bs → ((rest : List ℕ) → bs ≢ encode_utf8 0xFEFF ++ rest) → chars bs ≡ without_bom (chars bs)
-no_mark bs u h = unmarked (chars bs) (λ t e. h (encode_utf8_all t) (sym (encodes-chars bs u) ∙ ap encode_utf8_all e))
+pub no_bom : (bs : List ℕ) → IsUtf8 bs → ((rest : List ℕ) → bs ≢ encode_utf8 0xFEFF ++ rest) → chars bs ≡ without_bom (chars bs)
+no_bom bs u h = same_without_bom (chars bs) (λ t e. h (encode_utf8_all t) (sym (encodes-chars bs u) ∙ ap encode_utf8_all e))
 
 -- a text so many times
 chars_repeated : (n : ℕ) (bs : List ℕ) → IsUtf8 bs → chars (repeat n bs) ≡ repeat n (chars bs)

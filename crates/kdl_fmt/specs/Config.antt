@@ -24,7 +24,7 @@ without_comments = record defaults { no_comments = true }
 abbrev pub IndentsBySpaces : Settings → Type 0
 IndentsBySpaces s = list_all is_space s.indent ≡ true
 
--- comments are left out, and entries are not marked
+-- comments are left out, and entries are not flagged
 abbrev pub IsPlain : Settings → Type 0
 IsPlain s = (s.no_comments ≡ true) × (s.entry_autoformate_keep ≡ false)
 

@@ -8,7 +8,7 @@ use Rattle.kdl_fmt.specs.Config.{Settings, indentation}
 use Rattle.kdl_fmt.specs.Kept.{is_kept_format}
 use Rattle.kdl_fmt.specs.Plain.{plain_line}
 
--- the entry, marked to keep its form where it has a format
+-- the entry, flagged to keep its form where it has a format
 abbrev pub with_keep_if : Bool → Entry → Entry
 with_keep_if false e = e
 with_keep_if true e = record e { format = option_map with_keep e.format }
@@ -85,7 +85,7 @@ abbrev mutual
   bare_nodes none = none
   bare_nodes (first n ns) = first (bare_node n) (bare_nodes ns)
 
--- no entry is marked to keep its form
+-- no entry is flagged to keep its form
 abbrev pub EntriesKeepNone : List Entry → Type 0
 EntriesKeepNone [] = Unit {0}
 EntriesKeepNone (e ∷ es) = (is_kept_format e.format ≡ false) × EntriesKeepNone es

@@ -18,7 +18,7 @@ pub fn is_kdl_space(text: &str) -> bool
 /// How to lay out a document, by `autoformat_config` of documents and nodes.
 ///
 /// By default nodes begin at level 0, with four spaces for each level below it, comments are kept, and entries lose
-/// their form unless they are marked to keep it.
+/// their form unless they are flagged to keep it.
 #[derive(Clone, Copy, Debug, PartialEq, Eq)]
 pub struct FormatConfig<'a> {
     /// The level of the outermost nodes.
@@ -27,7 +27,7 @@ pub struct FormatConfig<'a> {
     pub indent: &'a str,
     /// Whether comments, and what a slashdash drops, are left out.
     pub no_comments: bool,
-    /// Whether each entry that has a format is marked to keep its form.
+    /// Whether each entry that has a format is flagged to keep its form.
     pub entry_autoformate_keep: bool,
 }
 

@@ -15,7 +15,7 @@ one_document wide t x y i j = erased.one_document t x y (wider wide i) (wider wi
 
 -- a node text is a document with that node
 as_document : {wide : Bool} {t : Text} {x : data'.Node} → IsNodeText wide t x → IsDocument wide t (data'.first x data'.none)
-as_document (node_text g x e ls) = IsDocument.unmarked (node_then g x e (last_gap (lines_gap ls)))
+as_document (node_text g x e ls) = IsDocument.no_bom (node_then g x e (last_gap (lines_gap ls)))
 
 pub one_node : OneNode
 one_node wide t x y i j = let e = one_document wide t (data'.first x data'.none) (data'.first y data'.none) (as_document i) (as_document j) in cc

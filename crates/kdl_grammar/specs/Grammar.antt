@@ -63,8 +63,8 @@ mutual
 
 -- the whole text: nodes, and before them U+FEFF or nothing
 pub data IsDocument (wide : Bool) : Text → Nodes → Type 0 where
-  unmarked : {t : Text} {xs : Nodes} → AreNodes wide t [] xs → IsDocument wide t xs
-  marked : {t : Text} {xs : Nodes} → AreNodes wide t [] xs → IsDocument wide (0xFEFF ∷ t) xs
+  no_bom : {t : Text} {xs : Nodes} → AreNodes wide t [] xs → IsDocument wide t xs
+  behind_bom : {t : Text} {xs : Nodes} → AreNodes wide t [] xs → IsDocument wide (0xFEFF ∷ t) xs
 
 -- the whole text: a gap, a node with its terminator, and line-spaces
 pub data IsNodeText (wide : Bool) : Text → Node → Type 0 where

@@ -27,7 +27,7 @@ node_format leading before after behind before_children before_terminator termin
 abbrev pub node_span : Node → SourceSpan
 node_span (node h k) = h.span
 
--- where the last of these nodes ends, as a number of 64 bits
+-- where the last of these nodes ends. The code adds in 64 bits, which hold each place in a text, so the bound is never reached.
 abbrev pub last_end : Node → Nodes → ℕ
 last_end n none = min ((node_span n).offset + (node_span n).len) (2 ^ 64 - 1)
 last_end n (first m ns) = last_end m ns
@@ -42,7 +42,8 @@ pub data LaidEntries (exact : Bool) (whole : Text) : List Entry → Text → Tex
   an_entry : {s t r : Text} {e : Entry} {es : List Entry} → LaidEntry exact whole e s t → LaidEntries exact whole es t r → LaidEntries exact whole (e ∷ es) s r
 
 mutual
-  -- a node from its type or name to its terminator; the texts before it, its terminator and the text behind it, and its span stand beside
+  -- a node from its type or name to its terminator. The text before it, its terminator, the text behind it and its span stand beside:
+  -- a node in a list has other ones than a node that is a whole text.
   pub data LaidNode (exact : Bool) (whole : Text) : Text → Text → Text → SourceSpan → Node → Text → Text → Type 0 where
     laid_node : {leading end trailing before after behind before_children before_terminator s t u v r : Text} {at : SourceSpan} {ty : Option Identifier} {name : Identifier} {es : List Entry} {k : Children}
         → LaidType exact whole ty before after behind s t → LaidIdentifier exact whole name t u → LaidEntries exact whole es u v
@@ -85,8 +86,8 @@ with_bom (document f at ns) = document (Some (bom_format f)) at ns
 
 -- a document that is the whole text: its content, and before it U+FEFF or nothing
 pub data LaidDocument (exact : Bool) : Document → Text → Type 0 where
-  unmarked : {d : Document} {t : Text} → LaidContent exact t d t [] → LaidDocument exact d t
-  marked : {d : Document} {t : Text} → LaidContent exact (0xFEFF ∷ t) d t [] → LaidDocument exact (with_bom d) (0xFEFF ∷ t)
+  no_bom : {d : Document} {t : Text} → LaidContent exact t d t [] → LaidDocument exact d t
+  behind_bom : {d : Document} {t : Text} → LaidContent exact (0xFEFF ∷ t) d t [] → LaidDocument exact (with_bom d) (0xFEFF ∷ t)
 
 -- a node that is the whole text, which is its span, and line-spaces behind it
 pub data LaidNodeText (exact : Bool) (whole : Text) : Node → Type 0 where

@@ -3,7 +3,7 @@
 ghost use Rattle.kdl_entry.specs.Internal.Handed.{Cuts, kind_view};
 ghost use Rattle.kdl_entry.specs.Internal.Tokens.{newline, semicolon, space};
 ghost use Rattle.kdl_grammar.proofs.Reading.Control.{at, finish};
-ghost use Rattle.kdl_items.specs.Internal.Passing.{follows_word, is_word, mark_in};
+ghost use Rattle.kdl_items.specs.Internal.Passing.{follows_word, is_word, slashdash_in};
 ghost use Rattle.kdl_items.specs.Items.{ItemEnd};
 ghost use Rattle.kdl_items.specs.Internal.Machine.{machine_view, phase_view};
 ghost use Rattle.kdl_items.specs.Internal.Passed.{Before, BehindPart, AnswersDroppedNode, AnswersDroppedPart, PlaceTakesHeld, of_spaces};
@@ -126,7 +126,7 @@ fn pass_node(alloc: Global, text: &str) -> Result<Option<NodeEnd>, AllocError>
     ensures { IfOk result (λ o. AnswersDroppedNode (chars text.now) o) }
 {
     let mut lexer = Lexer::new(text, Steps::new());
-    let mut machine = Machine::new(alloc, Phase::Marked);
+    let mut machine = Machine::new(alloc, Phase::NodeSlashdash);
     let mut last = 0;
     'tokens: loop {
         let token = match lexer.next(alloc) {
@@ -167,12 +167,12 @@ pub(crate) fn dropped_node<'a>(
 }
 
 /// The phase behind the `/-` in a place.
-fn mark_phase(place: Place) -> Phase
-    ensures { at (phase_view result) [] ≡ mark_in (place_view place) }
+fn slashdash_phase(place: Place) -> Phase
+    ensures { at (phase_view result) [] ≡ slashdash_in (place_view place) }
 {
     match place {
-        Place::BeforeEntry(_) | Place::BeforeBlock => Phase::EntryMark,
-        Place::BehindBlock => Phase::BlockMark,
+        Place::BeforeEntry(_) | Place::BeforeBlock => Phase::EntrySlashdash,
+        Place::BehindBlock => Phase::BlockSlashdash,
     }
 }
 
@@ -193,7 +193,7 @@ fn pass_part(alloc: Global, place: Place, text: &str) -> Result<Option<PartEnd>,
     ensures { IfOk result (λ o. AnswersDroppedPart (place_view place) (chars text.now) o) }
 {
     let mut lexer = Lexer::new(text, Steps::new());
-    let mut machine = Machine::new(alloc, mark_phase(place));
+    let mut machine = Machine::new(alloc, slashdash_phase(place));
     let mut last = 0;
     'tokens: loop {
         let token = match lexer.next(alloc) {

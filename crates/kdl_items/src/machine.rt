@@ -23,16 +23,16 @@ pub(crate) enum Spot {
 #[derive(Clone, Copy)]
 pub(crate) enum Phase {
     Gap,
-    Marked,
+    NodeSlashdash,
     TypeOpen(bool),
     TypeName(bool),
     TypeDone(bool),
     InNode(Spot),
     Property,
-    EntryMark,
-    BlockMark,
+    EntrySlashdash,
+    BlockSlashdash,
     Kept,
-    KeptMark,
+    KeptSlashdash,
 }
 
 /// An open block: of a node, or one that is dropped before or behind it.
@@ -58,7 +58,7 @@ fn in_gap(kind: &TokenKind) -> Move
 {
     match kind {
         TokenKind::Space | TokenKind::Newline => Move::To(Phase::Gap),
-        TokenKind::Slashdash => Move::To(Phase::Marked),
+        TokenKind::Slashdash => Move::To(Phase::NodeSlashdash),
         TokenKind::String(_) => Move::To(Phase::InNode(Spot::Fresh(false))),
         TokenKind::Left => Move::To(Phase::TypeOpen(false)),
         TokenKind::Closing => Move::Close,
@@ -67,11 +67,11 @@ fn in_gap(kind: &TokenKind) -> Move
 }
 
 /// Between nodes, behind `/-`.
-fn in_marked(kind: &TokenKind) -> Move
-    ensures { Moves control.marked (kind_view kind.now) result }
+fn in_node_slashdash(kind: &TokenKind) -> Move
+    ensures { Moves control.node_slashdash (kind_view kind.now) result }
 {
     match kind {
-        TokenKind::Space | TokenKind::Newline => Move::To(Phase::Marked),
+        TokenKind::Space | TokenKind::Newline => Move::To(Phase::NodeSlashdash),
         TokenKind::String(_) => Move::To(Phase::InNode(Spot::Fresh(false))),
         TokenKind::Left => Move::To(Phase::TypeOpen(false)),
         _ => Move::Refuse,
@@ -155,8 +155,8 @@ fn in_node(spot: Spot, kind: &TokenKind) -> Move
         TokenKind::Closing => Move::Close,
         TokenKind::Opening => Move::Open(Frame::Node),
         TokenKind::Slashdash => match spot {
-            Spot::Later => Move::To(Phase::BlockMark),
-            _ => Move::To(Phase::EntryMark),
+            Spot::Later => Move::To(Phase::BlockSlashdash),
+            _ => Move::To(Phase::EntrySlashdash),
         },
         TokenKind::String(_) => entry(spot, Phase::InNode(Spot::Fresh(true))),
         TokenKind::Value(_) => entry(spot, Phase::InNode(Spot::Fresh(false))),
@@ -170,11 +170,11 @@ fn in_node(spot: Spot, kind: &TokenKind) -> Move
 }
 
 /// Behind `/-` in a node, where an entry or a block may follow.
-fn in_entry_mark(kind: &TokenKind) -> Move
-    ensures { Moves control.entry_mark (kind_view kind.now) result }
+fn in_entry_slashdash(kind: &TokenKind) -> Move
+    ensures { Moves control.entry_slashdash (kind_view kind.now) result }
 {
     match kind {
-        TokenKind::Space | TokenKind::Newline => Move::To(Phase::EntryMark),
+        TokenKind::Space | TokenKind::Newline => Move::To(Phase::EntrySlashdash),
         TokenKind::String(_) => Move::To(Phase::InNode(Spot::Fresh(true))),
         TokenKind::Value(_) => Move::To(Phase::InNode(Spot::Fresh(false))),
         TokenKind::Left => Move::To(Phase::TypeOpen(true)),
@@ -184,11 +184,11 @@ fn in_entry_mark(kind: &TokenKind) -> Move
 }
 
 /// Behind `/-` in a node, where a block may follow.
-fn in_block_mark(kind: &TokenKind) -> Move
-    ensures { Moves control.block_mark (kind_view kind.now) result }
+fn in_block_slashdash(kind: &TokenKind) -> Move
+    ensures { Moves control.block_slashdash (kind_view kind.now) result }
 {
     match kind {
-        TokenKind::Space | TokenKind::Newline => Move::To(Phase::BlockMark),
+        TokenKind::Space | TokenKind::Newline => Move::To(Phase::BlockSlashdash),
         TokenKind::Opening => Move::Open(Frame::Dropped),
         _ => Move::Refuse,
     }
@@ -202,17 +202,17 @@ fn in_kept(kind: &TokenKind) -> Move
         TokenKind::Space => Move::To(Phase::Kept),
         TokenKind::Newline | TokenKind::Semicolon => Move::To(Phase::Gap),
         TokenKind::Closing => Move::Close,
-        TokenKind::Slashdash => Move::To(Phase::KeptMark),
+        TokenKind::Slashdash => Move::To(Phase::KeptSlashdash),
         _ => Move::Refuse,
     }
 }
 
 /// Behind `/-` there.
-fn in_kept_mark(kind: &TokenKind) -> Move
-    ensures { Moves control.kept_mark (kind_view kind.now) result }
+fn in_kept_slashdash(kind: &TokenKind) -> Move
+    ensures { Moves control.kept_slashdash (kind_view kind.now) result }
 {
     match kind {
-        TokenKind::Space | TokenKind::Newline => Move::To(Phase::KeptMark),
+        TokenKind::Space | TokenKind::Newline => Move::To(Phase::KeptSlashdash),
         TokenKind::Opening => Move::Open(Frame::Later),
         _ => Move::Refuse,
     }
@@ -224,16 +224,16 @@ fn token_move(phase: Phase, kind: &TokenKind) -> Move
 {
     match phase {
         Phase::Gap => in_gap(kind),
-        Phase::Marked => in_marked(kind),
+        Phase::NodeSlashdash => in_node_slashdash(kind),
         Phase::TypeOpen(valued) => in_type(valued, kind),
         Phase::TypeName(valued) => behind_type_name(valued, kind),
         Phase::TypeDone(valued) => behind_type(valued, kind),
         Phase::InNode(spot) => in_node(spot, kind),
         Phase::Property => in_property(kind),
-        Phase::EntryMark => in_entry_mark(kind),
-        Phase::BlockMark => in_block_mark(kind),
+        Phase::EntrySlashdash => in_entry_slashdash(kind),
+        Phase::BlockSlashdash => in_block_slashdash(kind),
         Phase::Kept => in_kept(kind),
-        Phase::KeptMark => in_kept_mark(kind),
+        Phase::KeptSlashdash => in_kept_slashdash(kind),
     }
 }
 

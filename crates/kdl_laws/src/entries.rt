@@ -25,7 +25,7 @@ pub fn cleared_is_formless(entry: &KdlEntry)
     values_are_well_formed(entry.value());
 }
 
-/// Two formats are equal exactly where all their texts and their marks are.
+/// Two formats are equal exactly where all their texts and their flags are.
 pub fn equal_formats(a: &KdlEntryFormat, b: &KdlEntryFormat) -> bool
     ensures { IsTrue result ↔ (entry_format_tree a.now ≡ entry_format_tree b.now) }
 {

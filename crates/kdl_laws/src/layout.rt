@@ -14,7 +14,7 @@ ghost use Rattle.std.specs.Prelude.{◌≡◌, ◌↔◌, ℕ, IfOk, false, true
 use kdl::{FormatConfig, KdlDocument, KdlNode};
 use std::alloc::AllocError;
 
-/// Once they are laid out without comments, two documents in which no entry is marked to keep its form print the same
+/// Once they are laid out without comments, two documents in which no entry is flagged to keep its form print the same
 /// text exactly where they said the same.
 pub fn same_text_same_data(a: &mut KdlDocument, b: &mut KdlDocument) -> Result<(), AllocError>
     requires first { DocumentKeepsNone (document_tree a.old) }
@@ -30,8 +30,8 @@ pub fn same_text_same_data(a: &mut KdlDocument, b: &mut KdlDocument) -> Result<(
 /// comments.
 pub fn laid_out_twice(document: &mut KdlDocument, config: &FormatConfig) -> Result<(), AllocError>
     requires indent { list_all is_space (settings config.now).indent ≡ true }
-    requires unmarked_after { config.now.entry_autoformate_keep ≡ false }
-    requires unmarked { DocumentKeepsNone (document_tree document.old) }
+    requires keeps_none_after { config.now.entry_autoformate_keep ≡ false }
+    requires keeps_none { DocumentKeepsNone (document_tree document.old) }
     ensures { IfOk result (λ _. IsFormattedDocument (settings config.now) config.now.indent_level
         (document_tree document.old) (document_tree document.new)) }
 {
@@ -42,8 +42,8 @@ pub fn laid_out_twice(document: &mut KdlDocument, config: &FormatConfig) -> Resu
 /// The same for a node.
 pub fn node_laid_out_twice(node: &mut KdlNode, config: &FormatConfig) -> Result<(), AllocError>
     requires indent { list_all is_space (settings config.now).indent ≡ true }
-    requires unmarked_after { config.now.entry_autoformate_keep ≡ false }
-    requires unmarked { NodeKeepsNone (node_tree node.old) }
+    requires keeps_none_after { config.now.entry_autoformate_keep ≡ false }
+    requires keeps_none { NodeKeepsNone (node_tree node.old) }
     ensures { IfOk result (λ _. IsFormattedNode (settings config.now) config.now.indent_level
         (node_tree node.old) (node_tree node.new)) }
 {

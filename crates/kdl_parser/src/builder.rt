@@ -6,8 +6,8 @@ ghost use Rattle.kdl_grammar.specs.Internal.Machine.{initial};
 ghost use Rattle.kdl_parser.specs.Internal.Building.{state_view, EndsIn, Placed};
 ghost use Rattle.kdl_parser.specs.Internal.Counted.{unsliced, SlicedOn};
 ghost use Rattle.kdl_entry.specs.Internal.Building.{Stays};
-ghost use Rattle.kdl_text.specs.Internal.Here.{Ahead, raise};
-ghost use Rattle.kdl_text.specs.Spans.{bytes};
+ghost use Rattle.kdl_text.specs.Internal.Here.{Ahead};
+ghost use Rattle.kdl_text.specs.Spans.{bytes, raise};
 ghost use Rattle.kdl_parser.specs.declared.builder.Phase.{Phase};
 ghost use Rattle.std.specs.Prelude.{◌≡◌, ◌+◌, ◌≤◌, []};
 
@@ -28,7 +28,7 @@ enum Phase {
     /// Between nodes.
     Gap,
     /// Between nodes, behind `/-`.
-    Marked,
+    NodeSlashdash,
     /// In a type, or behind the `=` of a property.
     InItem,
     /// Directly behind the name or an entry of a node.
@@ -38,13 +38,13 @@ enum Phase {
     /// Behind a block that is slashdashed, where the node's own may follow.
     Later,
     /// Behind `/-` where an entry or a block may follow.
-    EntryMark,
+    EntrySlashdash,
     /// Behind `/-` where a block may follow.
-    BlockMark,
+    BlockSlashdash,
     /// Behind the node's block.
     Behind,
     /// Behind `/-` there.
-    BehindMark,
+    BehindSlashdash,
 }
 
 /// The node under way.
@@ -159,7 +159,7 @@ impl<'a, N: ParsedNode> Builder<'a, N> {
         match kind {
             TokenKind::Space | TokenKind::Newline => Ok(()),
             TokenKind::Slashdash => {
-                self.phase = Phase::Marked;
+                self.phase = Phase::NodeSlashdash;
                 Ok(())
             },
             TokenKind::String(name) => self.name_node(alloc, lexer, counts, name, start, end),
@@ -171,7 +171,7 @@ impl<'a, N: ParsedNode> Builder<'a, N> {
 
     /// A token behind `/-` between nodes.
     #[tactic(auto, using(crate::proofs::Stepping::StepsDone::does_did))]
-    fn at_marked(
+    fn at_slashdash(
         &mut self,
         alloc: Global,
         lexer: &mut Lexer<'a>,
@@ -181,7 +181,7 @@ impl<'a, N: ParsedNode> Builder<'a, N> {
     ) -> Result<(), LexFailure>
         requires from { Ahead self.old.from start.now }
         requires token { Ahead start.now end.now }
-        requires phase { self.old.phase ≡ Phase.Marked }
+        requires phase { self.old.phase ≡ Phase.NodeSlashdash }
         ensures did { Takes N.tree self.old kind start.now end.now result self.new }
         ensures whole { self.new.whole ≡ self.old.whole }
         ensures stays { Stays lexer.old lexer.new }
@@ -221,7 +221,7 @@ impl<'a, N: ParsedNode> Builder<'a, N> {
             TokenKind::Newline | TokenKind::Semicolon => self.end_node(alloc, lexer, start, end),
             TokenKind::Closing => self.close_node(alloc, lexer, start, end),
             TokenKind::Opening => self.open_block(alloc, lexer, start, end),
-            TokenKind::Slashdash => self.mark(alloc),
+            TokenKind::Slashdash => self.behind_slashdash(alloc),
             TokenKind::Equals => self.open_property(alloc, lexer, start, end),
             _ => Err(LexFailure::Faulty(fault_at(start))),
         }
@@ -250,7 +250,7 @@ impl<'a, N: ParsedNode> Builder<'a, N> {
             TokenKind::Newline | TokenKind::Semicolon => self.end_node(alloc, lexer, start, end),
             TokenKind::Closing => self.close_node(alloc, lexer, start, end),
             TokenKind::Opening => self.open_block(alloc, lexer, start, end),
-            TokenKind::Slashdash => self.mark(alloc),
+            TokenKind::Slashdash => self.behind_slashdash(alloc),
             TokenKind::Equals => self.open_property(alloc, lexer, start, end),
             TokenKind::String(value) => self.wait(alloc, lexer, value, start, end),
             TokenKind::Value(value) => self.add_argument(alloc, lexer, true, value, start, end),
@@ -283,7 +283,7 @@ impl<'a, N: ParsedNode> Builder<'a, N> {
             TokenKind::Closing => self.close_node(alloc, lexer, start, end),
             TokenKind::Opening => self.open_block(alloc, lexer, start, end),
             TokenKind::Slashdash => {
-                self.phase = Phase::BlockMark;
+                self.phase = Phase::BlockSlashdash;
                 Ok(())
             },
             _ => Err(LexFailure::Faulty(fault_at(start))),
@@ -292,7 +292,7 @@ impl<'a, N: ParsedNode> Builder<'a, N> {
 
     /// A token behind `/-`, where an entry or a block may follow.
     #[tactic(auto, using(crate::proofs::Stepping::StepsDone::does_did, crate::proofs::Stepping::StepsDone::none_sliced))]
-    fn at_entry_mark(
+    fn at_entry_slashdash(
         &mut self,
         alloc: Global,
         lexer: &mut Lexer<'a>,
@@ -302,7 +302,7 @@ impl<'a, N: ParsedNode> Builder<'a, N> {
     ) -> Result<(), LexFailure>
         requires from { Ahead self.old.from start.now }
         requires token { Ahead start.now end.now }
-        requires phase { self.old.phase ≡ Phase.EntryMark }
+        requires phase { self.old.phase ≡ Phase.EntrySlashdash }
         ensures did { Takes N.tree self.old kind start.now end.now result self.new }
         ensures whole { self.new.whole ≡ self.old.whole }
         ensures stays { Stays lexer.old lexer.new }
@@ -320,7 +320,7 @@ impl<'a, N: ParsedNode> Builder<'a, N> {
 
     /// A token behind `/-`, where a block may follow.
     #[tactic(auto, using(crate::proofs::Stepping::StepsDone::does_did, crate::proofs::Stepping::StepsDone::none_sliced))]
-    fn at_block_mark(
+    fn at_block_slashdash(
         &mut self,
         alloc: Global,
         lexer: &mut Lexer<'a>,
@@ -330,7 +330,7 @@ impl<'a, N: ParsedNode> Builder<'a, N> {
     ) -> Result<(), LexFailure>
         requires from { Ahead self.old.from start.now }
         requires token { Ahead start.now end.now }
-        requires phase { self.old.phase ≡ Phase.BlockMark }
+        requires phase { self.old.phase ≡ Phase.BlockSlashdash }
         ensures did { Takes N.tree self.old kind start.now end.now result self.new }
         ensures whole { self.new.whole ≡ self.old.whole }
         ensures stays { Stays lexer.old lexer.new }
@@ -366,7 +366,7 @@ impl<'a, N: ParsedNode> Builder<'a, N> {
             TokenKind::Newline | TokenKind::Semicolon => self.end_kept(alloc, lexer, start, end),
             TokenKind::Closing => self.close_kept(alloc, lexer, start, end),
             TokenKind::Slashdash => {
-                self.phase = Phase::BehindMark;
+                self.phase = Phase::BehindSlashdash;
                 Ok(())
             },
             _ => Err(LexFailure::Faulty(fault_at(start))),
@@ -375,7 +375,7 @@ impl<'a, N: ParsedNode> Builder<'a, N> {
 
     /// A token behind `/-`, where another block may follow.
     #[tactic(auto, using(crate::proofs::Stepping::StepsDone::does_did, crate::proofs::Stepping::StepsDone::none_sliced))]
-    fn at_behind_mark(
+    fn at_behind_slashdash(
         &mut self,
         alloc: Global,
         lexer: &mut Lexer<'a>,
@@ -385,7 +385,7 @@ impl<'a, N: ParsedNode> Builder<'a, N> {
     ) -> Result<(), LexFailure>
         requires from { Ahead self.old.from start.now }
         requires token { Ahead start.now end.now }
-        requires phase { self.old.phase ≡ Phase.BehindMark }
+        requires phase { self.old.phase ≡ Phase.BehindSlashdash }
         ensures did { Takes N.tree self.old kind start.now end.now result self.new }
         ensures whole { self.new.whole ≡ self.old.whole }
         ensures stays { Stays lexer.old lexer.new }
@@ -419,15 +419,15 @@ impl<'a, N: ParsedNode> Builder<'a, N> {
         let Token { kind, start, end } = token;
         match self.phase {
             Phase::Gap => self.at_gap(alloc, lexer, kind, &start, &end),
-            Phase::Marked => self.at_marked(alloc, lexer, kind, &start, &end),
+            Phase::NodeSlashdash => self.at_slashdash(alloc, lexer, kind, &start, &end),
             Phase::InItem => self.at_item(alloc, lexer, kind, &start, &end),
             Phase::Fresh => self.at_fresh(alloc, lexer, kind, &start, &end),
             Phase::Spaced => self.at_spaced(alloc, lexer, kind, &start, &end),
             Phase::Later => self.at_later(alloc, lexer, kind, &start, &end),
-            Phase::EntryMark => self.at_entry_mark(alloc, lexer, kind, &start, &end),
-            Phase::BlockMark => self.at_block_mark(alloc, lexer, kind, &start, &end),
+            Phase::EntrySlashdash => self.at_entry_slashdash(alloc, lexer, kind, &start, &end),
+            Phase::BlockSlashdash => self.at_block_slashdash(alloc, lexer, kind, &start, &end),
             Phase::Behind => self.at_behind(alloc, lexer, kind, &start, &end),
-            Phase::BehindMark => self.at_behind_mark(alloc, lexer, kind, &start, &end),
+            Phase::BehindSlashdash => self.at_behind_slashdash(alloc, lexer, kind, &start, &end),
         }
     }
 
@@ -473,10 +473,10 @@ impl<'a, N: ParsedNode> Builder<'a, N> {
                 self.finish_nodes(alloc, lexer, here)
             }
             Phase::InItem => Err(LexFailure::Faulty(fault_at(here))),
-            Phase::Marked => Err(LexFailure::Faulty(fault_at(here))),
-            Phase::EntryMark => Err(LexFailure::Faulty(fault_at(here))),
-            Phase::BlockMark => Err(LexFailure::Faulty(fault_at(here))),
-            Phase::BehindMark => Err(LexFailure::Faulty(fault_at(here))),
+            Phase::NodeSlashdash => Err(LexFailure::Faulty(fault_at(here))),
+            Phase::EntrySlashdash => Err(LexFailure::Faulty(fault_at(here))),
+            Phase::BlockSlashdash => Err(LexFailure::Faulty(fault_at(here))),
+            Phase::BehindSlashdash => Err(LexFailure::Faulty(fault_at(here))),
         }
     }
 

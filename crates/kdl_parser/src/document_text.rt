@@ -6,7 +6,7 @@ ghost use Rattle.kdl_grammar.specs.Internal.Machine.{AnswersDocument};
 ghost use Rattle.kdl_parser.specs.Internal.Steps.{CountedOn};
 ghost use Rattle.kdl_parser.specs.Internal.Whole.{AnswersDocumentText, whole_by};
 ghost use Rattle.kdl_text.specs.Failures.{IsSyntax, TellsOnSyntax};
-ghost use Rattle.kdl_text.specs.Internal.Here.{raise};
+ghost use Rattle.kdl_text.specs.Spans.{raise};
 ghost use Rattle.std.specs.Prelude.{◌≡◌, ◌+◌, ◌*◌, ◌≤◌, length, true, IfOk, OnOk};
 ghost use Rattle.std.specs.Str.{chars};
 
@@ -29,7 +29,7 @@ pub struct DocumentText<N> {
 }
 
 /// The machine's answer on the text that the lexer is at the start of.
-#[tactic(auto, using(crate::proofs::Answering::LeadingBom::mark_ends, crate::proofs::Answering::LeadingBom::mark_at, crate::proofs::Answering::LeadingBom::whole_answer))]
+#[tactic(auto, using(crate::proofs::Answering::LeadingBom::bom_ends, crate::proofs::Answering::LeadingBom::bom_at, crate::proofs::Answering::LeadingBom::whole_answer))]
 fn read_all<'a, N: ParsedNode>(
     alloc: Global,
     lexer: &mut Lexer<'a>,
@@ -40,7 +40,7 @@ fn read_all<'a, N: ParsedNode>(
     ensures raised { raise lexer.old.steps 1 ≤ lexer.new.steps }
 {
     let whole = lexer.checkpoint();
-    let has_bom = lexer.eat_mark();
+    let has_bom = lexer.eat_bom();
     match build(alloc, whole, lexer) {
         Ok(parts) => Ok(DocumentText { parts, has_bom }),
         Err(failure) => Err(failure),

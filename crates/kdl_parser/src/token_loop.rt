@@ -4,8 +4,7 @@ ghost use Rattle.kdl_parser.specs.Internal.Answered.{AnswersParts};
 ghost use Rattle.kdl_grammar.specs.Internal.Machine.{initial};
 ghost use Rattle.kdl_parser.specs.Internal.Building.{EndsIn, state_view};
 ghost use Rattle.kdl_parser.specs.Internal.Counted.{ReadOn, unsliced};
-ghost use Rattle.kdl_text.specs.Internal.Here.{raise};
-ghost use Rattle.kdl_text.specs.Spans.{bytes};
+ghost use Rattle.kdl_text.specs.Spans.{bytes, raise};
 ghost use Rattle.std.specs.Prelude.{◌≡◌, ◌+◌, ◌≤◌};
 
 use crate::builder::Builder;

@@ -152,9 +152,9 @@ impl Clone for KdlDocumentFormat {
 fn bom_text(alloc: Global) -> Result<String, AllocError>
     ensures { IfOk result (λ s. text_of s ≡ 0xFEFF ∷ []) }
 {
-    let mut mark = String::new(alloc);
-    mark.push('\u{feff}')?;
-    Ok(mark)
+    let mut bom = String::new(alloc);
+    bom.push('\u{feff}')?;
+    Ok(bom)
 }
 
 /// The text behind another.
@@ -178,9 +178,9 @@ pub fn behind_bom(
 {
     let mut leading = bom_text(alloc)?;
     let Some(format) = format else {
-        let mut marked = KdlDocumentFormat::new(alloc);
-        marked.leading = leading;
-        return Ok(marked);
+        let mut format = KdlDocumentFormat::new(alloc);
+        format.leading = leading;
+        return Ok(format);
     };
     push_text(&mut leading, &format.leading)?;
     Ok(KdlDocumentFormat {

@@ -36,13 +36,13 @@ abbrev pub is_sign : ℕ → Bool
 is_sign c = c == 43 || c == 45
 
 -- `\ / ( ) { } [ ] ; " # =`, which end a bare string
-unfoldable pub is_mark : ℕ → Bool
-is_mark c =
+unfoldable pub is_punctuation : ℕ → Bool
+is_punctuation c =
     ((((((((((c == 92 || c == 47) || c == 40) || c == 41) || c == 123) || c == 125) || c == 91) || c == 93) || c == 59) || c == 34) || c == 35) || c == 61
 
 -- a character of bare strings, numbers and words
 unfoldable pub is_identifier_char : ℕ → Bool
-is_identifier_char c = not (((is_space c || is_newline_char c) || is_banned c) || is_mark c)
+is_identifier_char c = not (((is_space c || is_newline_char c) || is_banned c) || is_punctuation c)
 
 -- a character of a raw string's lines
 unfoldable pub is_raw : ℕ → Bool

@@ -20,7 +20,7 @@ pub data Sign : Text → Text → Bool → Type 0 where
   plus : {r : Text} → Sign (43 ∷ r) r false
   minus : {r : Text} → Sign (45 ∷ r) r true
 
--- the base that the letter behind a `0` marks: 16 by `x` or `X`, 8 by `o` or `O`, 2 by `b` or `B`
+-- the base that the letter behind a `0` stands for: 16 by `x` or `X`, 8 by `o` or `O`, 2 by `b` or `B`
 abbrev pub base_of : ℕ → Option ℕ
 base_of c =
     if c == 120 || c == 88 then Some 16
@@ -28,13 +28,13 @@ base_of c =
     else if c == 98 || c == 66 then Some 2
     else None
 
--- the base whose mark begins the text
+-- the base whose prefix begins the text
 abbrev pub base_prefix : Text → Option ℕ
 base_prefix [] = None
 base_prefix (c ∷ []) = None
 base_prefix (c ∷ d ∷ s) = if c == 48 then base_of d else None
 
--- the mark of a base: none for 10
+-- the prefix of a base: none for 10
 pub data BasePrefix : Text → Text → ℕ → Type 0 where
   ten : {t : Text} → base_prefix t ≡ None → BasePrefix t t 10
   other : {c d radix : ℕ} {r : Text} → base_prefix (c ∷ d ∷ r) ≡ Some radix → BasePrefix (c ∷ d ∷ r) r radix
@@ -43,7 +43,7 @@ pub data BasePrefix : Text → Text → ℕ → Type 0 where
 pub data Digits (radix : ℕ) : Text → Text → Text → Type 0 where
   stop : {r : Text} → starts (is_part radix) r ≡ false → Digits radix r r []
   digit : {c : ℕ} {s r w : Text} → is_digit_of radix c ≡ true → Digits radix s r w → Digits radix (c ∷ s) r (c ∷ w)
-  mark : {s r w : Text} → Digits radix s r w → Digits radix (95 ∷ s) r w
+  underscore : {s r w : Text} → Digits radix s r w → Digits radix (95 ∷ s) r w
 
 -- a digit, then digits and `_`
 pub data Integer (radix : ℕ) : Text → Text → Text → Type 0 where
@@ -57,7 +57,7 @@ signed negative n = if negative then neg_ℤ (pos n) else pos n
 abbrev pub fits : Bool → ℕ → Bool
 fits negative n = if negative then nat_le n (2 ^ 127) else nat_lt n (2 ^ 127)
 
--- a sign, the mark of a base and an integer, which stand for z, and no identifier character behind them
+-- a sign, the prefix of a base and an integer, which stand for z, and no identifier character behind them
 pub data WholeNumber : Text → Text → ℤ → Type 0 where
   whole : {t s u r w : Text} {negative : Bool} {radix : ℕ} {z : ℤ} → Sign t s negative → BasePrefix s u radix → Integer radix u r w → starts is_identifier_char r ≡ false
       → fits negative (digits_value radix w) ≡ true → z ≡ signed negative (digits_value radix w) → WholeNumber t r z

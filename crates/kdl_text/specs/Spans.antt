@@ -1,5 +1,5 @@
 -- Spans: places in a text, in bytes.
-use Rattle.std.specs.Prelude.{◌≡◌, ℕ, ◌+◌, ◌-◌, [], ◌∷◌, ◌++◌}
+use Rattle.std.specs.Prelude.{◌≡◌, ℕ, ◌+◌, ◌-◌, ◌^◌, min, [], ◌∷◌, ◌++◌}
 use Rattle.std.specs.Char.{len_utf8}
 use Rattle.kdl_text.specs.Chars.{Text}
 use Rattle.kdl_text.specs.declared.span.SourceSpan.{SourceSpan}
@@ -8,6 +8,10 @@ use Rattle.kdl_text.specs.declared.span.SourceSpan.{SourceSpan}
 abbrev pub bytes : Text → ℕ
 bytes [] = 0
 bytes (c ∷ s) = len_utf8 c + bytes s
+
+-- a count raised by so many steps, up to the greatest number of 64 bits
+abbrev pub raise : ℕ → ℕ → ℕ
+raise count by = min (count + by) (2 ^ 64 - 1)
 
 -- the span, in the whole text, of what stands in t before r
 abbrev pub span_between : Text → Text → Text → SourceSpan

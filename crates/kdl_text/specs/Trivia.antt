@@ -65,7 +65,7 @@ pub data ValueEnd (wide : Bool) : Text → Type 0 where
   -- the end of the text
   nothing : ValueEnd wide []
   -- one of `= ) { } ;`
-  mark : {c : ℕ} {s : Text} → ends_value c ≡ true → ValueEnd wide (c ∷ s)
+  punctuation : {c : ℕ} {s : Text} → ends_value c ≡ true → ValueEnd wide (c ∷ s)
   -- a space
   space : {s t : Text} → Space s t → ValueEnd wide s
   -- a newline

@@ -4,8 +4,8 @@
 
 ghost use Rattle.kdl_text.specs.Chars as class;
 ghost use Rattle.kdl_text.specs.Chars.{Text, Newline};
-ghost use Rattle.kdl_text.specs.Internal.Here.{Here, Ahead, Behind, Skips, Took, Ate, AteTwo, Stayed, first, first_len, tail, looked, stepped, sliced, counted, raise, in_class, RunOf, AsciiOf};
-ghost use Rattle.kdl_text.specs.Spans.{bytes};
+ghost use Rattle.kdl_text.specs.Internal.Here.{Here, Ahead, Behind, Skips, Took, Ate, AteTwo, Stayed, first, first_len, tail, looked, stepped, sliced, counted, in_class, RunOf, AsciiOf};
+ghost use Rattle.kdl_text.specs.Spans.{bytes, raise};
 ghost use Rattle.kdl_text.specs.Internal.Tables.{TableOf};
 ghost use Rattle.kdl_text.specs.Internal.Reading.{Moves, Costs, ReadsNewline};
 ghost use Rattle.kdl_text.specs.Spans as spans;
@@ -70,9 +70,9 @@ pub fn is_sign(c: char) -> bool
 
 /// Whether the character is one of `\ / ( ) { } [ ] ; " # =`.
 #[inline]
-#[tactic(auto, unfolding(crate::specs::Chars::is_mark))]
-fn is_mark(c: char) -> bool
-    ensures { result ≡ class.is_mark c }
+#[tactic(auto, unfolding(crate::specs::Chars::is_punctuation))]
+fn is_punctuation(c: char) -> bool
+    ensures { result ≡ class.is_punctuation c }
 {
     matches!(
         c,
@@ -89,7 +89,7 @@ pub fn is_identifier_char(c: char) -> bool
     if c.is_ascii() {
         return is_inside(c as u8, &IDENTIFIERS);
     }
-    !(is_space(c) || is_newline_char(c) || is_banned(c) || is_mark(c))
+    !(is_space(c) || is_newline_char(c) || is_banned(c) || is_punctuation(c))
 }
 
 /// Whether the character stands for itself in a quoted string (KDL 2.0.0, Quoted String).

@@ -44,7 +44,7 @@ impl Radix {
     }
 }
 
-/// The base that the letter behind a `0` marks.
+/// The base that the letter behind a `0` stands for.
 fn base_of(c: char) -> Option<Radix>
     ensures { IsBase result (spec.base_of c) }
 {
@@ -63,7 +63,7 @@ pub enum NumberFault {
     Trailing(Radix),
     /// Behind the digits of a decimal stands a character that can't follow them.
     TrailingDecimal,
-    /// No digit of the base stands where the first is due: behind the mark of the base, or behind the sign.
+    /// No digit of the base stands where the first is due: behind the prefix of the base, or behind the sign.
     MissingDigits(Radix),
     /// No digit stands behind the point.
     MissingFraction,
@@ -208,9 +208,9 @@ fn sign(cursor: &mut Cursor) -> bool
     }
 }
 
-/// The base whose mark stands here.
+/// The base whose prefix stands here.
 #[inline]
-fn marked(cursor: &mut Cursor) -> Option<Radix>
+fn base_here(cursor: &mut Cursor) -> Option<Radix>
     ensures { LooksBasePrefix result cursor.old cursor.new }
 {
     if cursor.look() != Some('0') {
@@ -222,14 +222,14 @@ fn marked(cursor: &mut Cursor) -> Option<Radix>
     }
 }
 
-/// Goes past the mark of a base, if one stands here.
+/// Goes past the prefix of a base, if one stands here.
 #[inline]
-fn base_mark(cursor: &mut Cursor) -> Radix
+fn eat_base_prefix(cursor: &mut Cursor) -> Radix
     ensures reads { BasePrefix cursor.old.rest cursor.new.rest (radix_of result) }
     ensures moves { Moves cursor.old cursor.new }
     ensures costs { Costs 2 2 cursor.old cursor.new }
 {
-    let Some(radix) = marked(cursor) else {
+    let Some(radix) = base_here(cursor) else {
         return Radix::Decimal;
     };
     cursor.step();
@@ -315,7 +315,7 @@ struct Front {
     magnitude: Magnitude,
 }
 
-/// Goes past the sign, the mark of a base and the integer with which a number begins.
+/// Goes past the sign, the prefix of a base and the integer with which a number begins.
 fn read_front(cursor: &mut Cursor) -> Result<Front, NumberFault>
     ensures reads { ReadsFront result cursor.old.rest cursor.new.rest }
     ensures fault { IsFault result cursor.old.rest cursor.new.rest }
@@ -324,7 +324,7 @@ fn read_front(cursor: &mut Cursor) -> Result<Front, NumberFault>
     ensures shorter { IfOk result (λ f. length cursor.new.rest < length cursor.old.rest) }
 {
     let minus = sign(cursor);
-    let radix = base_mark(cursor);
+    let radix = eat_base_prefix(cursor);
     match integer(cursor, radix.value()) {
         Some(magnitude) => Ok(Front {
             minus,
@@ -351,14 +351,14 @@ fn fraction(cursor: &mut Cursor) -> Result<bool, NumberFault>
     }
 }
 
-/// Goes past an exponent, if its mark stands here. Whether one did.
+/// Goes past an exponent, if its letter stands here. Whether one did.
 fn exponent(cursor: &mut Cursor) -> Result<bool, NumberFault>
     ensures reads { ReadsExponent result cursor.old.rest cursor.new.rest }
     ensures fault { IsPowerFault result cursor.old.rest cursor.new.rest }
     ensures moves { Moves cursor.old cursor.new }
     ensures costs { Costs 2 3 cursor.old cursor.new }
 {
-    if !eat_exponent_mark(cursor) {
+    if !eat_exponent_letter(cursor) {
         return Ok(false);
     }
     let _ = sign(cursor);
@@ -370,7 +370,7 @@ fn exponent(cursor: &mut Cursor) -> Result<bool, NumberFault>
 
 /// Goes past `e` or `E`, if it stands here.
 #[inline]
-fn eat_exponent_mark(cursor: &mut Cursor) -> bool
+fn eat_exponent_letter(cursor: &mut Cursor) -> bool
     ensures { AteExponentLetter result cursor.old cursor.new }
 {
     match cursor.look() {
@@ -407,21 +407,21 @@ fn decimal_part(cursor: &mut Cursor) -> Result<(), NumberFault>
 }
 
 /// Whether no `_` stands in the text.
-fn is_unmarked(text: &str) -> bool
+fn has_no_underscore(text: &str) -> bool
     ensures { result ≡ list_all (λ c. not (c == 95)) (chars text.now) }
 {
     text.chars().all(|c| c != '_')
 }
 
 /// A copy of the piece without its `_`.
-fn without_marks(alloc: Global, piece: &Piece) -> Result<String, AllocError>
+fn without_underscores(alloc: Global, piece: &Piece) -> Result<String, AllocError>
     ensures { IfOk result (λ s. chars (string_bytes s) ≡ spec.plain piece.now) }
 {
     let mut text = match piece.to_string(alloc) {
         Ok(text) => text,
         Err(refused) => return Err(refused),
     };
-    if is_unmarked(text.as_str()) {
+    if has_no_underscore(text.as_str()) {
         return Ok(text);
     }
     text.retain(|c| c != '_');
@@ -467,7 +467,7 @@ pub fn read_number(alloc: Global, cursor: &mut Cursor) -> Result<Number, NumberF
         return Err(NumberFailure::Fault(fault));
     }
     let piece = cursor.slice(&start);
-    match without_marks(alloc, &piece) {
+    match without_underscores(alloc, &piece) {
         Ok(text) => Ok(Number::Decimal(text)),
         Err(_) => Err(NumberFailure::Memory),
     }
@@ -525,7 +525,7 @@ fn is_plain_decimal(text: &str) -> bool
     let Ok(()) = decimal_part(&mut cursor) else {
         return false;
     };
-    cursor.look().is_none() && is_unmarked(text)
+    cursor.look().is_none() && has_no_underscore(text)
 }
 
 /// Whether the keyword is that of a number.

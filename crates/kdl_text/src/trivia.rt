@@ -1,23 +1,13 @@
-//! Trivia: comments, spaces, esclines, and the mark of a slashdash.
+//! Trivia: comments, spaces, esclines, and `/-`.
 
 ghost use Rattle.kdl_text.specs.Chars.{begins, begins_two, Space};
 ghost use Rattle.kdl_text.specs.Internal.Here.{AteTwo};
 ghost use Rattle.kdl_text.specs.Internal.Reading.{Reads, Moves, Costs, Longest};
-ghost use Rattle.kdl_text.specs.Trivia.{Parts, BlockComment, Line, LineComment, EscEnd};
-ghost use Rattle.kdl_text.specs.Internal.TriviaReading.{PieceCosts, RunsWs, ReadsEscline, ReadsSlash, SlashCosts};
+ghost use Rattle.kdl_text.specs.Trivia.{Parts, BlockComment, Line, LineComment, EscEnd, Escline};
+ghost use Rattle.kdl_text.specs.Internal.TriviaReading.{PieceCosts, RunsWs, ReadsSlash, SlashCosts};
 ghost use Rattle.std.specs.Prelude.{◌≡◌, true, false, []};
 
 use crate::chars::{Class, Cursor, newline};
-
-/// What is wrong where a space or a comment should be, with the offset of the piece in bytes from the start of the
-/// text.
-#[derive(Clone, Copy)]
-pub enum TriviaFault {
-    /// A block comment isn't closed (KDL 2.0.0, Multi-line Comments).
-    UnclosedComment(usize),
-    /// A backslash begins no escline (KDL 2.0.0, Line Continuation).
-    NotEscline(usize),
-}
 
 /// What begins at a slash.
 #[derive(Clone, Copy)]
@@ -26,7 +16,7 @@ pub enum SlashRead {
     Block,
     /// A line comment, which the cursor went past with its newline.
     Line,
-    /// The mark `/-`, which the cursor went past.
+    /// `/-`, which the cursor went past.
     Dash,
     /// A block comment that isn't closed. The cursor is at the end of the text.
     Unclosed,
@@ -107,21 +97,19 @@ pub fn spaces(cursor: &mut Cursor)
     cursor.skip(Class::Space);
 }
 
-/// Goes past spaces and block comments, as many as there are. An error is the offset of a block comment that isn't
-/// closed.
-fn ws_run(cursor: &mut Cursor) -> Result<(), usize>
+/// Goes past spaces and block comments, as many as there are. False: one of the comments isn't closed.
+fn ws_run(cursor: &mut Cursor) -> bool
     ensures reads { RunsWs result cursor.old cursor.new }
     ensures moves { Moves cursor.old cursor.new }
     ensures costs { Costs 3 3 cursor.old cursor.new }
 {
     'run: loop {
         spaces(cursor);
-        let at = cursor.at();
         if !cursor.eat_two('/', '*') {
-            return Ok(());
+            return true;
         }
         if !block_end(cursor) {
-            return Err(at);
+            return false;
         }
     }
 }
@@ -146,40 +134,31 @@ fn escline_end(cursor: &mut Cursor) -> bool
     }
 }
 
-/// Goes past the escline whose backslash is here (KDL 2.0.0, Line Continuation).
-///
-/// Fails with `UnclosedComment` if a block comment in it isn't closed, and with `NotEscline` if anything else
-/// than a line comment, a newline or the end of the text follows.
-pub fn escline(cursor: &mut Cursor) -> Result<(), TriviaFault>
+/// Goes past the escline whose backslash is here (KDL 2.0.0, Line Continuation). False: none is here, since a block
+/// comment isn't closed, or since anything else than a line comment, a newline or the end of the text follows.
+pub fn escline(cursor: &mut Cursor) -> bool
     requires { begins 92 cursor.old.rest ≡ true }
-    ensures reads { ReadsEscline result cursor.old cursor.new }
+    ensures reads { Reads Escline result cursor.old.rest cursor.new.rest }
     ensures moves { Moves cursor.old cursor.new }
     ensures costs { PieceCosts 8 cursor.old cursor.new }
 {
-    let at = cursor.at();
     let _ = cursor.eat('\\');
-    match ws_run(cursor) {
-        Err(comment) => Err(TriviaFault::UnclosedComment(comment)),
-        Ok(()) => {
-            if escline_end(cursor) {
-                Ok(())
-            } else {
-                Err(TriviaFault::NotEscline(at))
-            }
-        }
+    if !ws_run(cursor) {
+        return false;
     }
+    escline_end(cursor)
 }
 
-/// Goes past the mark `/-` of a slashdash, if it is here (KDL 2.0.0, Slashdash Comments).
+/// Goes past `/-`, if it is here (KDL 2.0.0, Slashdash Comments).
 #[inline]
-pub fn slashdash_mark(cursor: &mut Cursor) -> bool
+pub fn eat_slashdash(cursor: &mut Cursor) -> bool
     ensures reads { AteTwo 47 45 result cursor.old cursor.new }
     ensures moves { Moves cursor.old cursor.new }
 {
     cursor.eat_two('/', '-')
 }
 
-/// Goes past the block comment, the line comment or the mark `/-` that begins with the slash here, if one of them does.
+/// Goes past the block comment, the line comment or the `/-` that begins with the slash here, if one of them does.
 pub fn slash(cursor: &mut Cursor) -> SlashRead
     ensures reads { ReadsSlash result cursor.old cursor.new }
     ensures moves { Moves cursor.old cursor.new }
@@ -194,7 +173,7 @@ pub fn slash(cursor: &mut Cursor) -> SlashRead
     } else if cursor.eat_two('/', '/') {
         line_end(cursor);
         SlashRead::Line
-    } else if slashdash_mark(cursor) {
+    } else if eat_slashdash(cursor) {
         SlashRead::Dash
     } else {
         SlashRead::Other

@@ -85,10 +85,10 @@ WritesNothing Done = ⊥
 WritesNothing WriteFailed = ⊥
 WritesNothing _ = Unit {0}
 
--- what each answer says of the marks: a read failed, the reader is at its end, a write failed
-abbrev pub Marked : Outcome → Bool → Bool → Bool → Type 0
-Marked ReadFailed read_failed ended write_failed = IsTrue read_failed
-Marked WriteFailed read_failed ended write_failed = IsTrue ended × IsTrue write_failed
-Marked Usage read_failed ended write_failed = Unit {0}
-Marked Memory read_failed ended write_failed = Unit {0}
-Marked _ read_failed ended write_failed = IsTrue ended
+-- what each answer says of the flags: a read failed, the reader is at its end, a write failed
+abbrev pub Flagged : Outcome → Bool → Bool → Bool → Type 0
+Flagged ReadFailed read_failed ended write_failed = IsTrue read_failed
+Flagged WriteFailed read_failed ended write_failed = IsTrue ended × IsTrue write_failed
+Flagged Usage read_failed ended write_failed = Unit {0}
+Flagged Memory read_failed ended write_failed = Unit {0}
+Flagged _ read_failed ended write_failed = IsTrue ended

@@ -1,4 +1,4 @@
-//! Readers and writers that fail, or that give and take little at a time; their marks, and the reports of each outcome.
+//! Readers and writers that fail, or that give and take little at a time; their flags, and the reports of each outcome.
 
 use crate::tool::Outcome;
 use kdl::{KdlDiagnostic, KdlError, Severity, SourceSpan};
@@ -179,7 +179,7 @@ fn each_report(rt: HostRuntime) {
 }
 
 #[test]
-fn marks_of_a_reader(rt: HostRuntime) {
+fn flags_of_a_reader(rt: HostRuntime) {
     let mut reader = Watched::new(Source::new(b"a", 1, 3));
     let mut one = [0u8; 1];
     assert_eq!(rt; reader.read(&mut []).ok(), Some(0));
@@ -194,11 +194,11 @@ fn marks_of_a_reader(rt: HostRuntime) {
     assert!(rt; !reader.ended(), "the last read gave no answer");
     assert_eq!(rt; reader.read(&mut one).ok(), Some(0));
     assert!(rt; reader.ended());
-    assert!(rt; reader.failed(), "the mark stays");
+    assert!(rt; reader.failed(), "the flag stays");
 }
 
 #[test]
-fn marks_of_a_writer(rt: HostRuntime) {
+fn flags_of_a_writer(rt: HostRuntime) {
     let mut writer = Watched::new(Sink::new(rt.alloc(), 1, 2));
     assert_eq!(rt; writer.write(b"ab").ok(), Some(1));
     assert_eq!(rt; writer.write(b"").ok(), Some(0));
@@ -207,12 +207,12 @@ fn marks_of_a_writer(rt: HostRuntime) {
     assert!(rt; writer.failed(), "interrupted");
     assert_eq!(rt; writer.write(b"b").ok(), Some(1));
     assert!(rt; writer.flush().is_ok());
-    assert!(rt; writer.failed(), "the mark stays");
+    assert!(rt; writer.failed(), "the flag stays");
     assert!(rt; !writer.ended());
 }
 
 #[test]
-fn marks_of_a_full_writer(rt: HostRuntime) {
+fn flags_of_a_full_writer(rt: HostRuntime) {
     let mut full = Watched::new(Sink::new(rt.alloc(), 0, NEVER));
     assert!(rt; full.flush().is_ok());
     assert!(rt; full.flush().is_err());

@@ -83,7 +83,7 @@ fn reports(rt: &impl Abort, alloc: Global, outcome: &Outcome, report: &str) {
 }
 
 /// Runs the tool, with a writer that takes so many bytes at a time and fails at the write of that number: what comes of
-/// it is wanted, and the marks of the reader and of the writer are those of the outcome.
+/// it is wanted, and the flags of the reader and of the writer are those of the outcome.
 fn comes_of(
     rt: &impl Abort,
     alloc: Global,
@@ -99,14 +99,14 @@ fn comes_of(
     let mut writer = Watched::new(&mut sink);
     let outcome = run(alloc, &words, &mut reader, &mut writer);
     let name = name_of(&outcome);
-    let marks = (reader.failed(), reader.ended(), writer.failed());
+    let flags = (reader.failed(), reader.ended(), writer.failed());
     assert_eq!(rt; name, wanted.outcome, "{line:?}");
     reports(rt, alloc, &outcome, wanted.report);
     drop(outcome);
     let is_usage = name == "Usage";
-    assert_eq!(rt; marks.0, name == "ReadFailed", "{line:?}");
-    assert_eq!(rt; marks.1, !(is_usage || name == "ReadFailed"), "{line:?}");
-    assert_eq!(rt; marks.2, name == "WriteFailed", "{line:?}");
+    assert_eq!(rt; flags.0, name == "ReadFailed", "{line:?}");
+    assert_eq!(rt; flags.1, !(is_usage || name == "ReadFailed"), "{line:?}");
+    assert_eq!(rt; flags.2, name == "WriteFailed", "{line:?}");
     assert_eq!(rt; source.reads == 0, is_usage, "{line:?}");
     assert_eq!(rt; sink.bytes.as_slice(), wanted.output, "{line:?}");
     Ok(())

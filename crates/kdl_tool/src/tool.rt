@@ -4,7 +4,7 @@ ghost use Rattle.kdl_text.specs.Failures.{IsSyntax, TellsOnSyntax};
 ghost use Rattle.kdl_grammar.specs.Tree.{document_data};
 ghost use Rattle.kdl.specs.Tree.{document_tree};
 ghost use Rattle.kdl_tool.specs.Commands.{AreOther, asked_by, first_argument, value_line, words_of};
-ghost use Rattle.kdl_tool.specs.Runs.{IsUsage, IsInput, Output, Ran, WritesNothing, Marked, Answered, AreNoDocument, IsDone, is_read_failed, is_write_failed, is_unread_failed};
+ghost use Rattle.kdl_tool.specs.Runs.{IsUsage, IsInput, Output, Ran, WritesNothing, Flagged, Answered, AreNoDocument, IsDone, is_read_failed, is_write_failed, is_unread_failed};
 ghost use Rattle.kdl_tool.specs.Reports.{status_of, report_of, line, diagnostic_line, lines_of};
 ghost use Rattle.kdl_tool.specs.Writing.{Writes};
 
@@ -86,7 +86,7 @@ pub fn run<R: Read, W: Write>(
     ensures unwritten { WritesNothing result → writer.new ≡ writer.old }
     ensures ran { Ran result (map string_bytes words.now) (R.remaining reader.old.inner) (R.remaining reader.new.inner)
         (W.contents writer.old.inner) (W.contents writer.new.inner) }
-    ensures marked { Marked result reader.new.failed reader.new.ended writer.new.failed }
+    ensures flags { Flagged result reader.new.failed reader.new.ended writer.new.failed }
     ensures read_failed { reader.new.failed ≡ (is_read_failed result || reader.old.failed) }
     ensures write_failed { writer.new.failed ≡ (is_write_failed result || writer.old.failed) }
 {
@@ -161,7 +161,7 @@ fn answer<W: Write>(
     ensures unwritten { WritesNothing result → writer.new ≡ writer.old }
     ensures answered { Answered result (words_of (asked_by command.entry)) input.now
         (W.contents writer.old.inner) (W.contents writer.new.inner) }
-    ensures marked { Marked result true true writer.new.failed }
+    ensures flags { Flagged result true true writer.new.failed }
     ensures write_failed { writer.new.failed ≡ (is_write_failed result || writer.old.failed) }
 {
     let Ok(text) = str::from_utf8(input) else {

@@ -60,18 +60,50 @@ pub fn answer(alloc: Global, text: &str, call: Call) -> Result<String, AllocErro
         Call::ParseEntry => entry_of(alloc, KdlEntry::parse(alloc, " /-0 k = (t)\"\\u{e9}\" ")),
         Call::ParseIdentifier => name_of(alloc, KdlIdentifier::parse(alloc, "#\"a b\"#")),
         Call::ParseRefused => refused(alloc),
-        Call::CloneDocument => cloned(alloc, text),
-        Call::Length => length(alloc, text),
-        Call::IsEmpty => emptiness(alloc, text),
-        Call::Push => pushed(alloc, text),
-        Call::InsertNamed => inserted(alloc, text),
-        Call::InsertFirst => inserted_first(alloc, text),
-        Call::GetOrNull => null_pushed(alloc, text),
-        Call::Sort => sorted(alloc, text),
-        Call::Autoformat => laid_out(alloc, text),
-        Call::AutoformatNoComments => stripped(alloc, text),
         Call::Texts => made(alloc, text),
         Call::Float => float(alloc),
+        Call::Push | Call::InsertNamed | Call::InsertFirst | Call::GetOrNull | Call::Sort =>
+            on_node(alloc, text, call),
+        _ => on_document(alloc, text, call),
+    }
+}
+
+/// What the call answers on the document of the text.
+fn on_document(alloc: Global, text: &str, call: Call) -> Result<String, AllocError> {
+    let mut document = read(alloc, text)?;
+    match call {
+        Call::CloneDocument => cloned(alloc, &document),
+        Call::Length => length(alloc, &document),
+        Call::IsEmpty => emptiness(alloc, &document),
+        Call::Autoformat => laid_out(alloc, &mut document),
+        _ => stripped(alloc, &mut document),
+    }
+}
+
+/// What the call answers on the first node of the text. Where memory is refused the node is what it was.
+fn on_node(alloc: Global, text: &str, call: Call) -> Result<String, AllocError> {
+    let mut node = first(alloc, text)?;
+    let before = node.clone()?;
+    if !changes(alloc, &mut node, &before, call)? {
+        return String::from_str(alloc, "the node changed");
+    }
+    node.to_string(alloc)
+}
+
+/// Makes the call on the node, and once more where it was refused memory. False: the node was changed by a call that
+/// was refused.
+fn changes(
+    alloc: Global,
+    node: &mut KdlNode,
+    before: &KdlNode,
+    call: Call,
+) -> Result<bool, AllocError> {
+    match call {
+        Call::Push => Ok(pushed(node, before)),
+        Call::InsertNamed => inserted(alloc, node, before),
+        Call::InsertFirst => Ok(inserted_first(node, before)),
+        Call::GetOrNull => null_pushed(node, before),
+        _ => sorted(node),
     }
 }
 
@@ -146,10 +178,9 @@ fn refused(alloc: Global) -> Result<String, AllocError> {
 }
 
 /// A copy of the document, which equals it.
-fn cloned(alloc: Global, text: &str) -> Result<String, AllocError> {
-    let document = read(alloc, text)?;
+fn cloned(alloc: Global, document: &KdlDocument) -> Result<String, AllocError> {
     let copy = document.clone()?;
-    if copy == document {
+    if copy == *document {
         copy.to_string(alloc)
     } else {
         String::from_str(alloc, "another document")
@@ -157,97 +188,81 @@ fn cloned(alloc: Global, text: &str) -> Result<String, AllocError> {
 }
 
 /// How long the printed document is.
-fn length(alloc: Global, text: &str) -> Result<String, AllocError> {
-    let length = read(alloc, text)?.len(alloc)?;
+fn length(alloc: Global, document: &KdlDocument) -> Result<String, AllocError> {
+    let length = document.len(alloc)?;
     format!(in alloc; "{length} bytes")
 }
 
 /// Whether the document prints nothing.
-fn emptiness(alloc: Global, text: &str) -> Result<String, AllocError> {
-    let is_empty = read(alloc, text)?.is_empty(alloc)?;
+fn emptiness(alloc: Global, document: &KdlDocument) -> Result<String, AllocError> {
+    let is_empty = document.is_empty(alloc)?;
     format!(in alloc; "empty: {is_empty}")
 }
 
-/// What is printed of a node that is not what it should be.
-fn changed(alloc: Global) -> Result<String, AllocError> {
-    String::from_str(alloc, "the node changed")
-}
-
-/// An entry pushed. Where memory is refused the node is what it was, and the entry comes back.
-fn pushed(alloc: Global, text: &str) -> Result<String, AllocError> {
-    let mut node = first(alloc, text)?;
-    let before = node.clone()?;
+/// An entry pushed. Where memory is refused the entry comes back.
+fn pushed(node: &mut KdlNode, before: &KdlNode) -> bool {
     if let Err((entry, _)) = node.push(KdlEntry::new(KdlValue::from(7))) {
-        if node != before {
-            return changed(alloc);
+        if *node != *before {
+            return false;
         }
         let _ = node.push(entry);
     }
-    node.to_string(alloc)
+    true
 }
 
-/// A property inserted. Where memory is refused the node is what it was.
-fn inserted(alloc: Global, text: &str) -> Result<String, AllocError> {
-    let mut node = first(alloc, text)?;
-    let before = node.clone()?;
+/// A property inserted.
+fn inserted(alloc: Global, node: &mut KdlNode, before: &KdlNode) -> Result<bool, AllocError> {
     let key = KdlIdentifier::from_text(alloc, "new key")?;
     let again = key.clone()?;
     let entry = KdlEntry::new(KdlValue::Null);
     if node.insert(NodeKey::Key(key), entry).is_err() {
-        if node != before {
-            return changed(alloc);
+        if *node != *before {
+            return Ok(false);
         }
         let _ = node.insert(NodeKey::Key(again), KdlEntry::new(KdlValue::Null));
     }
-    node.to_string(alloc)
+    Ok(true)
 }
 
-/// An argument inserted before all others, likewise.
-fn inserted_first(alloc: Global, text: &str) -> Result<String, AllocError> {
-    let mut node = first(alloc, text)?;
-    let before = node.clone()?;
+/// An argument inserted before all others.
+fn inserted_first(node: &mut KdlNode, before: &KdlNode) -> bool {
     let entry = KdlEntry::new(KdlValue::from(true));
     if node.insert(NodeKey::Index(0), entry).is_err() {
-        if node != before {
-            return changed(alloc);
+        if *node != *before {
+            return false;
         }
         let _ = node.insert(NodeKey::Index(0), KdlEntry::new(KdlValue::from(true)));
     }
-    node.to_string(alloc)
+    true
 }
 
-/// A null property pushed where there is none, likewise.
-fn null_pushed(alloc: Global, text: &str) -> Result<String, AllocError> {
-    let mut node = first(alloc, text)?;
-    let before = node.clone()?;
+/// A null property pushed where there is none.
+fn null_pushed(node: &mut KdlNode, before: &KdlNode) -> Result<bool, AllocError> {
     if node.get_or_null_mut("nothing").is_err() {
-        if node != before {
-            return changed(alloc);
+        if *node != *before {
+            return Ok(false);
         }
         let _ = node.get_or_null_mut("nothing")?;
     }
-    node.to_string(alloc)
+    Ok(true)
 }
 
 /// The entries, sorted by their values. Where memory is refused they are there in some order, and are sorted then.
-fn sorted(alloc: Global, text: &str) -> Result<String, AllocError> {
-    let mut node = first(alloc, text)?;
+fn sorted(node: &mut KdlNode) -> Result<bool, AllocError> {
     if node.sort_by(|a, b| b.value().cmp(a.value())).is_err() {
         node.sort_by(|a, b| b.value().cmp(a.value()))?;
     }
-    node.to_string(alloc)
+    Ok(true)
 }
 
 /// The document laid out with its comments.
-fn laid_out(alloc: Global, text: &str) -> Result<String, AllocError> {
-    let mut document = read(alloc, text)?;
+fn laid_out(alloc: Global, document: &mut KdlDocument) -> Result<String, AllocError> {
     document.autoformat()?;
     document.to_string(alloc)
 }
 
 /// The canonical text of the document, also where laying it out was refused memory before.
-fn stripped(alloc: Global, text: &str) -> Result<String, AllocError> {
-    let mut document = read(alloc, text)?;
+fn stripped(alloc: Global, document: &mut KdlDocument) -> Result<String, AllocError> {
     let _ = document.autoformat();
     if document.autoformat_no_comments().is_err() {
         document.autoformat_no_comments()?;

@@ -86,7 +86,7 @@ impl Item {
         Ok(())
     }
 
-    /// Marks the first entry of the first node to keep its form.
+    /// Flags the first entry of the first node to keep its form.
     fn keep_first(&mut self) {
         match self {
             Item::Document(document) => {
@@ -169,7 +169,7 @@ impl Item {
     }
 }
 
-/// Marks the first entry of the node to keep its form.
+/// Flags the first entry of the node to keep its form.
 fn keep_first_entry(node: &mut KdlNode) {
     if let Some(entry) = node.entries_mut().first_mut() {
         entry.keep_format();

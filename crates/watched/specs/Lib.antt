@@ -1,2 +1,2 @@
--- What one call of a reader or a writer does to the marks on it.
-pub mod Marks
+-- What one call of a reader or a writer does to the flags on it.
+pub mod Flags

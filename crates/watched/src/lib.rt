@@ -1,12 +1,12 @@
-//! A reader or a writer with two marks: that a call on it failed, and that it is read to its end.
+//! A reader or a writer with two flags: that a call on it failed, and that it is read to its end.
 //!
-//! The marks are private to this crate, and only `read` and `write` set them.
+//! The flags are private to this crate, and only `read` and `write` set them.
 #![tactic(auto)]
 
 ghost use Rattle.std.specs.Prelude.{◌≡◌, ◌||◌, ◌==◌, false, length, is_err, if◌then◌else◌};
 ghost use Rattle.std.specs.Io.{ReadsAtMost, WritesAtMost};
 ghost use Rattle.std.specs.Io.KnownBytes.{Keeps, ReadConsumes, WriteAppends};
-ghost use Rattle.watched.specs.Marks.{gave_none, is_refused};
+ghost use Rattle.watched.specs.Flags.{gave_none, is_refused};
 
 use std::io;
 use std::io::{Read, Write};
@@ -20,7 +20,7 @@ pub struct Watched<T> {
 }
 
 impl<T> Watched<T> {
-    /// `inner` before any call on it: neither mark is set.
+    /// `inner` before any call on it: neither flag is set.
     pub fn new(inner: T) -> Watched<T>
         ensures inner { result.inner ≡ inner }
         ensures failed { result.failed ≡ false }
@@ -98,7 +98,7 @@ impl<W: Write> Write for Watched<W> {
         outcome
     }
 
-    /// One `flush` of the inner writer. It sets no mark.
+    /// One `flush` of the inner writer. It sets no flag.
     fn flush(&mut self) -> io::Result<()>
         ensures bytes { Keeps (W.contents self.old.inner) (W.contents self.new.inner) }
         ensures failed { self.new.failed ≡ self.old.failed }

@@ -4,7 +4,7 @@ use Rattle.std.specs.List.{All}
 use Rattle.std.proofs.lemmas.List.{length_push, drop_at, drop_more, drop-set-lt}
 use Rattle.std.proofs.lemmas.List.Elements.{All-head, All-tail, All-weaker}
 use Rattle.kdl_grammar.specs.Tree.{Node, node, Children, no_children, children, Document, document, Nodes, none, first, listed_nodes, children_of}
-use Rattle.kdl.specs.Internal.Due.{due, ExchangedAt, HasInstead, IsAlone, IsMarked}
+use Rattle.kdl.specs.Internal.Due.{due, ExchangedAt, HasInstead, IsAlone, BecomesDue}
 use Rattle.kdl.specs.Tree.{head_tree, node_tree, nodes_tree, document_tree}
 use Rattle.kdl.specs.declared.node.KdlNode.{KdlNode}
 use Rattle.kdl.specs.declared.document.KdlDocument.{KdlDocument}
@@ -57,8 +57,8 @@ due_sizes : (ns : List Node) → size_nodes (listed_nodes (map due ns)) ≡ size
 due_sizes [] = refl
 due_sizes (node h k ∷ ns) = ap (λ i. size_node (node h k) + i) (due_sizes ns)
 
-marked_sizes : (old new : KdlDocument) → IsMarked old new → size_nodes (nodes_tree (out-KdlDocument new).nodes.items) ≡ size_nodes (nodes_tree (out-KdlDocument old).nodes.items)
-marked_sizes old new m = ap (λ z. size_nodes (listed_nodes z)) m.nodes ∙ due_sizes (map node_tree (out-KdlDocument old).nodes.items)
+becoming_sizes : (old new : KdlDocument) → BecomesDue old new → size_nodes (nodes_tree (out-KdlDocument new).nodes.items) ≡ size_nodes (nodes_tree (out-KdlDocument old).nodes.items)
+becoming_sizes old new m = ap (λ z. size_nodes (listed_nodes z)) m.nodes ∙ due_sizes (map node_tree (out-KdlDocument old).nodes.items)
 
 -- behind the open node
 ends_there : (left : List KdlNode) → All IsDue left → goes_on (nodes_tree left) ≡ false
@@ -121,13 +121,13 @@ size_block n block e =
     omega (arith, sized)
 
 pub block_counted : (here one two : KdlDocument) (above other : Option KdlDocument) (at : ℕ) (w : Document) (block new : KdlDocument) → AtNode here above at w → ExchangedAt here one at (IsAlone (Some block))
-    → ExchangedAt one two at (HasInstead above other) → IsMarked block new → left_of new (Some two) 0 < left_of here above at
+    → ExchangedAt one two at (HasInstead above other) → BecomesDue block new → left_of new (Some two) 0 < left_of here above at
 block_counted here one two above other at w block new k x y m =
     let e = entered here one two above other at w block k x y in
     let here_is : size_nodes (nodes_tree (drop at (out-KdlDocument here).nodes.items)) ≡ size_node (node_tree k.n) + size_nodes (nodes_tree k.left) =
     ap (λ z. size_nodes (nodes_tree (drop at z))) k.spot.nodes ∙ ap (λ z. size_nodes (nodes_tree z)) (drop_at k.done (k.n ∷ k.left) at k.place)
     in
-    omega (arith, here_is, size_block k.n block e.had, marked_sizes block new m, above_open two k.done y.is k.left above e.is_open e.holds)
+    omega (arith, here_is, size_block k.n block e.had, becoming_sizes block new m, above_open two k.done y.is k.left above e.is_open e.holds)
 
 pub end_counted : (here above new : KdlDocument) (other : Option KdlDocument) (end at : ℕ) (w : Document) → Climb here above at w → ExchangedAt above new (at - 1) (HasInstead (Some here) other)
     → left_of new other at < left_of here (Some above) end

@@ -7,7 +7,7 @@ use Rattle.kdl_entry.specs.Tree.{Identifier, Entry, unspelled, cleared}
 use Rattle.kdl_grammar.specs.Tree.{NodeFormat, Head, Node, node, no_children, children, Document, document, listed_nodes, children_of}
 use Rattle.kdl_parts.specs.Formats.{node_format_tree, document_format_tree}
 use Rattle.kdl.specs.Cleared.{cleared_head, cleared_node, cleared_document, cleared_nodes}
-use Rattle.kdl.specs.Internal.Due.{formed, due, is_due, AreDueFrom, ExchangedAt, HasInstead, IsAlone, IsMarked}
+use Rattle.kdl.specs.Internal.Due.{formed, due, is_due, AreDueFrom, ExchangedAt, HasInstead, IsAlone, BecomesDue}
 use Rattle.kdl.specs.Tree.{head_tree, node_tree, nodes_tree, document_tree}
 use Rattle.kdl.specs.declared.node.KdlNode.{KdlNode}
 use Rattle.kdl.specs.declared.document.KdlDocument.{KdlDocument}
@@ -128,16 +128,16 @@ all_due (x ∷ xs) (y ∷ ys) e =
     let b : map node_tree xs ≡ map due ys = cc in
     All-cons IsDue x xs (sym (format_is x) ∙ ap (λ t. is_some (tree_format t)) a ∙ due_format y) (all_due xs ys b)
 
-marked_spot : (old new : KdlDocument) → IsMarked old new → Spot new [] (out-KdlDocument new).nodes.items
-marked_spot old new m = record {
+due_spot : (old new : KdlDocument) → BecomesDue old new → Spot new [] (out-KdlDocument new).nodes.items
+due_spot old new m = record {
   nodes = refl;
   format = m.format;
   cleared = All-nil IsCleared;
   due = all_due (out-KdlDocument new).nodes.items (map node_tree (out-KdlDocument old).nodes.items) m.nodes;
 }
 
-marked_becomes : (old new : KdlDocument) → IsMarked old new → cleared_document (document_tree old) ≡ become new [] (out-KdlDocument new).nodes.items
-marked_becomes old new m =
+due_becomes : (old new : KdlDocument) → BecomesDue old new → cleared_document (document_tree old) ≡ become new [] (out-KdlDocument new).nodes.items
+due_becomes old new m =
     let ns = map node_tree (out-KdlDocument old).nodes.items in
     cleared_is old
     ∙ ap (λ s. document None s (listed_nodes (map cleared_node ns))) (sym m.span)
@@ -145,13 +145,13 @@ marked_becomes old new m =
     ∙ ap (λ z. document None (out-KdlDocument new).span (listed_nodes (map cleared_node z))) (sym m.nodes)
 
 -- before the first turn
-pub begun : (old here : KdlDocument) → IsMarked old here → Walk here None 0 (cleared_document (document_tree old))
+pub begun : (old here : KdlDocument) → BecomesDue old here → Walk here None 0 (cleared_document (document_tree old))
 begun old here m = record {
   done = [];
   left = (out-KdlDocument here).nodes.items;
-  spot = marked_spot old here m;
+  spot = due_spot old here m;
   place = refl;
-  whole = subst (λ t. Whole None t (cleared_document (document_tree old))) (marked_becomes old here m) (top (cleared_document (document_tree old)));
+  whole = subst (λ t. Whole None t (cleared_document (document_tree old))) (due_becomes old here m) (top (cleared_document (document_tree old)));
 }
 
 -- there is a node at the place
@@ -249,14 +249,14 @@ entered here one two above other at w block k x y =
     }
 
 pub block_entered : (here one two : KdlDocument) (above other : Option KdlDocument) (at : ℕ) (w : Document) (block new : KdlDocument) → AtNode here above at w → ExchangedAt here one at (IsAlone (Some block))
-    → ExchangedAt one two at (HasInstead above other) → IsMarked block new → Walk new (Some two) 0 w
+    → ExchangedAt one two at (HasInstead above other) → BecomesDue block new → Walk new (Some two) 0 w
 block_entered here one two above other at w block new k x y m =
     let e = entered here one two above other at w block k x y in
     let h = head_tree (out-KdlNode k.n) in
     let t = become new [] (out-KdlDocument new).nodes.items in
     let node_becomes : cleared_node (node_tree k.n) ≡ node (head_tree (out-KdlNode y.is)) (children t) =
     ap cleared_node (node_is k.n h (Some block) refl e.had)
-    ∙ ap (λ d. node (cleared_head h) (children d)) (marked_becomes block new m)
+    ∙ ap (λ d. node (cleared_head h) (children d)) (due_becomes block new m)
     ∙ ap (λ g. node g (children t)) (sym e.head)
     in
     let becomes : become here k.done (k.n ∷ k.left) ≡ refilled two k.done y.is k.left t =
@@ -266,7 +266,7 @@ block_entered here one two above other at w block new k x y m =
     record {
       done = [];
       left = (out-KdlDocument new).nodes.items;
-      spot = marked_spot block new m;
+      spot = due_spot block new m;
       place = refl;
       whole = inside two k.done k.left y.is t w e.is_open (subst (λ o. Whole o (refilled two k.done y.is k.left t) w) (sym e.holds) (subst (λ d. Whole above d w) becomes k.whole));
     }

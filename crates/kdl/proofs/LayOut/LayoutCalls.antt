@@ -35,8 +35,8 @@ module _ {A E : Type 0} (r : Result A E) (s : Settings) (level : ℕ) where
     pub plain : IfOk r (λ _. IsFormattedDocument s level d x) → IfOk r (λ _. s.no_comments ≡ true → x ≡ formatted_document s level d)
     plain h = if_ok r (λ (f : IsFormattedDocument s level d x). λ e. layout.document_left_out s level d x e f) h
 
-    pub unmarked : IfOk r (λ _. IsFormattedDocument s level d x) → IfOk r (λ _. DocumentKeepsNone x)
-    unmarked h = if_ok r (λ (f : IsFormattedDocument s level d x). layout.document_unmarked s level d x f) h
+    pub keeps_none : IfOk r (λ _. IsFormattedDocument s level d x) → IfOk r (λ _. DocumentKeepsNone x)
+    keeps_none h = if_ok r (λ (f : IsFormattedDocument s level d x). layout.document_keeps_none s level d x f) h
 
     pub derived : IfOk r (λ _. IsFormattedDocument s level d x) → IfOk r (λ _. AreWellFormed (document_data d))
         → IfOk r (λ _. list_all is_space s.indent ≡ true → s.entry_autoformate_keep ≡ false → DocumentKeepsNone d → IsDocument true (print_document x 0) (document_data d))
@@ -62,8 +62,8 @@ module _ {A E : Type 0} (r : Result A E) (s : Settings) (level : ℕ) where
     pub node_plain : IfOk r (λ _. IsFormattedNode s level n x) → IfOk r (λ _. s.no_comments ≡ true → x ≡ formatted_node s level n)
     node_plain h = if_ok r (λ (f : IsFormattedNode s level n x). λ e. layout.left_out s level n x e f) h
 
-    pub node_unmarks : IfOk r (λ _. IsFormattedNode s level n x) → IfOk r (λ _. NodeKeepsNone x)
-    node_unmarks h = if_ok r (λ (f : IsFormattedNode s level n x). layout.unmarked s level n x f) h
+    pub node_keeps_none_then : IfOk r (λ _. IsFormattedNode s level n x) → IfOk r (λ _. NodeKeepsNone x)
+    node_keeps_none_then h = if_ok r (λ (f : IsFormattedNode s level n x). layout.node_keeps_none s level n x f) h
 
     pub node_derives : IfOk r (λ _. IsFormattedNode s level n x) → IfOk r (λ _. IsWellFormedNode (node_data n))
         → IfOk r (λ _. list_all is_space s.indent ≡ true → s.entry_autoformate_keep ≡ false → NodeKeepsNone n → IsDocument true (print_node x 0) (data'.first (node_data n) data'.none))

@@ -9,12 +9,12 @@ use Rattle.kdl.specs.declared.document.KdlDocument.{KdlDocument}
 use Rattle.kdl.specs.declared.document.KdlDocument.TheViews.{out-KdlDocument, out-KdlNode}
 
 -- a format whose texts are empty
-abbrev pub empty_format : NodeFormat
-empty_format = record { leading = []; before_ty_name = []; after_ty_name = []; after_ty = []; before_children = []; before_terminator = []; terminator = []; trailing = [] }
+abbrev pub empty_node_format : NodeFormat
+empty_node_format = record { leading = []; before_ty_name = []; after_ty_name = []; after_ty = []; before_children = []; before_terminator = []; terminator = []; trailing = [] }
 
 -- a format, where there is none
 abbrev pub formed : Option NodeFormat → Option NodeFormat
-formed None = Some empty_format
+formed None = Some empty_node_format
 formed (Some f) = Some f
 
 -- a node that is made due: it has a format
@@ -26,7 +26,7 @@ abbrev pub is_due : KdlNode → Bool
 is_due n = is_some (out-KdlNode n).format
 
 -- new is old without its own format, and with each of its nodes due
-pub record IsMarked (old new : KdlDocument) : Type 0 where
+pub record BecomesDue (old new : KdlDocument) : Type 0 where
   pub format : (out-KdlDocument new).format ≡ None
   pub span : (out-KdlDocument new).span ≡ (out-KdlDocument old).span
   pub nodes : map node_tree (out-KdlDocument new).nodes.items ≡ map due (map node_tree (out-KdlDocument old).nodes.items)

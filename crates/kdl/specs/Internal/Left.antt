@@ -1,22 +1,15 @@
 -- What is left to print where some of the nodes and blocks are printed.
-use Rattle.std.specs.Fmt.{WritesOnOk}
-use Rattle.std.specs.Prelude.{ℕ, ◌+◌, List, [], ◌∷◌, ◌++◌, length, map, option_map, Result}
-use Rattle.std.specs.Str.{encode_utf8_all}
-use Rattle.std.specs.declared.fmt.Error.{Error}
-use Rattle.std.specs.declared.fmt.Formatter.{Formatter}
+use Rattle.std.specs.Prelude.{ℕ, ◌+◌, List, [], ◌∷◌, ◌++◌, length, map, option_map}
 use Rattle.kdl_text.specs.Chars.{Text}
 use Rattle.kdl_entry.specs.Tree.{entry_tree}
 use Rattle.kdl_grammar.specs.Print.{print_head, print_pieces, print_nodes, before_block, after_brace, before_brace, leading_text, trailing_text, end_text}
 use Rattle.kdl_parts.specs.Formats.{node_format_tree, document_format_tree}
+pub use Rattle.kdl_parts.specs.Printed.{Prints}
 use Rattle.kdl.specs.Tree.{head_tree, nodes_tree}
 use Rattle.kdl.specs.declared.node.KdlNode.{KdlNode}
 use Rattle.kdl.specs.declared.document.KdlDocument.{KdlDocument}
 use Rattle.kdl.specs.declared.document.KdlDocument.TheViews.{out-KdlDocument, out-KdlNode}
 use Rattle.kdl.specs.declared.prints.Open.{Open}
-
--- where no write fails, the characters of the text were written, as UTF-8
-abbrev pub Prints : {W : Type 0} → (W → List ℕ → W → Type 0) → Formatter W → Result (Unit {0}) Error → Text → Formatter W → Type 0
-Prints took f r t g = WritesOnOk took f r (encode_utf8_all t) g
 
 -- a node up to its last entry, at a depth
 abbrev pub front : KdlNode → ℕ → Text

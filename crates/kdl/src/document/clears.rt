@@ -1,6 +1,6 @@
 //! The steps in which a document's nodes are cleared.
 
-ghost use Rattle.kdl.specs.Internal.Due.{AreDueFrom, ExchangedAt, HasInstead, IsAlone, IsMarked, due};
+ghost use Rattle.kdl.specs.Internal.Due.{AreDueFrom, ExchangedAt, HasInstead, IsAlone, BecomesDue, due};
 ghost use Rattle.kdl.specs.Tree.{node_tree};
 ghost use Rattle.kdl.specs.declared.document.KdlDocument.{out-KdlDocument};
 ghost use Rattle.std.specs.Prelude.{◌≡◌, ◌<◌, length, map};
@@ -9,12 +9,12 @@ use crate::document::KdlDocument;
 use crate::node::KdlNode;
 
 impl KdlDocument {
-    /// Drops the document's own format, and marks each of its nodes as due.
-    pub(crate) fn mark(&mut self)
-        ensures { IsMarked self.old self.new }
+    /// Drops the document's own format, and sets each of its nodes as due.
+    pub(crate) fn set_due(&mut self)
+        ensures { BecomesDue self.old self.new }
     {
         self.clear_format();
-        mark_nodes(&mut self.nodes);
+        set_nodes_due(&mut self.nodes);
     }
 
     /// Drops the format and the spellings of the node at the place, and takes out its block, which stays as it is.
@@ -45,8 +45,8 @@ impl KdlDocument {
     }
 }
 
-/// Marks each node as due.
-fn mark_nodes(nodes: &mut Vec<KdlNode>)
+/// Sets each node as due.
+fn set_nodes_due(nodes: &mut Vec<KdlNode>)
     ensures { map node_tree nodes.new.items ≡ map due (map node_tree nodes.old.items) }
 {
     for node in nodes.iter_mut() {

@@ -1,6 +1,6 @@
 //! Layout of documents.
 
-ghost use Rattle.kdl.specs.Layout.{DocumentLaidOut, DocumentUnmarked, IndentsBySpaces, document_bare, plain_document};
+ghost use Rattle.kdl.specs.Layout.{DocumentLaidOut, DocumentKeepsNoForm, IndentsBySpaces, document_bare, plain_document};
 ghost use Rattle.kdl.specs.Tree.{document_prints, document_says, document_tree, nodes_tree};
 ghost use Rattle.kdl.specs.declared.document.KdlDocument.{out-KdlDocument};
 ghost use Rattle.kdl_fmt.specs.Canonical.{Canonical, canonical, canonical_text};
@@ -24,10 +24,10 @@ impl KdlDocument {
     /// Lays out the document: each node on a line of its own, four spaces for each level, one space between the parts
     /// of a node; a document without nodes prints one newline. Comments stay, and what a slashdash drops, where they
     /// stand between nodes, behind a node on its line, between entries, or before a block; those inside a type or
-    /// behind it, around `=` and behind an entry's value go. Spellings go; an entry that is marked to keep its form
+    /// behind it, around `=` and behind an entry's value go. Spellings go; an entry that is flagged to keep its form
     /// keeps the spelling of its value and the text before it. What the document says stays, and so do the spans.
     ///
-    /// Where no entry is marked, the printed text is a document that says the same, and a second call changes nothing.
+    /// Where no entry is flagged, the printed text is a document that says the same, and a second call changes nothing.
     ///
     /// Fails where memory runs out: then the document says what it said, and some of it may be laid out.
     ///
@@ -39,10 +39,10 @@ impl KdlDocument {
         ensures data { document_says self.new ≡ document_says self.old }
         ensures kept { document_bare self.new ≡ document_bare self.old }
         ensures formatted { OnOk result (DocumentLaidOut defaults self.old self.new) }
-        ensures unmarked { OnOk result (DocumentUnmarked self.new) }
-        ensures derived { OnOk result (DocumentUnmarked self.old
+        ensures keeps_none { OnOk result (DocumentKeepsNoForm self.new) }
+        ensures derived { OnOk result (DocumentKeepsNoForm self.old
             → IsDocument true (document_prints self.new) (document_says self.old)) }
-        ensures comments { OnOk result (DocumentUnmarked self.old
+        ensures comments { OnOk result (DocumentKeepsNoForm self.old
             → CommentsStay (document_tree self.old) (document_prints self.new)) }
     {
         let config = FormatConfig::builder().build();
@@ -51,7 +51,7 @@ impl KdlDocument {
 
     /// Lays out the document like `autoformat`, without comments: these go, and what a slashdash drops.
     ///
-    /// Where no entry is marked, two documents print the same text then exactly where they say the same.
+    /// Where no entry is flagged, two documents print the same text then exactly where they say the same.
     ///
     /// Fails where memory runs out: then the document says what it said, and some of it may be laid out.
     ///
@@ -64,8 +64,8 @@ impl KdlDocument {
         ensures kept { document_bare self.new ≡ document_bare self.old }
         ensures formatted { OnOk result
             (document_tree self.new ≡ plain_document without_comments self.old) }
-        ensures unmarked { OnOk result (DocumentUnmarked self.new) }
-        ensures prints { OnOk result (DocumentUnmarked self.old
+        ensures keeps_none { OnOk result (DocumentKeepsNoForm self.new) }
+        ensures prints { OnOk result (DocumentKeepsNoForm self.old
             → document_prints self.new ≡ canonical_text (document_says self.old)) }
         ensures reads { OnOk result (Canonical without_comments.indent 0 (document_says self.old)) }
     {
@@ -74,7 +74,7 @@ impl KdlDocument {
     }
 
     /// Lays out the document as the configuration says: from its level on, with its indent for each level, with or
-    /// without comments, and with all entries marked or not.
+    /// without comments, and with all entries flagged or not.
     ///
     /// Fails where memory runs out, or where the level of a child would pass `usize`: then the document says what it
     /// said, and some of it may be laid out.
@@ -90,15 +90,15 @@ impl KdlDocument {
         ensures formatted { OnOk result (DocumentLaidOut (settings config.now) self.old self.new) }
         ensures plain { OnOk result (config.now.no_comments ≡ true
             → document_tree self.new ≡ plain_document (settings config.now) self.old) }
-        ensures unmarked { OnOk result (DocumentUnmarked self.new) }
+        ensures keeps_none { OnOk result (DocumentKeepsNoForm self.new) }
         ensures derived { OnOk result (IndentsBySpaces (settings config.now)
-            → config.now.entry_autoformate_keep ≡ false → DocumentUnmarked self.old
+            → config.now.entry_autoformate_keep ≡ false → DocumentKeepsNoForm self.old
             → IsDocument true (document_prints self.new) (document_says self.old)) }
         ensures comments { OnOk result (IndentsBySpaces (settings config.now)
             → config.now.entry_autoformate_keep ≡ false → config.now.no_comments ≡ false
-            → DocumentUnmarked self.old
+            → DocumentKeepsNoForm self.old
             → CommentsStay (document_tree self.old) (document_prints self.new)) }
-        ensures prints { OnOk result (IsPlain (settings config.now) → DocumentUnmarked self.old
+        ensures prints { OnOk result (IsPlain (settings config.now) → DocumentKeepsNoForm self.old
             → document_prints self.new ≡
             canonical (settings config.now).indent config.now.indent_level (document_says self.old)) }
         ensures reads { OnOk result (IndentsBySpaces (settings config.now)

@@ -3,7 +3,7 @@
 ghost use Rattle.kdl.specs.Change.{with_nodes};
 ghost use Rattle.kdl.specs.Iterators.{child_nodes, nodes_in};
 ghost use Rattle.kdl.specs.Internal.Laid.{Laid, LaidBut, filled_block};
-ghost use Rattle.kdl.specs.Layout.{IndentsBySpaces, NodeCommentsStay, NodeLaidOut, NodeUnmarked, node_bare, plain_node};
+ghost use Rattle.kdl.specs.Layout.{IndentsBySpaces, NodeCommentsStay, NodeLaidOut, NodeKeepsNoForm, node_bare, plain_node};
 ghost use Rattle.kdl.specs.Tree.{document_tree, node_prints, node_says, node_tree, nodes_tree};
 ghost use Rattle.kdl.specs.declared.document.KdlDocument.{out-KdlDocument};
 ghost use Rattle.kdl.specs.declared.node.KdlNode.{out-KdlNode};
@@ -31,10 +31,10 @@ impl KdlNode {
     /// Lays out the node and all below it: the node on a line of its own at level 0, four spaces for each level below
     /// it, one space between the parts of a node. Comments stay, and what a slashdash drops, where they stand before or
     /// behind the node or one below it, between entries, or before a block or a terminator; those inside a type or
-    /// behind it, around `=` and behind an entry's value go. Spellings go; an entry that is marked to keep its form
+    /// behind it, around `=` and behind an entry's value go. Spellings go; an entry that is flagged to keep its form
     /// keeps the spelling of its value and the text before it. What the node says stays.
     ///
-    /// Where no entry is marked, the node prints a document of that one node, and a second call changes nothing.
+    /// Where no entry is flagged, the node prints a document of that one node, and a second call changes nothing.
     ///
     /// Fails where memory runs out: then the node says what it said, and some of it may be laid out.
     ///
@@ -46,11 +46,11 @@ impl KdlNode {
         ensures data { node_says self.new ≡ node_says self.old }
         ensures kept { node_bare self.new ≡ node_bare self.old }
         ensures formatted { OnOk result (NodeLaidOut defaults self.old self.new) }
-        ensures unmarked { OnOk result (NodeUnmarked self.new) }
-        ensures derived { OnOk result (NodeUnmarked self.old
+        ensures keeps_none { OnOk result (NodeKeepsNoForm self.new) }
+        ensures derived { OnOk result (NodeKeepsNoForm self.old
             → IsDocument true (node_prints self.new)
             (data'.first (node_says self.old) data'.none)) }
-        ensures comments { OnOk result (NodeUnmarked self.old
+        ensures comments { OnOk result (NodeKeepsNoForm self.old
             → NodeCommentsStay (node_tree self.old) (node_prints self.new)) }
     {
         let config = FormatConfig::builder().build();
@@ -70,8 +70,8 @@ impl KdlNode {
         ensures kept { node_bare self.new ≡ node_bare self.old }
         ensures formatted { OnOk result
             (node_tree self.new ≡ plain_node without_comments self.old) }
-        ensures unmarked { OnOk result (NodeUnmarked self.new) }
-        ensures prints { OnOk result (NodeUnmarked self.old
+        ensures keeps_none { OnOk result (NodeKeepsNoForm self.new) }
+        ensures prints { OnOk result (NodeKeepsNoForm self.old
             → node_prints self.new ≡
             canonical_node without_comments.indent 0 (node_says self.old)) }
         ensures reads { OnOk result (CanonicalNode without_comments.indent 0 (node_says self.old)) }
@@ -81,7 +81,7 @@ impl KdlNode {
     }
 
     /// Lays out the node and all below it as the configuration says: from its level on, with its indent for each level,
-    /// with or without comments, and with all entries marked or not.
+    /// with or without comments, and with all entries flagged or not.
     ///
     /// Fails where memory runs out, or where the level of a child would pass `usize`: then the node says what it
     /// said, and some of it may be laid out.
@@ -97,16 +97,16 @@ impl KdlNode {
         ensures formatted { OnOk result (NodeLaidOut (settings config.now) self.old self.new) }
         ensures plain { OnOk result (config.now.no_comments ≡ true
             → node_tree self.new ≡ plain_node (settings config.now) self.old) }
-        ensures unmarked { OnOk result (NodeUnmarked self.new) }
+        ensures keeps_none { OnOk result (NodeKeepsNoForm self.new) }
         ensures derived { OnOk result (IndentsBySpaces (settings config.now)
-            → config.now.entry_autoformate_keep ≡ false → NodeUnmarked self.old
+            → config.now.entry_autoformate_keep ≡ false → NodeKeepsNoForm self.old
             → IsDocument true (node_prints self.new)
             (data'.first (node_says self.old) data'.none)) }
         ensures comments { OnOk result (IndentsBySpaces (settings config.now)
             → config.now.entry_autoformate_keep ≡ false → config.now.no_comments ≡ false
-            → NodeUnmarked self.old
+            → NodeKeepsNoForm self.old
             → NodeCommentsStay (node_tree self.old) (node_prints self.new)) }
-        ensures prints { OnOk result (IsPlain (settings config.now) → NodeUnmarked self.old
+        ensures prints { OnOk result (IsPlain (settings config.now) → NodeKeepsNoForm self.old
             → node_prints self.new ≡
             canonical_node (settings config.now).indent config.now.indent_level (node_says self.old)) }
         ensures reads { OnOk result (IndentsBySpaces (settings config.now)

@@ -16,7 +16,7 @@ use Rattle.kdl_entry.specs.Print.{print_identifier, print_entry}
 use Rattle.kdl_value.specs.Spelled.{spelled}
 use Rattle.kdl_entry.specs.Tree.{Identifier, unspelled, cleared, Entry, entry_data}
 use Rattle.kdl_entry.proofs.Laying.LaidIsDerived.{item_of}
-use Rattle.kdl_entry.proofs.Moving.EntryMoves.{marks}
+use Rattle.kdl_entry.proofs.Moving.EntryMoves.{punctuation_end}
 use Rattle.kdl_entry.proofs.Laying.FormedPrints.{same_data, space_before}
 use Rattle.kdl_entry.proofs.Laying.LaidPrints.{entry_printed}
 use Rattle.kdl_entry.proofs.Laying.ValueReadsBack.{printed_string, printed_value}
@@ -46,7 +46,7 @@ module _ (whole : Text) where
   type_stands None u ok = record { text = u; laid = no_type }
   type_stands (Some i) u ok = record {
     text = 40 ∷ print_identifier (unspelled i) ++ (41 ∷ u);
-    laid = a_type (no_space _) (identifier_laid i (41 ∷ u) ok (marks 41 refl)) (no_space _) (no_space _);
+    laid = a_type (no_space _) (identifier_laid i (41 ∷ u) ok (punctuation_end 41 refl)) (no_space _) (no_space _);
   }
 
   record KeyStands (i : Option Identifier) (u : Text) : Type 0 where
@@ -58,7 +58,7 @@ module _ (whole : Text) where
   key_stands None u ok = record { text = u; laid = no_key }
   key_stands (Some i) u ok = record {
     text = print_identifier (unspelled i) ++ (61 ∷ u);
-    laid = a_key (identifier_laid i (61 ∷ u) ok (marks 61 refl)) (no_space _) (no_space _);
+    laid = a_key (identifier_laid i (61 ∷ u) ok (punctuation_end 61 refl)) (no_space _) (no_space _);
   }
 
   value_laid : (v : Value) (u : Text) → IsWellFormed v → ValueEnd true u → Is (λ s r. IsPlainValue true s r v) (print_value v) (print_value v ++ u) u

@@ -4,7 +4,7 @@ use Rattle.std.proofs.lemmas.Bool.{cases_Bool, and_parts}
 use Rattle.std.proofs.lemmas.Bool.Decides.{nat_tests}
 use Rattle.std.specs.List.{list_all}
 use Rattle.kdl_text.specs.Bare.{is_bare, bare as bare_text}
-use Rattle.kdl_text.specs.Chars.{Text, begins_with, starts, is_scalar, is_identifier_char, is_space, is_newline_char, is_banned, is_mark}
+use Rattle.kdl_text.specs.Chars.{Text, begins_with, starts, is_scalar, is_identifier_char, is_space, is_newline_char, is_banned, is_punctuation}
 use Rattle.kdl_text.specs.MultiLine.{IsQuoted}
 use Rattle.kdl_text.specs.Numbers.{FloatText, is_whole, is_decimal, keyword as is_keyword, keyword_text}
 use Rattle.kdl_text.specs.Trivia.{ValueEnd}
@@ -24,7 +24,7 @@ use Rattle.kdl_value.proofs.Spelling.StringReadsBack.{spelled_alone}
 use Rattle.kdl_entry.proofs.Moving.StringMoves.{move_piece, value_end_no_quote}
 
 no_quote : (c : ℕ) → is_identifier_char c ≡ true → (c == 34) ≡ false
-unfolding is_identifier_char is_space is_newline_char is_banned is_mark
+unfolding is_identifier_char is_space is_newline_char is_banned is_punctuation
 no_quote c h = grind (arith, nat_tests)
 
 no_front : (s : Text) → starts is_identifier_char s ≡ true → begins_with (34 ∷ 34 ∷ 34 ∷ []) s ≡ false

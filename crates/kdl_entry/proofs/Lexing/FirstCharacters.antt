@@ -2,7 +2,7 @@
 use Rattle.std.proofs.Common.{◌≡◌, ℕ, Bool, true, false, not, [], ◌∷◌, ◌++◌, refl, sym, ap, ◌∙◌, ◌==◌, ◌||◌, arith}
 use Rattle.std.proofs.lemmas.Bool.{and_parts}
 use Rattle.std.proofs.lemmas.Bool.Decides.{nat_tests}
-use Rattle.kdl_text.specs.Chars.{Text, is_space, is_newline_char, is_banned, is_mark, is_identifier_char, is_digit, is_sign, starts}
+use Rattle.kdl_text.specs.Chars.{Text, is_space, is_newline_char, is_banned, is_punctuation, is_identifier_char, is_digit, is_sign, starts}
 use Rattle.kdl_text.specs.Bare.{BareString, bare, is_bare, bare_form, after_sign}
 use Rattle.kdl_text.specs.Numbers.{begins_number}
 
@@ -18,33 +18,33 @@ not_true false h = refl
 not_both : (a : Bool) → a ≡ true → a ≡ false → ⊥
 not_both a h k = cc
 
--- an identifier character is no space, no newline and none of the marks
+-- an identifier character is no space, no newline and no punctuation
 pub record Plain (c : ℕ) : Type 0 where
   pub space : is_space c ≡ false
   pub newline : is_newline_char c ≡ false
-  pub mark : is_mark c ≡ false
+  pub punctuation : is_punctuation c ≡ false
 
 pub plain : (c : ℕ) → is_identifier_char c ≡ true → Plain c
 unfolding is_identifier_char
 plain c h =
-    let a = or_false ((is_space c || is_newline_char c) || is_banned c) (is_mark c) h in
+    let a = or_false ((is_space c || is_newline_char c) || is_banned c) (is_punctuation c) h in
     let b = or_false (is_space c || is_newline_char c) (is_banned c) (ap not a.0) in
     let d = or_false (is_space c) (is_newline_char c) (ap not b.0) in
-    record { space = d.0; newline = d.1; mark = a.1 }
+    record { space = d.0; newline = d.1; punctuation = a.1 }
 
-marks_34 : is_mark 34 ≡ true
-unfolding is_mark
-marks_34 = refl
+punctuation_34 : is_punctuation 34 ≡ true
+unfolding is_punctuation
+punctuation_34 = refl
 
-marks_59 : is_mark 59 ≡ true
-unfolding is_mark
-marks_59 = refl
+punctuation_59 : is_punctuation 59 ≡ true
+unfolding is_punctuation
+punctuation_59 = refl
 
 pub no_quote : (c : ℕ) → is_identifier_char c ≡ true → c ≡ 34 → ⊥
-no_quote c h e = not_both (is_mark 34) marks_34 (ap is_mark (sym e) ∙ (plain c h).mark)
+no_quote c h e = not_both (is_punctuation 34) punctuation_34 (ap is_punctuation (sym e) ∙ (plain c h).punctuation)
 
 pub no_semicolon : (c : ℕ) → is_identifier_char c ≡ true → c ≡ 59 → ⊥
-no_semicolon c h e = not_both (is_mark 59) marks_59 (ap is_mark (sym e) ∙ (plain c h).mark)
+no_semicolon c h e = not_both (is_punctuation 59) punctuation_59 (ap is_punctuation (sym e) ∙ (plain c h).punctuation)
 
 pub space_34 : is_space 34 ≡ false
 unfolding is_space
@@ -67,11 +67,11 @@ unfolding is_newline_char is_space
 newline_no_space c h = grind (arith, nat_tests)
 
 pub digit_identifier : (c : ℕ) → is_digit c ≡ true → is_identifier_char c ≡ true
-unfolding is_identifier_char is_space is_newline_char is_banned is_mark
+unfolding is_identifier_char is_space is_newline_char is_banned is_punctuation
 digit_identifier c h = grind (arith, nat_tests)
 
 pub sign_identifier : (c : ℕ) → is_sign c ≡ true → is_identifier_char c ≡ true
-unfolding is_identifier_char is_space is_newline_char is_banned is_mark
+unfolding is_identifier_char is_space is_newline_char is_banned is_punctuation
 sign_identifier c h = grind (arith, nat_tests)
 
 pub number_identifier : (c : ℕ) (s : Text) → begins_number (c ∷ s) ≡ true → is_identifier_char c ≡ true

@@ -59,17 +59,17 @@ quote_identifier : (s : Text) → starts (λ c. c == 34) s ≡ true → starts i
 quote_identifier [] h k = cc
 quote_identifier (c ∷ s) h k = no_quote c k (eqb-true c 34 h)
 
-sign_mark : is_identifier_char 35 ≡ false
-unfolding is_identifier_char Rattle.kdl_text.specs.Chars.is_space Rattle.kdl_text.specs.Chars.is_newline_char Rattle.kdl_text.specs.Chars.is_banned Rattle.kdl_text.specs.Chars.is_mark
-sign_mark = refl
+sign_punctuation : is_identifier_char 35 ≡ false
+unfolding is_identifier_char Rattle.kdl_text.specs.Chars.is_space Rattle.kdl_text.specs.Chars.is_newline_char Rattle.kdl_text.specs.Chars.is_banned Rattle.kdl_text.specs.Chars.is_punctuation
+sign_punctuation = refl
 
 quote_no_identifier : is_identifier_char 34 ≡ false
-unfolding is_identifier_char Rattle.kdl_text.specs.Chars.is_space Rattle.kdl_text.specs.Chars.is_newline_char Rattle.kdl_text.specs.Chars.is_banned Rattle.kdl_text.specs.Chars.is_mark
+unfolding is_identifier_char Rattle.kdl_text.specs.Chars.is_space Rattle.kdl_text.specs.Chars.is_newline_char Rattle.kdl_text.specs.Chars.is_banned Rattle.kdl_text.specs.Chars.is_punctuation
 quote_no_identifier = refl
 
 sign_identifier : (s : Text) → starts (λ c. c == 35) s ≡ true → starts is_identifier_char s ≡ true → ⊥
 sign_identifier [] h k = cc
-sign_identifier (c ∷ s) h k = let e : is_identifier_char c ≡ is_identifier_char 35 = ap is_identifier_char (eqb-true c 35 h) in let m = sign_mark in cc
+sign_identifier (c ∷ s) h k = let e : is_identifier_char c ≡ is_identifier_char 35 = ap is_identifier_char (eqb-true c 35 h) in let m = sign_punctuation in cc
 
 quote_sign : (s : Text) → starts (λ c. c == 34) s ≡ true → starts (λ c. c == 35) s ≡ true → ⊥
 quote_sign [] h k = cc
@@ -112,7 +112,7 @@ string_number {s = s} (quoted x) n = quote_identifier s (is_quoted_begins x) (nu
 raw_second : (n : ℕ) (b : Text) → 0 < n → (c : ℕ) (t : Text) → times n 35 ++ 34 ∷ b ≡ 35 ∷ c ∷ t → is_identifier_char c ≡ false
 raw_second zero b h c t e = absurd (omega arith)
 raw_second (suc zero) b h c t e = let d : 34 ≡ c = cc in ap is_identifier_char (sym d) ∙ quote_no_identifier
-raw_second (suc (suc n)) b h c t e = let d : 35 ≡ c = cc in ap is_identifier_char (sym d) ∙ sign_mark
+raw_second (suc (suc n)) b h c t e = let d : 35 ≡ c = cc in ap is_identifier_char (sym d) ∙ sign_punctuation
 
 raw_keyword : {s r t v : Text} {k : Keyword} → IsRaw s r v → IsKeyword s t k → ⊥
 raw_keyword x k = go x (keyword_begins k)

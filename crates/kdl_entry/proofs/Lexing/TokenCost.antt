@@ -10,7 +10,7 @@ use Rattle.std.specs.Prelude.{Some, None, Option, Result, Ok, Err, IfOk, IsErrAn
 use Rattle.std.specs.List.{list_all}
 use Rattle.std.specs.Str.{chars, IsAscii}
 use Rattle.std.specs.declared.alloc.Global.{Global}
-use Rattle.kdl_text.specs.Chars.{Text, Newline, Star, Plus, is_space, is_newline_char, is_identifier_char, is_banned, is_mark, begins_two, starts, times, is_digit, is_sign}
+use Rattle.kdl_text.specs.Chars.{Text, Newline, Star, Plus, is_space, is_newline_char, is_identifier_char, is_banned, is_punctuation, begins_two, starts, times, is_digit, is_sign}
 use Rattle.kdl_text.specs.Chars.Star.{none, more}
 use Rattle.kdl_text.specs.Chars.Plus.{plus}
 use Rattle.kdl_text.specs.Chars.Space.{space as space_char}

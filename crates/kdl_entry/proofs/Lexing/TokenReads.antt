@@ -10,7 +10,7 @@ use Rattle.std.specs.Prelude.{Some, None, Option, Result, Ok, Err, IfOk, IsErrAn
 use Rattle.std.specs.List.{list_all}
 use Rattle.std.specs.Str.{chars, IsAscii}
 use Rattle.std.specs.declared.alloc.Global.{Global}
-use Rattle.kdl_text.specs.Chars.{Text, Newline, Star, Plus, is_space, is_newline_char, is_identifier_char, is_banned, is_mark, begins_two, starts, times, is_digit, is_sign}
+use Rattle.kdl_text.specs.Chars.{Text, Newline, Star, Plus, is_space, is_newline_char, is_identifier_char, is_banned, is_punctuation, begins_two, starts, times, is_digit, is_sign}
 use Rattle.kdl_text.specs.Chars.Star.{none, more}
 use Rattle.kdl_text.specs.Chars.Plus.{plus}
 use Rattle.kdl_text.specs.Chars.Space.{space as space_char}
@@ -79,13 +79,13 @@ quote_identifier : (s : Text) → starts (λ c. c == 34) s ≡ true → starts i
 quote_identifier [] h k = cc
 quote_identifier (c ∷ s) h k = no_quote c k (eqb-true c 34 h)
 
-sign_mark : is_identifier_char 35 ≡ false
-unfolding is_identifier_char is_space is_newline_char is_banned is_mark
-sign_mark = refl
+sign_punctuation : is_identifier_char 35 ≡ false
+unfolding is_identifier_char is_space is_newline_char is_banned is_punctuation
+sign_punctuation = refl
 
 sign_identifier : (s : Text) → starts (λ c. c == 35) s ≡ true → starts is_identifier_char s ≡ true → ⊥
 sign_identifier [] h k = cc
-sign_identifier (c ∷ s) h k = let e : is_identifier_char c ≡ is_identifier_char 35 = ap is_identifier_char (eqb-true c 35 h) in let m = sign_mark in cc
+sign_identifier (c ∷ s) h k = let e : is_identifier_char c ≡ is_identifier_char 35 = ap is_identifier_char (eqb-true c 35 h) in let m = sign_punctuation in cc
 
 number_front : (s : Text) → begins_number s ≡ true → starts is_identifier_char s ≡ true
 number_front [] h = h
@@ -111,7 +111,7 @@ pub a_quoted_here : (s r v : Text) → IsQuoted s r v → Cuts s (string v) r
 a_quoted_here s r v q = one (t_string (quoted q))
 
 at_quote : (s : Text) → first s ≡ Some 34 → starts begins_piece s ≡ true
-unfolding is_identifier_char is_space is_newline_char is_banned is_mark
+unfolding is_identifier_char is_space is_newline_char is_banned is_punctuation
 at_quote s h = rw (first_is s 34 h) refl
 
 quote_here : (s : Text) → first s ≡ Some 34 → starts (λ c. c == 34) s ≡ true
@@ -146,7 +146,7 @@ pub a_raw_here : (s r v : Text) → IsRaw s r v → Cuts s (string v) r
 a_raw_here s r v q = one (t_string (raw q))
 
 at_sign : (s : Text) → first s ≡ Some 35 → starts begins_piece s ≡ true
-unfolding is_identifier_char is_space is_newline_char is_banned is_mark
+unfolding is_identifier_char is_space is_newline_char is_banned is_punctuation
 at_sign s h = rw (first_is s 35 h) refl
 
 sign_here : (s : Text) → first s ≡ Some 35 → starts (λ c. c == 35) s ≡ true
@@ -165,7 +165,7 @@ raw_looks s r v (IsRaw.on_one_line x) = rw x.text (raw_front x.signs x.body x.so
 raw_looks s r v (IsRaw.on_many_lines x) = rw x.text (raw_front x.signs (34 ∷ 34 ∷ x.body) x.some)
 
 no_second : (c : ℕ) → is_identifier_char c ≡ true → (c == 34 || c == 35) ≡ false
-unfolding is_identifier_char is_space is_newline_char is_banned is_mark
+unfolding is_identifier_char is_space is_newline_char is_banned is_punctuation
 no_second c h = grind (arith, nat_tests)
 
 keyword_looks : (s r : Text) (k : Keyword) → IsKeyword s r k → looks_raw s ≡ false
@@ -329,14 +329,14 @@ took_here : (c : ℕ) (o : Option ℕ) (a b : Here) → first a.rest ≡ Some c 
 took_here c None a b h (x, y) = let z : first a.rest ≡ None = ap first x in cc
 took_here c (Some d) a b h (x, y, z) = let e : d ≡ c = let f : first a.rest ≡ Some d = ap first x in cc in subst (λ (v : ℕ). Took (Some v) a b) e (x, y, z)
 
-pub mark_here : (c : ℕ) (k : TokenKind) (o : Option ℕ) (a b : Here) → first a.rest ≡ Some c → IsPunctuation c (Some k) → Took o a b → Cuts a.rest (kind_view k) b.rest
-mark_here c k o a b h i t = rw (took_here c o a b h t).0 (one (i b.rest))
+pub punctuation_here : (c : ℕ) (k : TokenKind) (o : Option ℕ) (a b : Here) → first a.rest ≡ Some c → IsPunctuation c (Some k) → Took o a b → Cuts a.rest (kind_view k) b.rest
+punctuation_here c k o a b h i t = rw (took_here c o a b h t).0 (one (i b.rest))
 
 pub take_moves : (c : ℕ) (o : Option ℕ) (a b : Here) → first a.rest ≡ Some c → Took o a b → Moves a b
 take_moves c o a b h t = moves_one (took_here c o a b h t)
 
-pub mark_costs : (c : ℕ) (o : Option ℕ) (a b : Here) → first a.rest ≡ Some c → Took o a b → PieceCosts 22 a b
-mark_costs c o a b h t =
+pub punctuation_costs : (c : ℕ) (o : Option ℕ) (a b : Here) → first a.rest ≡ Some c → Took o a b → PieceCosts 22 a b
+punctuation_costs c o a b h t =
     let (x, y, z) = took_here c o a b h t in
     let one = (len_utf8_bounds c).0 in
     record { fewer = omega (arith, ap bytes x, one); costs = record { most = omega (arith, ap bytes x, one, z); least = omega (arith, ap length x, z) } }
@@ -347,7 +347,7 @@ pub other_here : (c : ℕ) (s r : Text) (place : Spot) (e : SourceSpan) → firs
 other_here c s r place e h p w x y m z = (rw (first_is s c h) (record { begun = λ f. cc; none = no_alien c (tail s) (alien c p w x y m) }), z)
   where
     alien : (c : ℕ) → ((c == 34 || c == 35) || (c == 47 || c == 92)) ≡ false → is_identifier_char c ≡ false → is_space c ≡ false → is_newline_char c ≡ false → is_single c ≡ false → Alien c
-    alien c p w x y m = record { space = x; newline = y; piece = rw w (grind (arith, nat_tests)); marks = grind (arith, nat_tests) }
+    alien c p w x y m = record { space = x; newline = y; piece = rw w (grind (arith, nat_tests)); punctuation = grind (arith, nat_tests) }
 
 -- the text of the keyword of a number
 ascii : (s : Text) → list_all (λ c. nat_lt c 128) s ≡ true → IsAscii s

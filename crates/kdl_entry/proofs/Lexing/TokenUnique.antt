@@ -1,7 +1,7 @@
 -- A text begins with one token at most; before a token that may stand behind a value, a value ends.
 use Rattle.std.proofs.Common.{◌≡◌, ℕ, ◌<◌, List, Bool, true, false, [], ◌∷◌, length, cond, refl, sym, subst, ap, ◌∙◌, ◌==◌, ◌||◌, arith}
 use Rattle.std.proofs.lemmas.Bool.Decides.{nat_tests}
-use Rattle.kdl_text.specs.Chars.{Text, crlf, is_space, is_newline_char, is_banned, is_mark, is_identifier_char, begins, starts}
+use Rattle.kdl_text.specs.Chars.{Text, crlf, is_space, is_newline_char, is_banned, is_punctuation, is_identifier_char, begins, starts}
 use Rattle.kdl_text.specs.Chars.Newline.{one as newline_char}
 use Rattle.kdl_text.specs.Chars.Space.{space as space_char}
 use Rattle.kdl_text.specs.Trivia.{BlockComment, LineComment, Escline, ends_value, ValueEnd}
@@ -17,7 +17,7 @@ use Rattle.kdl_text.proofs.Spacing.SpacePieces.{EndOf, node_space_end, break_end
 use Rattle.kdl_text.proofs.Spacing.ValueEnds.{space_ends, break_ends}
 use Rattle.kdl_value.specs.Data.{Value}
 use Rattle.kdl_entry.specs.Entries.{StringPiece, PlainPiece}
-use Rattle.kdl_entry.specs.Internal.Tokens.{Token, space, newline, slashdash, string, value, left, right, opening, closing, equals, semicolon, mark, BeginsToken, t_space, t_newline, t_slashdash, t_string, t_value, t_left, t_right, t_opening, t_closing, t_equals, t_semicolon, t_mark, Lexes, done, next}
+use Rattle.kdl_entry.specs.Internal.Tokens.{Token, space, newline, slashdash, string, value, left, right, opening, closing, equals, semicolon, bom, BeginsToken, t_space, t_newline, t_slashdash, t_string, t_value, t_left, t_right, t_opening, t_closing, t_equals, t_semicolon, t_bom, Lexes, done, next}
 use Rattle.kdl_entry.proofs.Lexing.StringUnique.{begins_piece, string_det, string_begins, string_end, string_shorter, string_or_plain, plain_det, plain_begins, plain_end, plain_shorter}
 
 -- the kinds of tokens, as their first two characters tell them; strings, numbers and keywords are of one kind
@@ -32,7 +32,7 @@ data Kind : Type 0 where
   k_closing : Kind
   k_equals : Kind
   k_semicolon : Kind
-  k_mark : Kind
+  k_bom : Kind
 
 slash : Text → Kind
 slash [] = k_slashdash
@@ -40,10 +40,10 @@ slash (d ∷ s) = cond (d == 42) k_space (cond (d == 47) k_newline k_slashdash)
 
 sign : ℕ → Text → Kind
 sign c s =
-    cond (c == 47) (slash s) (cond (c == 92) k_space (cond (c == 40) k_left (cond (c == 41) k_right (cond (c == 123) k_opening (cond (c == 125) k_closing (cond (c == 61) k_equals (cond (c == 59) k_semicolon k_mark)))))))
+    cond (c == 47) (slash s) (cond (c == 92) k_space (cond (c == 40) k_left (cond (c == 41) k_right (cond (c == 123) k_opening (cond (c == 125) k_closing (cond (c == 61) k_equals (cond (c == 59) k_semicolon k_bom)))))))
 
 kind : Text → Kind
-kind [] = k_mark
+kind [] = k_bom
 kind (c ∷ s) = cond (is_space c) k_space (cond (is_newline_char c) k_newline (cond (begins_piece c) k_piece (sign c s)))
 
 kind_of : Token → Kind
@@ -58,15 +58,15 @@ kind_of opening = k_opening
 kind_of closing = k_closing
 kind_of equals = k_equals
 kind_of semicolon = k_semicolon
-kind_of mark = k_mark
+kind_of bom = k_bom
 
 -- no character is of two classes
 piece_no_space : (c : ℕ) → begins_piece c ≡ true → is_space c ≡ false
-unfolding is_identifier_char is_space is_newline_char is_banned is_mark
+unfolding is_identifier_char is_space is_newline_char is_banned is_punctuation
 piece_no_space c h = grind (arith, nat_tests)
 
 piece_no_newline : (c : ℕ) → begins_piece c ≡ true → is_newline_char c ≡ false
-unfolding is_identifier_char is_space is_newline_char is_banned is_mark
+unfolding is_identifier_char is_space is_newline_char is_banned is_punctuation
 piece_no_newline c h = grind (arith, nat_tests)
 
 newline_kind : (c : ℕ) (s : Text) → is_newline_char c ≡ true → kind (c ∷ s) ≡ k_newline
@@ -87,7 +87,7 @@ unfolding is_newline_char
 lf = refl
 
 kind_is : {s r : Text} {k : Token} → BeginsToken s k r → kind s ≡ kind_of k
-unfolding kind kind_of sign slash is_space is_newline_char is_identifier_char is_banned is_mark
+unfolding kind kind_of sign slash is_space is_newline_char is_identifier_char is_banned is_punctuation
 kind_is (t_space (ws (ws_space (space_char x)))) = rw x refl
 kind_is (t_space (ws (ws_comment (block p)))) = refl
 kind_is (t_space (node_escline (escline st e))) = refl
@@ -103,7 +103,7 @@ kind_is t_opening = refl
 kind_is t_closing = refl
 kind_is t_equals = refl
 kind_is t_semicolon = refl
-kind_is t_mark = refl
+kind_is t_bom = refl
 
 same : {s r t : Text} {k j : Token} → BeginsToken s k r → BeginsToken s j t → kind_of k ≡ kind_of j → (r ≡ t) × (k ≡ j)
 unfolding kind_of
@@ -120,7 +120,7 @@ same t_opening t_opening e = (refl, refl)
 same t_closing t_closing e = (refl, refl)
 same t_equals t_equals e = (refl, refl)
 same t_semicolon t_semicolon e = (refl, refl)
-same t_mark t_mark e = (refl, refl)
+same t_bom t_bom e = (refl, refl)
 same _ _ e = absurd cc
 
 pub token_det : {s r t : Text} {k j : Token} → BeginsToken s k r → BeginsToken s j t → (r ≡ t) × (k ≡ j)
@@ -138,7 +138,7 @@ token_shorter t_opening = omega arith
 token_shorter t_closing = omega arith
 token_shorter t_equals = omega arith
 token_shorter t_semicolon = omega arith
-token_shorter t_mark = omega arith
+token_shorter t_bom = omega arith
 
 pub no_token : {r : Text} {k : Token} → BeginsToken [] k r → ⊥
 no_token t = omega (arith, token_shorter t)
@@ -158,7 +158,7 @@ token_end t_opening = also 123 here
 token_end t_closing = also 125 here
 token_end t_equals = also 61 here
 token_end t_semicolon = also 59 here
-token_end t_mark = also 0xFEFF here
+token_end t_bom = also 0xFEFF here
 
 pub lexes_det : {s : Text} {ks js : List Token} → Lexes s ks → Lexes s js → ks ≡ js
 lexes_det done done = refl
@@ -171,7 +171,7 @@ abbrev pub is_end : Token → Bool
 is_end (string v) = false
 is_end (value v) = false
 is_end left = false
-is_end mark = false
+is_end bom = false
 is_end _ = true
 
 abbrev pub may_end : List Token → Bool
@@ -190,12 +190,12 @@ end_behind t_slashdash e = ValueEnd.slashdash refl
 end_behind (t_string p) e = cc
 end_behind (t_value p) e = cc
 end_behind t_left e = cc
-end_behind t_mark e = cc
-end_behind t_right e = ValueEnd.mark (closes 41 refl)
-end_behind t_opening e = ValueEnd.mark (closes 123 refl)
-end_behind t_closing e = ValueEnd.mark (closes 125 refl)
-end_behind t_equals e = ValueEnd.mark (closes 61 refl)
-end_behind t_semicolon e = ValueEnd.mark (closes 59 refl)
+end_behind t_bom e = cc
+end_behind t_right e = ValueEnd.punctuation (closes 41 refl)
+end_behind t_opening e = ValueEnd.punctuation (closes 123 refl)
+end_behind t_closing e = ValueEnd.punctuation (closes 125 refl)
+end_behind t_equals e = ValueEnd.punctuation (closes 61 refl)
+end_behind t_semicolon e = ValueEnd.punctuation (closes 59 refl)
 
 -- where the next token may stand behind a value, the value ends
 pub value_end : {s : Text} {ks : List Token} → Lexes s ks → may_end ks ≡ true → ValueEnd true s
@@ -216,7 +216,7 @@ piece_alone h f g t_opening e = cc
 piece_alone h f g t_closing e = cc
 piece_alone h f g t_equals e = cc
 piece_alone h f g t_semicolon e = cc
-piece_alone h f g t_mark e = cc
+piece_alone h f g t_bom e = cc
 
 pub no_piece : (c : ℕ) (s : Text) → begins_piece c ≡ true → ((r v : Text) → StringPiece (c ∷ s) r v → ⊥) → ((r : Text) (v : Value) → PlainPiece (c ∷ s) r v → ⊥) → (r : Text) (k : Token) → BeginsToken (c ∷ s) k r → ⊥
 no_piece c s h f g r k t = piece_alone h f g t (sym (kind_is t) ∙ piece_kind (c ∷ s) h)
@@ -230,7 +230,7 @@ unfolding is_newline_char
 slash_newline = refl
 
 slash_piece : begins_piece 47 ≡ false
-unfolding is_identifier_char is_space is_newline_char is_banned is_mark
+unfolding is_identifier_char is_space is_newline_char is_banned is_punctuation
 slash_piece = refl
 
 -- where no comment and no slashdash begins with a slash, no token does
@@ -253,7 +253,7 @@ unfolding is_newline_char
 back_newline = refl
 
 back_piece : begins_piece 92 ≡ false
-unfolding is_identifier_char is_space is_newline_char is_banned is_mark
+unfolding is_identifier_char is_space is_newline_char is_banned is_punctuation
 back_piece = refl
 
 -- where no escline begins with a backslash, no token does
@@ -271,25 +271,25 @@ pub record Alien (c : ℕ) : Type 0 where
   pub space : is_space c ≡ false
   pub newline : is_newline_char c ≡ false
   pub piece : begins_piece c ≡ false
-  pub marks : (((c == 47) || (c == 92)) || ((c == 40) || (c == 41))) || (((c == 123) || (c == 125)) || (((c == 61) || (c == 59)) || (c == 0xFEFF))) ≡ false
+  pub punctuation : (((c == 47) || (c == 92)) || ((c == 40) || (c == 41))) || (((c == 123) || (c == 125)) || (((c == 61) || (c == 59)) || (c == 0xFEFF))) ≡ false
 
 alien_other : {c : ℕ} {s r : Text} {k : Token} → Alien c → BeginsToken (c ∷ s) k r → ⊥
 alien_other a (t_space (ws (ws_space (space_char x)))) = let y = a.space in cc
-alien_other a (t_space (ws (ws_comment (block p)))) = let y = a.marks in cc
-alien_other a (t_space (node_escline (escline st e))) = let y = a.marks in cc
+alien_other a (t_space (ws (ws_comment (block p)))) = let y = a.punctuation in cc
+alien_other a (t_space (node_escline (escline st e))) = let y = a.punctuation in cc
 alien_other a (t_newline (break_newline crlf)) = let y = a.newline in let z = lf in cc
 alien_other a (t_newline (break_newline (newline_char x y))) = let z = a.newline in cc
-alien_other a (t_newline (break_comment (line l))) = let y = a.marks in cc
-alien_other a t_slashdash = let y = a.marks in cc
+alien_other a (t_newline (break_comment (line l))) = let y = a.punctuation in cc
+alien_other a t_slashdash = let y = a.punctuation in cc
 alien_other a (t_string p) = let x = string_begins p in let y = a.piece in cc
 alien_other a (t_value p) = let x = plain_begins p in let y = a.piece in cc
-alien_other a t_left = let y = a.marks in cc
-alien_other a t_right = let y = a.marks in cc
-alien_other a t_opening = let y = a.marks in cc
-alien_other a t_closing = let y = a.marks in cc
-alien_other a t_equals = let y = a.marks in cc
-alien_other a t_semicolon = let y = a.marks in cc
-alien_other a t_mark = let y = a.marks in cc
+alien_other a t_left = let y = a.punctuation in cc
+alien_other a t_right = let y = a.punctuation in cc
+alien_other a t_opening = let y = a.punctuation in cc
+alien_other a t_closing = let y = a.punctuation in cc
+alien_other a t_equals = let y = a.punctuation in cc
+alien_other a t_semicolon = let y = a.punctuation in cc
+alien_other a t_bom = let y = a.punctuation in cc
 
 pub no_alien : (c : ℕ) (s : Text) → Alien c → (r : Text) (k : Token) → BeginsToken (c ∷ s) k r → ⊥
 no_alien c s a r k t = alien_other a t

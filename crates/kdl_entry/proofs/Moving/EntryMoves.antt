@@ -87,11 +87,11 @@ pub move_plain : {s r : Text} {v : Value} → IsPlainValue true s r v → MoveVa
 move_plain (a_string d) = let m = move_string d in record { at = m.at; full = m.full; there = λ u e. a_string (m.there u e) }
 move_plain (a_plain p e) = let m = move_plain_piece p in record { at = m.at; full = m.full; there = λ u v. a_plain (m.there u (value_end_no_identifier v)) v }
 
-pub marks : (c : ℕ) → ((c == 41) || ((c == 61) || ((c == 123) || ((c == 125) || (c == 59))))) ≡ true → {s : Text} → ValueEnd true (c ∷ s)
+pub punctuation_end : (c : ℕ) → ((c == 41) || ((c == 61) || ((c == 123) || ((c == 125) || (c == 59))))) ≡ true → {s : Text} → ValueEnd true (c ∷ s)
 unfolding ends_value
-marks c h = ValueEnd.mark (grind (arith, nat_tests))
+punctuation_end c h = ValueEnd.punctuation (grind (arith, nat_tests))
 
--- spaces and then a mark, or spaces alone, are a value end
+-- spaces and then punctuation, or spaces alone, are a value end
 pub spaces_end : {s r : Text} → Star NodeSpace s r → ValueEnd true r → ValueEnd true s
 spaces_end none e = e
 spaces_end (more n ss) e = space_ends n
@@ -102,7 +102,7 @@ move_parens (parens ss d us) =
     let brace = λ (u : Text). c.there (41 ∷ u) refl in
     record {
       at = also 40 (joined a.at (joined b.at (behind c.at)));
-      there = λ u e. parens (a.there (b.at.put (c.at.put (41 ∷ u))) (b.full (c.at.put (41 ∷ u)))) (b.there (c.at.put (41 ∷ u)) (spaces_end (brace u) (marks 41 refl))) (brace u);
+      there = λ u e. parens (a.there (b.at.put (c.at.put (41 ∷ u))) (b.full (c.at.put (41 ∷ u)))) (b.there (c.at.put (41 ∷ u)) (spaces_end (brace u) (punctuation_end 41 refl))) (brace u);
     }
   where
     behind : {t r : Text} → Put t (41 ∷ r) → Put t r
@@ -126,7 +126,7 @@ move_entry (property k ss us v) =
     record {
       at = joined a.at (joined b.at (also 61 (joined c.at d.at)));
       full = λ u. a.full (b.at.put (61 ∷ after u));
-      there = λ u e. property (a.there (b.at.put (61 ∷ after u)) (spaces_end (before u) (marks 61 refl))) (before u) (c.there (d.at.put u) (d.full u)) (d.there u e);
+      there = λ u e. property (a.there (b.at.put (61 ∷ after u)) (spaces_end (before u) (punctuation_end 61 refl))) (before u) (c.there (d.at.put u) (d.full u)) (d.there u e);
     }
 
 pub spaces_dash : {s t r : Text} → Star NodeSpace s t → Slashdash t r → ValueEnd true s
@@ -170,7 +170,7 @@ module _ (whole : Text) where
       record {
         at = also 40 (joined a.at (joined b.at (joined c.at (also 41 k.at))));
         there = λ u e. a_type (is_move a ss (b.at.put (c.at.put (41 ∷ k.at.put u))) (b.full (c.at.put (41 ∷ k.at.put u))))
-            (b.there (c.at.put (41 ∷ k.at.put u)) (spaces_end (brace u) (marks 41 refl)))
+            (b.there (c.at.put (41 ∷ k.at.put u)) (spaces_end (brace u) (punctuation_end 41 refl)))
             (is_move c us (41 ∷ k.at.put u) refl) (is_move k vs u e);
       }
 
@@ -189,6 +189,6 @@ module _ (whole : Text) where
       record {
         at = joined a.at (joined b.at (also 61 (joined c.at (joined f.at g.at))));
         full = λ u. a.full (b.at.put (61 ∷ after u));
-        there = λ u e. item (a_key (a.there (b.at.put (61 ∷ after u)) (spaces_end (before u) (marks 61 refl))) (is_move b ss (61 ∷ after u) refl)
+        there = λ u e. item (a_key (a.there (b.at.put (61 ∷ after u)) (spaces_end (before u) (punctuation_end 61 refl))) (is_move b ss (61 ∷ after u) refl)
             (is_move c us (f.at.put (g.at.put u)) (same f.at (g.at.put u) (g.full u)))) (f.there (g.at.put u) (g.full u)) (is_move_value g d u e);
       }

@@ -3,7 +3,7 @@ use Rattle.std.proofs.Common.{◌≡◌, ℕ, ℤ, Bool, true, false, ◌||◌, 
 use Rattle.std.proofs.lemmas.Bool.{eqb-true}
 use Rattle.std.proofs.lemmas.Bool.Decides.{nat_tests}
 use Rattle.std.specs.Prelude.{if◌then◌else◌}
-use Rattle.kdl_text.specs.Chars.{Text, within, starts, is_identifier_char, is_space, is_newline_char, is_banned, is_mark, is_sign}
+use Rattle.kdl_text.specs.Chars.{Text, within, starts, is_identifier_char, is_space, is_newline_char, is_banned, is_punctuation, is_sign}
 use Rattle.kdl_text.specs.Internal.Here.{first}
 use Rattle.kdl_text.specs.Numbers.{is_digit_of, is_part, Sign, BasePrefix, base_of, base_prefix, Digits, Integer, integer, WholeNumber, whole, Fraction, Exponent, is_exponent_letter, DecimalPart, part, Decimal, decimal, IsNumber, is_whole, is_decimal, NumberValue, IsKeyword, keyword as a_keyword, keyword_text}
 use Rattle.kdl_text.specs.declared.numbers.Keyword.{Keyword}
@@ -14,11 +14,11 @@ use Rattle.kdl_entry.proofs.Moving.Puts.{stands, also, joined, before, same, sam
 
 -- classes of identifier characters
 sign_class : (c : ℕ) → is_sign c ≡ true → is_identifier_char c ≡ true
-unfolding is_identifier_char is_space is_newline_char is_banned is_mark
+unfolding is_identifier_char is_space is_newline_char is_banned is_punctuation
 sign_class c h = grind (arith, nat_tests)
 
 exponent_class : (c : ℕ) → is_exponent_letter c ≡ true → is_identifier_char c ≡ true
-unfolding is_identifier_char is_space is_newline_char is_banned is_mark
+unfolding is_identifier_char is_space is_newline_char is_banned is_punctuation
 exponent_class c h = grind (arith, nat_tests)
 
 -- a digit, or a letter up to f
@@ -26,7 +26,7 @@ abbrev is_hex_char : ℕ → Bool
 is_hex_char c = within 48 57 c || (within 65 70 c || within 97 102 c)
 
 hex_class : (c : ℕ) → is_hex_char c ≡ true → is_identifier_char c ≡ true
-unfolding is_identifier_char is_space is_newline_char is_banned is_mark
+unfolding is_identifier_char is_space is_newline_char is_banned is_punctuation
 hex_class c h = grind (arith, nat_tests)
 
 ten_char : (c : ℕ) → is_digit_of 10 c ≡ true → is_hex_char c ≡ true
@@ -46,7 +46,7 @@ unfolding is_digit_of
 two_char c h = grind (arith, nat_tests)
 
 low_line : is_identifier_char 95 ≡ true
-unfolding is_identifier_char is_space is_newline_char is_banned is_mark
+unfolding is_identifier_char is_space is_newline_char is_banned is_punctuation
 low_line = refl
 
 part_class : (k c : ℕ) → (is_digit_of k c ≡ true → is_hex_char c ≡ true) → is_part k c ≡ true → is_identifier_char c ≡ true
@@ -77,8 +77,8 @@ base_class d k h c x = go (d == 120 || d == 88) (d == 111 || d == 79) (d == 98 |
     go false false true h = let f : 2 ≡ k = cc in two_class c (rw f x)
     go false false false h = cc
 
-marked_class : (c d k : ℕ) (s : Text) → base_prefix (c ∷ d ∷ s) ≡ Some k → (e : ℕ) → is_part k e ≡ true → is_identifier_char e ≡ true
-marked_class c d k s h = go (c == 48) h
+prefix_class : (c d k : ℕ) (s : Text) → base_prefix (c ∷ d ∷ s) ≡ Some k → (e : ℕ) → is_part k e ≡ true → is_identifier_char e ≡ true
+prefix_class c d k s h = go (c == 48) h
   where
     go : (b : Bool) → (if b then base_of d else None) ≡ Some k → (e : ℕ) → is_part k e ≡ true → is_identifier_char e ≡ true
     go true h = base_class d k h
@@ -89,7 +89,7 @@ is_base : ℕ → Bool
 is_base d = (d == 120 || d == 88) || ((d == 111 || d == 79) || (d == 98 || d == 66))
 
 base_letter : (c : ℕ) → is_base c ≡ true → is_identifier_char c ≡ true
-unfolding is_base is_identifier_char is_space is_newline_char is_banned is_mark
+unfolding is_base is_identifier_char is_space is_newline_char is_banned is_punctuation
 base_letter c h = grind (arith, nat_tests)
 
 no_base : (d : ℕ) → is_base d ≡ false → base_of d ≡ None
@@ -116,28 +116,28 @@ behind_zero : (b : Bool) (s : Text) → (if b then starts is_base s else false) 
 behind_zero true s h u e = e ∙ h
 behind_zero false s h u e = refl
 
-marked_test : (c : ℕ) (s : Text) → base_prefix (c ∷ s) ≡ None → (if c == 48 then starts is_base s else false) ≡ false
-marked_test c [] h = go (c == 48)
+no_base_test : (c : ℕ) (s : Text) → base_prefix (c ∷ s) ≡ None → (if c == 48 then starts is_base s else false) ≡ false
+no_base_test c [] h = go (c == 48)
   where
     go : (b : Bool) → (if b then false else false) ≡ false
     go true = refl
     go false = refl
-marked_test c (d ∷ s) h = go (c == 48) h
+no_base_test c (d ∷ s) h = go (c == 48) h
   where
     go : (b : Bool) → (if b then base_of d else None) ≡ None → (if b then is_base d else false) ≡ false
     go true h = base_none d h
     go false h = refl
 
-test_marked : (c : ℕ) (s : Text) → (if c == 48 then starts is_base s else false) ≡ false → base_prefix (c ∷ s) ≡ None
-test_marked c [] h = refl
-test_marked c (d ∷ s) h = go (c == 48) h
+test_no_base : (c : ℕ) (s : Text) → (if c == 48 then starts is_base s else false) ≡ false → base_prefix (c ∷ s) ≡ None
+test_no_base c [] h = refl
+test_no_base c (d ∷ s) h = go (c == 48) h
   where
     go : (b : Bool) → (if b then is_base d else false) ≡ false → (if b then base_of d else None) ≡ None
     go true h = no_base d h
     go false h = refl
 
-marked_alike : (c : ℕ) (s u : Text) → Alike u s → base_prefix (c ∷ s) ≡ None → base_prefix (c ∷ u) ≡ None
-marked_alike c s u a h = test_marked c u (behind_zero (c == 48) s (marked_test c s h) u (a.same is_base base_letter))
+no_base_alike : (c : ℕ) (s u : Text) → Alike u s → base_prefix (c ∷ s) ≡ None → base_prefix (c ∷ u) ≡ None
+no_base_alike c s u a h = test_no_base c u (behind_zero (c == 48) s (no_base_test c s h) u (a.same is_base base_letter))
 
 move_sign : {t s : Text} {n : Bool} → Sign t s n → MoveAlike (λ t s. Sign t s n) t s
 move_sign (Sign.none x) = record { at = stands; there = λ u a. Sign.none (a.same is_sign sign_class ∙ x) }
@@ -148,7 +148,7 @@ module _ (k : ℕ) (sub : (c : ℕ) → is_part k c ≡ true → is_identifier_c
   move_digits : {s r w : Text} → Digits k s r w → MoveAlike (λ s r. Digits k s r w) s r
   move_digits (Digits.stop x) = record { at = stands; there = λ u a. Digits.stop (a.same (is_part k) sub ∙ x) }
   move_digits (Digits.digit {c = c} x d) = let m = move_digits d in record { at = also c m.at; there = λ u a. Digits.digit x (m.there u a) }
-  move_digits (Digits.mark d) = let m = move_digits d in record { at = also 95 m.at; there = λ u a. Digits.mark (m.there u a) }
+  move_digits (Digits.underscore d) = let m = move_digits d in record { at = also 95 m.at; there = λ u a. Digits.underscore (m.there u a) }
 
   move_integer : {s r w : Text} → Integer k s r w → MoveAlike (λ s r. Integer k s r w) s r
   move_integer (integer {c = c} x d) = let m = move_digits d in record { at = also c m.at; there = λ u a. integer x (m.there u a) }
@@ -161,10 +161,10 @@ move_whole {r = r} (whole {s = s} a (BasePrefix.ten b) (integer {c = c} {s = s1}
       full = λ u. same sg.at (c ∷ m.at.put u) refl;
       there = λ u h.
           let l = both_end u r h e in
-          whole (sg.there (c ∷ m.at.put u) (alike_put (also c m.at) u l)) (BasePrefix.ten (marked_alike c s1 (m.at.put u) (alike_put m.at u l) b)) (integer x (m.there u l)) h f g;
+          whole (sg.there (c ∷ m.at.put u) (alike_put (also c m.at) u l)) (BasePrefix.ten (no_base_alike c s1 (m.at.put u) (alike_put m.at u l) b)) (integer x (m.there u l)) h f g;
     }
 move_whole {r = r} (whole a (BasePrefix.other {c = c} {d = d'} {radix = k} {r = q} b) d e f g) =
-    let sg = move_sign a in let m = move_integer k (marked_class c d' k q b) d in
+    let sg = move_sign a in let m = move_integer k (prefix_class c d' k q b) d in
     record {
       at = joined sg.at (also c (also d' m.at));
       full = λ u. same sg.at (c ∷ d' ∷ m.at.put u) refl;

@@ -33,13 +33,13 @@ newline_no_quote : (c : ℕ) → is_newline_char c ≡ true → (c == 34) ≡ fa
 unfolding is_newline_char
 newline_no_quote c h = grind (arith, nat_tests)
 
-mark_no_quote : (c : ℕ) → ends_value c ≡ true → (c == 34) ≡ false
+punctuation_no_quote : (c : ℕ) → ends_value c ≡ true → (c == 34) ≡ false
 unfolding ends_value
-mark_no_quote c h = grind (arith, nat_tests)
+punctuation_no_quote c h = grind (arith, nat_tests)
 
 pub value_end_no_quote : {wide : Bool} {s : Text} → ValueEnd wide s → begins 34 s ≡ false
 value_end_no_quote ValueEnd.nothing = refl
-value_end_no_quote (ValueEnd.mark {c = c} x) = mark_no_quote c x
+value_end_no_quote (ValueEnd.punctuation {c = c} x) = punctuation_no_quote c x
 value_end_no_quote (ValueEnd.space (a_space {c = c} x)) = space_no_quote c x
 value_end_no_quote (ValueEnd.newline crlf) = refl
 value_end_no_quote (ValueEnd.newline (one {c = c} x y)) = newline_no_quote c x

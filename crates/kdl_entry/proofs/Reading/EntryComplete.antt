@@ -7,7 +7,7 @@ use Rattle.kdl_text.proofs.Looking.Ends.{End, then, end_star}
 use Rattle.kdl_entry.specs.Data as data'
 use Rattle.kdl_value.specs.Data.{Value, text}
 use Rattle.kdl_entry.specs.Entries.{IsString, string as a_string', IsPlainValue, a_string, a_plain, parens, MaybeType, untyped, typed, value as a_value, IsEntry, property, argument, DroppedFirst, dropped_first, BeforeEntry, before_entry, IsEntryText, entry_text}
-use Rattle.kdl_entry.specs.Internal.EntryMachine.{Word, State, ahead, marked, under, dropped, word, done, opened_item, word_at, entry_by, argument_of, step, ended, Runs, stops, reads, AnswersEntry}
+use Rattle.kdl_entry.specs.Internal.EntryMachine.{Word, State, ahead, entry_slashdash, under, dropped, word, done, opened_item, word_at, entry_by, argument_of, step, ended, Runs, stops, reads, AnswersEntry}
 use Rattle.kdl_entry.specs.Internal.Items.{between, TypeParts, KeyParts, type_of, before_name, after_name, behind_type, identifier_at, Stage, opened, named, closed, keyed, Item}
 use Rattle.kdl_entry.specs.Laid.{LaidIdentifier, spelled, LaidType, no_type, a_type, no_key, a_key, LaidItem, item, LaidEntryText, laid_entry_text}
 use Rattle.kdl_entry.specs.Places.{span_of}
@@ -40,13 +40,13 @@ module _ (whole : Text) where
     to_string : (v s r : Text) → step whole st (string v) s r ≡ Some (word (word_at whole v s r) r)
     to_value : (v : Value) (s r : Text) → step whole st (value v) s r ≡ Some (done (entry_by (between whole s) None None v (between s r)) r)
     to_left : (s r : Text) → step whole st left s r ≡ Some (under (opened_item whole true (between whole s) r))
-    to_mark : (s r : Text) → step whole st a_slashdash s r ≡ Some marked
+    to_slashdash : (s r : Text) → step whole st a_slashdash s r ≡ Some entry_slashdash
 
   at_ahead : Starts ahead
-  at_ahead = record { to_string = λ v s r. refl; to_value = λ v s r. refl; to_left = λ s r. refl; to_mark = λ s r. refl }
+  at_ahead = record { to_string = λ v s r. refl; to_value = λ v s r. refl; to_left = λ s r. refl; to_slashdash = λ s r. refl }
 
   at_spaced : (b : Bool) → Starts (dropped b true)
-  at_spaced b = record { to_string = λ v s r. refl; to_value = λ v s r. refl; to_left = λ s r. refl; to_mark = λ s r. refl }
+  at_spaced b = record { to_string = λ v s r. refl; to_value = λ v s r. refl; to_left = λ s r. refl; to_slashdash = λ s r. refl }
 
   -- behind the entry e
   data After (e : Entry) (r : Text) : State → Type 0 where
@@ -85,7 +85,7 @@ module _ (whole : Text) where
     laid : LaidType true whole (type_of type) (before_name type) (after_name type) (behind_type type) s t
     same : option_map (λ (i : Identifier). i.value) (type_of type) ≡ y
     starts : (out : Entry) (st : State) → Starts st → ((st' : State) → After (entry_by (between whole s) None type v (between t r)) r st' → Runs whole out st' r) → Runs whole out st s
-    drops : (out : Entry) → ((b : Bool) → Runs whole out (dropped b false) r) → Runs whole out marked s
+    drops : (out : Entry) → ((b : Bool) → Runs whole out (dropped b false) r) → Runs whole out entry_slashdash s
     behind_key : (out : Entry) (q from : Text) (i : Identifier) (b : Text) → Runs whole out (done (entry_by q (Some (record { name = i; before = b; behind = between from s })) type v (between t r)) r) r
         → Runs whole out (under (item_at keyed true q from None i b [])) s
     drops_behind : (out : Entry) (from : Text) → Runs whole out (dropped false false) r → Runs whole out (under (item_at keyed false [] from None (plain_identifier []) [] [])) s
@@ -94,7 +94,7 @@ module _ (whole : Text) where
   starts_plain {s = s} {r = r} (a_string {v = v} d) out st z a = read_string out d (z.to_string v s r) (a (word (word_at whole v s r) r) (is_word refl))
   starts_plain {s = s} {r = r} (a_plain {v = v} p e) out st z a = reads (t_value p) (z.to_value v s r) (a (done (entry_by (between whole s) None None v (between s r)) r) is_done)
 
-  drops_plain : {s r : Text} {v : Value} → IsPlainValue true s r v → (out : Entry) → ((b : Bool) → Runs whole out (dropped b false) r) → Runs whole out marked s
+  drops_plain : {s r : Text} {v : Value} → IsPlainValue true s r v → (out : Entry) → ((b : Bool) → Runs whole out (dropped b false) r) → Runs whole out entry_slashdash s
   drops_plain (a_string d) out a = read_string out d refl (a true)
   drops_plain (a_plain p e) out a = reads (t_value p) refl (a false)
 
@@ -123,7 +123,7 @@ module _ (whole : Text) where
     laid : (leading trailing : Text) → LaidItem true whole leading trailing (span_of whole whole []) (ended whole trailing (tree leading)) s r
     same : (leading trailing : Text) → entry_data (ended whole trailing (tree leading)) ≡ e
     starts : (out : Entry) (st : State) → Starts st → ((st' : State) → After (tree (between whole s)) r st' → Runs whole out st' r) → Runs whole out st s
-    drops : (out : Entry) → ((b : Bool) → Runs whole out (dropped b false) r) → Runs whole out marked s
+    drops : (out : Entry) → ((b : Bool) → Runs whole out (dropped b false) r) → Runs whole out entry_slashdash s
 
   -- over the spaces between a dropped string and its `=`
   to_equals : (out : Entry) → {s u : Text} → Star NodeSpace s (61 ∷ u) → Runs whole out (under (item_at keyed false [] u None (plain_identifier []) [] [])) u → Runs whole out (dropped true false) s
@@ -158,7 +158,7 @@ module _ (whole : Text) where
   read_dropped : (out : Entry) → {s t : Text} → Star (DroppedFirst true) s t → (st : State) → Starts st → ((st' : State) → Starts st' → Runs whole out st' t) → Runs whole out st s
   read_dropped out no_star st z f = f st z
   read_dropped out (more (dropped_first (slashdash ls) i (plus n ss)) ds) st z f =
-      reads t_slashdash (z.to_mark _ _) (lines out marked (λ s r. refl) (λ s r. refl) ls ((read_item i).drops out
+      reads t_slashdash (z.to_slashdash _ _) (lines out entry_slashdash (λ s r. refl) (λ s r. refl) ls ((read_item i).drops out
       (λ b. reads (t_space n) refl (stay out (dropped b true) (λ s r. refl) ss (read_dropped out ds (dropped b true) (at_spaced b) f)))))
 
   behind_done : {r : Text} (e : Entry) (from : Text) → Star LineSpace r [] → Runs whole (ended whole (between from []) e) (done e from) r

@@ -9,7 +9,7 @@ use Rattle.kdl_text.specs.Trivia.{NodeSpace}
 use Rattle.kdl_text.specs.declared.span.SourceSpan.{SourceSpan}
 use Rattle.kdl_text.proofs.Looking.MovesJoin.{bytes-append}
 use Rattle.kdl_entry.specs.Internal.Building.{Stays}
-use Rattle.kdl_entry.specs.Internal.EntryMachine.{State, ahead, marked, under, dropped, word, done, came, step, finish, Runs, stops, reads, AnswersEntry, given}
+use Rattle.kdl_entry.specs.Internal.EntryMachine.{State, ahead, entry_slashdash, under, dropped, word, done, came, step, finish, Runs, stops, reads, AnswersEntry, given}
 use Rattle.kdl_entry.specs.Internal.EntryReading.{AnswersEntryText, EndsIn, Ended, Same, Stands, Stepped}
 use Rattle.kdl_value.specs.Data.{Value}
 use Rattle.kdl_entry.specs.Internal.Handed.{Cuts, one, spaces, NoToken, IsFaultAt, HandsOut, Lexed, kind_view}
@@ -35,7 +35,7 @@ module _ (whole : Text) where
   -- where a space stands is all one
   anywhere : (st : State) (s r t q : Text) → step whole st space s r ≡ step whole st space t q
   anywhere ahead s r t q = refl
-  anywhere marked s r t q = refl
+  anywhere entry_slashdash s r t q = refl
   anywhere (under it) s r t q = item_space it it.stage s r ∙ sym (item_space it it.stage t q)
   anywhere (dropped b c) s r t q = refl
   anywhere (word w f) s r t q = refl
@@ -50,7 +50,7 @@ module _ (whole : Text) where
 
       go : (st : State) → step whole st space s r ≡ Some st' → step whole st' space t q ≡ Some st'
       go ahead e = same ahead e refl
-      go marked e = same marked e refl
+      go entry_slashdash e = same entry_slashdash e refl
       go (under it) e = same (under it) (sym (item_space it it.stage s r) ∙ e) (item_space it it.stage t q)
       go (dropped b c) e = same (dropped b true) e refl
       go (word w f) e = same (word w f) e refl
@@ -134,19 +134,19 @@ module _ (whole s r : Text) (b : EndsIn s r) where
   step_stands : (x st : State) (k : Token) → step whole x k s r ≡ Some st → Stands x s → Stands st r
   step_stands ahead st space e a = to ahead st e tt
   step_stands ahead st newline e a = to ahead st e tt
-  step_stands ahead st slashdash e a = to marked st e tt
+  step_stands ahead st slashdash e a = to entry_slashdash st e tt
   step_stands ahead st (string v) e a = to _ st e (ends_here r)
   step_stands ahead st (value v) e a = to _ st e (ends_here r)
   step_stands ahead st left e a = to _ st e (ends_here r)
-  step_stands marked st space e a = to marked st e tt
-  step_stands marked st newline e a = to marked st e tt
-  step_stands marked st (string v) e a = to (dropped true false) st e tt
-  step_stands marked st (value v) e a = to (dropped false false) st e tt
-  step_stands marked st left e a = to _ st e (ends_here r)
+  step_stands entry_slashdash st space e a = to entry_slashdash st e tt
+  step_stands entry_slashdash st newline e a = to entry_slashdash st e tt
+  step_stands entry_slashdash st (string v) e a = to (dropped true false) st e tt
+  step_stands entry_slashdash st (value v) e a = to (dropped false false) st e tt
+  step_stands entry_slashdash st left e a = to _ st e (ends_here r)
   step_stands (under it) st k e a = item_stands it it.stage k st e a
   step_stands (dropped c d) st space e a = to (dropped c true) st e tt
   step_stands (dropped true d) st equals e a = to _ st e (ends_here r)
-  step_stands (dropped c true) st slashdash e a = to marked st e tt
+  step_stands (dropped c true) st slashdash e a = to entry_slashdash st e tt
   step_stands (dropped c true) st (string v) e a = to _ st e (ends_here r)
   step_stands (dropped c true) st (value v) e a = to _ st e (ends_here r)
   step_stands (dropped c true) st left e a = to _ st e (ends_here r)

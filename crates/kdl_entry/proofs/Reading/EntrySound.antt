@@ -6,10 +6,10 @@ use Rattle.kdl_text.specs.Trivia.{NodeSpace, LineSpace, slashdash, ValueEnd}
 use Rattle.kdl_entry.specs.Data as data'
 use Rattle.kdl_value.specs.Data.{Value}
 use Rattle.kdl_entry.specs.Entries.{IsString, string as a_string', IsPlainValue, a_string, a_plain, parens, untyped, typed, IsValue, value as a_value, IsEntry, property, argument, DroppedFirst, dropped_first, before_entry, IsEntryText, entry_text}
-use Rattle.kdl_entry.specs.Internal.EntryMachine.{Word, State, ahead, marked, under, dropped, word, done, given, came, step, Runs, stops, reads, AnswersEntry}
+use Rattle.kdl_entry.specs.Internal.EntryMachine.{Word, State, ahead, entry_slashdash, under, dropped, word, done, given, came, step, Runs, stops, reads, AnswersEntry}
 use Rattle.kdl_entry.specs.Internal.Items.{TypeParts, KeyParts, Stage, opened, named, closed, keyed, Item, Answer, named_at, closed_at, emptied, if_valued}
 use Rattle.kdl_entry.specs.Internal.Items as items
-use Rattle.kdl_entry.specs.Internal.Tokens.{Token, string, value, left, mark, BeginsToken, t_space, t_newline, t_slashdash, t_string, t_value, t_left, t_right, t_equals}
+use Rattle.kdl_entry.specs.Internal.Tokens.{Token, string, value, left, bom, BeginsToken, t_space, t_newline, t_slashdash, t_string, t_value, t_left, t_right, t_equals}
 use Rattle.kdl_entry.specs.Tree.{Identifier, Entry}
 use Rattle.kdl_entry.proofs.Lexing.TokenUnique.{is_end, end_behind}
 
@@ -41,8 +41,8 @@ data KeyThen (b : Bool) : Text → Type 0 where
 data EntryThen (b : Bool) : Text → Type 0 where
   entry_then : {s r : Text} {x : data'.Entry} → IsEntry true s r x → Then b r → EntryThen b s
 
-data MarkedThen : Text → Type 0 where
-  marked_then : {s t : Text} → Star LineSpace s t → EntryThen false t → MarkedThen s
+data SlashdashThen : Text → Type 0 where
+  slashdash_then : {s t : Text} → Star LineSpace s t → EntryThen false t → SlashdashThen s
 
 data SpacedThen : Text → Type 0 where
   spaced_then : {s t : Text} → Star NodeSpace s t → Left t → SpacedThen s
@@ -63,7 +63,7 @@ Behind true s = SpacedThen s
 
 abbrev Rest : State → Text → Type 0
 Rest ahead s = (x : data'.Entry) × IsEntryText true s x
-Rest marked s = MarkedThen s
+Rest entry_slashdash s = SlashdashThen s
 Rest (under it) s = InItem it.stage it.kept s
 Rest (dropped b c) s = Behind c s ⊎ Key b false s
 Rest (word w from) s = Then true s ⊎ KeyThen true s
@@ -75,14 +75,14 @@ text_space n (x, entry_text (before_entry ls ds) i zs) = (x, entry_text (before_
 text_left : {s : Text} → Left s → Rest ahead s
 text_left (left_is {x = x} ds i zs) = (x, entry_text (before_entry no_star ds) i zs)
 
-left_marked : {s : Text} → MarkedThen s → Left (47 ∷ 45 ∷ s)
-left_marked (marked_then ls (entry_then i (and_more p (left_is ds j zs)))) = left_is (more (dropped_first (slashdash ls) i p) ds) j zs
+left_slashdash : {s : Text} → SlashdashThen s → Left (47 ∷ 45 ∷ s)
+left_slashdash (slashdash_then ls (entry_then i (and_more p (left_is ds j zs)))) = left_is (more (dropped_first (slashdash ls) i p) ds) j zs
 
 left_entry : {s : Text} → EntryThen true s → Left s
 left_entry (entry_then i (at_last zs)) = left_is no_star i zs
 
-marked_space : {s r : Text} → LineSpace s r → MarkedThen r → MarkedThen s
-marked_space n (marked_then ls i) = marked_then (more n ls) i
+slashdash_space : {s r : Text} → LineSpace s r → SlashdashThen r → SlashdashThen s
+slashdash_space n (slashdash_then ls i) = slashdash_then (more n ls) i
 
 entry_of : {b : Bool} {s r v : Text} → IsString true s r v → Then b r ⊎ KeyThen b r → EntryThen b s
 entry_of w (inl d) = entry_then (argument (a_value untyped (a_string w))) d
@@ -141,32 +141,32 @@ module _ (whole : Text) (out : Entry) where
   word_ends w from (string v) s r st e = absurd cc
   word_ends w from (value v) s r st e = absurd cc
   word_ends w from left s r st e = absurd cc
-  word_ends w from mark s r st e = absurd cc
+  word_ends w from bom s r st e = absurd cc
   word_ends w from _ s r st e = refl
 
   done_ends : (x : Entry) (from : Text) (k : Token) (s r : Text) (st : State) → step whole (done x from) k s r ≡ Some st → is_end k ≡ true
   done_ends x from (string v) s r st e = absurd cc
   done_ends x from (value v) s r st e = absurd cc
   done_ends x from left s r st e = absurd cc
-  done_ends x from mark s r st e = absurd cc
+  done_ends x from bom s r st e = absurd cc
   done_ends x from _ s r st e = refl
 
   dropped_ends : (b : Bool) (k : Token) (s r : Text) (st : State) → step whole (dropped b false) k s r ≡ Some st → is_end k ≡ true
   dropped_ends true (string v) s r st e = absurd cc
   dropped_ends true (value v) s r st e = absurd cc
   dropped_ends true left s r st e = absurd cc
-  dropped_ends true mark s r st e = absurd cc
+  dropped_ends true bom s r st e = absurd cc
   dropped_ends false (string v) s r st e = absurd cc
   dropped_ends false (value v) s r st e = absurd cc
   dropped_ends false left s r st e = absurd cc
-  dropped_ends false mark s r st e = absurd cc
+  dropped_ends false bom s r st e = absurd cc
   dropped_ends _ _ s r st e = refl
 
   named_ends : (it : Item) (k : Token) (s r : Text) (st : State) → came it (items.move named whole it k s r) s r ≡ Some st → is_end k ≡ true
   named_ends it (string v) s r st e = absurd cc
   named_ends it (value v) s r st e = absurd cc
   named_ends it left s r st e = absurd cc
-  named_ends it mark s r st e = absurd cc
+  named_ends it bom s r st e = absurd cc
   named_ends it _ s r st e = refl
 
   ends : {s : Text} {st : State} → Runs whole out st s → ((k : Token) (s r : Text) (st' : State) → step whole st k s r ≡ Some st' → is_end k ≡ true) → ValueEnd true s
@@ -239,19 +239,19 @@ module _ (whole : Text) (out : Entry) where
   sound (stops e) = absurd cc
   sound (reads {st = ahead} (t_space n) e a) = text_space (LineSpace.space n) (back _ ahead _ e (sound a))
   sound (reads {st = ahead} (t_newline n) e a) = text_space (LineSpace.«break» n) (back _ ahead _ e (sound a))
-  sound (reads {st = ahead} t_slashdash e a) = text_left (left_marked (back _ marked _ e (sound a)))
+  sound (reads {st = ahead} t_slashdash e a) = text_left (left_slashdash (back _ entry_slashdash _ e (sound a)))
   sound (reads {st = ahead} (t_string p) e a) = text_left (left_entry (entry_of (a_string' p (word_end _ _ (back_run _ _ e a))) (back _ (word _ _) _ e (sound a))))
   sound (reads {st = ahead} (t_value p) e a) = text_left (left_entry (entry_plain (a_plain p (done_end _ _ (back_run _ _ e a))) (back _ (done _ _) _ e (sound a))))
   sound (reads {st = ahead} t_left e a) = text_left (left_entry (entry_typed (back _ (under _) _ e (sound a))))
-  sound (reads {st = marked} (t_space n) e a) = marked_space (LineSpace.space n) (back _ marked _ e (sound a))
-  sound (reads {st = marked} (t_newline n) e a) = marked_space (LineSpace.«break» n) (back _ marked _ e (sound a))
-  sound (reads {st = marked} (t_string p) e a) = marked_then no_star (entry_of (a_string' p (dropped_end true (back_run _ _ e a))) (back _ (dropped true false) _ e (sound a)))
-  sound (reads {st = marked} (t_value p) e a) = marked_then no_star (entry_plain (a_plain p (dropped_end false (back_run _ _ e a))) (no_key (back _ (dropped false false) _ e (sound a))))
-  sound (reads {st = marked} t_left e a) = marked_then no_star (entry_typed (back _ (under _) _ e (sound a)))
+  sound (reads {st = entry_slashdash} (t_space n) e a) = slashdash_space (LineSpace.space n) (back _ entry_slashdash _ e (sound a))
+  sound (reads {st = entry_slashdash} (t_newline n) e a) = slashdash_space (LineSpace.«break» n) (back _ entry_slashdash _ e (sound a))
+  sound (reads {st = entry_slashdash} (t_string p) e a) = slashdash_then no_star (entry_of (a_string' p (dropped_end true (back_run _ _ e a))) (back _ (dropped true false) _ e (sound a)))
+  sound (reads {st = entry_slashdash} (t_value p) e a) = slashdash_then no_star (entry_plain (a_plain p (dropped_end false (back_run _ _ e a))) (no_key (back _ (dropped false false) _ e (sound a))))
+  sound (reads {st = entry_slashdash} t_left e a) = slashdash_then no_star (entry_typed (back _ (under _) _ e (sound a)))
   sound (reads {st = under it} t e a) = in_item it it.stage refl t e a (sound a)
   sound (reads {st = dropped b c} (t_space n) e a) = dropped_space b c n (back _ (dropped b true) _ e (sound a))
   sound (reads {st = dropped true c} t_equals e a) = inr (key_then no_star (back _ (under _) _ e (sound a)))
-  sound (reads {st = dropped b true} t_slashdash e a) = inl (spaced_then no_star (left_marked (back _ marked _ e (sound a))))
+  sound (reads {st = dropped b true} t_slashdash e a) = inl (spaced_then no_star (left_slashdash (back _ entry_slashdash _ e (sound a))))
   sound (reads {st = dropped b true} (t_string p) e a) = inl (spaced_then no_star (left_entry (entry_of (a_string' p (word_end _ _ (back_run _ _ e a))) (back _ (word _ _) _ e (sound a)))))
   sound (reads {st = dropped b true} (t_value p) e a) = inl (spaced_then no_star (left_entry (entry_plain (a_plain p (done_end _ _ (back_run _ _ e a))) (back _ (done _ _) _ e (sound a)))))
   sound (reads {st = dropped b true} t_left e a) = inl (spaced_then no_star (left_entry (entry_typed (back _ (under _) _ e (sound a)))))

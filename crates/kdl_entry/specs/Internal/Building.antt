@@ -1,6 +1,7 @@
 -- The item that a reader's fields stand for, and what its steps answer.
 use Rattle.std.specs.Prelude.{◌≡◌, ◌≤◌, Option, Some, None, option_map, Result, Ok, Err}
-use Rattle.kdl_text.specs.Internal.Here.{Here, Spot, raise}
+use Rattle.kdl_text.specs.Internal.Here.{Here, Spot}
+use Rattle.kdl_text.specs.Spans.{raise}
 use Rattle.kdl_entry.specs.Internal.Handed.{IsFaultAt}
 use Rattle.kdl_entry.specs.Internal.Items as items
 use Rattle.kdl_entry.specs.Internal.Items.{Answer, goes, gives, refuses}

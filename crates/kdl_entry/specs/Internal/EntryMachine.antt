@@ -22,7 +22,7 @@ pub record Word : Type 0 where
 -- behind a string that may be a key; behind the entry
 pub data State : Type 0 where
   ahead : State
-  marked : State
+  entry_slashdash : State
   under : Item → State
   dropped : Bool → Bool → State
   word : Word → Text → State
@@ -66,19 +66,19 @@ came it refuses s r = None
 abbrev pub step : Text → State → Token → Text → Text → Option State
 step whole ahead space s r = Some ahead
 step whole ahead newline s r = Some ahead
-step whole ahead slashdash s r = Some marked
+step whole ahead slashdash s r = Some entry_slashdash
 step whole ahead (string v) s r = Some (word (word_at whole v s r) r)
 step whole ahead (value v) s r = Some (given true (between whole s) None None v s r)
 step whole ahead left s r = Some (under (opened_item whole true (between whole s) r))
-step whole marked space s r = Some marked
-step whole marked newline s r = Some marked
-step whole marked (string v) s r = Some (dropped true false)
-step whole marked (value v) s r = Some (dropped false false)
-step whole marked left s r = Some (under (opened_item whole false [] r))
+step whole entry_slashdash space s r = Some entry_slashdash
+step whole entry_slashdash newline s r = Some entry_slashdash
+step whole entry_slashdash (string v) s r = Some (dropped true false)
+step whole entry_slashdash (value v) s r = Some (dropped false false)
+step whole entry_slashdash left s r = Some (under (opened_item whole false [] r))
 step whole (under it) k s r = came it (items.step whole it k s r) s r
 step whole (dropped b c) space s r = Some (dropped b true)
 step whole (dropped true c) equals s r = Some (under (keyed_item whole false [] (plain_identifier []) [] r))
-step whole (dropped b true) slashdash s r = Some marked
+step whole (dropped b true) slashdash s r = Some entry_slashdash
 step whole (dropped b true) (string v) s r = Some (word (word_at whole v s r) r)
 step whole (dropped b true) (value v) s r = Some (given true (between whole s) None None v s r)
 step whole (dropped b true) left s r = Some (under (opened_item whole true (between whole s) r))

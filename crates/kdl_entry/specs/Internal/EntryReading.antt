@@ -12,7 +12,7 @@ use Rattle.kdl_entry.specs.Tree.{entry_tree}
 use Rattle.kdl_entry.specs.Tree as tree
 use Rattle.kdl_entry.specs.declared.entry.KdlEntry.{KdlEntry}
 use Rattle.kdl_entry.specs.declared.items.entries.State.{State}
-use Rattle.kdl_entry.specs.declared.items.entries.State.TheVariants.{Start, Marked, Under, Dropped, Pending, Done}
+use Rattle.kdl_entry.specs.declared.items.entries.State.TheVariants.{Start, EntrySlashdash, Under, Dropped, Pending, Done}
 use Rattle.kdl_entry.specs.declared.items.entries.Word.{Word}
 use Rattle.kdl_entry.specs.declared.items.lexer.LexFailure.{LexFailure}
 use Rattle.kdl_entry.specs.declared.items.lexer.LexFailure.TheVariants.{Faulty, Memory}
@@ -24,7 +24,7 @@ word_view w = record { leading = text_of w.leading; value = text_of w.value; rep
 -- the machine's state that the reader's state stands for
 abbrev pub state_view : State → machine.State
 state_view Start = machine.ahead
-state_view Marked = machine.marked
+state_view EntrySlashdash = machine.entry_slashdash
 state_view (Under it) = under (item_view it)
 state_view (Dropped b c) = machine.dropped b c
 state_view (Pending w from) = word (word_view w) from.rest

@@ -12,7 +12,7 @@ use Rattle.kdl_value.specs.Tree.{value_tree, text_of}
 use Rattle.kdl_entry.specs.Internal.Tokens as tokens
 use Rattle.kdl_entry.specs.Internal.Tokens.{BeginsToken}
 use Rattle.kdl_entry.specs.declared.items.lexer.TokenKind.{TokenKind}
-use Rattle.kdl_entry.specs.declared.items.lexer.TokenKind.TheVariants.{Space, Newline, Slashdash, String, Value, Left, Right, Opening, Closing, Equals, Semicolon, Mark}
+use Rattle.kdl_entry.specs.declared.items.lexer.TokenKind.TheVariants.{Space, Newline, Slashdash, String, Value, Left, Right, Opening, Closing, Equals, Semicolon, Bom}
 use Rattle.kdl_entry.specs.declared.items.lexer.Token.{Token}
 use Rattle.kdl_entry.specs.declared.items.lexer.LexFailure.{LexFailure}
 use Rattle.kdl_entry.specs.declared.items.lexer.LexFailure.TheVariants.{Faulty, Memory}
@@ -35,7 +35,7 @@ kind_view Opening = tokens.opening
 kind_view Closing = tokens.closing
 kind_view Equals = tokens.equals
 kind_view Semicolon = tokens.semicolon
-kind_view Mark = tokens.mark
+kind_view Bom = tokens.bom
 
 -- the span of a fault at the place, which is the character there
 pub record IsFaultAt (place : Spot) (span : SourceSpan) : Type 0 where

@@ -18,7 +18,7 @@ pub data Token : Type 0 where
   closing : Token
   equals : Token
   semicolon : Token
-  mark : Token
+  bom : Token
 
 -- the token k begins the text, and leaves the second text
 pub data BeginsToken : Text → Token → Text → Type 0 where
@@ -33,7 +33,7 @@ pub data BeginsToken : Text → Token → Text → Type 0 where
   t_closing : {r : Text} → BeginsToken (125 ∷ r) closing r
   t_equals : {r : Text} → BeginsToken (61 ∷ r) equals r
   t_semicolon : {r : Text} → BeginsToken (59 ∷ r) semicolon r
-  t_mark : {r : Text} → BeginsToken (0xFEFF ∷ r) mark r
+  t_bom : {r : Text} → BeginsToken (0xFEFF ∷ r) bom r
 
 -- the text is cut into the tokens, with nothing left
 pub data Lexes : Text → List Token → Type 0 where

@@ -42,7 +42,7 @@ enum State<'a> {
     /// Line-spaces alone.
     Start,
     /// A slashdash.
-    Marked,
+    EntrySlashdash,
     /// An entry under way, which has a type or a key.
     Under(Item<'a>),
     /// An entry that is slashdashed: whether it is a string, which may yet be a key, and whether spaces follow.
@@ -172,7 +172,7 @@ fn at_start<'a>(
 {
     match kind {
         TokenKind::Space | TokenKind::Newline => Ok(State::Start),
-        TokenKind::Slashdash => Ok(State::Marked),
+        TokenKind::Slashdash => Ok(State::EntrySlashdash),
         TokenKind::String(value) => {
             let word = word_between(alloc, lexer, whole, value, start, end)?;
             Ok(State::Pending(word, end.copied()))
@@ -190,18 +190,18 @@ fn at_start<'a>(
 }
 
 /// A token behind a slashdash.
-fn at_marked<'a>(
+fn at_slashdash<'a>(
     alloc: Global,
     whole: &Checkpoint<'a>,
     kind: TokenKind,
     start: &Checkpoint<'a>,
     end: &Checkpoint<'a>,
 ) -> Result<State<'a>, LexFailure>
-    ensures { Stepped (step whole.now.rest machine.marked
+    ensures { Stepped (step whole.now.rest machine.entry_slashdash
         (kind_view kind) start.now.rest end.now.rest) start.now result }
 {
     match kind {
-        TokenKind::Space | TokenKind::Newline => Ok(State::Marked),
+        TokenKind::Space | TokenKind::Newline => Ok(State::EntrySlashdash),
         TokenKind::String(_) => Ok(State::Dropped(true, false)),
         TokenKind::Value(_) => Ok(State::Dropped(false, false)),
         TokenKind::Left => Ok(State::Under(opened(alloc, whole, false, empty(alloc), end))),
@@ -382,7 +382,7 @@ impl<'a> State<'a> {
         let Token { kind, start, end } = token;
         match self {
             State::Start => at_start(alloc, lexer, whole, kind, &start, &end),
-            State::Marked => at_marked(alloc, whole, kind, &start, &end),
+            State::EntrySlashdash => at_slashdash(alloc, whole, kind, &start, &end),
             State::Under(item) => at_under(item, alloc, lexer, whole, kind, &start, &end),
             State::Dropped(word, true) => {
                 at_spaced(word, alloc, lexer, whole, kind, &start, &end)

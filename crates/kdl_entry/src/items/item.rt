@@ -16,7 +16,7 @@ ghost use Rattle.std.specs.Prelude.{◌≡◌, if◌then◌else◌, [], Some, No
 
 use super::lexer::{LexFailure, Lexer, TokenKind, fault_at};
 use crate::entry::{KdlEntry, KdlEntryFormat};
-use crate::identifier::{KdlIdentifier, parsed_identifier};
+use crate::identifier::{KdlIdentifier, sliced_identifier};
 use kdl_text::chars::Checkpoint;
 use kdl_text::span::SourceSpan;
 use kdl_value::KdlValue;
@@ -109,6 +109,7 @@ pub fn text_between<'a>(
 /// let token = lexer.next(alloc)?; // the string `ab`
 /// let span = span_at(&whole, &lexer.checkpoint(), &lexer.checkpoint()); // offset 2 and length 0
 /// ```
+#[inline]
 #[tactic(auto, unfolding(crate::specs::Places::span_of))]
 pub fn span_at(whole: &Checkpoint, start: &Checkpoint, end: &Checkpoint) -> SourceSpan
     ensures { result ≡ span_of whole.now.rest start.now.rest end.now.rest }
@@ -126,6 +127,8 @@ pub fn span_at(whole: &Checkpoint, start: &Checkpoint, end: &Checkpoint) -> Sour
 /// let end = lexer.checkpoint();
 /// let name = identifier_between(alloc, &mut lexer, &whole, value, &whole, &end)?; // prints "\"ab\""
 /// ```
+#[inline]
+#[tactic(auto, using(crate::proofs::Lexing::Between::is_between))]
 pub fn identifier_between<'a>(
     alloc: Global,
     lexer: &mut Lexer<'a>,
@@ -141,9 +144,9 @@ pub fn identifier_between<'a>(
     ensures stays { Stays lexer.old lexer.new }
     ensures sliced { Sliced (bytes start.now.rest) (bytes end.now.rest) lexer.old lexer.new }
 {
-    let repr = text_between(alloc, lexer, start, end)?;
+    let piece = lexer.slice_between(start, end);
     let span = span_at(whole, start, end);
-    Ok(parsed_identifier(value, repr, span))
+    sliced_identifier(alloc, value, &piece, span)
 }
 
 /// An empty text, which takes no memory.
@@ -166,6 +169,7 @@ pub fn empty(alloc: Global) -> String
 /// let repr = String::from_str(alloc, "0x10")?;
 /// let entry = entry_from(alloc, span, leading, None, None, KdlValue::from(16), repr); // prints " 0x10"
 /// ```
+#[inline]
 pub fn entry_from(
     alloc: Global,
     span: SourceSpan,

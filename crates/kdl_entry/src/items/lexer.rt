@@ -78,7 +78,7 @@ pub enum TokenKind {
     /// `;`.
     Semicolon,
     /// U+FEFF.
-    Mark,
+    Bom,
 }
 
 /// A token, and where it begins and ends.
@@ -293,7 +293,7 @@ fn word_token(
     }
 }
 
-/// The comment or the mark `/-` that begins with the slash here.
+/// The comment or the `/-` that begins with the slash here.
 #[tactic(auto, using(crate::proofs::Lexing::TokenReads::a_block_here, crate::proofs::Lexing::TokenReads::a_line_here, crate::proofs::Lexing::TokenReads::a_dash_here))]
 fn slash_token(cursor: &mut Cursor, start: &Checkpoint) -> Result<TokenKind, LexFailure>
     requires { first cursor.old.rest ≡ Some 47 }
@@ -318,14 +318,15 @@ fn escline_token(cursor: &mut Cursor, start: &Checkpoint) -> Result<TokenKind, L
     ensures moves { Moves cursor.old cursor.new }
     ensures costs { KindCosts 22 result cursor.old cursor.new }
 {
-    match escline(cursor) {
-        Ok(()) => Ok(TokenKind::Space),
-        Err(_) => Err(LexFailure::Faulty(fault_at(start))),
+    if escline(cursor) {
+        Ok(TokenKind::Space)
+    } else {
+        Err(LexFailure::Faulty(fault_at(start)))
     }
 }
 
 /// The kind of a token that is this character alone.
-fn mark_kind(c: char) -> Option<TokenKind>
+fn sign_kind(c: char) -> Option<TokenKind>
     ensures { IsPunctuation c result }
 {
     match c {
@@ -335,13 +336,13 @@ fn mark_kind(c: char) -> Option<TokenKind>
         '}' => Some(TokenKind::Closing),
         '=' => Some(TokenKind::Equals),
         ';' => Some(TokenKind::Semicolon),
-        '\u{feff}' => Some(TokenKind::Mark),
+        '\u{feff}' => Some(TokenKind::Bom),
         _ => None,
     }
 }
 
 /// What token begins with the character c here, which is none of `" # / \`.
-#[tactic(auto, using(crate::proofs::Lexing::TokenReads::spaces_here, crate::proofs::Lexing::TokenReads::skip_moves, crate::proofs::Lexing::TokenReads::newline_here, crate::proofs::Lexing::TokenReads::newline_costs, crate::proofs::Lexing::TokenReads::mark_here, crate::proofs::Lexing::TokenReads::take_moves, crate::proofs::Lexing::TokenReads::mark_costs))]
+#[tactic(auto, using(crate::proofs::Lexing::TokenReads::spaces_here, crate::proofs::Lexing::TokenReads::skip_moves, crate::proofs::Lexing::TokenReads::newline_here, crate::proofs::Lexing::TokenReads::newline_costs, crate::proofs::Lexing::TokenReads::punctuation_here, crate::proofs::Lexing::TokenReads::take_moves, crate::proofs::Lexing::TokenReads::punctuation_costs))]
 fn plain_token(
     c: char,
     cursor: &mut Cursor,
@@ -365,7 +366,7 @@ fn plain_token(
         let _ = newline(cursor);
         return Ok(TokenKind::Newline);
     }
-    match mark_kind(c) {
+    match sign_kind(c) {
         Some(kind) => {
             let _ = cursor.take();
             Ok(kind)
@@ -457,9 +458,9 @@ impl<'a> Lexer<'a> {
     ///
     /// ```
     /// let mut lexer = Lexer::new("\u{feff}a", Steps::new());
-    /// let is_marked = lexer.eat_mark(); // true, and the string `a` is the next token
+    /// let has_bom = lexer.eat_bom(); // true, and the string `a` is the next token
     /// ```
-    pub fn eat_mark(&mut self) -> bool
+    pub fn eat_bom(&mut self) -> bool
         ensures { Ate 0xFEFF result self.old self.new }
     {
         self.cursor.eat('\u{feff}')

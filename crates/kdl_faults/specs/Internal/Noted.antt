@@ -1,8 +1,8 @@
 -- What a reader of faults holds: places and spans of the text that it reads.
 use Rattle.std.specs.Prelude.{◌≡◌, ℕ, ◌+◌, ◌*◌, ◌≤◌, ◌++◌, List, All}
 use Rattle.kdl_text.specs.Chars.{Text}
-use Rattle.kdl_text.specs.Internal.Here.{Here, Spot, raise}
-use Rattle.kdl_text.specs.Spans.{InText, bytes}
+use Rattle.kdl_text.specs.Internal.Here.{Here, Spot}
+use Rattle.kdl_text.specs.Spans.{InText, bytes, raise}
 use Rattle.kdl_faults.specs.Internal.Reading.{Stands}
 use Rattle.kdl_faults.specs.declared.pieces.Piece.{Piece}
 use Rattle.kdl_faults.specs.declared.reader.Block.{Block}

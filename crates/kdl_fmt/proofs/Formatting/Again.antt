@@ -14,7 +14,7 @@ use Rattle.kdl_fmt.specs.WithComments.{behind, IsFormattedEntry, AreFormattedEnt
 use Rattle.kdl_fmt.proofs.Formatting.PrintsCanonical.{unspelled_twice}
 use Rattle.kdl_fmt.proofs.Keeping.KeptAgain as kept
 
--- an entry that is not marked, laid out
+-- an entry that is not flagged, laid out
 lost : (o : Option EntryFormat) → is_kept_format o ≡ false → autoformatted_format o ≡ None
 lost None h = refl
 lost (Some f) h = rw h refl
@@ -25,9 +25,9 @@ loses_form e h = rw (lost e.format h) refl
 cleared_again : (e : Entry) → cleared (cleared e) ≡ cleared e
 cleared_again e = rw (unspelled_twice e.name, unspelled_twice e.ty) refl
 
-behind_unmarked : (t : Text) (e : Entry) → is_kept_format (behind t (cleared e)).format ≡ false
-behind_unmarked [] e = refl
-behind_unmarked (c ∷ t) e = refl
+behind_not_kept : (t : Text) (e : Entry) → is_kept_format (behind t (cleared e)).format ≡ false
+behind_not_kept [] e = refl
+behind_not_kept (c ∷ t) e = refl
 
 cleared_behind : (t : Text) (e : Entry) → cleared (behind t (cleared e)) ≡ cleared e
 cleared_behind [] e = cleared_again e
@@ -80,7 +80,7 @@ entry_stays : (s : Settings) → s.entry_autoformate_keep ≡ false → (e e' e'
 entry_stays s keep e e' e'' f m g =
     let a = laid_entry s e e' keep m f in
     let h : IsFormattedEntry s (behind a.0 (cleared e)) e'' = subst (λ (x : Entry). IsFormattedEntry s x e'') a.2 g in
-    let b = laid_entry s (behind a.0 (cleared e)) e'' keep (behind_unmarked a.0 e) h in
+    let b = laid_entry s (behind a.0 (cleared e)) e'' keep (behind_not_kept a.0 e) h in
     b.2 ∙ ap (λ (x : Text). behind x (cleared (behind a.0 (cleared e)))) (before_stays s.no_comments e (entry_leading e.format) a.0 b.0 a.1 b.1)
     ∙ ap (behind a.0) (cleared_behind a.0 e) ∙ sym a.2
 

@@ -10,7 +10,7 @@ use Rattle.kdl_value.specs.Spelled.{spelled}
 use Rattle.kdl_value.specs.WellFormed.{IsWellFormed}
 use Rattle.kdl_entry.specs.Data.{Entry}
 use Rattle.kdl_entry.specs.Entries.{MaybeType, untyped, typed, parens, IsValue, value, IsEntry, property, argument}
-use Rattle.kdl_entry.proofs.Moving.EntryMoves.{marks}
+use Rattle.kdl_entry.proofs.Moving.EntryMoves.{punctuation_end}
 use Rattle.kdl_entry.proofs.Laying.ValueReadsBack.{printed_string, printed_value}
 use Rattle.kdl_grammar.specs.Data.{Node, node, Children, no_children, children, Nodes, none, first}
 use Rattle.kdl_grammar.specs.Grammar.{Terminator, IsNode, named, AfterName, kept_entry, blocks, Blocks, AfterBlock, Gap, no_gap, line_space, AreNodes, last_gap, node_then, braces, IsDocument, IsNodeText, node_text}
@@ -35,7 +35,7 @@ newline_space s = LineSpace.«break» (Break.newline (a_newline s))
 
 type_reads : (o : Option Text) (r : Text) → AreScalars o → MaybeType true (canonical_type o ++ r) r o
 type_reads None r ok = untyped
-type_reads (Some k) r ok = typed (parens Star.none (rw (append_assoc (spelled k) (41 ∷ []) r) (printed_string k (41 ∷ r) ok (marks 41 refl))) Star.none) Star.none
+type_reads (Some k) r ok = typed (parens Star.none (rw (append_assoc (spelled k) (41 ∷ []) r) (printed_string k (41 ∷ r) ok (punctuation_end 41 refl))) Star.none) Star.none
 
 value_reads : (ty : Option Text) (v : Value) (r : Text) → AreScalars ty → IsWellFormed v → ValueEnd true r → IsValue true (canonical_type ty ++ (print_value v ++ r)) r ty v
 value_reads ty v r t ok e = value (type_reads ty (print_value v ++ r) t) (printed_value v r ok e)
@@ -45,7 +45,7 @@ item_reads : (k ty : Option Text) (v : Value) (r : Text) → AreScalars k → Ar
 item_reads None ty v r a t ok e = argument (value_reads ty v r t ok e)
 item_reads (Some s) ty v r a t ok e =
     rw (append_assoc (spelled s) (61 ∷ []) (canonical_type ty ++ (print_value v ++ r)))
-    (property (printed_string s (61 ∷ (canonical_type ty ++ (print_value v ++ r))) a (marks 61 refl)) Star.none Star.none (value_reads ty v r t ok e))
+    (property (printed_string s (61 ∷ (canonical_type ty ++ (print_value v ++ r))) a (punctuation_end 61 refl)) Star.none Star.none (value_reads ty v r t ok e))
 
 joined : (k t v m u : Text) → ((32 ∷ k ++ t ++ v) ++ m) ++ u ≡ 32 ∷ (k ++ (t ++ (v ++ (m ++ u))))
 joined k t v m u = simp append_assoc
@@ -124,7 +124,7 @@ module _ (indent : Text) (ok : list_all is_space indent ≡ true) where
 
   document_reads : (level : ℕ) (x : Nodes) → AreWellFormed x → IsDocument true (canonical indent level x) x
   document_reads level x w =
-      IsDocument.unmarked (nodes_read level x (newline_if_none x) [] w (subst (λ (t : Text). Gap true t []) (append-nil (newline_if_none x)) (empty_gap x [] [] no_gap)))
+      IsDocument.no_bom (nodes_read level x (newline_if_none x) [] w (subst (λ (t : Text). Gap true t []) (append-nil (newline_if_none x)) (empty_gap x [] [] no_gap)))
 
   node_reads : (level : ℕ) (x : Node) → IsWellFormedNode x → IsNodeText true (canonical_node indent level x) x
   node_reads level (node ty name es k) w =

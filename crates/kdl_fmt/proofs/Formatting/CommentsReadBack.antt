@@ -10,7 +10,7 @@ use Rattle.kdl_value.specs.Spelled.{spelled}
 use Rattle.kdl_value.specs.WellFormed.{IsWellFormed}
 use Rattle.kdl_entry.specs.Entries.{MaybeType, untyped, typed, parens, IsValue, value, IsEntry, property, argument}
 use Rattle.kdl_entry.specs.Tree.{Identifier, Entry, unspelled, kept, autoformatted, entry_data}
-use Rattle.kdl_entry.proofs.Moving.EntryMoves.{marks}
+use Rattle.kdl_entry.proofs.Moving.EntryMoves.{punctuation_end}
 use Rattle.kdl_entry.proofs.Laying.ValueReadsBack.{printed_string, printed_value}
 use Rattle.kdl_grammar.specs.Data as data'
 use Rattle.kdl_grammar.specs.Grammar.{named, AfterName, Gap, no_gap, AreNodes, last_gap, node_then, braces, IsDocument}
@@ -28,7 +28,7 @@ use Rattle.kdl_fmt.proofs.Keeping.KeptPlaces.{space_ends, newline_gap, gap_nodes
 
 type_reads : (o : Option Identifier) (r : Text) → AreScalars (name_of o) → MaybeType true (type_text o ++ r) r (name_of o)
 type_reads None r ok = untyped
-type_reads (Some i) r ok = typed (parens Star.none (rw (type_joined (spelled i.value) r) (printed_string i.value (41 ∷ r) ok (marks 41 refl))) Star.none) Star.none
+type_reads (Some i) r ok = typed (parens Star.none (rw (type_joined (spelled i.value) r) (printed_string i.value (41 ∷ r) ok (punctuation_end 41 refl))) Star.none) Star.none
 
 value_reads : (o : Option Identifier) (v : Value) (r : Text) → AreScalars (name_of o) → IsWellFormed v → ValueEnd true r → IsValue true (type_text o ++ (print_value v ++ r)) r (name_of o) v
 value_reads o v r t ok e = value (type_reads o (print_value v ++ r) t) (printed_value v r ok e)
@@ -38,7 +38,7 @@ item_reads : (k o : Option Identifier) (v : Value) (r : Text) → AreScalars (na
 item_reads None o v r a t ok e = argument (value_reads o v r t ok e)
 item_reads (Some i) o v r a t ok e =
     let rest = type_text o ++ (print_value v ++ r) in
-    rw (key_joined (spelled i.value) rest) (property (printed_string i.value (61 ∷ rest) a (marks 61 refl)) Star.none Star.none (value_reads o v r t ok e))
+    rw (key_joined (spelled i.value) rest) (property (printed_string i.value (61 ∷ rest) a (punctuation_end 61 refl)) Star.none Star.none (value_reads o v r t ok e))
 
 -- a node, but for its entries and its children
 node_joined : (b i t n p q r : Text) → (b ++ i ++ t ++ [] ++ n ++ p ++ q) ++ r ≡ b ++ (i ++ (t ++ (n ++ (p ++ (q ++ r)))))
@@ -80,11 +80,11 @@ empty_gap : (ns : Nodes) {t r : Text} → Gap true t r → Gap true (newline_if_
 empty_gap none g = newline_gap g
 empty_gap (first n ns) g = g
 
-module _ (s : Settings) (ok : list_all is_space s.indent ≡ true) (unmarked : s.entry_autoformate_keep ≡ false) where
+module _ (s : Settings) (ok : list_all is_space s.indent ≡ true) (no_keep : s.entry_autoformate_keep ≡ false) where
   -- what is kept before an entry, and the entry
   entry_text : (e e' : Entry) → IsFormattedEntry s e e' → is_kept_format e.format ≡ false
       → (t : Text) × Tail (before_entry false) t × ((r : Text) → print_piece e' ++ r ≡ t ++ (32 ∷ (key_text e.name ++ (type_text e.ty ++ (print_value e.value ++ r)))))
-  entry_text e e' (t, k, q) h = go s.entry_autoformate_keep unmarked k q
+  entry_text e e' (t, k, q) h = go s.entry_autoformate_keep no_keep k q
     where
       go : (b : Bool) → b ≡ false → KeptBefore s (with_keep_if b e).format t → e' ≡ behind t (autoformatted (with_keep_if b e))
           → (t : Text) × Tail (before_entry false) t × ((r : Text) → print_piece e' ++ r ≡ t ++ (32 ∷ (key_text e.name ++ (type_text e.ty ++ (print_value e.value ++ r)))))
@@ -175,7 +175,7 @@ module _ (s : Settings) (ok : list_all is_space s.indent ≡ true) (unmarked : s
   pub document_derived : (level depth : ℕ) (d d' : Document) → IsFormattedDocument s level d d' → DocumentKeepsNone d → AreWellFormed (document_data d)
       → IsDocument true (print_document d' depth) (document_data d)
   document_derived level depth (document f span ns) (document f' span' ns') (c, same, nodes) m w =
-      IsDocument.unmarked (subst (λ (t : Text). AreNodes true t [] (nodes_data ns)) (document_joined f' ns' c.3)
+      IsDocument.no_bom (subst (λ (t : Text). AreNodes true t [] (nodes_data ns)) (document_joined f' ns' c.3)
       (gap_nodes (content_gap level (or_empty_document f) c.0 c.1 c.2 _) (nodes_read level depth ns ns' nodes m w (content_end level (or_empty_document f) c.0 c.1 c.2 (empty_gap ns no_gap)))))
     where
       document_joined : (f' : Option DocumentFormat) (ns' : Nodes) → f' ≡ Some (content_of ns c.0 c.1)
@@ -186,4 +186,4 @@ module _ (s : Settings) (ok : list_all is_space s.indent ≡ true) (unmarked : s
   pub node_derived : (level depth : ℕ) (n n' : Node) → IsFormattedNode s level n n' → NodeKeepsNone n → IsWellFormedNode (node_data n)
       → IsDocument true (print_node n' depth) (data'.first (node_data n) data'.none)
   node_derived level depth n n' f m w =
-      IsDocument.unmarked (subst (λ (t : Text). AreNodes true t [] (data'.first (node_data n) data'.none)) (append-nil (print_node n' depth)) (node_reads level depth n n' f m w (last_gap no_gap)))
+      IsDocument.no_bom (subst (λ (t : Text). AreNodes true t [] (data'.first (node_data n) data'.none)) (append-nil (print_node n' depth)) (node_reads level depth n n' f m w (last_gap no_gap)))

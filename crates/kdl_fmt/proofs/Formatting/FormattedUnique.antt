@@ -1,4 +1,4 @@
--- What layout makes of a document is one thing, which says the same and marks no entry; where comments are left out it is what the function gives.
+-- What layout makes of a document is one thing, which says the same and flags no entry; where comments are left out it is what the function gives.
 use Rattle.std.proofs.Common.{◌≡◌, ℕ, ◌+◌, Bool, true, false, List, [], ◌∷◌, map, refl, sym, ap, ◌∙◌, Option, Some, None, option_map}
 use Rattle.std.specs.Prelude.{◌||◌}
 use Rattle.kdl_text.specs.Chars.{Text}
@@ -12,7 +12,7 @@ use Rattle.kdl_fmt.specs.Formatted.{with_keep_if, formatted_entry, or_empty, or_
 use Rattle.kdl_fmt.specs.Kept.{Written, WrittenUnless, KeptLines, KeptTail, KeptBeforeBlock, last_place, WrittenEnd, KeptEnd, without_bom, entry_leading, is_kept_format, KeptBefore}
 use Rattle.kdl_fmt.specs.Plain.{plain_line}
 use Rattle.kdl_fmt.specs.WithComments.{behind, IsFormattedEntry, AreFormattedEntries, NodeTexts, KeepsTexts, line_of, IsLine, content_of, ContentTexts, IsContent, IsBraced, IsFormattedHead, has_block, IsFormattedNode, IsFormattedChildren, AreFormattedNodes, IsFormattedDocument}
-use Rattle.kdl_fmt.proofs.Formatting.PrintsCanonical.{unspelled_twice, cleared_formatted, kept_unmarked}
+use Rattle.kdl_fmt.proofs.Formatting.PrintsCanonical.{unspelled_twice, cleared_formatted, not_kept_again}
 
 abbrev Has : Type 1
 Has = List Item → Type 0
@@ -150,40 +150,40 @@ mutual
 pub document_stays : (s : Settings) (level : ℕ) (d d' : Document) → IsFormattedDocument s level d d' → bare_document d' ≡ bare_document d
 document_stays s level (document f span ns) (document f' span' ns') d = let b = nodes_stay s level ns ns' d.2 in λ i. document None (d.1 i) (b i)
 
--- no entry is marked any more
-behind_unmarked : (t : Text) (e : Entry) → is_kept_format e.format ≡ false → is_kept_format (behind t e).format ≡ false
-behind_unmarked [] e h = h
-behind_unmarked (c ∷ t) e h = refl
+-- no entry is flagged any more
+behind_not_kept : (t : Text) (e : Entry) → is_kept_format e.format ≡ false → is_kept_format (behind t e).format ≡ false
+behind_not_kept [] e h = h
+behind_not_kept (c ∷ t) e h = refl
 
-pub entry_unmarked : (s : Settings) (e e' : Entry) → IsFormattedEntry s e e' → is_kept_format e'.format ≡ false
-entry_unmarked s e e' f =
+pub entry_keeps_none : (s : Settings) (e e' : Entry) → IsFormattedEntry s e e' → is_kept_format e'.format ≡ false
+entry_keeps_none s e e' f =
     let m = with_keep_if s.entry_autoformate_keep e in
-    ap (λ (x : Entry). is_kept_format x.format) f.2 ∙ behind_unmarked f.0 (autoformatted m) (kept_unmarked m.format)
+    ap (λ (x : Entry). is_kept_format x.format) f.2 ∙ behind_not_kept f.0 (autoformatted m) (not_kept_again m.format)
 
-pub entries_unmarked : (s : Settings) (es es' : List Entry) → AreFormattedEntries s es es' → EntriesKeepNone es'
-entries_unmarked s [] [] f = tt
-entries_unmarked s (e ∷ es) (e' ∷ es') f = (entry_unmarked s e e' f.0, entries_unmarked s es es' f.1)
-entries_unmarked s [] (e' ∷ es') f = absurd f
-entries_unmarked s (e ∷ es) [] f = absurd f
+pub entries_keep_none : (s : Settings) (es es' : List Entry) → AreFormattedEntries s es es' → EntriesKeepNone es'
+entries_keep_none s [] [] f = tt
+entries_keep_none s (e ∷ es) (e' ∷ es') f = (entry_keeps_none s e e' f.0, entries_keep_none s es es' f.1)
+entries_keep_none s [] (e' ∷ es') f = absurd f
+entries_keep_none s (e ∷ es) [] f = absurd f
 
 mutual
-  pub unmarked : (s : Settings) (level : ℕ) (n n' : Node) → IsFormattedNode s level n n' → NodeKeepsNone n'
-  unmarked s level (node h k) (node h' k') f = (entries_unmarked s h.entries h'.entries f.0.entries, children_unmarked s level k k' f.1)
+  pub node_keeps_none : (s : Settings) (level : ℕ) (n n' : Node) → IsFormattedNode s level n n' → NodeKeepsNone n'
+  node_keeps_none s level (node h k) (node h' k') f = (entries_keep_none s h.entries h'.entries f.0.entries, children_keep_none s level k k' f.1)
 
-  pub children_unmarked : (s : Settings) (level : ℕ) (k k' : Children) → IsFormattedChildren s level k k' → ChildrenKeepNone k'
-  children_unmarked s level no_children no_children f = tt
-  children_unmarked s level (children (document f span ns)) (children (document f' span' ns')) c = nodes_unmarked s (level + 1) ns ns' c.2
-  children_unmarked s level no_children (children d) f = absurd f
-  children_unmarked s level (children (document f span ns)) no_children c = absurd c
+  pub children_keep_none : (s : Settings) (level : ℕ) (k k' : Children) → IsFormattedChildren s level k k' → ChildrenKeepNone k'
+  children_keep_none s level no_children no_children f = tt
+  children_keep_none s level (children (document f span ns)) (children (document f' span' ns')) c = nodes_keep_none s (level + 1) ns ns' c.2
+  children_keep_none s level no_children (children d) f = absurd f
+  children_keep_none s level (children (document f span ns)) no_children c = absurd c
 
-  pub nodes_unmarked : (s : Settings) (level : ℕ) (ns ns' : Nodes) → AreFormattedNodes s level ns ns' → NodesKeepNone ns'
-  nodes_unmarked s level none none f = tt
-  nodes_unmarked s level (first n ns) (first n' ns') f = (unmarked s level n n' f.0, nodes_unmarked s level ns ns' f.1)
-  nodes_unmarked s level none (first n' ns') f = absurd f
-  nodes_unmarked s level (first n ns) none f = absurd f
+  pub nodes_keep_none : (s : Settings) (level : ℕ) (ns ns' : Nodes) → AreFormattedNodes s level ns ns' → NodesKeepNone ns'
+  nodes_keep_none s level none none f = tt
+  nodes_keep_none s level (first n ns) (first n' ns') f = (node_keeps_none s level n n' f.0, nodes_keep_none s level ns ns' f.1)
+  nodes_keep_none s level none (first n' ns') f = absurd f
+  nodes_keep_none s level (first n ns) none f = absurd f
 
-pub document_unmarked : (s : Settings) (level : ℕ) (d d' : Document) → IsFormattedDocument s level d d' → DocumentKeepsNone d'
-document_unmarked s level (document f span ns) (document f' span' ns') d = nodes_unmarked s level ns ns' d.2
+pub document_keeps_none : (s : Settings) (level : ℕ) (d d' : Document) → IsFormattedDocument s level d d' → DocumentKeepsNone d'
+document_keeps_none s level (document f span ns) (document f' span' ns') d = nodes_keep_none s level ns ns' d.2
 
 -- what the function gives is what layout makes without comments
 empty_unless : (has : Has) (write : Writes) (b : Bool) → b ≡ true → WrittenUnless b has write []

@@ -12,7 +12,7 @@ use Rattle.kdl_entry.specs.Laid as laid
 use Rattle.kdl_entry.specs.Laid.{LaidIdentifier, LaidType, LaidKey, LaidItem}
 use Rattle.kdl_entry.specs.Places.{span_of}
 use Rattle.kdl_entry.specs.Tree.{Identifier, Entry, empty_format, autoformatted, entry_data}
-use Rattle.kdl_entry.proofs.Moving.EntryMoves.{marks}
+use Rattle.kdl_entry.proofs.Moving.EntryMoves.{punctuation_end}
 use Rattle.kdl_entry.proofs.Laying.ValueReadsBack.{printed_string, printed_value}
 use Rattle.kdl_grammar.specs.Laid.{LaidEntries, no_entry, an_entry}
 use Rattle.kdl_grammar.specs.Print.{print_piece, print_pieces}
@@ -41,14 +41,14 @@ module _ (whole : Text) where
   type_laid (Some i) r ok =
       rw (type_joined (spelled i.value) r) (
         Some (identifier_at i.value (41 ∷ r)),
-        laid.a_type (record { is = Star.none; text = refl }) (identifier_laid i.value (41 ∷ r) ok (marks 41 refl)) (record { is = Star.none; text = refl }) (record { is = Star.none; text = refl }),
+        laid.a_type (record { is = Star.none; text = refl }) (identifier_laid i.value (41 ∷ r) ok (punctuation_end 41 refl)) (record { is = Star.none; text = refl }) (record { is = Star.none; text = refl }),
       )
 
   key_laid : (o : Option Identifier) (r : Text) → AreScalars (name_of o) → (i : Option Identifier) × LaidKey true whole i [] [] (key_text o ++ r) r
   key_laid None r ok = (None, laid.no_key)
   key_laid (Some i) r ok =
       rw (key_joined (spelled i.value) r)
-      (Some (identifier_at i.value (61 ∷ r)), laid.a_key (identifier_laid i.value (61 ∷ r) ok (marks 61 refl)) (record { is = Star.none; text = refl }) (record { is = Star.none; text = refl }))
+      (Some (identifier_at i.value (61 ∷ r)), laid.a_key (identifier_laid i.value (61 ∷ r) ok (punctuation_end 61 refl)) (record { is = Star.none; text = refl }) (record { is = Star.none; text = refl }))
 
   -- an entry behind a text
   abbrev entry_at : Text → SourceSpan → Option Identifier → Option Identifier → Value → Entry
@@ -74,11 +74,11 @@ pub record EntriesLaid (whole s r : Text) (is : List Item) : Type 0 where
   pub items : EntriesItems entries is
   pub ends : ValueEnd true s
 
-module _ (s : Settings) (unmarked : s.entry_autoformate_keep ≡ false) (with : s.no_comments ≡ false) where
+module _ (s : Settings) (no_keep : s.entry_autoformate_keep ≡ false) (with : s.no_comments ≡ false) where
   piece_of : (e e' : Entry) → IsFormattedEntry s e e' → is_kept_format e.format ≡ false → {is : List Item} → ItemsIn (PlaceItems (before_entry false) (entry_leading e.format)) is → Piece e e' is
   piece_of e e' f h {is} i =
       let g : (t : Text) × KeptBefore s e.format t × (e' ≡ behind t (autoformatted e))
-      = subst (λ (b : Bool). (t : Text) × KeptBefore s (with_keep_if b e).format t × (e' ≡ behind t (autoformatted (with_keep_if b e)))) unmarked f in
+      = subst (λ (b : Bool). (t : Text) × KeptBefore s (with_keep_if b e).format t × (e' ≡ behind t (autoformatted (with_keep_if b e)))) no_keep f in
       let k : WrittenUnless s.no_comments (PlaceItems (before_entry false) (entry_leading e.format)) tail g.0
       = subst (λ (b : Bool). WrittenUnless (b || s.no_comments) (PlaceItems (before_entry false) (entry_leading e.format)) tail g.0) h g.1 in
       record {

@@ -1,4 +1,4 @@
--- What layout makes says the same, marks no entry, and prints the canonical text.
+-- What layout makes says the same, flags no entry, and prints the canonical text.
 use Rattle.std.proofs.Common.{◌≡◌, ℕ, ◌+◌, Bool, true, false, List, [], ◌∷◌, ◌++◌, map, refl, sym, ap, ◌∙◌, Option, Some, None, option_map, append_assoc, append-nil, if◌then◌else◌}
 use Rattle.kdl_text.specs.Chars.{Text}
 use Rattle.kdl_value.specs.Print.{print_value}
@@ -72,33 +72,33 @@ mutual
   nodes_bare s level none = refl
   nodes_bare s level (first n ns) = rw (node_bare s level n, nodes_bare s level ns) refl
 
--- no entry is marked any more
-pub kept_unmarked : (o : Option EntryFormat) → is_kept_format (autoformatted_format o) ≡ false
-kept_unmarked None = refl
-kept_unmarked (Some f) = go f.autoformat_keep
+-- no entry is flagged any more
+pub not_kept_again : (o : Option EntryFormat) → is_kept_format (autoformatted_format o) ≡ false
+not_kept_again None = refl
+not_kept_again (Some f) = go f.autoformat_keep
   where
     go : (b : Bool) → is_kept_format (if b then Some (kept f) else None) ≡ false
     go true = refl
     go false = refl
 
-entries_unmarked : (s : Settings) (es : List Entry) → EntriesKeepNone (map (formatted_entry s) es)
-entries_unmarked s [] = tt
-entries_unmarked s (e ∷ es) = (kept_unmarked (with_keep_if s.entry_autoformate_keep e).format, entries_unmarked s es)
+entries_keep_none : (s : Settings) (es : List Entry) → EntriesKeepNone (map (formatted_entry s) es)
+entries_keep_none s [] = tt
+entries_keep_none s (e ∷ es) = (not_kept_again (with_keep_if s.entry_autoformate_keep e).format, entries_keep_none s es)
 
 mutual
-  pub node_unmarked : (s : Settings) (level : ℕ) (n : Node) → NodeKeepsNone (formatted_node s level n)
-  node_unmarked s level (node h k) = (entries_unmarked s h.entries, children_unmarked s level k)
+  pub node_keeps_none : (s : Settings) (level : ℕ) (n : Node) → NodeKeepsNone (formatted_node s level n)
+  node_keeps_none s level (node h k) = (entries_keep_none s h.entries, children_keep_none s level k)
 
-  children_unmarked : (s : Settings) (level : ℕ) (k : Children) → ChildrenKeepNone (formatted_children s level k)
-  children_unmarked s level no_children = tt
-  children_unmarked s level (children (document f span ns)) = nodes_unmarked s (level + 1) ns
+  children_keep_none : (s : Settings) (level : ℕ) (k : Children) → ChildrenKeepNone (formatted_children s level k)
+  children_keep_none s level no_children = tt
+  children_keep_none s level (children (document f span ns)) = nodes_keep_none s (level + 1) ns
 
-  nodes_unmarked : (s : Settings) (level : ℕ) (ns : Nodes) → NodesKeepNone (formatted_nodes s level ns)
-  nodes_unmarked s level none = tt
-  nodes_unmarked s level (first n ns) = (node_unmarked s level n, nodes_unmarked s level ns)
+  nodes_keep_none : (s : Settings) (level : ℕ) (ns : Nodes) → NodesKeepNone (formatted_nodes s level ns)
+  nodes_keep_none s level none = tt
+  nodes_keep_none s level (first n ns) = (node_keeps_none s level n, nodes_keep_none s level ns)
 
-pub document_unmarked : (s : Settings) (level : ℕ) (d : Document) → DocumentKeepsNone (formatted_document s level d)
-document_unmarked s level (document f span ns) = nodes_unmarked s level ns
+pub document_keeps_none : (s : Settings) (level : ℕ) (d : Document) → DocumentKeepsNone (formatted_document s level d)
+document_keeps_none s level (document f span ns) = nodes_keep_none s level ns
 
 -- and where none was, the text is the canonical one
 lost : (o : Option EntryFormat) → is_kept_format o ≡ false → autoformatted_format o ≡ None

@@ -22,7 +22,7 @@ use Rattle.kdl_fmt.specs.Formatted.{or_empty, or_empty_document, newline_if_none
 use Rattle.kdl_fmt.specs.Kept.{last_place, without_bom}
 use Rattle.kdl_fmt.specs.WellFormed.{IsWellFormedNode, AreWellFormedChildren, AreWellFormed}
 use Rattle.kdl_fmt.specs.WithComments.{NodeTexts, KeepsTexts, line_of, content_of, ContentTexts, has_block, IsFormattedNode, IsFormattedChildren, AreFormattedNodes, IsFormattedDocument}
-use Rattle.kdl_fmt.proofs.Keeping.GapFronts.{Front, nothing, joined, alone, here, newline, newline_if, indented, kept_front, gap_unmarked}
+use Rattle.kdl_fmt.proofs.Keeping.GapFronts.{Front, nothing, joined, alone, here, newline, newline_if, indented, kept_front, gap_without_bom}
 use Rattle.kdl_fmt.proofs.Keeping.KeptItems.{KeptIn, kept_in, kept_end, kept_last}
 use Rattle.kdl_fmt.proofs.EntryTexts.{type_text}
 use Rattle.kdl_fmt.proofs.Formatting.LaidEntries.{identifier_at, identifier_laid, type_laid, entries_laid}
@@ -110,7 +110,7 @@ content_of_nodes whole _ r g {js = js} no_node NodesItems.no_node f = record {
   tree = document (Some (record { leading = g; trailing = [] })) (span_of whole r r) none;
   laid = without_nodes (here f r) refl;
   items = subst (λ (l : List Item). DocumentItems (document (Some (record { leading = g; trailing = [] })) (span_of whole r r) none) l) (append-nil (js ++ []) ∙ append-nil js)
-      (of_document (ItemsIn.items (subst (λ (t : Text). GapItems t js) (sym (gap_unmarked g (alone f))) (alone f))) NodesItems.no_node (ItemsIn.items GapItems.none));
+      (of_document (ItemsIn.items (subst (λ (t : Text). GapItems t js) (sym (gap_without_bom g (alone f))) (alone f))) NodesItems.no_node (ItemsIn.items GapItems.none));
 }
 content_of_nodes whole s r g (a_node {x = x} {xs = xs} l n e z ns) i f = record {
   tree = document (Some (record { leading = []; trailing = g })) (content_span (span_of whole r r) (first x xs)) (first x xs);
@@ -133,7 +133,7 @@ block_lists p a b c = simp (map-append, append_assoc, append-nil)
 content_lists : (a b c : List Item) → map on_line a ++ map on_line b ++ (map on_line c ++ []) ≡ map on_line (a ++ b ++ c)
 content_lists a b c = simp (map-append, append_assoc, append-nil)
 
-module _ (s : Settings) (ok : list_all is_space s.indent ≡ true) (unmarked : s.entry_autoformate_keep ≡ false) (with : s.no_comments ≡ false) (whole : Text) where
+module _ (s : Settings) (ok : list_all is_space s.indent ≡ true) (no_keep : s.entry_autoformate_keep ≡ false) (with : s.no_comments ≡ false) (whole : Text) where
   -- what is kept of the texts around nodes
   content_front : (level : ℕ) (f : DocumentFormat) (a b : Text) → ContentTexts s level f a b → {is : List Item} → ItemsIn (GapItems (without_bom f.leading)) is → Front a (map on_line is)
   content_front level f a b k i = kept_front s ok with level (without_bom f.leading) a k.leading i
@@ -217,7 +217,7 @@ module _ (s : Settings) (ok : list_all is_space s.indent ≡ true) (unmarked : s
         let end = t.comment ++ (10 ∷ []) in
         let lines = joined (kept_front s ok with level format.leading t.before kept.before ia) (indented s ok level) in
         let x = children_laid level depth h' format t k k' line c kept m.1 w.3 ic id r in
-        let y = entries_laid s unmarked with whole h.entries h'.entries f.entries m.0 w.2 ib tail x.ends in
+        let y = entries_laid s no_keep with whole h.entries h'.entries f.entries m.0 w.2 ib tail x.ends in
         let pieces = print_pieces h'.entries ++ tail in
         let named = identifier_at whole h.name.value pieces in
         let ty = type_laid whole h.ty (spelled h.name.value ++ pieces) w.0 in
@@ -285,15 +285,15 @@ module _ (s : Settings) (ok : list_all is_space s.indent ≡ true) (unmarked : s
 -- each item of the document is one of the laid text, as it stands on a line, in the same order
 pub comments_stay : (s : Settings) → list_all is_space s.indent ≡ true → s.entry_autoformate_keep ≡ false → s.no_comments ≡ false → (level depth : ℕ) → (d d' e : Document) → (is : List Item)
     → DocumentItems d is → IsFormattedDocument s level d d' → DocumentKeepsNone d → AreWellFormed (document_data d) → LaidDocument true e (print_document d' depth) → DocumentItems e (map on_line is)
-comments_stay s ok unmarked with level depth d d' e is i f m w laid =
+comments_stay s ok no_keep with level depth d d' e is i f m w laid =
     let t = print_document d' depth in
-    let x = document_content s ok unmarked with t level depth d d' is i f m w in
-    subst (λ (y : Document). DocumentItems y (map on_line is)) (one_laid_document t x.tree e (LaidDocument.unmarked x.laid) laid) x.items
+    let x = document_content s ok no_keep with t level depth d d' is i f m w in
+    subst (λ (y : Document). DocumentItems y (map on_line is)) (one_laid_document t x.tree e (LaidDocument.no_bom x.laid) laid) x.items
 
 -- the same for a node that is printed alone
 pub node_comments_stay : (s : Settings) → list_all is_space s.indent ≡ true → s.entry_autoformate_keep ≡ false → s.no_comments ≡ false → (level depth : ℕ) → (n n' : Node) → (e : Document) → (is : List Item)
     → NodeItems n is → IsFormattedNode s level n n' → NodeKeepsNone n → IsWellFormedNode (node_data n) → LaidDocument true e (print_node n' depth) → DocumentItems e (map on_line is)
-node_comments_stay s ok unmarked with level depth n n' e is i f m w laid =
+node_comments_stay s ok no_keep with level depth n n' e is i f m w laid =
     let t = print_node n' depth in
-    let x = node_content s ok unmarked with t level depth n n' is i f m w in
-    subst (λ (y : Document). DocumentItems y (map on_line is)) (one_laid_document t x.tree e (LaidDocument.unmarked x.laid) laid) x.items
+    let x = node_content s ok no_keep with t level depth n n' is i f m w in
+    subst (λ (y : Document). DocumentItems y (map on_line is)) (one_laid_document t x.tree e (LaidDocument.no_bom x.laid) laid) x.items

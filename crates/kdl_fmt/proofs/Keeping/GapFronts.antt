@@ -9,7 +9,7 @@ use Rattle.std.specs.Prelude.{zero, suc, if◌then◌else◌}
 use Rattle.kdl_text.specs.Chars.{Text, is_space, space as a_space}
 use Rattle.kdl_text.specs.Trivia.{LineSpace}
 use Rattle.kdl_entry.specs.Places.{Is}
-use Rattle.kdl_entry.specs.Internal.Tokens.{t_space, t_newline, t_mark}
+use Rattle.kdl_entry.specs.Internal.Tokens.{t_space, t_newline, t_bom}
 use Rattle.kdl_entry.proofs.Lexing.TokenUnique.{token_det}
 use Rattle.kdl_grammar.specs.Grammar.{Gap, no_gap}
 use Rattle.kdl_grammar.specs.Tree.{Nodes, first}
@@ -82,17 +82,17 @@ kept_front s ok with level place t k i =
     written (indentation s level) (level_spaces s.indent ok level) place t (subst (λ (b : Bool). WrittenUnless b (GapItems place) (lines (indentation s level)) t) with k) i
 
 -- U+FEFF begins no gap
-mark_line : (s : Text) {r : Text} → LineSpace (0xFEFF ∷ s) r → ⊥
-mark_line s (LineSpace.space n) = let e = (token_det (t_space n) t_mark).1 in cc
-mark_line s (LineSpace.«break» n) = let e = (token_det (t_newline n) t_mark).1 in cc
+bom_line : (s : Text) {r : Text} → LineSpace (0xFEFF ∷ s) r → ⊥
+bom_line s (LineSpace.space n) = let e = (token_det (t_space n) t_bom).1 in cc
+bom_line s (LineSpace.«break» n) = let e = (token_det (t_newline n) t_bom).1 in cc
 
-mark_gap : (s : Text) {is : List Item} → GapItems (0xFEFF ∷ s) is → ⊥
-mark_gap s {is} g = gap_none (λ e. cc) (λ r l. mark_line s l) (λ t e. cc) is g
+bom_gap : (s : Text) {is : List Item} → GapItems (0xFEFF ∷ s) is → ⊥
+bom_gap s {is} g = gap_none (λ e. cc) (λ r l. bom_line s l) (λ t e. cc) is g
 
-pub gap_unmarked : (t : Text) {is : List Item} → GapItems t is → without_bom t ≡ t
-gap_unmarked [] g = refl
-gap_unmarked (c ∷ s) {is} g = go (c == 0xFEFF) refl
+pub gap_without_bom : (t : Text) {is : List Item} → GapItems t is → without_bom t ≡ t
+gap_without_bom [] g = refl
+gap_without_bom (c ∷ s) {is} g = go (c == 0xFEFF) refl
   where
     go : (b : Bool) → (c == 0xFEFF) ≡ b → (if b then s else c ∷ s) ≡ c ∷ s
     go false e = refl
-    go true e = let h : c ≡ 0xFEFF = grind (arith, nat_tests) in absurd (mark_gap s (subst (λ (d : ℕ). GapItems (d ∷ s) is) h g))
+    go true e = let h : c ≡ 0xFEFF = grind (arith, nat_tests) in absurd (bom_gap s (subst (λ (d : ℕ). GapItems (d ∷ s) is) h g))

@@ -24,22 +24,22 @@ indent_spaces zero s h = refl
 indent_spaces (suc n) s h = list_all-append is_space s (repeat n s) ∙ rw (h, indent_spaces n s h) refl
 
 -- a gap begins with no U+FEFF
-space_unmarked : (c : ℕ) → is_space c ≡ true → (c == 0xFEFF) ≡ false
+space_no_bom : (c : ℕ) → is_space c ≡ true → (c == 0xFEFF) ≡ false
 unfolding is_space
-space_unmarked c h = grind (arith, nat_tests)
+space_no_bom c h = grind (arith, nat_tests)
 
-newline_unmarked : (c : ℕ) → is_newline_char c ≡ true → (c == 0xFEFF) ≡ false
+newline_no_bom : (c : ℕ) → is_newline_char c ≡ true → (c == 0xFEFF) ≡ false
 unfolding is_newline_char
-newline_unmarked c h = grind (arith, nat_tests)
+newline_no_bom c h = grind (arith, nat_tests)
 
 space_begins : {s r : Text} {is : List Item} → SpaceItems s r is → without_bom s ≡ s
-space_begins (SpaceItems.space (a_space {c = c} h)) = rw (space_unmarked c h) refl
+space_begins (SpaceItems.space (a_space {c = c} h)) = rw (space_no_bom c h) refl
 space_begins (SpaceItems.block (a_block b)) = refl
 space_begins (SpaceItems.escline d) = refl
 
 newline_begins : {s r : Text} → Newline s r → without_bom s ≡ s
 newline_begins crlf = refl
-newline_begins (one {c = c} h k) = rw (newline_unmarked c h) refl
+newline_begins (one {c = c} h k) = rw (newline_no_bom c h) refl
 
 line_begins : {s r : Text} → LineComment s r → without_bom s ≡ s
 line_begins (a_line l) = refl
@@ -52,11 +52,11 @@ line_space_begins (LineSpaceItems.line l) = line_begins l
 slashdash_begins : {s r : Text} → Slashdash s r → without_bom s ≡ s
 slashdash_begins (slashdash m) = refl
 
-gap_unmarked : {s : Text} {is : List Item} → GapItems s is → without_bom s ≡ s
-gap_unmarked GapItems.none = refl
-gap_unmarked (GapItems.space d g) = line_space_begins d
-gap_unmarked (GapItems.dropped_node m n e g) = slashdash_begins m
-gap_unmarked (last_node m n tight ss g) = slashdash_begins m
+gap_without_bom : {s : Text} {is : List Item} → GapItems s is → without_bom s ≡ s
+gap_without_bom GapItems.none = refl
+gap_without_bom (GapItems.space d g) = line_space_begins d
+gap_without_bom (GapItems.dropped_node m n e g) = slashdash_begins m
+gap_without_bom (last_node m n tight ss g) = slashdash_begins m
 
 -- LF, or nothing, is a gap without items
 newline_items : (r : Text) (is : List Item) → GapItems r is → GapItems (10 ∷ r) is
@@ -140,12 +140,12 @@ pub trailing_stays : (s : Settings) (level : ℕ) → list_all is_space s.indent
 trailing_stays s level ok p t u k m = kept_lines s level ok [] [] no_front GapItems.none p t u k (subst (λ (x : Text). KeptLines s level x u) (sym (append-nil t)) m)
 
 -- before the nodes of a document
-lines_unmarked : (s : Settings) (level : ℕ) → list_all is_space s.indent ≡ true → (p t : Text) → KeptLines s level p t → without_bom t ≡ t
-lines_unmarked s level ok p t k = go s.no_comments k
+lines_without_bom : (s : Settings) (level : ℕ) → list_all is_space s.indent ≡ true → (p t : Text) → KeptLines s level p t → without_bom t ≡ t
+lines_without_bom s level ok p t k = go s.no_comments k
   where
     written : (u : Text) → Written (GapItems p) (lines (indentation s level)) u → without_bom u ≡ u
     written u (items {is} d) =
-        subst (λ (x : Text). without_bom x ≡ x) (append-nil (lines (indentation s level) is)) (gap_unmarked (lines_again (indentation s level) (indent_spaces level s.indent ok) d GapItems.none))
+        subst (λ (x : Text). without_bom x ≡ x) (append-nil (lines (indentation s level) is)) (gap_without_bom (lines_again (indentation s level) (indent_spaces level s.indent ok) d GapItems.none))
     written u (Written.none f) = refl
 
     go : (b : Bool) → WrittenUnless b (GapItems p) (lines (indentation s level)) t → without_bom t ≡ t
@@ -154,7 +154,7 @@ lines_unmarked s level ok p t k = go s.no_comments k
 
 pub document_leading_stays : (s : Settings) (level : ℕ) → list_all is_space s.indent ≡ true → (p t u : Text) → KeptLines s level p t → KeptLines s level (without_bom t) u → u ≡ t
 document_leading_stays s level ok p t u k m =
-    trailing_stays s level ok p t u k (subst (λ (x : Text). KeptLines s level x u) (lines_unmarked s level ok p t k) m)
+    trailing_stays s level ok p t u k (subst (λ (x : Text). KeptLines s level x u) (lines_without_bom s level ok p t k) m)
 
 -- in braces, behind LF
 pub block_leading_stays : (s : Settings) (level : ℕ) → list_all is_space s.indent ≡ true → (p t u : Text) → KeptLines s level p t → KeptLines s level (10 ∷ t) u → u ≡ t

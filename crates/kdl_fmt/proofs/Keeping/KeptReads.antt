@@ -37,9 +37,9 @@ kept_empty true before t e = e
 kept_empty false before t e = subst (Written (GapItems []) (lines before)) (sym e) (Written.items {is = []} GapItems.none)
 
 -- of the text before an entry that keeps its form, and of one that has no format
-pub kept_marked : (s : Settings) (f : Option EntryFormat) (t : Text) → is_kept_format f ≡ true → t ≡ [] → KeptBefore s f t
-kept_marked s None t m e = absurd cc
-kept_marked s (Some f) t m e = rw m e
+pub kept_flagged : (s : Settings) (f : Option EntryFormat) (t : Text) → is_kept_format f ≡ true → t ≡ [] → KeptBefore s f t
+kept_flagged s None t m e = absurd cc
+kept_flagged s (Some f) t m e = rw m e
 
 no_place : (is : List Item) → PlaceItems (before_entry false) [] is → ⊥
 no_place is d = let h : false ≡ true = ((place_end (before_entry false) is).0 d).0 in absurd cc

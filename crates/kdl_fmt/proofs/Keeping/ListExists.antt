@@ -25,11 +25,11 @@ kept_end true h end space rest k = absurd cc
 kept_end false h end _ _ (WrittenEnd.comment l) = (comment (between end (line_end end)) ∷ [], EndItems.line_comment l)
 kept_end false h end _ _ (WrittenEnd.other f) = ([], EndItems.other f)
 
-module _ (s : Settings) (unmarked : s.entry_autoformate_keep ≡ false) (with : s.no_comments ≡ false) where
+module _ (s : Settings) (no_keep : s.entry_autoformate_keep ≡ false) (with : s.no_comments ≡ false) where
   entry_has : (e e' : Entry) → IsFormattedEntry s e e' → is_kept_format e.format ≡ false → (is : List Item) × ItemsIn (PlaceItems (before_entry false) (entry_leading e.format)) is
   entry_has e e' f h =
       let g : (t : Text) × KeptBefore s e.format t × (e' ≡ behind t (autoformatted e))
-      = subst (λ (b : Bool). (t : Text) × KeptBefore s (with_keep_if b e).format t × (e' ≡ behind t (autoformatted (with_keep_if b e)))) unmarked f in
+      = subst (λ (b : Bool). (t : Text) × KeptBefore s (with_keep_if b e).format t × (e' ≡ behind t (autoformatted (with_keep_if b e)))) no_keep f in
       kept_in s.no_comments with (PlaceItems (before_entry false) (entry_leading e.format)) tail g.0
       (subst (λ (b : Bool). WrittenUnless (b || s.no_comments) (PlaceItems (before_entry false) (entry_leading e.format)) tail g.0) h g.1)
 

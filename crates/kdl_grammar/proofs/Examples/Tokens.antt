@@ -2,14 +2,14 @@
 use Rattle.std.proofs.Common.{◌≡◌, ℕ, true, false, List, [], ◌∷◌, Option, Some, None, option_map, option_and_then, refl, sym, ap, subst, ◌∙◌}
 use Rattle.std.specs.Prelude.{pos}
 use Rattle.std.specs.Str.Parse.{digits_value}
-use Rattle.kdl_text.specs.Chars.{Text, starts, begins, begins_with, is_identifier_char, is_space, is_newline_char, is_banned, is_mark, is_sign}
+use Rattle.kdl_text.specs.Chars.{Text, starts, begins, begins_with, is_identifier_char, is_space, is_newline_char, is_banned, is_punctuation, is_sign}
 use Rattle.kdl_text.specs.Bare.{is_bare}
-use Rattle.kdl_text.specs.Numbers.{is_digit_of, is_part, base_prefix as base_marked, fits}
+use Rattle.kdl_text.specs.Numbers.{is_digit_of, is_part, base_prefix, fits}
 use Rattle.kdl_text.specs.Trivia.{NodeSpace, Break}
 use Rattle.kdl_entry.specs.Data as entry_data'
 use Rattle.kdl_value.specs.Data.{Value, text, integer, truth}
 use Rattle.kdl_entry.specs.Entries.{StringPiece, PlainPiece}
-use Rattle.kdl_entry.specs.Internal.Tokens.{Token, space, newline, slashdash, string, value, left, right, opening, closing, equals, semicolon, mark, BeginsToken, t_space, t_newline, t_slashdash, t_string, t_value, t_left, t_right, t_opening, t_closing, t_equals, t_semicolon, t_mark}
+use Rattle.kdl_entry.specs.Internal.Tokens.{Token, space, newline, slashdash, string, value, left, right, opening, closing, equals, semicolon, bom, BeginsToken, t_space, t_newline, t_slashdash, t_string, t_value, t_left, t_right, t_opening, t_closing, t_equals, t_semicolon, t_bom}
 use Rattle.kdl_entry.proofs.Lexing.TokenUnique.{token_det, no_token}
 use Rattle.kdl_entry.proofs.Lexing.StringUnique.{string_begins, plain_begins}
 use Rattle.kdl_grammar.proofs.Reading.NoToken.{here, then, faulty}
@@ -54,18 +54,18 @@ some_document (Some d) x e = (d, refl, cc)
 pub derived : {t : Text} {ks : List (Token × Text)} → Cut t ks → (x : Nodes) → option_map document_data (run t (initial t) t ks) ≡ Some x → IsDocument true t x
 derived {t = t} {ks = ks} l x e =
     let d = some_document (run t (initial t) t ks) x e in
-    subst (λ (z : Nodes). IsDocument true t z) d.2 (sound t d.0 (AnswersDocument.unmarked (runs_of l (initial t) d.0 d.1))).1
+    subst (λ (z : Nodes). IsDocument true t z) d.2 (sound t d.0 (AnswersDocument.no_bom (runs_of l (initial t) d.0 d.1))).1
 
 -- the same behind U+FEFF
-pub derived_marked : {t : Text} {ks : List (Token × Text)} → Cut t ks → (x : Nodes) → option_map document_data (run (0xFEFF ∷ t) (initial t) t ks) ≡ Some x → IsDocument true (0xFEFF ∷ t) x
-derived_marked {t = t} {ks = ks} l x e =
+pub derived_behind_bom : {t : Text} {ks : List (Token × Text)} → Cut t ks → (x : Nodes) → option_map document_data (run (0xFEFF ∷ t) (initial t) t ks) ≡ Some x → IsDocument true (0xFEFF ∷ t) x
+derived_behind_bom {t = t} {ks = ks} l x e =
     let d = some_document (run (0xFEFF ∷ t) (initial t) t ks) x e in
     let r = sound_runs (0xFEFF ∷ t) (runs_of l (initial t) d.0 d.1) in
-    IsDocument.marked (subst (λ (z : Nodes). Rattle.kdl_grammar.specs.Grammar.AreNodes true t [] z) d.2 r.1)
+    IsDocument.behind_bom (subst (λ (z : Nodes). Rattle.kdl_grammar.specs.Grammar.AreNodes true t [] z) d.2 r.1)
 
 pub refused_answer : {t : Text} {ks : List (Token × Text)} {d : Document} → Cut t ks → begins 0xFEFF t ≡ false → run t (initial t) t ks ≡ None → AnswersDocument t d → ⊥
-refused_answer l b e (AnswersDocument.unmarked a) = let x = of_runs l a in cc
-refused_answer l b e (AnswersDocument.marked a) = cc
+refused_answer l b e (AnswersDocument.no_bom a) = let x = of_runs l a in cc
+refused_answer l b e (AnswersDocument.behind_bom a) = cc
 
 -- where the machine refuses them, it is none
 pub refused : {t : Text} {ks : List (Token × Text)} → Cut t ks → begins 0xFEFF t ≡ false → run t (initial t) t ks ≡ None → (x : Nodes) → IsDocument true t x → ⊥
@@ -112,8 +112,8 @@ equals_sign l = next t_equals l
 pub semi : {r : Text} {ks : List (Token × Text)} → Cut r ks → Cut (59 ∷ r) ((semicolon, r) ∷ ks)
 semi l = next t_semicolon l
 
-pub bom : {r : Text} {ks : List (Token × Text)} → Cut r ks → Cut (0xFEFF ∷ r) ((mark, r) ∷ ks)
-bom l = next t_mark l
+pub a_bom : {r : Text} {ks : List (Token × Text)} → Cut r ks → Cut (0xFEFF ∷ r) ((bom, r) ∷ ks)
+a_bom l = next t_bom l
 
 pub empty : {r : Text} {ks : List (Token × Text)} → begins_with (34 ∷ 34 ∷ 34 ∷ []) (34 ∷ 34 ∷ r) ≡ false → Cut r ks → Cut (34 ∷ 34 ∷ r) ((string [], r) ∷ ks)
 empty e l = next (t_string (StringPiece.quoted (Rattle.kdl_text.specs.MultiLine.IsQuoted.on_one_line e (Rattle.kdl_text.specs.Strings.quoted (Rattle.kdl_text.specs.Strings.body Rattle.kdl_text.specs.Strings.AreUnits.none refl))))) l
@@ -124,7 +124,7 @@ keyword_true e l = next (t_value (PlainPiece.keyword {k = Rattle.kdl_text.specs.
 pub letter : (c : ℕ) {r : Text} {ks : List (Token × Text)} → is_bare (c ∷ []) ≡ true → starts is_identifier_char r ≡ false → Cut r ks → Cut (c ∷ r) ((string (c ∷ []), r) ∷ ks)
 letter c h e l = next (t_string (StringPiece.bare (Rattle.kdl_text.specs.Bare.bare refl h e))) l
 
-pub digit : (c : ℕ) {r : Text} {ks : List (Token × Text)} → is_sign c ≡ false → base_marked (c ∷ r) ≡ None → is_digit_of 10 c ≡ true → starts (is_part 10) r ≡ false → starts is_identifier_char r ≡ false
+pub digit : (c : ℕ) {r : Text} {ks : List (Token × Text)} → is_sign c ≡ false → base_prefix (c ∷ r) ≡ None → is_digit_of 10 c ≡ true → starts (is_part 10) r ≡ false → starts is_identifier_char r ≡ false
     → fits false (digits_value 10 (c ∷ [])) ≡ true → Cut r ks → Cut (c ∷ r) ((value (integer (pos (digits_value 10 (c ∷ [])))), r) ∷ ks)
 digit c a b d e f g l = next (t_value (PlainPiece.number (Rattle.kdl_text.specs.Numbers.is_whole (Rattle.kdl_text.specs.Numbers.whole (Rattle.kdl_text.specs.Numbers.Sign.none a) (Rattle.kdl_text.specs.Numbers.BasePrefix.ten b) (Rattle.kdl_text.specs.Numbers.integer d (Rattle.kdl_text.specs.Numbers.Digits.stop e)) f g refl)) refl)) l
 

@@ -15,7 +15,7 @@ use Rattle.kdl_grammar.specs.Grammar.{IsNode, named, AfterName, kept_entry, drop
 use Rattle.kdl_grammar.specs.Laid.{LaidEntries, no_entry, an_entry, LaidNode, laid_node, LaidChildren, no_block as laid_no_block, a_block, LaidNodes, no_node, a_node, LaidContent, without_nodes, with_nodes, LaidDocument, LaidNodeText, laid_node_text}
 use Rattle.kdl_grammar.specs.Places.{DroppedBlock, AfterChildren, after, BeforeChildren, before}
 use Rattle.kdl_grammar.specs.Tree.{Node, Children, Document, Nodes, node_data, children_data, document_data, nodes_data}
-use Rattle.kdl_grammar.proofs.Reading.Complete.{mark_data}
+use Rattle.kdl_grammar.proofs.Reading.Complete.{bom_data}
 
 -- dropped entries before what follows a name
 unfoldable pub dropped_first : {s t r : Text} {es : List entry_data'.Entry} {k : data'.Children} → Star DroppedEntry s t → AfterName true t r es k → AfterName true s r es k
@@ -65,8 +65,8 @@ module _ (exact : Bool) (whole : Text) where
     content_of (with_nodes ns g z) = nodes_of ns g.is
 
 pub document_of : (exact : Bool) (d : Document) (t : Text) → LaidDocument exact d t → IsDocument true t (document_data d)
-document_of exact d t (LaidDocument.unmarked c) = IsDocument.unmarked (content_of exact t c)
-document_of exact d' t (LaidDocument.marked {d = d} c) = subst (λ (z : data'.Nodes). IsDocument true t z) (sym (mark_data d)) (IsDocument.marked (content_of exact t c))
+document_of exact d t (LaidDocument.no_bom c) = IsDocument.no_bom (content_of exact t c)
+document_of exact d' t (LaidDocument.behind_bom {d = d} c) = subst (λ (z : data'.Nodes). IsDocument true t z) (sym (bom_data d)) (IsDocument.behind_bom (content_of exact t c))
 
 pub node_text_of : (exact : Bool) (x : Node) (t : Text) → LaidNodeText exact t x → IsNodeText true t (node_data x)
 node_text_of exact x t (laid_node_text g n e ls z) = node_text g.is (node_of exact t n) e.is ls.is

@@ -54,13 +54,13 @@ module _ (exact : Bool) (whole : Text) where
   content_printed (without_nodes g z) = g.text ∙ simp append-nil
   content_printed (with_nodes {x = x} {xs = xs} ns g z) = nodes_printed 0 ns ∙ ap (λ (y : Text). print_nodes (first x xs) 0 ++ y) g.text ∙ simp append-nil
 
-mark_printed : {exact : Bool} {whole : Text} {d : Document} {s r : Text} → LaidContent exact whole d s r → print_document (with_bom d) 0 ≡ 0xFEFF ∷ print_document d 0
-mark_printed (without_nodes g z) = refl
-mark_printed (with_nodes ns g z) = refl
+bom_printed : {exact : Bool} {whole : Text} {d : Document} {s r : Text} → LaidContent exact whole d s r → print_document (with_bom d) 0 ≡ 0xFEFF ∷ print_document d 0
+bom_printed (without_nodes g z) = refl
+bom_printed (with_nodes ns g z) = refl
 
 pub printed : (exact : Bool) (d : Document) (t : Text) → LaidDocument exact d t → print_document d 0 ≡ t
-printed exact d t (LaidDocument.unmarked c) = sym (content_printed exact t c)
-printed exact d t (LaidDocument.marked c) = mark_printed c ∙ ap (λ (x : Text). 0xFEFF ∷ x) (sym (content_printed exact t c))
+printed exact d t (LaidDocument.no_bom c) = sym (content_printed exact t c)
+printed exact d t (LaidDocument.behind_bom c) = bom_printed c ∙ ap (λ (x : Text). 0xFEFF ∷ x) (sym (content_printed exact t c))
 
 pub node_text_printed : (exact : Bool) (x : Node) (t : Text) → LaidNodeText exact t x → print_node x 0 ≡ t
 node_text_printed exact x t (laid_node_text {end = z} {trailing = w} g n e ls at) =

@@ -8,7 +8,7 @@ use Rattle.kdl_entry.specs.Places.{Is}
 use Rattle.kdl_entry.specs.Print.{print_entry}
 use Rattle.kdl_entry.specs.Laid.{LaidIdentifier, LaidType}
 use Rattle.kdl_entry.specs.Tree.{Entry, without_span}
-use Rattle.kdl_entry.proofs.Moving.EntryMoves.{move_identifier, move_laid_type, marks}
+use Rattle.kdl_entry.proofs.Moving.EntryMoves.{move_identifier, move_laid_type, punctuation_end}
 use Rattle.kdl_entry.proofs.Moving.Puts.{same, same_piece, is_move}
 use Rattle.kdl_entry.proofs.Laying.Respanned.{free_identifier, free_type, free_entry, same_identifier, same_type}
 use Rattle.kdl_entry.proofs.Laying.EntryStands.{CanStand, entry_end}
@@ -88,8 +88,8 @@ module _ (R : Head → Head → Type 0) (replaces : Replaces R) (exact : Bool) (
         let a = move_after l.is in
         let D = relaid_content d e (125 ∷ a.at.put u) refl in
         let m = move_before c.is in
-        let x = is_move_end m c (123 ∷ D.text) refl (marks 123 refl) in
-        record { text = m.at.put (123 ∷ D.text); laid = a_block x D.laid (is_move a l u h); end = before_end x.is (marks 123 refl) }
+        let x = is_move_end m c (123 ∷ D.text) refl (punctuation_end 123 refl) in
+        record { text = m.at.put (123 ∷ D.text); laid = a_block x D.laid (is_move a l u h); end = before_end x.is (punctuation_end 123 refl) }
 
     relaid_nodes : {ns ms : Nodes} {s r : Text} → LaidNodes exact whole ns s r → EachNodes R ns ms → (u : Text) → first_char u ≡ first_char r → Again (λ t. LaidNodes false other ms t u) s
     relaid_nodes no_node EachNodes.last u h = record { text = u; laid = no_node; begins = h }
@@ -137,25 +137,25 @@ LaidSomewhere : Document → Type 0
 LaidSomewhere d = (t : Text) × LaidDocument false d t
 
 module _ (R : Head → Head → Type 0) (replaces : Replaces R) where
-  unmarked_again : {exact : Bool} {whole s : Text} {d d' : Document} → LaidContent exact whole d s [] → EachDocument R d d' → LaidSomewhere d'
+  plain_again : {exact : Bool} {whole s : Text} {d d' : Document} → LaidContent exact whole d s [] → EachDocument R d d' → LaidSomewhere d'
   unfolding LaidSomewhere
-  unmarked_again {exact = exact} {whole = whole} c e =
+  plain_again {exact = exact} {whole = whole} c e =
       let A = relaid_content R replaces exact whole [] c e [] refl in
-      (A.text, LaidDocument.unmarked (free_content [] A.text A.laid))
+      (A.text, LaidDocument.no_bom (free_content [] A.text A.laid))
 
-  marked_again : {exact : Bool} {whole s : Text} {d d' : Document} → LaidContent exact whole d s [] → EachDocument R (with_bom d) d' → LaidSomewhere d'
+  bom_again : {exact : Bool} {whole s : Text} {d d' : Document} → LaidContent exact whole d s [] → EachDocument R (with_bom d) d' → LaidSomewhere d'
   unfolding LaidSomewhere
-  marked_again {exact = exact} {whole = whole} (without_nodes g z) (each_document {at' = at} EachNodes.last) =
+  bom_again {exact = exact} {whole = whole} (without_nodes g z) (each_document {at' = at} EachNodes.last) =
       let A = relaid_content R replaces exact whole [] (without_nodes g z) (each_document {at' = at} EachNodes.last) [] refl in
-      (0xFEFF ∷ A.text, LaidDocument.marked (free_content [] (0xFEFF ∷ A.text) A.laid))
-  marked_again {exact = exact} {whole = whole} (with_nodes ns g z) (each_document {at' = at} (EachNodes.next d ds)) =
+      (0xFEFF ∷ A.text, LaidDocument.behind_bom (free_content [] (0xFEFF ∷ A.text) A.laid))
+  bom_again {exact = exact} {whole = whole} (with_nodes ns g z) (each_document {at' = at} (EachNodes.next d ds)) =
       let A = relaid_content R replaces exact whole [] (with_nodes ns g z) (each_document {at' = at} (EachNodes.next d ds)) [] refl in
-      (0xFEFF ∷ A.text, LaidDocument.marked (free_content [] (0xFEFF ∷ A.text) A.laid))
+      (0xFEFF ∷ A.text, LaidDocument.behind_bom (free_content [] (0xFEFF ∷ A.text) A.laid))
 
   pub relaid : (exact : Bool) (t : Text) (d d' : Document) → LaidDocument exact d t → EachDocument R d d' → LaidDocument false d' (print_document d' 0)
   unfolding LaidSomewhere
   relaid exact t d d' l e = let A = go l e in subst (λ (u : Text). LaidDocument false d' u) (sym (printed false d' A.0 A.1)) A.1
     where
       go : {d : Document} {t : Text} → LaidDocument exact d t → EachDocument R d d' → LaidSomewhere d'
-      go (LaidDocument.unmarked c) e = unmarked_again c e
-      go (LaidDocument.marked c) e = marked_again c e
+      go (LaidDocument.no_bom c) e = plain_again c e
+      go (LaidDocument.behind_bom c) e = bom_again c e

@@ -65,8 +65,8 @@ module _ (w : Bool) where
     wide_block (braces ns) = braces (wide_nodes ns)
 
   pub wider : {t : Text} {x : Nodes} → IsDocument w t x → IsDocument true t x
-  wider (IsDocument.unmarked d) = IsDocument.unmarked (wide_nodes d)
-  wider (IsDocument.marked d) = IsDocument.marked (wide_nodes d)
+  wider (IsDocument.no_bom d) = IsDocument.no_bom (wide_nodes d)
+  wider (IsDocument.behind_bom d) = IsDocument.behind_bom (wide_nodes d)
 
   pub wider_node : {t : Text} {x : Node} → IsNodeText w t x → IsNodeText true t x
   wider_node (node_text g x e ls) = node_text (wide_gap g) (wide_node x) e ls

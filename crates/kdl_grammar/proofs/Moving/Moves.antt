@@ -8,7 +8,7 @@ use Rattle.kdl_entry.specs.Data.{Entry}
 use Rattle.kdl_entry.specs.Entries.{IsString, MaybeType, IsEntry}
 use Rattle.kdl_entry.specs.Places.{DroppedEntry, dropped as dropped_e}
 use Rattle.kdl_entry.proofs.Moving.StringMoves.{move_newline}
-use Rattle.kdl_entry.proofs.Moving.EntryMoves.{move_comment, move_spaces, move_plus, move_slashdash, move_line_space, move_string, move_maybe, move_entry, marks, spaces_end, spaces_dash}
+use Rattle.kdl_entry.proofs.Moving.EntryMoves.{move_comment, move_spaces, move_plus, move_slashdash, move_line_space, move_string, move_maybe, move_entry, punctuation_end, spaces_end, spaces_dash}
 use Rattle.kdl_entry.proofs.Moving.Puts.{Put, stands, also, joined, same, nothing, Move}
 use Rattle.kdl_grammar.specs.Data as data'
 use Rattle.kdl_grammar.specs.Data.{Node, Children, Nodes}
@@ -20,11 +20,11 @@ begun c [] e = cc
 begun c (d ∷ t) e = (t, cc)
 
 pub terminator_end : {r v : Text} → Terminator r v → ValueEnd true r
-terminator_end Terminator.semicolon = marks 59 refl
+terminator_end Terminator.semicolon = punctuation_end 59 refl
 terminator_end (Terminator.newline n) = ValueEnd.newline n
 terminator_end (Terminator.comment n) = break_ends (Break.comment n)
 terminator_end Terminator.at_end = ValueEnd.nothing
-terminator_end Terminator.at_close = marks 125 refl
+terminator_end Terminator.at_close = punctuation_end 125 refl
 
 closes_here : (u : Text) → first u ≡ Some 125 → Terminator u u
 closes_here u e = let t = begun 125 u e in subst (λ (z : Text). Terminator z z) (sym t.1) Terminator.at_close
@@ -50,7 +50,7 @@ data NodeEnds (x : Node) : Text → Text → Type 0 where
   ends : {s r v : Text} → IsNode true s r x → Terminator r v → NodeEnds x s v
 
 block_end : {s r : Text} {xs : Nodes} → Star NodeSpace s r → {v : Text} → IsBlock true r v xs → ValueEnd true s
-block_end ss (braces ns) = spaces_end ss (marks 123 refl)
+block_end ss (braces ns) = spaces_end ss (punctuation_end 123 refl)
 
 blocks_end : {b : Bool} {s v : Text} {k : Children} → BlocksEnd k b s v → ValueEnd true s
 blocks_end (BlocksEnd.ends (dropped_block ss m b d) e) = spaces_dash ss m

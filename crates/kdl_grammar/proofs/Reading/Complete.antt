@@ -23,7 +23,7 @@ use Rattle.kdl_grammar.specs.Laid.{LaidEntries, no_entry, an_entry, laid_node, L
 use Rattle.kdl_grammar.specs.Places.{DroppedBlock, AfterChildren, after as after_children, before as before_children}
 use Rattle.kdl_grammar.specs.Tree.{Node, node, Children, no_children, children, Document, document, Nodes, none, first, join, node_data, children_data, document_data, nodes_data}
 use Rattle.kdl_entry.specs.Internal.Items.{between, TypeParts, KeyParts, type_of, before_name, after_name, behind_type, key_identifier, identifier_at, entry_at}
-use Rattle.kdl_grammar.specs.Internal.Machine.{Under, Kept, Slot, no_name, for_name, no_value, for_value, Pending, pending, Spot, fresh, spaced, later, gap, marked, type_open, type_name, type_done, in_node, property, entry_mark, block_mark, kept, kept_mark, Frame, in_block, in_dropped, in_later, State, at, origin, moved, entry_slot, keyed, with_entry, filled, node_at, closed, closed_kept, ended, inside, content_at, spaced_of, mark_of, given, worded, typed, step, finish, initial, Runs, stops, reads, AnswersDocument}
+use Rattle.kdl_grammar.specs.Internal.Machine.{Under, Kept, Slot, no_name, for_name, no_value, for_value, Pending, pending, Spot, fresh, spaced, later, gap, node_slashdash, type_open, type_name, type_done, in_node, property, entry_slashdash, block_slashdash, kept, kept_slashdash, Frame, in_block, in_dropped, in_later, State, at, origin, moved, entry_slot, keyed, with_entry, filled, node_at, closed, closed_kept, ended, inside, content_at, spaced_of, slashdash_at, given, worded, typed, step, finish, initial, Runs, stops, reads, AnswersDocument}
 use Rattle.kdl_grammar.proofs.Moving.Ends.{end_terminator, end_gap, end_dropped_block}
 pub mod OneLaid
 
@@ -220,18 +220,18 @@ module _ (whole : Text) where
             (λ o. subst (λ (z : Text). Runs whole out (at (in_node (filled whole (keyed c k') X.type v p r) (fresh o)) l fs z) r) (moved_twice c k' from t r) (a o)))));
       }
 
-  read_mark : (out : Document) → {s t u : Text} (h : Option Under) (o : Option Pending) (l : Option Nodes) (fs : List Frame) (from : Text) → Star NodeSpace s t → Slashdash t u → Runs whole out (at (entry_mark h) l fs from) u → Runs whole out (at (in_node h (fresh o)) l fs from) s
-  read_mark out h o l fs from no_star (slashdash ls) a = reads t_slashdash refl (lines out (at (entry_mark h) l fs from) (λ s r. refl) (λ s r. refl) ls a)
-  read_mark out h o l fs from (more n m) (slashdash ls) a = reads (t_space n) refl (stay out (at (in_node h (spaced o)) l fs from) (λ s r. refl) m (reads t_slashdash refl (lines out (at (entry_mark h) l fs from) (λ s r. refl) (λ s r. refl) ls a)))
+  read_slashdash : (out : Document) → {s t u : Text} (h : Option Under) (o : Option Pending) (l : Option Nodes) (fs : List Frame) (from : Text) → Star NodeSpace s t → Slashdash t u → Runs whole out (at (entry_slashdash h) l fs from) u → Runs whole out (at (in_node h (fresh o)) l fs from) s
+  read_slashdash out h o l fs from no_star (slashdash ls) a = reads t_slashdash refl (lines out (at (entry_slashdash h) l fs from) (λ s r. refl) (λ s r. refl) ls a)
+  read_slashdash out h o l fs from (more n m) (slashdash ls) a = reads (t_space n) refl (stay out (at (in_node h (spaced o)) l fs from) (λ s r. refl) m (reads t_slashdash refl (lines out (at (entry_slashdash h) l fs from) (λ s r. refl) (λ s r. refl) ls a)))
 
   spaces_in : (out : Document) → {s t : Text} (h : Option Under) (l : Option Nodes) (fs : List Frame) (from : Text) → Star NodeSpace s t → (p : Spot) → ((q : Spot) → Runs whole out (at (in_node h q) l fs from) t) → Runs whole out (at (in_node h p) l fs from) s
   spaces_in out h l fs from no_star p f = f p
   spaces_in out h l fs from (more n m) p f = reads (t_space n) refl (spaces_in out h l fs from m (spaced_of p) f)
 
-  open_mark : (out : Document) → {s u : Text} (h : Option Under) (l : Option Nodes) (fs : List Frame) (from : Text) → Star LineSpace s (123 ∷ u) → Runs whole out (at gap None (in_dropped h l ∷ fs) from) u → (p : Spot) → Runs whole out (at (mark_of h p) l fs from) s
-  open_mark out h l fs from ls a (fresh o) = lines out (at (entry_mark h) l fs from) (λ s r. refl) (λ s r. refl) ls (reads t_opening refl a)
-  open_mark out h l fs from ls a (spaced o) = lines out (at (entry_mark h) l fs from) (λ s r. refl) (λ s r. refl) ls (reads t_opening refl a)
-  open_mark out h l fs from ls a later = lines out (at (block_mark h) l fs from) (λ s r. refl) (λ s r. refl) ls (reads t_opening refl a)
+  open_slashdash : (out : Document) → {s u : Text} (h : Option Under) (l : Option Nodes) (fs : List Frame) (from : Text) → Star LineSpace s (123 ∷ u) → Runs whole out (at gap None (in_dropped h l ∷ fs) from) u → (p : Spot) → Runs whole out (at (slashdash_at h p) l fs from) s
+  open_slashdash out h l fs from ls a (fresh o) = lines out (at (entry_slashdash h) l fs from) (λ s r. refl) (λ s r. refl) ls (reads t_opening refl a)
+  open_slashdash out h l fs from ls a (spaced o) = lines out (at (entry_slashdash h) l fs from) (λ s r. refl) (λ s r. refl) ls (reads t_opening refl a)
+  open_slashdash out h l fs from ls a later = lines out (at (block_slashdash h) l fs from) (λ s r. refl) (λ s r. refl) ls (reads t_opening refl a)
 
   -- a state in which the node may end here; `to` is the state behind the terminator
   record Ending (st : State) (s : Text) (to : Text → Text → State) : Type 0 where
@@ -357,8 +357,8 @@ module _ (whole : Text) where
     read_gap out (dropped_node {u = w} {v = v} (slashdash {r = t} ls) (named {u = u} y z d) e g) l fs from a =
         let X = read_filled {b = false} y (by_string z) in
         let Y = read_name d e u no_star in
-        reads t_slashdash refl (lines out (at marked l fs from) (λ s r. refl) (λ s r. refl) ls
-        (X.runs out (at marked l fs from) no_name l fs from (record { to_string = λ v r. (None, refl); to_value = λ e v r. cc; to_left = λ r. refl })
+        reads t_slashdash refl (lines out (at node_slashdash l fs from) (λ s r. refl) (λ s r. refl) ls
+        (X.runs out (at node_slashdash l fs from) no_name l fs from (record { to_string = λ v r. (None, refl); to_value = λ e v r. cc; to_left = λ r. refl })
         (Y.runs out None l fs from (subst (λ (x : Option Node). Runs whole out (at gap (ended x l) fs from) v) (sym (made_none Y.entries Y.tail w)) (read_gap out g l fs from a)))))
 
     read_name : {s r : Text} {es : List entry_data'.Entry} {k : data'.Children} → AfterName true s r es k → {v : Text} → Terminator r v → (p : Text) → Star DroppedEntry p s → ReadName p s r v es k
@@ -391,8 +391,8 @@ module _ (whole : Text) where
           laid_end = X.laid_end;
           same_entries = X.same_entries;
           same_tail = X.same_tail;
-          runs = λ out h l fs from a o. read_mark out h o l fs (origin h from p) ss m
-              (I.runs out (at (entry_mark h) l fs (origin h from p)) (no_value h) l fs (origin h from p) (λ v r. refl) (λ v r. refl) (λ r. refl)
+          runs = λ out h l fs from a o. read_slashdash out h o l fs (origin h from p) ss m
+              (I.runs out (at (entry_slashdash h) l fs (origin h from p)) (no_value h) l fs (origin h from p) (λ v r. refl) (λ v r. refl) (λ r. refl)
               (λ o'. subst (λ (st : State). Runs whole out st t) (after_dropped h I.key I.type I.val o' l fs (origin h from p) I.here t) (X.runs out h l fs from a o')));
         }
     read_name (AfterName.blocks d) e p ds =
@@ -418,7 +418,7 @@ module _ (whole : Text) where
           laid_tail = X.laid_tail;
           laid_end = X.laid_end;
           same_tail = X.same_tail;
-          runs = λ out h l fs from a q. spaces_in out h l fs (origin h from p) ss q (λ q'. reads t_slashdash refl (open_mark out h l fs (origin h from p) ls
+          runs = λ out h l fs from a q. spaces_in out h l fs (origin h from p) ss q (λ q'. reads t_slashdash refl (open_slashdash out h l fs (origin h from p) ls
               (N.runs out None (in_dropped h l ∷ fs) (origin h from p) (reads t_closing refl (X.runs out h l fs from a later))) q'));
         }
     read_blocks (block {u = u} ss (braces {s = t} ns') d) e p ds bs =
@@ -451,7 +451,7 @@ module _ (whole : Text) where
           end = X.end;
           laid_behind = X.laid_behind;
           laid_end = X.laid_end;
-          runs = λ out x l fs from a. stay out (at (kept x) l fs (origin x from p)) (λ s r. refl) ss (reads t_slashdash refl (lines out (at (kept_mark x) l fs (origin x from p)) (λ s r. refl) (λ s r. refl) ls (reads t_opening refl
+          runs = λ out x l fs from a. stay out (at (kept x) l fs (origin x from p)) (λ s r. refl) ss (reads t_slashdash refl (lines out (at (kept_slashdash x) l fs (origin x from p)) (λ s r. refl) (λ s r. refl) ls (reads t_opening refl
               (N.runs out None (in_later x l ∷ fs) (origin x from p) (reads t_closing refl (X.runs out x l fs from a))))));
         }
     read_later (no_more {r = r} ss) e p bs =
@@ -510,15 +510,15 @@ pub record Built (t : Text) (xs : data'.Nodes) : Type 0 where
   pub same : document_data tree ≡ xs
   pub answers : AnswersDocument t tree
 
-pub mark_data : (d : Document) → document_data (with_bom d) ≡ document_data d
-mark_data (document None z ns) = refl
-mark_data (document (Some f) z ns) = refl
+pub bom_data : (d : Document) → document_data (with_bom d) ≡ document_data d
+bom_data (document None z ns) = refl
+bom_data (document (Some f) z ns) = refl
 
 pub built : {t : Text} {xs : data'.Nodes} → IsDocument true t xs → Built t xs
-built (IsDocument.unmarked {t = t} d) = let p = placed t d in record { tree = p.tree; laid = LaidDocument.unmarked p.laid; same = p.same; answers = AnswersDocument.unmarked p.runs }
-built (IsDocument.marked {t = t} d) =
+built (IsDocument.no_bom {t = t} d) = let p = placed t d in record { tree = p.tree; laid = LaidDocument.no_bom p.laid; same = p.same; answers = AnswersDocument.no_bom p.runs }
+built (IsDocument.behind_bom {t = t} d) =
     let p = placed (0xFEFF ∷ t) d in
-    record { tree = with_bom p.tree; laid = LaidDocument.marked p.laid; same = mark_data p.tree ∙ p.same; answers = AnswersDocument.marked p.runs }
+    record { tree = with_bom p.tree; laid = LaidDocument.behind_bom p.laid; same = bom_data p.tree ∙ p.same; answers = AnswersDocument.behind_bom p.runs }
 
 -- a node that is the whole text
 pub record BuiltNode (t : Text) (x : data'.Node) : Type 0 where

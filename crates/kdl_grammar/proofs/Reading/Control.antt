@@ -11,16 +11,16 @@ pub data Spot : Type 0 where
 -- a type is for a name, or for a value
 pub data Phase : Type 0 where
   gap : Phase
-  marked : Phase
+  node_slashdash : Phase
   type_open : Bool → Phase
   type_name : Bool → Phase
   type_done : Bool → Phase
   in_node : Spot → Phase
   property : Phase
-  entry_mark : Phase
-  block_mark : Phase
+  entry_slashdash : Phase
+  block_slashdash : Phase
   kept : Phase
-  kept_mark : Phase
+  kept_slashdash : Phase
 
 -- the block of a node, a block that is slashdashed, or one that does so behind the node's block
 pub data Frame : Type 0 where
@@ -42,10 +42,10 @@ spaced_of (fresh b) = spaced b
 spaced_of (spaced b) = spaced b
 spaced_of later = later
 
-abbrev pub mark_of : Spot → Phase
-mark_of (fresh b) = entry_mark
-mark_of (spaced b) = entry_mark
-mark_of later = block_mark
+abbrev pub slashdash_at : Spot → Phase
+slashdash_at (fresh b) = entry_slashdash
+slashdash_at (spaced b) = entry_slashdash
+slashdash_at later = block_slashdash
 
 -- behind spaces
 abbrev pub from_spaced : Spot → Control → Option Control
@@ -66,14 +66,14 @@ for_value false c = None
 abbrev pub step : Control → Token → Option Control
 step (at gap fs) space = Some (at gap fs)
 step (at gap fs) newline = Some (at gap fs)
-step (at gap fs) slashdash = Some (at marked fs)
+step (at gap fs) slashdash = Some (at node_slashdash fs)
 step (at gap fs) (string v) = Some (at (in_node (fresh false)) fs)
 step (at gap fs) left = Some (at (type_open false) fs)
 step (at gap fs) closing = popped fs
-step (at marked fs) space = Some (at marked fs)
-step (at marked fs) newline = Some (at marked fs)
-step (at marked fs) (string v) = Some (at (in_node (fresh false)) fs)
-step (at marked fs) left = Some (at (type_open false) fs)
+step (at node_slashdash fs) space = Some (at node_slashdash fs)
+step (at node_slashdash fs) newline = Some (at node_slashdash fs)
+step (at node_slashdash fs) (string v) = Some (at (in_node (fresh false)) fs)
+step (at node_slashdash fs) left = Some (at (type_open false) fs)
 step (at (type_open b) fs) space = Some (at (type_open b) fs)
 step (at (type_open b) fs) (string v) = Some (at (type_name b) fs)
 step (at (type_name b) fs) space = Some (at (type_name b) fs)
@@ -90,28 +90,28 @@ step (at (in_node p) fs) newline = Some (at gap fs)
 step (at (in_node p) fs) semicolon = Some (at gap fs)
 step (at (in_node p) fs) closing = popped fs
 step (at (in_node p) fs) opening = Some (at gap (in_block ∷ fs))
-step (at (in_node p) fs) slashdash = Some (at (mark_of p) fs)
+step (at (in_node p) fs) slashdash = Some (at (slashdash_at p) fs)
 step (at (in_node p) fs) (string v) = from_spaced p (at (in_node (fresh true)) fs)
 step (at (in_node p) fs) (value v) = from_spaced p (at (in_node (fresh false)) fs)
 step (at (in_node p) fs) left = from_spaced p (at (type_open true) fs)
 step (at (in_node p) fs) equals = value_from p (at property fs)
-step (at entry_mark fs) space = Some (at entry_mark fs)
-step (at entry_mark fs) newline = Some (at entry_mark fs)
-step (at entry_mark fs) (string v) = Some (at (in_node (fresh true)) fs)
-step (at entry_mark fs) (value v) = Some (at (in_node (fresh false)) fs)
-step (at entry_mark fs) left = Some (at (type_open true) fs)
-step (at entry_mark fs) opening = Some (at gap (in_dropped ∷ fs))
-step (at block_mark fs) space = Some (at block_mark fs)
-step (at block_mark fs) newline = Some (at block_mark fs)
-step (at block_mark fs) opening = Some (at gap (in_dropped ∷ fs))
+step (at entry_slashdash fs) space = Some (at entry_slashdash fs)
+step (at entry_slashdash fs) newline = Some (at entry_slashdash fs)
+step (at entry_slashdash fs) (string v) = Some (at (in_node (fresh true)) fs)
+step (at entry_slashdash fs) (value v) = Some (at (in_node (fresh false)) fs)
+step (at entry_slashdash fs) left = Some (at (type_open true) fs)
+step (at entry_slashdash fs) opening = Some (at gap (in_dropped ∷ fs))
+step (at block_slashdash fs) space = Some (at block_slashdash fs)
+step (at block_slashdash fs) newline = Some (at block_slashdash fs)
+step (at block_slashdash fs) opening = Some (at gap (in_dropped ∷ fs))
 step (at kept fs) space = Some (at kept fs)
 step (at kept fs) newline = Some (at gap fs)
 step (at kept fs) semicolon = Some (at gap fs)
 step (at kept fs) closing = popped fs
-step (at kept fs) slashdash = Some (at kept_mark fs)
-step (at kept_mark fs) space = Some (at kept_mark fs)
-step (at kept_mark fs) newline = Some (at kept_mark fs)
-step (at kept_mark fs) opening = Some (at gap (in_later ∷ fs))
+step (at kept fs) slashdash = Some (at kept_slashdash fs)
+step (at kept_slashdash fs) space = Some (at kept_slashdash fs)
+step (at kept_slashdash fs) newline = Some (at kept_slashdash fs)
+step (at kept_slashdash fs) opening = Some (at gap (in_later ∷ fs))
 step _ _ = None
 
 abbrev pub finish : Control → Bool

@@ -1,15 +1,15 @@
 -- Without data and places the machine is the one that says which tokens may come; so what it answers is derived.
 use Rattle.std.proofs.Common.{◌≡◌, Bool, true, false, List, [], ◌∷◌, Option, Some, None, option_map, refl, sym, ap, subst, ◌∙◌}
 use Rattle.kdl_text.specs.Chars.{Text}
-use Rattle.kdl_entry.specs.Internal.Tokens.{Token, value, closing, mark, t_mark, Lexes, done, next}
+use Rattle.kdl_entry.specs.Internal.Tokens.{Token, value, closing, bom, t_bom, Lexes, done, next}
 use Rattle.kdl_entry.proofs.Lexing.TokenUnique.{token_det}
 use Rattle.kdl_grammar.specs.Data as data'
 use Rattle.kdl_grammar.specs.Grammar.{AreNodes, IsDocument}
 use Rattle.kdl_grammar.specs.Laid.{LaidDocument, LaidContent, with_bom}
 use Rattle.kdl_grammar.specs.Tree.{Document, Nodes, document_data}
-use Rattle.kdl_grammar.specs.Internal.Machine.{Pending, pending, Spot, fresh, spaced, later, Phase, gap, marked, type_open, type_name, type_done, in_node, property, entry_mark, block_mark, kept, kept_mark, Frame, in_block, in_dropped, in_later, State, at, popped, step, finish, initial, Runs, stops, reads, AnswersDocument}
+use Rattle.kdl_grammar.specs.Internal.Machine.{Pending, pending, Spot, fresh, spaced, later, Phase, gap, node_slashdash, type_open, type_name, type_done, in_node, property, entry_slashdash, block_slashdash, kept, kept_slashdash, Frame, in_block, in_dropped, in_later, State, at, popped, step, finish, initial, Runs, stops, reads, AnswersDocument}
 use Rattle.kdl_grammar.proofs.Reading.Control as c
-use Rattle.kdl_grammar.proofs.Reading.Complete.{runs_det, placed, built, mark_data}
+use Rattle.kdl_grammar.proofs.Reading.Complete.{runs_det, placed, built, bom_data}
 use Rattle.kdl_grammar.proofs.Reading.Sound.{derives}
 
 abbrev is_there : Option Pending → Bool
@@ -23,16 +23,16 @@ a_spot later = c.later
 
 abbrev a_phase : Phase → c.Phase
 a_phase gap = c.gap
-a_phase marked = c.marked
+a_phase node_slashdash = c.node_slashdash
 a_phase (type_open b s a) = c.type_open b
 a_phase (type_name b s q y a) = c.type_name b
 a_phase (type_done b s q y d a) = c.type_done b
 a_phase (in_node h p) = c.in_node (a_spot p)
 a_phase (property s k b a) = c.property
-a_phase (entry_mark h) = c.entry_mark
-a_phase (block_mark h) = c.block_mark
+a_phase (entry_slashdash h) = c.entry_slashdash
+a_phase (block_slashdash h) = c.block_slashdash
 a_phase (kept x) = c.kept
-a_phase (kept_mark x) = c.kept_mark
+a_phase (kept_slashdash x) = c.kept_slashdash
 
 abbrev a_frame : Frame → c.Frame
 a_frame (in_block h q l) = c.in_block
@@ -63,14 +63,14 @@ module _ (whole : Text) where
   erased (at (in_node h later) l fs f) closing s r = popped_is _ fs _ s r
   erased (at (type_done true c q y d a) l fs f) (value v) s r = refl
   erased (at (type_done false c q y d a) l fs f) (value v) s r = refl
-  erased (at marked l fs f) closing s r = refl
+  erased (at node_slashdash l fs f) closing s r = refl
   erased (at (type_open b c a) l fs f) closing s r = refl
   erased (at (type_name b c q y a) l fs f) closing s r = refl
   erased (at (type_done b c q y d a) l fs f) closing s r = refl
   erased (at (property c k b a) l fs f) closing s r = refl
-  erased (at (entry_mark h) l fs f) closing s r = refl
-  erased (at (block_mark h) l fs f) closing s r = refl
-  erased (at (kept_mark x) l fs f) closing s r = refl
+  erased (at (entry_slashdash h) l fs f) closing s r = refl
+  erased (at (block_slashdash h) l fs f) closing s r = refl
+  erased (at (kept_slashdash x) l fs f) closing s r = refl
   erased _ _ s r = refl
 
   finished : (st : State) (x : Document) → finish whole st ≡ Some x → c.finish (a_state st) ≡ true
@@ -103,22 +103,22 @@ module _ (whole : Text) where
   lexed_runs a = let b = accepted a in (b.tokens, b.lexed)
 
 -- U+FEFF ends what the machine reads from between nodes
-no_mark : {whole s : Text} {d : Document} {l : Option Nodes} {fs : List Frame} {from : Text} → Runs whole d (at gap l fs from) (0xFEFF ∷ s) → ⊥
-no_mark {whole = whole} {s = s} {l = l} {fs = fs} {from = from} (reads {r = r} t e a) =
-    let k = (token_det t t_mark).1 in
+no_bom_here : {whole s : Text} {d : Document} {l : Option Nodes} {fs : List Frame} {from : Text} → Runs whole d (at gap l fs from) (0xFEFF ∷ s) → ⊥
+no_bom_here {whole = whole} {s = s} {l = l} {fs = fs} {from = from} (reads {r = r} t e a) =
+    let k = (token_det t t_bom).1 in
     let f = ap (λ (j : Token). step whole (at gap l fs from) j (0xFEFF ∷ s) r) (sym k) ∙ e in
     cc
 
 -- the machine has one answer at most
 pub answers_det : {t : Text} {x y : Document} → AnswersDocument t x → AnswersDocument t y → x ≡ y
-answers_det (AnswersDocument.unmarked a) (AnswersDocument.unmarked b) = runs_det a b
-answers_det (AnswersDocument.marked a) (AnswersDocument.marked b) = ap with_bom (runs_det a b)
-answers_det (AnswersDocument.unmarked a) (AnswersDocument.marked b) = absurd (no_mark a)
-answers_det (AnswersDocument.marked a) (AnswersDocument.unmarked b) = absurd (no_mark b)
+answers_det (AnswersDocument.no_bom a) (AnswersDocument.no_bom b) = runs_det a b
+answers_det (AnswersDocument.behind_bom a) (AnswersDocument.behind_bom b) = ap with_bom (runs_det a b)
+answers_det (AnswersDocument.no_bom a) (AnswersDocument.behind_bom b) = absurd (no_bom_here a)
+answers_det (AnswersDocument.behind_bom a) (AnswersDocument.no_bom b) = absurd (no_bom_here b)
 
 pub sound : (t : Text) (d : Document) → AnswersDocument t d → LaidDocument true d t × IsDocument true t (document_data d)
-sound t d (AnswersDocument.unmarked a) = let p = sound_runs t a in (LaidDocument.unmarked p.0, IsDocument.unmarked p.1)
-sound t d' (AnswersDocument.marked {t = s} {d = d} a) = let p = sound_runs t a in (LaidDocument.marked p.0, subst (λ (z : data'.Nodes). IsDocument true t z) (sym (mark_data d)) (IsDocument.marked p.1))
+sound t d (AnswersDocument.no_bom a) = let p = sound_runs t a in (LaidDocument.no_bom p.0, IsDocument.no_bom p.1)
+sound t d' (AnswersDocument.behind_bom {t = s} {d = d} a) = let p = sound_runs t a in (LaidDocument.behind_bom p.0, subst (λ (z : data'.Nodes). IsDocument true t z) (sym (bom_data d)) (IsDocument.behind_bom p.1))
 
 pub answered : (t : Text) (x : data'.Nodes) → IsDocument true t x → (d : Document) × AnswersDocument t d × (document_data d ≡ x)
 answered t x i = let b = built i in (b.tree, b.answers, b.same)
@@ -132,5 +132,5 @@ pub lexed : (t : Text) (x : data'.Nodes) → IsDocument true t x → (ks : List 
 lexed t x i = go (built i).answers
   where
     go : {t : Text} {d : Document} → AnswersDocument t d → (ks : List Token) × Lexes t ks
-    go (AnswersDocument.unmarked {t = t} a) = lexed_runs t a
-    go (AnswersDocument.marked {t = s} a) = let b = lexed_runs (0xFEFF ∷ s) a in (mark ∷ b.0, next t_mark b.1)
+    go (AnswersDocument.no_bom {t = t} a) = lexed_runs t a
+    go (AnswersDocument.behind_bom {t = s} a) = let b = lexed_runs (0xFEFF ∷ s) a in (bom ∷ b.0, next t_bom b.1)

@@ -6,11 +6,11 @@ use Rattle.kdl_text.specs.Trivia.{NodeSpace, Break, newline as b_newline, commen
 use Rattle.kdl_value.specs.Data.{Value, text}
 use Rattle.kdl_entry.specs.Data.{Entry}
 use Rattle.kdl_entry.specs.Entries.{StringPiece, IsString, string as a_string', PlainPiece, IsPlainValue, a_string, a_plain, parens, untyped, typed, IsValue, value as a_value, IsEntry, property as a_property, argument}
-use Rattle.kdl_entry.specs.Internal.Tokens.{Token, string, value, left, mark, t_space, t_newline, t_slashdash, t_string, t_value, t_left, t_right, t_opening, t_closing, t_equals, t_semicolon, t_mark, Lexes, done, next}
+use Rattle.kdl_entry.specs.Internal.Tokens.{Token, string, value, left, bom, t_space, t_newline, t_slashdash, t_string, t_value, t_left, t_right, t_opening, t_closing, t_equals, t_semicolon, t_bom, Lexes, done, next}
 use Rattle.kdl_entry.proofs.Lexing.TokenUnique.{may_end, value_end}
 use Rattle.kdl_grammar.specs.Data.{Node, Children, Nodes}
 use Rattle.kdl_grammar.specs.Grammar.{Terminator, IsNode, named, AfterName, kept_entry, dropped_entry, blocks, Blocks, dropped_block, block, no_block, AfterBlock, dropped_later, no_more, no_gap, line_space, dropped_node, AreNodes, last_gap, node_then, IsBlock, braces}
-use Rattle.kdl_grammar.proofs.Reading.Control.{Spot, fresh, spaced, later, Phase, gap, marked, type_open, type_name, type_done, in_node, property, entry_mark, block_mark, kept, kept_mark, Frame, in_block, in_dropped, in_later, at, spaced_of, mark_of, popped, finish, held, accepts}
+use Rattle.kdl_grammar.proofs.Reading.Control.{Spot, fresh, spaced, later, Phase, gap, node_slashdash, type_open, type_name, type_done, in_node, property, entry_slashdash, block_slashdash, kept, kept_slashdash, Frame, in_block, in_dropped, in_later, at, spaced_of, slashdash_at, popped, finish, held, accepts}
 
 -- What is left of the text, by what is under way. `after` says it of the text behind the nodes.
 abbrev Left : Type 1
@@ -60,8 +60,8 @@ data KeyThen (after : Left) : Text → Type 0 where
 data BlockThen (after : Left) : Text → Type 0 where
   block_then : {s r : Text} {xs : Nodes} → IsBlock true s r xs → after r → BlockThen after s
 
-data MarkedThen (after : Left) : Text → Type 0 where
-  marked_then : {s t : Text} → Star LineSpace s t → after t → MarkedThen after s
+data SlashdashThen (after : Left) : Text → Type 0 where
+  slashdash_then : {s t : Text} → Star LineSpace s t → after t → SlashdashThen after s
 
 -- an entry or a block, to be dropped
 abbrev DropThen : Left → Left
@@ -84,16 +84,16 @@ AtSpot later after s = BlocksThen true after s
 
 abbrev RestOf : Phase → Left → Left
 RestOf gap after s = NodesThen after s
-RestOf marked after s = MarkedThen (NodeThen after) s
+RestOf node_slashdash after s = SlashdashThen (NodeThen after) s
 RestOf (type_open b) after s = TypeOpenThen b after s
 RestOf (type_name b) after s = TypeNameThen b after s
 RestOf (type_done b) after s = DoneThen b after s
 RestOf (in_node p) after s = AtSpot p after s
 RestOf property after s = ValueThen after s
-RestOf entry_mark after s = MarkedThen (DropThen after) s
-RestOf block_mark after s = MarkedThen (BlockThen (BlocksThen true after)) s
+RestOf entry_slashdash after s = SlashdashThen (DropThen after) s
+RestOf block_slashdash after s = SlashdashThen (BlockThen (BlocksThen true after)) s
 RestOf kept after s = LaterThen after s
-RestOf kept_mark after s = MarkedThen (BlockThen (LaterThen after)) s
+RestOf kept_slashdash after s = SlashdashThen (BlockThen (LaterThen after)) s
 
 abbrev Rest : Phase → List Frame → Left
 Rest p fs s = RestOf p (AfterNodes fs) s
@@ -103,7 +103,7 @@ fresh_end [] b fs e = refl
 fresh_end (string v ∷ ks) b fs e = cc
 fresh_end (value v ∷ ks) b fs e = cc
 fresh_end (left ∷ ks) b fs e = cc
-fresh_end (mark ∷ ks) b fs e = cc
+fresh_end (bom ∷ ks) b fs e = cc
 fresh_end (_ ∷ ks) b fs e = refl
 
 type_end : (ks : List Token) (b : Bool) (fs : List Frame) → accepts (at (type_name b) fs) ks ≡ true → may_end ks ≡ true
@@ -111,7 +111,7 @@ type_end [] b fs e = refl
 type_end (string v ∷ ks) b fs e = cc
 type_end (value v ∷ ks) b fs e = cc
 type_end (left ∷ ks) b fs e = cc
-type_end (mark ∷ ks) b fs e = cc
+type_end (bom ∷ ks) b fs e = cc
 type_end (_ ∷ ks) b fs e = refl
 
 any_value : {b : Bool} {s r : Text} → Fills b s r → (v : Value) × IsPlainValue true s r v
@@ -123,9 +123,9 @@ module _ (after : Left) where
   nodes_space n (nodes_then (last_gap g) f) = nodes_then (last_gap (line_space n g)) f
   nodes_space n (nodes_then (node_then g x e d) f) = nodes_then (node_then (line_space n g) x e d) f
 
-  nodes_marked : {s : Text} → MarkedThen (NodeThen after) s → NodesThen after (47 ∷ 45 ∷ s)
-  nodes_marked (marked_then ls (a_node_then x (end_then e (nodes_then (last_gap g) f)))) = nodes_then (last_gap (dropped_node (slashdash ls) x e g)) f
-  nodes_marked (marked_then ls (a_node_then x (end_then e (nodes_then (node_then g y e' d) f)))) = nodes_then (node_then (dropped_node (slashdash ls) x e g) y e' d) f
+  nodes_slashdash : {s : Text} → SlashdashThen (NodeThen after) s → NodesThen after (47 ∷ 45 ∷ s)
+  nodes_slashdash (slashdash_then ls (a_node_then x (end_then e (nodes_then (last_gap g) f)))) = nodes_then (last_gap (dropped_node (slashdash ls) x e g)) f
+  nodes_slashdash (slashdash_then ls (a_node_then x (end_then e (nodes_then (node_then g y e' d) f)))) = nodes_then (node_then (dropped_node (slashdash ls) x e g) y e' d) f
 
   nodes_node : {s : Text} → NodeThen after s → NodesThen after s
   nodes_node (a_node_then x (end_then e (nodes_then d f))) = nodes_then (node_then no_gap x e d) f
@@ -168,8 +168,8 @@ module _ (after : Left) where
   space_done : {b : Bool} {s r : Text} → NodeSpace s r → DoneThen b after r → DoneThen b after s
   space_done n (done_then ss v d) = done_then (more n ss) v d
 
-  space_marked : {s r : Text} → LineSpace s r → MarkedThen after r → MarkedThen after s
-  space_marked n (marked_then ls f) = marked_then (more n ls) f
+  space_slashdash : {s r : Text} → LineSpace s r → SlashdashThen after r → SlashdashThen after s
+  space_slashdash n (slashdash_then ls f) = slashdash_then (more n ls) f
 
   name_of_blocks : {s : Text} → BlocksThen false after s → NameThen after s
   name_of_blocks (blocks_then d e) = name_then (blocks d) e
@@ -208,20 +208,20 @@ module _ (after : Left) where
   space_later n (later_then (dropped_later ss m b d) e) = later_then (dropped_later (more n ss) m b d) e
   space_later n (later_then (no_more ss) e) = later_then (no_more (more n ss)) e
 
-  name_marked : {s : Text} → MarkedThen (DropThen after) s → NameThen after (47 ∷ 45 ∷ s)
-  name_marked (marked_then ls (inl (entry_then i (name_then d e)))) = name_then (dropped_entry no_star (slashdash ls) i d) e
-  name_marked (marked_then ls (inr (block_then b (blocks_then d e)))) = name_then (blocks (dropped_block no_star (slashdash ls) b d)) e
+  name_slashdash : {s : Text} → SlashdashThen (DropThen after) s → NameThen after (47 ∷ 45 ∷ s)
+  name_slashdash (slashdash_then ls (inl (entry_then i (name_then d e)))) = name_then (dropped_entry no_star (slashdash ls) i d) e
+  name_slashdash (slashdash_then ls (inr (block_then b (blocks_then d e)))) = name_then (blocks (dropped_block no_star (slashdash ls) b d)) e
 
-  blocks_marked : {s : Text} → MarkedThen (BlockThen (BlocksThen true after)) s → BlocksThen true after (47 ∷ 45 ∷ s)
-  blocks_marked (marked_then ls (block_then b (blocks_then d e))) = blocks_then (dropped_block no_star (slashdash ls) b d) e
+  blocks_slashdash : {s : Text} → SlashdashThen (BlockThen (BlocksThen true after)) s → BlocksThen true after (47 ∷ 45 ∷ s)
+  blocks_slashdash (slashdash_then ls (block_then b (blocks_then d e))) = blocks_then (dropped_block no_star (slashdash ls) b d) e
 
-  later_marked : {s : Text} → MarkedThen (BlockThen (LaterThen after)) s → LaterThen after (47 ∷ 45 ∷ s)
-  later_marked (marked_then ls (block_then b (later_then d e))) = later_then (dropped_later no_star (slashdash ls) b d) e
+  later_slashdash : {s : Text} → SlashdashThen (BlockThen (LaterThen after)) s → LaterThen after (47 ∷ 45 ∷ s)
+  later_slashdash (slashdash_then ls (block_then b (later_then d e))) = later_then (dropped_later no_star (slashdash ls) b d) e
 
-  mark_at : (s : Text) (p : Spot) → RestOf (mark_of p) after s → AtSpot p after (47 ∷ 45 ∷ s)
-  mark_at s (fresh b) m = inl (name_marked m)
-  mark_at s (spaced b) m = inl (inl (name_marked m))
-  mark_at s later m = blocks_marked m
+  bom_at : (s : Text) (p : Spot) → RestOf (slashdash_at p) after s → AtSpot p after (47 ∷ 45 ∷ s)
+  bom_at s (fresh b) m = inl (name_slashdash m)
+  bom_at s (spaced b) m = inl (inl (name_slashdash m))
+  bom_at s later m = blocks_slashdash m
 
   blocks_end : {s v : Text} → Terminator s v → NodesThen after v → (b : Bool) → BlocksThen b after s
   blocks_end e d b = blocks_then (no_block no_star) (end_then e d)
@@ -261,9 +261,9 @@ valued_by : {s r : Text} {v : Value} {ks : List Token} (fs : List Frame) → Pla
 valued_by {ks = ks} fs p l e = value_end l (fresh_end ks false fs e)
 
 -- U+FEFF comes nowhere
-no_mark : (p : Phase) (fs : List Frame) (ks : List Token) → accepts (at p fs) (mark ∷ ks) ≡ true → ⊥
-no_mark gap fs ks e = absurd cc
-no_mark _ fs ks e = absurd cc
+no_bom_here : (p : Phase) (fs : List Frame) (ks : List Token) → accepts (at p fs) (bom ∷ ks) ≡ true → ⊥
+no_bom_here gap fs ks e = absurd cc
+no_bom_here _ fs ks e = absurd cc
 
 sound : {s : Text} {ks : List Token} → Lexes s ks → (p : Phase) (fs : List Frame) → accepts (at p fs) ks ≡ true → Rest p fs s
 sound done gap [] e = end_nodes (AfterNodes []) refl
@@ -271,14 +271,14 @@ sound done (in_node p) fs e = ends p fs e
 sound done kept [] e = later_end (AfterNodes []) Terminator.at_end (end_nodes (AfterNodes []) refl)
 sound (next (t_space n) l) gap fs e = nodes_space (AfterNodes fs) (LineSpace.space n) (sound l gap fs e)
 sound (next (t_newline n) l) gap fs e = nodes_space (AfterNodes fs) (LineSpace.«break» n) (sound l gap fs e)
-sound (next t_slashdash l) gap fs e = nodes_marked (AfterNodes fs) (sound l marked fs e)
+sound (next t_slashdash l) gap fs e = nodes_slashdash (AfterNodes fs) (sound l node_slashdash fs e)
 sound (next (t_string w) l) gap fs e = nodes_node (AfterNodes fs) (node_of (AfterNodes fs) (named_by fs false w l e) (no_key (AfterNodes fs) (sound l (in_node (fresh false)) fs e)))
 sound (next t_left l) gap fs e = nodes_node (AfterNodes fs) (node_typed (AfterNodes fs) (sound l (type_open false) fs e))
 sound (next t_closing l) gap fs e = closes _ _ (λ p fs e. sound l p fs e) fs e
-sound (next (t_space n) l) marked fs e = space_marked (NodeThen (AfterNodes fs)) (LineSpace.space n) (sound l marked fs e)
-sound (next (t_newline n) l) marked fs e = space_marked (NodeThen (AfterNodes fs)) (LineSpace.«break» n) (sound l marked fs e)
-sound (next (t_string w) l) marked fs e = marked_then no_star (node_of (AfterNodes fs) (named_by fs false w l e) (no_key (AfterNodes fs) (sound l (in_node (fresh false)) fs e)))
-sound (next t_left l) marked fs e = marked_then no_star (node_typed (AfterNodes fs) (sound l (type_open false) fs e))
+sound (next (t_space n) l) node_slashdash fs e = space_slashdash (NodeThen (AfterNodes fs)) (LineSpace.space n) (sound l node_slashdash fs e)
+sound (next (t_newline n) l) node_slashdash fs e = space_slashdash (NodeThen (AfterNodes fs)) (LineSpace.«break» n) (sound l node_slashdash fs e)
+sound (next (t_string w) l) node_slashdash fs e = slashdash_then no_star (node_of (AfterNodes fs) (named_by fs false w l e) (no_key (AfterNodes fs) (sound l (in_node (fresh false)) fs e)))
+sound (next t_left l) node_slashdash fs e = slashdash_then no_star (node_typed (AfterNodes fs) (sound l (type_open false) fs e))
 sound (next (t_space n) l) (type_open b) fs e = space_open (AfterNodes fs) n (sound l (type_open b) fs e)
 sound (next {ks = ks} (t_string w) l) (type_open b) fs e = type_open_then no_star (a_string' w (value_end l (type_end ks b fs e))) (sound l (type_name b) fs e)
 sound (next (t_space n) l) (type_name b) fs e = space_type_name (AfterNodes fs) n (sound l (type_name b) fs e)
@@ -296,30 +296,30 @@ sound (next (t_newline n) l) (in_node p) fs e = lift (AfterNodes fs) p (blocks_e
 sound (next t_semicolon l) (in_node p) fs e = lift (AfterNodes fs) p (blocks_end (AfterNodes fs) Terminator.semicolon (sound l gap fs e))
 sound (next t_closing l) (in_node p) fs e = lift (AfterNodes fs) p (blocks_end (AfterNodes fs) Terminator.at_close (closes _ _ (λ p fs e. sound l p fs e) fs e))
 sound (next t_opening l) (in_node p) fs e = lift (AfterNodes fs) p (blocks_open (AfterNodes fs) (braced (AfterNodes fs) (sound l gap (in_block ∷ fs) e)))
-sound (next t_slashdash l) (in_node p) fs e = mark_at (AfterNodes fs) _ p (sound l (mark_of p) fs e)
+sound (next t_slashdash l) (in_node p) fs e = bom_at (AfterNodes fs) _ p (sound l (slashdash_at p) fs e)
 sound (next (t_string w) l) (in_node (spaced b)) fs e = inl (inr (entry_of (AfterNodes fs) (named_by fs true w l e) (sound l (in_node (fresh true)) fs e)))
 sound (next (t_value w) l) (in_node (spaced b)) fs e = inl (inr (entry_plain (AfterNodes fs) (a_plain w (valued_by fs w l e)) (no_key (AfterNodes fs) (sound l (in_node (fresh false)) fs e))))
 sound (next t_left l) (in_node (spaced b)) fs e = inl (inr (entry_typed (AfterNodes fs) (sound l (type_open true) fs e)))
 sound (next t_equals l) (in_node (fresh true)) fs e = inr (key_then no_star (sound l property fs e))
 sound (next t_equals l) (in_node (spaced true)) fs e = inr (key_then no_star (sound l property fs e))
-sound (next (t_space n) l) entry_mark fs e = space_marked (DropThen (AfterNodes fs)) (LineSpace.space n) (sound l entry_mark fs e)
-sound (next (t_newline n) l) entry_mark fs e = space_marked (DropThen (AfterNodes fs)) (LineSpace.«break» n) (sound l entry_mark fs e)
-sound (next (t_string w) l) entry_mark fs e = marked_then no_star (inl (entry_of (AfterNodes fs) (named_by fs true w l e) (sound l (in_node (fresh true)) fs e)))
-sound (next (t_value w) l) entry_mark fs e = marked_then no_star (inl (entry_plain (AfterNodes fs) (a_plain w (valued_by fs w l e)) (no_key (AfterNodes fs) (sound l (in_node (fresh false)) fs e))))
-sound (next t_left l) entry_mark fs e = marked_then no_star (inl (entry_typed (AfterNodes fs) (sound l (type_open true) fs e)))
-sound (next t_opening l) entry_mark fs e = marked_then no_star (inr (braced (AfterNodes fs) (sound l gap (in_dropped ∷ fs) e)))
-sound (next (t_space n) l) block_mark fs e = space_marked (BlockThen (BlocksThen true (AfterNodes fs))) (LineSpace.space n) (sound l block_mark fs e)
-sound (next (t_newline n) l) block_mark fs e = space_marked (BlockThen (BlocksThen true (AfterNodes fs))) (LineSpace.«break» n) (sound l block_mark fs e)
-sound (next t_opening l) block_mark fs e = marked_then no_star (braced (AfterNodes fs) (sound l gap (in_dropped ∷ fs) e))
+sound (next (t_space n) l) entry_slashdash fs e = space_slashdash (DropThen (AfterNodes fs)) (LineSpace.space n) (sound l entry_slashdash fs e)
+sound (next (t_newline n) l) entry_slashdash fs e = space_slashdash (DropThen (AfterNodes fs)) (LineSpace.«break» n) (sound l entry_slashdash fs e)
+sound (next (t_string w) l) entry_slashdash fs e = slashdash_then no_star (inl (entry_of (AfterNodes fs) (named_by fs true w l e) (sound l (in_node (fresh true)) fs e)))
+sound (next (t_value w) l) entry_slashdash fs e = slashdash_then no_star (inl (entry_plain (AfterNodes fs) (a_plain w (valued_by fs w l e)) (no_key (AfterNodes fs) (sound l (in_node (fresh false)) fs e))))
+sound (next t_left l) entry_slashdash fs e = slashdash_then no_star (inl (entry_typed (AfterNodes fs) (sound l (type_open true) fs e)))
+sound (next t_opening l) entry_slashdash fs e = slashdash_then no_star (inr (braced (AfterNodes fs) (sound l gap (in_dropped ∷ fs) e)))
+sound (next (t_space n) l) block_slashdash fs e = space_slashdash (BlockThen (BlocksThen true (AfterNodes fs))) (LineSpace.space n) (sound l block_slashdash fs e)
+sound (next (t_newline n) l) block_slashdash fs e = space_slashdash (BlockThen (BlocksThen true (AfterNodes fs))) (LineSpace.«break» n) (sound l block_slashdash fs e)
+sound (next t_opening l) block_slashdash fs e = slashdash_then no_star (braced (AfterNodes fs) (sound l gap (in_dropped ∷ fs) e))
 sound (next (t_space n) l) kept fs e = space_later (AfterNodes fs) n (sound l kept fs e)
 sound (next (t_newline n) l) kept fs e = later_end (AfterNodes fs) (terminator n) (sound l gap fs e)
 sound (next t_semicolon l) kept fs e = later_end (AfterNodes fs) Terminator.semicolon (sound l gap fs e)
 sound (next t_closing l) kept fs e = later_end (AfterNodes fs) Terminator.at_close (closes _ _ (λ p fs e. sound l p fs e) fs e)
-sound (next t_slashdash l) kept fs e = later_marked (AfterNodes fs) (sound l kept_mark fs e)
-sound (next (t_space n) l) kept_mark fs e = space_marked (BlockThen (LaterThen (AfterNodes fs))) (LineSpace.space n) (sound l kept_mark fs e)
-sound (next (t_newline n) l) kept_mark fs e = space_marked (BlockThen (LaterThen (AfterNodes fs))) (LineSpace.«break» n) (sound l kept_mark fs e)
-sound (next t_opening l) kept_mark fs e = marked_then no_star (braced (AfterNodes fs) (sound l gap (in_later ∷ fs) e))
-sound (next {ks = ks} t_mark l) p fs e = absurd (no_mark p fs ks e)
+sound (next t_slashdash l) kept fs e = later_slashdash (AfterNodes fs) (sound l kept_slashdash fs e)
+sound (next (t_space n) l) kept_slashdash fs e = space_slashdash (BlockThen (LaterThen (AfterNodes fs))) (LineSpace.space n) (sound l kept_slashdash fs e)
+sound (next (t_newline n) l) kept_slashdash fs e = space_slashdash (BlockThen (LaterThen (AfterNodes fs))) (LineSpace.«break» n) (sound l kept_slashdash fs e)
+sound (next t_opening l) kept_slashdash fs e = slashdash_then no_star (braced (AfterNodes fs) (sound l gap (in_later ∷ fs) e))
+sound (next {ks = ks} t_bom l) p fs e = absurd (no_bom_here p fs ks e)
 sound l p fs e = absurd cc
 
 -- a text that is cut into tokens which the machine accepts is derived

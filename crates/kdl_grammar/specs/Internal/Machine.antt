@@ -45,16 +45,16 @@ pub data Spot : Type 0 where
 -- a type is for a name, or for a value
 pub data Phase : Type 0 where
   gap : Phase
-  marked : Phase
+  node_slashdash : Phase
   type_open : Bool → Slot → Text → Phase
   type_name : Bool → Slot → Text → Identifier → Text → Phase
   type_done : Bool → Slot → Text → Identifier → Text → Text → Phase
   in_node : Option Under → Spot → Phase
   property : Slot → Identifier → Text → Text → Phase
-  entry_mark : Option Under → Phase
-  block_mark : Option Under → Phase
+  entry_slashdash : Option Under → Phase
+  block_slashdash : Option Under → Phase
   kept : Option Kept → Phase
-  kept_mark : Option Kept → Phase
+  kept_slashdash : Option Kept → Phase
 
 -- an open block: of the node under way, or one that is slashdashed before or behind the node's own; with the nodes around it
 pub data Frame : Type 0 where
@@ -161,10 +161,10 @@ spaced_of (spaced o) = spaced o
 spaced_of later = later
 
 -- behind `/-` at that spot: an entry or a block may follow, behind a block that is slashdashed a block alone
-abbrev pub mark_of : Option Under → Spot → Phase
-mark_of u (fresh o) = entry_mark u
-mark_of u (spaced o) = entry_mark u
-mark_of u later = block_mark u
+abbrev pub slashdash_at : Option Under → Spot → Phase
+slashdash_at u (fresh o) = entry_slashdash u
+slashdash_at u (spaced o) = entry_slashdash u
+slashdash_at u later = block_slashdash u
 
 -- an entry stands behind spaces alone
 abbrev pub from_spaced : Spot → State → Option State
@@ -203,14 +203,14 @@ typed before i after a s = Some (record { name = i; before = before; after = aft
 abbrev pub step : Text → State → Token → Text → Text → Option State
 step whole (at gap l fs from) space s r = Some (at gap l fs from)
 step whole (at gap l fs from) newline s r = Some (at gap l fs from)
-step whole (at gap l fs from) slashdash s r = Some (at marked l fs from)
+step whole (at gap l fs from) slashdash s r = Some (at node_slashdash l fs from)
 step whole (at gap l fs from) (string v) s r = Some (given whole (name_slot l (between from s) s) None (text v) None l fs from s r)
 step whole (at gap l fs from) left s r = Some (at (type_open false (name_slot l (between from s) s) r) l fs from)
 step whole (at gap l fs from) closing s r = popped whole l fs from s r
-step whole (at marked l fs from) space s r = Some (at marked l fs from)
-step whole (at marked l fs from) newline s r = Some (at marked l fs from)
-step whole (at marked l fs from) (string v) s r = Some (given whole no_name None (text v) None l fs from s r)
-step whole (at marked l fs from) left s r = Some (at (type_open false no_name r) l fs from)
+step whole (at node_slashdash l fs from) space s r = Some (at node_slashdash l fs from)
+step whole (at node_slashdash l fs from) newline s r = Some (at node_slashdash l fs from)
+step whole (at node_slashdash l fs from) (string v) s r = Some (given whole no_name None (text v) None l fs from s r)
+step whole (at node_slashdash l fs from) left s r = Some (at (type_open false no_name r) l fs from)
 step whole (at (type_open b c a) l fs from) space s r = Some (at (type_open b c a) l fs from)
 step whole (at (type_open b c a) l fs from) (string v) s r = Some (at (type_name b c (between a s) (identifier_at whole v s r) r) l fs from)
 step whole (at (type_name b c q i a) l fs from) space s r = Some (at (type_name b c q i a) l fs from)
@@ -227,28 +227,28 @@ step whole (at (in_node u p) l fs from) newline s r = Some (at gap (ended (close
 step whole (at (in_node u p) l fs from) semicolon s r = Some (at gap (ended (closed whole u no_children [] (between from s) (between s r) s) l) fs (origin u from r))
 step whole (at (in_node u p) l fs from) closing s r = popped whole (ended (closed whole u no_children [] (between from s) [] s) l) fs (origin u from s) s r
 step whole (at (in_node u p) l fs from) opening s r = Some (at gap (inside u) (in_block u (between from s) l ∷ fs) (origin u from r))
-step whole (at (in_node u p) l fs from) slashdash s r = Some (at (mark_of u p) l fs from)
+step whole (at (in_node u p) l fs from) slashdash s r = Some (at (slashdash_at u p) l fs from)
 step whole (at (in_node u p) l fs from) (string v) s r = from_spaced p (worded whole (entry_slot u (between from s) s) v l fs from s r)
 step whole (at (in_node u p) l fs from) (value v) s r = from_spaced p (given whole (entry_slot u (between from s) s) None v None l fs from s r)
 step whole (at (in_node u p) l fs from) left s r = from_spaced p (at (type_open true (entry_slot u (between from s) s) r) l fs from)
 step whole (at (in_node u p) l fs from) equals s r = stay l fs from (value_from p s r)
-step whole (at (entry_mark u) l fs from) space s r = Some (at (entry_mark u) l fs from)
-step whole (at (entry_mark u) l fs from) newline s r = Some (at (entry_mark u) l fs from)
-step whole (at (entry_mark u) l fs from) (string v) s r = Some (worded whole (no_value u) v l fs from s r)
-step whole (at (entry_mark u) l fs from) (value v) s r = Some (given whole (no_value u) None v None l fs from s r)
-step whole (at (entry_mark u) l fs from) left s r = Some (at (type_open true (no_value u) r) l fs from)
-step whole (at (entry_mark u) l fs from) opening s r = Some (at gap None (in_dropped u l ∷ fs) from)
-step whole (at (block_mark u) l fs from) space s r = Some (at (block_mark u) l fs from)
-step whole (at (block_mark u) l fs from) newline s r = Some (at (block_mark u) l fs from)
-step whole (at (block_mark u) l fs from) opening s r = Some (at gap None (in_dropped u l ∷ fs) from)
+step whole (at (entry_slashdash u) l fs from) space s r = Some (at (entry_slashdash u) l fs from)
+step whole (at (entry_slashdash u) l fs from) newline s r = Some (at (entry_slashdash u) l fs from)
+step whole (at (entry_slashdash u) l fs from) (string v) s r = Some (worded whole (no_value u) v l fs from s r)
+step whole (at (entry_slashdash u) l fs from) (value v) s r = Some (given whole (no_value u) None v None l fs from s r)
+step whole (at (entry_slashdash u) l fs from) left s r = Some (at (type_open true (no_value u) r) l fs from)
+step whole (at (entry_slashdash u) l fs from) opening s r = Some (at gap None (in_dropped u l ∷ fs) from)
+step whole (at (block_slashdash u) l fs from) space s r = Some (at (block_slashdash u) l fs from)
+step whole (at (block_slashdash u) l fs from) newline s r = Some (at (block_slashdash u) l fs from)
+step whole (at (block_slashdash u) l fs from) opening s r = Some (at gap None (in_dropped u l ∷ fs) from)
 step whole (at (kept x) l fs from) space s r = Some (at (kept x) l fs from)
 step whole (at (kept x) l fs from) newline s r = Some (at gap (ended (closed_kept whole x (between from s) (between s r) s) l) fs (origin x from r))
 step whole (at (kept x) l fs from) semicolon s r = Some (at gap (ended (closed_kept whole x (between from s) (between s r) s) l) fs (origin x from r))
 step whole (at (kept x) l fs from) closing s r = popped whole (ended (closed_kept whole x (between from s) [] s) l) fs (origin x from s) s r
-step whole (at (kept x) l fs from) slashdash s r = Some (at (kept_mark x) l fs from)
-step whole (at (kept_mark x) l fs from) space s r = Some (at (kept_mark x) l fs from)
-step whole (at (kept_mark x) l fs from) newline s r = Some (at (kept_mark x) l fs from)
-step whole (at (kept_mark x) l fs from) opening s r = Some (at gap None (in_later x l ∷ fs) from)
+step whole (at (kept x) l fs from) slashdash s r = Some (at (kept_slashdash x) l fs from)
+step whole (at (kept_slashdash x) l fs from) space s r = Some (at (kept_slashdash x) l fs from)
+step whole (at (kept_slashdash x) l fs from) newline s r = Some (at (kept_slashdash x) l fs from)
+step whole (at (kept_slashdash x) l fs from) opening s r = Some (at gap None (in_later x l ∷ fs) from)
 step _ _ _ _ _ = None
 
 -- the document where the text ends: no block may be open
@@ -275,5 +275,5 @@ pub data Runs (whole : Text) (d : Document) : State → Text → Type 0 where
 
 -- the machine's answer on a text: where U+FEFF begins it, the rest is read
 pub data AnswersDocument : Text → Document → Type 0 where
-  unmarked : {t : Text} {d : Document} → Runs t d (initial t) t → AnswersDocument t d
-  marked : {t : Text} {d : Document} → Runs (0xFEFF ∷ t) d (initial t) t → AnswersDocument (0xFEFF ∷ t) (with_bom d)
+  no_bom : {t : Text} {d : Document} → Runs t d (initial t) t → AnswersDocument t d
+  behind_bom : {t : Text} {d : Document} → Runs (0xFEFF ∷ t) d (initial t) t → AnswersDocument (0xFEFF ∷ t) (with_bom d)

@@ -11,7 +11,7 @@ use Rattle.kdl_entry.specs.Internal.Tokens.{Token, newline, semicolon, BeginsTok
 use Rattle.kdl_entry.proofs.Lexing.TokenUnique.{token_det, no_token}
 use Rattle.kdl_grammar.specs.Data.{Node, Nodes}
 use Rattle.kdl_grammar.specs.Grammar.{Terminator, IsNode, named, no_gap, line_space, dropped_node, AreNodes, last_gap, node_then}
-use Rattle.kdl_grammar.proofs.Reading.Control.{gap, marked, Control, at, step, finish, held, accepts}
+use Rattle.kdl_grammar.proofs.Reading.Control.{gap, node_slashdash, Control, at, step, finish, held, accepts}
 use Rattle.kdl_grammar.proofs.Reading.Sound.{derives}
 use Rattle.kdl_items.specs.Items.{Item, piece, EsclineItems, SpaceItems, LineSpaceItems, ItemEnd, EndsTight, GapItems}
 use Rattle.kdl_items.specs.Internal.Passing.{moved, is_gap, NodeEnd, returned, ended, NodePasses, returns, ends, goes}
@@ -116,7 +116,7 @@ ended_accepted (ends g e) = ([], done, e)
 ended_accepted (goes t e g p) = one_more t e (ended_accepted p)
 
 -- over a node with its terminator the machine passes
-pub passes_node : {t t' u v e : Text} {x : Node} → Star LineSpace t t' → IsNode true t' u x → ItemEnd u v e → (k : Token) × NodePasses (at marked []) t t (returned k u v)
+pub passes_node : {t t' u v e : Text} {x : Node} → Star LineSpace t t' → IsNode true t' u x → ItemEnd u v e → (k : Token) × NodePasses (at node_slashdash []) t t (returned k u v)
 passes_node {t = t} ls x (ItemEnd.semicolon {r = r}) =
     let e = returned semicolon (59 ∷ r) r in
     (semicolon, drop_node (λ c last s. NodePasses c last s e) (λ c d last s r k t f g o w p. goes t f g p) ls x (over_node e) (λ c w q x' ws. returns t_semicolon (tail_semicolon q)) t)
@@ -128,7 +128,7 @@ passes_node {t = t} {u = u} {v = v} ls x (ItemEnd.line n) =
 abbrev pub PassesLast : Text → Text → Node → Control → Text → Text → Type 0
 PassesLast t u x c last s = (w : Text) × IsNode true t w x × Star NodeSpace w u × NodePasses c last s (ended w)
 
-pub passes_last : {t t' u : Text} {x : Node} → Star LineSpace t t' → IsNode true t' u x → Star NodeSpace u [] → PassesLast t' u x (at marked []) t t
+pub passes_last : {t t' u : Text} {x : Node} → Star LineSpace t t' → IsNode true t' u x → Star NodeSpace u [] → PassesLast t' u x (at node_slashdash []) t t
 passes_last {t = t} {t' = t'} {u = u} {x = y} ls x ss =
     let here : Here (PassesLast t' u y) [] = λ p d last s r k t e g p'. (p'.0, p'.1, p'.2, goes t e g p'.3) in
     drop_node (PassesLast t' u y) (λ c d last s r k t e g o w p. (p.0, p.1, p.2, goes t e g p.3)) ls x here
@@ -177,7 +177,7 @@ item_end_det ItemEnd.semicolon (ItemEnd.line n) = let e = (token_det (t_newline 
 item_end_det (ItemEnd.line n) ItemEnd.semicolon = let e = (token_det (t_newline n) t_semicolon).1 in cc
 item_end_det (ItemEnd.line n) (ItemEnd.line m) = refl
 
-module _ {t u v e : Text} {k : Token} (p : NodePasses (at marked []) t t (returned k u v)) (i : ItemEnd u v e) where
+module _ {t u v e : Text} {k : Token} (p : NodePasses (at node_slashdash []) t t (returned k u v)) (i : ItemEnd u v e) where
   returned_on : {is : List Item} → DroppedItems t is → (js : List Item) × (is ≡ piece (between (47 ∷ 45 ∷ t) e) ∷ js) × GapItems v js
   returned_on (with_end {u = u'} {v = v'} {e = e'} {is = js} ls x j g) =
       let q = passes_node ls x j in
@@ -202,14 +202,14 @@ module _ {t u v e : Text} {k : Token} (p : NodePasses (at marked []) t t (return
           by_end (inr z) = let q = passes_last ls (subst (λ (z : Text). IsNode true t' z y) z x) no_star in let d = passes_det q.3 p in cc
 
 -- a node that the machine passes over to its terminator is dropped: the items are this piece, and those behind the terminator
-pub node_returned : {t u v e : Text} {k : Token} → NodePasses (at marked []) t t (returned k u v) → ItemEnd u v e → (is : List Item) → GapItems (47 ∷ 45 ∷ t) is ↔ ((js : List Item) × (is ≡ piece (between (47 ∷ 45 ∷ t) e) ∷ js) × GapItems v js)
+pub node_returned : {t u v e : Text} {k : Token} → NodePasses (at node_slashdash []) t t (returned k u v) → ItemEnd u v e → (is : List Item) → GapItems (47 ∷ 45 ∷ t) is ↔ ((js : List Item) × (is ≡ piece (between (47 ∷ 45 ∷ t) e) ∷ js) × GapItems v js)
 node_returned {t = t} p i is = (λ g. returned_on p i (dash_items g), λ w. subst (λ (z : List Item). GapItems (47 ∷ 45 ∷ t) z) (sym w.1) (returned_back p i w.2))
 
 -- node-spaces leave no more than they begin
 spaces_length : {s r : Text} → Star NodeSpace s r → length r ≤ length s
 spaces_length ss = end_length (star_end (λ u v. node_space_end) ss)
 
-module _ {t w : Text} (p : NodePasses (at marked []) t t (ended w)) where
+module _ {t w : Text} (p : NodePasses (at node_slashdash []) t t (ended w)) where
   ended_tight : {t' : Text} → Star LineSpace t t' → Star NodeSpace w [] → EndsTight t' w
   ended_tight ls ws w' x y (plus n m) =
       let q = passes_last ls y (join (more n m) ws) in
@@ -245,11 +245,11 @@ module _ {t w : Text} (p : NodePasses (at marked []) t t (ended w)) where
               GapItems.last_node (slashdash ls) (subst (λ (z : Text). IsNode true t' z y) a q.1) (ended_tight ls ws) ws g
 
 -- so is one that it passes over to the end of the text: the items are this piece, and those of the node-spaces behind it
-pub node_ended : {t w : Text} → NodePasses (at marked []) t t (ended w) → (is : List Item) → GapItems (47 ∷ 45 ∷ t) is ↔ ((js : List Item) × (is ≡ piece (between (47 ∷ 45 ∷ t) w) ∷ js) × GapItems w js)
+pub node_ended : {t w : Text} → NodePasses (at node_slashdash []) t t (ended w) → (is : List Item) → GapItems (47 ∷ 45 ∷ t) is ↔ ((js : List Item) × (is ≡ piece (between (47 ∷ 45 ∷ t) w) ∷ js) × GapItems w js)
 node_ended {t = t} p is = (λ g. ended_on p (dash_items g), λ x. subst (λ (z : List Item). GapItems (47 ∷ 45 ∷ t) z) (sym x.1) (ended_back p x.2))
 
 -- where it passes over no node, the text is no gap
-pub node_refused : {t : Text} → ((e : NodeEnd) → NodePasses (at marked []) t t e → ⊥) → (is : List Item) → GapItems (47 ∷ 45 ∷ t) is → ⊥
+pub node_refused : {t : Text} → ((e : NodeEnd) → NodePasses (at node_slashdash []) t t e → ⊥) → (is : List Item) → GapItems (47 ∷ 45 ∷ t) is → ⊥
 node_refused {t = t} refused is g = go (dash_items g)
   where
     go : {is : List Item} → DroppedItems t is → ⊥

@@ -1,6 +1,6 @@
 -- What a slashdash drops in a place of a node: the machine's passing over it says what it is, and where it ends.
 use Rattle.std.proofs.Common.{◌≡◌, ◌↔◌, Bool, true, false, ◌&&◌, not, List, [], ◌∷◌, Option, Some, refl, sym, ap, subst, ◌∙◌}
-use Rattle.kdl_text.specs.Chars.{Text, is_identifier_char, is_space, is_newline_char, is_banned, is_mark, starts, Star, Plus, plus}
+use Rattle.kdl_text.specs.Chars.{Text, is_identifier_char, is_space, is_newline_char, is_banned, is_punctuation, starts, Star, Plus, plus}
 use Rattle.kdl_text.specs.Chars.Star.{none as no_star, more}
 use Rattle.kdl_text.specs.Bare.{is_bare}
 use Rattle.kdl_text.specs.Bare.BareString.{bare as a_bare}
@@ -13,17 +13,17 @@ use Rattle.kdl_value.specs.Data.{Value}
 use Rattle.kdl_entry.specs.Data.{Entry}
 use Rattle.kdl_entry.specs.Entries.{StringPiece, IsString, string as a_string', a_string, a_plain, parens, untyped, typed, MaybeType, IsValue, value as a_value, IsEntry, property as a_property, argument}
 use Rattle.kdl_entry.specs.Internal.Items.{between}
-use Rattle.kdl_entry.specs.Internal.Tokens.{Token, slashdash, string, BeginsToken, t_space, t_newline, t_slashdash, t_string, t_value, t_left, t_right, t_opening, t_closing, t_equals, t_semicolon, t_mark, Lexes, done, next}
+use Rattle.kdl_entry.specs.Internal.Tokens.{Token, slashdash, string, BeginsToken, t_space, t_newline, t_slashdash, t_string, t_value, t_left, t_right, t_opening, t_closing, t_equals, t_semicolon, t_bom, Lexes, done, next}
 use Rattle.kdl_entry.specs.Internal.Tokens as token'
 use Rattle.kdl_entry.proofs.Lexing.TokenUnique.{token_det, no_token}
 use Rattle.kdl_grammar.specs.Data.{Children, Nodes}
 use Rattle.kdl_grammar.specs.Grammar.{Terminator, named, AfterName, kept_entry, dropped_entry, blocks, Blocks, dropped_block, block, no_block, Gap, no_gap, dropped_node, AreNodes, last_gap, node_then, IsBlock, braces}
 use Rattle.kdl_grammar.specs.Grammar.Gap.{line_space as gap_space}
-use Rattle.kdl_grammar.proofs.Reading.Control.{Control, at, Spot, fresh, spaced, later, Phase, gap, marked, type_open, type_name, type_done, in_node, property, entry_mark, block_mark, kept, kept_mark, Frame, in_dropped, spaced_of, mark_of, step, held, accepts}
+use Rattle.kdl_grammar.proofs.Reading.Control.{Control, at, Spot, fresh, spaced, later, Phase, gap, node_slashdash, type_open, type_name, type_done, in_node, property, entry_slashdash, block_slashdash, kept, kept_slashdash, Frame, in_dropped, spaced_of, slashdash_at, step, held, accepts}
 use Rattle.kdl_grammar.proofs.Reading.Sound.{derives}
 use Rattle.kdl_items.specs.Items as items
 use Rattle.kdl_items.specs.Items.{Item, piece, Place, before_entry, before_block, behind_block, takes_entries, takes_blocks, PlaceItems}
-use Rattle.kdl_items.specs.Internal.Passing.{moved, is_over, is_block, is_word, follows_word, PartPasses, over, word_ends, word_over, goes, mark_phase, mark_in}
+use Rattle.kdl_items.specs.Internal.Passing.{moved, is_over, is_block, is_word, follows_word, PartPasses, over, word_ends, word_over, goes, slashdash_phase, slashdash_in}
 use Rattle.kdl_items.proofs.Dropping.Paths.{Back, over_part, drop_entry, drop_block}
 use Rattle.kdl_items.proofs.Listing.SpaceItems.{space_of}
 use Rattle.kdl_items.proofs.Dropping.NoEquals.{passes_det, Quiet, ends, token, name_quiet, place_quiet}
@@ -44,10 +44,10 @@ value_passes q true = word_passes q
 value_passes q false = over refl
 
 -- the machine passes over an entry, and over a block
-pub entry_passes : {s t u : Text} {e : Entry} → Star LineSpace s t → IsEntry true t u e → Quiet u → (last : Text) → PartPasses (at entry_mark []) last s false u
+pub entry_passes : {s t u : Text} {e : Entry} → Star LineSpace s t → IsEntry true t u e → Quiet u → (last : Text) → PartPasses (at entry_slashdash []) last s false u
 entry_passes {u = u} ls i q last = drop_entry (λ c last s. PartPasses c last s false u) (over_part false u) ls i (value_passes q) last
 
-pub block_passes : {s t u : Text} {xs : Nodes} → Star LineSpace s t → IsBlock true t u xs → (b : Bool) (last : Text) → PartPasses (at (mark_phase b) []) last s true u
+pub block_passes : {s t u : Text} {xs : Nodes} → Star LineSpace s t → IsBlock true t u xs → (b : Bool) (last : Text) → PartPasses (at (slashdash_phase b) []) last s true u
 block_passes {u = u} ls i b last = drop_block (λ c last s. PartPasses c last s true u) (over_part true u) ls i (over refl) b last
 
 -- the tokens of a text are accepted
@@ -63,10 +63,10 @@ accepted_back c d last s r k t e g o w x = token_first t e x
 text_ends : (q : Spot) → Accepted (at (in_node q) []) []
 text_ends q = accepted done refl
 
-entry_accepted : {s t u : Text} {e : Entry} → Star LineSpace s t → IsEntry true t u e → ((b : Bool) → Accepted (at (in_node (fresh b)) []) u) → Accepted (at entry_mark []) s
+entry_accepted : {s t u : Text} {e : Entry} → Star LineSpace s t → IsEntry true t u e → ((b : Bool) → Accepted (at (in_node (fresh b)) []) u) → Accepted (at entry_slashdash []) s
 entry_accepted {s = s} ls i f = drop_entry (λ c last s. Accepted c s) accepted_back ls i f s
 
-block_accepted : {s t u : Text} {xs : Nodes} → Star LineSpace s t → IsBlock true t u xs → Accepted (at (in_node later) []) u → (b : Bool) → Accepted (at (mark_phase b) []) s
+block_accepted : {s t u : Text} {xs : Nodes} → Star LineSpace s t → IsBlock true t u xs → Accepted (at (in_node later) []) u → (b : Bool) → Accepted (at (slashdash_phase b) []) s
 block_accepted {s = s} ls i a b = drop_block (λ c last s. Accepted c s) accepted_back ls i a b s
 
 -- where the machine may be in a place: behind a dropped block entries come no more
@@ -94,25 +94,25 @@ fits_part (before_entry c) b = refl
 fits_part before_block b = refl
 fits_part behind_block b = refl
 
-mark_entry : (p : Place) (q : Spot) → takes_entries p ≡ true → fits p q ≡ true → entry_mark ≡ mark_of q
-mark_entry p (fresh b) x y = refl
-mark_entry p (spaced b) x y = refl
-mark_entry (before_entry c) later x y = absurd cc
-mark_entry before_block later x y = absurd cc
-mark_entry behind_block later x y = absurd cc
+slashdash_entry : (p : Place) (q : Spot) → takes_entries p ≡ true → fits p q ≡ true → entry_slashdash ≡ slashdash_at q
+slashdash_entry p (fresh b) x y = refl
+slashdash_entry p (spaced b) x y = refl
+slashdash_entry (before_entry c) later x y = absurd cc
+slashdash_entry before_block later x y = absurd cc
+slashdash_entry behind_block later x y = absurd cc
 
-mark_block : (q : Spot) {s : Text} → ((b : Bool) → Accepted (at (mark_phase b) []) s) → Accepted (at (mark_of q) []) s
-mark_block (fresh b) f = f true
-mark_block (spaced b) f = f true
-mark_block later f = f false
+slashdash_block : (q : Spot) {s : Text} → ((b : Bool) → Accepted (at (slashdash_phase b) []) s) → Accepted (at (slashdash_at q) []) s
+slashdash_block (fresh b) f = f true
+slashdash_block (spaced b) f = f true
+slashdash_block later f = f false
 
 -- what stands in a place is accepted
 place_accepted : {p : Place} {s : Text} {is : List Item} → PlaceItems p s is → (q : Spot) → fits p q ≡ true → Accepted (at (in_node q) []) s
 place_accepted (PlaceItems.ends e) q h = text_ends q
 place_accepted {p = p} (PlaceItems.space d g) q h = token_first (t_space (space_of d)) refl (place_accepted g (spaced_of q) (fits_spaced p q h))
 place_accepted {p = p} (PlaceItems.dropped_entry e (a_slashdash {s = s} ls) i g) q h =
-    token_first t_slashdash refl (subst (λ (m : Phase). Accepted (at m []) s) (mark_entry p q e h) (entry_accepted ls i (λ b. place_accepted g (fresh b) (fits_fresh p b))))
-place_accepted (PlaceItems.dropped_block e (a_slashdash ls) b g) q h = token_first t_slashdash refl (mark_block q (λ c. block_accepted ls b (place_accepted g later refl) c))
+    token_first t_slashdash refl (subst (λ (m : Phase). Accepted (at m []) s) (slashdash_entry p q e h) (entry_accepted ls i (λ b. place_accepted g (fresh b) (fits_fresh p b))))
+place_accepted (PlaceItems.dropped_block e (a_slashdash ls) b g) q h = token_first t_slashdash refl (slashdash_block q (λ c. block_accepted ls b (place_accepted g later refl) c))
 
 -- where the last token that is no node-space ended, and which spaces stand behind it
 data Behind : Control → Text → Text → Type 0 where
@@ -155,15 +155,15 @@ space_behind (at (in_node (spaced false)) []) d x o n e = to_other e refl refl
 space_behind (at (in_node later) []) d x o n e = absurd cc
 space_behind (at (in_node q) (f ∷ fs)) d x o n e = let i = inside (in_node (spaced_of q)) f fs in to_other e i.0 i.1
 space_behind (at gap fs) d x o n e = to_other e refl refl
-space_behind (at marked fs) d x o n e = to_other e refl refl
+space_behind (at node_slashdash fs) d x o n e = to_other e refl refl
 space_behind (at (type_open b) fs) d x o n e = to_other e refl refl
 space_behind (at (type_name b) fs) d x o n e = to_other e refl refl
 space_behind (at (type_done b) fs) d x o n e = to_other e refl refl
 space_behind (at property fs) d x o n e = to_other e refl refl
-space_behind (at entry_mark fs) d x o n e = to_other e refl refl
-space_behind (at block_mark fs) d x o n e = to_other e refl refl
+space_behind (at entry_slashdash fs) d x o n e = to_other e refl refl
+space_behind (at block_slashdash fs) d x o n e = to_other e refl refl
 space_behind (at kept fs) d x o n e = to_other e refl refl
-space_behind (at kept_mark fs) d x o n e = to_other e refl refl
+space_behind (at kept_slashdash fs) d x o n e = to_other e refl refl
 
 token_behind : {c d : Control} {last s r : Text} {k : Token} → Behind c last s → is_over c ≡ false → BeginsToken s k r → step c k ≡ Some d → Behind d (moved k last r) r
 token_behind {c = c} {d = d} x o (t_space n) e = space_behind c d x o n e
@@ -177,7 +177,7 @@ token_behind x o t_opening e = directly
 token_behind x o t_closing e = directly
 token_behind x o t_equals e = directly
 token_behind x o t_semicolon e = directly
-token_behind x o t_mark e = directly
+token_behind x o t_bom e = directly
 
 -- behind a token, what is accepted goes on
 token_off : {c d : Control} {s r : Text} {k : Token} → BeginsToken s k r → step c k ≡ Some d → Accepted c s → Accepted d r
@@ -280,11 +280,11 @@ part_dropped b (blocks d) e = some_block (blocks_dropped b d e)
 
 -- before `/-` a name may stand
 slash_char : (s : Text) → starts is_identifier_char (47 ∷ s) ≡ false
-unfolding is_identifier_char is_space is_newline_char is_banned is_mark
+unfolding is_identifier_char is_space is_newline_char is_banned is_punctuation
 slash_char s = refl
 
 bare_a : is_bare (97 ∷ []) ≡ true
-unfolding is_bare is_identifier_char is_space is_newline_char is_banned is_mark
+unfolding is_bare is_identifier_char is_space is_newline_char is_banned is_punctuation
 bare_a = refl
 
 a_name : {s : Text} → BeginsToken (97 ∷ 47 ∷ s) (string (97 ∷ [])) (47 ∷ s)
@@ -294,17 +294,17 @@ derived : {s : Text} → Accepted (at gap []) s → (xs : Nodes) × AreNodes tru
 derived (accepted l f) = derives l f
 
 -- what is accepted behind `/-` is derived: behind a name
-part_derived : {t : Text} → Accepted (at entry_mark []) t → PartDropped t
+part_derived : {t : Text} → Accepted (at entry_slashdash []) t → PartDropped t
 part_derived {t = t} a = of (nodes_named a_name (derived (token_first a_name refl (token_first {c = at (in_node (fresh false)) []} t_slashdash refl a))).1)
   where
     of : Named (47 ∷ 45 ∷ t) → PartDropped t
     of (rest d e) = part_dropped t_slashdash d e
 
 -- and behind a block
-braces_pass : {t : Text} (last : Text) → PartPasses (at entry_mark []) last (123 ∷ 125 ∷ t) true t
+braces_pass : {t : Text} (last : Text) → PartPasses (at entry_slashdash []) last (123 ∷ 125 ∷ t) true t
 braces_pass last = goes refl refl t_opening refl (goes {d = at (in_node later) []} refl refl t_closing refl (over refl))
 
-block_derived : {t : Text} → Accepted (at block_mark []) t → BlockDropped t
+block_derived : {t : Text} → Accepted (at block_slashdash []) t → BlockDropped t
 block_derived {t = t} a =
     of (part_derived (token_first t_opening refl (token_first {c = at gap (in_dropped ∷ [])} t_closing refl (token_first {c = at (in_node later) []} t_slashdash refl a))))
   where
@@ -314,15 +314,15 @@ block_derived {t = t} a =
 
 -- what a place that begins with `/-` says
 data Dropped (p : Place) (t : Text) (all : List Item) : Type 0 where
-  by_entry : {u : Text} {is : List Item} → PartPasses (mark_in p) t t false u → PlaceItems (items.spaced false p) u is → all ≡ piece (between (47 ∷ 45 ∷ t) u) ∷ is → Dropped p t all
-  by_block : {u : Text} {is : List Item} → takes_blocks p ≡ true → PartPasses (mark_in p) t t true u → PlaceItems behind_block u is → all ≡ piece (between (47 ∷ 45 ∷ t) u) ∷ is → Dropped p t all
+  by_entry : {u : Text} {is : List Item} → PartPasses (slashdash_in p) t t false u → PlaceItems (items.spaced false p) u is → all ≡ piece (between (47 ∷ 45 ∷ t) u) ∷ is → Dropped p t all
+  by_block : {u : Text} {is : List Item} → takes_blocks p ≡ true → PartPasses (slashdash_in p) t t true u → PlaceItems behind_block u is → all ≡ piece (between (47 ∷ 45 ∷ t) u) ∷ is → Dropped p t all
 
 drops : {p : Place} {s t : Text} {all : List Item} → s ≡ 47 ∷ 45 ∷ t → PlaceItems p s all → Dropped p t all
 drops q (PlaceItems.ends e) = absurd cc
 drops {t = t} q (PlaceItems.space d g) = absurd (dash_space (subst (λ (z : Text). BeginsToken z slashdash t) (sym q) t_slashdash) (space_of d))
 drops {t = t} q (PlaceItems.dropped_entry {u = u} {is = is} e m i g) =
     let ls = dash_lines (subst (λ (z : Text). BeginsToken z slashdash t) (sym q) t_slashdash) m in
-    by_entry (subst (λ (c : Bool). PartPasses (at (mark_phase c) []) t t false u) (sym e) (entry_passes ls i (place_quiet g) t)) g (ap (λ (z : Text). piece (between z u) ∷ is) q)
+    by_entry (subst (λ (c : Bool). PartPasses (at (slashdash_phase c) []) t t false u) (sym e) (entry_passes ls i (place_quiet g) t)) g (ap (λ (z : Text). piece (between z u) ∷ is) q)
 drops {p = p} {t = t} q (PlaceItems.dropped_block {u = u} {is = is} e m x g) =
     let ls = dash_lines (subst (λ (z : Text). BeginsToken z slashdash t) (sym q) t_slashdash) m in
     by_block e (block_passes ls x (takes_entries p) t) g (ap (λ (z : Text). piece (between z u) ∷ is) q)
@@ -333,63 +333,63 @@ fits_ends p (fresh b) e = fits_fresh p b
 fits_ends p (spaced b) e = fits_part p b
 fits_ends p later e = absurd cc
 
-entry_of : (p : Place) {t u : Text} {js : List Item} → takes_entries p ≡ true → PartPasses (at entry_mark []) t t false u → PartDropped t → PlaceItems (items.spaced false p) u js → PlaceItems p (47 ∷ 45 ∷ t) (piece (between (47 ∷ 45 ∷ t) u) ∷ js)
+entry_of : (p : Place) {t u : Text} {js : List Item} → takes_entries p ≡ true → PartPasses (at entry_slashdash []) t t false u → PartDropped t → PlaceItems (items.spaced false p) u js → PlaceItems p (47 ∷ 45 ∷ t) (piece (between (47 ∷ 45 ∷ t) u) ∷ js)
 entry_of p {t = t} h x (an_entry {u = w} {e = e} ls i q) g = PlaceItems.dropped_entry h (a_slashdash ls) (subst (λ (z : Text). IsEntry true w z e) (passes_det (entry_passes ls i q t) x).1 i) g
 entry_of p {t = t} h x (some_block (a_block ls b d f)) g = let e = (passes_det (block_passes ls b true t) x).0 in absurd cc
 
-no_entry : {t u : Text} → PartPasses (at block_mark []) t t false u → BlockDropped t → ⊥
+no_entry : {t u : Text} → PartPasses (at block_slashdash []) t t false u → BlockDropped t → ⊥
 no_entry {t = t} x (a_block ls b d f) = let e = (passes_det (block_passes ls b false t) x).0 in cc
 
-entry_back : (p : Place) {t u : Text} {js : List Item} → PartPasses (mark_in p) t t false u → PlaceItems (items.spaced false p) u js → PlaceItems p (47 ∷ 45 ∷ t) (piece (between (47 ∷ 45 ∷ t) u) ∷ js)
+entry_back : (p : Place) {t u : Text} {js : List Item} → PartPasses (slashdash_in p) t t false u → PlaceItems (items.spaced false p) u js → PlaceItems p (47 ∷ 45 ∷ t) (piece (between (47 ∷ 45 ∷ t) u) ∷ js)
 entry_back (before_entry c) x g = entry_of (before_entry c) refl x (part_derived (passes_accepted x directly (λ q e. place_accepted g q (fits_ends (before_entry c) q e)))) g
 entry_back before_block x g = entry_of before_block refl x (part_derived (passes_accepted x directly (λ q e. place_accepted g q (fits_ends before_block q e)))) g
 entry_back behind_block x g = absurd (no_entry x (block_derived (passes_accepted x directly (λ q e. place_accepted g q (fits_ends behind_block q e)))))
 
 -- and so is a block
-block_of : (p : Place) {t u : Text} {js : List Item} (b : Bool) → takes_blocks p ≡ true → PartPasses (at (mark_phase b) []) t t true u → BlockDropped t → PlaceItems behind_block u js → PlaceItems p (47 ∷ 45 ∷ t) (piece (between (47 ∷ 45 ∷ t) u) ∷ js)
+block_of : (p : Place) {t u : Text} {js : List Item} (b : Bool) → takes_blocks p ≡ true → PartPasses (at (slashdash_phase b) []) t t true u → BlockDropped t → PlaceItems behind_block u js → PlaceItems p (47 ∷ 45 ∷ t) (piece (between (47 ∷ 45 ∷ t) u) ∷ js)
 block_of p {t = t} b h x (a_block {u = w} {xs = xs} ls y d f) g = PlaceItems.dropped_block h (a_slashdash ls) (subst (λ (z : Text). IsBlock true w z xs) (passes_det (block_passes ls y b t) x).1 y) g
 
-some_part : {t u : Text} → PartPasses (at entry_mark []) t t true u → PartDropped t → BlockDropped t
+some_part : {t u : Text} → PartPasses (at entry_slashdash []) t t true u → PartDropped t → BlockDropped t
 some_part {t = t} x (an_entry ls i q) = let e = (passes_det (entry_passes ls i q t) x).0 in absurd cc
 some_part x (some_block b) = b
 
-block_back : (p : Place) {t u : Text} {js : List Item} → PartPasses (mark_in p) t t true u → takes_blocks p ≡ true → PlaceItems behind_block u js → PlaceItems p (47 ∷ 45 ∷ t) (piece (between (47 ∷ 45 ∷ t) u) ∷ js)
+block_back : (p : Place) {t u : Text} {js : List Item} → PartPasses (slashdash_in p) t t true u → takes_blocks p ≡ true → PlaceItems behind_block u js → PlaceItems p (47 ∷ 45 ∷ t) (piece (between (47 ∷ 45 ∷ t) u) ∷ js)
 block_back (before_entry c) x h g = absurd cc
 block_back before_block x h g = block_of before_block true refl x (some_part x (part_derived (passes_accepted x directly (λ q e. place_accepted g q refl)))) g
 block_back behind_block x h g = block_of behind_block false refl x (block_derived (passes_accepted x directly (λ q e. place_accepted g q refl))) g
 
 -- An entry is passed over behind the slashdash.
-entry_there : {p : Place} {t u : Text} {all : List Item} → PartPasses (mark_in p) t t false u → Dropped p t all → (js : List Item) × (all ≡ piece (between (47 ∷ 45 ∷ t) u) ∷ js) × PlaceItems (items.spaced false p) u js
+entry_there : {p : Place} {t u : Text} {all : List Item} → PartPasses (slashdash_in p) t t false u → Dropped p t all → (js : List Item) × (all ≡ piece (between (47 ∷ 45 ∷ t) u) ∷ js) × PlaceItems (items.spaced false p) u js
 entry_there {p = p} {t = t} x (by_entry {is = is} y g e) =
     let f = (passes_det y x).1 in
     (is, e ∙ ap (λ (z : Text). piece (between (47 ∷ 45 ∷ t) z) ∷ is) f, subst (λ (z : Text). PlaceItems (items.spaced false p) z is) f g)
 entry_there x (by_block h y g e) = let f = (passes_det y x).0 in absurd cc
 
-pub part_entry : {p : Place} {t u : Text} → PartPasses (mark_in p) t t false u → (all : List Item) → PlaceItems p (47 ∷ 45 ∷ t) all ↔ ((js : List Item) × (all ≡ piece (between (47 ∷ 45 ∷ t) u) ∷ js) × PlaceItems (items.spaced false p) u js)
+pub part_entry : {p : Place} {t u : Text} → PartPasses (slashdash_in p) t t false u → (all : List Item) → PlaceItems p (47 ∷ 45 ∷ t) all ↔ ((js : List Item) × (all ≡ piece (between (47 ∷ 45 ∷ t) u) ∷ js) × PlaceItems (items.spaced false p) u js)
 part_entry {p = p} {t = t} x all = (λ g. entry_there x (drops refl g), λ h. subst (λ (l : List Item). PlaceItems p (47 ∷ 45 ∷ t) l) (sym h.1) (entry_back p x h.2))
 
 -- A block is passed over.
-block_there : {p : Place} {t u : Text} {all : List Item} → PartPasses (mark_in p) t t true u → Dropped p t all → (js : List Item) × (all ≡ piece (between (47 ∷ 45 ∷ t) u) ∷ js) × PlaceItems behind_block u js
+block_there : {p : Place} {t u : Text} {all : List Item} → PartPasses (slashdash_in p) t t true u → Dropped p t all → (js : List Item) × (all ≡ piece (between (47 ∷ 45 ∷ t) u) ∷ js) × PlaceItems behind_block u js
 block_there {t = t} x (by_block {is = is} h y g e) =
     let f = (passes_det y x).1 in
     (is, e ∙ ap (λ (z : Text). piece (between (47 ∷ 45 ∷ t) z) ∷ is) f, subst (λ (z : Text). PlaceItems behind_block z is) f g)
 block_there x (by_entry y g e) = let f = (passes_det y x).0 in absurd cc
 
-pub part_block : {p : Place} {t u : Text} → PartPasses (mark_in p) t t true u → takes_blocks p ≡ true → (all : List Item) → PlaceItems p (47 ∷ 45 ∷ t) all ↔ ((js : List Item) × (all ≡ piece (between (47 ∷ 45 ∷ t) u) ∷ js) × PlaceItems behind_block u js)
+pub part_block : {p : Place} {t u : Text} → PartPasses (slashdash_in p) t t true u → takes_blocks p ≡ true → (all : List Item) → PlaceItems p (47 ∷ 45 ∷ t) all ↔ ((js : List Item) × (all ≡ piece (between (47 ∷ 45 ∷ t) u) ∷ js) × PlaceItems behind_block u js)
 part_block {p = p} {t = t} x b all = (λ g. block_there x (drops refl g), λ h. subst (λ (l : List Item). PlaceItems p (47 ∷ 45 ∷ t) l) (sym h.1) (block_back p x b h.2))
 
 -- before entries no block is dropped
-block_nowhere : {p : Place} {t u : Text} {all : List Item} → PartPasses (mark_in p) t t true u → takes_blocks p ≡ false → Dropped p t all → ⊥
+block_nowhere : {p : Place} {t u : Text} {all : List Item} → PartPasses (slashdash_in p) t t true u → takes_blocks p ≡ false → Dropped p t all → ⊥
 block_nowhere x b (by_block h y g e) = cc
 block_nowhere x b (by_entry y g e) = let f = (passes_det y x).0 in cc
 
-pub part_no_block : {p : Place} {t u : Text} → PartPasses (mark_in p) t t true u → takes_blocks p ≡ false → (all : List Item) → PlaceItems p (47 ∷ 45 ∷ t) all → ⊥
+pub part_no_block : {p : Place} {t u : Text} → PartPasses (slashdash_in p) t t true u → takes_blocks p ≡ false → (all : List Item) → PlaceItems p (47 ∷ 45 ∷ t) all → ⊥
 part_no_block x b all g = block_nowhere x b (drops refl g)
 
 -- nothing is passed over
-nothing_there : {p : Place} {t : Text} {all : List Item} → ((b : Bool) (u : Text) → PartPasses (mark_in p) t t b u → ⊥) → Dropped p t all → ⊥
+nothing_there : {p : Place} {t : Text} {all : List Item} → ((b : Bool) (u : Text) → PartPasses (slashdash_in p) t t b u → ⊥) → Dropped p t all → ⊥
 nothing_there f (by_entry y g e) = f false _ y
 nothing_there f (by_block h y g e) = f true _ y
 
-pub part_refused : {p : Place} {t : Text} → ((b : Bool) (u : Text) → PartPasses (mark_in p) t t b u → ⊥) → (all : List Item) → PlaceItems p (47 ∷ 45 ∷ t) all → ⊥
+pub part_refused : {p : Place} {t : Text} → ((b : Bool) (u : Text) → PartPasses (slashdash_in p) t t b u → ⊥) → (all : List Item) → PlaceItems p (47 ∷ 45 ∷ t) all → ⊥
 part_refused f all g = nothing_there f (drops refl g)

@@ -14,7 +14,7 @@ use Rattle.kdl_entry.specs.declared.items.lexer.TokenKind.TheVariants.{Semicolon
 use Rattle.kdl_entry.proofs.Lexing.Between.{is_between}
 use Rattle.kdl_items.specs.Items as items
 use Rattle.kdl_items.specs.Items.{Item, piece, ItemEnd, line_end, GapItems, PlaceItems, Place, behind_block}
-use Rattle.kdl_items.specs.Internal.Passing.{PartPasses, mark_in}
+use Rattle.kdl_items.specs.Internal.Passing.{PartPasses, slashdash_in}
 use Rattle.kdl_items.specs.Internal.Passed.{Before, EndsAt, AnswersDroppedNode, AnswersDroppedPart, BehindPart, PlaceTakes}
 use Rattle.kdl_items.specs.Internal.Reading.{Cut, Takes, item_view, items_view}
 use Rattle.kdl_items.specs.declared.dropped.NodeEnd.{NodeEnd}
@@ -130,7 +130,7 @@ pub no_node : (s b : Text) (old new : List Item) → s ≡ 47 ∷ 45 ∷ b → A
 no_node s b old new e f = λ all g. node_refused f all (subst (λ (z : Text). GapItems z all) e g)
 
 -- a dropped entry or block
-part_items : (p q : Place) (b u : Text) (is_block : Bool) (o : Option Place) → PartPasses (mark_in p) b b is_block u → BehindPart p is_block o → o ≡ Some q
+part_items : (p q : Place) (b u : Text) (is_block : Bool) (o : Option Place) → PartPasses (slashdash_in p) b b is_block u → BehindPart p is_block o → o ≡ Some q
     → (all : List Item) → PlaceItems p (47 ∷ 45 ∷ b) all ↔ ((js : List Item) × (all ≡ piece (between (47 ∷ 45 ∷ b) u) ∷ js) × PlaceItems q u js)
 part_items p q b u false o x f e = let y : items.spaced false p ≡ q = cc in rw (← y) (part_entry x)
 part_items p q b u true None x f e = absurd cc
@@ -147,7 +147,7 @@ part_taken bs ds b x node z p q e o old new v w f (u, y, c) g i h l n =
 pub no_part : (s b : Text) (p : Place) (old new : List Item) → s ≡ 47 ∷ 45 ∷ b → AnswersDroppedPart p b None → PlaceTakes p s None old new
 no_part s b p old new e f = λ all g. part_refused f all (subst (λ (z : Text). PlaceItems p z all) e g)
 
-nowhere : (p : Place) (b u : Text) (is_block : Bool) (o : Option Place) → PartPasses (mark_in p) b b is_block u → BehindPart p is_block o → o ≡ None → (all : List Item) → PlaceItems p (47 ∷ 45 ∷ b) all → ⊥
+nowhere : (p : Place) (b u : Text) (is_block : Bool) (o : Option Place) → PartPasses (slashdash_in p) b b is_block u → BehindPart p is_block o → o ≡ None → (all : List Item) → PlaceItems p (47 ∷ 45 ∷ b) all → ⊥
 nowhere p b u false o x f e = absurd cc
 nowhere p b u true None x f e = part_no_block x f
 nowhere p b u true (Some q) x f e = absurd cc

@@ -8,10 +8,10 @@ use Rattle.kdl_text.specs.Internal.Reading.{Moves}
 use Rattle.kdl_text.specs.Trivia.{NodeSpace}
 use Rattle.kdl_text.proofs.Looking.MovesJoin.{bytes-append}
 use Rattle.kdl_entry.specs.Internal.Handed.{Cuts, one, spaces, NoToken, kind_view, HandsOut}
-use Rattle.kdl_entry.specs.Internal.Tokens.{Token, space, newline, semicolon, slashdash, string, value, left, right, opening, closing, equals, mark, t_space, BeginsToken}
+use Rattle.kdl_entry.specs.Internal.Tokens.{Token, space, newline, semicolon, slashdash, string, value, left, right, opening, closing, equals, bom, t_space, BeginsToken}
 use Rattle.kdl_entry.specs.declared.items.lexer.Token.{Token as CodeToken}
 use Rattle.kdl_entry.proofs.Lexing.TokenUnique.{token_det, token_shorter, no_token}
-use Rattle.kdl_grammar.proofs.Reading.Control.{fresh, spaced, later, gap, marked, type_open, type_name, type_done, in_node, property, entry_mark, block_mark, kept, kept_mark, in_block, in_dropped, in_later, Control, at, step, finish, held}
+use Rattle.kdl_grammar.proofs.Reading.Control.{fresh, spaced, later, gap, node_slashdash, type_open, type_name, type_done, in_node, property, entry_slashdash, block_slashdash, kept, kept_slashdash, in_block, in_dropped, in_later, Control, at, step, finish, held}
 use Rattle.kdl_items.specs.Items.{ItemEnd}
 use Rattle.kdl_items.specs.Internal.Passing.{moved, is_gap, NodeEnd, returned, ended, NodePasses, returns, ends, goes}
 use Rattle.kdl_items.specs.Internal.Passed.{Before, EndsAt, AnswersDroppedNode, of_spaces}
@@ -28,7 +28,7 @@ there P e x = subst (Of P) e x
 -- behind a space the machine takes more of them, and stays what it is
 space_turn : (c : Control) → is_gap c ≡ false → Of (λ d. (is_gap d ≡ false) × (step d space ≡ Some d)) (step c space)
 space_turn (at gap fs) g = (g, refl)
-space_turn (at marked fs) g = (refl, refl)
+space_turn (at node_slashdash fs) g = (refl, refl)
 space_turn (at (type_open b) fs) g = (refl, refl)
 space_turn (at (type_name b) fs) g = (refl, refl)
 space_turn (at (type_done b) fs) g = (refl, refl)
@@ -36,10 +36,10 @@ space_turn (at (in_node (fresh b)) fs) g = (refl, refl)
 space_turn (at (in_node (spaced b)) fs) g = (refl, refl)
 space_turn (at (in_node later) fs) g = (refl, refl)
 space_turn (at property fs) g = (refl, refl)
-space_turn (at entry_mark fs) g = (refl, refl)
-space_turn (at block_mark fs) g = (refl, refl)
+space_turn (at entry_slashdash fs) g = (refl, refl)
+space_turn (at block_slashdash fs) g = (refl, refl)
 space_turn (at kept fs) g = (refl, refl)
-space_turn (at kept_mark fs) g = (refl, refl)
+space_turn (at kept_slashdash fs) g = (refl, refl)
 
 -- only a terminator leads between the nodes again
 gap_turn : (c : Control) (k : Token) → is_gap c ≡ false → held is_gap (step c k) ≡ true → (k ≡ newline) ⊎ (k ≡ semicolon)
@@ -75,7 +75,7 @@ gap_turn (at (type_done true) fs) (value v) g e = absurd cc
 gap_turn (at (type_done false) fs) (value v) g e = absurd cc
 gap_turn (at (type_name b) fs) right g e = absurd cc
 gap_turn (at (in_node p) fs) opening g e = absurd cc
-gap_turn (at gap fs) mark g e = absurd cc
+gap_turn (at gap fs) bom g e = absurd cc
 gap_turn (at kept []) closing g e = absurd cc
 gap_turn (at kept (in_block ∷ fs)) closing g e = absurd cc
 gap_turn (at kept (in_dropped ∷ fs)) closing g e = absurd cc
@@ -156,12 +156,12 @@ cut_shorter (spaces (plus n m)) = omega (arith, token_shorter (t_space n), space
 -- the lexer stands in the text t, over which the machine passes as from here on; the last token that is no node-space ended behind so many bytes
 pub record NodeGoes (here : Here) (c : Control) (t : Text) (last : ℕ) : Type 0 where
   pub behind : Text
-  pub same : (e : NodeEnd) → NodePasses (at marked []) t t e ↔ NodePasses c behind here.rest e
+  pub same : (e : NodeEnd) → NodePasses (at node_slashdash []) t t e ↔ NodePasses c behind here.rest e
   pub counted : Before t last behind
   pub text : Before t here.at here.rest
   pub between : is_gap c ≡ false
 
-pub node_starts : (t : Text) (here : Here) (c : Control) → here.rest ≡ t → here.at ≡ 0 → c ≡ at marked [] → NodeGoes here c t 0
+pub node_starts : (t : Text) (here : Here) (c : Control) → here.rest ≡ t → here.at ≡ 0 → c ≡ at node_slashdash [] → NodeGoes here c t 0
 node_starts t here c e n h = record {
   behind = t;
   same = rw (e, h) (λ x. (λ p. p, λ p. p));
@@ -208,5 +208,5 @@ token_ends old new c d k t last g f x = gap_turn c (kind_view k.kind) g.between 
 pub node_returns : (t : Text) (old new : Here) (c d : Control) (k : CodeToken) (last : ℕ) (e : CodeEnd) → NodeGoes old c t last → HandsOut old k new → step c (kind_view k.kind) ≡ Some d → is_gap d ≡ true
     → (i : Text) × ItemEnd k.start.rest k.end.rest i × Before t e.item i × Before t e.behind k.end.rest → AnswersDroppedNode t (Some e)
 node_returns t old new c d k last e g h f x (i, y, a, b) =
-    let p : NodePasses (at marked []) t t (returned (kind_view k.kind) old.rest new.rest) = (g.same (returned (kind_view k.kind) old.rest new.rest)).1 (last_turn g.between h.cuts f x) in
+    let p : NodePasses (at node_slashdash []) t t (returned (kind_view k.kind) old.rest new.rest) = (g.same (returned (kind_view k.kind) old.rest new.rest)).1 (last_turn g.between h.cuts f x) in
     EndsAt.returns {k = kind_view k.kind} {u = k.start.rest} {v = k.end.rest} {i = i} (rw (h.start_rest, h.end_rest) p) y a b

@@ -10,9 +10,9 @@ use Rattle.kdl_entry.specs.Internal.Handed.{Cuts, one, spaces, NoToken, kind_vie
 use Rattle.kdl_entry.specs.Internal.Tokens.{Token, space, t_space, BeginsToken}
 use Rattle.kdl_entry.specs.declared.items.lexer.Token.{Token as CodeToken}
 use Rattle.kdl_entry.proofs.Lexing.TokenUnique.{token_det, no_token}
-use Rattle.kdl_grammar.proofs.Reading.Control.{fresh, spaced, later, gap, marked, type_open, type_name, type_done, in_node, property, entry_mark, block_mark, kept, kept_mark, Control, at, step}
+use Rattle.kdl_grammar.proofs.Reading.Control.{fresh, spaced, later, gap, node_slashdash, type_open, type_name, type_done, in_node, property, entry_slashdash, block_slashdash, kept, kept_slashdash, Control, at, step}
 use Rattle.kdl_items.specs.Items.{Place, before_entry, before_block, behind_block}
-use Rattle.kdl_items.specs.Internal.Passing.{moved, is_over, is_block, is_word, follows_word, mark_in, PartPasses, over, word_ends, word_over, goes}
+use Rattle.kdl_items.specs.Internal.Passing.{moved, is_over, is_block, is_word, follows_word, slashdash_in, PartPasses, over, word_ends, word_over, goes}
 use Rattle.kdl_items.specs.Internal.Passed.{Before, AnswersDroppedPart, of_spaces}
 use Rattle.kdl_items.specs.declared.dropped.PartEnd.{PartEnd}
 use Rattle.kdl_items.proofs.Dropping.NodeLoop.{Of, there, then_before, moved_before}
@@ -20,7 +20,7 @@ use Rattle.kdl_items.proofs.Dropping.NodeLoop.{Of, there, then_before, moved_bef
 -- behind a space the machine takes more of them, and nothing ends there
 space_turn : (c : Control) → is_over c ≡ false → Of (λ d. (is_over d ≡ false) × (step d space ≡ Some d)) (step c space)
 space_turn (at gap fs) o = (refl, refl)
-space_turn (at marked fs) o = (refl, refl)
+space_turn (at node_slashdash fs) o = (refl, refl)
 space_turn (at (type_open b) fs) o = (refl, refl)
 space_turn (at (type_name b) fs) o = (refl, refl)
 space_turn (at (type_done b) fs) o = (refl, refl)
@@ -28,10 +28,10 @@ space_turn (at (in_node (fresh b)) fs) o = (refl, refl)
 space_turn (at (in_node (spaced b)) fs) o = (refl, refl)
 space_turn (at (in_node later) fs) o = (o, refl)
 space_turn (at property fs) o = (refl, refl)
-space_turn (at entry_mark fs) o = (refl, refl)
-space_turn (at block_mark fs) o = (refl, refl)
+space_turn (at entry_slashdash fs) o = (refl, refl)
+space_turn (at block_slashdash fs) o = (refl, refl)
 space_turn (at kept fs) o = (refl, refl)
-space_turn (at kept_mark fs) o = (refl, refl)
+space_turn (at kept_slashdash fs) o = (refl, refl)
 
 goes_by_space : (c : Control) → (is_word c && not (follows_word space)) ≡ false
 goes_by_space c = of (is_word c)
@@ -98,17 +98,17 @@ word_turn x (spaces n) h = absurd cc
 -- the lexer stands in the text t behind `/-` in the place, over which the machine passes as from here on; the last token that is no node-space ended behind so many bytes
 pub record PartGoes (p : Place) (here : Here) (c : Control) (t : Text) (last : ℕ) : Type 0 where
   pub behind : Text
-  pub same : (b : Bool) (u : Text) → PartPasses (mark_in p) t t b u ↔ PartPasses c behind here.rest b u
+  pub same : (b : Bool) (u : Text) → PartPasses (slashdash_in p) t t b u ↔ PartPasses c behind here.rest b u
   pub counted : Before t last behind
   pub text : Before t here.at here.rest
   pub under_way : is_over c ≡ false
 
-not_over : (p : Place) → is_over (mark_in p) ≡ false
+not_over : (p : Place) → is_over (slashdash_in p) ≡ false
 not_over (before_entry b) = refl
 not_over before_block = refl
 not_over behind_block = refl
 
-pub part_starts : (p : Place) (t : Text) (here : Here) (c : Control) → here.rest ≡ t → here.at ≡ 0 → c ≡ mark_in p → PartGoes p here c t 0
+pub part_starts : (p : Place) (t : Text) (here : Here) (c : Control) → here.rest ≡ t → here.at ≡ 0 → c ≡ slashdash_in p → PartGoes p here c t 0
 part_starts p t here c e n h = record {
   behind = t;
   same = rw (e, h) (λ b u. (λ x. x, λ x. x));
@@ -144,7 +144,7 @@ at_stop z o w (word_ends x) = cc
 at_stop z o w (word_over x t h) = cc
 at_stop z o w (goes {r = r} {k = k} o' w' t f p) = no_token (subst (λ (a : Text). BeginsToken a k r) z t)
 
-a_word : (p : Place) (t s : Text) (c : Control) (last : ℕ) (e : PartEnd) (behind : Text) → PartPasses (mark_in p) t t false behind → Before t last behind → e.at ≡ last → e.is_block ≡ false → AnswersDroppedPart p t (Some e)
+a_word : (p : Place) (t s : Text) (c : Control) (last : ℕ) (e : PartEnd) (behind : Text) → PartPasses (slashdash_in p) t t false behind → Before t last behind → e.at ≡ last → e.is_block ≡ false → AnswersDroppedPart p t (Some e)
 a_word p t s c last e behind x y i j = (behind, rw j x, rw i y)
 
 pub part_stops : (p : Place) (t : Text) (here : Here) (c : Control) (last : ℕ) (o : Option PartEnd) → PartGoes p here c t last → here.rest ≡ [] → WordEnds c last o → AnswersDroppedPart p t o
@@ -167,6 +167,6 @@ pub part_over : (p : Place) (t : Text) (old new : Here) (c d : Control) (k : Cod
     → n ≡ (if of_spaces (kind_view k.kind) then last else k.end.at) → is_over d ≡ true → b ≡ is_block d → AnswersDroppedPart p t (Some (record { at = n; is_block = b }))
 part_over p t old new c d k last n b g h m w f i x j =
     let u = moved (kind_view k.kind) g.behind new.rest in
-    let y : PartPasses (mark_in p) t t (is_block d) u = (g.same (is_block d) u).1 ((cut_turn {last = g.behind} g.under_way w h.cuts f (is_block d) u).1 (over x)) in
+    let y : PartPasses (slashdash_in p) t t (is_block d) u = (g.same (is_block d) u).1 ((cut_turn {last = g.behind} g.under_way w h.cuts f (is_block d) u).1 (over x)) in
     let z : Before t (if of_spaces (kind_view k.kind) then last else k.end.at) u = moved_before (kind_view k.kind) g.counted (subst (λ (z : ℕ). Before t z new.rest) (sym h.end_at) (then_before t old new g.text m)) in
     (u, rw j y, rw i z)

@@ -11,8 +11,8 @@ use Rattle.kdl_entry.specs.Internal.Tokens.{Token, space, newline, string, value
 use Rattle.kdl_entry.proofs.Lexing.TokenUnique.{token_det, no_token}
 use Rattle.kdl_grammar.specs.Data.{Node, Children, Nodes}
 use Rattle.kdl_grammar.specs.Grammar.{Terminator, IsNode, named, AfterName, kept_entry, dropped_entry, Blocks, AfterBlock, dropped_later, no_more, Gap, no_gap, line_space, dropped_node, AreNodes, last_gap, node_then, IsBlock, braces}
-use Rattle.kdl_grammar.proofs.Reading.Control.{Spot, fresh, spaced, later, Phase, gap, marked, type_open, type_name, type_done, in_node, property, entry_mark, block_mark, kept, kept_mark, Frame, in_block, in_dropped, in_later, Control, at, popped, spaced_of, mark_of, step}
-use Rattle.kdl_items.specs.Internal.Passing.{moved, is_gap, NodeEnd, NodePasses, is_over, is_word, follows_word, PartPasses, mark_phase}
+use Rattle.kdl_grammar.proofs.Reading.Control.{Spot, fresh, spaced, later, Phase, gap, node_slashdash, type_open, type_name, type_done, in_node, property, entry_slashdash, block_slashdash, kept, kept_slashdash, Frame, in_block, in_dropped, in_later, Control, at, popped, spaced_of, slashdash_at, step}
+use Rattle.kdl_items.specs.Internal.Passing.{moved, is_gap, NodeEnd, NodePasses, is_over, is_word, follows_word, PartPasses, slashdash_phase}
 
 -- behind the name of a node
 pub data Tail (fs : List Frame) : Control → Type 0 where
@@ -67,30 +67,30 @@ and_false : (b : Bool) → (b && false) ≡ false
 and_false true = refl
 and_false false = refl
 
-mark_spaced : (q : Spot) → mark_of (spaced_of q) ≡ mark_of q
-mark_spaced (fresh b) = refl
-mark_spaced (spaced b) = refl
-mark_spaced later = refl
+slashdash_spaced : (q : Spot) → slashdash_at (spaced_of q) ≡ slashdash_at q
+slashdash_spaced (fresh b) = refl
+slashdash_spaced (spaced b) = refl
+slashdash_spaced later = refl
 
-mark_gap : (q : Spot) (fs : List Frame) → is_gap (at (mark_of q) fs) ≡ false
-mark_gap (fresh b) fs = refl
-mark_gap (spaced b) fs = refl
-mark_gap later fs = refl
+slashdash_gap : (q : Spot) (fs : List Frame) → is_gap (at (slashdash_at q) fs) ≡ false
+slashdash_gap (fresh b) fs = refl
+slashdash_gap (spaced b) fs = refl
+slashdash_gap later fs = refl
 
-mark_space : (q : Spot) (fs : List Frame) → step (at (mark_of q) fs) space ≡ Some (at (mark_of q) fs)
-mark_space (fresh b) fs = refl
-mark_space (spaced b) fs = refl
-mark_space later fs = refl
+slashdash_space : (q : Spot) (fs : List Frame) → step (at (slashdash_at q) fs) space ≡ Some (at (slashdash_at q) fs)
+slashdash_space (fresh b) fs = refl
+slashdash_space (spaced b) fs = refl
+slashdash_space later fs = refl
 
-mark_newline : (q : Spot) (fs : List Frame) → step (at (mark_of q) fs) newline ≡ Some (at (mark_of q) fs)
-mark_newline (fresh b) fs = refl
-mark_newline (spaced b) fs = refl
-mark_newline later fs = refl
+slashdash_newline : (q : Spot) (fs : List Frame) → step (at (slashdash_at q) fs) newline ≡ Some (at (slashdash_at q) fs)
+slashdash_newline (fresh b) fs = refl
+slashdash_newline (spaced b) fs = refl
+slashdash_newline later fs = refl
 
-mark_opening : (q : Spot) (fs : List Frame) → step (at (mark_of q) fs) opening ≡ Some (at gap (in_dropped ∷ fs))
-mark_opening (fresh b) fs = refl
-mark_opening (spaced b) fs = refl
-mark_opening later fs = refl
+slashdash_opening : (q : Spot) (fs : List Frame) → step (at (slashdash_at q) fs) opening ≡ Some (at gap (in_dropped ∷ fs))
+slashdash_opening (fresh b) fs = refl
+slashdash_opening (spaced b) fs = refl
+slashdash_opening later fs = refl
 
 -- from a phase under the frames, P goes back over each token that does not lead between the nodes of the place
 abbrev pub HereAt : (Control → Text → Text → Type 0) → List Frame → Phase → Type 0
@@ -160,9 +160,9 @@ module _ (P : Control → Text → Text → Type 0) (over : Back P) where
       (a_value v property (λ d last s r k t e g x. back t e g refl refl x) false (λ v. refl) (λ v. refl) refl x _)) _)
 
   -- node-spaces behind a name, an entry or a dropped block
-  spaces : {fs : List Frame} {last s r : Text} → Star NodeSpace s r → (q : Spot) → Here P fs → ((q' : Spot) → mark_of q' ≡ mark_of q → P (at (in_node q') fs) last r) → P (at (in_node q) fs) last s
+  spaces : {fs : List Frame} {last s r : Text} → Star NodeSpace s r → (q : Spot) → Here P fs → ((q' : Spot) → slashdash_at q' ≡ slashdash_at q → P (at (in_node q') fs) last r) → P (at (in_node q) fs) last s
   spaces no_star q h x = x q refl
-  spaces (more n m) q h x = h (in_node q) _ _ _ _ _ (t_space n) refl refl (spaces m (spaced_of q) h (λ q' e. x q' (e ∙ mark_spaced q)))
+  spaces (more n m) q h x = h (in_node q) _ _ _ _ _ (t_space n) refl refl (spaces m (spaced_of q) h (λ q' e. x q' (e ∙ slashdash_spaced q)))
 
   kept_spaces : {fs : List Frame} {last s r : Text} → Star NodeSpace s r → Here P fs → P (at kept fs) last r → P (at kept fs) last s
   kept_spaces {fs = fs} ss h x = stay (at kept fs) (λ last s r n x. h kept _ _ _ _ _ (t_space n) refl refl x) ss x
@@ -207,7 +207,7 @@ module _ (P : Control → Text → Text → Type 0) (over : Back P) where
     gaps (line_space (LineSpace.space n) g) fs h t x z last = t gap _ _ _ _ (t_space n) refl (gaps g fs h t x z last)
     gaps (line_space (LineSpace.«break» n) g) fs h t x z last = t gap _ _ _ _ (t_newline n) refl (gaps g fs h t x z _)
     gaps (dropped_node (slashdash ls) y e g) fs h t x z last =
-        h gap _ _ _ _ _ t_slashdash refl refl (lines marked (h marked) refl refl refl ls (node y marked h (λ v. refl) refl
+        h gap _ _ _ _ _ t_slashdash refl refl (lines node_slashdash (h node_slashdash) refl refl refl ls (node y node_slashdash h (λ v. refl) refl
         (λ c w q y' ws. terminator e q t (λ last. gaps g fs h t x z last) (λ i last. subst (λ (u : Text). P c last u) (sym (halts i g)) (z (subst Halt (halts i g) i) c (in_tail q) last)) w)) _)
 
     -- a node, from where one may begin; its last node-spaces begin at w
@@ -224,43 +224,43 @@ module _ (P : Control → Text → Text → Type 0) (over : Back P) where
         h (in_node (fresh b)) _ _ _ _ _ (t_space n) refl refl (stay (at (in_node (spaced b)) fs) (λ last s r n x. h (in_node (spaced b)) _ _ _ _ _ (t_space n) refl refl x) ss
         (entry i (in_node (spaced b)) (h (in_node (spaced b))) (λ v. refl) (λ v. refl) refl (λ b'. name d h b' (λ c w q d' ws. x c w q (kept_entry (plus n ss) i d') ws)) _))
     name {fs = fs} (dropped_entry ss (slashdash ls) i d) h b x =
-        spaces ss (fresh b) h (λ q e. h (in_node q) _ _ _ _ _ t_slashdash (ap (λ (m : Phase). Some (at m fs)) e) refl (lines entry_mark (h entry_mark) refl refl refl ls
-        (entry i entry_mark (h entry_mark) (λ v. refl) (λ v. refl) refl (λ b'. name d h b' (λ c w q d' ws. x c w q (dropped_entry ss (slashdash ls) i d') ws))) _))
+        spaces ss (fresh b) h (λ q e. h (in_node q) _ _ _ _ _ t_slashdash (ap (λ (m : Phase). Some (at m fs)) e) refl (lines entry_slashdash (h entry_slashdash) refl refl refl ls
+        (entry i entry_slashdash (h entry_slashdash) (λ v. refl) (λ v. refl) refl (λ b'. name d h b' (λ c w q d' ws. x c w q (dropped_entry ss (slashdash ls) i d') ws))) _))
     name (AfterName.blocks d) h b x = blocks d h (fresh b) (λ c w q d' ws. x c w q (AfterName.blocks d') ws)
 
     blocks : {fs : List Frame} {b : Bool} {s r : Text} {k : Children} → Blocks true b s r k → Here P fs → (q : Spot) → ((c : Control) (w : Text) → Tail fs c → Blocks true b s w k → Star NodeSpace w r → P c w r)
         → P (at (in_node q) fs) s s
     blocks {fs = fs} (Blocks.dropped_block ss (slashdash ls) b d) h q x =
-        spaces ss q h (λ q' e. h (in_node q') _ _ _ _ _ t_slashdash refl (mark_gap q' fs) (lines (mark_of q') (h (mark_of q')) (mark_gap q' fs) (mark_space q' fs) (mark_newline q' fs) ls
-        (block b (mark_of q') (h (mark_of q')) in_dropped (at (in_node later) fs) (mark_opening q' fs) refl refl (blocks d h later (λ c w z d' ws. x c w z (Blocks.dropped_block ss (slashdash ls) b d') ws))) _))
+        spaces ss q h (λ q' e. h (in_node q') _ _ _ _ _ t_slashdash refl (slashdash_gap q' fs) (lines (slashdash_at q') (h (slashdash_at q')) (slashdash_gap q' fs) (slashdash_space q' fs) (slashdash_newline q' fs) ls
+        (block b (slashdash_at q') (h (slashdash_at q')) in_dropped (at (in_node later) fs) (slashdash_opening q' fs) refl refl (blocks d h later (λ c w z d' ws. x c w z (Blocks.dropped_block ss (slashdash ls) b d') ws))) _))
     blocks {fs = fs} (Blocks.block ss b d) h q x =
         spaces ss q h (λ q' e. block b (in_node q') (h (in_node q')) in_block (at kept fs) refl refl refl (behind d h (λ c w z d' ws. x c w z (Blocks.block ss b d') ws)) _)
     blocks (Blocks.no_block ss) h q x = spaces ss q h (λ q' e. x _ _ before_block (Blocks.no_block no_star) ss)
 
     behind : {fs : List Frame} {s r : Text} → AfterBlock true s r → Here P fs → ((c : Control) (w : Text) → Tail fs c → AfterBlock true s w → Star NodeSpace w r → P c w r) → P (at kept fs) s s
     behind {fs = fs} (dropped_later ss (slashdash ls) b d) h x =
-        kept_spaces ss h (h kept _ _ _ _ _ t_slashdash refl refl (lines kept_mark (h kept_mark) refl refl refl ls
-        (block b kept_mark (h kept_mark) in_later (at kept fs) refl refl refl (behind d h (λ c w z d' ws. x c w z (dropped_later ss (slashdash ls) b d') ws))) _))
+        kept_spaces ss h (h kept _ _ _ _ _ t_slashdash refl refl (lines kept_slashdash (h kept_slashdash) refl refl refl ls
+        (block b kept_slashdash (h kept_slashdash) in_later (at kept fs) refl refl refl (behind d h (λ c w z d' ws. x c w z (dropped_later ss (slashdash ls) b d') ws))) _))
     behind (no_more ss) h x = kept_spaces ss h (x _ _ behind_block (no_more no_star) ss)
 
   -- what a slashdash drops: a node; its last node-spaces begin at w
-  pub drop_node : {fs : List Frame} {s t r : Text} {y : Node} → Star LineSpace s t → IsNode true t r y → Here P fs → ((c : Control) (w : Text) → Tail fs c → IsNode true t w y → Star NodeSpace w r → P c w r) → (last : Text) → P (at marked fs) last s
-  drop_node ls y h x last = lines marked (h marked) refl refl refl ls (node y marked h (λ v. refl) refl x) last
+  pub drop_node : {fs : List Frame} {s t r : Text} {y : Node} → Star LineSpace s t → IsNode true t r y → Here P fs → ((c : Control) (w : Text) → Tail fs c → IsNode true t w y → Star NodeSpace w r → P c w r) → (last : Text) → P (at node_slashdash fs) last s
+  drop_node ls y h x last = lines node_slashdash (h node_slashdash) refl refl refl ls (node y node_slashdash h (λ v. refl) refl x) last
 
   -- or an entry
-  pub drop_entry : {fs : List Frame} {s t r : Text} {e : Entry} → Star LineSpace s t → IsEntry true t r e → ((b : Bool) → P (at (in_node (fresh b)) fs) r r) → (last : Text) → P (at entry_mark fs) last s
+  pub drop_entry : {fs : List Frame} {s t r : Text} {e : Entry} → Star LineSpace s t → IsEntry true t r e → ((b : Bool) → P (at (in_node (fresh b)) fs) r r) → (last : Text) → P (at entry_slashdash fs) last s
   drop_entry {fs = fs} ls i x last =
-      let h : HereAt P fs entry_mark = λ d last s r k t e g x. back t e g refl refl x in
-      lines entry_mark h refl refl refl ls (entry i entry_mark h (λ v. refl) (λ v. refl) refl x) last
+      let h : HereAt P fs entry_slashdash = λ d last s r k t e g x. back t e g refl refl x in
+      lines entry_slashdash h refl refl refl ls (entry i entry_slashdash h (λ v. refl) (λ v. refl) refl x) last
 
   -- or a block
-  pub drop_block : {fs : List Frame} {s t r : Text} {xs : Nodes} → Star LineSpace s t → IsBlock true t r xs → P (at (in_node later) fs) r r → (b : Bool) (last : Text) → P (at (mark_phase b) fs) last s
+  pub drop_block : {fs : List Frame} {s t r : Text} {xs : Nodes} → Star LineSpace s t → IsBlock true t r xs → P (at (in_node later) fs) r r → (b : Bool) (last : Text) → P (at (slashdash_phase b) fs) last s
   drop_block {fs = fs} ls i x true last =
-      let h : HereAt P fs entry_mark = λ d last s r k t e g x. back t e g refl refl x in
-      lines entry_mark h refl refl refl ls (block i entry_mark h in_dropped (at (in_node later) fs) refl refl refl x) last
+      let h : HereAt P fs entry_slashdash = λ d last s r k t e g x. back t e g refl refl x in
+      lines entry_slashdash h refl refl refl ls (block i entry_slashdash h in_dropped (at (in_node later) fs) refl refl refl x) last
   drop_block {fs = fs} ls i x false last =
-      let h : HereAt P fs block_mark = λ d last s r k t e g x. back t e g refl refl x in
-      lines block_mark h refl refl refl ls (block i block_mark h in_dropped (at (in_node later) fs) refl refl refl x) last
+      let h : HereAt P fs block_slashdash = λ d last s r k t e g x. back t e g refl refl x in
+      lines block_slashdash h refl refl refl ls (block i block_slashdash h in_dropped (at (in_node later) fs) refl refl refl x) last
 
 -- the machine's passing over what a slashdash drops is such a P: in a node
 pub over_part : (b : Bool) (e : Text) → Back (λ c last s. PartPasses c last s b e)

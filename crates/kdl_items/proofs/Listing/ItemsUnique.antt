@@ -6,9 +6,9 @@ use Rattle.kdl_text.specs.Trivia.{NodeSpace, slashdash}
 use Rattle.kdl_entry.specs.Internal.Items.{between}
 use Rattle.kdl_grammar.specs.Data.{Node}
 use Rattle.kdl_grammar.specs.Grammar.{IsNode}
-use Rattle.kdl_grammar.proofs.Reading.Control.{at, marked}
+use Rattle.kdl_grammar.proofs.Reading.Control.{at, node_slashdash}
 use Rattle.kdl_items.specs.Items.{Item, piece, EndsTight, GapItems, Place, takes_entries, PlaceItems}
-use Rattle.kdl_items.specs.Internal.Passing.{ended, NodePasses, PartPasses, mark_phase, mark_in}
+use Rattle.kdl_items.specs.Internal.Passing.{ended, NodePasses, PartPasses, slashdash_phase, slashdash_in}
 use Rattle.kdl_items.proofs.Dropping.DroppedNodes.{passes_node, passes_last, node_returned, node_ended}
 use Rattle.kdl_items.proofs.Dropping.NoEquals.{place_quiet}
 use Rattle.kdl_items.proofs.Dropping.DroppedParts.{entry_passes, block_passes, part_entry, part_block}
@@ -27,14 +27,14 @@ gap_items_det {js = js} (GapItems.dropped_node {e = e} (slashdash {s = t} ls) x 
     ap (λ (l : List Item). piece (between (47 ∷ 45 ∷ t) e) ∷ l) (gap_items_det g w.2) ∙ sym w.1
 gap_items_det {js = js} (GapItems.last_node {u = u} (slashdash {s = t} ls) x tight ss g) h =
     let q = passes_last ls x ss in
-    let w = (node_ended (subst (λ (z : Text). NodePasses (at marked []) t t (ended z)) (tight_end tight q.1 q.2) q.3) js).0 h in
+    let w = (node_ended (subst (λ (z : Text). NodePasses (at node_slashdash []) t t (ended z)) (tight_end tight q.1 q.2) q.3) js).0 h in
     ap (λ (l : List Item). piece (between (47 ∷ 45 ∷ t) u) ∷ l) (gap_items_det g w.2) ∙ sym w.1
 
 pub place_items_det : {p : Place} {s : Text} {is js : List Item} → PlaceItems p s is → PlaceItems p s js → is ≡ js
 place_items_det {p = p} {js = js} (PlaceItems.ends e) h = sym ((place_end p js).0 h).1
 place_items_det {js = js} (PlaceItems.space {is = is} d g) h = let w = (place_space d js).0 h in ap (λ (l : List Item). is ++ l) (place_items_det g w.2) ∙ sym w.1
 place_items_det {p = p} {js = js} (PlaceItems.dropped_entry {u = u} e (slashdash {s = t} ls) i g) h =
-    let x : PartPasses (mark_in p) t t false u = subst (λ (b : Bool). PartPasses (at (mark_phase b) []) t t false u) (sym e) (entry_passes ls i (place_quiet g) t) in
+    let x : PartPasses (slashdash_in p) t t false u = subst (λ (b : Bool). PartPasses (at (slashdash_phase b) []) t t false u) (sym e) (entry_passes ls i (place_quiet g) t) in
     let w = (part_entry x js).0 h in
     ap (λ (l : List Item). piece (between (47 ∷ 45 ∷ t) u) ∷ l) (place_items_det g w.2) ∙ sym w.1
 place_items_det {p = p} {js = js} (PlaceItems.dropped_block {u = u} e (slashdash {s = t} ls) b g) h =

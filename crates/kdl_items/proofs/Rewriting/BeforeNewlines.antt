@@ -9,7 +9,7 @@ use Rattle.kdl_text.proofs.Looking.Ends.{then as behind_end}
 use Rattle.kdl_text.proofs.Spacing.ValueEnds.{space_ends}
 use Rattle.kdl_entry.specs.Data.{Entry}
 use Rattle.kdl_entry.proofs.Moving.EntryEnds.{end_spaces, end_slashdash, end_some, end_type}
-use Rattle.kdl_entry.proofs.Moving.EntryMoves.{move_space, move_spaces, move_plus, move_slashdash, move_string, move_maybe, move_entry, marks, spaces_end, spaces_dash}
+use Rattle.kdl_entry.proofs.Moving.EntryMoves.{move_space, move_spaces, move_plus, move_slashdash, move_string, move_maybe, move_entry, punctuation_end, spaces_end, spaces_dash}
 use Rattle.kdl_entry.proofs.Moving.Puts.{Put, stands, also, joined, same, begins_first}
 use Rattle.kdl_grammar.specs.Data.{Node, Children, Nodes}
 use Rattle.kdl_grammar.specs.Grammar.{IsNode, named, AfterName, kept_entry, dropped_entry, Blocks, dropped_block, block as a_block, no_block, AfterBlock, dropped_later, no_more, IsBlock, braces}
@@ -198,7 +198,7 @@ some_end : {s r : Text} → Plus NodeSpace s r → ValueEnd true s
 some_end (plus n ss) = space_ends n
 
 brace_end : {s r : Text} {xs : Nodes} → IsBlock true s r xs → ValueEnd true s
-brace_end (braces ns) = marks 123 refl
+brace_end (braces ns) = punctuation_end 123 refl
 
 cut_later : {s r : Text} → AfterBlock true s r → Cut (AfterBlock true) s r
 cut_later {s} {r} (no_more ss) = record { rest = s; at = stands; spaces = ss; last = λ l. l; ends = λ u e. e; there = λ u q e f. no_more f }

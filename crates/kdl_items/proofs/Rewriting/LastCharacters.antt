@@ -4,7 +4,7 @@ use Rattle.std.proofs.lemmas.Bool.{and_parts}
 use Rattle.std.proofs.lemmas.Bool.Decides.{nat_tests}
 use Rattle.std.specs.List.{list_all}
 use Rattle.std.specs.Prelude.{if◌then◌else◌}
-use Rattle.kdl_text.specs.Chars.{Text, is_identifier_char, is_space, is_newline_char, is_banned, is_mark, times, space as a_space}
+use Rattle.kdl_text.specs.Chars.{Text, is_identifier_char, is_space, is_newline_char, is_banned, is_punctuation, times, space as a_space}
 use Rattle.kdl_text.specs.Bare.{BareString, bare as bare_text, is_bare}
 use Rattle.kdl_text.specs.MultiLine.{ContentUnit, Content, MultiLineBody, multi_line, IsQuoted}
 use Rattle.kdl_text.specs.Numbers.{is_digit_of, base_of, base_prefix, BasePrefix, Digits, Integer, integer, whole, Fraction, Exponent, DecimalPart, part, decimal, IsNumber, is_whole, is_decimal, NumberValue, IsKeyword, keyword as a_keyword, keyword_text}
@@ -21,7 +21,7 @@ use Rattle.kdl_entry.specs.Data.{Entry}
 use Rattle.kdl_entry.specs.Entries.{StringPiece, bare, quoted, raw, number, keyword, IsString, string, IsPlainValue, a_string, a_plain, IsValue, value, IsEntry, property, argument}
 use Rattle.kdl_entry.proofs.Lexing.TokenUnique.{end_of}
 use Rattle.kdl_entry.proofs.Moving.EntryEnds.{end_spaces, end_string, end_type}
-use Rattle.kdl_entry.proofs.Moving.LeafEnds.{integer_end, mark_end, sign_end}
+use Rattle.kdl_entry.proofs.Moving.LeafEnds.{integer_end, base_end, sign_end}
 use Rattle.kdl_entry.proofs.Moving.Puts.{Put}
 use Rattle.kdl_grammar.specs.Data.{Nodes}
 use Rattle.kdl_grammar.specs.Grammar.{IsBlock, braces}
@@ -61,7 +61,7 @@ module _ (k : ℕ) (small : k ≤ 36) where
   digits_last : (c : ℕ) → (c == 13) ≡ false → {s r w : Text} → Digits k s r w → Last (c ∷ s) r
   digits_last c h (Digits.stop x) = last_here c h
   digits_last c h (Digits.digit {c = d} x ds) = last_also c (digits_last d (digit_other k d small x) ds)
-  digits_last c h (Digits.mark ds) = last_also c (digits_last 95 refl ds)
+  digits_last c h (Digits.underscore ds) = last_also c (digits_last 95 refl ds)
 
   integer_last : {s r w : Text} → Integer k s r w → Last s r
   integer_last (integer {c = c} x d) = digits_last c (digit_other k c small x) d
@@ -75,16 +75,16 @@ base_small d k h = go (d == 120 || d == 88) (d == 111 || d == 79) (d == 98 || d 
     go false false true h = let f : 2 ≡ k = cc in omega (arith, f)
     go false false false h = cc
 
-marked_small : (c d k : ℕ) (s : Text) → base_prefix (c ∷ d ∷ s) ≡ Some k → k ≤ 36
-marked_small c d k s h = go (c == 48) h
+prefix_small : (c d k : ℕ) (s : Text) → base_prefix (c ∷ d ∷ s) ≡ Some k → k ≤ 36
+prefix_small c d k s h = go (c == 48) h
   where
     go : (b : Bool) → (if b then base_of d else None) ≡ Some k → k ≤ 36
     go true h = base_small d k h
     go false h = cc
 
-mark_small : {s r : Text} {k : ℕ} → BasePrefix s r k → k ≤ 36
-mark_small (BasePrefix.ten x) = omega arith
-mark_small (BasePrefix.other {c = c} {d = d} {radix = k} {r = r} x) = marked_small c d k r x
+read_base_small : {s r : Text} {k : ℕ} → BasePrefix s r k → k ≤ 36
+read_base_small (BasePrefix.ten x) = omega arith
+read_base_small (BasePrefix.other {c = c} {d = d} {radix = k} {r = r} x) = prefix_small c d k r x
 
 ten_last : {s r w : Text} → Integer 10 s r w → Last s r
 ten_last i = integer_last 10 (omega arith) i
@@ -96,7 +96,7 @@ part_last (part (Fraction.fraction i) (Exponent.exponent {c = c} y g j) z e) = l
 part_last (part (Fraction.none x) (Exponent.none y) z e) = absurd cc
 
 number_last : {s r : Text} {n : NumberValue} → IsNumber s r n → Last s r
-number_last (is_whole (whole {radix = k} g m i x y e)) = last_behind (behind (sign_end g) (mark_end m)) (integer_last k (mark_small m) i)
+number_last (is_whole (whole {radix = k} g m i x y e)) = last_behind (behind (sign_end g) (base_end m)) (integer_last k (read_base_small m) i)
 number_last (is_decimal (decimal p g i d e f)) = last_behind (behind (sign_end g) (integer_end i)) (part_last d)
 
 keyword_last : {s r : Text} {k : Keyword} → IsKeyword s r k → Last s r
@@ -112,7 +112,7 @@ keyword_last {r = r} {k = k} (a_keyword e n) = last_same e (go k)
 
 -- strings
 identifier_other : (c : ℕ) → is_identifier_char c ≡ true → (c == 13) ≡ false
-unfolding is_identifier_char is_space is_newline_char is_banned is_mark
+unfolding is_identifier_char is_space is_newline_char is_banned is_punctuation
 identifier_other c h = grind (arith, nat_tests)
 
 word_last : (c : ℕ) (w r : Text) → list_all is_identifier_char (c ∷ w) ≡ true → Last (c ∷ (w ++ r)) r

@@ -10,7 +10,7 @@ use Rattle.kdl_text.specs.Trivia.{BlockComment, block as a_block, Line, LineComm
 use Rattle.kdl_text.proofs.Spacing.SpaceUnique.{newline_begins, newline_no_space, slash_no_space, backslash_no_space}
 use Rattle.kdl_entry.specs.Internal.Items.{between}
 use Rattle.kdl_entry.proofs.Lexing.Between.{between_is, is_between}
-use Rattle.kdl_entry.proofs.Moving.EntryMoves.{move_spaces, move_slashdash, marks, spaces_end}
+use Rattle.kdl_entry.proofs.Moving.EntryMoves.{move_spaces, move_slashdash, punctuation_end, spaces_end}
 use Rattle.kdl_entry.proofs.Moving.Puts.{Put, stands, also, joined, before}
 use Rattle.kdl_grammar.specs.Data.{Node}
 use Rattle.kdl_grammar.specs.Grammar.{Terminator, IsNode, Gap, line_space}
@@ -161,7 +161,7 @@ node_semicolon m n =
     let spaced = λ (r : Text). k.there (59 ∷ 10 ∷ r) refl in
     node_kept (joined p (also 59 stands)) (last_behind (put_end p) (last_here 59 refl))
     (λ r. DroppedLine.dropped (o.there (c.at.put (k.at.put (59 ∷ 10 ∷ r))) (c.full (k.at.put (59 ∷ 10 ∷ r))))
-    (c.there (k.at.put (59 ∷ 10 ∷ r)) (59 ∷ 10 ∷ r) (spaces_end (spaced r) (marks 59 refl)) (spaced r)) ItemEnd.semicolon Over.line)
+    (c.there (k.at.put (59 ∷ 10 ∷ r)) (59 ∷ 10 ∷ r) (spaces_end (spaced r) (punctuation_end 59 refl)) (spaced r)) ItemEnd.semicolon Over.line)
 
 node_ended : {s t u v e : Text} {x : Node} → Slashdash s t → IsNode true t u x → ItemEnd u v e → Standing (piece (between s e))
 node_ended m n ItemEnd.semicolon = node_semicolon m n

@@ -29,8 +29,8 @@ none i = lit< tt
 pub one_char : (c : ℕ) → c < 128 → chars (c ∷ []) ≡ c ∷ []
 one_char c h = chars-IsAscii (c ∷ []) (small c [] h none)
 
-pub escline_mark : chars (32 ∷ 92 ∷ 32 ∷ []) ≡ 32 ∷ 92 ∷ 32 ∷ []
-escline_mark = chars-IsAscii (32 ∷ 92 ∷ 32 ∷ []) (small 32 (92 ∷ 32 ∷ []) (omega arith) (small 92 (32 ∷ []) (omega arith) (small 32 [] (omega arith) none)))
+pub escline_text : chars (32 ∷ 92 ∷ 32 ∷ []) ≡ 32 ∷ 92 ∷ 32 ∷ []
+escline_text = chars-IsAscii (32 ∷ 92 ∷ 32 ∷ []) (small 32 (92 ∷ 32 ∷ []) (omega arith) (small 92 (32 ∷ []) (omega arith) (small 32 [] (omega arith) none)))
 
 -- what two or three writes in a row have written
 pub two : (now mid was a b : Text) → now ≡ mid ++ b → mid ≡ was ++ a → now ≡ was ++ (a ++ b)

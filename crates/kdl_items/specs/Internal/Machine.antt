@@ -8,7 +8,7 @@ use Rattle.kdl_items.specs.declared.machine.Machine.{Machine}
 use Rattle.kdl_items.specs.declared.machine.Move.{Move}
 use Rattle.kdl_items.specs.declared.machine.Move.TheVariants.{To, Open, Close, Refuse}
 use Rattle.kdl_items.specs.declared.machine.Phase.{Phase}
-use Rattle.kdl_items.specs.declared.machine.Phase.TheVariants.{Gap, Marked, TypeOpen, TypeName, TypeDone, InNode, Property, EntryMark, BlockMark, Kept, KeptMark}
+use Rattle.kdl_items.specs.declared.machine.Phase.TheVariants.{Gap, NodeSlashdash, TypeOpen, TypeName, TypeDone, InNode, Property, EntrySlashdash, BlockSlashdash, Kept, KeptSlashdash}
 use Rattle.kdl_items.specs.declared.machine.Spot.{Spot}
 use Rattle.kdl_items.specs.declared.machine.Spot.TheVariants.{Fresh, Spaced, Later}
 
@@ -19,16 +19,16 @@ spot_view Later = c.later
 
 abbrev pub phase_view : Phase → c.Phase
 phase_view Gap = c.gap
-phase_view Marked = c.marked
+phase_view NodeSlashdash = c.node_slashdash
 phase_view (TypeOpen b) = c.type_open b
 phase_view (TypeName b) = c.type_name b
 phase_view (TypeDone b) = c.type_done b
 phase_view (InNode p) = c.in_node (spot_view p)
 phase_view Property = c.property
-phase_view EntryMark = c.entry_mark
-phase_view BlockMark = c.block_mark
+phase_view EntrySlashdash = c.entry_slashdash
+phase_view BlockSlashdash = c.block_slashdash
 phase_view Kept = c.kept
-phase_view KeptMark = c.kept_mark
+phase_view KeptSlashdash = c.kept_slashdash
 
 abbrev pub frame_view : Frame → c.Frame
 frame_view Node = c.in_block

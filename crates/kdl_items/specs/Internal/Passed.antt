@@ -5,9 +5,9 @@ use Rattle.std.specs.Str.{chars}
 use Rattle.kdl_text.specs.Chars.{Text}
 use Rattle.kdl_text.specs.Spans.{bytes}
 use Rattle.kdl_entry.specs.Internal.Tokens.{Token, space}
-use Rattle.kdl_grammar.proofs.Reading.Control.{at, marked}
+use Rattle.kdl_grammar.proofs.Reading.Control.{at, node_slashdash}
 use Rattle.kdl_items.specs.Internal.Passing as passing
-use Rattle.kdl_items.specs.Internal.Passing.{NodePasses, PartPasses, returned, ended, mark_in}
+use Rattle.kdl_items.specs.Internal.Passing.{NodePasses, PartPasses, returned, ended, slashdash_in}
 use Rattle.kdl_items.specs.Items.{Item, ItemEnd, Place, PlaceItems, behind_block, spaced, takes_blocks}
 use Rattle.kdl_items.specs.Internal.Reading.{items_view, place_view}
 use Rattle.kdl_items.specs.declared.dropped.NodeEnd.{NodeEnd}
@@ -25,17 +25,17 @@ Before s n r = (p : Text) × (s ≡ p ++ r) × (bytes p ≡ n)
 
 -- the node behind the `/-` ends there
 pub data EndsAt (t : Text) (e : NodeEnd) : Type 0 where
-  returns : {k : Token} {u v i : Text} → NodePasses (at marked []) t t (returned k u v) → ItemEnd u v i → Before t e.item i → Before t e.behind v → EndsAt t e
-  ends : {w : Text} → NodePasses (at marked []) t t (ended w) → Before t e.item w → Before t e.behind w → EndsAt t e
+  returns : {k : Token} {u v i : Text} → NodePasses (at node_slashdash []) t t (returned k u v) → ItemEnd u v i → Before t e.item i → Before t e.behind v → EndsAt t e
+  ends : {w : Text} → NodePasses (at node_slashdash []) t t (ended w) → Before t e.item w → Before t e.behind w → EndsAt t e
 
 abbrev pub AnswersDroppedNode : Text → Option NodeEnd → Type 0
 AnswersDroppedNode t (Some e) = EndsAt t e
-AnswersDroppedNode t None = (e : passing.NodeEnd) → NodePasses (at marked []) t t e → ⊥
+AnswersDroppedNode t None = (e : passing.NodeEnd) → NodePasses (at node_slashdash []) t t e → ⊥
 
 -- an entry or a block that is dropped in the place ends there
 abbrev pub AnswersDroppedPart : Place → Text → Option PartEnd → Type 0
-AnswersDroppedPart p t (Some e) = (u : Text) × PartPasses (mark_in p) t t e.is_block u × Before t e.at u
-AnswersDroppedPart p t None = (b : Bool) (u : Text) → PartPasses (mark_in p) t t b u → ⊥
+AnswersDroppedPart p t (Some e) = (u : Text) × PartPasses (slashdash_in p) t t e.is_block u × Before t e.at u
+AnswersDroppedPart p t None = (b : Bool) (u : Text) → PartPasses (slashdash_in p) t t b u → ⊥
 
 -- the place behind what was dropped
 abbrev pub BehindPart : Place → Bool → Option Place → Type 0

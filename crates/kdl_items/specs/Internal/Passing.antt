@@ -2,7 +2,7 @@
 use Rattle.std.specs.Prelude.{◌≡◌, Bool, true, false, ◌&&◌, not, [], Some}
 use Rattle.kdl_text.specs.Chars.{Text}
 use Rattle.kdl_entry.specs.Internal.Tokens.{Token, space, equals, BeginsToken}
-use Rattle.kdl_grammar.proofs.Reading.Control.{Control, at, gap, in_node, fresh, spaced, later, entry_mark, block_mark, Phase, step, finish}
+use Rattle.kdl_grammar.proofs.Reading.Control.{Control, at, gap, in_node, fresh, spaced, later, entry_slashdash, block_slashdash, Phase, step, finish}
 use Rattle.kdl_items.specs.Items.{Place, takes_entries}
 
 -- where the last token that is no node-space ends
@@ -57,9 +57,9 @@ pub data PartPasses : Control → Text → Text → Bool → Text → Type 0 whe
       → PartPasses d (moved k last r) r b e → PartPasses c last s b e
 
 -- the phase behind the `/-` in a place of a node
-abbrev pub mark_phase : Bool → Phase
-mark_phase true = entry_mark
-mark_phase false = block_mark
+abbrev pub slashdash_phase : Bool → Phase
+slashdash_phase true = entry_slashdash
+slashdash_phase false = block_slashdash
 
-abbrev pub mark_in : Place → Control
-mark_in p = at (mark_phase (takes_entries p)) []
+abbrev pub slashdash_in : Place → Control
+slashdash_in p = at (slashdash_phase (takes_entries p)) []

@@ -9,30 +9,30 @@ use Rattle.kdl_parser.specs.Internal.Answered.{AnswersParts}
 use Rattle.kdl_parser.specs.Internal.Building.{EndsIn}
 use Rattle.kdl_parser.specs.Internal.Whole.{AnswersDocumentText}
 use Rattle.kdl_parser.specs.declared.node_parts.DocumentParts.{DocumentParts}
-use Rattle.kdl_parser.proofs.Answering.Outcomes.{not_begins, unmarked_answer, unmarked_failure, marked_answer, marked_failure}
+use Rattle.kdl_parser.proofs.Answering.Outcomes.{not_begins, plain_answer, plain_failure, bom_answer, bom_failure}
 
--- what is left behind the mark, or where there is none
-pub mark_ends : (w : Text) (eaten : Bool) (old new : Here) → w ≡ old.rest → Ate 0xFEFF eaten old new → EndsIn w new.rest
-mark_ends w true old new e a = (0xFEFF ∷ [], e ∙ a.0)
-mark_ends w false old new e a = ([], e ∙ ap (λ (h : Here). h.rest) (sym a.1))
+-- what is left behind the U+FEFF, or where there is none
+pub bom_ends : (w : Text) (eaten : Bool) (old new : Here) → w ≡ old.rest → Ate 0xFEFF eaten old new → EndsIn w new.rest
+bom_ends w true old new e a = (0xFEFF ∷ [], e ∙ a.0)
+bom_ends w false old new e a = ([], e ∙ ap (λ (h : Here). h.rest) (sym a.1))
 
-pub mark_at : (w : Text) (eaten : Bool) (old new : Here) → w ≡ old.rest → old.at ≡ 0 → Ate 0xFEFF eaten old new → new.at + bytes new.rest ≡ bytes w
-mark_at w true old new e n a = omega (arith, ap bytes e, ap bytes a.0, a.1, n)
-mark_at w false old new e n a = let x = ap (λ (h : Here). h.rest) a.1 in let y = ap (λ (h : Here). h.at) a.1 in omega (arith, ap bytes e, ap bytes x, y, n)
+pub bom_at : (w : Text) (eaten : Bool) (old new : Here) → w ≡ old.rest → old.at ≡ 0 → Ate 0xFEFF eaten old new → new.at + bytes new.rest ≡ bytes w
+bom_at w true old new e n a = omega (arith, ap bytes e, ap bytes a.0, a.1, n)
+bom_at w false old new e n a = let x = ap (λ (h : Here). h.rest) a.1 in let y = ap (λ (h : Here). h.at) a.1 in omega (arith, ap bytes e, ap bytes x, y, n)
 
 -- the answer on the whole text
-pub whole_answer : {N : Type 0} (tree : N → Node) (t w : Text) (mark : Bool) (old new : Here) (p : DocumentParts N) → w ≡ t → old.rest ≡ t → Ate 0xFEFF mark old new → AnswersParts tree w new.rest (Ok p)
-    → AnswersDocumentText tree t (Ok (record { parts = p; has_bom = mark }))
-whole_answer tree t w true old new p e f a x = marked_answer tree t new.rest p (sym f ∙ a.0) (subst (λ (z : Text). AnswersParts tree z new.rest (Ok p)) e x)
+pub whole_answer : {N : Type 0} (tree : N → Node) (t w : Text) (has_bom : Bool) (old new : Here) (p : DocumentParts N) → w ≡ t → old.rest ≡ t → Ate 0xFEFF has_bom old new → AnswersParts tree w new.rest (Ok p)
+    → AnswersDocumentText tree t (Ok (record { parts = p; has_bom = has_bom }))
+whole_answer tree t w true old new p e f a x = bom_answer tree t new.rest p (sym f ∙ a.0) (subst (λ (z : Text). AnswersParts tree z new.rest (Ok p)) e x)
 whole_answer tree t w false old new p e f a x =
     let u : new.rest ≡ t = ap (λ (h : Here). h.rest) a.1 ∙ f in
-    unmarked_answer tree t p (subst (λ (z : Text). AnswersParts tree t z (Ok p)) u (subst (λ (z : Text). AnswersParts tree z new.rest (Ok p)) e x))
+    plain_answer tree t p (subst (λ (z : Text). AnswersParts tree t z (Ok p)) u (subst (λ (z : Text). AnswersParts tree z new.rest (Ok p)) e x))
 
-pub whole_failure : {N : Type 0} (tree : N → Node) (t w : Text) (mark : Bool) (old new : Here) (failure : LexFailure) → w ≡ t → old.rest ≡ t → Ate 0xFEFF mark old new → AnswersParts tree w new.rest (Err failure)
+pub whole_failure : {N : Type 0} (tree : N → Node) (t w : Text) (has_bom : Bool) (old new : Here) (failure : LexFailure) → w ≡ t → old.rest ≡ t → Ate 0xFEFF has_bom old new → AnswersParts tree w new.rest (Err failure)
     → AnswersDocumentText tree t (Err failure)
 whole_failure tree t w true old new failure e f a x =
-    marked_failure tree t new.rest failure (sym f ∙ a.0) (subst (λ (z : Text). AnswersParts tree z new.rest (Err failure)) e x)
+    bom_failure tree t new.rest failure (sym f ∙ a.0) (subst (λ (z : Text). AnswersParts tree z new.rest (Err failure)) e x)
 whole_failure tree t w false old new failure e f a x =
     let u : new.rest ≡ t = ap (λ (h : Here). h.rest) a.1 ∙ f in
     let n = not_begins t (ap (begins 0xFEFF) (sym f) ∙ a.0) in
-    unmarked_failure tree t failure n (subst (λ (z : Text). AnswersParts tree t z (Err failure)) u (subst (λ (z : Text). AnswersParts tree z new.rest (Err failure)) e x))
+    plain_failure tree t failure n (subst (λ (z : Text). AnswersParts tree t z (Err failure)) u (subst (λ (z : Text). AnswersParts tree z new.rest (Err failure)) e x))

@@ -16,7 +16,7 @@ use Rattle.kdl_entry.specs.declared.items.lexer.LexFailure.{LexFailure}
 use Rattle.kdl_entry.specs.declared.items.lexer.LexFailure.TheVariants.{Faulty, Memory}
 use Rattle.kdl_entry.specs.declared.items.lexer.Token.{Token as CodeToken}
 use Rattle.kdl_entry.specs.declared.items.lexer.TokenKind.{TokenKind}
-use Rattle.kdl_entry.specs.declared.items.lexer.TokenKind.TheVariants.{Space, Newline, Slashdash, String, Value, Left, Right, Opening, Closing, Equals, Semicolon, Mark}
+use Rattle.kdl_entry.specs.declared.items.lexer.TokenKind.TheVariants.{Space, Newline, Slashdash, String, Value, Left, Right, Opening, Closing, Equals, Semicolon, Bom}
 use Rattle.kdl_entry.proofs.Lexing.TokenUnique.{token_det, no_token}
 use Rattle.kdl_entry.proofs.Reading.EntryLoop.{bytes_before, char_in}
 use Rattle.kdl_parser.specs.Internal.Building.{EndsIn}
@@ -42,7 +42,7 @@ lines_kind Opening = refl
 lines_kind Closing = refl
 lines_kind Equals = refl
 lines_kind Semicolon = refl
-lines_kind Mark = refl
+lines_kind Bom = refl
 
 -- a text that begins with a token is line-spaces where the token is some and what follows it is
 begun_lines : {s r : Text} {k : Token} → BeginsToken s k r → of_lines k ≡ true → Star LineSpace r [] → Star LineSpace s []

@@ -3,7 +3,7 @@ use Rattle.std.proofs.Common.{◌≡◌, ℕ, List, ◌+◌, ◌*◌, ◌≤◌,
 use Rattle.std.specs.Str.{chars, IsUtf8}
 use Rattle.kdl_text.specs.Chars.{Text, begins}
 use Rattle.kdl_text.specs.Spans.{bytes}
-use Rattle.kdl_entry.specs.Internal.Tokens.{Token, t_mark}
+use Rattle.kdl_entry.specs.Internal.Tokens.{Token, t_bom}
 use Rattle.kdl_entry.specs.declared.items.lexer.LexFailure.{LexFailure}
 use Rattle.kdl_entry.specs.declared.items.lexer.LexFailure.TheVariants.{Faulty, Memory}
 use Rattle.kdl_entry.proofs.Lexing.TokenUnique.{token_det}
@@ -25,40 +25,40 @@ use Rattle.kdl_grammar.proofs.Laying.LaidPrints.{printed}
 use Rattle.kdl_grammar.proofs.Moving.FormerIsPresent.{wider}
 
 -- U+FEFF ends what the machine reads
-no_mark : (whole s : Text) (d : Document) → Runs whole d (initial (0xFEFF ∷ s)) (0xFEFF ∷ s) → ⊥
-no_mark whole s d (reads {r = r} t e a) =
-    let k = (token_det t t_mark).1 in
+no_bom_here : (whole s : Text) (d : Document) → Runs whole d (initial (0xFEFF ∷ s)) (0xFEFF ∷ s) → ⊥
+no_bom_here whole s d (reads {r = r} t e a) =
+    let k = (token_det t t_bom).1 in
     let f = ap (λ (j : Token). step whole (initial (0xFEFF ∷ s)) j (0xFEFF ∷ s) r) (sym k) ∙ e in
     cc
 
 -- a text that does not begin with U+FEFF
-no_unmarked : {t : Text} {d : Document} → AnswersDocument t d → ((u : Text) → t ≡ 0xFEFF ∷ u → ⊥) → ((d : Document) → Runs t d (initial t) t → ⊥) → ⊥
-no_unmarked (AnswersDocument.unmarked {d = d} a) n f = f d a
-no_unmarked (AnswersDocument.marked {t = s} a) n f = n s refl
+refused_plain : {t : Text} {d : Document} → AnswersDocument t d → ((u : Text) → t ≡ 0xFEFF ∷ u → ⊥) → ((d : Document) → Runs t d (initial t) t → ⊥) → ⊥
+refused_plain (AnswersDocument.no_bom {d = d} a) n f = f d a
+refused_plain (AnswersDocument.behind_bom {t = s} a) n f = n s refl
 
-pub unmarked_answer : {N : Type 0} (tree : N → Node) (t : Text) (p : DocumentParts N) → AnswersParts tree t t (Ok p) → AnswersDocumentText tree t (Ok (record { parts = p; has_bom = false }))
-unmarked_answer tree t p a = AnswersDocument.unmarked a
+pub plain_answer : {N : Type 0} (tree : N → Node) (t : Text) (p : DocumentParts N) → AnswersParts tree t t (Ok p) → AnswersDocumentText tree t (Ok (record { parts = p; has_bom = false }))
+plain_answer tree t p a = AnswersDocument.no_bom a
 
-pub unmarked_failure : {N : Type 0} (tree : N → Node) (t : Text) (e : LexFailure) → ((u : Text) → t ≡ 0xFEFF ∷ u → ⊥) → AnswersParts tree t t (Err e) → AnswersDocumentText tree t (Err e)
-unmarked_failure tree t (Faulty span) n a = (λ d x. no_unmarked x n a.0, a.1)
-unmarked_failure tree t Memory n a = tt
+pub plain_failure : {N : Type 0} (tree : N → Node) (t : Text) (e : LexFailure) → ((u : Text) → t ≡ 0xFEFF ∷ u → ⊥) → AnswersParts tree t t (Err e) → AnswersDocumentText tree t (Err e)
+plain_failure tree t (Faulty span) n a = (λ d x. refused_plain x n a.0, a.1)
+plain_failure tree t Memory n a = tt
 
 pub not_begins : (t : Text) → begins 0xFEFF t ≡ false → (u : Text) → t ≡ 0xFEFF ∷ u → ⊥
 not_begins t n u e = let f = ap (begins 0xFEFF) e in cc
 
 -- a text that begins with U+FEFF
-no_marked : {t : Text} {d : Document} → AnswersDocument t d → (u : Text) → t ≡ 0xFEFF ∷ u → ((d : Document) → Runs t d (initial u) u → ⊥) → ⊥
-no_marked (AnswersDocument.unmarked {t = t} {d = d} a) u e f = no_mark t u d (subst (λ (z : Text). Runs t d (initial z) z) e a)
-no_marked (AnswersDocument.marked {t = s} {d = d} a) u e f = let g : s ≡ u = cc in f d (subst (λ (z : Text). Runs (0xFEFF ∷ s) d (initial z) z) g a)
+refused_behind_bom : {t : Text} {d : Document} → AnswersDocument t d → (u : Text) → t ≡ 0xFEFF ∷ u → ((d : Document) → Runs t d (initial u) u → ⊥) → ⊥
+refused_behind_bom (AnswersDocument.no_bom {t = t} {d = d} a) u e f = no_bom_here t u d (subst (λ (z : Text). Runs t d (initial z) z) e a)
+refused_behind_bom (AnswersDocument.behind_bom {t = s} {d = d} a) u e f = let g : s ≡ u = cc in f d (subst (λ (z : Text). Runs (0xFEFF ∷ s) d (initial z) z) g a)
 
-pub marked_answer : {N : Type 0} (tree : N → Node) (t u : Text) (p : DocumentParts N) → t ≡ 0xFEFF ∷ u → AnswersParts tree t u (Ok p) → AnswersDocumentText tree t (Ok (record { parts = p; has_bom = true }))
-marked_answer tree t u p e a =
+pub bom_answer : {N : Type 0} (tree : N → Node) (t u : Text) (p : DocumentParts N) → t ≡ 0xFEFF ∷ u → AnswersParts tree t u (Ok p) → AnswersDocumentText tree t (Ok (record { parts = p; has_bom = true }))
+bom_answer tree t u p e a =
     let b : Runs (0xFEFF ∷ u) (document_by tree p) (initial u) u = subst (λ (z : Text). Runs z (document_by tree p) (initial u) u) e a in
-    subst (λ (z : Text). AnswersDocument z (with_bom (document_by tree p))) (sym e) (AnswersDocument.marked b)
+    subst (λ (z : Text). AnswersDocument z (with_bom (document_by tree p))) (sym e) (AnswersDocument.behind_bom b)
 
-pub marked_failure : {N : Type 0} (tree : N → Node) (t u : Text) (e : LexFailure) → t ≡ 0xFEFF ∷ u → AnswersParts tree t u (Err e) → AnswersDocumentText tree t (Err e)
-marked_failure tree t u (Faulty span) e a = (λ d x. no_marked x u e a.0, a.1)
-marked_failure tree t u Memory e a = tt
+pub bom_failure : {N : Type 0} (tree : N → Node) (t u : Text) (e : LexFailure) → t ≡ 0xFEFF ∷ u → AnswersParts tree t u (Err e) → AnswersDocumentText tree t (Err e)
+bom_failure tree t u (Faulty span) e a = (λ d x. refused_behind_bom x u e a.0, a.1)
+bom_failure tree t u Memory e a = tt
 
 -- what is answered is what the grammar derives, laid in the text, and prints it
 pub found : (t : Text) (d : Document) → AnswersDocument t d → IsDocument true t (document_data d)

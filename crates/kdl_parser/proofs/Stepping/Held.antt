@@ -2,7 +2,7 @@
 use Rattle.std.proofs.Common.{◌≡◌, true, false, List, [], ◌∷◌, Option, Some, None, option_map, map, refl, sym, ap, ◌∙◌}
 use Rattle.kdl_text.specs.Chars.{Text}
 use Rattle.kdl_entry.specs.Internal.Tokens.{Token, space, value, closing}
-use Rattle.kdl_grammar.specs.Internal.Machine.{no_name, for_name, no_value, for_value, Pending, pending, fresh, spaced, later, Phase, gap, marked, type_open, type_name, type_done, in_node, property, entry_mark, block_mark, kept, kept_mark, Frame, in_block, in_dropped, in_later, State, at, popped, step, finish, Runs, stops, reads}
+use Rattle.kdl_grammar.specs.Internal.Machine.{no_name, for_name, no_value, for_value, Pending, pending, fresh, spaced, later, Phase, gap, node_slashdash, type_open, type_name, type_done, in_node, property, entry_slashdash, block_slashdash, kept, kept_slashdash, Frame, in_block, in_dropped, in_later, State, at, popped, step, finish, Runs, stops, reads}
 use Rattle.kdl_parser.specs.Internal.Building.{pending_held, phase_held, frame_held, held}
 use Rattle.kdl_grammar.specs.Tree.{Document, Nodes}
 
@@ -51,13 +51,13 @@ module _ (whole : Text) where
   stack_step (type_done true c q i d a) (value v) l fs from s r = let e = stack_twice fs in cc
   stack_step (type_done false c q i d a) (value v) l fs from s r = refl
   stack_step (type_done b c q i d a) closing l fs from s r = refl
-  stack_step marked closing l fs from s r = refl
+  stack_step node_slashdash closing l fs from s r = refl
   stack_step (type_open b c a) closing l fs from s r = refl
   stack_step (type_name b c q y a) closing l fs from s r = refl
   stack_step (property c k b a) closing l fs from s r = refl
-  stack_step (entry_mark h) closing l fs from s r = refl
-  stack_step (block_mark h) closing l fs from s r = refl
-  stack_step (kept_mark x) closing l fs from s r = refl
+  stack_step (entry_slashdash h) closing l fs from s r = refl
+  stack_step (block_slashdash h) closing l fs from s r = refl
+  stack_step (kept_slashdash x) closing l fs from s r = refl
   stack_step p k l fs from s r = let e = stack_twice fs in cc
 
   phase_step : (p : Phase) (k : Token) (l : Option Nodes) (fs : List Frame) (from s r : Text) → option_map held (step whole (at (phase_held p) l fs from) k s r) ≡ option_map held (step whole (at p l fs from) k s r)

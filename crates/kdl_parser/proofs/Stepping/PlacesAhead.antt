@@ -2,7 +2,7 @@
 use Rattle.std.proofs.Common.{◌≡◌, true, false, List, [], ◌∷◌, ◌++◌, Option, Some, None, option_map, refl, sym, ap, subst, ◌∙◌, append_assoc}
 use Rattle.kdl_text.specs.Chars.{Text}
 use Rattle.kdl_entry.specs.Internal.Tokens.{Token, space, newline, slashdash, string, value, left, right, opening, closing, equals, semicolon}
-use Rattle.kdl_grammar.specs.Internal.Machine.{Slot, no_name, for_name, no_value, for_value, pending, fresh, spaced, later, Phase, gap, marked, type_open, type_name, type_done, in_node, property, entry_mark, block_mark, kept, kept_mark, Frame, in_block, in_dropped, in_later, State, at, origin, moved, popped, step}
+use Rattle.kdl_grammar.specs.Internal.Machine.{Slot, no_name, for_name, no_value, for_value, pending, fresh, spaced, later, Phase, gap, node_slashdash, type_open, type_name, type_done, in_node, property, entry_slashdash, block_slashdash, kept, kept_slashdash, Frame, in_block, in_dropped, in_later, State, at, origin, moved, popped, step}
 use Rattle.kdl_parser.specs.Internal.Building.{held, EndsIn, phase_placed, Placed}
 use Rattle.kdl_grammar.specs.Tree.{Nodes}
 use Rattle.kdl_parser.proofs.Stepping.Held.{reached}
@@ -41,10 +41,10 @@ module _ (whole : Text) where
   all_placed gap (string v) l fs from s r a y b = (moved_ends _ from r a, tt)
   all_placed gap left l fs from s r a y b = (a, here r)
   all_placed gap closing l fs from s r a y b = popped_placed _ fs _ s r a
-  all_placed marked space l fs from s r a y b = (a, tt)
-  all_placed marked newline l fs from s r a y b = (a, tt)
-  all_placed marked (string v) l fs from s r a y b = (a, tt)
-  all_placed marked left l fs from s r a y b = (a, here r)
+  all_placed node_slashdash space l fs from s r a y b = (a, tt)
+  all_placed node_slashdash newline l fs from s r a y b = (a, tt)
+  all_placed node_slashdash (string v) l fs from s r a y b = (a, tt)
+  all_placed node_slashdash left l fs from s r a y b = (a, here r)
   all_placed (type_open f c d) space l fs from s r a y b = (a, then_ends y b)
   all_placed (type_open f c d) (string v) l fs from s r a y b = (a, here r)
   all_placed (type_name f c q i d) space l fs from s r a y b = (a, then_ends y b)
@@ -70,23 +70,23 @@ module _ (whole : Text) where
   all_placed (in_node u (spaced o)) left l fs from s r a y b = (a, here r)
   all_placed (in_node u (fresh (Some (pending c i e)))) equals l fs from s r a y b = (a, here r)
   all_placed (in_node u (spaced (Some (pending c i e)))) equals l fs from s r a y b = (a, here r)
-  all_placed (entry_mark u) space l fs from s r a y b = (a, tt)
-  all_placed (entry_mark u) newline l fs from s r a y b = (a, tt)
-  all_placed (entry_mark u) (string v) l fs from s r a y b = (a, tt)
-  all_placed (entry_mark u) (value v) l fs from s r a y b = (a, tt)
-  all_placed (entry_mark u) left l fs from s r a y b = (a, here r)
-  all_placed (entry_mark u) opening l fs from s r a y b = (a, tt)
-  all_placed (block_mark u) space l fs from s r a y b = (a, tt)
-  all_placed (block_mark u) newline l fs from s r a y b = (a, tt)
-  all_placed (block_mark u) opening l fs from s r a y b = (a, tt)
+  all_placed (entry_slashdash u) space l fs from s r a y b = (a, tt)
+  all_placed (entry_slashdash u) newline l fs from s r a y b = (a, tt)
+  all_placed (entry_slashdash u) (string v) l fs from s r a y b = (a, tt)
+  all_placed (entry_slashdash u) (value v) l fs from s r a y b = (a, tt)
+  all_placed (entry_slashdash u) left l fs from s r a y b = (a, here r)
+  all_placed (entry_slashdash u) opening l fs from s r a y b = (a, tt)
+  all_placed (block_slashdash u) space l fs from s r a y b = (a, tt)
+  all_placed (block_slashdash u) newline l fs from s r a y b = (a, tt)
+  all_placed (block_slashdash u) opening l fs from s r a y b = (a, tt)
   all_placed (kept x) space l fs from s r a y b = (a, tt)
   all_placed (kept x) newline l fs from s r a y b = (origin_ends x from r r a (here r), tt)
   all_placed (kept x) semicolon l fs from s r a y b = (origin_ends x from r r a (here r), tt)
   all_placed (kept x) closing l fs from s r a y b = popped_placed _ fs _ s r (origin_ends x from s r a b)
   all_placed (kept x) slashdash l fs from s r a y b = (a, tt)
-  all_placed (kept_mark x) space l fs from s r a y b = (a, tt)
-  all_placed (kept_mark x) newline l fs from s r a y b = (a, tt)
-  all_placed (kept_mark x) opening l fs from s r a y b = (a, tt)
+  all_placed (kept_slashdash x) space l fs from s r a y b = (a, tt)
+  all_placed (kept_slashdash x) newline l fs from s r a y b = (a, tt)
+  all_placed (kept_slashdash x) opening l fs from s r a y b = (a, tt)
   all_placed _ _ l fs from s r a y b = tt
 
 placed_of : (p : Phase) (k : Token) (whole : Text) (l : Option Nodes) (fs : List Frame) (from s r : Text) → Placed (at p l fs from) s → EndsIn s r → AllPlaced (step whole (at p l fs from) k s r) r

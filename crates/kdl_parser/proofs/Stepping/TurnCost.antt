@@ -1,8 +1,8 @@
 -- What the turns of the loop over the tokens take, and what an item takes.
 use Rattle.std.proofs.Common.{◌≡◌, ℕ, ◌+◌, ◌*◌, ◌≤◌, length, [], ◌++◌, if◌then◌else◌, Bool, true, false, Option, Some, None, Result, Ok, Err, is_some, refl, ap, sym, ◌∙◌, arith, length-append}
 use Rattle.kdl_text.specs.Chars.{Text}
-use Rattle.kdl_text.specs.Internal.Here.{Here, Spot, Ahead, raise}
-use Rattle.kdl_text.specs.Spans.{bytes}
+use Rattle.kdl_text.specs.Internal.Here.{Here, Spot, Ahead}
+use Rattle.kdl_text.specs.Spans.{bytes, raise}
 use Rattle.kdl_text.specs.Internal.Reading.{Moves, Costs}
 use Rattle.kdl_text.proofs.Looking.MovesJoin.{bytes-append}
 use Rattle.kdl_text.proofs.Looking.Runs.{length-bytes}

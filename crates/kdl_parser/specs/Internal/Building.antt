@@ -6,6 +6,7 @@ use Rattle.kdl_text.specs.Chars.{Text}
 use Rattle.kdl_text.specs.Internal.Here.{Spot}
 use Rattle.kdl_entry.specs.Internal.Building.{type_view, item_view}
 use Rattle.kdl_value.specs.Data.{text}
+pub use Rattle.kdl_entry.specs.Internal.EntryReading.{EndsIn}
 use Rattle.kdl_entry.specs.Internal.Handed.{IsFaultAt}
 use Rattle.kdl_entry.specs.Internal.Items as items
 use Rattle.kdl_entry.specs.Internal.Items.{KeyParts, Stage, opened, named, closed, keyed, goes, gives, refuses, entry_at}
@@ -23,7 +24,7 @@ use Rattle.kdl_parser.specs.declared.builder.Frame.{Frame}
 use Rattle.kdl_parser.specs.declared.builder.Frame.TheVariants.{Block, DroppedBlock, LaterBlock}
 use Rattle.kdl_parser.specs.declared.builder.Kept.{Kept}
 use Rattle.kdl_parser.specs.declared.builder.Phase.{Phase}
-use Rattle.kdl_parser.specs.declared.builder.Phase.TheVariants.{Gap, Marked, InItem, Fresh, Spaced, Later, EntryMark, BlockMark, Behind, BehindMark}
+use Rattle.kdl_parser.specs.declared.builder.Phase.TheVariants.{Gap, NodeSlashdash, InItem, Fresh, Spaced, Later, EntrySlashdash, BlockSlashdash, Behind, BehindSlashdash}
 use Rattle.kdl_parser.specs.declared.builder.Under.{Under}
 use Rattle.kdl_parser.specs.declared.builder.Waiting.{Waiting}
 use Rattle.kdl_parser.specs.declared.builder.Waiting.TheVariants.{Nothing, Dropped, Word}
@@ -106,15 +107,15 @@ item_answer whole o it l fs from s r refuses = None
 
 abbrev pub phase_view : Phase → Text → Text → Waiting → Option machine.Under → Option machine.Kept → items.Item → machine.Phase
 phase_view Gap whole from w o k it = machine.gap
-phase_view Marked whole from w o k it = machine.marked
+phase_view NodeSlashdash whole from w o k it = machine.node_slashdash
 phase_view InItem whole from w o k it = item_phase it.stage o it
 phase_view Fresh whole from w o k it = machine.in_node (under_now whole from w o) (machine.fresh (pending_now whole from w o))
 phase_view Spaced whole from w o k it = machine.in_node (under_now whole from w o) (machine.spaced (pending_now whole from w o))
 phase_view Later whole from w o k it = machine.in_node (under_now whole from w o) machine.later
-phase_view EntryMark whole from w o k it = machine.entry_mark (under_now whole from w o)
-phase_view BlockMark whole from w o k it = machine.block_mark (under_now whole from w o)
+phase_view EntrySlashdash whole from w o k it = machine.entry_slashdash (under_now whole from w o)
+phase_view BlockSlashdash whole from w o k it = machine.block_slashdash (under_now whole from w o)
 phase_view Behind whole from w o k it = machine.kept k
-phase_view BehindMark whole from w o k it = machine.kept_mark k
+phase_view BehindSlashdash whole from w o k it = machine.kept_slashdash k
 
 -- the node under way, with the string that waits
 abbrev pub node_now : {N : Type 0} → Builder N → Option machine.Under
@@ -170,10 +171,6 @@ abbrev pub Does : {A : Type 0} → State → Result A LexFailure → State → T
 Does want (Ok x) st = st ≡ want
 Does want (Err (Faulty span)) st = ⊥
 Does want (Err Memory) st = Unit {0}
-
--- the second text is an end of the first
-abbrev pub EndsIn : Text → Text → Type 0
-EndsIn t s = (p : Text) × (t ≡ p ++ s)
 
 -- the places under way begin before s
 abbrev pub phase_placed : machine.Phase → Text → Type 0

@@ -1,7 +1,7 @@
 -- The steps of a parse: for the texts that the builder slices, and for what the lexer has before it.
 use Rattle.std.specs.Prelude.{ℕ, ◌+◌, ◌*◌, ◌≤◌, Bool, true, false, Option, Some, None, length, Result, Ok, Err}
-use Rattle.kdl_text.specs.Internal.Here.{Here, raise}
-use Rattle.kdl_text.specs.Spans.{bytes}
+use Rattle.kdl_text.specs.Internal.Here.{Here}
+use Rattle.kdl_text.specs.Spans.{bytes, raise}
 use Rattle.kdl_entry.specs.Internal.Building.{stage_view}
 use Rattle.kdl_entry.specs.Internal.Counted.{Sliced}
 use Rattle.kdl_entry.specs.declared.items.lexer.LexFailure.{LexFailure}

@@ -29,7 +29,7 @@ use std::alloc::{AllocError, Global};
 use std::mem;
 
 /// Puts the item behind the others. A full list doubles, from one on.
-#[inline]
+#[inline(always)]
 pub(super) fn add<T: Drop>(items: &mut Vec<T>, item: T) -> Result<(), AllocError>
     ensures { OnOk result (items.new.items ≡ items.old.items ++ (item ∷ [])) }
 {
@@ -83,6 +83,7 @@ pub(super) fn settle<'a>(
 }
 
 /// An entry, whose value stands between two places.
+#[inline]
 pub(super) fn entry_between<'a>(
     alloc: Global,
     lexer: &mut Lexer<'a>,
@@ -114,6 +115,7 @@ pub(super) fn entry_between<'a>(
 }
 
 /// The node of what stands under way, its block and the texts behind its entries.
+#[inline(always)]
 pub(super) fn node_from<N: ParsedNode>(
     alloc: Global,
     under: Under,
@@ -160,7 +162,7 @@ pub(super) fn node_from<N: ParsedNode>(
 }
 
 /// One more node, where the nodes count.
-#[inline]
+#[inline(always)]
 #[tactic(auto, using(crate::proofs::Stepping::Views::node_pushed))]
 fn push_node<N: ParsedNode>(nodes: &mut Option<Vec<N>>, node: N) -> Result<(), AllocError>
     ensures { OnOk result (nodes_view N.tree nodes.new ≡

@@ -602,14 +602,14 @@ impl<'a, N: ParsedNode> Builder<'a, N> {
     }
 
     /// `/-` in a node, before its block.
-    pub(super) fn mark(&mut self, alloc: Global) -> Result<(), LexFailure>
-        ensures marked { Reaches N.tree (in_phase N.tree self.old
-            (machine.entry_mark (node_now self.old))) result self.new }
+    pub(super) fn behind_slashdash(&mut self, alloc: Global) -> Result<(), LexFailure>
+        ensures slashdash { Reaches N.tree (in_phase N.tree self.old
+            (machine.entry_slashdash (node_now self.old))) result self.new }
         ensures whole { self.new.whole ≡ self.old.whole }
         ensures unsliced { OnOk result (unsliced self.new ≡ bytes self.old.from.rest) }
     {
         self.settle_word(alloc)?;
-        self.phase = Phase::EntryMark;
+        self.phase = Phase::EntrySlashdash;
         Ok(())
     }
 

@@ -2,7 +2,7 @@
 use Rattle.std.proofs.Common.{◌≡◌, ℕ, ◌+◌, ◌<◌, ◌≤◌, zero, suc, Bool, true, false, not, ◌&&◌, List, [], ◌∷◌, ◌++◌, length, take, drop, get_or, refl, ap, sym, subst, ◌∙◌, arith, IsAscii, IsUtf8, IsCharBoundary, chars, length-append, length-take, take-suc, inl, inr, ltb-true, lt-ltb}
 use Rattle.std.specs.Prelude.{nat_lt}
 use Rattle.std.proofs.lemmas.Bool.{cases_lt, le-ltb}
-use Rattle.kdl_text.specs.Chars.{starts, is_space, is_newline_char, is_banned, is_mark, is_identifier_char, is_literal, is_unquoted, is_number_sign, is_quote, is_comment_char}
+use Rattle.kdl_text.specs.Chars.{starts, is_space, is_newline_char, is_banned, is_punctuation, is_identifier_char, is_literal, is_unquoted, is_number_sign, is_quote, is_comment_char}
 use Rattle.std.specs.List.{list_all}
 use Rattle.std.proofs.lemmas.List.{get_or-drop, length-drop, take-append-drop}
 use Rattle.std.proofs.lemmas.List.Folds.{list_all-append}
@@ -49,7 +49,7 @@ unfolding is_space
 table_of_space c l = agree (outside SPACES) (λ z. not (nat_lt z 128 && is_space z)) 256 c refl l
 
 pub table_of_identifier : TableOf (in_class Identifier) IDENTIFIERS
-unfolding is_space is_newline_char is_banned is_mark is_identifier_char
+unfolding is_space is_newline_char is_banned is_punctuation is_identifier_char
 table_of_identifier c l = agree (outside IDENTIFIERS) (λ z. not (nat_lt z 128 && is_identifier_char z)) 256 c refl l
 
 pub table_of_literal : TableOf (in_class Literal) LITERALS

@@ -32,31 +32,31 @@ use Rattle.kdl_text.specs.declared.numbers.NumberFault.TheVariants.{OutOfRange, 
 use Rattle.kdl_text.proofs.Looking.MovesJoin.{moves_then, moves_stayed, stayed_looked, bytes-append, shorter, costs_then}
 use Rattle.kdl_text.proofs.Looking.Runs.{length-bytes}
 use Rattle.kdl_text.proofs.Numeric.NumberUnique.{sign_det, integer_digit, whole_is, whole_digit}
-use Rattle.kdl_text.proofs.Numeric.DecimalUnique.{part_det, part_is, fraction_det, no_ten, mark_is_ten, part_of, part_begins, number_det}
+use Rattle.kdl_text.proofs.Numeric.DecimalUnique.{part_det, part_is, fraction_det, no_ten, base_is_ten, part_of, part_begins, number_det}
 use Rattle.kdl_text.proofs.Numeric.NumberReads.{tight}
 
--- no number begins where no digit stands behind the sign and the mark
+-- no number begins where no digit stands behind the sign and the prefix
 pub no_front : (t s u : Text) (n : Bool) (k j : ℕ) → Sign t s n → BasePrefix s u k → j ≡ k → starts (is_digit_of j) u ≡ false → (r : Text) (x : NumberValue) → IsNumber t r x → ⊥
 no_front t s u n k j a b e h r x (is_whole {z = z} w) = let y = whole_digit t s u r n k z a b w in let y' : starts (is_digit_of k) u ≡ false = rw (← e) h in cc
 no_front t s u n k j a b e h r x (is_decimal (decimal {s = s'} {u = u'} {v = v} p a' i d f g)) =
     let i' = subst (λ q. Integer 10 q u' v) (sym (sign_det a a').0) i in
-    let m = mark_is_ten i' d b in
+    let m = base_is_ten i' d b in
     let y = integer_digit i' in
     let z : starts (is_digit_of 10) s ≡ false = rw (← m.1, ← m.0, ← e) h in cc
 
-ten_mark_stays : {s u : Text} → BasePrefix s u 10 → u ≡ s
-ten_mark_stays (ten h) = refl
-ten_mark_stays (other {c = c} {d = d} {r = r} h) = absurd (no_ten c d r h)
+ten_stays : {s u : Text} → BasePrefix s u 10 → u ≡ s
+ten_stays (ten h) = refl
+ten_stays (other {c = c} {d = d} {r = r} h) = absurd (no_ten c d r h)
 
 -- a number by its front
 module _ (f : Front) (t u : Text) (x : IsFront f t u) where
   -- a decimal is of base 10, and goes on
   pub front_decimal : (r w : Text) → Decimal t r w → (radix_of f.radix ≡ 10) × DecimalPart u r
-  front_decimal r w d = part_of t x.behind_sign x.behind_mark u x.digits r f.minus (radix_of f.radix) w x.sign x.mark x.int d
+  front_decimal r w d = part_of t x.behind_sign x.behind_base u x.digits r f.minus (radix_of f.radix) w x.sign x.base x.int d
 
   pub front_trailing : false ≡ not (starts is_identifier_char u) → (r : Text) (z : ℤ) → WholeNumber t r z → ⊥
   front_trailing h r z w =
-      let e = (whole_is t x.behind_sign x.behind_mark u x.digits r f.minus (radix_of f.radix) z x.sign x.mark x.int w).ends in
+      let e = (whole_is t x.behind_sign x.behind_base u x.digits r f.minus (radix_of f.radix) z x.sign x.base x.int w).ends in
       let y : false ≡ true = h ∙ ap not e in cc
 
   -- a whole number ends here, and so no decimal
@@ -69,10 +69,10 @@ module _ (f : Front) (t u : Text) (x : IsFront f t u) where
       ends false h = refl
 
       found : fits f.minus (digits_value (radix_of f.radix) x.digits) ≡ true → WholeNumber t rest (signed f.minus (digits_value (radix_of f.radix) x.digits))
-      found y = rw r (whole x.sign x.mark x.int (ends _ h) y refl)
+      found y = rw r (whole x.sign x.base x.int (ends _ h) y refl)
 
       none : (v : Text) (w : NumberValue) → fits f.minus (digits_value (radix_of f.radix) x.digits) ≡ false → IsNumber t v w → ⊥
-      none v w y (is_whole {z = z} i) = let c = (whole_is t x.behind_sign x.behind_mark u x.digits v f.minus (radix_of f.radix) z x.sign x.mark x.int i).fits in cc
+      none v w y (is_whole {z = z} i) = let c = (whole_is t x.behind_sign x.behind_base u x.digits v f.minus (radix_of f.radix) z x.sign x.base x.int i).fits in cc
       none v w y (is_decimal {w = w'} d) = let c = part_begins (front_decimal v w' d).1 in let e = ends _ h in cc
 
       go : (b : Bool) → fits f.minus (digits_value (radix_of f.radix) x.digits) ≡ b
@@ -93,8 +93,8 @@ module _ (f : Front) (t u : Text) (x : IsFront f t u) where
   -- a decimal was read
   pub front_part : (r p : Text) → radix_of f.radix ≡ 10 → DecimalPart u r → t ≡ p ++ r → Decimal t r (plain p)
   front_part r p e d g =
-      let m = ten_mark_stays (subst (λ q. BasePrefix x.behind_sign x.behind_mark q) e x.mark) in
-      let i : Integer 10 x.behind_sign u x.digits = subst (λ q. Integer 10 q u x.digits) m (subst (λ q. Integer q x.behind_mark u x.digits) e x.int) in
+      let m = ten_stays (subst (λ q. BasePrefix x.behind_sign x.behind_base q) e x.base) in
+      let i : Integer 10 x.behind_sign u x.digits = subst (λ q. Integer 10 q u x.digits) m (subst (λ q. Integer q x.behind_base u x.digits) e x.int) in
       decimal p x.sign i d g refl
 
 -- a number that was read is the only one
@@ -213,8 +213,8 @@ at_end (c ∷ s) o true h e = let x : is_some o ≡ true = ap is_some h in cc
 at_end (c ∷ s) o false h e = (λ y. cc, λ y. cc)
 
 -- texts without `_`
-abbrev pub is_unmarked : Text → Bool
-is_unmarked s = list_all (λ c. not (c == 95)) s
+abbrev pub has_no_underscore : Text → Bool
+has_no_underscore s = list_all (λ c. not (c == 95)) s
 
 plain_shorter : (s : Text) → length (plain s) ≤ length s
 plain_shorter [] = omega arith
@@ -224,19 +224,19 @@ plain_shorter (c ∷ s) = go (not (c == 95)) (plain_shorter s)
     go true i = omega (arith, i)
     go false i = omega (arith, i)
 
-pub plain_same : (s : Text) → is_unmarked s ≡ true → plain s ≡ s
+pub plain_same : (s : Text) → has_no_underscore s ≡ true → plain s ≡ s
 plain_same [] h = refl
 plain_same (c ∷ s) h = go (not (c == 95)) h (plain_same s)
   where
-    go : (b : Bool) → (b && is_unmarked s) ≡ true → (is_unmarked s ≡ true → plain s ≡ s) → cond b (c ∷ plain s) (plain s) ≡ c ∷ s
+    go : (b : Bool) → (b && has_no_underscore s) ≡ true → (has_no_underscore s ≡ true → plain s ≡ s) → cond b (c ∷ plain s) (plain s) ≡ c ∷ s
     go true h i = ap (λ z. c ∷ z) (i h)
     go false h i = cc
 
-pub same_plain : (s : Text) → plain s ≡ s → is_unmarked s ≡ true
+pub same_plain : (s : Text) → plain s ≡ s → has_no_underscore s ≡ true
 same_plain [] h = refl
 same_plain (c ∷ s) h = go (not (c == 95)) h (same_plain s) (plain_shorter s)
   where
-    go : (b : Bool) → cond b (c ∷ plain s) (plain s) ≡ c ∷ s → (plain s ≡ s → is_unmarked s ≡ true) → length (plain s) ≤ length s → (b && is_unmarked s) ≡ true
+    go : (b : Bool) → cond b (c ∷ plain s) (plain s) ≡ c ∷ s → (plain s ≡ s → has_no_underscore s ≡ true) → length (plain s) ≤ length s → (b && has_no_underscore s) ≡ true
     go true h i le = let e : plain s ≡ s = cc in i e
     go false h i le = absurd (omega (arith, ap length h, le))
 
@@ -259,10 +259,10 @@ module _ (f : Front) (s t u : Text) (e : s ≡ t) (x : IsFront f s u) where
   pub plain_rest : (v : Text) (b : Bool) → b ≡ false → (IsTrue b ↔ (v ≡ [])) → DecimalPart u v → IsTrue b ↔ Decimal t [] t
   plain_rest v b n h p = (λ y. let z : IsTrue false = subst IsTrue n y in cc, λ d. h.1 (part_det p (front_decimal f s u x [] t (subst (λ z. Decimal z [] t) (sym e) d)).1))
 
-  pub plain_whole : (v : Text) (b : Bool) → v ≡ [] → DecimalPart u v → f.radix ≡ TenDigits → b ≡ is_unmarked t → IsTrue b ↔ Decimal t [] t
+  pub plain_whole : (v : Text) (b : Bool) → v ≡ [] → DecimalPart u v → f.radix ≡ TenDigits → b ≡ has_no_underscore t → IsTrue b ↔ Decimal t [] t
   plain_whole v b n p base m = (λ y. to (sym m ∙ y), λ d. m ∙ same_plain t (own_text d refl refl))
     where
-      to : is_unmarked t ≡ true → Decimal t [] t
+      to : has_no_underscore t ≡ true → Decimal t [] t
       to h =
           let part : DecimalPart u [] = subst (DecimalPart u) n p in
           let d : Decimal s [] (plain s) = front_part f s u x [] s (ap radix_of base) part (sym (append-nil s)) in
@@ -287,10 +287,10 @@ kept_text bs out all kept piece s e k o h =
 module _ (f : Front) (t u : Text) (x : IsFront f t u) where
   begun : (rest : Text) → rest ≡ u → Begun f.radix t rest
   begun rest e =
-      rw e (record { behind_sign = x.behind_sign; behind_mark = x.behind_mark; digits = x.digits; negative = f.minus; sign = x.sign; mark = x.mark; int = x.int })
+      rw e (record { behind_sign = x.behind_sign; behind_base = x.behind_base; digits = x.digits; negative = f.minus; sign = x.sign; base = x.base; int = x.int })
 
   range : (rest : Text) → rest ≡ u → fits f.minus (digits_value (radix_of f.radix) x.digits) ≡ false → FaultAt OutOfRange t rest
-  range rest e h = rw e (f.radix, record { behind_sign = x.behind_sign; behind_mark = x.behind_mark; digits = x.digits; negative = f.minus; sign = x.sign; mark = x.mark; int = x.int }, h)
+  range rest e h = rw e (f.radix, record { behind_sign = x.behind_sign; behind_base = x.behind_base; digits = x.digits; negative = f.minus; sign = x.sign; base = x.base; int = x.int }, h)
 
   pub number_range : (rest : Text) (result : Result Number NumberFailure) → rest ≡ u → ((q : ℕ) → Counts f.magnitude q → result ≡ (if fits f.minus q then Ok (IntegerNumber (signed f.minus q)) else Err (Fault OutOfRange))) → IsNumberFault result t rest
   number_range rest result e g = rw (g (digits_value (radix_of f.radix) x.digits) x.counts) (go (fits f.minus (digits_value (radix_of f.radix) x.digits)) refl)

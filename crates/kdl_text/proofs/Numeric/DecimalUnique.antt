@@ -4,29 +4,29 @@ use Rattle.std.proofs.lemmas.Bool.{eqb-true}
 use Rattle.std.specs.Prelude.{if◌then◌else◌}
 use Rattle.std.proofs.lemmas.Bool.Decides.{nat_tests}
 use Rattle.std.proofs.lemmas.List.{append_cancel_right}
-use Rattle.kdl_text.specs.Chars.{Text, is_identifier_char, is_space, is_newline_char, is_banned, is_mark, starts}
+use Rattle.kdl_text.specs.Chars.{Text, is_identifier_char, is_space, is_newline_char, is_banned, is_punctuation, starts}
 use Rattle.kdl_text.specs.Numbers.{is_digit_of, Sign, BasePrefix, Digits, Integer, WholeNumber, whole, integer, base_of, base_prefix, Fraction, Exponent, is_exponent_letter, DecimalPart, part, plain, Decimal, decimal, IsNumber, is_whole, is_decimal, NumberValue, whole_value, decimal_text, begins_number}
 use Rattle.kdl_text.specs.Numbers.BasePrefix.{ten, other}
-use Rattle.kdl_text.specs.Numbers.Digits.{stop, digit, mark}
+use Rattle.kdl_text.specs.Numbers.Digits.{stop, digit, underscore}
 use Rattle.kdl_text.specs.Numbers.Fraction.{none as no_fraction, fraction}
 use Rattle.kdl_text.specs.Numbers.Exponent.{none as no_exponent, exponent}
 use Rattle.kdl_text.proofs.Numeric.NumberUnique.{sign_det, integer_det, whole_number_det, whole_number_begins, whole_number_shorter, shorter_integer, shorter_sign, digit_here, sign_begins, or_cases}
 
-ten_mark : is_digit_of 10 95 ≡ false
+ten_underscore : is_digit_of 10 95 ≡ false
 unfolding is_digit_of
-ten_mark = refl
+ten_underscore = refl
 
 pub fraction_det : {t r s : Text} {a b : Bool} → Fraction t r a → Fraction t s b → (r ≡ s) × (a ≡ b)
 fraction_det (no_fraction x) (no_fraction y) = (refl, refl)
 fraction_det (no_fraction x) (fraction i) = cc
 fraction_det (fraction i) (no_fraction x) = cc
-fraction_det (fraction i) (fraction j) = ((integer_det ten_mark i j).0, refl)
+fraction_det (fraction i) (fraction j) = ((integer_det ten_underscore i j).0, refl)
 
 exponent_det : {t r s : Text} {a b : Bool} → Exponent t r a → Exponent t s b → (r ≡ s) × (a ≡ b)
 exponent_det (no_exponent x) (no_exponent y) = (refl, refl)
 exponent_det (no_exponent x) (exponent y g i) = cc
 exponent_det (exponent x f i) (no_exponent y) = cc
-exponent_det (exponent x f i) (exponent {s = s} {t = u} {r = r} {w = w} y g j) = ((integer_det ten_mark i (subst (λ q. Integer 10 q r w) (sym (sign_det f g).0) j)).0, refl)
+exponent_det (exponent x f i) (exponent {s = s} {t = u} {r = r} {w = w} y g j) = ((integer_det ten_underscore i (subst (λ q. Integer 10 q r w) (sym (sign_det f g).0) j)).0, refl)
 
 -- the parts that make a decimal, where its fraction and its exponent are known
 pub record KnownPart (s r : Text) (a b : Bool) (v : Text) : Type 0 where
@@ -44,19 +44,19 @@ pub part_det : {t r s : Text} → DecimalPart t r → DecimalPart t s → r ≡ 
 part_det (part {s = u} {r = w} {point = c} {power = d} f e x y) h = (part_is _ u w _ c d f e h).left
 
 point_identifier : is_identifier_char 46 ≡ true
-unfolding is_identifier_char is_space is_newline_char is_banned is_mark
+unfolding is_identifier_char is_space is_newline_char is_banned is_punctuation
 point_identifier = refl
 
 e_identifier : is_identifier_char 101 ≡ true
-unfolding is_identifier_char is_space is_newline_char is_banned is_mark
+unfolding is_identifier_char is_space is_newline_char is_banned is_punctuation
 e_identifier = refl
 
 large_e_identifier : is_identifier_char 69 ≡ true
-unfolding is_identifier_char is_space is_newline_char is_banned is_mark
+unfolding is_identifier_char is_space is_newline_char is_banned is_punctuation
 large_e_identifier = refl
 
-mark_identifier : (c : ℕ) → is_exponent_letter c ≡ true → is_identifier_char c ≡ true
-mark_identifier c h = go (or_cases (c == 101) h)
+exponent_identifier : (c : ℕ) → is_exponent_letter c ≡ true → is_identifier_char c ≡ true
+exponent_identifier c h = go (or_cases (c == 101) h)
   where
     go : ((c == 101) ≡ true) ⊎ ((c == 69) ≡ true) → is_identifier_char c ≡ true
     go (inl x) = rw (eqb-true c 101 x) e_identifier
@@ -65,21 +65,21 @@ mark_identifier c h = go (or_cases (c == 101) h)
 -- what makes a decimal of an integer begins with an identifier character
 pub part_begins : {t r : Text} → DecimalPart t r → starts is_identifier_char t ≡ true
 part_begins (part (fraction i) e x y) = point_identifier
-part_begins (part (no_fraction x) (exponent {c = c} y g i) z w) = mark_identifier c y
+part_begins (part (no_fraction x) (exponent {c = c} y g i) z w) = exponent_identifier c y
 part_begins (part (no_fraction x) (no_exponent y) z w) = cc
 
 record Letter (c : ℕ) : Type 0 where
   point : (c == 46) ≡ false
-  mark : (c == 95) ≡ false
+  underscore : (c == 95) ≡ false
   power : is_exponent_letter c ≡ false
   digit : is_digit_of 10 c ≡ false
 
 letter : (c k : ℕ) → base_of c ≡ Some k → Letter c
 unfolding is_digit_of
-letter c k h = record { point = grind (arith, nat_tests); mark = grind (arith, nat_tests); power = grind (arith, nat_tests); digit = grind (arith, nat_tests) }
+letter c k h = record { point = grind (arith, nat_tests); underscore = grind (arith, nat_tests); power = grind (arith, nat_tests); digit = grind (arith, nat_tests) }
 
-mark_letter : (c d k : ℕ) (s : Text) → base_prefix (c ∷ d ∷ s) ≡ Some k → Letter d
-mark_letter c d k s h = go (c == 48) h
+base_letter : (c d k : ℕ) (s : Text) → base_prefix (c ∷ d ∷ s) ≡ Some k → Letter d
+base_letter c d k s h = go (c == 48) h
   where
     go : (b : Bool) → (if b then base_of d else None) ≡ Some k → Letter d
     go true h = letter d k h
@@ -93,34 +93,34 @@ no_part l (part (no_fraction x) (no_exponent y) z w) = cc
 no_more : {d : ℕ} {q u v r : Text} → Letter d → Digits 10 (d ∷ q) u v → DecimalPart u r → ⊥
 no_more l (stop x) p = no_part l p
 no_more l (digit x i) p = let h = l.digit in cc
-no_more l (mark i) p = let h = l.mark in cc
+no_more l (underscore i) p = let h = l.underscore in cc
 
-no_mark : {c d k : ℕ} {q u v r : Text} → base_prefix (c ∷ d ∷ q) ≡ Some k → Integer 10 (c ∷ d ∷ q) u v → DecimalPart u r → ⊥
-no_mark {c = c} {d = d} {k = k} {q = q} h (integer x i) p = no_more (mark_letter c d k q h) i p
+no_base_part : {c d k : ℕ} {q u v r : Text} → base_prefix (c ∷ d ∷ q) ≡ Some k → Integer 10 (c ∷ d ∷ q) u v → DecimalPart u r → ⊥
+no_base_part {c = c} {d = d} {k = k} {q = q} h (integer x i) p = no_more (base_letter c d k q h) i p
 
--- base 10 has no mark
+-- base 10 has no prefix
 pub no_ten : (c d : ℕ) (s : Text) → base_prefix (c ∷ d ∷ s) ≡ Some 10 → ⊥
 no_ten c d s h = grind (arith, nat_tests)
 
--- at a decimal no mark of another base stands
-pub mark_is_ten : {s u v r x : Text} {k : ℕ} → Integer 10 s u v → DecimalPart u r → BasePrefix s x k → (x ≡ s) × (k ≡ 10)
-mark_is_ten i p (ten h) = (refl, refl)
-mark_is_ten i p (other h) = absurd (no_mark h i p)
+-- at a decimal no prefix of another base stands
+pub base_is_ten : {s u v r x : Text} {k : ℕ} → Integer 10 s u v → DecimalPart u r → BasePrefix s x k → (x ≡ s) × (k ≡ 10)
+base_is_ten i p (ten h) = (refl, refl)
+base_is_ten i p (other h) = absurd (no_base_part h i p)
 
--- behind its sign, its mark and its first integer a decimal goes on
+-- behind its sign, its prefix and its first integer a decimal goes on
 pub part_of : (t s u r w v : Text) (n : Bool) (k : ℕ) (x : Text) → Sign t s n → BasePrefix s u k → Integer k u r w → Decimal t v x → (k ≡ 10) × DecimalPart r v
 part_of t s u r w v n k x a b d (decimal {s = s'} {u = u'} {v = w'} p a' i e f g) =
     let y = sign_det a a' in
     let i' = subst (λ q. Integer 10 q u' w') (sym y.0) i in
-    let m = mark_is_ten i' e b in
+    let m = base_is_ten i' e b in
     let d' = subst (λ q. Integer q s r w) m.1 (subst (λ q. Integer k q r w) m.0 d) in
-    (m.1, subst (λ q. DecimalPart q v) (sym (integer_det ten_mark d' i').0) e)
+    (m.1, subst (λ q. DecimalPart q v) (sym (integer_det ten_underscore d' i').0) e)
 
 -- a text begins with one decimal at most
 pub decimal_det : {t r s v w : Text} → Decimal t r v → Decimal t s w → (r ≡ s) × (v ≡ w)
 decimal_det {t = t} {r = r} {s = s} (decimal {s = s'} {u = u'} {v = w'} p a i e f g) (decimal {s = s''} {u = u''} {v = w''} q b j h k l) =
     let x = sign_det a b in
-    let y = integer_det ten_mark i (subst (λ z. Integer 10 z u'' w'') (sym x.0) j) in
+    let y = integer_det ten_underscore i (subst (λ z. Integer 10 z u'' w'') (sym x.0) j) in
     let same : r ≡ s = part_det e (subst (λ z. DecimalPart z s) (sym y.0) h) in
     (same, g ∙ ap plain (append_cancel_right p q s (ap (λ z. p ++ z) (sym same) ∙ sym f ∙ k)) ∙ sym l)
 

@@ -7,7 +7,7 @@ use Rattle.std.specs.List.{list_all}
 use Rattle.std.specs.Str.{chars, IsAscii}
 use Rattle.std.proofs.lemmas.Str.{chars-IsAscii}
 use borrow.Author.Tests.{ltb-true}
-use Rattle.kdl_text.specs.Chars.{Text, is_identifier_char, is_space, is_newline_char, is_banned, is_mark, starts}
+use Rattle.kdl_text.specs.Chars.{Text, is_identifier_char, is_space, is_newline_char, is_banned, is_punctuation, starts}
 use Rattle.kdl_text.specs.Internal.Here.{Here, Took, Ran, sliced}
 use Rattle.kdl_text.specs.Spans.{bytes}
 use Rattle.kdl_text.specs.Internal.Reading.{Moves}
@@ -35,7 +35,7 @@ text_of NegativeInfinity = refl
 text_of NotANumber = refl
 
 word_all : (k : Keyword) → list_all is_identifier_char (word k) ≡ true
-unfolding is_identifier_char is_space is_newline_char is_banned is_mark
+unfolding is_identifier_char is_space is_newline_char is_banned is_punctuation
 word_all True = refl
 word_all False = refl
 word_all Null = refl
@@ -92,7 +92,7 @@ keyword_det {t = t} {r = r} {s = s} {x = x} {y = y} i (keyword f m) =
 
 -- a keyword is `#` and an identifier character, and more
 word_starts : (k : Keyword) → (c : ℕ) × (w : Text) × (word k ≡ c ∷ w) × (is_identifier_char c ≡ true)
-unfolding is_identifier_char is_space is_newline_char is_banned is_mark
+unfolding is_identifier_char is_space is_newline_char is_banned is_punctuation
 word_starts True = (_, _, refl, refl)
 word_starts False = (_, _, refl, refl)
 word_starts Null = (_, _, refl, refl)

@@ -4,13 +4,13 @@ use Rattle.std.proofs.lemmas.Str.{len_utf8_bounds}
 use Rattle.std.specs.Char.{digit_value, len_utf8}
 use Rattle.std.specs.Str.Parse.{digits_value_after}
 use Rattle.kdl_text.specs.Chars.{Text, is_sign, starts}
-use Rattle.kdl_text.specs.Internal.Here.{Here, Took, Stayed, looked, stepped, first, first_len, tail, raise}
-use Rattle.kdl_text.specs.Spans.{bytes}
+use Rattle.kdl_text.specs.Internal.Here.{Here, Took, Stayed, looked, stepped, first, first_len, tail}
+use Rattle.kdl_text.specs.Spans.{bytes, raise}
 use Rattle.kdl_text.specs.Internal.Reading.{Moves, Costs}
 use Rattle.kdl_text.specs.Numbers.{is_digit_of, is_part, Sign, BasePrefix, Digits, Integer, integer, base_prefix}
 use Rattle.kdl_text.specs.Numbers.Sign.{none, plus, minus}
 use Rattle.kdl_text.specs.Numbers.BasePrefix.{ten, other}
-use Rattle.kdl_text.specs.Numbers.Digits.{stop, digit, mark}
+use Rattle.kdl_text.specs.Numbers.Digits.{stop, digit, underscore}
 use Rattle.kdl_text.specs.Internal.NumberReading.{Counts, IsDigit, ReadsDigits, ReadsInteger}
 use Rattle.kdl_text.specs.declared.numbers.Magnitude.{Magnitude}
 use Rattle.kdl_text.specs.declared.numbers.Magnitude.TheVariants.{Small}
@@ -30,12 +30,12 @@ pub record InDigits (k : ℕ) (before now : Magnitude) (f a : Here) : Type 0 whe
   pub costs : Costs 1 0 f a
 
 module _ (k : ℕ) (before now : Magnitude) (f a b e : Here) (c : ℕ) (i : InDigits k before now f a) (h : Some c ≡ first a.rest) (x : b ≡ looked a) where
-  pub digits_mark : c ≡ 95 → e ≡ stepped b → InDigits k before now f e
-  digits_mark is y =
+  pub digits_underscore : c ≡ 95 → e ≡ stepped b → InDigits k before now f e
+  digits_underscore is y =
       let t : Took (Some 95) a e = took_from 95 a b e (ap Some (sym is) ∙ h) x y in
       record {
         read = i.read;
-        on = λ r w d. i.on r w (subst (λ q. Digits k q r w) (sym t.0) (mark d));
+        on = λ r w d. i.on r w (subst (λ q. Digits k q r w) (sym t.0) (underscore d));
         counts = i.counts;
         moves = moves_then i.moves (moves_one t);
         costs = record { most = omega (arith, i.costs.most, ap bytes t.0, t.2); least = omega (arith, i.costs.least, ap length t.0, t.2) };
@@ -90,23 +90,23 @@ sign_other c a b h m p x = sign_none a b x (one_here is_sign c a.rest h ∙ rw (
 pub sign_at_end : (a b : Here) → None ≡ first a.rest → b ≡ looked a → Sign a.rest b.rest false
 sign_at_end a b h x = sign_none a b x (none_here is_sign a.rest h)
 
--- marks of bases
-pub mark_ten : {k : ℕ} (a b : Here) → base_prefix a.rest ≡ None → Stayed k a b → BasePrefix a.rest b.rest 10
-mark_ten a b h s = subst (λ q. BasePrefix a.rest q 10) (sym s.rest) (ten h)
+-- prefixes of bases
+pub base_ten : {k : ℕ} (a b : Here) → base_prefix a.rest ≡ None → Stayed k a b → BasePrefix a.rest b.rest 10
+base_ten a b h s = subst (λ q. BasePrefix a.rest q 10) (sym s.rest) (ten h)
 
-pub record Marked (k : ℕ) (a e : Here) : Type 0 where
-  pub mark : BasePrefix a.rest e.rest k
+pub record BaseRead (k : ℕ) (a e : Here) : Type 0 where
+  pub base : BasePrefix a.rest e.rest k
   pub moves : Moves a e
   pub costs : Costs 2 2 a e
 
-mark_parts : (t : Text) (k : ℕ) → base_prefix t ≡ Some k → (c d : ℕ) × (t ≡ c ∷ d ∷ tail (tail t))
-mark_parts [] k h = cc
-mark_parts (c ∷ []) k h = cc
-mark_parts (c ∷ d ∷ s) k h = (c, d, refl)
+base_parts : (t : Text) (k : ℕ) → base_prefix t ≡ Some k → (c d : ℕ) × (t ≡ c ∷ d ∷ tail (tail t))
+base_parts [] k h = cc
+base_parts (c ∷ []) k h = cc
+base_parts (c ∷ d ∷ s) k h = (c, d, refl)
 
-pub mark_other : (k : ℕ) (a b m e : Here) → base_prefix a.rest ≡ Some k → Stayed 2 a b → m ≡ stepped b → e ≡ stepped m → Marked k a e
-mark_other k a b m e h s x y =
-    let (c, d, t) = mark_parts a.rest k h in
+pub base_other : (k : ℕ) (a b m e : Here) → base_prefix a.rest ≡ Some k → Stayed 2 a b → m ≡ stepped b → e ≡ stepped m → BaseRead k a e
+base_other k a b m e h s x y =
+    let (c, d, t) = base_parts a.rest k h in
     let u : b.rest ≡ c ∷ d ∷ tail (tail a.rest) = s.rest ∙ t in
     let v : m.rest ≡ d ∷ tail (tail a.rest) = ap (λ z. z.rest) x ∙ ap tail u in
     let r : e.rest ≡ tail (tail a.rest) = ap (λ z. z.rest) y ∙ ap tail v in
@@ -115,7 +115,7 @@ mark_other k a b m e h s x y =
     ap (λ z. z.at) y ∙ ap (λ z. m.at + first_len z) v ∙ ap (λ z. z + len_utf8 d) (ap (λ z. z.at) x ∙ ap (λ z. b.at + first_len z) u ∙ ap (λ z. z + len_utf8 c) s.at) in
     let steps : e.steps ≡ raise a.steps 2 = ap (λ z. z.steps) y ∙ ap (λ z. z.steps) x ∙ s.steps in
     record {
-      mark = subst (λ q. BasePrefix q e.rest k) (sym w) (other (ap base_prefix (sym w) ∙ h));
+      base = subst (λ q. BasePrefix q e.rest k) (sym w) (other (ap base_prefix (sym w) ∙ h));
       moves = record { piece = (c ∷ d ∷ [], w); at = omega (arith, ap bytes w, at); counts = omega (arith, steps) };
       costs = record { most = omega (arith, ap bytes w, steps, (len_utf8_bounds c).0, (len_utf8_bounds d).0); least = omega (arith, ap length w, steps) };
     }

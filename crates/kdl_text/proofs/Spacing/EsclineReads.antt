@@ -1,23 +1,20 @@
--- Esclines, and why none was read.
-use Rattle.std.proofs.Common.{◌≡◌, ℕ, ◌≤◌, ◌↔◌, [], ◌∷◌, true, false, ◌==◌, length, refl, ap, arith}
+-- Esclines: one was read, or none is here.
+use Rattle.std.proofs.Common.{◌≡◌, ℕ, ◌≤◌, Bool, [], ◌∷◌, true, false, ◌==◌, length, refl, ap, arith}
 use Rattle.std.proofs.lemmas.Bool.{and_parts, eqb-true}
 use Rattle.std.proofs.lemmas.Str.{len_utf8_bounds}
-use Rattle.std.specs.Prelude.{Some, Ok, Err}
+use Rattle.std.specs.Prelude.{Some}
 use Rattle.kdl_text.specs.Chars.{Text, begins_two}
 use Rattle.kdl_text.specs.Chars.Space.{space}
 use Rattle.kdl_text.specs.Internal.Here.{Here, Took}
 use Rattle.kdl_text.specs.Spans.{bytes}
-use Rattle.kdl_text.specs.Internal.Reading.{Moves, Costs, Longest}
+use Rattle.kdl_text.specs.Internal.Reading.{Reads, Moves, Costs}
 use Rattle.kdl_text.specs.Trivia.{BlockComment, Ws, EscEnd, Escline}
 use Rattle.kdl_text.specs.Trivia.Ws.{space as ws_space, comment as ws_comment}
 use Rattle.kdl_text.specs.Trivia.EscEnd.{comment, newline}
 use Rattle.kdl_text.specs.Trivia.Escline.{escline}
-use Rattle.kdl_text.specs.Internal.TriviaReading.{PieceCosts, Opens, Inside, RunsWs, ReadsEscline}
-use Rattle.kdl_text.specs.Internal.TriviaReading.Inside.{front, escline as in_escline}
-use Rattle.kdl_text.specs.declared.trivia.TriviaFault.TheVariants.{UnclosedComment, NotEscline}
-use Rattle.kdl_text.proofs.Looking.Stars.{meets, stops}
+use Rattle.kdl_text.specs.Internal.TriviaReading.{PieceCosts, Opens, RunsWs}
 use Rattle.kdl_text.proofs.Looking.MovesJoin.{moves_then, moves_one, fewer_bytes}
-use Rattle.kdl_text.proofs.Spacing.SpaceUnique.{slash_no_space, slash_no_newline, newline_begins, line_comment_begins, ws_dets, escline_ends_at, escline_det}
+use Rattle.kdl_text.proofs.Spacing.SpaceUnique.{slash_no_space, slash_no_newline, newline_begins, line_comment_begins, escline_ends_at, escline_det}
 use Rattle.kdl_text.proofs.Spacing.SpaceReads.{reads_found}
 
 opens_is : (s : Text) → begins_two 47 42 s ≡ true → (t : Text) × (s ≡ 47 ∷ 42 ∷ t)
@@ -41,23 +38,12 @@ opens_end : {s r : Text} → Opens s → EscEnd s r → ⊥
 opens_end {s = s} o p = slash_end (rw (opens_is s o.opens).1 at p)
 
 -- esclines
-pub esc_read : (a b m : Here) (e : Text) → Took (Some 92) a b → RunsWs (Ok tt) b m → ((r : Text) → EscEnd m.rest r ↔ (r ≡ e)) → (r : Text) → Escline a.rest r ↔ (r ≡ e)
-esc_read a b m e t (l, x) p = let found : Escline a.rest e = rw t.0 (escline l.0 ((p e).1 refl)) in reads_found Escline _ _ found (λ r q. escline_det q found)
+pub esc_reads : (ok : Bool) (a b m : Here) (e : Text) → Took (Some 92) a b → RunsWs true b m → Reads EscEnd ok m.rest e → Reads Escline ok a.rest e
+esc_reads true a b m e t (l, x) p = let found : Escline a.rest e = rw t.0 (escline l.0 ((p e).1 refl)) in reads_found Escline _ _ found (λ r q. escline_det q found)
+esc_reads false a b m e t (l, x) n = λ r p. n r (escline_ends_at l.0 l.1 (rw t.0 at p))
 
-pub esc_unclosed : (at : ℕ) (a b e : Here) → Took (Some 92) a b → RunsWs (Err at) b e → ReadsEscline (Err (UnclosedComment at)) a e
-esc_unclosed at a b e t (u, run, o, x) = (
-  λ r p. opens_end o (escline_ends_at run (λ w. opens_ws o) (rw t.0 at p)),
-  (u, rw t.0 (in_escline run), o, omega (arith, x, t.1, ap bytes t.0)),
-)
-
-no_inside : {s m u : Text} → Longest Ws s m → begins_two 47 42 m ≡ false → Inside (92 ∷ s) u → Opens u → ⊥
-no_inside l x front o = let y = o.opens in cc
-no_inside (run, stuck) x (in_escline w) o = let e = stops (meets ws_dets run w (λ r. opens_ws o)) stuck in let y = o.opens in cc
-
-pub esc_none : (at : ℕ) (a b m e : Here) → at ≡ a.at → Took (Some 92) a b → RunsWs (Ok tt) b m → ((r : Text) → EscEnd m.rest r → ⊥) → ReadsEscline (Err (NotEscline at)) a e
-esc_none at a b m e i t (l, x) n =
-    let no : (r : Text) → Escline a.rest r → ⊥ = λ r p. n r (escline_ends_at l.0 l.1 (rw t.0 at p)) in
-    (no, (i, rw t.0 refl, no, λ u w. no_inside l x (rw t.0 at w)))
+pub esc_unclosed : (a b m : Here) → Took (Some 92) a b → RunsWs false b m → (r : Text) → Escline a.rest r → ⊥
+esc_unclosed a b m t (u, run, o) = λ r p. opens_end o (escline_ends_at run (λ w. opens_ws o) (rw t.0 at p))
 
 -- what went on behind the backslash
 pub esc_moves : (a b e : Here) → Took (Some 92) a b → Moves b e → Moves a e

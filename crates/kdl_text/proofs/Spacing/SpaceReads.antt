@@ -2,7 +2,7 @@
 use Rattle.std.proofs.Common.{◌≡◌, ℕ, ◌+◌, ◌≤◌, ◌↔◌, [], ◌∷◌, ◌++◌, Bool, true, false, not, length, refl, ap, sym, ◌∙◌, subst, arith, length-append}
 use Rattle.std.proofs.lemmas.Bool.{and_parts}
 use Rattle.std.proofs.lemmas.Str.{len_utf8_bounds}
-use Rattle.std.specs.Prelude.{Some, None, Result, Ok, Err}
+use Rattle.std.specs.Prelude.{Some, None}
 use Rattle.std.specs.List.{list_all}
 use Rattle.kdl_text.specs.Chars.{Text, is_space, is_newline_char, begins, begins_two, starts, Newline, Star, Space}
 use Rattle.kdl_text.specs.Chars.Star.{none, more}
@@ -133,7 +133,7 @@ no_ws_here n x (ws_space p) = n _ p
 no_ws_here n x (ws_comment (block p)) = cc
 
 -- a run that was read, or stopped at a comment that isn't closed
-pub record RanWs (r : Result (Unit {0}) ℕ) (f e : Here) : Type 0 where
+pub record RanWs (r : Bool) (f e : Here) : Type 0 where
   pub reads : RunsWs r f e
   pub moves : Moves f e
   pub costs : Costs 3 3 f e
@@ -142,7 +142,7 @@ module _ (f a b : Here) (i : Running f a) (l : Longest Space a.rest b.rest) (m :
   spaced : Star Ws f.rest b.rest
   spaced = join i.run (star_map (λ u v. ws_space) l.0)
 
-  pub run_stops : (d : Here) → AteTwo 47 42 false b d → RanWs (Ok tt) f d
+  pub run_stops : (d : Here) → AteTwo 47 42 false b d → RanWs true f d
   run_stops d (x, s) = record {
     reads = let y : begins_two 47 42 d.rest ≡ false = rw s.rest x in ((subst (Star Ws f.rest) (sym s.rest) spaced, λ t. no_ws_here (rw (← s.rest) at l.1) y), y);
     moves = moves_then i.moves (moves_then m (moves_stayed s));
@@ -156,9 +156,9 @@ module _ (f a b : Here) (i : Running f a) (l : Longest Space a.rest b.rest) (m :
     past_costs : Costs 3 0 f e
     past_costs = record { most = omega (arith, i.costs.most, c.most, two.steps, ap bytes two.rest, h.most, fewer_bytes m, fewer_bytes v); least = omega (arith, i.costs.least, c.least, two.steps, ap length two.rest, h.least) }
 
-    pub run_unclosed : (at : ℕ) → at ≡ b.at → Reads Parts false d.rest e.rest → RanWs (Err at) f e
-    run_unclosed at x p = record {
-      reads = (b.rest, spaced, opens_here b d e.rest two p, ap (λ z. z + bytes b.rest) x ∙ (moves_then i.moves m).at);
+    pub run_unclosed : Reads Parts false d.rest e.rest → RanWs false f e
+    run_unclosed p = record {
+      reads = (b.rest, spaced, opens_here b d e.rest two p);
       moves = past_moves;
       costs = record { most = omega (arith, past_costs.most); least = past_costs.least };
     }

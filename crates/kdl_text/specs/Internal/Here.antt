@@ -1,10 +1,10 @@
 -- A place in a text that is read from left to right, and what a cursor's calls do to it.
-use Rattle.std.specs.Prelude.{◌≡◌, ℕ, ◌+◌, ◌-◌, ◌^◌, min, nat_lt, ◌&&◌, List, [], ◌∷◌, ◌++◌, length, Bool, true, false, not, Option, Some, None}
+use Rattle.std.specs.Prelude.{◌≡◌, ℕ, ◌+◌, ◌-◌, nat_lt, ◌&&◌, List, [], ◌∷◌, ◌++◌, length, Bool, true, false, not, Option, Some, None}
 use Rattle.std.specs.List.{list_all}
 use Rattle.std.specs.Char.{len_utf8}
 use Rattle.std.specs.Str.{chars}
 use Rattle.kdl_text.specs.Chars.{Text, begins, begins_two, starts, is_space, is_identifier_char, is_literal, is_newline_char, is_unquoted, is_number_sign, is_quote, is_comment_char}
-use Rattle.kdl_text.specs.Spans.{bytes}
+use Rattle.kdl_text.specs.Spans.{bytes, raise}
 use Rattle.kdl_text.specs.declared.chars.Class.{Class}
 use Rattle.kdl_text.specs.declared.chars.Class.TheVariants.{Space, Identifier, Literal, Line, Unquoted, NumberSign, Quote, Comment}
 
@@ -18,10 +18,6 @@ pub record Here : Type 0 where
 pub record Spot : Type 0 where
   pub rest : Text
   pub at : ℕ
-
--- a count raised by so many steps, up to the greatest number of 64 bits
-abbrev pub raise : ℕ → ℕ → ℕ
-raise count by = min (count + by) (2 ^ 64 - 1)
 
 -- the first character
 abbrev pub first : Text → Option ℕ

@@ -28,12 +28,12 @@ radix_of Octal = 8
 radix_of Decimal = 10
 radix_of Hexadecimal = 16
 
--- the base that a letter marks
+-- the base that a letter stands for
 abbrev pub IsBase : Option Radix → Option ℕ → Type 0
 IsBase (Some b) k = k ≡ Some (radix_of b)
 IsBase None k = k ≡ None
 
--- the base whose mark stands here, at which one or two looks were made
+-- the base whose prefix stands here, at which one or two looks were made
 abbrev pub LooksBasePrefix : Option Radix → Here → Here → Type 0
 LooksBasePrefix (Some b) old new = (base_prefix old.rest ≡ Some (radix_of b)) × Stayed 2 old new
 LooksBasePrefix None old new = (base_prefix old.rest ≡ None) × (k : ℕ) × (k ≤ 2) × Stayed k old new
@@ -61,22 +61,22 @@ ReadsInteger radix None s rest = (rest ≡ s) × (starts (is_digit_of radix) s �
 -- the front of a number, as far as its first integer
 pub record IsFront (f : Front) (t rest : Text) : Type 0 where
   pub behind_sign : Text
-  pub behind_mark : Text
+  pub behind_base : Text
   pub digits : Text
   pub sign : Sign t behind_sign f.minus
-  pub mark : BasePrefix behind_sign behind_mark (radix_of f.radix)
-  pub int : Integer (radix_of f.radix) behind_mark rest digits
+  pub base : BasePrefix behind_sign behind_base (radix_of f.radix)
+  pub int : Integer (radix_of f.radix) behind_base rest digits
   pub counts : Counts f.magnitude (digits_value (radix_of f.radix) digits)
 
--- a sign, the mark of the base and an integer of it begin the text and leave u
+-- a sign, the prefix of the base and an integer of it begin the text and leave u
 pub record Begun (b : Radix) (t u : Text) : Type 0 where
   pub behind_sign : Text
-  pub behind_mark : Text
+  pub behind_base : Text
   pub digits : Text
   pub negative : Bool
   pub sign : Sign t behind_sign negative
-  pub mark : BasePrefix behind_sign behind_mark (radix_of b)
-  pub int : Integer (radix_of b) behind_mark u digits
+  pub base : BasePrefix behind_sign behind_base (radix_of b)
+  pub int : Integer (radix_of b) behind_base u digits
 
 -- a point, and no digit where the text is left
 abbrev pub PointFault : Text → Text → Type 0
@@ -133,7 +133,7 @@ abbrev pub ReadsFraction : Result Bool NumberFault → Text → Text → Type 0
 ReadsFraction (Ok b) s rest = Fraction s rest b
 ReadsFraction (Err e) s rest = (r : Text) (b : Bool) → Fraction s r b → ⊥
 
--- an exponent was read, or seen not to stand here; or its mark has no digit behind it
+-- an exponent was read, or seen not to stand here; or its letter has no digit behind it
 abbrev pub ReadsExponent : Result Bool NumberFault → Text → Text → Type 0
 ReadsExponent (Ok b) s rest = Exponent s rest b
 ReadsExponent (Err e) s rest = (r : Text) (b : Bool) → Exponent s r b → ⊥

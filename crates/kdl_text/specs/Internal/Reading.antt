@@ -1,8 +1,8 @@
 -- How a reader's answer stands to a relation, and what it costs.
 use Rattle.std.specs.Prelude.{◌≡◌, ℕ, ◌+◌, ◌*◌, ◌≤◌, ◌↔◌, Bool, true, false, List, ◌++◌, length}
 use Rattle.kdl_text.specs.Chars.{Text, Star, Newline}
-use Rattle.kdl_text.specs.Internal.Here.{Here, raise, Stayed}
-use Rattle.kdl_text.specs.Spans.{bytes}
+use Rattle.kdl_text.specs.Internal.Here.{Here, Stayed}
+use Rattle.kdl_text.specs.Spans.{bytes, raise}
 
 -- exactly one piece begins here, and rest is what is left of the text behind it, or none does
 abbrev pub Reads : (Text → Text → Type 0) → Bool → Text → Text → Type 0

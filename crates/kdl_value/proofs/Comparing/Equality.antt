@@ -27,7 +27,7 @@ text_decides s t =
 pub float_decides : (f g : KdlFloat) → Decides (float_impl.ghosts.eq f g) (float_text_of f ≡ float_text_of g)
 float_decides f g = text_decides f.text g.text
 
--- booleans and marks
+-- booleans
 pub truth_decides : (a b : Bool) → Decides (beq a b) (a ≡ b)
 truth_decides true true = (λ e. refl, λ e. refl)
 truth_decides true false = (λ e. cc, λ e. cc)

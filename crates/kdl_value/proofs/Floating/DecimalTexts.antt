@@ -3,10 +3,10 @@ use Rattle.std.proofs.Common.{◌≡◌, ℕ, Bool, true, false, not, ◌==◌, 
 use Rattle.std.proofs.lemmas.Bool.Decides.{nat_tests}
 use Rattle.std.proofs.lemmas.List.{append_cancel_right}
 use Rattle.std.proofs.lemmas.List.Elements.{filter-append}
-use Rattle.kdl_text.specs.Chars.{Text, is_sign, is_identifier_char, is_space, is_newline_char, is_banned, is_mark, begins, starts}
+use Rattle.kdl_text.specs.Chars.{Text, is_sign, is_identifier_char, is_space, is_newline_char, is_banned, is_punctuation, begins, starts}
 use Rattle.kdl_text.specs.Numbers.{is_digit_of, is_part, Sign, Digits, Integer, integer, Fraction, Exponent, is_exponent_letter, part, plain, Decimal, decimal, FloatText}
 use Rattle.kdl_text.specs.Numbers.Sign.{none as no_sign, plus, minus}
-use Rattle.kdl_text.specs.Numbers.Digits.{stop, digit, mark}
+use Rattle.kdl_text.specs.Numbers.Digits.{stop, digit, underscore}
 use Rattle.kdl_text.specs.Numbers.Fraction.{none as no_fraction, fraction}
 use Rattle.kdl_text.specs.Numbers.Exponent.{none as no_exponent, exponent}
 
@@ -43,15 +43,15 @@ unfolding is_digit_of
 power_no_part c h = grind (arith, nat_tests)
 
 end_no_part : (c : ℕ) → is_identifier_char c ≡ false → is_part 10 c ≡ false
-unfolding is_identifier_char is_space is_newline_char is_banned is_mark is_digit_of
+unfolding is_identifier_char is_space is_newline_char is_banned is_punctuation is_digit_of
 end_no_part c h = grind (arith, nat_tests)
 
 end_pointless : (c : ℕ) → is_identifier_char c ≡ false → (c == 46) ≡ false
-unfolding is_identifier_char is_space is_newline_char is_banned is_mark
+unfolding is_identifier_char is_space is_newline_char is_banned is_punctuation
 end_pointless c h = grind (arith, nat_tests)
 
 end_powerless : (c : ℕ) → is_identifier_char c ≡ false → is_exponent_letter c ≡ false
-unfolding is_identifier_char is_space is_newline_char is_banned is_mark
+unfolding is_identifier_char is_space is_newline_char is_banned is_punctuation
 end_powerless c h = grind (arith, nat_tests)
 
 plain_digits : {t r w : Text} → Digits 10 t r w → Plain t r NoPart (λ s u. Digits 10 s u w)
@@ -59,7 +59,7 @@ plain_digits (stop h) = record { piece = []; text = refl; reads = λ s k. stop k
 plain_digits (digit {c = c} h d) =
     let x = plain_digits d in
     record { piece = c ∷ x.piece; text = ap (λ z. c ∷ z) x.text; reads = λ s k. rw (kept c x.piece (digit_kept c h)) (digit h (x.reads s k)) }
-plain_digits (mark d) =
+plain_digits (underscore d) =
     let x = plain_digits d in
     record { piece = 95 ∷ x.piece; text = ap (λ z. 95 ∷ z) x.text; reads = λ s k. x.reads s k }
 

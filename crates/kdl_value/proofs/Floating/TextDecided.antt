@@ -10,9 +10,9 @@ use Rattle.kdl_text.specs.Numbers.{is_digit_of, Sign, Digits, Integer, integer, 
 use Rattle.kdl_text.proofs.Numeric.DecimalUnique.{part_is, fraction_det}
 use Rattle.kdl_text.proofs.Numeric.NumberUnique.{sign_det, integer_det, integer_digit}
 
-ten_mark : is_digit_of 10 95 ≡ false
+ten_underscore : is_digit_of 10 95 ≡ false
 unfolding is_digit_of
-ten_mark = refl
+ten_underscore = refl
 
 record SomeSign (t : Text) : Type 0 where
   minus : Bool
@@ -42,7 +42,7 @@ some_digits (c ∷ t) =
     elim (cases_Bool (is_digit_of 10 c)) [
       | inl h ↦ record { rest = d.rest; read = c ∷ d.read; digits = Digits.digit h d.digits }
       | inr h ↦ elim (cases_Bool (c == 95)) [
-        | inl m ↦ record { rest = d.rest; read = d.read; digits = subst (λ (e : ℕ). Digits 10 (e ∷ t) d.rest d.read) (sym (eqb-true c 95 m)) (Digits.mark d.digits) }
+        | inl m ↦ record { rest = d.rest; read = d.read; digits = subst (λ (e : ℕ). Digits 10 (e ∷ t) d.rest d.read) (sym (eqb-true c 95 m)) (Digits.underscore d.digits) }
         | inr m ↦ record { rest = c ∷ t; read = []; digits = Digits.stop (rw (h, m) refl) }
       ]
     ]
@@ -90,9 +90,9 @@ record SomeExponent (t : Text) : Type 0 where
 NoExponent : Text → Type 0
 NoExponent t = (r : Text) (b : Bool) → Exponent t r b → ⊥
 
-never_mark : (c : ℕ) (t : Text) → starts (is_digit_of 10) (some_sign t).rest ≡ false → is_exponent_letter c ≡ true → (r : Text) (b : Bool) → Exponent (c ∷ t) r b → ⊥
-never_mark c t n h r b (Exponent.none x) = true≢false (sym h ∙ x)
-never_mark c t n h r b (Exponent.exponent x g i) = true≢false (sym (integer_digit i) ∙ ap (starts (is_digit_of 10)) (sign_det g (some_sign t).sign).0 ∙ n)
+never_exponent : (c : ℕ) (t : Text) → starts (is_digit_of 10) (some_sign t).rest ≡ false → is_exponent_letter c ≡ true → (r : Text) (b : Bool) → Exponent (c ∷ t) r b → ⊥
+never_exponent c t n h r b (Exponent.none x) = true≢false (sym h ∙ x)
+never_exponent c t n h r b (Exponent.exponent x g i) = true≢false (sym (integer_digit i) ∙ ap (starts (is_digit_of 10)) (sign_det g (some_sign t).sign).0 ∙ n)
 
 some_exponent : (t : Text) → SomeExponent t ⊎ NoExponent t
 unfolding NoExponent
@@ -101,14 +101,14 @@ some_exponent (c ∷ t) = elim (cases_Bool (is_exponent_letter c)) [ inl h ↦ b
   where
     behind : is_exponent_letter c ≡ true → SomeInteger (some_sign t).rest ⊎ (starts (is_digit_of 10) (some_sign t).rest ≡ false) → SomeExponent (c ∷ t) ⊎ ((r : Text) (b : Bool) → Exponent (c ∷ t) r b → ⊥)
     behind h (inl i) = inl (record { rest = i.rest; power = true; exponent = Exponent.exponent h (some_sign t).sign i.int })
-    behind h (inr n) = inr (never_mark c t n h)
+    behind h (inr n) = inr (never_exponent c t n h)
 
 -- behind its sign and its integer a decimal that is the whole text goes on
 rest_part : {s t u w : Text} {m : Bool} → Sign s t m → Integer 10 t u w → Decimal s [] s → DecimalPart u [] × (plain s ≡ s)
 rest_part {s = s} a i (decimal {u = v} {v = x} p b j e f g) =
     let j' = subst (λ (q : Text). Integer 10 q v x) (sym (sign_det a b).0) j in
     let same : s ≡ p = f ∙ append-nil p in
-    (subst (λ (q : Text). DecimalPart q []) (sym (integer_det ten_mark i j').0) e, sym (g ∙ ap plain (sym same)))
+    (subst (λ (q : Text). DecimalPart q []) (sym (integer_det ten_underscore i j').0) e, sym (g ∙ ap plain (sym same)))
 
 module _ (s : Text) where
   abbrev Decided : Type 0

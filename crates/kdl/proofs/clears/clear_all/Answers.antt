@@ -9,17 +9,17 @@ use Rattle.kdl.proofs.clears.clear_all.Goals as goal
 use Rattle.kdl.proofs.clears.clear_all.Goals.{After-due_from-at}
 
 pub due-init : goal.due-init
-due-init c = begun c.args.here.now c.mark.new.self c.mark.ensures
+due-init c = begun c.args.here.now c.set_due.new.self c.set_due.ensures
 
 pub due-smaller-in-Some : goal.due-smaller-in-Some
 due-smaller-in-Some c =
     let w = cleared_document (document_tree c.args.here.now) in
     let k = at_node c.due.here c.due.above c.due.at w c.due.invariant (omega (arith, ap length c.nodes.ensures)) in
     let two = c.exchange_block.new.self in
-    let new = c.mark-in-Some.new.self in
+    let new = c.set_due-in-Some.new.self in
     omega (
       arith,
-      block_counted c.due.here c.clear_at.new.self two c.due.above c.exchange_block.result c.due.at w c.in-Some.block new k c.in-Some.ensures c.exchange_block.ensures c.mark-in-Some.ensures,
+      block_counted c.due.here c.clear_at.new.self two c.due.above c.exchange_block.result c.due.at w c.in-Some.block new k c.in-Some.ensures c.exchange_block.ensures c.set_due-in-Some.ensures,
       ap (λ d. left_of d (Some two) 0) c.replace.ensures.after,
       ap (λ d. left_of c.replace.new.dest (Some d) 0) c.replace.ensures.value,
     )
@@ -29,10 +29,10 @@ due-preserved-in-Some c =
     let w = cleared_document (document_tree c.args.here.now) in
     let k = at_node c.due.here c.due.above c.due.at w c.due.invariant (omega (arith, ap length c.nodes.ensures)) in
     let two = c.exchange_block.new.self in
-    let new = c.mark-in-Some.new.self in
+    let new = c.set_due-in-Some.new.self in
     subst (λ d. Walk c.replace.new.dest (Some d) 0 w) (sym c.replace.ensures.value)
     (subst (λ d. Walk d (Some two) 0 w) (sym c.replace.ensures.after)
-    (block_entered c.due.here c.clear_at.new.self two c.due.above c.exchange_block.result c.due.at w c.in-Some.block new k c.in-Some.ensures c.exchange_block.ensures c.mark-in-Some.ensures))
+    (block_entered c.due.here c.clear_at.new.self two c.due.above c.exchange_block.result c.due.at w c.in-Some.block new k c.in-Some.ensures c.exchange_block.ensures c.set_due-in-Some.ensures))
 
 pub due-smaller-in_default : goal.due-smaller-in_default
 due-smaller-in_default c = leaf_counted c.due.here c.clear_at.new.self c.due.above c.due.at (IsAlone c.clear_at.result) (omega (arith, ap length c.nodes.ensures)) c.clear_at.ensures

@@ -22,23 +22,23 @@ pub returns-clause-same : goal.returns-clause-same
 returns-clause-same c =
     let keep = c.args.config.now.entry_autoformate_keep in
     let e = entry_tree c.args.entry.now in
-    let marked : entry_tree c.if-config.entry ≡ with_keep_if keep e = elim c.if-config.branch [
+    let flagged : entry_tree c.if-config.entry ≡ with_keep_if keep e = elim c.if-config.branch [
       | then-config w ↦ ap entry_tree w.entry-is ∙ w.keep_format.ensures ∙ ap (λ (b : Bool). with_keep_if b e) (sym w.if-config.true)
       | else-config w ↦ ap entry_tree w.entry-is ∙ ap (λ (b : Bool). with_keep_if b e) (sym w.if-config.false)
     ] in
-    c.put_behind.ensures.same ∙ ap cleared (c.autoformat.ensures ∙ ap autoformatted marked) ∙ cleared_formatted keep e
+    c.put_behind.ensures.same ∙ ap cleared (c.autoformat.ensures ∙ ap autoformatted flagged) ∙ cleared_formatted keep e
 
 pub returns-clause-formatted : goal.returns-clause-formatted
 returns-clause-formatted c =
     let s = settings c.args.config.now in
     let e = entry_tree c.args.entry.now in
     let t = text_of c.in_ok-kept.kept in
-    let marked : entry_tree c.if-config.entry ≡ with_keep_if s.entry_autoformate_keep e = elim c.if-config.branch [
+    let flagged : entry_tree c.if-config.entry ≡ with_keep_if s.entry_autoformate_keep e = elim c.if-config.branch [
       | then-config w ↦ ap entry_tree w.entry-is ∙ w.keep_format.ensures ∙ ap (λ (b : Bool). with_keep_if b e) (sym w.if-config.true)
       | else-config w ↦ ap entry_tree w.entry-is ∙ ap (λ (b : Bool). with_keep_if b e) (sym w.if-config.false)
     ] in
     if_ok c.put_behind.result
-    (λ h. (t, subst (λ (x : Entry). KeptBefore s x.format t) marked c.in_ok-kept.ensures, h ∙ ap (behind t) (c.autoformat.ensures ∙ ap autoformatted marked)))
+    (λ h. (t, subst (λ (x : Entry). KeptBefore s x.format t) flagged c.in_ok-kept.ensures, h ∙ ap (behind t) (c.autoformat.ensures ∙ ap autoformatted flagged)))
     c.put_behind.ensures.behind
 
 pub returns-clause-well_formed : goal.returns-clause-well_formed

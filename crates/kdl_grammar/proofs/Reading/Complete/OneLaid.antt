@@ -223,8 +223,8 @@ module _ (whole : Text) where
 
 -- what is laid in a text, the machine answers
 pub document_answered : {t : Text} {d : Document} → LaidDocument true d t → AnswersDocument t d
-document_answered (LaidDocument.unmarked {t = t} c) = AnswersDocument.unmarked (runs_laid t c)
-document_answered (LaidDocument.marked {t = t} c) = AnswersDocument.marked (runs_laid (0xFEFF ∷ t) c)
+document_answered (LaidDocument.no_bom {t = t} c) = AnswersDocument.no_bom (runs_laid t c)
+document_answered (LaidDocument.behind_bom {t = t} c) = AnswersDocument.behind_bom (runs_laid (0xFEFF ∷ t) c)
 
 -- at most one document is laid
 pub one_laid_document : OneLaidDocument
@@ -251,7 +251,7 @@ as_document {t = t} (laid_node_text {leading = leading} {end = end} {trailing = 
       inner = inner;
       span = content_span (span_of t [] []) (first inner none);
       trailing = trailing;
-      laid = LaidDocument.unmarked (with_nodes (a_node g (laid_node y n ls c) e refl no_node) (record { is = lines_gap w.is; text = w.text }) refl);
+      laid = LaidDocument.no_bom (with_nodes (a_node g (laid_node y n ls c) e refl no_node) (record { is = lines_gap w.is; text = w.text }) refl);
       same = cc;
     }
 

@@ -9,7 +9,7 @@ use Rattle.kdl_items.proofs.dropped.pass_part.Goals as goal
 
 pub tokens-init : goal.tokens-init
 tokens-init c =
-    part_starts (place_view c.args.place) (chars c.args.text.now) c.new-lexer.result (machine_view c.new-machine.result) (ap (λ (h : Here). h.rest) c.new-lexer.ensures) (ap (λ (h : Here). h.at) c.new-lexer.ensures) (c.new-machine.ensures ∙ c.mark_phase.ensures)
+    part_starts (place_view c.args.place) (chars c.args.text.now) c.new-lexer.result (machine_view c.new-machine.result) (ap (λ (h : Here). h.rest) c.new-lexer.ensures) (ap (λ (h : Here). h.at) c.new-lexer.ensures) (c.new-machine.ensures ∙ c.slashdash_phase.ensures)
 
 pub returns-in-Ok-None : goal.returns-in-Ok-None
 returns-in-Ok-None c =

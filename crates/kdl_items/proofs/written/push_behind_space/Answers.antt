@@ -5,7 +5,7 @@ use Rattle.kdl_value.specs.Tree.{text_of}
 use Rattle.kdl_items.specs.Internal.Reading.{item_view}
 use Rattle.kdl_items.specs.Written.{tail}
 use Rattle.kdl_items.specs.declared.item.Item.{Item}
-use Rattle.kdl_items.proofs.Rewriting.Pushing.{if_ok, one_char, two, three, escline_mark}
+use Rattle.kdl_items.proofs.Rewriting.Pushing.{if_ok, one_char, two, three, escline_text}
 use Rattle.kdl_items.proofs.written.push_behind_space.Goals as goal
 
 pub returns-in_ok-push_text-in-Comment-2 : goal.returns-in_ok-push_text-in-Comment-2
@@ -13,7 +13,7 @@ returns-in_ok-push_text-in-Comment-2 c =
     let text = chars c.in-Comment.text.now in
     if_ok c.push_text-in-Comment-2.result
     (λ e. three _ _ _ _ (32 ∷ 92 ∷ 32 ∷ []) text (10 ∷ []) (e ∙ ap (λ (t : Text). text_of c.push_text-in-Comment.new.out ++ t) (one_char 10 (omega arith)))
-    c.in_ok-push_text-in-Comment-2.ensures (c.in_ok-push_text-in-Comment.ensures ∙ ap (λ (t : Text). text_of c.args.out.now ++ t) escline_mark)
+    c.in_ok-push_text-in-Comment-2.ensures (c.in_ok-push_text-in-Comment.ensures ∙ ap (λ (t : Text). text_of c.args.out.now ++ t) escline_text)
     ∙ ap (λ (t : Text). text_of c.args.out.now ++ t) (sym (ap (λ (i : Item). tail (item_view i ∷ [])) c.in-Comment.is ∙ append-nil (32 ∷ 92 ∷ 32 ∷ text ++ (10 ∷ [])))))
     c.push_text-in-Comment-2.ensures
 

@@ -1,9 +1,9 @@
 use Rattle.kdl_text.specs.Numbers.{is_part}
-use Rattle.kdl_text.proofs.Numeric.NumberReads.{digits_mark, digits_digit, digits_end, digits_costs, not_part, none_here}
+use Rattle.kdl_text.proofs.Numeric.NumberReads.{digits_underscore, digits_digit, digits_end, digits_costs, not_part, none_here}
 use Rattle.kdl_text.proofs.numbers.digits.Goals as goal
 
 pub digits-preserved-in-Some-eq95 : goal.digits-preserved-in-Some-eq95
-digits-preserved-in-Some-eq95 c = digits_mark _ _ _ _ _ _ _ _ c.digits.invariant c.in-Some-eq95.ensures.result c.look.ensures.moved c.in-Some-eq95.field-0-test c.step.ensures
+digits-preserved-in-Some-eq95 c = digits_underscore _ _ _ _ _ _ _ _ c.digits.invariant c.in-Some-eq95.ensures.result c.look.ensures.moved c.in-Some-eq95.field-0-test c.step.ensures
 
 pub digits-preserved : goal.digits-preserved
 digits-preserved c =

@@ -5,13 +5,13 @@ use Rattle.std.proofs.Common.{arith}
 use Rattle.kdl_text.proofs.numbers.read_front.Goals as goal
 
 pub returns-in-Some-clause-moves : goal.returns-in-Some-clause-moves
-returns-in-Some-clause-moves c = moves_then c.sign-minus.ensures.moves (moves_then c.base_mark-radix.ensures.moves c.integer.ensures.moves)
+returns-in-Some-clause-moves c = moves_then c.sign-minus.ensures.moves (moves_then c.eat_base_prefix-radix.ensures.moves c.integer.ensures.moves)
 
 pub returns-in-Some-clause-shorter : goal.returns-in-Some-clause-shorter
-returns-in-Some-clause-shorter c = omega (arith, shorter_integer c.in-Some.ensures.reads.1, shorter c.sign-minus.ensures.moves, shorter c.base_mark-radix.ensures.moves)
+returns-in-Some-clause-shorter c = omega (arith, shorter_integer c.in-Some.ensures.reads.1, shorter c.sign-minus.ensures.moves, shorter c.eat_base_prefix-radix.ensures.moves)
 
 pub returns-in-None-clause-reads : goal.returns-in-None-clause-reads
-returns-in-None-clause-reads c = no_front _ _ _ _ _ _ c.sign-minus.ensures.reads c.base_mark-radix.ensures.reads c.value.ensures.is c.in-None.ensures.reads.1
+returns-in-None-clause-reads c = no_front _ _ _ _ _ _ c.sign-minus.ensures.reads c.eat_base_prefix-radix.ensures.reads c.value.ensures.is c.in-None.ensures.reads.1
 
 pub returns-in-None-clause-moves : goal.returns-in-None-clause-moves
-returns-in-None-clause-moves c = moves_then c.sign-minus.ensures.moves (moves_then c.base_mark-radix.ensures.moves c.integer.ensures.moves)
+returns-in-None-clause-moves c = moves_then c.sign-minus.ensures.moves (moves_then c.eat_base_prefix-radix.ensures.moves c.integer.ensures.moves)

@@ -31,16 +31,16 @@ returns-in-Err-decimal_part-clause-moves c = moves_then c.read_front.ensures.mov
 pub slice-piece-requires : goal.slice-piece-requires
 slice-piece-requires c = rw c.checkpoint-start.ensures.rest (part_moves _ _ _ _ c.read_front.ensures.moves c.is_end.ensures.stayed c.decimal_part.ensures.moves).piece
 
-pub returns-in-Ok-without_marks-clause-reads : goal.returns-in-Ok-without_marks-clause-reads
-returns-in-Ok-without_marks-clause-reads c =
+pub returns-in-Ok-without_underscores-clause-reads : goal.returns-in-Ok-without_underscores-clause-reads
+returns-in-Ok-without_underscores-clause-reads c =
     let p = c.slice-piece.result in
     let rest : c.slice-piece.new.self.rest ≡ c.decimal_part.new.cursor.rest = ap (λ h. h.rest) c.slice-piece.ensures.moved in
     let text : c.args.cursor.now.rest ≡ p ++ c.decimal_part.new.cursor.rest = sym c.checkpoint-start.ensures.rest ∙ c.slice-piece.ensures.result in
     let part : DecimalPart c.read_front.new.cursor.rest c.decimal_part.new.cursor.rest = subst (λ q. DecimalPart q c.decimal_part.new.cursor.rest) c.is_end.ensures.stayed.rest c.in_default-decimal_part.ensures.reads in
-    reads_number _ _ p _ c.in-Ok-without_marks.ensures (rw rest (front_part _ _ _ c.in-Ok.ensures.reads _ p (ap radix_of c.in-Decimal.is) part text))
+    reads_number _ _ p _ c.in-Ok-without_underscores.ensures (rw rest (front_part _ _ _ c.in-Ok.ensures.reads _ p (ap radix_of c.in-Decimal.is) part text))
 
-pub returns-in-Ok-without_marks-clause-costs : goal.returns-in-Ok-without_marks-clause-costs
-returns-in-Ok-without_marks-clause-costs c =
+pub returns-in-Ok-without_underscores-clause-costs : goal.returns-in-Ok-without_underscores-clause-costs
+returns-in-Ok-without_underscores-clause-costs c =
     part_costs _ _ _ _ _ _ c.read_front.ensures.moves c.read_front.ensures.costs c.in-Ok.ensures.shorter c.is_end.ensures.stayed c.decimal_part.ensures.moves c.decimal_part.ensures.costs
     (sym c.checkpoint-start.ensures.rest ∙ c.slice-piece.ensures.result) c.slice-piece.ensures.moved
 
@@ -58,14 +58,14 @@ returns-in-Err-decimal_part-clause-most c =
     more _ _ _ _ (moves_then c.read_front.ensures.moves (moves_then (moves_stayed c.is_end.ensures.stayed) c.decimal_part.ensures.moves))
     (front_all _ _ _ _ c.read_front.ensures.costs c.is_end.ensures.stayed c.decimal_part.ensures.costs) (lit≤ tt)
 
-pub returns-in-Ok-without_marks-clause-most : goal.returns-in-Ok-without_marks-clause-most
-returns-in-Ok-without_marks-clause-most c =
+pub returns-in-Ok-without_underscores-clause-most : goal.returns-in-Ok-without_underscores-clause-most
+returns-in-Ok-without_underscores-clause-most c =
     sliced_most _ _ _ _ _ _ (part_moves _ _ _ _ c.read_front.ensures.moves c.is_end.ensures.stayed c.decimal_part.ensures.moves)
     (front_all _ _ _ _ c.read_front.ensures.costs c.is_end.ensures.stayed c.decimal_part.ensures.costs)
     (sym c.checkpoint-start.ensures.rest ∙ c.slice-piece.ensures.result) c.slice-piece.ensures.moved (lit≤ tt)
 
-pub returns-in-Err-without_marks-clause-most : goal.returns-in-Err-without_marks-clause-most
-returns-in-Err-without_marks-clause-most c =
+pub returns-in-Err-without_underscores-clause-most : goal.returns-in-Err-without_underscores-clause-most
+returns-in-Err-without_underscores-clause-most c =
     sliced_most _ _ _ _ _ _ (part_moves _ _ _ _ c.read_front.ensures.moves c.is_end.ensures.stayed c.decimal_part.ensures.moves)
     (front_all _ _ _ _ c.read_front.ensures.costs c.is_end.ensures.stayed c.decimal_part.ensures.costs)
     (sym c.checkpoint-start.ensures.rest ∙ c.slice-piece.ensures.result) c.slice-piece.ensures.moved (lit≤ tt)

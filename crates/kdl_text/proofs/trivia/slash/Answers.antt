@@ -30,5 +30,5 @@ returns-then-eat_two-2-clause-moves c = moves_then (moves_stayed c.if-eat_two.en
 pub returns-then-eat_two-2-clause-costs : goal.returns-then-eat_two-2-clause-costs
 returns-then-eat_two-2-clause-costs c = stayed_costs _ _ _ _ _ _ _ _ c.if-eat_two.ensures.1 (omega arith) c.if-eat_two-2.ensures c.line_end.ensures.moves c.line_end.ensures.costs (omega arith)
 
-pub returns-then-slashdash_mark-clause-moves : goal.returns-then-slashdash_mark-clause-moves
-returns-then-slashdash_mark-clause-moves c = moves_then (moves_stayed c.if-eat_two.ensures.1) (moves_then (moves_stayed c.if-eat_two-2.ensures.1) c.slashdash_mark.ensures.moves)
+pub returns-then-eat_slashdash-clause-moves : goal.returns-then-eat_slashdash-clause-moves
+returns-then-eat_slashdash-clause-moves c = moves_then (moves_stayed c.if-eat_two.ensures.1) (moves_then (moves_stayed c.if-eat_two-2.ensures.1) c.eat_slashdash.ensures.moves)

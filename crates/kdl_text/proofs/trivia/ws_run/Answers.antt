@@ -11,7 +11,7 @@ returns-then-not-eat_two c =
 
 pub returns-then-not-block_end : goal.returns-then-not-block_end
 returns-then-not-block_end c =
-    let e = run_unclosed _ _ _ c.run.invariant c.spaces.ensures.reads c.spaces.ensures.moves c.spaces.ensures.costs _ _ c.if-not-eat_two.ensures c.if-not-block_end.ensures.moves c.if-not-block_end.ensures.costs _ c.at-at.ensures c.if-not-block_end.ensures.reads in
+    let e = run_unclosed _ _ _ c.run.invariant c.spaces.ensures.reads c.spaces.ensures.moves c.spaces.ensures.costs _ _ c.if-not-eat_two.ensures c.if-not-block_end.ensures.moves c.if-not-block_end.ensures.costs c.if-not-block_end.ensures.reads in
     record { reads = e.reads; moves = e.moves; costs = e.costs }
 
 pub run-preserved : goal.run-preserved

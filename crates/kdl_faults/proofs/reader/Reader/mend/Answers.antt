@@ -8,4 +8,4 @@ returns-then-not-self-clause-keeps c text x s =
 pub returns-clause-keeps : goal.returns-clause-keeps
 returns-clause-keeps c text x s =
     let y = c.in_ok-misfit.ensures.keeps text x s in
-    c.mark_left.ensures.keeps text (record { whole = y.whole; here = y.here; left = y.left; faults = y.faults; blocks = y.blocks }) s
+    c.note_left.ensures.keeps text (record { whole = y.whole; here = y.here; left = y.left; faults = y.faults; blocks = y.blocks }) s

@@ -4,8 +4,8 @@ use Rattle.kdl_faults.proofs.reader.Reader.read.Goals as goal
 
 pub pieces-init : goal.pieces-init
 pieces-init c = record {
-  keeps = c.skip_mark.ensures.keeps;
-  turning = turning_begins c.args.self.now.cursor c.skip_mark.new.self.cursor _ c.skip_mark.ensures.moves c.skip_mark.ensures.most;
+  keeps = c.skip_bom.ensures.keeps;
+  turning = turning_begins c.args.self.now.cursor c.skip_bom.new.self.cursor _ c.skip_bom.ensures.moves c.skip_bom.ensures.most;
 }
 
 pub returns-in_err-piece : goal.returns-in_err-piece

@@ -1,5 +1,5 @@
 use Rattle.kdl_faults.proofs.NotedSpans.{next_lies, same_lies}
-use Rattle.kdl_faults.proofs.reader.Reader.mark_left.Goals as goal
+use Rattle.kdl_faults.proofs.reader.Reader.note_left.Goals as goal
 
 pub returns-in-Left-clause-keeps : goal.returns-in-Left-clause-keeps
 returns-in-Left-clause-keeps c text x s = record {

@@ -1,6 +1,6 @@
 use Rattle.kdl_text.proofs.Looking.SliceCost.{ate}
 use Rattle.kdl_faults.proofs.NotedSpans.{moved_here}
-use Rattle.kdl_faults.proofs.reader.Reader.skip_mark.Goals as goal
+use Rattle.kdl_faults.proofs.reader.Reader.skip_bom.Goals as goal
 
 pub returns-in-Document-clause-keeps : goal.returns-in-Document-clause-keeps
 returns-in-Document-clause-keeps c text x = record {

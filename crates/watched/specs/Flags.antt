@@ -1,4 +1,4 @@
--- What one call of a reader or a writer does to the marks on it.
+-- What one call of a reader or a writer does to the flags on it.
 use Rattle.std.specs.Prelude.{ℕ, Bool, true, false, not, ◌&&◌, ◌==◌, Result, Ok, Err}
 
 -- the read gave no byte

@@ -1,5 +1,5 @@
-use Rattle.kdl_entry.specs.Internal.Tokens.{t_left, t_right, t_opening, t_closing, t_equals, t_semicolon, t_mark}
-use Rattle.kdl_entry.proofs.items.lexer.mark_kind.Goals as goal
+use Rattle.kdl_entry.specs.Internal.Tokens.{t_left, t_right, t_opening, t_closing, t_equals, t_semicolon, t_bom}
+use Rattle.kdl_entry.proofs.items.lexer.sign_kind.Goals as goal
 
 pub returns-in-40 : goal.returns-in-40
 returns-in-40 c = λ r. rw c.in-40.is t_left
@@ -20,4 +20,4 @@ pub returns-in-59 : goal.returns-in-59
 returns-in-59 c = λ r. rw c.in-59.is t_semicolon
 
 pub returns-in-65279 : goal.returns-in-65279
-returns-in-65279 c = λ r. rw c.in-65279.is t_mark
+returns-in-65279 c = λ r. rw c.in-65279.is t_bom
