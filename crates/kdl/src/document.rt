@@ -163,7 +163,7 @@ impl KdlDocument {
         self.format.as_ref()
     }
 
-    /// Where the document stood in the text that it was read from, in bytes.
+    /// Where the document stood in the text that it was read from, in bytes: from its first node to the end of its last one.
     ///
     /// ```
     /// let document = KdlDocument::parse(alloc, "\n\ta 1\n")?;

@@ -17,6 +17,9 @@
 //! let changed = document.to_string(alloc)?; // the text with 9090 in the place of 8080
 //! ```
 //!
+//! A new entry prints one space and its value. What the old one had around it goes with it: a type, comments, entries that
+//! are slashdashed. To keep them, set the value of the entry and `value_repr` of its format.
+//!
 //! A program that only reads a configuration asks for values by their names:
 //!
 //! ```
@@ -39,13 +42,17 @@
 //! if let Err(ParseFailure::Syntax(error)) = KdlDocument::parse(alloc, "a }\nb #treu\n") {
 //!     let first = error.diagnostics[0].span; // offset 2 and length 1: where the `}` stands
 //!     for diagnostic in &error.diagnostics {
-//!         let message = &diagnostic.message; // "Expected end of document", then "Expected keyword"
+//!         let told = diagnostic.to_string(alloc)?; // "Expected end of document", then "Expected keyword"
 //!     }
 //! }
 //! ```
 //!
 //! A call that takes memory is given where from, and answers where that runs out: by an `AllocError`, or by
-//! `ParseFailure::Memory`. Spans are in bytes of the text that was read.
+//! `ParseFailure::Memory`.
+//!
+//! Spans are in bytes of the text that was read: of an entry from its type, key or value to the end of its value, of a node
+//! from its type or name up to its terminator, of a document from its first node to the end of its last. What is read as a
+//! whole text, by `KdlNode::parse` or `KdlEntry::parse`, spans all of it.
 #![tactic(auto)]
 
 mod clears;

@@ -155,7 +155,8 @@ impl KdlNode {
         self.format.as_ref()
     }
 
-    /// Where the node stood in the text that it was read from, in bytes.
+    /// Where the node stood in the text that it was read from, in bytes: from its type or name up to its terminator, or all
+    /// of a text that `KdlNode::parse` read.
     ///
     /// ```
     /// let document = KdlDocument::parse(alloc, "é 1\nb")?;

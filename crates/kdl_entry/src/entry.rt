@@ -258,7 +258,8 @@ impl KdlEntry {
         self.value = value;
     }
 
-    /// Where the entry stood in the text that it was parsed from, in bytes.
+    /// Where the entry stood in the text that it was parsed from, in bytes: from its type, key or value to the end of its
+    /// value, or all of a text that `KdlEntry::parse` read.
     ///
     /// ```
     /// let span = KdlEntry::parse(alloc, " a=1")?.span(); // offset 0 and length 4: the whole text

@@ -193,25 +193,6 @@ impl KdlIdentifier {
     }
 }
 
-/// An identifier as it was read: its string, its spelling and where it stood.
-///
-/// ```
-/// let span = SourceSpan { offset: 4, len: 3 };
-/// let repr = String::from_str(alloc, "\"a\"")?;
-/// let name = parsed_identifier(String::from_str(alloc, "a")?, repr, span); // prints "\"a\""
-/// ```
-#[inline]
-pub fn parsed_identifier(value: String, repr: String, span: SourceSpan) -> KdlIdentifier
-    ensures { identifier_tree result
-        ≡ record { value = text_of value; repr = Some (text_of repr); span = span } }
-{
-    KdlIdentifier {
-        value,
-        repr: Spelling::Own(repr),
-        span,
-    }
-}
-
 /// An identifier as it was read: its string, the piece of the text that spells it, and where it stood. Where the piece is
 /// the string, as a bare word is, the text stands in memory once, and none is taken. Else it fails where memory runs
 /// out.
@@ -225,7 +206,7 @@ pub fn parsed_identifier(value: String, repr: String, span: SourceSpan) -> KdlId
 /// let name = sliced_identifier(alloc, String::from_str(alloc, "ab")?, &piece, span)?; // prints "ab"
 /// ```
 #[inline]
-pub(crate) fn sliced_identifier(
+pub fn sliced_identifier(
     alloc: Global,
     value: String,
     piece: &Piece,

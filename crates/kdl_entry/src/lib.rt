@@ -7,6 +7,6 @@ pub mod items;
 mod print;
 
 pub use entry::{KdlEntry, KdlEntryFormat};
-pub use identifier::{KdlIdentifier, identifier_allocator, parsed_identifier};
+pub use identifier::{KdlIdentifier, identifier_allocator, sliced_identifier};
 pub use kdl_value::{KdlFloat, KdlValue, write_char, write_text};
 pub use print::write_type;

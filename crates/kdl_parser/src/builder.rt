@@ -19,7 +19,7 @@ use crate::node_parts::{DocumentParts, ParsedNode};
 use kdl_entry::items::item::{Item, TypeParts, text_between};
 use kdl_entry::items::{LexFailure, Lexer, Token, TokenKind, fault_at};
 use kdl_entry::{KdlEntry, KdlIdentifier};
-use kdl_text::chars::Checkpoint;
+use kdl_text::chars::{Checkpoint, Piece};
 use std::alloc::Global;
 
 /// Where in the grammar the builder is.
@@ -82,7 +82,8 @@ struct WaitingWord<'a> {
     leading: String,
     start: Checkpoint<'a>,
     value: String,
-    repr: String,
+    /// Its spelling, which becomes a text of its own where it is not the string.
+    repr: Piece<'a>,
 }
 
 /// Where a name or an entry begins, and whether it counts. Of what doesn't no text is held.

@@ -19,7 +19,7 @@ use Rattle.kdl_entry.specs.declared.items.lexer.LexFailure.TheVariants.{Faulty, 
 
 -- a string that may be a key, as characters
 abbrev pub word_view : Word → machine.Word
-word_view w = record { leading = text_of w.leading; value = text_of w.value; repr = text_of w.repr; span = w.span }
+word_view w = record { leading = text_of w.leading; value = text_of w.value; repr = w.repr; span = w.span }
 
 -- the machine's state that the reader's state stands for
 abbrev pub state_view : State → machine.State

@@ -12,12 +12,12 @@ ghost use Rattle.kdl_text.specs.Internal.Here.{Ahead};
 ghost use Rattle.std.specs.Prelude.{◌≡◌, [], Some, None, true, false, IfOk};
 ghost use Rattle.std.specs.Str.{chars};
 
-use super::item::{Given, Item, empty, entry_from, text_between};
+use super::item::{Given, Item, empty, entry_from, piece_between, text_between};
 use super::lexer::{LexFailure, Lexer, Token, TokenKind, fault_at};
 use crate::entry::KdlEntry;
-use crate::identifier::{KdlIdentifier, parsed_identifier};
+use crate::identifier::{KdlIdentifier, sliced_identifier};
 use kdl_faults::{Whole, failure};
-use kdl_text::chars::{Checkpoint, Steps};
+use kdl_text::chars::{Checkpoint, Piece, Steps};
 use kdl_text::error::ParseFailure;
 use kdl_text::span::SourceSpan;
 use kdl_value::KdlValue;
@@ -28,11 +28,12 @@ const UNPLACED: SourceSpan = SourceSpan { offset: 0, len: 0 };
 
 /// A string that may yet be a key.
 #[derive(Drop)]
-struct Word {
+struct Word<'a> {
     /// What stands before it.
     leading: String,
     value: String,
-    repr: String,
+    /// Its spelling, which becomes a text of its own where it is not the string.
+    repr: Piece<'a>,
     span: SourceSpan,
 }
 
@@ -48,7 +49,7 @@ enum State<'a> {
     /// An entry that is slashdashed: whether it is a string, which may yet be a key, and whether spaces follow.
     Dropped(bool, bool),
     /// A string that may yet be a key, and where it ended.
-    Pending(Word, Checkpoint<'a>),
+    Pending(Word<'a>, Checkpoint<'a>),
     /// The entry, and where it ended.
     Done(KdlEntry, Checkpoint<'a>),
 }
@@ -96,7 +97,7 @@ fn word_between<'a>(
     value: String,
     start: &Checkpoint<'a>,
     end: &Checkpoint<'a>,
-) -> Result<Word, AllocError>
+) -> Result<Word<'a>, AllocError>
     requires leading { Ahead whole.now start.now }
     requires token { Ahead start.now end.now }
     ensures is { IfOk result
@@ -104,11 +105,10 @@ fn word_between<'a>(
     ensures stays { Stays lexer.old lexer.new }
 {
     let leading = text_between(alloc, lexer, whole, start)?;
-    let repr = text_between(alloc, lexer, start, end)?;
     Ok(Word {
         leading,
         value,
-        repr,
+        repr: piece_between(lexer, start, end),
         span: whole.span_between(start, end),
     })
 }
@@ -135,8 +135,8 @@ fn argument_between<'a>(
 }
 
 /// The word as an argument.
-fn argument(alloc: Global, word: Word) -> KdlEntry
-    ensures { entry_tree result ≡ argument_of (word_view word) }
+fn argument(alloc: Global, word: Word) -> Result<KdlEntry, AllocError>
+    ensures { IfOk result (λ e. entry_tree e ≡ argument_of (word_view word.entry)) }
 {
     let Word {
         leading,
@@ -144,7 +144,8 @@ fn argument(alloc: Global, word: Word) -> KdlEntry
         repr,
         span: _,
     } = word;
-    entry_from(
+    let repr = repr.to_string(alloc)?;
+    Ok(entry_from(
         alloc,
         UNPLACED,
         leading,
@@ -152,7 +153,7 @@ fn argument(alloc: Global, word: Word) -> KdlEntry
         None,
         KdlValue::String(value),
         repr,
-    )
+    ))
 }
 
 /// A token ahead of the entry.
@@ -288,7 +289,7 @@ fn at_spaced<'a>(
 
 /// A token behind a string that may yet be a key.
 fn at_pending<'a>(
-    word: Word,
+    word: Word<'a>,
     from: Checkpoint<'a>,
     alloc: Global,
     lexer: &mut Lexer<'a>,
@@ -298,13 +299,13 @@ fn at_pending<'a>(
     end: &Checkpoint<'a>,
 ) -> Result<State<'a>, LexFailure>
     requires { Ahead from start.now }
-    ensures did { Stepped (step whole.now.rest (machine.word (word_view word) from.entry.rest)
+    ensures did { Stepped (step whole.now.rest (machine.word (word_view word.entry) from.entry.rest)
         (kind_view kind) start.now.rest end.now.rest) start.now result }
     ensures stays { Stays lexer.old lexer.new }
 {
     match kind {
         TokenKind::Space => Ok(State::Pending(word, from)),
-        TokenKind::Newline => Ok(State::Done(argument(alloc, word), from)),
+        TokenKind::Newline => Ok(State::Done(argument(alloc, word)?, from)),
         TokenKind::Equals => {
             let before = text_between(alloc, lexer, &from, start)?;
             let Word {
@@ -313,7 +314,7 @@ fn at_pending<'a>(
                 repr,
                 span,
             } = word;
-            let name = parsed_identifier(value, repr, span);
+            let name = sliced_identifier(alloc, value, &repr, span)?;
             Ok(State::Under(keyed(alloc, whole, true, leading, name, before, end)))
         }
         _ => Err(LexFailure::Faulty(fault_at(start))),
@@ -408,7 +409,7 @@ impl<'a> State<'a> {
     {
         match self {
             State::Pending(word, from) => Ok(Some(ended(
-                argument(alloc, word),
+                argument(alloc, word)?,
                 alloc,
                 lexer,
                 whole,

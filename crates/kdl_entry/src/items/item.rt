@@ -17,7 +17,7 @@ ghost use Rattle.std.specs.Prelude.{◌≡◌, if◌then◌else◌, [], Some, No
 use super::lexer::{LexFailure, Lexer, TokenKind, fault_at};
 use crate::entry::{KdlEntry, KdlEntryFormat};
 use crate::identifier::{KdlIdentifier, sliced_identifier};
-use kdl_text::chars::Checkpoint;
+use kdl_text::chars::{Checkpoint, Piece};
 use kdl_text::span::SourceSpan;
 use kdl_value::KdlValue;
 use std::alloc::{AllocError, Global};
@@ -77,6 +77,30 @@ pub struct Given {
     pub value: KdlValue,
 }
 
+/// The piece of the text between two places. A step for each of its bytes.
+///
+/// ```
+/// let mut lexer = Lexer::new("ab=1", Steps::new());
+/// let from = lexer.checkpoint();
+/// let token = lexer.next(alloc)?; // the string `ab`
+/// let to = lexer.checkpoint();
+/// let text = piece_between(&mut lexer, &from, &to).to_string(alloc)?; // "ab"
+/// ```
+#[inline]
+#[tactic(auto, using(crate::proofs::Lexing::Between::is_between))]
+pub fn piece_between<'a>(
+    lexer: &mut Lexer<'a>,
+    from: &Checkpoint<'a>,
+    to: &Checkpoint<'a>,
+) -> Piece<'a>
+    requires { Ahead from.now to.now }
+    ensures text { result ≡ between from.now.rest to.now.rest }
+    ensures stays { Stays lexer.old lexer.new }
+    ensures sliced { Sliced (bytes from.now.rest) (bytes to.now.rest) lexer.old lexer.new }
+{
+    lexer.slice_between(from, to)
+}
+
 /// The text between two places. A step for each of its bytes.
 ///
 /// ```
@@ -86,7 +110,6 @@ pub struct Given {
 /// let to = lexer.checkpoint();
 /// let text = text_between(alloc, &mut lexer, &from, &to)?; // "ab"
 /// ```
-#[tactic(auto, using(crate::proofs::Lexing::Between::is_between))]
 pub fn text_between<'a>(
     alloc: Global,
     lexer: &mut Lexer<'a>,
@@ -98,7 +121,7 @@ pub fn text_between<'a>(
     ensures stays { Stays lexer.old lexer.new }
     ensures sliced { Sliced (bytes from.now.rest) (bytes to.now.rest) lexer.old lexer.new }
 {
-    lexer.slice_between(from, to).to_string(alloc)
+    piece_between(lexer, from, to).to_string(alloc)
 }
 
 /// The span of what stands between two places, in the text that begins at `whole`.
@@ -128,7 +151,6 @@ pub fn span_at(whole: &Checkpoint, start: &Checkpoint, end: &Checkpoint) -> Sour
 /// let name = identifier_between(alloc, &mut lexer, &whole, value, &whole, &end)?; // prints "\"ab\""
 /// ```
 #[inline]
-#[tactic(auto, using(crate::proofs::Lexing::Between::is_between))]
 pub fn identifier_between<'a>(
     alloc: Global,
     lexer: &mut Lexer<'a>,
@@ -144,7 +166,7 @@ pub fn identifier_between<'a>(
     ensures stays { Stays lexer.old lexer.new }
     ensures sliced { Sliced (bytes start.now.rest) (bytes end.now.rest) lexer.old lexer.new }
 {
-    let piece = lexer.slice_between(start, end);
+    let piece = piece_between(lexer, start, end);
     let span = span_at(whole, start, end);
     sliced_identifier(alloc, value, &piece, span)
 }

@@ -58,10 +58,10 @@ stacked tree acc (f ∷ fs) = stacked tree (frame_view tree f ∷ acc) fs
 
 -- a string that waits is an argument, unless `=` follows; it stands before where the place under way began
 abbrev pub word_name : Text → Text → WaitingWord → Identifier
-word_name whole from w = record { value = text_of w.value; repr = Some (text_of w.repr); span = span_of whole w.start.rest from }
+word_name whole from w = record { value = text_of w.value; repr = Some w.repr; span = span_of whole w.start.rest from }
 
 abbrev pub word_entry : Text → Text → WaitingWord → Entry
-word_entry whole from w = entry_at (span_of whole w.start.rest from) (text_of w.leading) None None (text (text_of w.value)) (text_of w.repr)
+word_entry whole from w = entry_at (span_of whole w.start.rest from) (text_of w.leading) None None (text (text_of w.value)) w.repr
 
 -- the node under way, with the string that waits as its last argument
 abbrev pub under_now : Text → Text → Waiting → Option machine.Under → Option machine.Under

@@ -74,6 +74,7 @@ pub(super) fn settle<'a>(
         return Ok(());
     };
     if let Some(under) = under {
+        let repr = repr.to_string(alloc)?;
         let span = span_at(whole, &start, from);
         let value = KdlValue::String(value);
         let entry = entry_from(alloc, span, leading, None, None, value, repr);

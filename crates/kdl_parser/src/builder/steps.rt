@@ -18,9 +18,11 @@ use super::content::{
 };
 use super::{Builder, Frame, Phase, Slot, Under, Waiting, WaitingWord};
 use crate::node_parts::ParsedNode;
-use kdl_entry::items::item::{Given, empty, identifier_between, span_at, text_between};
+use kdl_entry::items::item::{
+    Given, empty, identifier_between, piece_between, span_at, text_between,
+};
 use kdl_entry::items::{LexFailure, Lexer, TokenKind, fault_at};
-use kdl_entry::{KdlIdentifier, KdlValue, parsed_identifier};
+use kdl_entry::{KdlIdentifier, KdlValue, sliced_identifier};
 use kdl_text::chars::Checkpoint;
 use std::alloc::{AllocError, Global};
 use std::mem;
@@ -33,6 +35,9 @@ impl<'a, N: ParsedNode> Builder<'a, N> {
             record self.old { under = self.new.under; waiting = Waiting.Nothing }) }
         ensures whole { self.new.whole ≡ self.old.whole }
     {
+        if matches!(self.waiting, Waiting::Nothing) {
+            return Ok(());
+        }
         let waiting = mem::replace(&mut self.waiting, Waiting::Nothing);
         settle(alloc, &self.whole, &self.from, waiting, &mut self.under)
     }
@@ -261,8 +266,8 @@ impl<'a, N: ParsedNode> Builder<'a, N> {
     {
         put(&mut self.waiting, Waiting::Nothing);
         self.phase = Phase::Fresh;
-        put(&mut self.under, None);
         if !slot.kept {
+            put(&mut self.under, None);
             drop(slot);
             drop(given);
             return Ok(());
@@ -285,6 +290,8 @@ impl<'a, N: ParsedNode> Builder<'a, N> {
                 entries: Vec::new(alloc),
             };
             put(&mut self.under, Some(under));
+        } else {
+            put(&mut self.under, None);
         }
         Ok(())
     }
@@ -352,12 +359,11 @@ impl<'a, N: ParsedNode> Builder<'a, N> {
             return Ok(());
         }
         let leading = text_between(alloc, lexer, &self.from, start)?;
-        let repr = text_between(alloc, lexer, start, end)?;
         let word = WaitingWord {
             leading,
             start: start.copied(),
             value,
-            repr,
+            repr: piece_between(lexer, start, end),
         };
         put(&mut self.waiting, Waiting::Word(word));
         self.from = end.copied();
@@ -401,7 +407,7 @@ impl<'a, N: ParsedNode> Builder<'a, N> {
                     repr,
                 } = word;
                 let span = span_at(&self.whole, &word_start, &self.from);
-                let name = parsed_identifier(value, repr, span);
+                let name = sliced_identifier(alloc, value, &repr, span)?;
                 self.item
                     .open_keyed(true, leading, &word_start, name, before, end);
                 self.phase = Phase::InItem;
