@@ -1,7 +1,9 @@
 //! Entries of a node put in, taken out, kept and sorted, and what the node prints then.
 
-use crate::callers::{insert_argument, insert_first, property, remove_argument, set_typed};
 use crate::reading::{equal, holds, identifier, is_absent, is_whole, node, prints, says, string};
+use call_contracts::callers::{
+    insert_argument, insert_first, property, remove_argument, set_typed,
+};
 use kdl::{KdlEntry, KdlIdentifier, KdlNode, KdlValue, NodeKey};
 use std::alloc::Global;
 use std::process::Abort;

@@ -1,10 +1,9 @@
 //! Tests of calls that no row of text can say: look-ups, edits, iterators, sorts, copies, equality and hashes, layout,
-//! counts that go on; and what a caller shows for the edits that ask for something.
+//! counts that go on.
 #![tactic(auto)]
 
 use std::hash::{DefaultHasher, Hash, Hasher};
 
-pub mod callers;
 #[cfg(test)]
 mod copies;
 #[cfg(test)]

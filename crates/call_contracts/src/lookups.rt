@@ -1,0 +1,63 @@
+//! What is looked up, and what look-ups lend.
+
+ghost use Rattle.kdl.specs.DocumentLookups.{argument_named, dash_arguments_of, node_named};
+ghost use Rattle.kdl.specs.Lookups.{HasSameEntries, HasWritten, entries_of, found_entry, property_place, property_value, value_of, with_found_entry};
+ghost use Rattle.kdl.specs.contracts.node.KdlNode.{the_row};
+ghost use Rattle.kdl_entry.specs.contracts.entry.KdlEntry.{the_row as entry_row};
+ghost use Rattle.kdl_parts.specs.Iterators.{entries_left};
+ghost use Rattle.kdl_value.specs.Tree.{or_null, value_tree};
+ghost use Rattle.kdl_value.specs.contracts.value.KdlValue.{the_row as value_row};
+ghost use Rattle.std.specs.Borrow.{LendsIf, LendsSoOk, sem};
+ghost use Rattle.std.specs.Prelude.{◌≡◌, IfOk, option_map};
+
+use kdl::{DashArgsIter, EntryIterMut, KdlDocument, KdlEntry, KdlNode, KdlValue, NodeKey};
+use std::alloc::AllocError;
+
+/// `KdlDocument::get`.
+pub fn get<'a>(document: &'a KdlDocument, name: &str) -> Option<&'a KdlNode>
+    ensures { option_map (λ n. n.now) result ≡ node_named name.now document.now }
+{
+    document.get(name)
+}
+
+/// `KdlDocument::get_arg`.
+pub fn get_arg<'a>(document: &'a KdlDocument, name: &str) -> Option<&'a KdlValue>
+    ensures { option_map (λ v. value_tree v.now) result ≡
+        value_of (argument_named name.now document.now) }
+{
+    document.get_arg(name)
+}
+
+/// `KdlDocument::iter_dash_args`.
+pub fn iter_dash_args<'a>(document: &'a KdlDocument, name: &str) -> DashArgsIter<'a>
+    ensures { result ≡ dash_arguments_of (node_named name.now document.now) }
+{
+    document.iter_dash_args(name)
+}
+
+/// `KdlNode::entry_mut`.
+pub fn entry_mut(node: &mut KdlNode, key: NodeKey) -> Option<&mut KdlEntry>
+    ensures* writes_back { sem 𝓛 (LendsIf the_row entry_row node.entry result
+        (with_found_entry key node.old) node.old) }
+    ensures value { option_map (λ e. e.now) result ≡ found_entry key node.old }
+{
+    node.entry_mut(key)
+}
+
+/// `KdlNode::get_or_null_mut`: the value, and the node once it is written.
+pub fn value_or_null<'a>(node: &'a mut KdlNode, name: &str) -> Result<&'a mut KdlValue, AllocError>
+    ensures* writes_back { sem 𝓛 (LendsSoOk the_row value_row node.entry result
+        (λ n w. HasWritten (property_place name.now node.old) name.now node.old w n)
+        (λ n. HasSameEntries node.old n)) }
+    ensures value { IfOk result (λ v.
+        value_tree v.now ≡ or_null (property_value name.now node.old)) }
+{
+    node.get_or_null_mut(name)
+}
+
+/// `KdlNode::iter_mut`: the entries that are left for it.
+pub fn iter_mut(node: &mut KdlNode) -> EntryIterMut<'_>
+    ensures { entries_left result ≡ entries_of node.old }
+{
+    node.iter_mut()
+}

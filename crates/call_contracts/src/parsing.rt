@@ -1,0 +1,74 @@
+//! Texts that are read.
+
+ghost use Rattle.kdl.specs.Tree.{document_says, document_tree, node_says};
+ghost use Rattle.kdl_entry.specs.Data as entries;
+ghost use Rattle.kdl_entry.specs.Entries.{IsEntryText, IsIdentifierText};
+ghost use Rattle.kdl_entry.specs.Tree.{entry_data, entry_tree, identifier_tree};
+ghost use Rattle.kdl_grammar.specs.Data as data';
+ghost use Rattle.kdl_grammar.specs.Data.{Nodes};
+ghost use Rattle.kdl_grammar.specs.Grammar.{IsDocument, IsNodeText};
+ghost use Rattle.kdl_grammar.specs.Laid.{LaidDocument};
+ghost use Rattle.kdl_text.specs.Chars.{Text};
+ghost use Rattle.kdl_text.specs.Failures.{IsSyntax, TellsOnSyntax};
+ghost use Rattle.kdl_text.specs.Spans.{raise};
+ghost use Rattle.std.specs.Prelude.{◌+◌, ◌*◌, ◌≤◌, IfOk, OnOk, length, true};
+ghost use Rattle.std.specs.Str.{chars};
+
+use kdl::{KdlDocument, KdlEntry, KdlIdentifier, KdlNode, ParseFailure, Steps};
+use std::alloc::Global;
+
+/// `KdlDocument::parse`: what it answers is derived and lies in the text, what it refuses is not derived and is told.
+pub fn parse(alloc: Global, text: &str) -> Result<KdlDocument, ParseFailure>
+    ensures found { IfOk result (λ d. IsDocument true (chars text.now) (document_says d)) }
+    ensures laid { IfOk result (λ d. LaidDocument true (document_tree d) (chars text.now)) }
+    ensures refused { IsSyntax result → (x : Nodes) → IsDocument true (chars text.now) x → ⊥ }
+    ensures told { TellsOnSyntax text.now result }
+{
+    KdlDocument::parse(alloc, text)
+}
+
+/// `KdlDocument::parse_counted`: how the count is raised.
+pub fn parse_counted(
+    alloc: Global,
+    text: &str,
+    steps: &mut Steps,
+) -> Result<KdlDocument, ParseFailure>
+    ensures least { OnOk result (raise steps.old (length (chars text.now)) ≤ steps.new) }
+    ensures most { OnOk result (steps.new ≤ steps.old + 32 * (length text.now + 1)) }
+    ensures told_most { IsSyntax result → steps.new ≤ steps.old + 160 * (length text.now + 1) }
+    ensures raised { raise steps.old 1 ≤ steps.new }
+{
+    KdlDocument::parse_counted(alloc, text, steps)
+}
+
+/// `KdlNode::parse`: what it answers is derived, what it refuses is not and is told.
+pub fn parse_node(alloc: Global, text: &str) -> Result<KdlNode, ParseFailure>
+    ensures found { IfOk result (λ n. IsNodeText true (chars text.now) (node_says n)) }
+    ensures refused { IsSyntax result → (x : data'.Node)
+        → IsNodeText true (chars text.now) x → ⊥ }
+    ensures told { TellsOnSyntax text.now result }
+{
+    KdlNode::parse(alloc, text)
+}
+
+/// `KdlEntry::parse`: the same of an entry.
+pub fn parse_entry(alloc: Global, text: &str) -> Result<KdlEntry, ParseFailure>
+    ensures found { IfOk result
+        (λ e. IsEntryText true (chars text.now) (entry_data (entry_tree e))) }
+    ensures refused { IsSyntax result → (x : entries.Entry) → IsEntryText true (chars text.now) x
+        → ⊥ }
+    ensures told { TellsOnSyntax text.now result }
+{
+    KdlEntry::parse(alloc, text)
+}
+
+/// `KdlIdentifier::parse`: the same of an identifier.
+pub fn parse_identifier(alloc: Global, text: &str) -> Result<KdlIdentifier, ParseFailure>
+    ensures found { IfOk result
+        (λ i. IsIdentifierText true (chars text.now) (identifier_tree i).value) }
+    ensures refused { IsSyntax result → (v : Text) → IsIdentifierText true (chars text.now) v
+        → ⊥ }
+    ensures told { TellsOnSyntax text.now result }
+{
+    KdlIdentifier::parse(alloc, text)
+}
