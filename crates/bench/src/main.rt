@@ -10,6 +10,7 @@ mod memory;
 mod table;
 mod texts;
 
+use kdl::KdlDocument;
 use measure::{CALLS, least_time, parsed};
 use std::io::ErrorKind;
 use std::{env, fs, io};
@@ -28,18 +29,43 @@ fn write(rt: &HostRuntime, name: &str, bytes: usize) -> io::Result<()> {
 /// Makes each call on a text of each kind.
 fn check(rt: &HostRuntime, bytes: usize) -> io::Result<()> {
     for kind in &KINDS {
-        let text = kind.text(rt.alloc(), bytes)?;
-        for (_, call) in &CALLS {
-            least_time(rt, *call, &text, 1)?;
-        }
-        if let Some(document) = parsed(rt, &text)? {
-            let is_printed = document.to_string(rt.alloc())?.as_str() == text.as_str();
-            let is_copied = document.clone()? == document;
-            println!(rt;
-                "{}: printed back {is_printed}, copied {is_copied}",
-                kind.name
-            )?;
-        }
+        check_text(rt, kind.name, &kind.text(rt.alloc(), bytes)?)?;
+    }
+    Ok(())
+}
+
+/// Makes each call on the text, and writes what came of it.
+fn check_text(rt: &HostRuntime, name: &str, text: &str) -> io::Result<()> {
+    for (_, call) in &CALLS {
+        least_time(rt, *call, text, 1)?;
+    }
+    match parsed(rt, text)? {
+        Some(document) => tell(rt, name, text, &document),
+        None => Ok(()),
+    }
+}
+
+/// Writes whether the document of the text prints it, and whether its copy equals it.
+fn tell(rt: &HostRuntime, name: &str, text: &str, document: &KdlDocument) -> io::Result<()> {
+    let is_printed = document.to_string(rt.alloc())?.as_str() == text;
+    let is_copied = document.clone()? == *document;
+    println!(rt; "{name}: printed back {is_printed}, copied {is_copied}")
+}
+
+/// Writes both tables, of texts that are made.
+fn tables(rt: &HostRuntime) -> io::Result<()> {
+    table::head(rt)?;
+    for kind in &KINDS {
+        table::row(rt, kind.name, &kind.text(rt.alloc(), 1_000_000)?)?;
+    }
+    table::growth(rt)
+}
+
+/// Writes the first table, of these files.
+fn table_of(rt: &HostRuntime, names: &[&str]) -> io::Result<()> {
+    table::head(rt)?;
+    for name in names {
+        table::row(rt, name, &fs::read_to_string(rt, *name)?)?;
     }
     Ok(())
 }
@@ -49,20 +75,8 @@ fn perform(rt: &HostRuntime, words: &[&str]) -> io::Result<()> {
     match words {
         ["write", name, bytes] => write(rt, name, bytes.parse().unwrap_or(0)),
         ["check", bytes] => check(rt, bytes.parse().unwrap_or(0)),
-        [] => {
-            table::head(rt)?;
-            for kind in &KINDS {
-                table::row(rt, kind.name, &kind.text(rt.alloc(), 1_000_000)?)?;
-            }
-            table::growth(rt)
-        }
-        names => {
-            table::head(rt)?;
-            for name in names {
-                table::row(rt, name, &fs::read_to_string(rt, *name)?)?;
-            }
-            Ok(())
-        }
+        [] => tables(rt),
+        names => table_of(rt, names),
     }
 }
 

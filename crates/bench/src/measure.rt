@@ -1,6 +1,6 @@
 //! How long each call takes on a text.
 
-use kdl::{KdlDocument, NodeKey, ParseFailure};
+use kdl::{KdlDocument, KdlNode, NodeKey, ParseFailure};
 use std::io;
 use std::time::{Duration, Instant};
 
@@ -46,37 +46,77 @@ pub fn parsed(rt: &HostRuntime, text: &str) -> io::Result<Option<KdlDocument>> {
 pub fn least_time(rt: &HostRuntime, call: Call, text: &str, turns: usize) -> io::Result<Duration> {
     let mut least = Duration::MAX;
     for _ in 0..turns {
-        if let Some(document) = parsed(rt, text)? {
-            least = least.min(time(rt, call, text, document)?);
+        if let Some(mut document) = parsed(rt, text)? {
+            least = least.min(time(rt, call, text, &mut document)?);
         }
     }
     Ok(least)
 }
 
-/// How long the call takes once.
+/// How long the call takes once; of look-ups, one of them.
 fn time(
     rt: &HostRuntime,
     call: Call,
     text: &str,
-    mut document: KdlDocument,
+    document: &mut KdlDocument,
 ) -> io::Result<Duration> {
-    // What is made is dropped once the time is taken.
-    let (mut other, mut printed, mut found) = (None, None, 1);
+    match call {
+        Call::Node | Call::Property => time_to_find(rt, call, document),
+        Call::Strip | Call::Fmt => time_to_lay_out(rt, call, document),
+        _ => time_to_make(rt, call, text, document),
+    }
+}
+
+/// How long a look-up takes.
+fn time_to_find(rt: &HostRuntime, call: Call, document: &KdlDocument) -> io::Result<Duration> {
+    let start = Instant::now(rt)?;
+    let found = match call {
+        Call::Node => nodes_found(document),
+        _ => properties_found(rt, document)?,
+    };
+    Ok(start.elapsed(rt)? / found.max(1))
+}
+
+/// How long a call takes that makes a document or a text. What is made is dropped once the time is taken.
+fn time_to_make(
+    rt: &HostRuntime,
+    call: Call,
+    text: &str,
+    document: &KdlDocument,
+) -> io::Result<Duration> {
     let start = Instant::now(rt)?;
     match call {
-        Call::Parse => other = parsed(rt, text)?,
-        Call::ParseAndDrop => drop(parsed(rt, text)?),
-        Call::Print => printed = Some(document.to_string(rt.alloc())?),
-        Call::Strip => document.autoformat_no_comments()?,
-        Call::Fmt => document.autoformat()?,
-        Call::Clone => other = Some(document.clone()?),
-        Call::Node => found = nodes_found(&document),
-        Call::Property => found = properties_found(rt, &document)?,
+        Call::Parse => {
+            let _made = parsed(rt, text)?;
+            start.elapsed(rt)
+        }
+        Call::ParseAndDrop => {
+            drop(parsed(rt, text)?);
+            start.elapsed(rt)
+        }
+        Call::Print => {
+            let _made = document.to_string(rt.alloc())?;
+            start.elapsed(rt)
+        }
+        _ => {
+            let _made = document.clone()?;
+            start.elapsed(rt)
+        }
     }
-    let time = start.elapsed(rt)?;
-    drop(other);
-    drop(printed);
-    Ok(time / found.max(1))
+}
+
+/// How long laying the document out takes.
+fn time_to_lay_out(
+    rt: &HostRuntime,
+    call: Call,
+    document: &mut KdlDocument,
+) -> io::Result<Duration> {
+    let start = Instant::now(rt)?;
+    match call {
+        Call::Strip => document.autoformat_no_comments()?,
+        _ => document.autoformat()?,
+    }
+    start.elapsed(rt)
 }
 
 /// How many of the nodes that are sought are found.
@@ -95,10 +135,16 @@ fn properties_found(rt: &HostRuntime, document: &KdlDocument) -> io::Result<u32>
     let nodes = document.nodes();
     let mut found = 0u32;
     for node in nodes.iter().step_by((nodes.len() / SOUGHT).max(1)) {
-        if let Some(name) = node.entries().iter().find_map(|entry| entry.name()) {
-            let value = node.get(NodeKey::from_text(rt.alloc(), name.value())?);
-            found = found.saturating_add(u32::from(value.is_some()));
-        }
+        found = found.saturating_add(u32::from(is_property_found(rt, node)?));
     }
     Ok(found)
+}
+
+/// Whether the node has a property, and the first one is found by its name.
+fn is_property_found(rt: &HostRuntime, node: &KdlNode) -> io::Result<bool> {
+    let Some(name) = node.entries().iter().find_map(|entry| entry.name()) else {
+        return Ok(false);
+    };
+    let key = NodeKey::from_text(rt.alloc(), name.value())?;
+    Ok(node.get(key).is_some())
 }

@@ -2,7 +2,7 @@
 
 use crate::measure::{CALLS, Call, least_time};
 use crate::memory::bytes_to_parse;
-use crate::texts::KINDS;
+use crate::texts::{KINDS, Kind};
 use std::alloc::{AllocError, Global};
 use std::io;
 
@@ -26,22 +26,29 @@ pub fn head(rt: &HostRuntime) -> io::Result<()> {
 
 /// Writes a row of the first table.
 pub fn row(rt: &HostRuntime, name: &str, text: &str) -> io::Result<()> {
-    let bytes = text.len();
     let Some(memory) = bytes_to_parse(rt, text)? else {
         return println!(rt; "{name}: no document");
     };
-    print!(rt; "{name:<9} {bytes:>9}")?;
+    print!(rt; "{name:<9} {:>9}", text.len())?;
     for (_, call) in &CALLS {
-        let speed = tenths(rt.alloc(), rate(rt, *call, text)?)?;
-        print!(rt; "{speed:>9}")?;
+        print_rate(rt, rate(rt, *call, text)?)?;
     }
+    end_row(rt, text, memory)
+}
+
+/// Writes the columns behind those of the speeds: look-ups, and the memory.
+fn end_row(rt: &HostRuntime, text: &str, memory: u64) -> io::Result<()> {
     let node = least_time(rt, Call::Node, text, turns(text))?.as_nanos();
     let property = least_time(rt, Call::Property, text, turns(text))?.as_nanos();
-    let memory = tenths(
-        rt.alloc(),
-        u128::from(memory).saturating_mul(10) / (bytes as u128).max(1),
-    )?;
+    let memory = u128::from(memory).saturating_mul(10) / (text.len() as u128).max(1);
+    let memory = tenths(rt.alloc(), memory)?;
     println!(rt; "{node:>9}{property:>13}{memory:>8}")
+}
+
+/// Writes a speed.
+fn print_rate(rt: &HostRuntime, rate: u128) -> io::Result<()> {
+    let speed = tenths(rt.alloc(), rate)?;
+    print!(rt; "{speed:>9}")
 }
 
 /// Tenths of megabytes of the text in a second.
@@ -62,16 +69,20 @@ pub fn growth(rt: &HostRuntime) -> io::Result<()> {
     for kind in &KINDS {
         for (head, call) in &CALLS {
             print!(rt; "{:<9}{head:<9}", kind.name)?;
-            let (mut least, mut most) = (u128::MAX, 0);
-            for bytes in &LENGTHS {
-                let rate = rate(rt, *call, &kind.text(rt.alloc(), *bytes)?)?;
-                (least, most) = (least.min(rate), most.max(rate));
-                let speed = tenths(rt.alloc(), rate)?;
-                print!(rt; "{speed:>9}")?;
-            }
-            let quotient = tenths(rt.alloc(), most.saturating_mul(10) / least.max(1))?;
-            println!(rt; "{quotient:>6}")?;
+            end_growth(rt, *kind, *call)?;
         }
     }
     Ok(())
+}
+
+/// Writes the figures in a row of the second table.
+fn end_growth(rt: &HostRuntime, kind: Kind, call: Call) -> io::Result<()> {
+    let (mut least, mut most) = (u128::MAX, 0);
+    for bytes in &LENGTHS {
+        let rate = rate(rt, call, &kind.text(rt.alloc(), *bytes)?)?;
+        (least, most) = (least.min(rate), most.max(rate));
+        print_rate(rt, rate)?;
+    }
+    let quotient = tenths(rt.alloc(), most.saturating_mul(10) / least.max(1))?;
+    println!(rt; "{quotient:>6}")
 }

@@ -12,3 +12,4 @@ pub mod layout;
 pub mod lookups;
 pub mod parsing;
 pub mod printing;
+pub mod values;

@@ -1,7 +1,7 @@
 //! What is looked up, and what look-ups lend.
 
-ghost use Rattle.kdl.specs.DocumentLookups.{argument_named, dash_arguments_of, node_named};
-ghost use Rattle.kdl.specs.Lookups.{HasSameEntries, HasWritten, entries_of, found_entry, property_place, property_value, value_of, with_found_entry};
+ghost use Rattle.kdl.specs.DocumentLookups.{dash_arguments_of, node_named};
+ghost use Rattle.kdl.specs.Lookups.{HasSameEntries, HasWritten, entries_of, found_entry, property_place, property_value, with_found_entry};
 ghost use Rattle.kdl.specs.contracts.node.KdlNode.{the_row};
 ghost use Rattle.kdl_entry.specs.contracts.entry.KdlEntry.{the_row as entry_row};
 ghost use Rattle.kdl_parts.specs.Iterators.{entries_left};
@@ -18,14 +18,6 @@ pub fn get<'a>(document: &'a KdlDocument, name: &str) -> Option<&'a KdlNode>
     ensures { option_map (λ n. n.now) result ≡ node_named name.now document.now }
 {
     document.get(name)
-}
-
-/// `KdlDocument::get_arg`.
-pub fn get_arg<'a>(document: &'a KdlDocument, name: &str) -> Option<&'a KdlValue>
-    ensures { option_map (λ v. value_tree v.now) result ≡
-        value_of (argument_named name.now document.now) }
-{
-    document.get_arg(name)
 }
 
 /// `KdlDocument::iter_dash_args`.

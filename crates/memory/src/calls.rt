@@ -5,9 +5,9 @@ use kdl::{
     ParseFailure, Steps,
 };
 use std::alloc::{AllocError, Global};
+use std::fmt::Display;
 
 /// A call, and what it is made on.
-#[derive(Clone, Copy)]
 pub enum Call {
     ParseDocument,
     ParseCounted,
@@ -30,7 +30,7 @@ pub enum Call {
 }
 
 /// All of them.
-pub const CALLS: [Call; 18] = [
+pub static CALLS: [Call; 18] = [
     Call::ParseDocument,
     Call::ParseCounted,
     Call::ParseNode,
@@ -52,42 +52,57 @@ pub const CALLS: [Call; 18] = [
 ];
 
 /// What the call answers on the text, or on an item of it.
-pub fn answer(alloc: Global, text: &str, call: Call) -> Result<String, AllocError> {
+pub fn answer(alloc: Global, text: &str, call: &Call) -> Result<String, AllocError> {
     match call {
-        Call::ParseDocument => read(alloc, text)?.to_string(alloc),
+        Call::ParseDocument => printed(alloc, KdlDocument::parse(alloc, text)),
         Call::ParseCounted => counted(alloc, text),
-        Call::ParseNode => node_of(alloc, KdlNode::parse(alloc, "(t)n 1 k=\"x\" { c; }; ")),
-        Call::ParseEntry => entry_of(alloc, KdlEntry::parse(alloc, " /-0 k = (t)\"\\u{e9}\" ")),
-        Call::ParseIdentifier => name_of(alloc, KdlIdentifier::parse(alloc, "#\"a b\"#")),
+        Call::ParseNode => printed(alloc, KdlNode::parse(alloc, "(t)n 1 k=\"x\" { c; }; ")),
+        Call::ParseEntry => printed(alloc, KdlEntry::parse(alloc, " /-0 k = (t)\"\\u{e9}\" ")),
+        Call::ParseIdentifier => printed(alloc, KdlIdentifier::parse(alloc, "#\"a b\"#")),
         Call::ParseRefused => refused(alloc),
         Call::Texts => made(alloc, text),
         Call::Float => float(alloc),
-        Call::Push | Call::InsertNamed | Call::InsertFirst | Call::GetOrNull | Call::Sort =>
-            on_node(alloc, text, call),
-        _ => on_document(alloc, text, call),
+        _ => on_document(alloc, &mut read(alloc, text)?, call),
     }
 }
 
-/// What the call answers on the document of the text.
-fn on_document(alloc: Global, text: &str, call: Call) -> Result<String, AllocError> {
-    let mut document = read(alloc, text)?;
+/// What the call answers on a document, or on its first node.
+fn on_document(
+    alloc: Global,
+    document: &mut KdlDocument,
+    call: &Call,
+) -> Result<String, AllocError> {
     match call {
-        Call::CloneDocument => cloned(alloc, &document),
-        Call::Length => length(alloc, &document),
-        Call::IsEmpty => emptiness(alloc, &document),
-        Call::Autoformat => laid_out(alloc, &mut document),
-        _ => stripped(alloc, &mut document),
+        Call::CloneDocument => cloned(alloc, document),
+        Call::Length => length(alloc, document),
+        Call::IsEmpty => emptiness(alloc, document),
+        Call::Autoformat => laid_out(alloc, document),
+        Call::AutoformatNoComments => stripped(alloc, document),
+        _ => on_first(alloc, document, call),
     }
 }
 
-/// What the call answers on the first node of the text. Where memory is refused the node is what it was.
-fn on_node(alloc: Global, text: &str, call: Call) -> Result<String, AllocError> {
-    let mut node = first(alloc, text)?;
-    let before = node.clone()?;
-    if !changes(alloc, &mut node, &before, call)? {
-        return String::from_str(alloc, "the node changed");
+/// What the call answers on the first node of a document.
+fn on_first(alloc: Global, document: &mut KdlDocument, call: &Call) -> Result<String, AllocError> {
+    let before = document.clone()?;
+    match (document.nodes_mut().first_mut(), before.nodes().first()) {
+        (Some(node), Some(before)) => on_node(alloc, node, before, call),
+        _ => String::from_str(alloc, "no node"),
     }
-    node.to_string(alloc)
+}
+
+/// What the call answers on a node. Where memory is refused the node is what it was before.
+fn on_node(
+    alloc: Global,
+    node: &mut KdlNode,
+    before: &KdlNode,
+    call: &Call,
+) -> Result<String, AllocError> {
+    if changes(alloc, node, before, call)? {
+        node.to_string(alloc)
+    } else {
+        String::from_str(alloc, "the node changed")
+    }
 }
 
 /// Makes the call on the node, and once more where it was refused memory. False: the node was changed by a call that
@@ -96,7 +111,7 @@ fn changes(
     alloc: Global,
     node: &mut KdlNode,
     before: &KdlNode,
-    call: Call,
+    call: &Call,
 ) -> Result<bool, AllocError> {
     match call {
         Call::Push => Ok(pushed(node, before)),
@@ -105,6 +120,11 @@ fn changes(
         Call::GetOrNull => null_pushed(node, before),
         _ => sorted(node),
     }
+}
+
+/// Whether a call was not refused. What it gives back is dropped.
+fn is_done<T: Drop, E: Drop>(given: Result<T, E>) -> bool {
+    given.is_ok()
 }
 
 /// The document of the text; an empty one of a text that is none.
@@ -116,53 +136,31 @@ fn read(alloc: Global, text: &str) -> Result<KdlDocument, AllocError> {
     }
 }
 
-/// The first node of the text.
-fn first(alloc: Global, text: &str) -> Result<KdlNode, AllocError> {
-    let document = read(alloc, text)?;
-    match document.nodes().first() {
-        Some(node) => node.clone(),
-        None => KdlNode::new(KdlIdentifier::from_text(alloc, "none")?),
-    }
-}
-
 /// How many steps are counted.
 fn counted(alloc: Global, text: &str) -> Result<String, AllocError> {
     let mut steps = Steps::new();
     match KdlDocument::parse_counted(alloc, text, &mut steps) {
-        Ok(_) => {
-            let count = steps.count();
-            format!(in alloc; "{count} steps")
-        }
+        Ok(_) => numbered(alloc, steps.count(), "steps"),
         Err(ParseFailure::Memory) => Err(AllocError),
         Err(ParseFailure::Syntax(_)) => String::from_str(alloc, "no document"),
     }
 }
 
-/// The text of a node that was read.
-fn node_of(alloc: Global, read: Result<KdlNode, ParseFailure>) -> Result<String, AllocError> {
+/// The text of an item that was read.
+fn printed<T: Display + Drop>(
+    alloc: Global,
+    read: Result<T, ParseFailure>,
+) -> Result<String, AllocError> {
     match read {
-        Ok(node) => node.to_string(alloc),
+        Ok(item) => item.to_string(alloc),
         Err(ParseFailure::Memory) => Err(AllocError),
-        Err(ParseFailure::Syntax(_)) => String::from_str(alloc, "no node"),
+        Err(ParseFailure::Syntax(_)) => String::from_str(alloc, "no item"),
     }
 }
 
-/// The text of an entry that was read.
-fn entry_of(alloc: Global, read: Result<KdlEntry, ParseFailure>) -> Result<String, AllocError> {
-    match read {
-        Ok(entry) => entry.to_string(alloc),
-        Err(ParseFailure::Memory) => Err(AllocError),
-        Err(ParseFailure::Syntax(_)) => String::from_str(alloc, "no entry"),
-    }
-}
-
-/// The text of an identifier that was read.
-fn name_of(alloc: Global, read: Result<KdlIdentifier, ParseFailure>) -> Result<String, AllocError> {
-    match read {
-        Ok(name) => name.to_string(alloc),
-        Err(ParseFailure::Memory) => Err(AllocError),
-        Err(ParseFailure::Syntax(_)) => String::from_str(alloc, "no identifier"),
-    }
+/// So many of these.
+fn numbered(alloc: Global, count: u64, what: &str) -> Result<String, AllocError> {
+    format!(in alloc; "{count} {what}")
 }
 
 /// How many faults are told of a text with three.
@@ -170,10 +168,11 @@ fn refused(alloc: Global) -> Result<String, AllocError> {
     match KdlDocument::parse(alloc, "a #treu\nb 0x\nc {\n") {
         Ok(_) => String::from_str(alloc, "a document"),
         Err(ParseFailure::Memory) => Err(AllocError),
-        Err(ParseFailure::Syntax(error)) => {
-            let count = error.diagnostics.len();
-            format!(in alloc; "{count} faults")
-        }
+        Err(ParseFailure::Syntax(error)) => numbered(
+            alloc,
+            error.diagnostics.len() as u64,
+            "faults",
+        ),
     }
 }
 
@@ -189,8 +188,7 @@ fn cloned(alloc: Global, document: &KdlDocument) -> Result<String, AllocError> {
 
 /// How long the printed document is.
 fn length(alloc: Global, document: &KdlDocument) -> Result<String, AllocError> {
-    let length = document.len(alloc)?;
-    format!(in alloc; "{length} bytes")
+    numbered(alloc, document.len(alloc)? as u64, "bytes")
 }
 
 /// Whether the document prints nothing.
@@ -201,58 +199,72 @@ fn emptiness(alloc: Global, document: &KdlDocument) -> Result<String, AllocError
 
 /// An entry pushed. Where memory is refused the entry comes back.
 fn pushed(node: &mut KdlNode, before: &KdlNode) -> bool {
-    if let Err((entry, _)) = node.push(KdlEntry::new(KdlValue::from(7))) {
-        if *node != *before {
-            return false;
-        }
-        let _ = node.push(entry);
+    match node.push(KdlEntry::new(KdlValue::from(7))) {
+        Ok(()) => true,
+        Err((entry, _)) => pushed_again(node, before, entry),
     }
-    true
+}
+
+/// The entry that came back pushed, and whether the node was what it was before.
+fn pushed_again(node: &mut KdlNode, before: &KdlNode, entry: KdlEntry) -> bool {
+    let is_kept = *node == *before;
+    is_done(node.push(entry));
+    is_kept
 }
 
 /// A property inserted.
 fn inserted(alloc: Global, node: &mut KdlNode, before: &KdlNode) -> Result<bool, AllocError> {
-    let key = KdlIdentifier::from_text(alloc, "new key")?;
-    let again = key.clone()?;
-    let entry = KdlEntry::new(KdlValue::Null);
-    if node.insert(NodeKey::Key(key), entry).is_err() {
-        if *node != *before {
-            return Ok(false);
-        }
-        let _ = node.insert(NodeKey::Key(again), KdlEntry::new(KdlValue::Null));
+    if insert_named(alloc, node)? {
+        return Ok(true);
     }
-    Ok(true)
+    let is_kept = *node == *before;
+    insert_named(alloc, node)?;
+    Ok(is_kept)
+}
+
+/// Inserts a property, and answers whether there was memory for that.
+fn insert_named(alloc: Global, node: &mut KdlNode) -> Result<bool, AllocError> {
+    let key = NodeKey::from_text(alloc, "new key")?;
+    Ok(is_done(node.insert(key, KdlEntry::new(KdlValue::Null))))
 }
 
 /// An argument inserted before all others.
 fn inserted_first(node: &mut KdlNode, before: &KdlNode) -> bool {
-    let entry = KdlEntry::new(KdlValue::from(true));
-    if node.insert(NodeKey::Index(0), entry).is_err() {
-        if *node != *before {
-            return false;
-        }
-        let _ = node.insert(NodeKey::Index(0), KdlEntry::new(KdlValue::from(true)));
+    if insert_first(node) {
+        return true;
     }
-    true
+    let is_kept = *node == *before;
+    insert_first(node);
+    is_kept
+}
+
+/// Inserts an argument before all others, and answers whether there was memory for that.
+fn insert_first(node: &mut KdlNode) -> bool {
+    let entry = KdlEntry::new(KdlValue::from(true));
+    is_done(node.insert(NodeKey::Index(0), entry))
 }
 
 /// A null property pushed where there is none.
 fn null_pushed(node: &mut KdlNode, before: &KdlNode) -> Result<bool, AllocError> {
-    if node.get_or_null_mut("nothing").is_err() {
-        if *node != *before {
-            return Ok(false);
-        }
-        let _ = node.get_or_null_mut("nothing")?;
+    if node.get_or_null_mut("nothing").is_ok() {
+        return Ok(true);
     }
-    Ok(true)
+    let is_kept = *node == *before;
+    node.get_or_null_mut("nothing")?;
+    Ok(is_kept)
 }
 
 /// The entries, sorted by their values. Where memory is refused they are there in some order, and are sorted then.
 fn sorted(node: &mut KdlNode) -> Result<bool, AllocError> {
-    if node.sort_by(|a, b| b.value().cmp(a.value())).is_err() {
-        node.sort_by(|a, b| b.value().cmp(a.value()))?;
+    if sort(node).is_err() {
+        sort(node)?;
     }
     Ok(true)
+}
+
+/// Sorts the entries by their values, the greatest first.
+fn sort(node: &mut KdlNode) -> Result<(), AllocError> {
+    node.sort_by(|a, b| b.value().cmp(a.value()))
 }
 
 /// The document laid out with its comments.
@@ -270,13 +282,22 @@ fn stripped(alloc: Global, document: &mut KdlDocument) -> Result<String, AllocEr
     document.to_string(alloc)
 }
 
-/// A name, a value and a key of the text.
+/// A name and a value of the text; before them a key.
 fn made(alloc: Global, text: &str) -> Result<String, AllocError> {
-    let mut made = KdlIdentifier::from_text(alloc, text)?.to_string(alloc)?;
-    made.push_str(&KdlValue::from_text(alloc, text)?.to_string(alloc)?)?;
-    let key = NodeKey::from_text(alloc, text)?;
-    drop(key);
+    drop(NodeKey::from_text(alloc, text)?);
+    let mut made = name_made(alloc, text)?;
+    made.push_str(&value_made(alloc, text)?)?;
     Ok(made)
+}
+
+/// A name of the text.
+fn name_made(alloc: Global, text: &str) -> Result<String, AllocError> {
+    KdlIdentifier::from_text(alloc, text)?.to_string(alloc)
+}
+
+/// A value of the text.
+fn value_made(alloc: Global, text: &str) -> Result<String, AllocError> {
+    KdlValue::from_text(alloc, text)?.to_string(alloc)
 }
 
 /// A float of a text.

@@ -8,7 +8,7 @@
 mod calls;
 mod free;
 
-use crate::calls::{CALLS, answer};
+use crate::calls::{CALLS, Call, answer};
 use crate::free::{calls, prepare};
 use std::{env, io};
 
@@ -23,31 +23,35 @@ const FORMS: &str =
 /// Makes what the calls that take no memory are made on, and then, where it is asked to, these calls.
 fn take_none(rt: &HostRuntime, with_calls: bool) -> io::Result<()> {
     let alloc = rt.alloc();
-    let subjects = prepare(alloc)?;
-    let answer = if with_calls {
-        calls(alloc, subjects)
-    } else {
-        drop(subjects);
-        true
-    };
+    let mut subjects = prepare(alloc)?;
+    let answer = !with_calls || calls(alloc, &mut subjects);
     println!(rt; "{answer}")
 }
 
-fn main(rt: HostRuntime) -> io::Result<()> {
-    if let Some(word) = env::args(&rt)?.nth(1) {
-        return take_none(&rt, word.as_str() == "calls");
+/// Makes the call on the text, and once more where it was refused memory, and prints what it answers.
+fn print_answer(rt: &HostRuntime, text: &str, call: &Call) -> io::Result<()> {
+    match answer(rt.alloc(), text, call) {
+        Ok(line) => rt.println(line),
+        Err(_) => {
+            eprintln!(rt; "refused")?;
+            rt.println(answer(rt.alloc(), text, call)?)
+        }
     }
+}
+
+/// Makes each call that takes memory.
+fn take_some(rt: &HostRuntime) -> io::Result<()> {
     for text in &[HELLO, FORMS] {
         for call in &CALLS {
-            let line = match answer(rt.alloc(), text, *call) {
-                Ok(line) => line,
-                Err(_) => {
-                    eprintln!(rt; "refused")?;
-                    answer(rt.alloc(), text, *call)?
-                }
-            };
-            println!(rt; "{line}")?;
+            print_answer(rt, text, call)?;
         }
     }
     Ok(())
+}
+
+fn main(rt: HostRuntime) -> io::Result<()> {
+    match env::args(&rt)?.nth(1) {
+        Some(word) => take_none(&rt, word.as_str() == "calls"),
+        None => take_some(&rt),
+    }
 }

@@ -1,287 +1,373 @@
-//! What is answered of a text, a field a line.
+//! What is answered of a text, in lines as those of a row.
 
-use kdl::{KdlDocument, KdlEntry, KdlIdentifier, KdlNode, KdlValue, SourceSpan};
+use crate::line::Line;
+use kdl::{
+    KdlDiagnostic, KdlDocument, KdlDocumentFormat, KdlEntry, KdlEntryFormat, KdlIdentifier,
+    KdlNode, KdlNodeFormat, KdlValue, Severity, SourceSpan,
+};
 use std::alloc::{AllocError, Global};
-use std::fmt::Display;
 
-/// A field: its label, and its text, or none where it is a flag.
-#[derive(Drop)]
-pub struct Field {
-    pub label: String,
-    pub text: Option<String>,
-}
-
-impl Field {
-    /// Whether the field says what a text stands for, and not how it is written.
-    pub fn is_data(&self) -> bool {
-        let ends = [
-            "name", "type", "key", "value", "nodes", "entries", "no block",
-        ];
-        ends.iter().any(|end| is_last(&self.label, end))
-    }
-}
-
-/// Whether the word, or the words, are the last of the label.
-fn is_last(label: &str, words: &str) -> bool {
-    match label.strip_suffix(words) {
-        Some(front) => front.is_empty() || front.ends_with(' '),
-        None => false,
-    }
-}
-
-/// The fields of an answer.
+/// The lines of an answer: all of them, or those of data alone, which say what a text stands for and not how it is
+/// written.
 #[derive(Drop)]
 pub struct Dump {
     alloc: Global,
-    fields: Vec<Field>,
+    is_data: bool,
+    lines: Vec<String>,
+    /// Whether memory was refused for a line.
+    is_short: bool,
 }
 
-/// A document whose fields are still to come, and what stands before their labels.
-type Waiting<'a> = Vec<(String, &'a KdlDocument)>;
+/// A document whose lines are still to come, and what stands before their labels.
+#[derive(Drop)]
+struct Waiting<'a> {
+    prefix: String,
+    document: &'a KdlDocument,
+}
 
 impl Dump {
-    /// No fields.
-    pub fn new(alloc: Global) -> Dump {
+    /// No lines.
+    pub fn new(alloc: Global, is_data: bool) -> Dump {
         Dump {
             alloc,
-            fields: Vec::new(alloc),
+            is_data,
+            lines: Vec::new(alloc),
+            is_short: false,
         }
     }
 
-    /// All fields.
-    pub fn fields(&self) -> &[Field] {
-        &self.fields
+    /// All lines.
+    pub fn lines(&self) -> &[String] {
+        &self.lines
     }
 
-    /// The field with this label.
-    pub fn find(&self, label: &str) -> Option<&Field> {
-        self.fields
-            .iter()
-            .find(|field| field.label.as_str() == label)
+    /// The line at that place.
+    pub fn line(&self, at: usize) -> &str {
+        match self.lines.get(at) {
+            Some(line) => line,
+            None => "nothing",
+        }
     }
 
-    /// Adds a flag.
-    pub fn flag(&mut self, prefix: &str, name: &str) -> Result<(), AllocError> {
-        let label = format!(in self.alloc; "{prefix}{name}")?;
-        self.fields.push(Field { label, text: None })?;
+    /// Whether the line is there.
+    pub fn has(&self, wanted: &str) -> bool {
+        for line in &self.lines {
+            if line.as_str() == wanted {
+                return true;
+            }
+        }
+        false
+    }
+
+    /// The first line with that label.
+    pub fn came(&self, label: &str) -> &str {
+        for line in &self.lines {
+            if Line::of(line).label == label {
+                return line;
+            }
+        }
+        "no such line"
+    }
+
+    /// Whether all lines were taken, or memory was refused for one.
+    pub fn outcome(&self) -> Result<(), AllocError> {
+        if self.is_short {
+            return Err(AllocError);
+        }
         Ok(())
     }
 
-    /// Adds a field.
-    pub fn text(&mut self, prefix: &str, name: &str, text: &str) -> Result<(), AllocError> {
-        let label = format!(in self.alloc; "{prefix}{name}")?;
-        let text = String::from_str(self.alloc, text)?;
-        let text = Some(text);
-        self.fields.push(Field { label, text })?;
-        Ok(())
+    /// What was printed: nothing where memory was refused, which is noted.
+    fn taken(&mut self, printed: Result<String, AllocError>) -> String {
+        match printed {
+            Ok(printed) => printed,
+            Err(_) => {
+                self.is_short = true;
+                String::new(self.alloc)
+            }
+        }
     }
 
-    /// Adds a field with what is printed.
-    fn printed(
-        &mut self,
-        prefix: &str,
-        name: &str,
-        kind: &str,
-        item: &impl Display,
-    ) -> Result<(), AllocError> {
-        let text = format!(in self.alloc; "{kind}{item}")?;
-        self.text(prefix, name, &text)
+    /// Adds a line of data.
+    fn data(&mut self, prefix: &str, name: &str, mark: &str, text: &str) {
+        let line = format!(in self.alloc; "{prefix}{name}{mark}{text}");
+        let line = self.taken(line);
+        match self.lines.push(line) {
+            Ok(()) => {}
+            Err(_) => self.is_short = true,
+        }
     }
 
-    /// Adds how many there are, or the flag that there is none.
-    fn count(&mut self, prefix: &str, name: &str, count: usize) -> Result<(), AllocError> {
+    /// Adds a line that says how a text is written.
+    pub fn form(&mut self, prefix: &str, name: &str, mark: &str, text: &str) {
+        if !self.is_data {
+            self.data(prefix, name, mark, text);
+        }
+    }
+
+    /// Adds whether the text is accepted, and its length.
+    pub fn text(&mut self, flag: &str, text: &str) {
+        self.form(flag, "", "", "");
+        let bytes = text.len().to_string(self.alloc);
+        let bytes = self.taken(bytes);
+        self.form("", "bytes", ": ", &bytes);
+    }
+
+    /// Adds how many there are, or that there is none.
+    fn count(&mut self, prefix: &str, name: &str, count: usize) {
         if count == 0 {
-            let none = format!(in self.alloc; "no {name}")?;
-            self.flag(prefix, &none)
-        } else {
-            self.printed(prefix, name, "", &count)
+            self.data(prefix, "no ", name, "");
+            return;
         }
+        let count = count.to_string(self.alloc);
+        let count = self.taken(count);
+        self.data(prefix, name, ": ", &count);
     }
 
     /// Adds a span as its start and its end.
-    fn span(&mut self, prefix: &str, name: &str, span: SourceSpan) -> Result<(), AllocError> {
-        let text = range(self.alloc, span)?;
-        self.text(prefix, name, &text)
+    fn span(&mut self, prefix: &str, name: &str, span: SourceSpan) {
+        let range = range(self.alloc, span);
+        let range = self.taken(range);
+        self.form(prefix, name, ": ", &range);
     }
 
-    /// Adds the value, the spelling and the span of an identifier: `name`, `name spelling`, `name span`.
-    fn named(
-        &mut self,
-        prefix: &str,
-        name: &str,
-        identifier: &KdlIdentifier,
-    ) -> Result<(), AllocError> {
-        self.text(prefix, name, identifier.value())?;
-        let inner = format!(in self.alloc; "{prefix}{name} ")?;
-        self.spelled(&inner, identifier)
+    /// Adds the value, the spelling and the span of an identifier, or that there is none.
+    fn name(&mut self, prefix: &str, name: &str, identifier: Option<&KdlIdentifier>) {
+        let Some(identifier) = identifier else {
+            self.data(prefix, "no ", name, "");
+            return;
+        };
+        self.data(prefix, name, ": ", identifier.value());
+        let inner = format!(in self.alloc; "{prefix}{name} ");
+        let inner = self.taken(inner);
+        self.spelling(&inner, identifier);
     }
 
     /// Adds the spelling and the span of an identifier.
-    fn spelled(&mut self, prefix: &str, identifier: &KdlIdentifier) -> Result<(), AllocError> {
+    fn spelling(&mut self, prefix: &str, identifier: &KdlIdentifier) {
         match identifier.repr() {
-            Some(repr) => self.text(prefix, "spelling", repr)?,
-            None => self.flag(prefix, "no spelling")?,
+            Some(repr) => self.form(prefix, "spelling", ": ", repr),
+            None => self.form(prefix, "no spelling", "", ""),
         }
-        self.span(prefix, "span", identifier.span())
+        self.span(prefix, "span", identifier.span());
     }
 
-    /// Adds an identifier that may be absent.
-    fn maybe(
-        &mut self,
-        prefix: &str,
-        name: &str,
-        identifier: Option<&KdlIdentifier>,
-    ) -> Result<(), AllocError> {
-        match identifier {
-            Some(identifier) => self.named(prefix, name, identifier),
-            None => {
-                let none = format!(in self.alloc; "no {name}")?;
-                self.flag(prefix, &none)
-            }
-        }
+    /// Adds the lines of an identifier.
+    pub fn identifier(&mut self, identifier: &KdlIdentifier) {
+        self.data("", "value", ": ", identifier.value());
+        self.spelling("", identifier);
     }
 
-    /// Adds the fields of an identifier.
-    pub fn identifier(&mut self, identifier: &KdlIdentifier) -> Result<(), AllocError> {
-        self.text("", "value", identifier.value())?;
-        self.spelled("", identifier)
+    /// Adds a value that is a number.
+    fn number(&mut self, prefix: &str, number: i128) {
+        let number = number.to_string(self.alloc);
+        let number = self.taken(number);
+        self.data(prefix, "value", ": number ", &number);
     }
 
     /// Adds a value and its kind.
-    fn value(&mut self, prefix: &str, value: &KdlValue) -> Result<(), AllocError> {
+    fn value(&mut self, prefix: &str, value: &KdlValue) {
         match value {
-            KdlValue::String(text) => self.printed(prefix, "value", "string ", text),
-            KdlValue::Integer(number) => self.printed(prefix, "value", "number ", number),
-            KdlValue::Float(float) => self.printed(prefix, "value", "float ", &float.as_str()),
-            KdlValue::Bool(value) => self.printed(prefix, "value", "bool ", value),
-            KdlValue::Null => self.text(prefix, "value", "null"),
+            KdlValue::String(text) => self.data(prefix, "value", ": string ", text),
+            KdlValue::Integer(number) => self.number(prefix, *number),
+            KdlValue::Float(float) => self.data(prefix, "value", ": float ", float.as_str()),
+            KdlValue::Bool(true) => self.data(prefix, "value", ": bool ", "true"),
+            KdlValue::Bool(false) => self.data(prefix, "value", ": bool ", "false"),
+            KdlValue::Null => self.data(prefix, "value", ": ", "null"),
         }
     }
 
-    /// Adds the fields of an entry.
-    pub fn entry(&mut self, prefix: &str, entry: &KdlEntry) -> Result<(), AllocError> {
-        self.maybe(prefix, "key", entry.name())?;
-        self.maybe(prefix, "type", entry.ty())?;
-        self.value(prefix, entry.value())?;
-        self.span(prefix, "span", entry.span())?;
-        let Some(format) = entry.format() else {
-            return self.flag(prefix, "no format");
-        };
+    /// Adds the lines of an entry.
+    pub fn entry(&mut self, prefix: &str, entry: &KdlEntry) {
+        self.name(prefix, "key", entry.name());
+        self.name(prefix, "type", entry.ty());
+        self.value(prefix, entry.value());
+        self.span(prefix, "span", entry.span());
+        match entry.format() {
+            Some(format) => self.entry_format(prefix, format),
+            None => self.form(prefix, "no format", "", ""),
+        }
+    }
+
+    /// Adds the places of an entry.
+    fn entry_format(&mut self, prefix: &str, format: &KdlEntryFormat) {
         if format.autoformat_keep {
-            self.flag(prefix, "autoformat_keep")?;
+            self.form(prefix, "autoformat_keep", "", "");
         }
-        let places = [
-            ("leading", &format.leading),
-            ("value_repr", &format.value_repr),
-            ("trailing", &format.trailing),
-            ("after_ty", &format.after_ty),
-            ("before_ty_name", &format.before_ty_name),
-            ("after_ty_name", &format.after_ty_name),
-            ("after_key", &format.after_key),
-            ("after_eq", &format.after_eq),
-        ];
-        self.places(prefix, &places)
+        self.form(prefix, "leading", ": ", &format.leading);
+        self.form(prefix, "value_repr", ": ", &format.value_repr);
+        self.form(prefix, "trailing", ": ", &format.trailing);
+        self.form(prefix, "after_ty", ": ", &format.after_ty);
+        self.form(prefix, "before_ty_name", ": ", &format.before_ty_name);
+        self.form(prefix, "after_ty_name", ": ", &format.after_ty_name);
+        self.form(prefix, "after_key", ": ", &format.after_key);
+        self.form(prefix, "after_eq", ": ", &format.after_eq);
     }
 
-    /// Adds the texts of places.
-    fn places(&mut self, prefix: &str, places: &[(&str, &String)]) -> Result<(), AllocError> {
-        for (name, text) in places {
-            self.text(prefix, name, text)?;
+    /// Adds the lines of a node's own, without those of its entries and its block.
+    fn own(&mut self, prefix: &str, node: &KdlNode) {
+        self.name(prefix, "name", Some(node.name()));
+        self.name(prefix, "type", node.ty());
+        self.count(prefix, "entries", node.entries().len());
+        self.span(prefix, "span", node.span());
+        match node.format() {
+            Some(format) => self.node_format(prefix, format),
+            None => self.form(prefix, "no format", "", ""),
         }
-        Ok(())
     }
 
-    /// Adds the fields of a node's own, without those of its entries and its block.
-    fn own(&mut self, prefix: &str, node: &KdlNode) -> Result<(), AllocError> {
-        self.named(prefix, "name", node.name())?;
-        self.maybe(prefix, "type", node.ty())?;
-        self.count(prefix, "entries", node.entries().len())?;
-        self.span(prefix, "span", node.span())?;
-        let Some(format) = node.format() else {
-            return self.flag(prefix, "no format");
-        };
-        let places = [
-            ("leading", &format.leading),
-            ("before_ty_name", &format.before_ty_name),
-            ("after_ty_name", &format.after_ty_name),
-            ("after_ty", &format.after_ty),
-            ("before_children", &format.before_children),
-            ("before_terminator", &format.before_terminator),
-            ("terminator", &format.terminator),
-            ("trailing", &format.trailing),
-        ];
-        self.places(prefix, &places)
+    /// Adds the places of a node.
+    fn node_format(&mut self, prefix: &str, format: &KdlNodeFormat) {
+        self.form(prefix, "leading", ": ", &format.leading);
+        self.form(prefix, "before_ty_name", ": ", &format.before_ty_name);
+        self.form(prefix, "after_ty_name", ": ", &format.after_ty_name);
+        self.form(prefix, "after_ty", ": ", &format.after_ty);
+        self.form(prefix, "before_children", ": ", &format.before_children);
+        self.form(prefix, "before_terminator", ": ", &format.before_terminator);
+        self.form(prefix, "terminator", ": ", &format.terminator);
+        self.form(prefix, "trailing", ": ", &format.trailing);
     }
 
-    /// Adds the fields of a node, but for those in its block, which waits.
-    fn outer<'a>(
-        &mut self,
-        prefix: &str,
-        node: &'a KdlNode,
-        waiting: &mut Waiting<'a>,
-    ) -> Result<(), AllocError> {
-        self.own(prefix, node)?;
+    /// Adds the lines of a node, but for those in its block, which waits.
+    fn outer<'a>(&mut self, prefix: &str, node: &'a KdlNode, waiting: &mut Vec<Waiting<'a>>) {
+        self.own(prefix, node);
         for (index, entry) in node.entries().iter().enumerate() {
             let number = index.saturating_add(1);
-            let inner = format!(in self.alloc; "{prefix}entry {number} ")?;
-            self.entry(&inner, entry)?;
+            let inner = format!(in self.alloc; "{prefix}entry {number} ");
+            let inner = self.taken(inner);
+            self.entry(&inner, entry);
         }
-        match node.children() {
-            Some(block) => {
-                let inner = format!(in self.alloc; "{prefix}block ")?;
-                waiting.push((inner, block))?;
-                Ok(())
-            }
-            None => self.flag(prefix, "no block"),
+        let Some(document) = node.children() else {
+            self.data(prefix, "no block", "", "");
+            return;
+        };
+        let prefix = format!(in self.alloc; "{prefix}block ");
+        let prefix = self.taken(prefix);
+        match waiting.push(Waiting { prefix, document }) {
+            Ok(()) => {}
+            Err(_) => self.is_short = true,
         }
     }
 
-    /// Adds the fields of the documents that wait, and of all in them.
-    fn all(&mut self, mut waiting: Waiting<'_>) -> Result<(), AllocError> {
+    /// Adds the lines of a document, but for those in the blocks of its nodes, which wait.
+    fn level<'a>(
+        &mut self,
+        prefix: &str,
+        document: &'a KdlDocument,
+        waiting: &mut Vec<Waiting<'a>>,
+    ) {
+        self.margins(prefix, document);
+        for (index, node) in document.nodes().iter().enumerate() {
+            let number = index.saturating_add(1);
+            let inner = format!(in self.alloc; "{prefix}{number} ");
+            let inner = self.taken(inner);
+            self.outer(&inner, node, waiting);
+        }
+    }
+
+    /// Adds the lines of the documents that wait, and of all in them.
+    fn all(&mut self, waiting: &mut Vec<Waiting<'_>>) {
         for _ in 0..usize::MAX {
-            let Some((prefix, document)) = waiting.pop() else {
+            let Some(next) = waiting.pop() else {
                 break;
             };
-            self.margins(&prefix, document)?;
-            for (index, node) in document.nodes().iter().enumerate() {
-                let number = index.saturating_add(1);
-                let inner = format!(in self.alloc; "{prefix}{number} ")?;
-                self.outer(&inner, node, &mut waiting)?;
-            }
+            self.level(&next.prefix, next.document, waiting);
         }
-        Ok(())
     }
 
-    /// Adds the fields of a document's own.
-    fn margins(&mut self, prefix: &str, document: &KdlDocument) -> Result<(), AllocError> {
-        self.count(prefix, "nodes", document.nodes().len())?;
-        self.span(prefix, "span", document.span())?;
+    /// Adds the lines of a document's own.
+    fn margins(&mut self, prefix: &str, document: &KdlDocument) {
+        self.count(prefix, "nodes", document.nodes().len());
+        self.span(prefix, "span", document.span());
         match document.format() {
-            Some(format) => {
-                self.text(prefix, "leading", &format.leading)?;
-                self.text(prefix, "trailing", &format.trailing)
-            }
-            None => self.flag(prefix, "no format"),
+            Some(format) => self.document_format(prefix, format),
+            None => self.form(prefix, "no format", "", ""),
         }
     }
 
-    /// Adds the fields of a node.
-    pub fn node(&mut self, node: &KdlNode) -> Result<(), AllocError> {
-        let mut waiting = Vec::new(self.alloc);
-        self.outer("", node, &mut waiting)?;
-        self.all(waiting)
+    /// Adds the places of a document.
+    fn document_format(&mut self, prefix: &str, format: &KdlDocumentFormat) {
+        self.form(prefix, "leading", ": ", &format.leading);
+        self.form(prefix, "trailing", ": ", &format.trailing);
     }
 
-    /// Adds the fields of a document.
-    pub fn document(&mut self, document: &KdlDocument) -> Result<(), AllocError> {
+    /// Adds the lines of a node.
+    pub fn node(&mut self, node: &KdlNode) {
         let mut waiting = Vec::new(self.alloc);
-        waiting.push((String::new(self.alloc), document))?;
-        self.all(waiting)
+        self.outer("", node, &mut waiting);
+        self.all(&mut waiting);
+    }
+
+    /// Adds the lines of a document.
+    pub fn document(&mut self, document: &KdlDocument) {
+        let mut waiting = Vec::new(self.alloc);
+        self.level("", document, &mut waiting);
+        self.all(&mut waiting);
+    }
+
+    /// Adds the lines of the first diagnostic, the span and the message of each, and how many there are.
+    pub fn diagnostics(&mut self, diagnostics: &[KdlDiagnostic]) {
+        let count = diagnostics.len().to_string(self.alloc);
+        let count = self.taken(count);
+        self.form("", "diagnostics", ": ", &count);
+        for (index, told) in diagnostics.iter().enumerate() {
+            if index == 0 {
+                self.first(told);
+            }
+            let number = index.saturating_add(1).to_string(self.alloc);
+            let number = self.taken(number);
+            self.place(told, "diagnostic ", &number);
+        }
+    }
+
+    /// Adds the span and the message of a diagnostic.
+    fn place(&mut self, told: &KdlDiagnostic, name: &str, number: &str) {
+        let range = range(self.alloc, told.span);
+        let range = self.taken(range);
+        let words = format!(in self.alloc; ": {range} {}", words_of(&told.message));
+        let words = self.taken(words);
+        self.form(name, number, &words, "");
+    }
+
+    /// Adds the lines of the first diagnostic.
+    fn first(&mut self, told: &KdlDiagnostic) {
+        self.span("", "span", told.span);
+        self.span("", "refused", told.span);
+        self.place(told, "refused", "");
+        self.words("message", &told.message);
+        self.words("label", &told.label);
+        self.words("help", &told.help);
+        self.form("", "severity", ": ", severity(told));
+    }
+
+    /// Adds words of a diagnostic, or that there are none.
+    fn words(&mut self, name: &str, words: &Option<String>) {
+        match words {
+            Some(words) => self.form("", name, ": ", words),
+            None => self.form("", "no ", name, ""),
+        }
+    }
+}
+
+/// How severe the diagnostic is.
+fn severity(told: &KdlDiagnostic) -> &'static str {
+    match told.severity {
+        Severity::Advice => "advice",
+        Severity::Warning => "warning",
+        Severity::Error => "error",
+    }
+}
+
+/// The words, or `none`.
+fn words_of(words: &Option<String>) -> &str {
+    match words {
+        Some(words) => words,
+        None => "none",
     }
 }
 
 /// A span as `START..END`.
-pub fn range(alloc: Global, span: SourceSpan) -> Result<String, AllocError> {
+fn range(alloc: Global, span: SourceSpan) -> Result<String, AllocError> {
     let start = span.offset;
     let end = start.saturating_add(span.len);
     format!(in alloc; "{start}..{end}")

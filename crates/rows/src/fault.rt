@@ -1,32 +1,52 @@
-//! Why a row fails.
+//! Why a row fails, and how that is told.
 
-use std::alloc::{AllocError, AllocFailed};
+use std::alloc::{AllocError, AllocFailed, Global};
+use std::io::ErrorKind;
 
-/// Why a row fails, or was not run.
-#[derive(Debug, Drop)]
+/// Why a row fails, or was not run to its end.
+#[derive(Clone, Copy)]
 pub enum Fault {
-    /// What was wanted and what came, or what is wrong with the row.
-    Wrong(String),
-    /// A request for memory was refused.
-    Memory,
+    /// Something is wrong, and was written where it was found.
+    Wrong,
+    /// The run cannot go on: memory was refused, or nothing can be written.
+    Stopped(ErrorKind),
 }
 
 impl<T: Drop> From<AllocFailed<T>> for Fault {
     fn from(_: AllocFailed<T>) -> Fault {
-        Fault::Memory
+        Fault::Stopped(ErrorKind::OutOfMemory)
     }
 }
 
 impl From<AllocError> for Fault {
     fn from(_: AllocError) -> Fault {
-        Fault::Memory
+        Fault::Stopped(ErrorKind::OutOfMemory)
     }
 }
 
-/// The fault with this message.
-pub fn wrong(message: Result<String, AllocError>) -> Fault {
-    match message {
-        Ok(message) => Fault::Wrong(message),
-        Err(_) => Fault::Memory,
+/// Where a row stands, and whether it has to fail.
+#[derive(Clone, Copy)]
+pub struct Teller<'a> {
+    pub rt: &'a HostRuntime,
+    pub file: &'a str,
+    pub number: usize,
+    pub is_wrong: bool,
+}
+
+impl Teller<'_> {
+    /// The allocator.
+    pub fn alloc(&self) -> Global {
+        self.rt.alloc()
+    }
+
+    /// The fault that something is wrong: it is written, but for a row that has to fail.
+    pub fn wrong(&self, what: &str, words: &str) -> Fault {
+        if self.is_wrong {
+            return Fault::Wrong;
+        }
+        match println!(self.rt; "{}:{}: {what}{words}", self.file, self.number) {
+            Ok(()) => Fault::Wrong,
+            Err(error) => Fault::Stopped(error.kind()),
+        }
     }
 }

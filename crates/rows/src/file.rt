@@ -1,72 +1,118 @@
-//! Files of rows: blocks of lines with blank lines between them.
+//! Files of rows: blocks of lines with blank lines between them, each a row or a section.
 
-use std::alloc::{AllocError, Global};
-use std::mem;
+use crate::fault::{Fault, Teller};
+use crate::line::{Kind, Line};
+use crate::row::Row;
+use std::{fs, io, mem};
 
-/// Lines of a file that stand together.
+/// How many rows there were, and how many failed.
+#[derive(Clone, Copy)]
+pub struct Counts {
+    pub rows: usize,
+    pub failed: usize,
+}
+
+/// The block that is read, where it stands, and the section whose lines it shares.
 #[derive(Drop)]
-pub struct Block<'a> {
-    /// The number of the first line.
-    pub number: usize,
-    /// The place of its section among the blocks, or none of theirs.
-    pub section: usize,
-    pub lines: Vec<&'a str>,
+struct Reader<'a> {
+    tell: Teller<'a>,
+    section: Vec<&'a str>,
+    lines: Vec<&'a str>,
 }
 
-/// The place of no block.
-const NOWHERE: usize = usize::MAX;
-
-impl<'a> Block<'a> {
-    /// A block without lines.
-    fn new(alloc: Global, section: usize) -> Block<'a> {
-        Block {
-            number: 0,
-            section,
-            lines: Vec::new(alloc),
-        }
-    }
-
-    /// Whether the block shares its lines with the rows behind it.
-    pub fn is_section(&self) -> bool {
-        match self.lines.first() {
-            Some(line) => line.starts_with("section: "),
-            None => false,
-        }
-    }
-}
-
-/// The blocks of a file. A line that begins with `#` is in none of them.
-pub fn blocks<'a>(alloc: Global, text: &'a str) -> Result<Vec<Block<'a>>, AllocError> {
-    let mut blocks = Vec::new(alloc);
-    let mut block = Block::new(alloc, NOWHERE);
-    for (index, line) in text.lines().enumerate() {
-        if line.is_empty() {
-            end_block(alloc, &mut blocks, &mut block)?;
-        } else if !line.starts_with('#') {
-            if block.lines.is_empty() {
-                block.number = index.saturating_add(1);
-            }
-            block.lines.push(line)?;
-        }
-    }
-    end_block(alloc, &mut blocks, &mut block)?;
-    Ok(blocks)
-}
-
-/// Puts the block behind the others, where it has lines, and begins another.
-fn end_block<'a>(
-    alloc: Global,
-    blocks: &mut Vec<Block<'a>>,
-    block: &mut Block<'a>,
-) -> Result<(), AllocError> {
-    if block.lines.is_empty() {
-        return Ok(());
-    }
-    let section = if block.is_section() {
-        blocks.len()
-    } else {
-        block.section
+/// Runs the rows of a file.
+pub fn run_file(
+    rt: &HostRuntime,
+    file: &str,
+    is_wrong: bool,
+    counts: &mut Counts,
+) -> io::Result<()> {
+    let text = fs::read_to_string(rt, file)?;
+    let tell = Teller {
+        rt,
+        file,
+        number: 0,
+        is_wrong,
     };
-    blocks.push(mem::replace(block, Block::new(alloc, section)))?;
+    run_blocks(tell, &text, counts)
+}
+
+/// Runs the rows of a file's text. A line that begins with `#` is in no block.
+fn run_blocks(tell: Teller<'_>, text: &str, counts: &mut Counts) -> io::Result<()> {
+    let mut reader = Reader {
+        tell,
+        section: Vec::new(tell.alloc()),
+        lines: Vec::new(tell.alloc()),
+    };
+    for (index, line) in text.lines().enumerate() {
+        reader.add(index, line, counts)?;
+    }
+    reader.end_block(counts)
+}
+
+impl<'a> Reader<'a> {
+    /// Takes the line of that index.
+    fn add(&mut self, index: usize, line: &'a str, counts: &mut Counts) -> io::Result<()> {
+        if line.is_empty() {
+            return self.end_block(counts);
+        }
+        if line.starts_with('#') {
+            return Ok(());
+        }
+        if self.lines.is_empty() {
+            self.tell.number = index.saturating_add(1);
+        }
+        self.lines.push(line)?;
+        Ok(())
+    }
+
+    /// Keeps the lines of a section, or runs the rows of another block, where there is one.
+    fn end_block(&mut self, counts: &mut Counts) -> io::Result<()> {
+        let Some(first) = self.lines.first() else {
+            return Ok(());
+        };
+        if first.starts_with("section: ") {
+            mem::swap(&mut self.section, &mut self.lines);
+        } else {
+            for line in self.section.iter().skip(1) {
+                self.lines.push(line)?;
+            }
+            run_block(&self.tell, &self.lines, counts)?;
+        }
+        self.lines.clear();
+        Ok(())
+    }
+}
+
+/// Runs the rows of a block.
+fn run_block<'a>(
+    tell: &'a Teller<'a>,
+    lines: &'a [&'a str],
+    counts: &mut Counts,
+) -> io::Result<()> {
+    let row = Row { tell, lines };
+    if let Err(fault) = row.is_whole() {
+        return count(tell, Err(fault), counts);
+    }
+    for line in lines {
+        let line = Line::of(line);
+        if let Kind::Text(call) = line.kind() {
+            count(tell, row.run(call, line.words()), counts)?;
+        }
+    }
+    Ok(())
+}
+
+/// Counts a row, and writes that it did not fail where it had to.
+fn count(tell: &Teller<'_>, outcome: Result<(), Fault>, counts: &mut Counts) -> io::Result<()> {
+    counts.rows = counts.rows.saturating_add(1);
+    match outcome {
+        Err(Fault::Stopped(kind)) => return Err(io::Error::from(kind)),
+        Err(Fault::Wrong) => counts.failed = counts.failed.saturating_add(1),
+        Ok(()) if tell.is_wrong => {
+            println!(tell.rt; "{}:{}: a wrong row does not fail", tell.file, tell.number)?;
+        }
+        Ok(()) => {}
+    }
     Ok(())
 }

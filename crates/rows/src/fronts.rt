@@ -1,12 +1,13 @@
 //! Many texts made of one: its fronts, each read as a document, a node, an entry and an identifier, and those with one
 //! character replaced, doubled or taken away, read as documents.
 
+use crate::answer::answer;
 use crate::checks::Case;
-use crate::dump::Field;
-use crate::fault::{Fault, wrong};
-use crate::layout::{Comments, lays_out_document};
-use crate::notation::{Fills, decoded};
-use crate::reading::{is_read, parts_are_read};
+use crate::dump::Dump;
+use crate::fault::Fault;
+use crate::layout::{Asked, lays_out};
+use crate::line::{Call, Kind, Line};
+use kdl_faults::Whole;
 
 /// Tries each front of the text, and the text itself.
 pub fn check_fronts(case: &Case<'_>) -> Result<(), Fault> {
@@ -18,84 +19,125 @@ pub fn check_fronts(case: &Case<'_>) -> Result<(), Fault> {
 
 /// Tries the front of that length.
 fn check_front(case: &Case<'_>, len: usize) -> Result<(), Fault> {
-    let Some(front) = case.text.get(..len) else {
-        return Err(wrong(format!(in case.alloc; "no front of {len} bytes")));
+    let front = Case {
+        call: Call::Document,
+        text: case.text.get(..len).unwrap_or(case.text),
+        ..*case
     };
-    let is_refused = !is_read(case.alloc, front)?;
-    parts_are_read(case.alloc, front)?;
-    for wanted in case.wanted {
-        match (wanted.label.as_str(), &wanted.text) {
-            ("answered", None) => {}
-            ("refused at", Some(lengths)) => {
-                if has_length(case, wanted, lengths, len)? != is_refused {
-                    let came = format!(in case.alloc; "the front of {len} bytes")?;
-                    return Err(case.differs(wanted, &came));
+    let is_document = is_accepted(&front, Whole::Document)?;
+    is_accepted(&front, Whole::Node)?;
+    is_accepted(&front, Whole::Entry)?;
+    is_accepted(&front, Whole::Identifier)?;
+    for notation in case.row.lines {
+        let line = Line::of(notation);
+        match (line.kind(), line.label, line.text) {
+            (Kind::Wanted, "refused at", Some(lengths)) => {
+                if has_length(case, lengths, len)? == is_document {
+                    return Err(front.differs(notation, "another front"));
                 }
             }
-            (_, _) => check_layout(case, wanted, front)?,
+            (Kind::Wanted, _, _) => check_many(&front, notation, is_document)?,
+            (_, _, _) => {}
         }
     }
     Ok(())
 }
 
-/// Lays out a front or a text with a replaced character, where it is a document, if the line asks for that.
-fn check_layout(case: &Case<'_>, wanted: &Field, text: &str) -> Result<(), Fault> {
-    match (wanted.label.as_str(), &wanted.text) {
-        ("strips", None) => lays_out_document(case, wanted, text, Comments::Dropped),
-        ("fmts", None) => lays_out_document(case, wanted, text, Comments::Kept),
-        (_, _) => Err(case.differs(wanted, "no such line for this call")),
+/// Whether the text is accepted as a whole of the kind.
+fn is_accepted(case: &Case<'_>, whole: Whole) -> Result<bool, Fault> {
+    let mut dump = Dump::new(case.alloc(), true);
+    answer(case, whole, &mut dump)
+}
+
+/// What an expected line says of one of many texts: that it is answered, or laid out where it is a document.
+fn check_many(case: &Case<'_>, line: &str, is_document: bool) -> Result<(), Fault> {
+    match line {
+        "answered" => Ok(()),
+        "fmts" | "strips" => match Asked::of(line) {
+            Some(asked) if is_document => lays_out(case, asked),
+            _ => Ok(()),
+        },
+        _ => Err(case.differs(line, "no such line for this call")),
     }
 }
 
 /// Whether the length is among those of the line, each of which is that of a front.
-fn has_length(case: &Case<'_>, wanted: &Field, lengths: &str, len: usize) -> Result<bool, Fault> {
+fn has_length(case: &Case<'_>, lengths: &str, len: usize) -> Result<bool, Fault> {
     let mut is_there = false;
     for word in lengths.split_whitespace() {
         let (first, last) = match word.split_once("..") {
             Some((first, last)) => (first, last),
             None => (word, word),
         };
-        let (Ok(first), Ok(last)) = (first.parse::<usize>(), last.parse::<usize>()) else {
-            return Err(case.differs(wanted, "no number"));
-        };
-        if !case.text.is_char_boundary(first) || !case.text.is_char_boundary(last) {
-            return Err(case.differs(wanted, "no length of a front"));
-        }
+        let (first, last) = (front_of(case, first)?, front_of(case, last)?);
         is_there = is_there || (first <= len && len <= last);
     }
     Ok(is_there)
 }
 
+/// The length of a front that the word says.
+fn front_of(case: &Case<'_>, word: &str) -> Result<usize, Fault> {
+    match word.parse::<usize>() {
+        Ok(len) if case.text.is_char_boundary(len) => Ok(len),
+        _ => Err(case.differs("the length of a front", word)),
+    }
+}
+
 /// Tries each text in which one character is replaced by one of those given, doubled or taken away.
 pub fn check_replaced(case: &Case<'_>) -> Result<(), Fault> {
-    let Some(by) = case.by else {
-        return Err(wrong(format!(in case.alloc; "`replaced` without `by`")));
+    let Some(by) = case.row.setting("by") else {
+        return Err(case.differs("by", "no such line in the row"));
     };
-    let fills = Fills {
-        member: None,
-        own: None,
-    };
-    let by = decoded(case.alloc, by, fills)?;
+    let by = case.fills.decoded(by)?;
     for (at, old) in case.text.char_indices() {
-        let behind = at.saturating_add(old.len_utf8());
-        if let (Some(front), Some(back)) = (case.text.get(..at), case.text.get(behind..)) {
-            for new in by.chars() {
-                check_new(case, &format!(in case.alloc; "{front}{new}{back}")?)?;
-            }
-            check_new(case, &format!(in case.alloc; "{front}{old}{old}{back}")?)?;
-            check_new(case, &format!(in case.alloc; "{front}{back}")?)?;
-        }
+        check_replaced_at(case, at, old, &by)?;
     }
     Ok(())
 }
 
+/// Tries each text in which the character there is another, stands twice, or is taken away.
+fn check_replaced_at(case: &Case<'_>, at: usize, old: char, by: &str) -> Result<(), Fault> {
+    let behind = at.saturating_add(old.len_utf8());
+    for new in by.chars() {
+        check_with(case, at, new, behind)?;
+    }
+    check_with(case, at, old, at)?;
+    check_without(case, at, behind)
+}
+
+/// Tries the text with that character in the place of what stands between.
+fn check_with(case: &Case<'_>, at: usize, new: char, behind: usize) -> Result<(), Fault> {
+    let (front, back) = around(case.text, at, behind);
+    let text = format!(in case.alloc(); "{front}{new}{back}")?;
+    check_new(case, &text)
+}
+
+/// Tries the text without what stands between.
+fn check_without(case: &Case<'_>, at: usize, behind: usize) -> Result<(), Fault> {
+    let (front, back) = around(case.text, at, behind);
+    let text = format!(in case.alloc(); "{front}{back}")?;
+    check_new(case, &text)
+}
+
+/// What stands before the one place and behind the other.
+fn around(text: &str, at: usize, behind: usize) -> (&str, &str) {
+    match (text.get(..at), text.get(behind..)) {
+        (Some(front), Some(back)) => (front, back),
+        (_, _) => (text, ""),
+    }
+}
+
 /// Tries a text in which one character is another.
 fn check_new(case: &Case<'_>, text: &str) -> Result<(), Fault> {
-    is_read(case.alloc, text)?;
-    for wanted in case.wanted {
-        match (wanted.label.as_str(), &wanted.text) {
-            ("answered", None) => {}
-            (_, _) => check_layout(case, wanted, text)?,
+    let new = Case {
+        call: Call::Document,
+        text,
+        ..*case
+    };
+    let is_document = is_accepted(&new, Whole::Document)?;
+    for line in case.row.lines {
+        if let Kind::Wanted = Line::of(line).kind() {
+            check_many(&new, line, is_document)?;
         }
     }
     Ok(())

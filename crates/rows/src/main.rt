@@ -5,101 +5,23 @@
 //! `docs/ROWS.md` has the format of the files.
 #![tactic(auto)]
 
+mod answer;
 mod checks;
 mod dump;
 mod fault;
 mod file;
 mod fronts;
+mod item;
 mod layout;
+mod line;
 mod members;
 mod notation;
 mod places;
-mod reading;
 mod row;
 
-use fault::Fault;
-use file::{Block, blocks};
-use row::Row;
+use file::{Counts, run_file};
 use std::process::ExitCode;
-use std::{env, fs, io};
-
-/// How many rows there were, and how many failed.
-#[derive(Clone, Copy)]
-struct Counts {
-    rows: usize,
-    failed: usize,
-}
-
-/// Where a row stands, and whether it has to fail.
-#[derive(Clone, Copy)]
-struct Place<'a> {
-    name: &'a str,
-    number: usize,
-    is_wrong: bool,
-}
-
-/// Counts a row, and writes why it failed, or that it did not where it had to.
-fn tell(
-    rt: &HostRuntime,
-    place: Place<'_>,
-    outcome: Result<(), Fault>,
-    counts: &mut Counts,
-) -> io::Result<()> {
-    let Place {
-        name,
-        number,
-        is_wrong,
-    } = place;
-    counts.rows = counts.rows.saturating_add(1);
-    match outcome {
-        Err(Fault::Memory) => Err(io::Error::from(io::ErrorKind::OutOfMemory)),
-        Err(Fault::Wrong(message)) => {
-            counts.failed = counts.failed.saturating_add(1);
-            if is_wrong {
-                return Ok(());
-            }
-            println!(rt; "{name}:{number}: {message}")
-        }
-        Ok(()) if is_wrong => println!(rt; "{name}:{number}: a wrong row does not fail"),
-        Ok(()) => Ok(()),
-    }
-}
-
-/// Runs the rows of a block.
-fn run_block(
-    rt: &HostRuntime,
-    place: Place<'_>,
-    block: &Block<'_>,
-    section: Option<&Block<'_>>,
-    counts: &mut Counts,
-) -> io::Result<()> {
-    let row = match Row::of(rt.alloc(), block, section) {
-        Ok(row) => row,
-        Err(fault) => return tell(rt, place, Err(fault), counts),
-    };
-    for index in 0..row.len() {
-        tell(rt, place, row.run(index), counts)?;
-    }
-    Ok(())
-}
-
-/// Runs the rows of a file.
-fn run_file(rt: &HostRuntime, name: &str, is_wrong: bool, counts: &mut Counts) -> io::Result<()> {
-    let alloc = rt.alloc();
-    let text = fs::read_to_string(rt, name)?;
-    let blocks = blocks(alloc, &text)?;
-    for block in &blocks {
-        if !block.is_section() {
-            let place = Place {
-                name,
-                number: block.number,
-                is_wrong,
-            };
-            run_block(rt, place, block, blocks.get(block.section), counts)?;
-        }
-    }
-    Ok(())
-}
+use std::{env, io};
 
 fn main(rt: HostRuntime) -> io::Result<ExitCode> {
     let mut counts = Counts { rows: 0, failed: 0 };

@@ -1,76 +1,165 @@
 //! The notation of texts in rows: marks for what is invisible, repeated pieces, and the place of a member or of the
 //! row's own text.
 
-use crate::fault::{Fault, wrong};
-use std::alloc::Global;
+use crate::fault::{Fault, Teller};
+use crate::line::Line;
+use std::alloc::AllocError;
 
-/// What stands in the place of `◊` and of `□`.
+/// What stands in the place of `◊` and of `□`, and where it is told that nothing does.
 #[derive(Clone, Copy)]
 pub struct Fills<'a> {
+    pub tell: &'a Teller<'a>,
     pub member: Option<&'a str>,
     pub own: Option<&'a str>,
 }
 
-/// The text that the notation stands for.
-pub fn decoded(alloc: Global, notation: &str, fills: Fills<'_>) -> Result<String, Fault> {
-    let mut text = String::new(alloc);
-    let mut parts = notation.split('⟦');
-    if let Some(front) = parts.next() {
-        push_piece(alloc, &mut text, front, fills)?;
+impl Fills<'_> {
+    /// The text that the notation stands for.
+    pub fn decoded(&self, notation: &str) -> Result<String, Fault> {
+        let mut text = String::new(self.tell.alloc());
+        self.push(&mut text, notation)?;
+        Ok(text)
     }
-    for part in parts {
-        let Some((group, behind)) = part.split_once('⟧') else {
-            return Err(wrong(format!(in alloc; "⟦ without ⟧ in {notation}")));
+
+    /// The line with its label and its text decoded, and `: ` between them.
+    pub fn line(&self, notation: &str) -> Result<String, Fault> {
+        let mut line = String::new(self.tell.alloc());
+        self.push_line(&mut line, Line::of(notation))?;
+        Ok(line)
+    }
+
+    /// Puts the parts of a line behind the text.
+    fn push_line(&self, text: &mut String, line: Line<'_>) -> Result<(), Fault> {
+        self.push(text, line.label)?;
+        if let Some(words) = line.text {
+            text.push_str(": ")?;
+            self.push(text, words)?;
+        }
+        Ok(())
+    }
+
+    /// Puts what the notation stands for behind the text.
+    fn push(&self, text: &mut String, notation: &str) -> Result<(), Fault> {
+        let mut decoder = Decoder {
+            fills: *self,
+            notation,
+            part: Part::Plain,
+            start: 0,
+            count: 0,
         };
-        push_repeated(alloc, &mut text, group, fills)?;
-        push_piece(alloc, &mut text, behind, fills)?;
+        for (at, c) in notation.char_indices() {
+            decoder.take(text, at, c)?;
+        }
+        match (decoder.part, decoder.count) {
+            (Part::Plain, 0) => Ok(()),
+            (_, _) => Err(decoder.wrong("a mark without its end in ")),
+        }
     }
-    Ok(text)
 }
 
-/// Puts the piece of `N:PIECE` behind the text, N times.
-fn push_repeated(
-    alloc: Global,
-    text: &mut String,
-    group: &str,
-    fills: Fills<'_>,
-) -> Result<(), Fault> {
-    let Some((count, notation)) = group.split_once(':') else {
-        return Err(wrong(format!(in alloc; "no count in ⟦{group}⟧")));
-    };
-    let Ok(count) = count.parse::<u32>() else {
-        return Err(wrong(format!(in alloc; "no count in ⟦{group}⟧")));
-    };
-    let mut piece = String::new(alloc);
-    push_piece(alloc, &mut piece, notation, fills)?;
-    for _ in 0..count {
-        text.push_str(&piece)?;
-    }
-    Ok(())
+/// What is read of a notation.
+#[derive(Clone, Copy)]
+enum Part {
+    /// Characters, and marks of one character.
+    Plain,
+    /// The count of a repeated piece, which begins there.
+    Count(usize),
+    /// The code point of a character, which begins there.
+    Code(usize),
 }
 
-/// Puts a piece without repetition behind the text.
-fn push_piece(
-    alloc: Global,
-    text: &mut String,
-    notation: &str,
-    fills: Fills<'_>,
-) -> Result<(), Fault> {
-    let mut parts = notation.split('⟨');
-    if let Some(front) = parts.next() {
-        push_plain(alloc, text, front, fills)?;
+/// How far a notation is read.
+#[derive(Clone, Copy)]
+struct Decoder<'a> {
+    fills: Fills<'a>,
+    notation: &'a str,
+    part: Part,
+    /// Where the repeated piece begins in the text, and how often it is to stand there: 0 where there is none.
+    start: usize,
+    count: u32,
+}
+
+impl Decoder<'_> {
+    /// The fault that this is wrong with the notation.
+    fn wrong(&self, what: &str) -> Fault {
+        self.fills.tell.wrong(what, self.notation)
     }
-    for part in parts {
-        let Some((code, behind)) = part.split_once('⟩') else {
-            return Err(wrong(format!(in alloc; "⟨ without ⟩ in {notation}")));
+
+    /// The notation between the places.
+    fn between(&self, start: usize, end: usize) -> &str {
+        match self.notation.get(start..end) {
+            Some(part) => part,
+            None => "",
+        }
+    }
+
+    /// Takes the character at that place.
+    fn take(&mut self, text: &mut String, at: usize, c: char) -> Result<(), Fault> {
+        match (self.part, c) {
+            (Part::Plain, _) => self.take_plain(text, at, c),
+            (Part::Count(start), ':') => self.take_count(text, start, at),
+            (Part::Code(start), '⟩') => self.take_code(text, start, at),
+            (_, _) => Ok(()),
+        }
+    }
+
+    /// Takes a character, or a mark of one, or what begins or ends another mark.
+    fn take_plain(&mut self, text: &mut String, at: usize, c: char) -> Result<(), Fault> {
+        let behind = at.saturating_add(c.len_utf8());
+        match c {
+            '⟨' => self.part = Part::Code(behind),
+            '⟦' if self.count == 0 => self.part = Part::Count(behind),
+            '⟧' if self.count > 0 => self.repeat(text)?,
+            '⟦' | '⟧' | '⟩' => return Err(self.wrong("a mark out of its place in ")),
+            '◊' => self.fill(text, self.fills.member)?,
+            '□' => self.fill(text, self.fills.own)?,
+            _ => text.push(plain(c))?,
+        }
+        Ok(())
+    }
+
+    /// Takes the count of a repeated piece, which begins behind it.
+    fn take_count(&mut self, text: &String, start: usize, end: usize) -> Result<(), Fault> {
+        match self.between(start, end).parse::<u32>() {
+            Ok(count) if count > 0 => {
+                self.part = Part::Plain;
+                self.start = text.len();
+                self.count = count;
+                Ok(())
+            }
+            _ => Err(self.wrong("no count of a piece in ")),
+        }
+    }
+
+    /// Takes the code point of a character.
+    fn take_code(&mut self, text: &mut String, start: usize, end: usize) -> Result<(), Fault> {
+        let Some(c) = character(self.between(start, end)) else {
+            return Err(self.wrong("no such character in "));
         };
-        let Some(c) = character(code) else {
-            return Err(wrong(format!(in alloc; "no character ⟨{code}⟩")));
-        };
+        self.part = Part::Plain;
         text.push(c)?;
-        push_plain(alloc, text, behind, fills)?;
+        Ok(())
     }
-    Ok(())
+
+    /// Repeats the piece that ends the text.
+    fn repeat(&mut self, text: &mut String) -> Result<(), Fault> {
+        let alloc = self.fills.tell.alloc();
+        let piece = String::from_str(alloc, text.get(self.start..).unwrap_or(""))?;
+        for _ in 1..self.count {
+            text.push_str(&piece)?;
+        }
+        self.count = 0;
+        Ok(())
+    }
+
+    /// Puts what fills a place behind the text.
+    fn fill(&self, text: &mut String, fill: Option<&str>) -> Result<(), Fault> {
+        let Some(fill) = fill else {
+            return Err(self.wrong("a place that nothing fills in "));
+        };
+        text.push_str(fill)?;
+        Ok(())
+    }
 }
 
 /// The character with that code point, in hexadecimal digits.
@@ -81,56 +170,41 @@ fn character(code: &str) -> Option<char> {
     }
 }
 
-/// Puts characters and the marks of one character behind the text.
-fn push_plain(
-    alloc: Global,
-    text: &mut String,
-    notation: &str,
-    fills: Fills<'_>,
-) -> Result<(), Fault> {
-    for c in notation.chars() {
-        match c {
-            '⏎' => text.push('\n')?,
-            '⇥' => text.push('\t')?,
-            '␍' => text.push('\r')?,
-            '␠' => text.push(' ')?,
-            '◊' => push_fill(alloc, text, "each", fills.member)?,
-            '□' => push_fill(alloc, text, "within", fills.own)?,
-            '⟧' | '⟩' => return Err(wrong(format!(in alloc; "{c} without its beginning"))),
-            _ => text.push(c)?,
-        }
+/// The character that a mark, or another character, stands for.
+fn plain(c: char) -> char {
+    match c {
+        '⏎' => '\n',
+        '⇥' => '\t',
+        '␍' => '\r',
+        '␠' => ' ',
+        _ => c,
     }
-    Ok(())
 }
 
-/// Puts what fills a place behind the text.
-fn push_fill(
-    alloc: Global,
-    text: &mut String,
-    setting: &str,
-    fill: Option<&str>,
-) -> Result<(), Fault> {
-    let Some(fill) = fill else {
-        return Err(wrong(format!(in alloc; "a place to fill without `{setting}`")));
-    };
-    text.push_str(fill)?;
-    Ok(())
-}
-
-/// The text in the notation, for a message: its front, where it is long.
-pub fn encoded(alloc: Global, text: &str) -> Result<String, Fault> {
-    let mut notation = String::new(alloc);
+/// Puts words, and behind them the notation of the text, behind a message: of its front, where it is long.
+pub fn encode(message: &mut String, words: &str, text: &str) -> Result<(), AllocError> {
+    message.push_str(words)?;
     for c in text.chars().take(400) {
-        match c {
-            '\n' => notation.push('⏎')?,
-            '\t' => notation.push('⇥')?,
-            '\r' => notation.push('␍')?,
-            ' '..='~' => notation.push(c)?,
-            _ => {
-                let code = u32::from(c);
-                write!(notation, "⟨{code:x}⟩")?;
-            }
-        }
+        push_mark(message, c)?;
     }
-    Ok(notation)
+    Ok(())
+}
+
+/// Puts the notation of a character behind a message.
+fn push_mark(message: &mut String, c: char) -> Result<(), AllocError> {
+    match mark(c) {
+        Some(mark) => message.push(mark),
+        None => write!(message, "⟨{:x}⟩", u32::from(c)),
+    }
+}
+
+/// The one character of the notation that stands for the character.
+fn mark(c: char) -> Option<char> {
+    match c {
+        '\n' => Some('⏎'),
+        '\t' => Some('⇥'),
+        '\r' => Some('␍'),
+        ' '..='~' => Some(c),
+        _ => None,
+    }
 }

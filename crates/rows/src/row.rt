@@ -1,327 +1,224 @@
-//! A row: the texts that it tries, and what is expected of them.
+//! A row: the texts that it tries, each with the settings of its lines.
 
 use crate::checks::{Case, check};
-use crate::dump::Field;
-use crate::fault::{Fault, wrong};
-use crate::file::Block;
-use crate::members::Members;
-use crate::notation::{Fills, decoded};
-use crate::places::{FormatPlace, PLACES, PlacedText};
-use kdl::FormatConfig;
-use kdl_faults::Whole;
-use std::alloc::Global;
+use crate::fault::{Fault, Teller};
+use crate::line::{Call, Kind, Line};
+use crate::members::members;
+use crate::notation::Fills;
+use crate::places::PLACES;
 
-/// What is called on a text.
-#[derive(Clone, Copy, Drop)]
-pub enum Call {
-    Document,
-    Node,
-    Entry,
-    Identifier,
-    Float,
-    String,
-    Fronts,
-    Replaced,
-}
-
-impl Call {
-    /// What the call reads a text as.
-    pub fn whole(self) -> Whole {
-        match self {
-            Call::Node => Whole::Node,
-            Call::Entry => Whole::Entry,
-            Call::Identifier => Whole::Identifier,
-            _ => Whole::Document,
-        }
-    }
-
-    /// The call of a label.
-    fn of(label: &str) -> Option<Call> {
-        match label {
-            "document" => Some(Call::Document),
-            "node" => Some(Call::Node),
-            "entry" => Some(Call::Entry),
-            "identifier" => Some(Call::Identifier),
-            "float" => Some(Call::Float),
-            "string" => Some(Call::String),
-            "fronts" => Some(Call::Fronts),
-            "replaced" => Some(Call::Replaced),
-            _ => None,
-        }
-    }
-}
-
-/// A line of a row: its label, and its text, or none where it is the label alone.
-#[derive(Clone, Copy, Drop)]
-pub struct Line<'a> {
-    pub label: &'a str,
-    pub text: Option<&'a str>,
-}
-
-impl<'a> Line<'a> {
-    /// The parts of a line.
-    pub fn of(line: &'a str) -> Line<'a> {
-        if let Some((label, text)) = line.split_once(": ") {
-            let text = Some(text);
-            return Line { label, text };
-        }
-        match line.strip_suffix(':') {
-            Some(label) => Line {
-                label,
-                text: Some(""),
-            },
-            None => Line {
-                label: line,
-                text: None,
-            },
-        }
-    }
-
-    /// Whether the line says what the text prints once it is laid out.
-    fn is_layout(&self) -> bool {
-        self.label.contains("strip") || self.label.contains("fmt")
-    }
-}
-
-/// A row: texts with their calls, how they are filled in and laid out, what is set in their places before, and what is
-/// expected of each.
-#[derive(Drop)]
+/// The lines of a row, and where it stands.
+#[derive(Clone, Copy)]
 pub struct Row<'a> {
-    alloc: Global,
-    texts: Vec<(Call, &'a str)>,
-    each: Option<&'a str>,
-    by: Option<&'a str>,
-    indent: Option<&'a str>,
-    level: Option<usize>,
-    /// Names of places, and the texts to be set there.
-    set: Vec<(&'a str, &'a str)>,
-    within: Vec<&'a str>,
-    wanted: Vec<Line<'a>>,
+    pub tell: &'a Teller<'a>,
+    pub lines: &'a [&'a str],
+}
+
+/// Which lines were seen in a row.
+#[derive(Clone, Copy)]
+struct Seen {
+    has_text: bool,
+    has_wanted: bool,
+    /// A line that says how texts are laid out, or sets a text before that.
+    has_setting: bool,
+    has_layout: bool,
+}
+
+impl Seen {
+    /// Takes a line, or says what is wrong with it.
+    fn add(&mut self, line: &str) -> Option<&'static str> {
+        if line.ends_with(' ') {
+            return Some("a space at the end of ");
+        }
+        let line = Line::of(line);
+        match line.kind() {
+            Kind::Text(_) if self.has_wanted => return Some("a text behind what is expected: "),
+            Kind::Text(_) => self.has_text = true,
+            Kind::Making => return making(line),
+            Kind::Layout => self.has_setting = true,
+            Kind::Place => {
+                self.has_setting = true;
+                return placing(line);
+            }
+            Kind::Wanted => {
+                self.has_wanted = true;
+                self.has_layout = self.has_layout || line.is_layout();
+            }
+        }
+        None
+    }
+
+    /// What the lines lack.
+    fn lacks(&self) -> Option<&'static str> {
+        if !self.has_text {
+            return Some("no text");
+        }
+        if !self.has_wanted {
+            return Some("nothing is expected");
+        }
+        if self.has_setting && !self.has_layout {
+            return Some("`indent`, `level` or `set` without layout");
+        }
+        None
+    }
+}
+
+/// What is wrong with a line that says which texts are made.
+fn making(line: Line<'_>) -> Option<&'static str> {
+    if line.label == "within" && !line.words().contains('□') {
+        return Some("`within` without □: ");
+    }
+    None
+}
+
+/// What is wrong with a line that sets a text in a place.
+fn placing(line: Line<'_>) -> Option<&'static str> {
+    let place = line.place();
+    if place == Some("each") {
+        return None;
+    }
+    for name in &PLACES {
+        if place == Some(*name) {
+            return None;
+        }
+    }
+    Some("no such place: ")
 }
 
 impl<'a> Row<'a> {
-    /// The row of a block, with the lines that its section shares.
-    pub fn of(
-        alloc: Global,
-        block: &Block<'a>,
-        section: Option<&Block<'a>>,
-    ) -> Result<Row<'a>, Fault> {
-        let mut row = Row {
-            alloc,
-            texts: Vec::new(alloc),
-            each: None,
-            by: None,
-            indent: None,
-            level: None,
-            set: Vec::new(alloc),
-            within: Vec::new(alloc),
-            wanted: Vec::new(alloc),
+    /// The row has a text, expects something, and each of its lines is right.
+    pub fn is_whole(&self) -> Result<(), Fault> {
+        let mut seen = Seen {
+            has_text: false,
+            has_wanted: false,
+            has_setting: false,
+            has_layout: false,
         };
-        for line in &block.lines {
-            row.add(line)?;
-        }
-        if let Some(section) = section {
-            for line in section.lines.iter().skip(1) {
-                row.add(line)?;
+        for line in self.lines {
+            if let Some(what) = seen.add(line) {
+                return Err(self.tell.wrong(what, line));
             }
         }
-        row.is_whole()?;
-        Ok(row)
-    }
-
-    /// How many texts the row has, each of which counts as a row.
-    pub fn len(&self) -> usize {
-        self.texts.len()
-    }
-
-    /// Takes a line into the row.
-    fn add(&mut self, line: &'a str) -> Result<(), Fault> {
-        if line.ends_with(' ') {
-            return Err(wrong(format!(in self.alloc; "a space at the end of `{line}`")));
-        }
-        let line = Line::of(line);
-        match (Call::of(line.label), line.text) {
-            (Some(call), Some(text)) => self.add_text(call, text),
-            _ => self.add_setting(line),
+        match seen.lacks() {
+            Some(what) => Err(self.tell.wrong(what, "")),
+            None => Ok(()),
         }
     }
 
-    /// Takes a text into the row, which stands before what is expected.
-    fn add_text(&mut self, call: Call, text: &'a str) -> Result<(), Fault> {
-        if !self.wanted.is_empty() {
-            return Err(wrong(format!(in self.alloc; "a text behind what is expected")));
+    /// The text of the last line with this label.
+    pub fn setting(&self, label: &str) -> Option<&'a str> {
+        let mut text = None;
+        for line in self.lines {
+            let line = Line::of(line);
+            if line.label == label && line.text.is_some() {
+                text = line.text;
+            }
         }
-        self.texts.push((call, text))?;
-        Ok(())
+        text
     }
 
-    /// Takes a line that is no text into the row.
-    fn add_setting(&mut self, line: Line<'a>) -> Result<(), Fault> {
-        match (line.label, line.text) {
-            ("each", Some(text)) => self.each = Some(text),
-            ("by", Some(text)) => self.by = Some(text),
-            ("indent", Some(text)) => self.indent = Some(text),
-            ("level", Some(text)) => self.level = Some(self.number(text)?),
-            ("within", Some(text)) => self.within.push(text)?,
-            (label, text) => match (label.strip_prefix("set "), text) {
-                (Some(place), Some(text)) => self.set.push((place, text))?,
-                (_, _) => self.wanted.push(line)?,
-            },
+    /// Whether the row sets texts in places.
+    pub fn has_places(&self) -> bool {
+        for line in self.lines {
+            if line.starts_with("set ") {
+                return true;
+            }
         }
-        Ok(())
+        false
     }
 
-    /// The number that the text is.
-    fn number(&self, text: &str) -> Result<usize, Fault> {
-        match text.parse::<usize>() {
-            Ok(number) => Ok(number),
-            Err(_) => Err(wrong(format!(in self.alloc; "{text} is no number"))),
-        }
-    }
-
-    /// Whether the row has a text, and expects something.
-    fn is_whole(&self) -> Result<(), Fault> {
-        if self.texts.is_empty() {
-            return Err(wrong(format!(in self.alloc; "no text")));
-        }
-        if self.wanted.is_empty() {
-            return Err(wrong(format!(in self.alloc; "nothing is expected")));
-        }
-        if self.within.iter().any(|pattern| !pattern.contains('□')) {
-            return Err(wrong(format!(in self.alloc; "`within` without □")));
-        }
-        let mut wanted = self.wanted.iter();
-        let has_layout = self.indent.is_some() || self.level.is_some() || !self.set.is_empty();
-        if has_layout && !wanted.any(|line| line.is_layout()) {
-            return Err(wrong(format!(in self.alloc; "`indent`, `level` or `set` without layout")));
-        }
-        Ok(())
-    }
-
-    /// Tries one text of the row.
-    pub fn run(&self, index: usize) -> Result<(), Fault> {
-        let Some((call, text)) = self.texts.get(index) else {
-            return Ok(());
+    /// Tries a text of the row, with each member of a class where the row says so.
+    pub fn run(&'a self, call: Call, text: &str) -> Result<(), Fault> {
+        let Some(class) = self.setting("each") else {
+            return self.run_text(call, text, None);
         };
-        match self.each {
-            None => self.run_text(*call, text, None),
-            Some(class) => self.run_each(*call, text, class),
-        }
-    }
-
-    /// Tries the text with each member of the class.
-    fn run_each(&self, call: Call, text: &str, class: &str) -> Result<(), Fault> {
-        let is_filled = self.within.iter().any(|pattern| pattern.contains('◊'));
-        if !is_filled && !text.contains('◊') {
-            return Err(wrong(format!(in self.alloc; "`each` without ◊")));
-        }
-        let Some(members) = Members::of(class) else {
-            return Err(wrong(format!(in self.alloc; "no class {class}")));
+        let Some(members) = members(class) else {
+            return Err(self.tell.wrong("no class ", class));
         };
-        for member in &members.all(self.alloc)? {
+        if !self.is_filled(text) {
+            return Err(self.tell.wrong("`each` without ◊: ", text));
+        }
+        for member in members.split('|') {
             self.run_text(call, text, Some(member))?;
         }
         Ok(())
     }
 
-    /// Tries the text, with a line `set each` once for each place.
-    fn run_text(&self, call: Call, text: &str, member: Option<&str>) -> Result<(), Fault> {
-        let own = decoded(self.alloc, text, Fills { member, own: None })?;
-        let fills = Fills {
-            member,
-            own: Some(&own),
-        };
-        if !self.set.iter().any(|(place, _)| *place == "each") {
-            return self.run_filled(call, &own, fills, None);
+    /// Whether the text, or a pattern for it, has a place for a member.
+    fn is_filled(&self, text: &str) -> bool {
+        for line in self.lines {
+            if line.starts_with("within: ") && line.contains('◊') {
+                return true;
+            }
         }
-        for (name, place) in &PLACES {
-            if place.is_of(call) {
-                self.run_filled(call, &own, fills, Some(name))?;
+        text.contains('◊')
+    }
+
+    /// Tries the text with that member.
+    fn run_text(&'a self, call: Call, text: &str, member: Option<&'a str>) -> Result<(), Fault> {
+        let fills = Fills {
+            tell: self.tell,
+            member,
+            own: None,
+        };
+        let own = fills.decoded(text)?;
+        self.run_own(call, &own, member)
+    }
+
+    /// Tries the decoded text with that member.
+    fn run_own(&'a self, call: Call, own: &'a str, member: Option<&'a str>) -> Result<(), Fault> {
+        let fills = Fills {
+            tell: self.tell,
+            member,
+            own: Some(own),
+        };
+        let case = Case {
+            row: self,
+            call,
+            text: own,
+            fills,
+            each: None,
+        };
+        self.run_places(&case)
+    }
+
+    /// Tries the text, with a line `set each` once for each place.
+    fn run_places(&self, case: &Case<'_>) -> Result<(), Fault> {
+        if self.setting("set each").is_none() {
+            return self.run_patterns(case);
+        }
+        for place in &PLACES {
+            // A node has none of the places of a document's own.
+            if place.contains(' ') || !case.call.is_node() {
+                self.run_patterns(&Case {
+                    each: Some(place),
+                    ..*case
+                })?;
             }
         }
         Ok(())
     }
 
-    /// Tries the text, or each pattern with the text in its place, with that place for `set each`.
-    fn run_filled(
-        &self,
-        call: Call,
-        text: &str,
-        fills: Fills<'_>,
-        each: Option<&str>,
-    ) -> Result<(), Fault> {
-        let wanted = self.fields(fills)?;
-        let placed = self.placed(fills, each)?;
-        let indent = match self.indent {
-            Some(indent) => Some(decoded(self.alloc, indent, fills)?),
-            None => None,
-        };
-        let case = Case {
-            alloc: self.alloc,
-            call,
-            text,
-            wanted: &wanted,
-            by: self.by,
-            config: self.config(indent.as_deref()),
-            placed: &placed,
-        };
-        if self.within.is_empty() {
-            return check(&case);
+    /// Tries the text, or each pattern with the text in its place.
+    fn run_patterns(&self, case: &Case<'_>) -> Result<(), Fault> {
+        if self.setting("within").is_none() {
+            return check(case);
         }
-        for pattern in &self.within {
-            let text = decoded(self.alloc, pattern, fills)?;
-            check(&Case {
-                text: &text,
-                ..case
-            })?;
+        for line in self.lines {
+            let line = Line::of(line);
+            if line.label == "within" {
+                run_pattern(case, line.words())?;
+            }
         }
         Ok(())
     }
+}
 
-    /// The texts to be set, with that place for `each`.
-    fn placed<'b>(
-        &'b self,
-        fills: Fills<'_>,
-        each: Option<&'b str>,
-    ) -> Result<Vec<PlacedText<'b>>, Fault> {
-        let mut placed = Vec::new(self.alloc);
-        for (place, text) in &self.set {
-            let name = match each {
-                Some(each) if *place == "each" => each,
-                _ => *place,
-            };
-            let Some(place) = FormatPlace::of(name) else {
-                return Err(wrong(format!(in self.alloc; "no place `{name}`")));
-            };
-            let text = decoded(self.alloc, text, fills)?;
-            placed.push(PlacedText { name, place, text })?;
-        }
-        Ok(placed)
-    }
-
-    /// How the row is laid out but for its comments, where a setting says so.
-    fn config<'b>(&self, indent: Option<&'b str>) -> Option<FormatConfig<'b>> {
-        if indent.is_none() && self.level.is_none() {
-            return None;
-        }
-        let config = FormatConfig::builder()
-            .maybe_indent(indent)
-            .maybe_indent_level(self.level)
-            .build();
-        Some(config)
-    }
-
-    /// What is expected, with labels and texts filled in.
-    fn fields(&self, fills: Fills<'_>) -> Result<Vec<Field>, Fault> {
-        let mut fields = Vec::new(self.alloc);
-        for line in &self.wanted {
-            let label = decoded(self.alloc, line.label, fills)?;
-            let text = match line.text {
-                Some(text) => Some(decoded(self.alloc, text, fills)?),
-                None => None,
-            };
-            fields.push(Field { label, text })?;
-        }
-        Ok(fields)
-    }
+/// Tries the pattern with the text in its place.
+fn run_pattern(case: &Case<'_>, pattern: &str) -> Result<(), Fault> {
+    let text = case.fills.decoded(pattern)?;
+    check(&Case {
+        text: &text,
+        ..*case
+    })
 }

@@ -1,0 +1,34 @@
+//! Values and floats.
+
+ghost use Rattle.kdl_text.specs.Numbers.{FloatText};
+ghost use Rattle.kdl_value.specs.Tree.{float_text_of, integer_value, value_tree};
+ghost use Rattle.kdl_value.specs.declared.float.FloatFailure.TheVariants as FloatFailure;
+ghost use Rattle.std.specs.Prelude.{◌≡◌, ◌↔◌, IfOk, IsErrOf};
+ghost use Rattle.std.specs.Str.{chars};
+
+use kdl::{FloatFailure, KdlFloat, KdlValue};
+use std::alloc::Global;
+use std::cmp::Ordering;
+
+/// `KdlValue::as_integer`.
+pub fn integer(value: &KdlValue) -> Option<i128>
+    ensures { result ≡ integer_value (value_tree value.now) }
+{
+    value.as_integer()
+}
+
+/// `cmp` of values, which is their order.
+pub fn compare(one: &KdlValue, other: &KdlValue) -> Ordering
+    ensures { result ≡ ⟦<KdlValue as Ord>⟧.cmp one.now other.now }
+{
+    one.cmp(other)
+}
+
+/// `KdlFloat::new`.
+pub fn float(alloc: Global, text: &str) -> Result<KdlFloat, FloatFailure>
+    ensures kept { IfOk result (λ f. float_text_of f ≡ chars text.now) }
+    ensures float { IfOk result (λ f. FloatText (chars text.now)) }
+    ensures refused { IsErrOf result FloatFailure.NotAFloat ↔ (¬ FloatText (chars text.now)) }
+{
+    KdlFloat::new(alloc, text)
+}

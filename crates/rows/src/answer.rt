@@ -1,0 +1,106 @@
+//! What is answered of a text, and what holds of every text: what is accepted prints it, and what is refused tells where.
+
+use crate::checks::Case;
+use crate::dump::Dump;
+use crate::fault::Fault;
+use crate::item::Item;
+use kdl::{KdlDiagnostic, KdlDocument, KdlError, ParseFailure, Steps};
+use kdl_faults::{Whole, faults};
+use std::alloc::AllocError;
+
+/// Whether the text is accepted. Adds what is answered of it.
+pub fn answer(case: &Case<'_>, whole: Whole, dump: &mut Dump) -> Result<bool, Fault> {
+    match Item::parse(case.alloc(), whole, case.text) {
+        Ok(item) => is_accepted(case, whole, &item, dump),
+        Err(failure) => is_refused(case, whole, &failure, dump),
+    }
+}
+
+/// The item prints the text, in which there is no fault. Adds what the item is.
+fn is_accepted(case: &Case<'_>, whole: Whole, item: &Item, dump: &mut Dump) -> Result<bool, Fault> {
+    prints(case, &item.printed(case.alloc())?, case.text)?;
+    agrees(case, whole, false)?;
+    dump.text("accepted", case.text);
+    item.add_to(dump);
+    Ok(true)
+}
+
+/// The error tells where in the text a fault is, and there is one. Adds what it tells.
+fn is_refused(
+    case: &Case<'_>,
+    whole: Whole,
+    failure: &ParseFailure,
+    dump: &mut Dump,
+) -> Result<bool, Fault> {
+    let ParseFailure::Syntax(error) = failure else {
+        return Err(Fault::from(AllocError));
+    };
+    if !is_told(error, case.text) {
+        return Err(case.differs("a place in the text", "none"));
+    }
+    agrees(case, whole, true)?;
+    dump.text("refused", case.text);
+    dump.diagnostics(&error.diagnostics);
+    Ok(false)
+}
+
+/// What is printed is the text.
+pub fn prints(case: &Case<'_>, printed: &str, text: &str) -> Result<(), Fault> {
+    if printed == text {
+        return Ok(());
+    }
+    Err(case.differs(text, printed))
+}
+
+/// A fault is found in the text, read as a whole of the kind, exactly where it is refused.
+fn agrees(case: &Case<'_>, whole: Whole, is_refused: bool) -> Result<(), Fault> {
+    let faults = faults(case.alloc(), case.text, whole, &mut Steps::new())?;
+    match (faults.is_empty(), is_refused) {
+        (true, true) => Err(case.differs("faults", "none")),
+        (false, false) => Err(case.differs("no faults", "some")),
+        (_, _) => Ok(()),
+    }
+}
+
+/// Of so many diagnostics the text is compared: of all, a text of many faults would take time without end.
+const COMPARED: usize = 100;
+
+/// The error has the text, and a diagnostic at least, each with the text and a span in it on character boundaries.
+fn is_told(error: &KdlError, text: &str) -> bool {
+    for (index, told) in error.diagnostics.iter().enumerate() {
+        if !is_inside(told, text) || (index < COMPARED && told.input.as_str() != text) {
+            return false;
+        }
+    }
+    !error.diagnostics.is_empty() && error.input.as_str() == text
+}
+
+/// The diagnostic has a text of this length, and a span in it on character boundaries.
+fn is_inside(diagnostic: &KdlDiagnostic, text: &str) -> bool {
+    let start = diagnostic.span.offset;
+    let end = start.saturating_add(diagnostic.span.len);
+    diagnostic.input.as_str().len() == text.len()
+        && text.is_char_boundary(start)
+        && text.is_char_boundary(end)
+}
+
+/// Parsing the text takes as many steps as the bounds say.
+pub fn takes(case: &Case<'_>, wanted: &str, bounds: &str) -> Result<(), Fault> {
+    let mut steps = Steps::new();
+    let is_read = KdlDocument::parse_counted(case.alloc(), case.text, &mut steps).is_ok();
+    if is_read && is_between(bounds, steps.count()) {
+        return Ok(());
+    }
+    Err(case.differs(wanted, &steps.count().to_string(case.alloc())?))
+}
+
+/// Whether the count is between the bounds.
+fn is_between(bounds: &str, count: u64) -> bool {
+    let Some((least, most)) = bounds.split_once("..") else {
+        return false;
+    };
+    match (least.parse::<u64>(), most.parse::<u64>()) {
+        (Ok(least), Ok(most)) => least <= count && count <= most,
+        (_, _) => false,
+    }
+}
