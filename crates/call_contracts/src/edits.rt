@@ -1,31 +1,15 @@
 //! Edits of a node's entries.
 
-ghost use Rattle.kdl.specs.Change.{with_entries};
 ghost use Rattle.kdl.specs.Lookups.{entries_of, entry_there};
-ghost use Rattle.kdl.specs.contracts.node.KdlNode.{the_row};
-ghost use Rattle.kdl.specs.declared.node.KdlNode.{out-KdlNode};
 ghost use Rattle.kdl_entry.specs.Tree.{entry_tree};
 ghost use Rattle.kdl_parts.specs.Edits.{GoesUnder, HasArgumentAt, HasRoomAt, IsInserted, removed};
 ghost use Rattle.kdl_parts.specs.EntryLists.{removed_place, sought};
-ghost use Rattle.kdl_parts.specs.Written.{entries_row};
-ghost use Rattle.std.specs.Borrow.{Lends, sem};
-ghost use Rattle.std.specs.Fn.{CalledAt};
-ghost use Rattle.std.specs.List.Retain.{IsFiltered};
 ghost use Rattle.std.specs.List.Sorted.{IsPermutation, IsStableByClosure};
 ghost use Rattle.std.specs.Prelude.{◌≡◌, [], ◌∷◌, ◌++◌, if◌then◌else◌, OnOk, is_ok};
 
 use kdl::{KdlEntry, KdlNode, NodeKey};
 use std::alloc::AllocError;
 use std::cmp::Ordering;
-
-/// `KdlNode::entries_mut`.
-pub fn entries_mut(node: &mut KdlNode) -> &mut Vec<KdlEntry>
-    ensures* writes_back { sem 𝓛 (Lends the_row entries_row node.entry result
-        (with_entries node.old)) }
-    ensures value { result.now ≡ (out-KdlNode node.old).entries }
-{
-    node.entries_mut()
-}
 
 /// `KdlNode::push`: the entries afterwards.
 pub fn push(node: &mut KdlNode, entry: KdlEntry) -> Result<(), (KdlEntry, AllocError)>
@@ -55,15 +39,6 @@ pub fn remove(node: &mut KdlNode, key: NodeKey) -> Option<KdlEntry>
     ensures value { result ≡ entry_there (removed_place key (entries_of node.old)) node.old }
 {
     node.remove(key)
-}
-
-/// `KdlNode::retain`: the entries afterwards.
-pub fn retain<F: FnMut(&KdlEntry) -> bool>(node: &mut KdlNode, keep: F)
-    requires { F.IsAlwaysCallable keep }
-    ensures items { IsFiltered (CalledAt F.FnMut) keep
-        (entries_of node.old) (entries_of node.new) }
-{
-    node.retain(keep);
 }
 
 /// `KdlNode::sort_by`: the same entries, of which equal ones keep their order.

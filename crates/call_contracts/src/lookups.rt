@@ -1,16 +1,15 @@
 //! What is looked up, and what look-ups lend.
 
 ghost use Rattle.kdl.specs.DocumentLookups.{dash_arguments_of, node_named};
-ghost use Rattle.kdl.specs.Lookups.{HasSameEntries, HasWritten, entries_of, found_entry, property_place, property_value, with_found_entry};
+ghost use Rattle.kdl.specs.Lookups.{HasSameEntries, HasWritten, found_entry, property_place, property_value, with_found_entry};
 ghost use Rattle.kdl.specs.contracts.node.KdlNode.{the_row};
 ghost use Rattle.kdl_entry.specs.contracts.entry.KdlEntry.{the_row as entry_row};
-ghost use Rattle.kdl_parts.specs.Iterators.{entries_left};
 ghost use Rattle.kdl_value.specs.Tree.{or_null, value_tree};
 ghost use Rattle.kdl_value.specs.contracts.value.KdlValue.{the_row as value_row};
 ghost use Rattle.std.specs.Borrow.{LendsIf, LendsSoOk, sem};
 ghost use Rattle.std.specs.Prelude.{◌≡◌, IfOk, option_map};
 
-use kdl::{DashArgsIter, EntryIterMut, KdlDocument, KdlEntry, KdlNode, KdlValue, NodeKey};
+use kdl::{DashArgsIter, KdlDocument, KdlEntry, KdlNode, KdlValue, NodeKey};
 use std::alloc::AllocError;
 
 /// `KdlDocument::get`.
@@ -45,11 +44,4 @@ pub fn value_or_null<'a>(node: &'a mut KdlNode, name: &str) -> Result<&'a mut Kd
         value_tree v.now ≡ or_null (property_value name.now node.old)) }
 {
     node.get_or_null_mut(name)
-}
-
-/// `KdlNode::iter_mut`: the entries that are left for it.
-pub fn iter_mut(node: &mut KdlNode) -> EntryIterMut<'_>
-    ensures { entries_left result ≡ entries_of node.old }
-{
-    node.iter_mut()
 }

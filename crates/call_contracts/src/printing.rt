@@ -1,14 +1,12 @@
 //! What is printed.
 
 ghost use Rattle.kdl.specs.Tree.{node_prints};
-ghost use Rattle.kdl_entry.specs.Print.{print_entry};
-ghost use Rattle.kdl_entry.specs.Tree.{entry_tree};
 ghost use Rattle.kdl_value.specs.Print.{print_value};
 ghost use Rattle.kdl_value.specs.Tree.{value_tree};
 ghost use Rattle.std.specs.Prelude.{◌≡◌, IfOk, string_bytes};
 ghost use Rattle.std.specs.Str.{encode_utf8_all};
 
-use kdl::{KdlEntry, KdlNode, KdlValue};
+use kdl::{KdlNode, KdlValue};
 use std::alloc::{AllocError, Global};
 
 /// `to_string` of a node.
@@ -16,14 +14,6 @@ pub fn print_node(alloc: Global, node: &KdlNode) -> Result<String, AllocError>
     ensures { IfOk result (λ s. string_bytes s ≡ encode_utf8_all (node_prints node.now)) }
 {
     node.to_string(alloc)
-}
-
-/// `to_string` of an entry.
-pub fn print_entry(alloc: Global, entry: &KdlEntry) -> Result<String, AllocError>
-    ensures { IfOk result
-        (λ s. string_bytes s ≡ encode_utf8_all (print_entry (entry_tree entry.now))) }
-{
-    entry.to_string(alloc)
 }
 
 /// `to_string` of a value.

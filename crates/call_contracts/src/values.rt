@@ -8,20 +8,12 @@ ghost use Rattle.std.specs.Str.{chars};
 
 use kdl::{FloatFailure, KdlFloat, KdlValue};
 use std::alloc::Global;
-use std::cmp::Ordering;
 
 /// `KdlValue::as_integer`.
 pub fn integer(value: &KdlValue) -> Option<i128>
     ensures { result ≡ integer_value (value_tree value.now) }
 {
     value.as_integer()
-}
-
-/// `cmp` of values, which is their order.
-pub fn compare(one: &KdlValue, other: &KdlValue) -> Ordering
-    ensures { result ≡ ⟦<KdlValue as Ord>⟧.cmp one.now other.now }
-{
-    one.cmp(other)
 }
 
 /// `KdlFloat::new`.

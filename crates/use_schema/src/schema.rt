@@ -62,65 +62,32 @@ fn is_named(node: &KdlNode, name: &str) -> bool
     node.name().value() == name
 }
 
-/// Notes a breach.
-fn note(found: &mut Vec<Breach>, span: SourceSpan, what: &'static str) -> Result<(), AllocError> {
-    found.push(Breach { span, what })?;
-    Ok(())
-}
-
 /// Notes what is wrong with a node of that rule, but for its block.
 fn check(rule: &Rule<'_>, node: &KdlNode, found: &mut Vec<Breach>) -> Result<(), AllocError> {
     if !has_arguments(rule, node) {
-        note(found, node.span(), "too few or too many arguments")?;
+        let what = "too few or too many arguments";
+        found.push(Breach {
+            span: node.span(),
+            what,
+        })?;
     }
     for entry in node.iter() {
         if !is_entry(rule, entry) {
             let what = "a property that is not known, or of another type";
-            note(found, entry.span(), what)?;
+            found.push(Breach {
+                span: entry.span(),
+                what,
+            })?;
         }
     }
     Ok(())
 }
 
-/// Whether a node of that name may stand in what the rule is of.
-fn may_stand(above: &Rule<'_>, node: &KdlNode) -> bool {
-    above.children.iter().any(|name| is_named(node, name))
-}
-
-/// The rule of that node's name.
-fn rule_of<'a>(rules: &'a [Rule<'a>], node: &KdlNode) -> Option<&'a Rule<'a>> {
-    rules.iter().find(|rule| is_named(node, rule.name))
-}
-
-/// Nodes that are to be checked, and the rule of what they stand in.
-type Due<'a> = (&'a [KdlNode], &'a Rule<'a>);
-
-/// Notes what is wrong with a node in what that rule is of, and puts its block behind what is due.
-fn check_in<'a>(
-    rules: &'a [Rule<'a>],
-    above: &Rule<'_>,
-    node: &'a KdlNode,
-    due: &mut Vec<Due<'a>>,
-    found: &mut Vec<Breach>,
-) -> Result<(), AllocError> {
-    if !may_stand(above, node) {
-        return note(found, node.span(), "a node that may not stand here");
-    }
-    let Some(rule) = rule_of(rules, node) else {
-        return Ok(());
-    };
-    check(rule, node, found)?;
-    if let Some(block) = node.children() {
-        due.push((block.nodes(), rule))?;
-    }
-    Ok(())
-}
-
 /// Each breach of the rules, the first of which is that of the top; those of a block come behind those of its nodes.
-pub fn breaches<'a>(
+pub fn breaches(
     alloc: Global,
-    rules: &'a [Rule<'a>],
-    document: &'a KdlDocument,
+    rules: &[Rule<'_>],
+    document: &KdlDocument,
 ) -> Result<Vec<Breach>, AllocError> {
     let mut found = Vec::new(alloc);
     let mut due = Vec::new(alloc);
@@ -132,7 +99,18 @@ pub fn breaches<'a>(
             break;
         };
         for node in nodes {
-            check_in(rules, above, node, &mut due, &mut found)?;
+            if !above.children.iter().any(|name| is_named(node, name)) {
+                let what = "a node that may not stand here";
+                found.push(Breach {
+                    span: node.span(),
+                    what,
+                })?;
+            } else if let Some(rule) = rules.iter().find(|rule| is_named(node, rule.name)) {
+                check(rule, node, &mut found)?;
+                if let Some(block) = node.children() {
+                    due.push((block.nodes(), rule))?;
+                }
+            }
         }
     }
     Ok(found)

@@ -20,13 +20,6 @@ pub struct Settings<'a> {
     pub verbose: bool,
 }
 
-/// What holds where a document does not say it.
-const DEFAULTS: Settings<'static> = Settings {
-    host: "",
-    port: 8080,
-    verbose: false,
-};
-
 /// The first argument of the first node of that name.
 fn argument<'a>(document: &'a KdlDocument, name: &str) -> Option<&'a KdlEntry>
     ensures { option_map (λ e. e.now) result ≡ argument_named name.now document.now }
@@ -75,53 +68,32 @@ fn number(entry: &KdlEntry, most: i128) -> Result<i128, SourceSpan>
 /// What was read, or the default, and a note of the fault where it is of another type.
 fn read_or<T: Copy>(
     default: T,
-    read: Result<T, SourceSpan>,
+    read: Option<Result<T, SourceSpan>>,
     wants: &'static str,
     faults: &mut Vec<Fault>,
 ) -> Result<T, AllocError> {
     match read {
-        Ok(value) => Ok(value),
-        Err(span) => {
-            faults.push(Fault { wants, span })?;
-            Ok(default)
-        }
+        Some(Ok(value)) => return Ok(value),
+        Some(Err(span)) => faults.push(Fault { wants, span })?,
+        None => (),
     }
+    Ok(default)
 }
 
-/// The port that the document says, or the default.
-fn port(document: &KdlDocument) -> Result<i128, SourceSpan> {
-    match argument(document, "port") {
-        Some(entry) => number(entry, 65535),
-        None => Ok(DEFAULTS.port),
-    }
-}
-
-/// Whether the document asks for more words, or the default.
-fn verbose(document: &KdlDocument) -> Result<bool, SourceSpan> {
-    match argument(document, "verbose") {
-        Some(entry) => boolean(entry),
-        None => Ok(DEFAULTS.verbose),
-    }
-}
-
-/// The host, which has to be there.
-fn host(document: &KdlDocument) -> Result<&str, SourceSpan> {
-    match argument(document, "host") {
-        Some(entry) => text(entry),
-        None => Err(document.span()),
-    }
-}
-
-/// Reads the settings, and notes what is missing or of another type.
+/// Reads the settings, and notes what is missing or of another type: the host has to be there.
 pub fn load<'a>(
     document: &'a KdlDocument,
     faults: &mut Vec<Fault>,
 ) -> Result<Settings<'a>, AllocError> {
-    let port_wants = "port wants a number from 1 to 65535";
-    let verbose_wants = "verbose wants #true or #false";
+    let host = match argument(document, "host") {
+        Some(entry) => text(entry),
+        None => Err(document.span()),
+    };
+    let port = argument(document, "port").map(|entry| number(entry, 65535));
+    let verbose = argument(document, "verbose").map(boolean);
     Ok(Settings {
-        host: read_or(DEFAULTS.host, host(document), "host wants a text", faults)?,
-        port: read_or(DEFAULTS.port, port(document), port_wants, faults)?,
-        verbose: read_or(DEFAULTS.verbose, verbose(document), verbose_wants, faults)?,
+        host: read_or("", Some(host), "host wants a text", faults)?,
+        port: read_or(8080, port, "port wants a number from 1 to 65535", faults)?,
+        verbose: read_or(false, verbose, "verbose wants #true or #false", faults)?,
     })
 }
