@@ -140,13 +140,18 @@ fn compare_line(case: &Case<'_>, wanted: &str, dump: &Dump) -> Result<(), Fault>
         ("steps", Some(bounds)) => takes(case, wanted, bounds),
         ("same data", Some(other)) => says_the_same(case, wanted, other),
         ("no get", Some(name)) => gets(case, wanted, name, None),
-        (label, Some(text)) if label.starts_with("get ") => {
-            gets(case, wanted, label.trim_start_matches("get "), Some(text))
-        }
-        (label, _) => match Asked::of(wanted) {
-            Some(asked) => lays_out(case, asked),
-            None => Err(case.differs(wanted, dump.came(label))),
+        (label, text) => match (label.strip_prefix("get "), text) {
+            (Some(name), Some(_)) => gets(case, wanted, name, text),
+            (_, _) => compare_layout(case, wanted, dump.came(label)),
         },
+    }
+}
+
+/// The expected line is one of layout, and what it says holds of the text; else this came in its place.
+fn compare_layout(case: &Case<'_>, wanted: &str, came: &str) -> Result<(), Fault> {
+    match Asked::of(wanted) {
+        Some(asked) => lays_out(case, asked),
+        None => Err(case.differs(wanted, came)),
     }
 }
 
