@@ -6,7 +6,7 @@ use Rattle.kdl_grammar.specs.Data as data'
 use Rattle.kdl_grammar.specs.Grammar.{IsDocument}
 use Rattle.kdl_grammar.specs.Tree.{Document, Node}
 use Rattle.kdl_fmt.specs.Canonical.{canonical, Canonical}
-use Rattle.kdl_fmt.specs.Config.{Settings}
+use Rattle.kdl_fmt.specs.Config.{IndentsBySpaces, Settings}
 use Rattle.kdl_fmt.specs.Formatted.{DocumentKeepsNone, NodeKeepsNone}
 use Rattle.kdl_fmt.specs.WithComments.{IsFormattedDocument, IsFormattedNode}
 use Rattle.kdl_fmt.proofs.Formatting.Again.{document_stays, node_stays}
@@ -30,3 +30,10 @@ pub node_twice : {A E : Type 0} (r : Result A E) (s : Settings) (level : ℕ) (n
     → IsFormattedNode s level n x → IfOk r (λ _. IsFormattedNode s level x y) → IfOk r (λ _. IsFormattedNode s level n y)
 node_twice (Ok v) s level n x y ok keep none f g = subst (λ (z : Node). IsFormattedNode s level n z) (sym (node_stays s level ok keep n x y f none g)) f
 node_twice (Err v) s level n x y ok keep none f g = tt
+
+-- of the two documents in sight the second is the first
+pub document_again : (s : Settings) (level : ℕ) (d x y : Document) → IndentsBySpaces s → s.entry_autoformate_keep ≡ false → DocumentKeepsNone d → IsFormattedDocument s level d x → IsFormattedDocument s level x y → y ≡ x
+document_again s level d x y ok keep none f g = document_stays s level ok keep d x y f none g
+
+pub node_again : (s : Settings) (level : ℕ) (n x y : Node) → IndentsBySpaces s → s.entry_autoformate_keep ≡ false → NodeKeepsNone n → IsFormattedNode s level n x → IsFormattedNode s level x y → y ≡ x
+node_again s level n x y ok keep none f g = node_stays s level ok keep n x y f none g

@@ -2,11 +2,11 @@
 //! canonical text.
 
 ghost use Rattle.kdl.specs.Tree.{document_tree, node_tree};
-ghost use Rattle.kdl_fmt.specs.Config.{Settings, settings};
+ghost use Rattle.kdl_fmt.specs.Config.{IndentsBySpaces, Settings, settings};
 ghost use Rattle.kdl_fmt.specs.Formatted.{DocumentKeepsNone, NodeKeepsNone};
 ghost use Rattle.kdl_fmt.specs.WithComments.{IsFormattedDocument, IsFormattedNode};
 ghost use Rattle.kdl_grammar.specs.Print.{print_document};
-ghost use Rattle.kdl_grammar.specs.Tree.{Document, document_data};
+ghost use Rattle.kdl_grammar.specs.Tree.{Document, Node, document_data};
 ghost use Rattle.kdl_text.specs.Chars.{is_space};
 ghost use Rattle.std.specs.List.{list_all};
 ghost use Rattle.std.specs.Prelude.{◌≡◌, ◌↔◌, ℕ, IfOk, false, true};
@@ -56,4 +56,16 @@ pub fn node_laid_out_twice(node: &mut KdlNode, config: &FormatConfig) -> Result<
 pub fn one_layout()
     ensures { (s : Settings) (level : ℕ) (d x y : Document) → IsFormattedDocument s level d x
         → IsFormattedDocument s level d y → x ≡ y }
+{}
+
+/// A second layout changes nothing: where the indent is of spaces and no entry is flagged, what layout makes of what it
+/// made is the same.
+#[tactic(auto, using(crate::proofs::TwoLayouts::document_again, crate::proofs::TwoLayouts::node_again))]
+pub fn second_layout()
+    ensures document { (s : Settings) (level : ℕ) (d x y : Document) → IndentsBySpaces s
+        → s.entry_autoformate_keep ≡ false → DocumentKeepsNone d
+        → IsFormattedDocument s level d x → IsFormattedDocument s level x y → y ≡ x }
+    ensures node { (s : Settings) (level : ℕ) (n x y : Node) → IndentsBySpaces s
+        → s.entry_autoformate_keep ≡ false → NodeKeepsNone n
+        → IsFormattedNode s level n x → IsFormattedNode s level x y → y ≡ x }
 {}
