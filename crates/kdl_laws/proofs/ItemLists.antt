@@ -2,20 +2,23 @@
 use Rattle.std.proofs.Common.{◌≡◌, true, List, [], ◌∷◌, ◌++◌, map}
 use Rattle.std.specs.List.{list_all}
 use Rattle.kdl_text.specs.Chars.{Text, is_space}
-use Rattle.kdl_grammar.specs.Tree.{Document}
+use Rattle.kdl_grammar.specs.Tree.{Document, Node}
 use Rattle.kdl_items.specs.Items.{Item, GapItems, Place, PlaceItems}
 use Rattle.kdl_items.specs.Written.{lines, on_line, tail}
 use Rattle.kdl_items.proofs.Listing.ItemsUnique.{gap_items_det, place_items_det}
 use Rattle.kdl_items.proofs.Rewriting.PlacesAgain.{tail_spaced}
 use Rattle.kdl_items.proofs.Rewriting.LinesAgain.{lines_spaces}
-use Rattle.kdl_fmt.specs.Comments.{DocumentItems}
-use Rattle.kdl_fmt.proofs.Keeping.ListUnique.{document_items_det}
+use Rattle.kdl_fmt.specs.Comments.{DocumentItems, NodeItems}
+use Rattle.kdl_fmt.proofs.Keeping.ListUnique.{document_items_det, node_items_det}
 
 pub one_list : (s : Text) (is js : List Item) → GapItems s is → GapItems s js → is ≡ js
 one_list s is js a b = gap_items_det a b
 
 pub one_list_in_place : (p : Place) (s : Text) (is js : List Item) → PlaceItems p s is → PlaceItems p s js → is ≡ js
 one_list_in_place p s is js a b = place_items_det a b
+
+pub one_list_of_node : (n : Node) (is js : List Item) → NodeItems n is → NodeItems n js → is ≡ js
+one_list_of_node n is js a b = node_items_det a b
 
 pub one_list_of_document : (d : Document) (is js : List Item) → DocumentItems d is → DocumentItems d js → is ≡ js
 one_list_of_document d is js a b = document_items_det a b

@@ -8,5 +8,9 @@ pub mod ErrorEquality
 pub mod ItemLists
 -- What `==` of keys means, on what they look for.
 pub mod KeyEquality
+-- Each document and each node has a list of items.
+pub mod ListExists
+-- A text has a list of items exactly where it may be in its place.
+pub mod PlaceItems
 -- What two layouts make.
 pub mod TwoLayouts

@@ -2,3 +2,5 @@
 pub mod Errors
 -- What keys look for, wherever their names stood.
 pub mod Keys
+-- What the text before the nodes of a document may be.
+pub mod Leading

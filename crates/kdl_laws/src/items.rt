@@ -1,20 +1,62 @@
-//! That a text around nodes or entries has one list of items, and so has a document; and that written items are the items
-//! of what is written.
+//! That a text around nodes or entries has a list of items exactly where it may be in its place, and one list at most;
+//! that a document and a node have one; and that written items are the items of what is written.
 
-ghost use Rattle.kdl_fmt.specs.Comments.{DocumentItems};
-ghost use Rattle.kdl_grammar.specs.Tree.{Document};
-ghost use Rattle.kdl_items.specs.Items.{GapItems, Item, Place, PlaceItems};
+ghost use Rattle.kdl_entry.specs.Places.{EntryLeading};
+ghost use Rattle.kdl_fmt.specs.Comments.{DocumentItems, EndItems, NodeItems};
+ghost use Rattle.kdl_fmt.specs.Config.{Settings};
+ghost use Rattle.kdl_fmt.specs.Formatted.{DocumentKeepsNone, NodeKeepsNone};
+ghost use Rattle.kdl_fmt.specs.Kept.{without_bom};
+ghost use Rattle.kdl_fmt.specs.WithComments.{IsFormattedDocument, IsFormattedNode};
+ghost use Rattle.kdl_grammar.specs.Grammar.{Gap};
+ghost use Rattle.kdl_grammar.specs.Places.{AfterChildren, BeforeChildren};
+ghost use Rattle.kdl_grammar.specs.Tree.{Document, Node};
+ghost use Rattle.kdl_items.specs.Items.{GapItems, Item, Place, PlaceItems, before_block, before_entry, behind_block};
 ghost use Rattle.kdl_items.specs.Written.{lines, on_line, tail};
+ghost use Rattle.kdl_laws.specs.Leading.{DocumentLeading};
 ghost use Rattle.kdl_text.specs.Chars.{Text, is_space};
+ghost use Rattle.kdl_text.specs.Trivia.{LineComment};
 ghost use Rattle.std.specs.List.{list_all};
-ghost use Rattle.std.specs.Prelude.{◌≡◌, ◌++◌, ◌∷◌, [], List, map, true};
+ghost use Rattle.std.specs.Prelude.{◌≡◌, ◌≢◌, ◌↔◌, ◌++◌, ◌∷◌, ℕ, [], List, false, map, true};
 
-/// A gap, a text in a place of a node, and a document have one list of items at most.
-#[tactic(auto, using(crate::proofs::ItemLists::one_list, crate::proofs::ItemLists::one_list_in_place, crate::proofs::ItemLists::one_list_of_document))]
+/// A text has a list of items exactly where it may be in its place: as a gap, before or after a block, before an entry,
+/// or before the nodes of a document. A terminator has an item exactly where it is a line comment.
+pub fn place_has_items()
+    ensures gap { (s : Text) → Gap true s [] ↔ ((is : List Item) × GapItems s is) }
+    ensures before_block { (s : Text) → BeforeChildren s []
+        ↔ ((is : List Item) × PlaceItems before_block s is) }
+    ensures after_block { (s : Text) → AfterChildren s []
+        ↔ ((is : List Item) × PlaceItems behind_block s is) }
+    ensures before_entry { (s : Text) → EntryLeading s []
+        ↔ ((is : List Item) × PlaceItems (before_entry false) s is) }
+    ensures document { (s : Text) → DocumentLeading s
+        ↔ ((is : List Item) × GapItems (without_bom s) is) }
+    ensures terminator { (t : Text) (is : List Item) → EndItems t is
+        → (is ≢ []) ↔ LineComment t [] }
+{}
+
+/// No document and no node is without a list of items, the premise of `CommentsStay` and of `NodeCommentsStay`.
+pub fn has_list()
+    ensures document { (d : Document) → ((is : List Item) → DocumentItems d is → ⊥) → ⊥ }
+    ensures node { (n : Node) → ((is : List Item) → NodeItems n is → ⊥) → ⊥ }
+{}
+
+/// Where layout keeps comments and no entry is flagged, what it lays out has such a list.
+pub fn laid_out_has_list()
+    ensures document { (s : Settings) (level : ℕ) (d x : Document)
+        → s.entry_autoformate_keep ≡ false → s.no_comments ≡ false → DocumentKeepsNone d
+        → IsFormattedDocument s level d x → (is : List Item) × DocumentItems d is }
+    ensures node { (s : Settings) (level : ℕ) (n x : Node)
+        → s.entry_autoformate_keep ≡ false → s.no_comments ≡ false → NodeKeepsNone n
+        → IsFormattedNode s level n x → (is : List Item) × NodeItems n is }
+{}
+
+/// A gap, a text in a place of a node, a node, and a document have one list of items at most.
+#[tactic(auto, using(crate::proofs::ItemLists::one_list, crate::proofs::ItemLists::one_list_in_place, crate::proofs::ItemLists::one_list_of_node, crate::proofs::ItemLists::one_list_of_document))]
 pub fn one_list()
     ensures gap { (s : Text) (is js : List Item) → GapItems s is → GapItems s js → is ≡ js }
     ensures place { (p : Place) (s : Text) (is js : List Item) → PlaceItems p s is
         → PlaceItems p s js → is ≡ js }
+    ensures node { (n : Node) (is js : List Item) → NodeItems n is → NodeItems n js → is ≡ js }
     ensures document { (d : Document) (is js : List Item) → DocumentItems d is → DocumentItems d js
         → is ≡ js }
 {}

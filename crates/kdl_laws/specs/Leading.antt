@@ -1,0 +1,9 @@
+-- What the text before the nodes of a document may be.
+use Rattle.std.specs.Prelude.{true, [], ◌∷◌}
+use Rattle.kdl_text.specs.Chars.{Text}
+use Rattle.kdl_grammar.specs.Grammar.{Gap}
+
+-- the whole text: a gap, and before it U+FEFF or nothing
+pub data DocumentLeading : Text → Type 0 where
+  no_bom : {t : Text} → Gap true t [] → DocumentLeading t
+  after_bom : {t : Text} → Gap true t [] → DocumentLeading (0xFEFF ∷ t)
