@@ -50,6 +50,7 @@ mutual
         → ItemsIn (GapItems (or_empty_document f).trailing) c → DocumentItems (document f span ns) (a ++ b ++ c)
 
 -- the items of the document are, each as it stands on a line, those of the one that is laid in the text
+-- (the laws `has_list`, `laid_out_has_list` and `one_list` of kdl_laws: there is such a list, and one alone)
 abbrev pub CommentsStay : Document → Text → Type 0
 CommentsStay d t = (e : Document) (is : List Item) → DocumentItems d is → LaidDocument true e t → DocumentItems e (map on_line is)
 
