@@ -47,7 +47,7 @@ abbrev pub argument : List Entry → Option Value
 argument [] = None
 argument (e ∷ es) = if is_none e.key then Some e.value else argument es
 
--- the value of the first argument of the first node of that name; later nodes are slashdashed
+-- the value of the first argument of the first node of that name; later nodes are not looked at
 abbrev pub first_argument : Text → Nodes → Option Value
 first_argument name none = None
 first_argument name (first (node ty this es k) ns) = if same_text this name then argument es else first_argument name ns
