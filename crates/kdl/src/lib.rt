@@ -1,8 +1,8 @@
 //! KDL 2 documents: nodes and documents that keep every byte of their form.
 //!
-//! `KdlDocument::parse` reads a text, and what it answers prints the same bytes. Look-ups find nodes by their names, and
-//! a node's entries by the name of a property or by the place among the arguments. An edit changes its own piece of the
-//! printed text alone:
+//! `KdlDocument::parse` reads a text, and what it returns prints the same bytes. Look-ups find nodes by their names, and
+//! a node's entries by the name of a property or by the place among the arguments. An edit of the entries of a node with a
+//! format, as each node that was parsed has one, changes its own piece of the printed text, and no other byte:
 //!
 //! ```
 //! let text = "server {\n    // where it listens\n    port 8080\n}\n";
