@@ -22,3 +22,5 @@ pub mod Texts
 pub mod Stars
 -- What follows a piece is an end of the text.
 pub mod Ends
+-- A cursor that goes into a segment and comes back.
+pub mod Returns

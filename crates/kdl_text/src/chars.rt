@@ -1,17 +1,17 @@
 //! Characters: their classes, and the cursor through which every reader looks at a text.
 //!
-//! A text is looked at by a `Cursor` alone, which counts each look and each byte of a slice.
+//! A text is looked at by a `Cursor` alone, which counts each look and each byte of a slice. A slice is a `Piece`: it is
+//! copied, or compared as a whole. What is read again is a `Segment`: a cursor enters it, and counts each look in it.
 
 ghost use Rattle.kdl_text.specs.Chars as class;
 ghost use Rattle.kdl_text.specs.Chars.{Text, Newline};
-ghost use Rattle.kdl_text.specs.Internal.Here.{Here, Ahead, Behind, Skips, Took, Ate, AteTwo, Stayed, first, first_len, tail, looked, stepped, sliced, counted, in_class, RunOf, AsciiOf};
+ghost use Rattle.kdl_text.specs.Internal.Here.{Here, Ahead, Behind, Skips, Took, Ate, AteTwo, Stayed, first, first_len, tail, looked, stepped, sliced, in_class, RunOf, AsciiOf};
 ghost use Rattle.kdl_text.specs.Spans.{bytes, raise};
 ghost use Rattle.kdl_text.specs.Internal.Tables.{TableOf};
 ghost use Rattle.kdl_text.specs.Internal.Reading.{Moves, Costs, ReadsNewline};
 ghost use Rattle.kdl_text.specs.Spans as spans;
 ghost use Rattle.std.specs.Char.{len_utf8};
-ghost use Rattle.std.specs.Prelude.{◌≡◌, ℕ, Bool, true, ◌+◌, ◌-◌, ◌<◌, ◌^◌, ◌++◌, ◌∷◌, [], length, MatchOption, IfSome, IfOk, IsTrue, ◌↔◌, string_bytes, nat_lt, not, ◌&&◌};
-ghost use Rattle.std.specs.List.{list_all};
+ghost use Rattle.std.specs.Prelude.{◌≡◌, ℕ, true, ◌+◌, ◌-◌, ◌<◌, ◌^◌, ◌++◌, ◌∷◌, [], length, MatchOption, IfSome, IfOk, IsTrue, ◌↔◌, string_bytes, nat_lt, not, ◌&&◌};
 ghost use Rattle.std.specs.Str.{chars, IsUtf8};
 
 use crate::span::SourceSpan;
@@ -258,7 +258,7 @@ impl Steps {
 
     /// Raises the count by so many steps, up to the greatest `u64`.
     #[inline]
-    pub(crate) fn raise(&mut self, by: u64)
+    fn raise(&mut self, by: u64)
         ensures { self.new ≡ raise self.old by }
     {
         self.count = self.count.saturating_add(by);
@@ -416,17 +416,14 @@ impl<'a> Checkpoint<'a> {
         }
     }
 
-    /// The place behind the character here; the same place at the end of the text. No step.
-    pub(crate) fn next(&self) -> Checkpoint<'a>
-        ensures rest { result.rest ≡ tail self.now.rest }
-        ensures at { result.at ≡ self.now.at + first_len self.now.rest }
+    /// The text from the place up to another one, for a cursor to enter. No step.
+    #[inline]
+    pub fn up_to(&self, end: &Checkpoint<'a>) -> Segment<'a>
+        requires { Ahead self.now end.now }
+        ensures { self.now.rest ≡ result ++ end.now.rest }
     {
-        match split_first(self.rest) {
-            Some((c, rest)) => Checkpoint {
-                rest,
-                at: self.at + c.len_utf8(),
-            },
-            None => self.copied(),
+        Segment {
+            text: cut(self.rest, end.rest),
         }
     }
 
@@ -456,7 +453,22 @@ impl<'a> Checkpoint<'a> {
     }
 }
 
-/// A piece of a text, whose slice was counted.
+/// A segment of a text, which a cursor enters to read it again. It shows nothing of the text by itself.
+#[derive(Drop)]
+pub struct Segment<'a> {
+    text: &'a str,
+}
+
+impl<'a> Model for Segment<'a> {
+    ghost use Rattle.kdl_text.specs.Chars.{Text};
+    ghost use Rattle.std.specs.Str.{chars};
+
+    ghost Value = { Text };
+
+    ghost view = { λ s. chars s.text.now };
+}
+
+/// A piece of a text, whose slice was counted. It is copied, or compared as a whole.
 #[derive(Drop)]
 pub struct Piece<'a> {
     text: &'a str,
@@ -494,48 +506,6 @@ impl<'a> Piece<'a> {
         ensures { IsTrue result ↔ (self.now ≡ chars text.now) }
     {
         same(self.text, text)
-    }
-
-    /// The same piece once more.
-    #[inline]
-    pub(crate) fn copied(&self) -> Piece<'a>
-        ensures { result ≡ self.now }
-    {
-        Piece { text: self.text }
-    }
-
-    /// How many bytes the piece has.
-    #[inline]
-    pub(crate) fn len(&self) -> usize
-        ensures { result ≡ bytes self.now }
-    {
-        byte_len(self.text)
-    }
-
-    /// Whether each character of the piece is of the class.
-    pub(crate) fn is_all(&self, class: Class) -> bool
-        ensures { result ≡ list_all (in_class class) self.now }
-    {
-        let (rest, _) = skip_class(self.text, class);
-        first_char(rest).is_none()
-    }
-
-    /// The first character, and the piece behind it.
-    #[inline]
-    pub(crate) fn split_first(&self) -> Option<(char, Piece<'a>)>
-        ensures { MatchOption result (self.now ≡ []) (λ (c, rest). self.now ≡ c ∷ rest) }
-    {
-        match split_first(self.text) {
-            Some((c, text)) => Some((c, Piece { text })),
-            None => None,
-        }
-    }
-
-    /// A cursor over the piece, on the given count.
-    pub fn cursor(&self, steps: Steps) -> Cursor<'a>
-        ensures { result ≡ record { rest = self.now; at = 0; steps = steps } }
-    {
-        Cursor::new(self.text, steps)
     }
 }
 
@@ -587,11 +557,12 @@ impl<'a> Cursor<'a> {
         self.at
     }
 
-    /// Counts so many steps more, for what was read beside the text.
-    pub fn raise(&mut self, by: u64)
-        ensures { self.new ≡ counted by self.old }
+    /// Counts a look at a token that was read here. A step.
+    #[inline]
+    pub fn count_look(&mut self)
+        ensures { self.new ≡ looked self.old }
     {
-        self.steps.raise(by);
+        self.steps.raise(1);
     }
 
     /// Where the cursor stands, to slice from there.
@@ -616,6 +587,20 @@ impl<'a> Cursor<'a> {
     {
         self.rest = place.rest;
         self.at = place.at;
+    }
+
+    /// Goes to the start of a segment, at whose end the text ends for the cursor. Gives the place where the cursor was,
+    /// to which it goes back by `go_to`. No step.
+    pub fn enter(&mut self, segment: &Segment<'a>) -> Checkpoint<'a>
+        ensures inside { self.new ≡ record { rest = segment.now; at = 0; steps = self.old.steps } }
+        ensures rest { result.rest ≡ self.old.rest }
+        ensures at { result.at ≡ self.old.at }
+    {
+        let _len = segment.text.len();
+        let place = self.checkpoint();
+        self.rest = segment.text;
+        self.at = 0;
+        place
     }
 
     /// The character here; none at the end of the text. A step.
@@ -736,6 +721,16 @@ impl<'a> Cursor<'a> {
         let text = cut(from.rest, to.rest);
         self.steps.raise(text.len() as u64);
         Piece { text }
+    }
+
+    /// The text from here to its end. A step for each of its bytes.
+    #[inline]
+    pub fn slice_rest(&mut self) -> Piece<'a>
+        ensures result { result ≡ self.old.rest }
+        ensures moved { self.new ≡ sliced result self.old }
+    {
+        self.steps.raise(byte_len(self.rest) as u64);
+        Piece { text: self.rest }
     }
 }
 

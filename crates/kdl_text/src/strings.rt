@@ -5,7 +5,7 @@
 ghost use Rattle.kdl_text.specs.Bare as bare;
 ghost use Rattle.kdl_text.specs.Bare.{BareString};
 ghost use Rattle.kdl_text.specs.Chars.{Text, is_digit, is_identifier_char, is_literal, is_newline_char, is_sign, starts, within};
-ghost use Rattle.kdl_text.specs.Internal.Here.{in_class};
+ghost use Rattle.kdl_text.specs.Internal.Here.{Counted, in_class};
 ghost use Rattle.kdl_text.specs.MultiLine.{IsQuoted};
 ghost use Rattle.kdl_text.specs.Internal.Reading.{Moves, Costs};
 ghost use Rattle.kdl_text.specs.Strings as spec;
@@ -106,35 +106,39 @@ fn is_excluded(piece: &Piece) -> bool
         || is_word(piece, "nan")
 }
 
-/// Whether a point may stand before the identifier characters in a bare string.
-fn follows_point(rest: &Piece) -> bool
-    ensures { result ≡ bare.after_point rest.now }
+/// Whether what comes next may follow a point in a bare string.
+fn follows_point(cursor: &mut Cursor) -> bool
+    ensures result { result ≡ bare.after_point cursor.old.rest }
+    ensures counted { Counted 1 cursor.old cursor.new }
 {
-    match rest.split_first() {
-        Some((c, _)) => !is_digit(c),
+    match cursor.take() {
+        Some(c) => !is_digit(c),
         None => true,
     }
 }
 
-/// Whether a sign may stand before the identifier characters in a bare string.
-fn follows_sign(rest: &Piece) -> bool
-    ensures { result ≡ bare.after_sign rest.now }
+/// Whether what comes next may follow a sign in a bare string.
+fn follows_sign(cursor: &mut Cursor) -> bool
+    ensures result { result ≡ bare.after_sign cursor.old.rest }
+    ensures counted { Counted 2 cursor.old cursor.new }
 {
-    match rest.split_first() {
-        Some(('.', behind)) => follows_point(&behind),
-        Some((c, _)) => !is_digit(c),
+    match cursor.take() {
+        Some('.') => follows_point(cursor),
+        Some(c) => !is_digit(c),
         None => true,
     }
 }
 
-/// Whether identifier characters are a bare string.
-fn has_bare_form(piece: &Piece) -> bool
-    ensures { result ≡ bare.bare_form piece.now }
+/// Whether the identifier characters from here to the end of the text are a bare string. They are this word.
+fn has_bare_form(word: &Piece, cursor: &mut Cursor) -> bool
+    requires { word.now ≡ cursor.old.rest }
+    ensures result { result ≡ bare.bare_form word.now }
+    ensures counted { Counted 3 cursor.old cursor.new }
 {
-    match piece.split_first() {
-        Some(('+' | '-', rest)) => follows_sign(&rest),
-        Some(('.', rest)) => follows_point(&rest),
-        Some((c, _)) => !is_digit(c) && !is_excluded(piece),
+    match cursor.take() {
+        Some('+' | '-') => follows_sign(cursor),
+        Some('.') => follows_point(cursor),
+        Some(c) => !is_digit(c) && !is_excluded(word),
         None => false,
     }
 }
@@ -150,12 +154,12 @@ pub fn bare_string<'a>(cursor: &mut Cursor<'a>) -> Option<Piece<'a>>
     ensures costs { Costs 2 4 cursor.old cursor.new }
     ensures cost { IfSome result (λ _. Costs 24 0 cursor.old cursor.new) }
 {
-    let piece = run_of(Class::Identifier, cursor);
-    if has_bare_form(&piece) {
-        Some(piece)
-    } else {
-        None
-    }
+    let start = cursor.checkpoint();
+    let word = run_of(Class::Identifier, cursor);
+    let place = cursor.enter(&start.up_to(&cursor.checkpoint()));
+    let is_bare = has_bare_form(&word, cursor);
+    cursor.go_to(&place);
+    if is_bare { Some(word) } else { None }
 }
 
 fn is_blank(c: char) -> bool

@@ -1,7 +1,7 @@
 -- Runs of characters of a class.
-use Rattle.std.proofs.Common.{◌≡◌, ℕ, ◌+◌, ◌≤◌, List, [], ◌∷◌, ◌++◌, Bool, true, false, length, refl, ap, sym, ◌∙◌, arith, append_assoc, append-nil, length-append, not, ◌&&◌}
+use Rattle.std.proofs.Common.{◌≡◌, ℕ, ◌+◌, ◌≤◌, List, [], ◌∷◌, ◌++◌, Bool, true, false, length, refl, ap, sym, ◌∙◌, arith, append_assoc, length-append, not, ◌&&◌}
 use Rattle.std.specs.Prelude.{nat_lt, Option, Some, None, is_some}
-use Rattle.std.proofs.lemmas.Bool.{and_parts}
+use Rattle.std.proofs.lemmas.Bool.{and_parts, false≢true}
 use Rattle.std.proofs.lemmas.List.Folds.{list_all-append}
 use Rattle.std.proofs.lemmas.Str.{len_utf8_bounds}
 use Rattle.std.specs.List.{list_all}
@@ -54,27 +54,10 @@ run_stops p old s r c n i e h = record { run = i.run; text = i.text; all = i.all
 pub run_ends : (p : ℕ → Bool) (old s : List ℕ) (n : ℕ) → SoFar p old s n → chars s ≡ [] → RunOf p old s n
 run_ends p old s n i e = record { run = i.run; text = i.text; all = i.all; stops = ap (starts p) e; len = i.len; count_is = i.count_is }
 
-not_all : (p : ℕ → Bool) (run : Text) (c : ℕ) (t : Text) → p c ≡ false → list_all p (run ++ (c ∷ t)) ≡ false
-not_all p [] c t h = ap (λ b. b && list_all p t) h
-not_all p (x ∷ run) c t h = rw (not_all p run c t h) (never (p x))
-  where
-    never : (b : Bool) → (b && false) ≡ false
-    never true = refl
-    never false = refl
-
-not_same : (a b : Bool) → not a ≡ not b → a ≡ b
-not_same true true e = refl
-not_same false false e = refl
-not_same true false e = cc
-not_same false true e = cc
-
--- whether all characters are of the class, where the run of those leaves r
-pub all_or_not : (p : ℕ → Bool) (s r : List ℕ) (n : ℕ) (o : Option ℕ) (b : Bool) → RunOf p s r n → o ≡ first (chars r) → is_some o ≡ not b → b ≡ list_all p (chars s)
-all_or_not p s r n o b i e h = not_same b (list_all p (chars s)) (sym h ∙ ap is_some e ∙ go (chars r) i.text i.stops)
-  where
-    go : (q : Text) → chars s ≡ i.run ++ q → starts p q ≡ false → is_some (first q) ≡ not (list_all p (chars s))
-    go [] e h = sym (ap not (ap (list_all p) (e ∙ append-nil i.run) ∙ i.all))
-    go (c ∷ q) e h = sym (ap not (ap (list_all p) e ∙ not_all p i.run c q h))
+-- a character is there
+pub one_there : (s : Text) (o : Option ℕ) (b : Bool) → o ≡ first s → is_some o ≡ not b → b ≡ false → 1 ≤ bytes s
+one_there [] o b e h k = absurd (false≢true (sym (ap is_some e) ∙ h ∙ ap not k))
+one_there (c ∷ s) o b e h k = omega (arith, (len_utf8_bounds c).0)
 
 ascii_run : (p : ℕ → Bool) (old s : List ℕ) (n : ℕ) → AsciiOf p old s n → starts p (chars s) ≡ false → RunOf p old s n
 ascii_run p old s n i h = record { run = i.run; text = i.text; all = i.all; stops = h; len = omega (arith, i.len, i.bytes_is); count_is = sym i.count_is }

@@ -4,7 +4,6 @@ use Rattle.std.proofs.lemmas.Bool.{false≢true, true≢false}
 use Rattle.std.proofs.lemmas.List.{append_cancel_left, map-append, take-append-drop, take_all, take_more}
 use Rattle.std.proofs.Math.Seq.{drop-cons}
 use Rattle.std.specs.Bool.{Decides}
-use Rattle.std.specs.Prelude.{Result, Ok, Err, OnOk}
 use Rattle.kdl_text.specs.Raw.{literals}
 use Rattle.kdl_text.specs.Chars.{Text}
 use Rattle.kdl_text.specs.Dedent.{is_blank_line, unit_text, line_text, onto_first, lines_of, LineValue, blank, dedented, LineValues, none, more, joined, Dedents}
@@ -157,10 +156,10 @@ pub first_literal : (p : Text) (u : LineUnit) (m : List LineUnit) → literals p
 first_literal [] u m e = cc
 first_literal (c ∷ p) u m e = (c, cc)
 
--- the value of a line that is not blank and begins with the prefix
-pub dedented_value : {T E : Type 0} (r : Result T E) (ps us : List LineUnit) (old new : Text) → is_blank_line us ≡ false → OnOk r ((m : List LineUnit) × (us ≡ ps ++ m) × (new ≡ old ++ line_text m)) → OnOk r ((v : Text) × LineValue ps us v × (new ≡ old ++ v))
-dedented_value (Ok x) ps us old new b (m, e, f) = (line_text m, dedented m b e refl, f)
-dedented_value (Err x) ps us old new b h = tt
+-- a line that is not blank and has not the prefix
+pub no_value : (ps us : List LineUnit) (v : Text) → is_blank_line us ≡ false → ((m : List LineUnit) → us ≡ ps ++ m → ⊥) → LineValue ps us v → ⊥
+no_value ps us v b lacks (blank a e) = true≢false (sym a ∙ b)
+no_value ps us v b lacks (dedented m a e f) = lacks m e
 
 pub literals_text : (p : Text) → line_text (literals p) ≡ p
 literals_text [] = refl

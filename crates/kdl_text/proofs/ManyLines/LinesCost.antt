@@ -1,36 +1,40 @@
 -- What the lines of a string and their dedent cost.
-use Rattle.std.proofs.Common.{◌≡◌, ℕ, ◌+◌, ◌≤◌, length, ap, arith}
-use Rattle.kdl_text.specs.Internal.Here.{Here, counted}
+use Rattle.std.proofs.Common.{ℕ, ◌+◌, ◌*◌, ◌≤◌, length, ap, arith}
+use Rattle.kdl_text.specs.Chars.{Text}
+use Rattle.kdl_text.specs.Internal.Here.{Here, Returned}
+use Rattle.kdl_text.specs.Internal.Lines.{CostsWith}
 use Rattle.kdl_text.specs.Spans.{bytes}
 use Rattle.kdl_text.specs.Internal.Reading.{Moves, Costs}
 use Rattle.kdl_text.proofs.Looking.MovesJoin.{fewer_bytes, moves_then}
+use Rattle.kdl_text.proofs.Looking.Returns.{moves_returned}
 
--- a newline, lines of n looks, and their dedent
-pub dedent_moves : (a m e h : Here) (k : ℕ) → Moves a m → Moves m e → h ≡ counted k e → Moves a h
-dedent_moves a m e h k v w is = let x = moves_then v w in rw is (record { piece = x.piece; at = x.at; counts = omega (arith, x.counts) })
+-- a newline, lines whose dedent takes n steps, and their dedent
+pub dedent_moves : (n : ℕ) (a m e h : Here) → Moves a m → Moves m e → Returned n e h → Moves a h
+dedent_moves n a m e h v w r = moves_then v (moves_then w (moves_returned r))
 
-pub lines_cost : (a m e h : Here) (k n : ℕ) → Moves a m → Costs 2 1 a m → Moves m e → Costs 3 1 m e → n + bytes e.rest ≤ bytes m.rest → k ≤ 0 + n → h ≡ counted k e → Costs 4 4 a h
-lines_cost a m e h k n v c w d few under is =
-    let x = fewer_bytes v in
-    let s = ap (λ z. z.steps) is in
-    let r = ap (λ z. z.rest) is in
-    record {
-      most = omega (arith, c.most, d.most, s, ap bytes r);
-      least = omega (arith, c.least, d.least, s, ap length r);
-    }
+pub lines_cost : (c n : ℕ) (a m e h : Here) → 2 ≤ c → Moves a m → Costs 2 1 a m → CostsWith n m e → Returned (n + 1) e h → Costs 4 c a h
+lines_cost c n a m e h le v k d r = record {
+  most = omega (arith, fewer_bytes v, k.most, d.most, r.most, ap bytes r.rest, le);
+  least = omega (arith, k.least, d.least, r.counts, ap length r.rest);
+}
 
-pub raw_lines_cost : (a m e h : Here) (k n : ℕ) → Moves a m → Costs 2 1 a m → Moves m e → Costs 3 2 m e → n + bytes e.rest ≤ bytes m.rest → k ≤ 0 + n → h ≡ counted k e → Costs 4 5 a h
-raw_lines_cost a m e h k n v c w d few under is =
-    let x = fewer_bytes v in
-    let s = ap (λ z. z.steps) is in
-    let r = ap (λ z. z.rest) is in
-    record {
-      most = omega (arith, c.most, d.most, s, ap bytes r);
-      least = omega (arith, c.least, d.least, s, ap length r);
-    }
+pub lines_fail : (c : ℕ) (a m e : Here) → 2 ≤ c → Moves a m → Costs 2 1 a m → Costs 4 1 m e → Costs 4 c a e
+lines_fail c a m e le v k d = record { most = omega (arith, fewer_bytes v, k.most, d.most, le); least = omega (arith, k.least, d.least) }
 
-pub lines_fail : (a m e : Here) → Moves a m → Costs 2 1 a m → Moves m e → Costs 3 1 m e → Costs 4 4 a e
-lines_fail a m e v c w d = let x = fewer_bytes v in let y = fewer_bytes w in record { most = omega (arith, c.most, d.most); least = omega (arith, c.least, d.least) }
+-- lines that were read, and one that was not
+pub lines_stop : (n : ℕ) (f a b : Here) → CostsWith n f a → Costs 4 1 a b → Costs 4 1 f b
+lines_stop n f a b i k = record { most = omega (arith, i.most, k.most); least = omega (arith, i.least, k.least) }
 
-pub raw_lines_fail : (a m e : Here) → Moves a m → Costs 2 1 a m → Moves m e → Costs 3 2 m e → Costs 4 5 a e
-raw_lines_fail a m e v c w d = let x = fewer_bytes v in let y = fewer_bytes w in record { most = omega (arith, c.most, d.most); least = omega (arith, c.least, d.least) }
+pub two_in_four : {a b : Here} → Moves a b → Costs 2 1 a b → Costs 4 1 a b
+two_in_four m k = record { most = omega (arith, fewer_bytes m, k.most); least = k.least }
+
+pub three_in_four : {a b : Here} → Moves a b → Costs 3 1 a b → Costs 4 1 a b
+three_in_four m k = record { most = omega (arith, fewer_bytes m, k.most); least = k.least }
+
+-- a line without escapes, of the piece p
+pub plain_costs : (p : Text) (a b : Here) → Costs 2 0 a b → bytes p + 1 + bytes b.rest ≤ bytes a.rest → CostsWith (2 * (bytes p + 1)) a b
+plain_costs p a b k s = record { most = omega (arith, k.most, s); least = k.least }
+
+-- lines that were read, without their dedent
+pub lines_read : (n : ℕ) (f a : Here) → CostsWith n f a → Costs 4 1 f a
+lines_read n f a i = record { most = omega (arith, i.most); least = i.least }

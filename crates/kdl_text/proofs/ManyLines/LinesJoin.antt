@@ -8,10 +8,9 @@ use Rattle.std.specs.List.{list_all}
 use Rattle.kdl_text.specs.Chars.{Text, is_space}
 use Rattle.kdl_text.specs.Dedent.{is_blank_line, onto_first, lines_of}
 use Rattle.kdl_text.specs.Internal.Here.{Here}
-use Rattle.kdl_text.specs.Spans.{bytes}
-use Rattle.kdl_text.specs.Internal.Lines.{line_units, line_len, lines_len, is_one_line, ReadsLine}
+use Rattle.kdl_text.specs.Internal.Lines.{CostsWith, line_units, line_steps, lines_steps, is_one_line, ReadsLine}
 use Rattle.kdl_text.specs.Raw.{literals}
-use Rattle.kdl_text.specs.Internal.Reading.{Moves, Costs, Goes}
+use Rattle.kdl_text.specs.Internal.Reading.{Moves, Goes}
 use Rattle.kdl_text.specs.declared.strings.dedent.Line.{Line}
 use Rattle.kdl_text.specs.declared.strings.dedent.LineUnit.{LineUnit}
 use Rattle.kdl_text.specs.declared.strings.dedent.LineUnit.TheVariants.{Literal, Escape, LineEnd}
@@ -52,27 +51,26 @@ lines_ended (x ∷ ls) l h k =
 all_more : (ls : List (List LineUnit)) (l : List LineUnit) → list_all is_one_line ls ≡ true → is_one_line l ≡ true → list_all is_one_line (ls ++ (l ∷ [])) ≡ true
 all_more ls l h k = rw (list_all-append is_one_line ls (l ∷ []), h, k) refl
 
-pub lines_len-append : (ls ks : List Line) → lines_len (ls ++ ks) ≡ lines_len ls + lines_len ks
-lines_len-append [] ks = omega arith
-lines_len-append (l ∷ ls) ks = omega (arith, lines_len-append ls ks)
+pub lines_steps-append : (ls ks : List Line) → lines_steps (ls ++ ks) ≡ lines_steps ls + lines_steps ks
+lines_steps-append [] ks = omega arith
+lines_steps-append (l ∷ ls) ks = omega (arith, lines_steps-append ls ks)
+
+line_steps-more : (ls : List Line) (l : Line) → lines_steps (ls ++ (l ∷ [])) ≡ lines_steps ls + line_steps l
+line_steps-more ls l = omega (arith, lines_steps-append ls (l ∷ []))
 
 -- the lines read so far of an X
 pub record InLines (X : Text → Text → List LineUnit → Type 0) (f a : Here) (ls : List Line) : Type 0 where
   pub goes : Goes X f.rest (ended (map line_units ls)) a.rest
   pub inside : list_all is_one_line (map line_units ls) ≡ true
   pub moves : Moves f a
-  pub costs : Costs 3 0 f a
-  pub shorter : lines_len ls + bytes a.rest ≤ bytes f.rest
+  pub costs : CostsWith (lines_steps ls) f a
 
-module _ (X : Text → Text → List LineUnit → Type 0) (f a b : Here) (ls : List Line) (l : Line) (i : InLines X f a ls) (m : Moves a b) (k : Costs 3 0 a b) (s : line_len l + 1 + bytes b.rest ≤ bytes a.rest) where
+module _ (X : Text → Text → List LineUnit → Type 0) (f a b : Here) (ls : List Line) (l : Line) (i : InLines X f a ls) (m : Moves a b) (k : CostsWith (line_steps l) a b) where
   with_line : map line_units (ls ++ (l ∷ [])) ≡ map line_units ls ++ (line_units l ∷ [])
   with_line = map-append line_units ls (l ∷ [])
 
-  fewer : lines_len (ls ++ (l ∷ [])) + bytes b.rest ≤ bytes f.rest
-  fewer = omega (arith, i.shorter, s, lines_len-append ls (l ∷ []))
-
-  costs_on : Costs 3 0 f b
-  costs_on = record { most = omega (arith, i.costs.most, k.most); least = omega (arith, i.costs.least, k.least) }
+  costs_on : CostsWith (lines_steps (ls ++ (l ∷ []))) f b
+  costs_on = record { most = omega (arith, i.costs.most, k.most, line_steps-more ls l); least = omega (arith, i.costs.least, k.least) }
 
   -- a line and its newline
   pub lines_turn : ReadsLine X false a.rest (line_units l) b.rest → (new : List Line) → new ≡ ls ++ (l ∷ []) → InLines X f b new
@@ -81,24 +79,22 @@ module _ (X : Text → Text → List LineUnit → Type 0) (f a b : Here) (ls : L
     inside = ap (list_all is_one_line) with_line ∙ all_more (map line_units ls) (line_units l) i.inside one;
     moves = moves_then i.moves m;
     costs = costs_on;
-    shorter = fewer;
   })
 
   -- the last line, and what ends an X
   pub lines_close : ReadsLine X true a.rest (line_units l) b.rest → (new : List Line) → new ≡ ls ++ (l ∷ [])
-      → ((us : List LineUnit) × X f.rest b.rest us × (lines_of us ≡ map line_units new)) × Moves f b × Costs 3 0 f b × (lines_len new + bytes b.rest ≤ bytes f.rest)
+      → ((us : List LineUnit) × X f.rest b.rest us × (lines_of us ≡ map line_units new)) × Moves f b × CostsWith (lines_steps new) f b
   lines_close (one, x) new e = rw e (
     (ended (map line_units ls) ++ line_units l, i.goes.on b.rest (line_units l) x, lines_ended (map line_units ls) (line_units l) i.inside one ∙ sym with_line),
     moves_then i.moves m,
     costs_on,
-    fewer,
   )
 
-pub lines_len_take : (ls : List Line) (n : ℕ) → lines_len (take n ls) ≤ lines_len ls
-lines_len_take ls n = omega (arith, ap lines_len (take-append-drop n ls), lines_len-append (take n ls) (drop n ls))
+pub lines_steps_take : (ls : List Line) (n : ℕ) → lines_steps (take n ls) ≤ lines_steps ls
+lines_steps_take ls n = omega (arith, ap lines_steps (take-append-drop n ls), lines_steps-append (take n ls) (drop n ls))
 
-pub last_len : (ls front : List Line) (l : Line) → ls ≡ front ++ (l ∷ []) → lines_len front + (line_len l + 1) ≡ lines_len ls
-last_len ls front l e = omega (arith, ap lines_len e, lines_len-append front (l ∷ []))
+pub last_steps : (ls front : List Line) (l : Line) → ls ≡ front ++ (l ∷ []) → lines_steps front + line_steps l ≡ lines_steps ls
+last_steps ls front l e = omega (arith, ap lines_steps e, line_steps-more front l)
 
 -- the first line, and of the others the one at i
 module _ (ls : List Line) (first : Line) (others : List Line) (e : ls ≡ first ∷ others) where

@@ -6,7 +6,7 @@ use Rattle.std.proofs.lemmas.Str.{len_utf8_bounds}
 use Rattle.std.specs.List.{list_all}
 use Rattle.std.specs.Prelude.{Some, None}
 use Rattle.kdl_text.specs.Chars.{Text, Newline, begins, begins_two, is_literal, is_newline_char}
-use Rattle.kdl_text.specs.Internal.Here.{Here, Took, Ate, Skips, sliced}
+use Rattle.kdl_text.specs.Internal.Here.{Here, Took, Ate, Skips}
 use Rattle.kdl_text.specs.Spans.{bytes}
 use Rattle.kdl_text.specs.Internal.Lines.{ReadsLine}
 use Rattle.kdl_text.specs.MultiLine.{quote, line, Content, close}
@@ -19,7 +19,7 @@ use Rattle.kdl_text.proofs.Looking.ValueGoes.{goes_start, goes_then, goes_none}
 use Rattle.kdl_text.proofs.Looking.MovesJoin.{moves_then, moves_one, moves_stayed, stayed_looked, fewer_bytes, bytes-append}
 use Rattle.kdl_text.proofs.ManyLines.LinesJoin.{literals_inside}
 use Rattle.kdl_text.proofs.ManyLines.LinesUnique.{goes_content, content_empty, content_unit, literal_unit, no_unit}
-use Rattle.kdl_text.proofs.Looking.SliceCost.{ended, moves_ran, costs_ran, moves_sliced}
+use Rattle.kdl_text.proofs.Looking.SliceCost.{ended, moves_ran, costs_ran}
 
 goes_literals : (p s r : Text) → list_all is_literal p ≡ true → s ≡ p ++ r → Goes Content s (literals p) r
 goes_literals [] s r h e = rw e (goes_start Content r)
@@ -92,17 +92,17 @@ module _ (f a : Here) (i : InPlain f a) (c : ℕ) (b : Here) (t : Took (Some c) 
   whole p e = append_cancel_right i.read p a.rest (sym i.text ∙ e)
 
   -- three quotes
-  pub plain_close : (d g h : Here) (p : Text) → c ≡ 34 → Ate 34 true b d → Ate 34 true d g → f.rest ≡ p ++ a.rest → h ≡ sliced p g
-      → ReadsLine Content true f.rest (literals p) h.rest × (bytes p + 1 + bytes h.rest ≤ bytes f.rest) × Moves f h × Costs 3 0 f h
-  plain_close d g h p is u v e made =
+  pub plain_close : (d g : Here) (p : Text) → c ≡ 34 → Ate 34 true b d → Ate 34 true d g → f.rest ≡ p ++ a.rest
+      → ReadsLine Content true f.rest (literals p) g.rest × (bytes p + 1 + bytes g.rest ≤ bytes f.rest) × Moves f g × Costs 2 0 f g
+  plain_close d g p is u v e =
       let same = whole p e in
       let text : a.rest ≡ 34 ∷ 34 ∷ 34 ∷ g.rest = t.0 ∙ ap (λ z. z ∷ b.rest) is ∙ ap (λ z. 34 ∷ z) (u.0 ∙ ap (λ z. 34 ∷ z) v.0) in
       let found : Content f.rest g.rest (literals i.read) = subst (Content f.rest g.rest) (append-nil (literals i.read)) (i.goes.on g.rest [] (subst (λ z. Content z g.rest []) (sym text) close)) in
       let moved : Moves f g = moves_then i.moves (moves_then (moves_one t) (moves_then (moves_one u) (moves_one v))) in
-      rw (made, ← same) (
+      rw (← same) (
         (literals_inside i.read, found),
         omega (arith, ap bytes i.text, bytes-append i.read a.rest, ap bytes t.0, ap bytes u.0, ap bytes v.0, (len_utf8_bounds c).0),
-        moves_sliced i.read f g (sliced i.read g) refl moved,
+        moved,
         record {
           most = omega (arith, i.costs.most, ap bytes i.text, bytes-append i.read a.rest, ap bytes t.0, t.2, (len_utf8_bounds c).0, ap bytes u.0, u.2, ap bytes v.0, v.2, (len_utf8_bounds 34).0);
           least = omega (arith, i.costs.least, ap length t.0, t.2, ap length u.0, u.2, ap length v.0, v.2);
@@ -110,15 +110,15 @@ module _ (f a : Here) (i : InPlain f a) (c : ℕ) (b : Here) (t : Took (Some c) 
       )
 
   -- a backslash
-  pub plain_escape : (h : Here) (p : Text) → c ≡ 92 → f.rest ≡ p ++ a.rest → h ≡ sliced p b
-      → Goes Content f.rest (literals p) (92 ∷ h.rest) × (bytes p + 1 + bytes h.rest ≤ bytes f.rest) × Moves f h × Costs 3 0 f h
-  plain_escape h p is e made =
+  pub plain_escape : (p : Text) → c ≡ 92 → f.rest ≡ p ++ a.rest
+      → Goes Content f.rest (literals p) (92 ∷ b.rest) × (bytes p + 1 + bytes b.rest ≤ bytes f.rest) × Moves f b × Costs 2 0 f b
+  plain_escape p is e =
       let same = whole p e in
       let text : a.rest ≡ 92 ∷ b.rest = t.0 ∙ ap (λ z. z ∷ b.rest) is in
-      rw (made, ← same) (
+      rw (← same) (
         subst (Goes Content f.rest (literals i.read)) text i.goes,
         omega (arith, ap bytes i.text, bytes-append i.read a.rest, ap bytes t.0, (len_utf8_bounds c).0),
-        moves_sliced i.read f b (sliced i.read b) refl (moves_then i.moves (moves_one t)),
+        moves_then i.moves (moves_one t),
         record {
           most = omega (arith, i.costs.most, ap bytes i.text, bytes-append i.read a.rest, ap bytes t.0, t.2, (len_utf8_bounds c).0);
           least = omega (arith, i.costs.least, ap length t.0, t.2);
@@ -126,16 +126,16 @@ module _ (f a : Here) (i : InPlain f a) (c : ℕ) (b : Here) (t : Took (Some c) 
       )
 
   -- a newline
-  pub plain_newline : (d h : Here) (p : Text) → Newline (c ∷ b.rest) d.rest → Moves b d → Costs 1 1 b d → f.rest ≡ p ++ a.rest → h ≡ sliced p d
-      → ReadsLine Content false f.rest (literals p) h.rest × (bytes p + 1 + bytes h.rest ≤ bytes f.rest) × Moves f h × Costs 3 0 f h
-  plain_newline d h p n m k e made =
+  pub plain_newline : (d : Here) (p : Text) → Newline (c ∷ b.rest) d.rest → Moves b d → Costs 1 1 b d → f.rest ≡ p ++ a.rest
+      → ReadsLine Content false f.rest (literals p) d.rest × (bytes p + 1 + bytes d.rest ≤ bytes f.rest) × Moves f d × Costs 2 0 f d
+  plain_newline d p n m k e =
       let same = whole p e in
       let x = fewer_bytes m in
       let end : Goes Content a.rest (LineEnd ∷ []) d.rest = subst (λ z. Goes Content z (LineEnd ∷ []) d.rest) (sym t.0) (goes_content (line n)) in
-      rw (made, ← same) (
+      rw (← same) (
         (literals_inside i.read, goes_then i.goes end),
         omega (arith, ap bytes i.text, bytes-append i.read a.rest, ap bytes t.0, (len_utf8_bounds c).0, x),
-        moves_sliced i.read f d (sliced i.read d) refl (moves_then i.moves (moves_then (moves_one t) m)),
+        moves_then i.moves (moves_then (moves_one t) m),
         record {
           most = omega (arith, i.costs.most, ap bytes i.text, bytes-append i.read a.rest, ap bytes t.0, t.2, (len_utf8_bounds c).0, k.most, x);
           least = omega (arith, i.costs.least, ap length t.0, t.2, k.least);
@@ -143,7 +143,7 @@ module _ (f a : Here) (i : InPlain f a) (c : ℕ) (b : Here) (t : Took (Some c) 
       )
 
   -- a character that may not stand there
-  pub plain_stuck : (c ≡ 34 → ⊥) → (c ≡ 92 → ⊥) → is_newline_char c ≡ false → is_literal c ≡ false → ((r : Text) (us : List LineUnit) → Content f.rest r us → ⊥) × Moves f b × Costs 3 1 f b
+  pub plain_stuck : (c ≡ 34 → ⊥) → (c ≡ 92 → ⊥) → is_newline_char c ≡ false → is_literal c ≡ false → ((r : Text) (us : List LineUnit) → Content f.rest r us → ⊥) × Moves f b × Costs 2 1 f b
   plain_stuck x34 x92 nl lit = (
     λ r us x.
         let (v, e, rest) = i.goes.back r us x in
@@ -154,7 +154,7 @@ module _ (f a : Here) (i : InPlain f a) (c : ℕ) (b : Here) (t : Took (Some c) 
   )
 
 -- the end of the text
-pub plain_over : (f a b : Here) → InPlain f a → Took None a b → ((r : Text) (us : List LineUnit) → Content f.rest r us → ⊥) × Moves f b × Costs 3 1 f b
+pub plain_over : (f a b : Here) → InPlain f a → Took None a b → ((r : Text) (us : List LineUnit) → Content f.rest r us → ⊥) × Moves f b × Costs 2 1 f b
 plain_over f a b i t =
     let (v, k) = ended t in
     let x = fewer_bytes i.moves in

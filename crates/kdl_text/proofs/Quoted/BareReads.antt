@@ -4,13 +4,14 @@ use Rattle.std.proofs.lemmas.Bool.{and_parts, false≢true}
 use Rattle.std.specs.List.{list_all}
 use Rattle.kdl_text.specs.Chars.{Text, is_identifier_char, starts}
 use Rattle.kdl_text.specs.Bare.{BareString, bare, is_bare, bare_form}
-use Rattle.kdl_text.specs.Internal.Here.{Here}
+use Rattle.kdl_text.specs.Internal.Here.{Here, Returned}
 use Rattle.kdl_text.specs.Spans.{bytes}
 use Rattle.kdl_text.specs.Internal.Reading.{Costs}
 use Rattle.kdl_text.specs.Strings.{Run}
-use Rattle.kdl_text.proofs.Looking.MovesJoin.{bytes-append}
+use Rattle.kdl_text.proofs.Looking.MovesJoin.{bytes-append, costs_then}
 use Rattle.kdl_text.proofs.Looking.Runs.{length-bytes}
 use Rattle.kdl_text.proofs.Looking.SliceCost.{all_of_run}
+use Rattle.kdl_text.proofs.Looking.Returns.{costs_returned}
 use Rattle.kdl_text.proofs.Quoted.UnitUnique.{run_same}
 
 bare_parts : (w : Text) → is_bare w ≡ true → (list_all is_identifier_char w ≡ true) × (bare_form w ≡ true)
@@ -56,10 +57,11 @@ module _ (x t r : Text) (i : Run is_identifier_char t r) (e : t ≡ x ++ r) wher
       let (ends, same) = past_only s w (bare f h k) in
       false≢true (sym v ∙ ap bare_form (sym same) ∙ (bare_parts w h).1)
 
-pub past_costs : {a e : Here} → Costs 2 1 a e → Costs 2 4 a e
-past_costs k = record { most = omega (arith, k.most); least = k.least }
+-- the run, and looks at its front
+pub past_costs : (a e d : Here) → Costs 2 1 a e → Returned 3 e d → Costs 2 4 a d
+past_costs a e d k r = costs_then 2 1 3 a e d k (costs_returned 2 3 e d r)
 
-pub past_cost : (x : Text) (a e : Here) → a.rest ≡ x ++ e.rest → bare_form x ≡ true → Costs 2 1 a e → Costs 24 0 a e
-past_cost x a e t v k =
+pub past_cost : (x : Text) (a e d : Here) → a.rest ≡ x ++ e.rest → bare_form x ≡ true → Costs 2 1 a e → Returned 3 e d → Costs 24 0 a d
+past_cost x a e d t v k r =
     let n = some_form x v in
-    record { most = omega (arith, k.most, ap bytes t, bytes-append x e.rest, length-bytes x); least = k.least }
+    record { most = omega (arith, k.most, ap bytes t, bytes-append x e.rest, length-bytes x, r.most, ap bytes r.rest); least = omega (arith, k.least, r.counts, ap length r.rest) }

@@ -1,11 +1,12 @@
 -- The lines of raw strings of many lines.
 use Rattle.std.proofs.Common.{◌≡◌, ℕ, zero, suc, ◌+◌, ◌-◌, ◌<◌, ◌≤◌, true, false, List, [], ◌∷◌, ◌++◌, length, refl, sym, ap, ◌∙◌, subst, arith, append_assoc}
+use Rattle.std.proofs.lemmas.Bool.{false≢true}
 use Rattle.std.proofs.lemmas.List.{append_cancel_right}
 use Rattle.std.proofs.lemmas.Str.{len_utf8_bounds}
-use Rattle.std.specs.Prelude.{Some, None}
+use Rattle.std.specs.Prelude.{Some, None, Bool}
 use Rattle.kdl_text.specs.Chars.{Text, Newline, begins, begins_with, times, is_newline_char, is_raw, is_unquoted}
-use Rattle.kdl_text.specs.Internal.Here.{Here, Took, Skips, sliced, tail}
-use Rattle.kdl_text.specs.Spans.{bytes}
+use Rattle.kdl_text.specs.Internal.Here.{Here, Took, Ate, Skips, Returned, tail}
+use Rattle.kdl_text.specs.Spans.{bytes, raise}
 use Rattle.kdl_text.specs.Internal.Lines.{ReadsLine}
 use Rattle.kdl_text.specs.Raw.{closing, literals, line, RawUnits, none, more, RawContent, content}
 use Rattle.kdl_text.specs.Internal.Reading.{Moves, Costs}
@@ -16,7 +17,7 @@ use Rattle.kdl_text.proofs.Looking.MovesJoin.{stays, moves_then, moves_one, fewe
 use Rattle.kdl_text.proofs.ManyLines.LinesJoin.{literals_inside}
 use Rattle.kdl_text.proofs.RawStrings.LineLoop.{unquoted_pass}
 use Rattle.kdl_text.proofs.RawStrings.RawUnique.{raw_over, goes_raw, raw_char, raw_content_unit, no_raw_unit}
-use Rattle.kdl_text.proofs.Looking.SliceCost.{ended, moves_ran, costs_ran, moves_sliced}
+use Rattle.kdl_text.proofs.Looking.SliceCost.{ended, moves_ran, costs_ran}
 
 times_front : (m c : ℕ) (x : Text) → c ∷ (times m c ++ x) ≡ times m c ++ (c ∷ x)
 times_front zero c x = refl
@@ -26,10 +27,19 @@ three_front : (m : ℕ) (x : Text) → 34 ∷ 34 ∷ 34 ∷ (times m 34 ++ x) �
 three_front m x = ap (λ z. 34 ∷ 34 ∷ z) (times_front m 34 x) ∙ ap (λ z. 34 ∷ z) (times_front m 34 (34 ∷ x)) ∙ times_front m 34 (34 ∷ 34 ∷ x)
 
 -- one quote less
-pub one_behind : (n i : ℕ) (s r t : Text) → i < n → s ≡ times (n - i) 34 ++ t → r ≡ tail s → r ≡ times (n - (i + 1)) 34 ++ t
-one_behind n i s r t h e f =
-    let m : n - i ≡ suc (n - (i + 1)) = omega arith in
-    f ∙ ap tail (e ∙ ap (λ k. times k 34 ++ t) m)
+pub one_behind : (n i : ℕ) (o : Bool) (a b : Here) (t : Text) → i < n → Ate 34 o a b → a.rest ≡ times (n - i) 34 ++ t → b.rest ≡ times (n - (i + 1)) 34 ++ t
+one_behind n i o a b t h did e = go o did
+  where
+    there : a.rest ≡ 34 ∷ (times (n - (i + 1)) 34 ++ t)
+    there = let m : n - i ≡ suc (n - (i + 1)) = omega arith in e ∙ ap (λ k. times k 34 ++ t) m
+
+    go : (o : Bool) → Ate 34 o a b → b.rest ≡ times (n - (i + 1)) 34 ++ t
+    go true (r, at, s) = ap tail (sym r ∙ there)
+    go false (x, l) = absurd (false≢true (sym x ∙ ap (begins 34) there))
+
+pub one_look : (c : ℕ) (o : Bool) (a b : Here) → Ate c o a b → (b.steps ≤ a.steps + 1) × (raise a.steps 0 ≤ raise b.steps 0)
+one_look c true a b t = (omega (arith, t.2), omega (arith, t.2))
+one_look c false a b (n, e) = let s = ap (λ z. z.steps) e in (omega (arith, s), omega (arith, s))
 
 pub no_more_behind : (n i : ℕ) (s t : Text) → n ≤ i → s ≡ times (n - i) 34 ++ t → s ≡ t
 no_more_behind n i s t h e = let m : n - i ≡ 0 = omega arith in e ∙ ap (λ k. times k 34 ++ t) m
@@ -74,6 +84,13 @@ quotes_bytes (suc k) = omega (arith, quotes_bytes k, (len_utf8_bounds 34).0)
 -- two quotes or more, and number signs
 pub signs_cost : (k : ℕ) (a b d : Here) → a.rest ≡ times k 34 ++ b.rest → 2 ≤ k → Costs 1 1 a b → Moves b d → Costs 1 1 b d → Costs 2 1 a d
 signs_cost k a b d t h x m y = record { most = omega (arith, x.most, y.most, fewer_bytes m, ap bytes t, bytes-append (times k 34) b.rest, quotes_bytes k); least = omega (arith, x.least, y.least) }
+
+-- and the quotes before the closing once more
+pub closing_cost : (k : ℕ) (a b d e : Here) → a.rest ≡ times k 34 ++ b.rest → 2 ≤ k → Costs 1 1 a b → Moves b d → Costs 1 1 b d → Returned (k - 2) d e → Costs 2 1 a e
+closing_cost k a b d e t h x m y r = record {
+  most = omega (arith, x.most, y.most, fewer_bytes m, ap bytes t, bytes-append (times k 34) b.rest, quotes_bytes k, r.most, ap bytes r.rest);
+  least = omega (arith, x.least, y.least, r.counts, ap length r.rest);
+}
 
 -- the line read so far
 pub record InRaw (n : ℕ) (f a : Here) : Type 0 where
@@ -123,17 +140,16 @@ module _ (n : ℕ) (f a : Here) (i : InRaw n f a) (c : ℕ) (b : Here) (t : Took
     raw_ahead = (i.read ++ found.0, before)
 
     -- the closing
-    pub raw_close : (h : Here) (p : Text) → f.rest ≡ p ++ r → h ≡ sliced p d
-        → ReadsLine (RawContent (closing 3 n)) true f.rest (literals p) h.rest × (bytes p + 1 + bytes h.rest ≤ bytes f.rest) × Moves f h × Costs 3 0 f h
-    raw_close h p e made =
+    pub raw_close : (p : Text) → f.rest ≡ p ++ r → ReadsLine (RawContent (closing 3 n)) true f.rest (literals p) d.rest × (bytes p + 1 + bytes d.rest ≤ bytes f.rest) × Moves f d × Costs 2 0 f d
+    raw_close p e =
         let is : i.read ++ found.0 ≡ p = append_cancel_right (i.read ++ found.0) p r (sym before ∙ e) in
         let here : RawUnits (closing 3 n) a.rest r (literals found.0) = subst (λ z. RawUnits (closing 3 n) z r (literals found.0)) same found.2 in
         let units : RawUnits (closing 3 n) f.rest r (literals (i.read ++ found.0)) = subst (RawUnits (closing 3 n) f.rest r) (sym (literals-append i.read found.0)) (units_then i.units here) in
         let l = part_costs d k in
-        rw (made, ← is) (
+        rw (← is) (
           (literals_inside (i.read ++ found.0), content units found.3),
           omega (arith, ap bytes before, bytes-append (i.read ++ found.0) r, ap bytes found.3, (len_utf8_bounds 34).0, bytes-append (times n 35) d.rest),
-          moves_sliced (i.read ++ found.0) f d (sliced (i.read ++ found.0) d) refl (moves_then i.moves (moves_then (moves_one t) m)),
+          moves_then i.moves (moves_then (moves_one t) m),
           record {
             most = omega (arith, i.costs.most, l.most, ap bytes before, bytes-append (i.read ++ found.0) r, ap bytes found.3, bytes-append (times n 35) d.rest);
             least = omega (arith, i.costs.least, l.least);
@@ -141,16 +157,16 @@ module _ (n : ℕ) (f a : Here) (i : InRaw n f a) (c : ℕ) (b : Here) (t : Took
         )
 
   -- a newline
-  pub raw_newline : (d h : Here) (p : Text) → Newline (c ∷ b.rest) d.rest → Moves b d → Costs 1 1 b d → f.rest ≡ p ++ a.rest → h ≡ sliced p d
-      → ReadsLine (RawContent (closing 3 n)) false f.rest (literals p) h.rest × (bytes p + 1 + bytes h.rest ≤ bytes f.rest) × Moves f h × Costs 3 0 f h
-  raw_newline d h p nl m k e made =
+  pub raw_newline : (d : Here) (p : Text) → Newline (c ∷ b.rest) d.rest → Moves b d → Costs 1 1 b d → f.rest ≡ p ++ a.rest
+      → ReadsLine (RawContent (closing 3 n)) false f.rest (literals p) d.rest × (bytes p + 1 + bytes d.rest ≤ bytes f.rest) × Moves f d × Costs 2 0 f d
+  raw_newline d p nl m k e =
       let same : i.read ≡ p = append_cancel_right i.read p a.rest (sym i.text ∙ e) in
       let x = fewer_bytes m in
       let end : RawUnits (closing 3 n) a.rest d.rest (LineEnd ∷ []) = subst (λ z. RawUnits (closing 3 n) z d.rest (LineEnd ∷ [])) (sym t.0) (more (line nl) none) in
-      rw (made, ← same) (
+      rw (← same) (
         (literals_inside i.read, goes_raw (units_then i.units end)),
         omega (arith, ap bytes i.text, bytes-append i.read a.rest, ap bytes t.0, (len_utf8_bounds c).0, x),
-        moves_sliced i.read f d (sliced i.read d) refl (moves_then i.moves (moves_then (moves_one t) m)),
+        moves_then i.moves (moves_then (moves_one t) m),
         record {
           most = omega (arith, i.costs.most, ap bytes i.text, bytes-append i.read a.rest, ap bytes t.0, t.2, (len_utf8_bounds c).0, k.most, x);
           least = omega (arith, i.costs.least, ap length t.0, t.2, k.least);
@@ -158,7 +174,7 @@ module _ (n : ℕ) (f a : Here) (i : InRaw n f a) (c : ℕ) (b : Here) (t : Took
       )
 
   -- a character that may not stand there
-  pub raw_stuck : (c ≡ 34 → ⊥) → is_newline_char c ≡ false → is_raw c ≡ false → ((r : Text) (us : List LineUnit) → RawContent (closing 3 n) f.rest r us → ⊥) × Moves f b × Costs 3 1 f b
+  pub raw_stuck : (c ≡ 34 → ⊥) → is_newline_char c ≡ false → is_raw c ≡ false → ((r : Text) (us : List LineUnit) → RawContent (closing 3 n) f.rest r us → ⊥) × Moves f b × Costs 2 1 f b
   raw_stuck ne nl bad = (
     λ r us x.
         let (v, e, rest) = (goes_raw i.units).back r us x in
@@ -169,7 +185,7 @@ module _ (n : ℕ) (f a : Here) (i : InRaw n f a) (c : ℕ) (b : Here) (t : Took
   )
 
 -- the end of the text
-pub raw_runs_out : (n : ℕ) (f a b : Here) → InRaw n f a → Took None a b → ((r : Text) (us : List LineUnit) → RawContent (closing 3 n) f.rest r us → ⊥) × Moves f b × Costs 3 1 f b
+pub raw_runs_out : (n : ℕ) (f a b : Here) → InRaw n f a → Took None a b → ((r : Text) (us : List LineUnit) → RawContent (closing 3 n) f.rest r us → ⊥) × Moves f b × Costs 2 1 f b
 raw_runs_out n f a b i t =
     let (v, k) = ended t in
     let x = fewer_bytes i.moves in

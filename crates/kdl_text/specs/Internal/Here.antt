@@ -1,5 +1,5 @@
 -- A place in a text that is read from left to right, and what a cursor's calls do to it.
-use Rattle.std.specs.Prelude.{◌≡◌, ℕ, ◌+◌, ◌-◌, nat_lt, ◌&&◌, List, [], ◌∷◌, ◌++◌, length, Bool, true, false, not, Option, Some, None}
+use Rattle.std.specs.Prelude.{◌≡◌, ℕ, ◌+◌, ◌≤◌, nat_lt, ◌&&◌, List, [], ◌∷◌, ◌++◌, length, Bool, true, false, not, Option, Some, None}
 use Rattle.std.specs.List.{list_all}
 use Rattle.std.specs.Char.{len_utf8}
 use Rattle.std.specs.Str.{chars}
@@ -38,10 +38,6 @@ first_len (c ∷ s) = len_utf8 c
 abbrev pub looked : Here → Here
 looked h = record h { steps = raise h.steps 1 }
 
--- after so many steps more
-abbrev pub counted : ℕ → Here → Here
-counted k h = record h { steps = raise h.steps k }
-
 -- past one character, if there is one
 abbrev pub stepped : Here → Here
 stepped h = record { rest = tail h.rest; at = h.at + first_len h.rest; steps = h.steps }
@@ -73,6 +69,18 @@ pub record Stayed (k : ℕ) (old new : Here) : Type 0 where
   pub rest : new.rest ≡ old.rest
   pub at : new.at ≡ old.at
   pub steps : new.steps ≡ raise old.steps k
+
+-- at most k steps were counted, and the count did not fall
+pub record Counted (k : ℕ) (old new : Here) : Type 0 where
+  pub most : new.steps ≤ old.steps + k
+  pub counts : raise old.steps 0 ≤ raise new.steps 0
+
+-- the cursor is back where it was, and at most k steps were counted
+pub record Returned (k : ℕ) (old new : Here) : Type 0 where
+  pub rest : new.rest ≡ old.rest
+  pub at : new.at ≡ old.at
+  pub most : new.steps ≤ old.steps + k
+  pub counts : raise old.steps 0 ≤ raise new.steps 0
 
 -- past the characters a and b
 pub record TookTwo (a b : ℕ) (old new : Here) : Type 0 where

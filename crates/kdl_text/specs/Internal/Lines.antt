@@ -1,9 +1,10 @@
 -- Lines of strings of many lines, as they are read.
-use Rattle.std.specs.Prelude.{◌≡◌, ℕ, ◌+◌, Bool, true, false, not, List, [], ◌∷◌, ◌++◌, length}
+use Rattle.std.specs.Prelude.{◌≡◌, ℕ, ◌+◌, ◌*◌, ◌≤◌, Bool, true, false, not, List, [], ◌∷◌, ◌++◌, length}
 use Rattle.std.specs.List.{list_all}
 use Rattle.kdl_text.specs.Chars.{Text}
 use Rattle.kdl_text.specs.Dedent.{is_line_end}
-use Rattle.kdl_text.specs.Spans.{bytes}
+use Rattle.kdl_text.specs.Spans.{bytes, raise}
+use Rattle.kdl_text.specs.Internal.Here.{Here}
 use Rattle.kdl_text.specs.Raw.{literals}
 use Rattle.kdl_text.specs.Internal.Reading.{Goes}
 use Rattle.kdl_text.specs.declared.strings.dedent.Line.{Line}
@@ -18,15 +19,29 @@ abbrev pub line_units : Line → List LineUnit
 line_units (Plain p) = literals p
 line_units (Units us) = us.items
 
--- how many steps a line takes
-abbrev pub line_len : Line → ℕ
-line_len (Plain p) = bytes p
-line_len (Units us) = length us.items
+-- how many bytes of a line are read again when it is dedented
+abbrev pub bytes_again : Line → ℕ
+bytes_again (Plain p) = bytes p
+bytes_again (Units us) = 0
 
--- and how many lines take, with one more for each
-abbrev pub lines_len : List Line → ℕ
-lines_len [] = 0
-lines_len (line ∷ lines) = line_len line + 1 + lines_len lines
+-- how many steps that takes at most
+abbrev pub line_steps : Line → ℕ
+line_steps line = 2 * (bytes_again line + 1)
+
+-- and how many steps lines take
+abbrev pub lines_steps : List Line → ℕ
+lines_steps [] = 0
+lines_steps (line ∷ lines) = line_steps line + lines_steps lines
+
+-- at most 4 steps for each byte that was read, of which k are to come, and at least one for each character
+pub record CostsWith (k : ℕ) (old new : Here) : Type 0 where
+  pub most : new.steps + k + 4 * bytes new.rest ≤ old.steps + 4 * bytes old.rest
+  pub least : raise old.steps (length old.rest) ≤ raise new.steps (length new.rest)
+
+-- s begins with the units as characters, and r follows them; or s does not begin with them
+abbrev pub EatsUnits : List LineUnit → Bool → Text → Text → Type 0
+EatsUnits us true s r = literals s ≡ us ++ literals r
+EatsUnits us false s r = (m : List LineUnit) → literals s ≡ us ++ m → ⊥
 
 -- no unit is a newline
 abbrev pub is_one_line : List LineUnit → Bool

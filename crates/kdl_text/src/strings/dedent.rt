@@ -1,15 +1,20 @@
 //! Dedent: the value of the lines of a multi-line string.
 
+ghost use Rattle.kdl_text.specs.Chars.{is_space};
 ghost use Rattle.kdl_text.specs.Dedent as spec;
 ghost use Rattle.kdl_text.specs.Dedent.{Dedents, LineValue, LineValues, joined, lines_of};
-ghost use Rattle.kdl_text.specs.Internal.Lines.{line_len, lines_len, line_units};
+ghost use Rattle.kdl_text.specs.Internal.Here.{Counted, Returned};
+ghost use Rattle.kdl_text.specs.Internal.Lines.{EatsUnits, bytes_again, line_steps, line_units, lines_steps};
+ghost use Rattle.kdl_text.specs.Internal.Reading.{Moves, Costs};
 ghost use Rattle.kdl_text.specs.Raw.{literals};
+ghost use Rattle.kdl_text.specs.Spans.{bytes};
 ghost use Rattle.kdl_text.specs.declared.strings.StringFailure.TheVariants.{Memory};
 ghost use Rattle.kdl_text.specs.declared.strings.dedent.LineUnit.{LineUnit};
-ghost use Rattle.std.specs.Prelude.{◌≡◌, ◌++◌, ◌∷◌, [], ◌+◌, ◌≤◌, ◌↔◌, List, ℕ, length, map, take, string_bytes, option_to_list, IsTrue, IfOk, IfErr, OnOk, MatchOption, MatchResult};
+ghost use Rattle.std.specs.Prelude.{◌≡◌, ◌++◌, ◌∷◌, [], ◌+◌, ◌*◌, ◌≤◌, ◌↔◌, List, ℕ, false, true, length, map, take, string_bytes, option_to_list, IsTrue, IfOk, IfErr, OnOk, MatchResult};
+ghost use Rattle.std.specs.List.{list_all};
 ghost use Rattle.std.specs.Str.{chars};
 
-use crate::chars::{Class, Piece, Steps, is_space};
+use crate::chars::{Class, Cursor, Segment, is_space};
 use crate::strings::{StringFailure, StringFault};
 use std::alloc::{AllocError, Global};
 
@@ -28,7 +33,7 @@ pub enum LineUnit {
 #[derive(Drop)]
 pub enum Line<'a> {
     /// One without escapes.
-    Plain(Piece<'a>),
+    Plain(Segment<'a>),
     /// The units of one with escapes.
     Units(Vec<LineUnit>),
 }
@@ -49,16 +54,31 @@ pub fn push_unit(units: &mut Vec<LineUnit>, unit: LineUnit) -> Result<(), AllocE
     Ok(())
 }
 
-/// Appends the characters of the piece, each of which stands for itself.
-pub fn push_literals(units: &mut Vec<LineUnit>, piece: &Piece) -> Result<(), AllocError>
-    ensures { IfOk result (λ _. units.new.items ≡ units.old.items ++ literals piece.now) }
+/// Appends the characters from here to the end of the text, each of which stands for itself.
+fn push_chars(units: &mut Vec<LineUnit>, cursor: &mut Cursor) -> Result<(), AllocError>
+    ensures pushed { IfOk result (λ _. units.new.items ≡ units.old.items ++ literals cursor.old.rest) }
+    ensures moves { Moves cursor.old cursor.new }
+    ensures costs { Costs 1 1 cursor.old cursor.new }
 {
-    let mut rest = piece.copied();
-    'chars: while let Some((c, next)) = rest.split_first() {
+    'chars: while let Some(c) = cursor.take() {
         push_unit(units, LineUnit::Literal(c))?;
-        rest = next;
     }
     Ok(())
+}
+
+/// Appends the characters of the segment, each of which stands for itself.
+pub fn push_literals<'a>(
+    units: &mut Vec<LineUnit>,
+    segment: &Segment<'a>,
+    cursor: &mut Cursor<'a>,
+) -> Result<(), AllocError>
+    ensures pushed { IfOk result (λ _. units.new.items ≡ units.old.items ++ literals segment.now) }
+    ensures returned { Returned (bytes segment.now + 1) cursor.old cursor.new }
+{
+    let place = cursor.enter(segment);
+    let pushed = push_chars(units, cursor);
+    cursor.go_to(&place);
+    pushed
 }
 
 fn is_space_unit(unit: LineUnit) -> bool
@@ -70,33 +90,58 @@ fn is_space_unit(unit: LineUnit) -> bool
     }
 }
 
-/// Whether the line is spaces alone.
-fn is_blank(line: &Line) -> bool
-    ensures { result ≡ spec.is_blank_line (line_units line.now) }
+/// Goes past spaces. Whether the text ends after them.
+fn is_all_space(cursor: &mut Cursor) -> bool
+    ensures result { result ≡ list_all is_space cursor.old.rest }
+    ensures counted { Counted (bytes cursor.old.rest + 2) cursor.old cursor.new }
+    ensures fewer { result ≡ false
+        → cursor.new.steps ≤ cursor.old.steps + bytes cursor.old.rest + 1 }
 {
-    match line {
-        Line::Plain(piece) => piece.is_all(Class::Space),
-        Line::Units(units) => units.iter().all(|unit| is_space_unit(*unit)),
-    }
+    cursor.skip(Class::Space);
+    cursor.look().is_none()
 }
 
-/// How many steps the line takes: one for each byte of a plain one, and for each unit of another.
-fn step_count(line: &Line) -> usize
-    ensures { result ≡ line_len line.now }
+/// Whether the segment is spaces alone.
+fn is_space_segment<'a>(segment: &Segment<'a>, cursor: &mut Cursor<'a>) -> bool
+    ensures result { result ≡ list_all is_space segment.now }
+    ensures returned { Returned (bytes segment.now + 2) cursor.old cursor.new }
+{
+    let place = cursor.enter(segment);
+    let is_all = is_all_space(cursor);
+    cursor.go_to(&place);
+    is_all
+}
+
+/// Whether the units are spaces alone.
+fn is_space_units(units: &[LineUnit]) -> bool
+    ensures { result ≡ spec.is_blank_line units.now }
+{
+    units.iter().all(|unit| is_space_unit(*unit))
+}
+
+/// Whether the line is spaces alone.
+fn is_blank<'a>(line: &Line<'a>, cursor: &mut Cursor<'a>) -> bool
+    ensures result { result ≡ spec.is_blank_line (line_units line.now) }
+    ensures returned { Returned (bytes_again line.now + 2) cursor.old cursor.new }
 {
     match line {
-        Line::Plain(piece) => piece.len(),
-        Line::Units(units) => units.len(),
+        Line::Plain(segment) => is_space_segment(segment, cursor),
+        Line::Units(units) => is_space_units(units),
     }
 }
 
 /// The units of the line.
-fn units_of(alloc: Global, line: &Line) -> Result<Vec<LineUnit>, AllocError>
-    ensures { IfOk result (λ us. us.items ≡ line_units line.now) }
+fn units_of<'a>(
+    alloc: Global,
+    line: &Line<'a>,
+    cursor: &mut Cursor<'a>,
+) -> Result<Vec<LineUnit>, AllocError>
+    ensures units { IfOk result (λ us. us.items ≡ line_units line.now) }
+    ensures returned { Returned (bytes_again line.now + 1) cursor.old cursor.new }
 {
     let mut units = Vec::new(alloc);
     match line {
-        Line::Plain(piece) => push_literals(&mut units, piece)?,
+        Line::Plain(segment) => push_literals(&mut units, segment, cursor)?,
         Line::Units(others) => units.extend_from_slice(others)?,
     }
     Ok(units)
@@ -132,18 +177,21 @@ fn push_text(out: &mut String, units: &[LineUnit]) -> Result<(), AllocError>
     Ok(())
 }
 
-/// Appends the text of units behind the prefix.
+/// Appends the value of a line of units.
 fn push_units(
     out: &mut String,
     prefix: &[LineUnit],
     units: &[LineUnit],
 ) -> Result<(), StringFailure>
     ensures done { OnOk result
-        ((m : List LineUnit) × (units.now ≡ prefix.now ++ m)
-        × (chars (string_bytes out.new) ≡ chars (string_bytes out.old) ++ spec.line_text m)) }
+        ((v : List ℕ) × LineValue prefix.now units.now v
+        × (chars (string_bytes out.new) ≡ chars (string_bytes out.old) ++ v)) }
     ensures failed { IfErr result
-        (λ e. (e ≡ Memory → ⊥) → (m : List LineUnit) → units.now ≡ prefix.now ++ m → ⊥) }
+        (λ e. (e ≡ Memory → ⊥) → (v : List ℕ) → LineValue prefix.now units.now v → ⊥) }
 {
+    if is_space_units(units) {
+        return Ok(());
+    }
     if units.len() < prefix.len() || !begins(units, prefix) {
         return Err(StringFailure::Fault(StringFault::NoPrefix));
     }
@@ -151,72 +199,105 @@ fn push_units(
     Ok(())
 }
 
-/// What stands behind the unit, where the characters begin with it.
-fn behind_unit<'a>(unit: LineUnit, piece: &Piece<'a>) -> Option<Piece<'a>>
-    ensures { MatchOption result ((m : List LineUnit) → literals piece.now ≡ unit ∷ m → ⊥)
-        (λ rest. literals piece.now ≡ unit ∷ literals rest) }
+/// Goes past the unit's character, if it comes next. Whether it does.
+fn eat_unit(unit: LineUnit, cursor: &mut Cursor) -> bool
+    ensures eats { EatsUnits (unit ∷ []) result cursor.old.rest cursor.new.rest }
+    ensures moves { Moves cursor.old cursor.new }
+    ensures costs { Costs 1 1 cursor.old cursor.new }
+    ensures cost { result ≡ true → Costs 1 0 cursor.old cursor.new }
 {
-    let LineUnit::Literal(c) = unit else {
-        return None;
-    };
-    let Some((d, rest)) = piece.split_first() else {
-        return None;
-    };
-    if c == d { Some(rest) } else { None }
+    match unit {
+        LineUnit::Literal(c) => cursor.eat(c),
+        _ => false,
+    }
 }
 
-/// What stands behind the prefix, where the characters begin with it.
-fn behind_prefix<'a>(prefix: &[LineUnit], piece: &Piece<'a>) -> Option<Piece<'a>>
-    ensures { MatchOption result ((m : List LineUnit) → literals piece.now ≡ prefix.now ++ m → ⊥)
-        (λ rest. literals piece.now ≡ prefix.now ++ literals rest) }
+/// Goes past the prefix, if it comes next, and else past a part of it. Whether it does.
+fn eat_prefix(prefix: &[LineUnit], cursor: &mut Cursor) -> bool
+    ensures eats { EatsUnits prefix.now result cursor.old.rest cursor.new.rest }
+    ensures moves { Moves cursor.old cursor.new }
+    ensures costs { Costs 1 1 cursor.old cursor.new }
+    ensures cost { result ≡ true → Costs 1 0 cursor.old cursor.new }
 {
-    let mut rest = piece.copied();
     for unit in prefix {
-        match behind_unit(*unit, &rest) {
-            Some(next) => rest = next,
-            None => return None,
+        if !eat_unit(*unit, cursor) {
+            return false;
         }
     }
-    Some(rest)
+    true
 }
 
-/// Appends the value of a line, and counts its steps and one more.
-fn push_line(
+/// Appends the value of a line without escapes, which reaches from here to the end of the text.
+fn push_rest(
     out: &mut String,
     prefix: &[LineUnit],
-    line: &Line,
-    steps: &mut Steps,
+    cursor: &mut Cursor,
+) -> Result<(), StringFailure>
+    ensures done { OnOk result
+        ((v : List ℕ) × LineValue prefix.now (literals cursor.old.rest) v
+        × (chars (string_bytes out.new) ≡ chars (string_bytes out.old) ++ v)) }
+    ensures failed { IfErr result (λ e. (e ≡ Memory → ⊥) → (v : List ℕ)
+        → LineValue prefix.now (literals cursor.old.rest) v → ⊥) }
+    ensures counted { Counted (2 * (bytes cursor.old.rest + 1)) cursor.old cursor.new }
+{
+    let start = cursor.checkpoint();
+    if is_all_space(cursor) {
+        return Ok(());
+    }
+    cursor.go_to(&start);
+    if !eat_prefix(prefix, cursor) {
+        return Err(StringFailure::Fault(StringFault::NoPrefix));
+    }
+    cursor.slice_rest().push_to(out)?;
+    Ok(())
+}
+
+/// Appends the value of a line without escapes.
+fn push_plain<'a>(
+    out: &mut String,
+    prefix: &[LineUnit],
+    segment: &Segment<'a>,
+    cursor: &mut Cursor<'a>,
+) -> Result<(), StringFailure>
+    ensures done { OnOk result
+        ((v : List ℕ) × LineValue prefix.now (literals segment.now) v
+        × (chars (string_bytes out.new) ≡ chars (string_bytes out.old) ++ v)) }
+    ensures failed { IfErr result (λ e. (e ≡ Memory → ⊥) → (v : List ℕ)
+        → LineValue prefix.now (literals segment.now) v → ⊥) }
+    ensures returned { Returned (2 * (bytes segment.now + 1)) cursor.old cursor.new }
+{
+    let place = cursor.enter(segment);
+    let pushed = push_rest(out, prefix, cursor);
+    cursor.go_to(&place);
+    pushed
+}
+
+/// Appends the value of a line.
+fn push_line<'a>(
+    out: &mut String,
+    prefix: &[LineUnit],
+    line: &Line<'a>,
+    cursor: &mut Cursor<'a>,
 ) -> Result<(), StringFailure>
     ensures done { OnOk result
         ((v : List ℕ) × LineValue prefix.now (line_units line.now) v
         × (chars (string_bytes out.new) ≡ chars (string_bytes out.old) ++ v)) }
     ensures failed { IfErr result
         (λ e. (e ≡ Memory → ⊥) → (v : List ℕ) → LineValue prefix.now (line_units line.now) v → ⊥) }
-    ensures cost { steps.new ≤ steps.old + (line_len line.now + 1) }
+    ensures returned { Returned (line_steps line.now) cursor.old cursor.new }
 {
-    steps.raise(step_count(line) as u64);
-    steps.raise(1);
-    if is_blank(line) {
-        return Ok(());
-    }
     match line {
+        Line::Plain(segment) => push_plain(out, prefix, segment, cursor),
         Line::Units(units) => push_units(out, prefix, units),
-        Line::Plain(piece) => {
-            let Some(rest) = behind_prefix(prefix, piece) else {
-                return Err(StringFailure::Fault(StringFault::NoPrefix));
-            };
-            rest.push_to(out)?;
-            Ok(())
-        }
     }
 }
 
 /// Appends the values of the lines, joined by line feeds.
-fn push_lines(
+fn push_lines<'a>(
     out: &mut String,
     prefix: &[LineUnit],
-    lines: &[Line],
-    steps: &mut Steps,
+    lines: &[Line<'a>],
+    cursor: &mut Cursor<'a>,
 ) -> Result<(), StringFailure>
     requires { string_bytes out.old ≡ [] }
     ensures found { OnOk result
@@ -224,18 +305,18 @@ fn push_lines(
         × (chars (string_bytes out.new) ≡ joined vs)) }
     ensures only { (vs : List (List ℕ)) → LineValues prefix.now (map line_units lines.now) vs
         → IfErr result (λ e. e ≡ Memory) }
-    ensures cost { steps.new ≤ steps.old + lines_len lines.now }
+    ensures returned { Returned (lines_steps lines.now) cursor.old cursor.new }
 {
     let Some((first, others)) = lines.split_first() else {
         return Ok(());
     };
-    match push_line(out, prefix, first, steps) {
+    match push_line(out, prefix, first, cursor) {
         Ok(()) => {}
         Err(e) => return Err(e),
     }
     for line in others {
         out.push('\n')?;
-        match push_line(out, prefix, line, steps) {
+        match push_line(out, prefix, line, cursor) {
             Ok(()) => {}
             Err(e) => return Err(e),
         }
@@ -245,26 +326,28 @@ fn push_lines(
 
 /// The value of the lines, without the last, whose spaces are taken from the front of the others
 /// (KDL 2.0.0, Multi-line String).
-/// A step for each byte of a line without escapes and for each unit of another, and one for each line. A fault: the
-/// last line is not spaces alone, or another has not these spaces at its front and is not spaces alone.
-pub fn dedent(alloc: Global, lines: &[Line], steps: &mut Steps) -> Result<String, StringFailure>
+/// The cursor reads lines without escapes again, and comes back to where it is. A fault: the last line is not spaces
+/// alone, or another has not these spaces at its front and is not spaces alone.
+pub fn dedent<'a>(
+    alloc: Global,
+    lines: &[Line<'a>],
+    cursor: &mut Cursor<'a>,
+) -> Result<String, StringFailure>
     ensures found { (us : List LineUnit) → lines_of us ≡ map line_units lines.now
         → IfOk result (λ s. Dedents us (chars (string_bytes s))) }
     ensures only { (us : List LineUnit) (v : List ℕ) → lines_of us ≡ map line_units lines.now
         → Dedents us v → MatchResult result (λ s. v ≡ chars (string_bytes s)) (λ e. e ≡ Memory) }
-    ensures cost { steps.new ≤ steps.old + lines_len lines.now }
+    ensures returned { Returned (lines_steps lines.now + 1) cursor.old cursor.new }
 {
     let mut out = String::new(alloc);
     let Some((last, front)) = lines.split_last() else {
         return Ok(out);
     };
-    steps.raise(step_count(last) as u64);
-    steps.raise(1);
-    if !is_blank(last) {
+    if !is_blank(last, cursor) {
         return Err(StringFailure::Fault(StringFault::BadLastLine));
     }
-    let prefix = units_of(alloc, last)?;
-    match push_lines(&mut out, &prefix, front, steps) {
+    let prefix = units_of(alloc, last, cursor)?;
+    match push_lines(&mut out, &prefix, front, cursor) {
         Ok(()) => Ok(out),
         Err(e) => Err(e),
     }

@@ -3,16 +3,16 @@
 ghost use Rattle.kdl_text.specs.Chars.{Newline, Text, is_newline_char};
 ghost use Rattle.kdl_text.specs.Dedent.{lines_of};
 ghost use Rattle.kdl_text.specs.Spans.{bytes};
-ghost use Rattle.kdl_text.specs.Internal.Lines.{ReadsLine, ReadsPlain, line_len, line_units, lines_len};
+ghost use Rattle.kdl_text.specs.Internal.Lines.{CostsWith, ReadsLine, ReadsPlain, line_steps, line_units, lines_steps};
 ghost use Rattle.kdl_text.specs.MultiLine.{Content, MultiLineBody, kept};
 ghost use Rattle.kdl_text.specs.Internal.Reading.{Moves, Costs};
 ghost use Rattle.kdl_text.specs.Strings.{IsUnit, StringUnit};
 ghost use Rattle.kdl_text.specs.declared.strings.StringFailure.TheVariants.{Memory};
 ghost use Rattle.kdl_text.specs.declared.strings.dedent.LineUnit.{LineUnit};
-ghost use Rattle.std.specs.Prelude.{◌≡◌, ◌≤◌, ◌+◌, ◌∷◌, ◌++◌, List, ℕ, true, length, map, string_bytes, IfOk, IfErr, MatchResult};
+ghost use Rattle.std.specs.Prelude.{◌≡◌, ◌≤◌, ◌+◌, ◌∷◌, ◌++◌, List, ℕ, true, map, string_bytes, IfOk, IfErr, MatchResult};
 ghost use Rattle.std.specs.Str.{chars};
 
-use crate::chars::{Class, Cursor, Piece, Steps, is_literal, is_newline_char, newline};
+use crate::chars::{Class, Cursor, Segment, is_literal, is_newline_char, newline};
 use crate::strings::dedent::{Line, LineUnit, add_line, dedent, push_literals, push_unit};
 use crate::strings::{StringFailure, StringFault, escaped_unit};
 use std::alloc::Global;
@@ -42,7 +42,7 @@ enum Stop {
 
 /// Goes past characters that stand for themselves, quotes among them, and past what ends them in a string of many
 /// lines.
-fn plain_part<'a>(cursor: &mut Cursor<'a>) -> Result<(Piece<'a>, Stop), StringFault>
+fn plain_part<'a>(cursor: &mut Cursor<'a>) -> Result<(Segment<'a>, Stop), StringFault>
     ensures found { IfOk result
         (λ (p, stop). ReadsPlain Content stop cursor.old.rest p cursor.new.rest) }
     ensures shorter { IfOk result
@@ -50,8 +50,8 @@ fn plain_part<'a>(cursor: &mut Cursor<'a>) -> Result<(Piece<'a>, Stop), StringFa
     ensures only { (r : Text) (us : List LineUnit) → Content cursor.old.rest r us
         → IfErr result (λ _. ⊥) }
     ensures moves { Moves cursor.old cursor.new }
-    ensures costs { Costs 3 1 cursor.old cursor.new }
-    ensures cost { IfOk result (λ _. Costs 3 0 cursor.old cursor.new) }
+    ensures costs { Costs 2 1 cursor.old cursor.new }
+    ensures cost { IfOk result (λ _. Costs 2 0 cursor.old cursor.new) }
 {
     let start = cursor.checkpoint();
     'runs: loop {
@@ -59,13 +59,13 @@ fn plain_part<'a>(cursor: &mut Cursor<'a>) -> Result<(Piece<'a>, Stop), StringFa
         match cursor.take() {
             Some('"') => {
                 if cursor.eat('"') && cursor.eat('"') {
-                    return Ok((cursor.slice_between(&start, &end), Stop::Close));
+                    return Ok((start.up_to(&end), Stop::Close));
                 }
             }
-            Some('\\') => return Ok((cursor.slice_between(&start, &end), Stop::Escape)),
+            Some('\\') => return Ok((start.up_to(&end), Stop::Escape)),
             Some(c) if is_newline_char(c) => {
                 end_newline(c, cursor);
-                return Ok((cursor.slice_between(&start, &end), Stop::Newline));
+                return Ok((start.up_to(&end), Stop::Newline));
             }
             Some(c) if is_literal(c) => cursor.skip(Class::Literal),
             Some(_) => return Err(StringFault::Banned),
@@ -95,9 +95,12 @@ fn push_escape(cursor: &mut Cursor, units: &mut Vec<LineUnit>) -> Result<(), Str
 
 /// Behind the backslash of an escape: appends the units of the line from the backslash on. Gives whether three quotes
 /// end the line.
-fn escaped_line(cursor: &mut Cursor, units: &mut Vec<LineUnit>) -> Result<bool, StringFailure>
+fn escaped_line<'a>(
+    cursor: &mut Cursor<'a>,
+    units: &mut Vec<LineUnit>,
+) -> Result<bool, StringFailure>
     ensures found { IfOk result (λ closed. (us : List LineUnit) × (units.new.items ≡ units.old.items ++ us)
-        × ReadsLine Content closed (92 ∷ cursor.old.rest) us cursor.new.rest × (length us + bytes cursor.new.rest ≤ bytes cursor.old.rest)) }
+        × ReadsLine Content closed (92 ∷ cursor.old.rest) us cursor.new.rest × (bytes cursor.new.rest + 1 ≤ bytes cursor.old.rest)) }
     ensures only { (r : Text) (us : List LineUnit) → Content (92 ∷ cursor.old.rest) r us
         → IfErr result (λ e. e ≡ Memory) }
     ensures moves { Moves cursor.old cursor.new }
@@ -109,8 +112,8 @@ fn escaped_line(cursor: &mut Cursor, units: &mut Vec<LineUnit>) -> Result<bool, 
             Ok(()) => {}
             Err(e) => return Err(e),
         }
-        let (piece, stop) = plain_part(cursor)?;
-        push_literals(units, &piece)?;
+        let (segment, stop) = plain_part(cursor)?;
+        push_literals(units, &segment, cursor)?;
         match stop {
             Stop::Newline => return Ok(false),
             Stop::Close => return Ok(true),
@@ -124,21 +127,20 @@ fn read_line<'a>(alloc: Global, cursor: &mut Cursor<'a>) -> Result<(Line<'a>, bo
     ensures found { IfOk result
         (λ (line, closed). ReadsLine Content closed cursor.old.rest
         (line_units line) cursor.new.rest) }
-    ensures shorter { IfOk result
-        (λ (line, _). line_len line + 1 + bytes cursor.new.rest ≤ bytes cursor.old.rest) }
+    ensures shorter { IfOk result (λ _. bytes cursor.new.rest + 1 ≤ bytes cursor.old.rest) }
     ensures only { (r : Text) (us : List LineUnit) → Content cursor.old.rest r us
         → IfErr result (λ e. e ≡ Memory) }
     ensures moves { Moves cursor.old cursor.new }
     ensures costs { Costs 3 1 cursor.old cursor.new }
-    ensures cost { IfOk result (λ _. Costs 3 0 cursor.old cursor.new) }
+    ensures cost { IfOk result (λ (line, _). CostsWith (line_steps line) cursor.old cursor.new) }
 {
-    let (piece, stop) = plain_part(cursor)?;
+    let (segment, stop) = plain_part(cursor)?;
     match stop {
-        Stop::Newline => Ok((Line::Plain(piece), false)),
-        Stop::Close => Ok((Line::Plain(piece), true)),
+        Stop::Newline => Ok((Line::Plain(segment), false)),
+        Stop::Close => Ok((Line::Plain(segment), true)),
         Stop::Escape => {
             let mut units = Vec::new(alloc);
-            push_literals(&mut units, &piece)?;
+            push_literals(&mut units, &segment, cursor)?;
             let closed = escaped_line(cursor, &mut units)?;
             Ok((Line::Units(units), closed))
         }
@@ -150,12 +152,11 @@ fn content<'a>(alloc: Global, cursor: &mut Cursor<'a>) -> Result<Vec<Line<'a>>, 
     ensures found { IfOk result
         (λ ls. (us : List LineUnit) × Content cursor.old.rest cursor.new.rest us
         × (lines_of us ≡ map line_units ls.items)) }
-    ensures shorter { IfOk result
-        (λ ls. lines_len ls.items + bytes cursor.new.rest ≤ bytes cursor.old.rest) }
     ensures only { (r : Text) (us : List LineUnit) → Content cursor.old.rest r us
         → IfErr result (λ e. e ≡ Memory) }
     ensures moves { Moves cursor.old cursor.new }
-    ensures costs { Costs 3 1 cursor.old cursor.new }
+    ensures costs { Costs 4 1 cursor.old cursor.new }
+    ensures cost { IfOk result (λ ls. CostsWith (lines_steps ls.items) cursor.old cursor.new) }
 {
     let mut lines = Vec::new(alloc);
     'lines: loop {
@@ -180,8 +181,5 @@ pub fn many_lines(alloc: Global, cursor: &mut Cursor) -> Result<String, StringFa
         return Err(StringFailure::Fault(StringFault::NoNewline));
     }
     let lines = content(alloc, cursor)?;
-    let mut steps = Steps::new();
-    let value = dedent(alloc, &lines, &mut steps);
-    cursor.raise(steps.count());
-    value
+    dedent(alloc, &lines, cursor)
 }

@@ -3,7 +3,8 @@
 ghost use Rattle.kdl_text.specs.Chars.{Text, begins, times};
 ghost use Rattle.kdl_text.specs.Dedent.{lines_of};
 ghost use Rattle.kdl_text.specs.Spans.{bytes};
-ghost use Rattle.kdl_text.specs.Internal.Lines.{ReadsLine, line_units, lines_len};
+ghost use Rattle.kdl_text.specs.Internal.Here.{Returned};
+ghost use Rattle.kdl_text.specs.Internal.Lines.{CostsWith, ReadsLine, line_units, lines_steps};
 ghost use Rattle.kdl_text.specs.Raw.{IsRaw, RawUnits, RawContent, MultiLineRawBody, closing, literals};
 ghost use Rattle.kdl_text.specs.Internal.Reading.{Moves, Costs};
 ghost use Rattle.kdl_text.specs.declared.strings.StringFailure.TheVariants.{Memory};
@@ -11,7 +12,7 @@ ghost use Rattle.kdl_text.specs.declared.strings.dedent.LineUnit.{LineUnit};
 ghost use Rattle.std.specs.Prelude.{◌≡◌, ◌<◌, ◌≤◌, ◌+◌, ◌++◌, ◌∷◌, List, false, map, string_bytes, IfOk, IfErr, IfSome, IfNone, MatchResult};
 ghost use Rattle.std.specs.Str.{chars};
 
-use crate::chars::{Checkpoint, Class, Cursor, Piece, Steps, is_newline_char, is_raw, newline};
+use crate::chars::{Checkpoint, Class, Cursor, Piece, Segment, is_newline_char, is_raw, newline};
 use crate::strings::dedent::{Line, add_line, dedent};
 use crate::strings::multiline::end_newline;
 use crate::strings::{StringFailure, StringFault, fault_at};
@@ -84,14 +85,22 @@ fn line_content<'a>(cursor: &mut Cursor<'a>, signs: usize) -> Result<Piece<'a>, 
     }
 }
 
-/// The place behind so many quotes.
-fn behind_quotes<'a>(place: &Checkpoint<'a>, count: usize) -> Checkpoint<'a>
-    ensures { (t : Text) → place.now.rest ≡ times count 34 ++ t → result.rest ≡ t }
+/// The place after so many of the quotes at a place.
+fn behind_quotes<'a>(
+    place: &Checkpoint<'a>,
+    count: usize,
+    cursor: &mut Cursor<'a>,
+) -> Checkpoint<'a>
+    ensures behind { (t : Text) → place.now.rest ≡ times count 34 ++ t → result.rest ≡ t }
+    ensures returned { Returned count cursor.old cursor.new }
 {
-    let mut behind = place.copied();
+    let here = cursor.checkpoint();
+    cursor.go_to(place);
     for _ in 0..count {
-        behind = behind.next();
+        let _ = cursor.eat('"');
     }
+    let behind = cursor.checkpoint();
+    cursor.go_to(&here);
     behind
 }
 
@@ -121,11 +130,11 @@ fn closing_place<'a>(
     if eat_signs(cursor, signs) < signs {
         return None;
     }
-    Some(behind_quotes(quote, more - 2))
+    Some(behind_quotes(quote, more - 2, cursor))
 }
 
 /// Reads a line and its newline, or the closing of three quotes and so many number signs. Gives whether it was this.
-fn read_line<'a>(cursor: &mut Cursor<'a>, signs: usize) -> Result<(Piece<'a>, bool), StringFault>
+fn read_line<'a>(cursor: &mut Cursor<'a>, signs: usize) -> Result<(Segment<'a>, bool), StringFault>
     requires { 0 < signs }
     ensures found { IfOk result
         (λ (p, closed). ReadsLine (RawContent (closing 3 signs)) closed cursor.old.rest
@@ -135,8 +144,8 @@ fn read_line<'a>(cursor: &mut Cursor<'a>, signs: usize) -> Result<(Piece<'a>, bo
     ensures only { (r : Text) (us : List LineUnit)
         → RawContent (closing 3 signs) cursor.old.rest r us → IfErr result (λ _. ⊥) }
     ensures moves { Moves cursor.old cursor.new }
-    ensures costs { Costs 3 1 cursor.old cursor.new }
-    ensures cost { IfOk result (λ _. Costs 3 0 cursor.old cursor.new) }
+    ensures costs { Costs 2 1 cursor.old cursor.new }
+    ensures cost { IfOk result (λ _. Costs 2 0 cursor.old cursor.new) }
 {
     let start = cursor.checkpoint();
     'parts: loop {
@@ -144,12 +153,12 @@ fn read_line<'a>(cursor: &mut Cursor<'a>, signs: usize) -> Result<(Piece<'a>, bo
         match cursor.take() {
             Some('"') => {
                 if let Some(place) = closing_place(&end, cursor, signs) {
-                    return Ok((cursor.slice_between(&start, &place), true));
+                    return Ok((start.up_to(&place), true));
                 }
             }
             Some(c) if is_newline_char(c) => {
                 end_newline(c, cursor);
-                return Ok((cursor.slice_between(&start, &end), false));
+                return Ok((start.up_to(&end), false));
             }
             Some(c) if is_raw(c) => cursor.skip(Class::Unquoted),
             Some(_) => return Err(StringFault::Banned),
@@ -169,17 +178,16 @@ fn lines_content<'a>(
         (λ ls. (us : List LineUnit)
         × RawContent (closing 3 signs) cursor.old.rest cursor.new.rest us
         × (lines_of us ≡ map line_units ls.items)) }
-    ensures shorter { IfOk result
-        (λ ls. lines_len ls.items + bytes cursor.new.rest ≤ bytes cursor.old.rest) }
     ensures only { (r : Text) (us : List LineUnit)
         → RawContent (closing 3 signs) cursor.old.rest r us → IfErr result (λ e. e ≡ Memory) }
     ensures moves { Moves cursor.old cursor.new }
-    ensures costs { Costs 3 2 cursor.old cursor.new }
+    ensures costs { Costs 4 1 cursor.old cursor.new }
+    ensures cost { IfOk result (λ ls. CostsWith (lines_steps ls.items) cursor.old cursor.new) }
 {
     let mut lines = Vec::new(alloc);
     'lines: loop {
-        let (piece, closed) = read_line(cursor, signs)?;
-        add_line(&mut lines, Line::Plain(piece))?;
+        let (segment, closed) = read_line(cursor, signs)?;
+        add_line(&mut lines, Line::Plain(segment))?;
         if closed {
             return Ok(lines);
         }
@@ -200,10 +208,7 @@ fn raw_lines(alloc: Global, cursor: &mut Cursor, signs: usize) -> Result<String,
         return Err(StringFailure::Fault(StringFault::LooksMultiLine));
     }
     let lines = lines_content(alloc, cursor, signs)?;
-    let mut steps = Steps::new();
-    let value = dedent(alloc, &lines, &mut steps);
-    cursor.raise(steps.count());
-    value
+    dedent(alloc, &lines, cursor)
 }
 
 /// Reads a raw string, of one line or of many (KDL 2.0.0, Raw String): its value, and the cursor goes behind the

@@ -1,18 +1,25 @@
 use Rattle.kdl_text.specs.MultiLine.{Content}
-use Rattle.kdl_text.proofs.Looking.MovesJoin.{costs_less, moves_then}
+use Rattle.kdl_text.proofs.Looking.MovesJoin.{moves_then}
+use Rattle.kdl_text.proofs.ManyLines.LinesCost.{lines_stop, lines_read, three_in_four}
 use Rattle.kdl_text.proofs.ManyLines.LinesJoin.{lines_turn, lines_close}
 use Rattle.kdl_text.proofs.strings.multiline.content.Goals as goal
 
 pub returns-in_err-line-clause-moves : goal.returns-in_err-line-clause-moves
 returns-in_err-line-clause-moves c = moves_then c.lines.invariant.moves c.read_line.ensures.moves
 
+pub returns-in_err-line-clause-costs : goal.returns-in_err-line-clause-costs
+returns-in_err-line-clause-costs c = lines_stop _ _ _ _ c.lines.invariant.costs (three_in_four c.read_line.ensures.moves c.read_line.ensures.costs)
+
 pub returns-in_err-add_line-clause-moves : goal.returns-in_err-add_line-clause-moves
 returns-in_err-add_line-clause-moves c = moves_then c.lines.invariant.moves c.read_line.ensures.moves
 
+pub returns-in_err-add_line-clause-costs : goal.returns-in_err-add_line-clause-costs
+returns-in_err-add_line-clause-costs c = lines_stop _ _ _ _ c.lines.invariant.costs (three_in_four c.read_line.ensures.moves c.read_line.ensures.costs)
+
 pub returns-then-closed : goal.returns-then-closed
 returns-then-closed c =
-    let (found, moved, cost, shorter) = lines_close Content _ _ _ _ _ c.lines.invariant c.read_line.ensures.moves c.in_ok-line.ensures.cost c.in_ok-line.ensures.shorter (rw c.if-closed.true at c.in_ok-line.ensures.found) _ c.in_ok-add_line.ensures in
-    record { found = found; shorter = shorter; only = λ r us x. tt; moves = moved; costs = costs_less cost }
+    let (found, moved, cost) = lines_close Content _ _ _ _ _ c.lines.invariant c.read_line.ensures.moves c.in_ok-line.ensures.cost (rw c.if-closed.true at c.in_ok-line.ensures.found) _ c.in_ok-add_line.ensures in
+    record { found = found; only = λ r us x. tt; moves = moved; costs = lines_read _ _ _ cost; cost = cost }
 
 pub lines-preserved : goal.lines-preserved
-lines-preserved c = lines_turn Content _ _ _ _ _ c.lines.invariant c.read_line.ensures.moves c.in_ok-line.ensures.cost c.in_ok-line.ensures.shorter (rw c.if-closed.false at c.in_ok-line.ensures.found) _ c.in_ok-add_line.ensures
+lines-preserved c = lines_turn Content _ _ _ _ _ c.lines.invariant c.read_line.ensures.moves c.in_ok-line.ensures.cost (rw c.if-closed.false at c.in_ok-line.ensures.found) _ c.in_ok-add_line.ensures

@@ -6,9 +6,8 @@ use Rattle.kdl_text.proofs.strings.multiline.plain_part.Goals.{else-eat-via-then
 
 pub returns-then-eat-2 : goal.returns-then-eat-2
 returns-then-eat-2 c =
-    let cut = c.slice_between.ensures in
-    let text = sym c.checkpoint-start.ensures.rest ∙ cut.result ∙ ap (λ z. c.slice_between.result ++ z) c.checkpoint-end.ensures.rest in
-    let (found, shorter, moved, cost) = plain_close _ _ c.runs.invariant _ _ c.in-Some-eq34.ensures.took _ _ _ c.slice_between.result c.in-Some-eq34.field-0-test c.if-eat.ensures c.if-eat-2.ensures text cut.moved in
+    let text = sym c.checkpoint-start.ensures.rest ∙ c.up_to.ensures ∙ ap (λ z. c.up_to.result ++ z) c.checkpoint-end.ensures.rest in
+    let (found, shorter, moved, cost) = plain_close _ _ c.runs.invariant _ _ c.in-Some-eq34.ensures.took _ _ c.up_to.result c.in-Some-eq34.field-0-test c.if-eat.ensures c.if-eat-2.ensures text in
     record { found = found; shorter = shorter; only = λ r us x. tt; moves = moved; costs = costs_less cost; cost = cost }
 
 pub runs-preserved-else-eat : goal.runs-preserved-else-eat
@@ -19,17 +18,15 @@ runs-preserved-else-eat c = elim c.else-eat.branch [
 
 pub returns-in-Some-eq92 : goal.returns-in-Some-eq92
 returns-in-Some-eq92 c =
-    let cut = c.slice_between-in-Some-eq92.ensures in
-    let text = sym c.checkpoint-start.ensures.rest ∙ cut.result ∙ ap (λ z. c.slice_between-in-Some-eq92.result ++ z) c.checkpoint-end.ensures.rest in
-    let (found, shorter, moved, cost) = plain_escape _ _ c.runs.invariant _ _ c.in-Some-eq92.ensures.took _ c.slice_between-in-Some-eq92.result c.in-Some-eq92.field-0-test text cut.moved in
+    let text = sym c.checkpoint-start.ensures.rest ∙ c.up_to-in-Some-eq92.ensures ∙ ap (λ z. c.up_to-in-Some-eq92.result ++ z) c.checkpoint-end.ensures.rest in
+    let (found, shorter, moved, cost) = plain_escape _ _ c.runs.invariant _ _ c.in-Some-eq92.ensures.took c.up_to-in-Some-eq92.result c.in-Some-eq92.field-0-test text in
     record { found = found; shorter = shorter; only = λ r us x. tt; moves = moved; costs = costs_less cost; cost = cost }
 
 pub returns-in-Some : goal.returns-in-Some
 returns-in-Some c =
-    let cut = c.slice_between-in-Some.ensures in
-    let text = sym c.checkpoint-start.ensures.rest ∙ cut.result ∙ ap (λ z. c.slice_between-in-Some.result ++ z) c.checkpoint-end.ensures.rest in
+    let text = sym c.checkpoint-start.ensures.rest ∙ c.up_to-in-Some.ensures ∙ ap (λ z. c.up_to-in-Some.result ++ z) c.checkpoint-end.ensures.rest in
     let end = c.end_newline.ensures in
-    let (found, shorter, moved, cost) = plain_newline _ _ c.runs.invariant _ _ c.in-Some.ensures.took _ _ c.slice_between-in-Some.result end.newline end.moves end.costs text cut.moved in
+    let (found, shorter, moved, cost) = plain_newline _ _ c.runs.invariant _ _ c.in-Some.ensures.took _ c.up_to-in-Some.result end.newline end.moves end.costs text in
     record { found = found; shorter = shorter; only = λ r us x. tt; moves = moved; costs = costs_less cost; cost = cost }
 
 pub runs-preserved : goal.runs-preserved

@@ -1,15 +1,37 @@
 use Rattle.std.proofs.Common.{◌≡◌, ◌-◌, ◌++◌, ap, ◌∙◌, arith}
 use Rattle.kdl_text.specs.Chars.{times}
-use Rattle.kdl_text.proofs.RawStrings.LinesLoop.{no_more_behind, one_behind}
+use Rattle.kdl_text.proofs.RawStrings.LinesLoop.{no_more_behind, one_behind, one_look}
 use Rattle.kdl_text.proofs.strings.raw.behind_quotes.Goals as goal
 
 pub loop-init : goal.loop-init
-loop-init c t e =
-    let all : c.args.count ≡ c.args.count - 0 = omega arith in
-    ap (λ z. z.rest) c.copied-behind.ensures ∙ e ∙ ap (λ k. times k 34 ++ t) all
+loop-init c = record {
+  behind = λ t e.
+      (let all : c.args.count ≡ c.args.count - 0 = omega arith in
+      ap (λ z. z.rest) c.go_to.ensures ∙ e ∙ ap (λ k. times k 34 ++ t) all);
+  most = omega (arith, ap (λ z. z.steps) c.go_to.ensures);
+  counts = omega (arith, ap (λ z. z.steps) c.go_to.ensures);
+}
 
 pub loop-preserved : goal.loop-preserved
-loop-preserved c t e = one_behind c.args.count c.loop.counter _ _ t c.loop-test.true (c.loop.invariant t e) c.next-behind.ensures.rest
+loop-preserved c =
+    let i = c.loop.invariant in
+    let (most, counts) = one_look 34 _ _ _ c.eat.ensures in
+    record {
+      behind = λ t e. one_behind c.args.count c.loop.counter _ _ _ t c.loop-test.true c.eat.ensures (i.behind t e);
+      most = omega (arith, i.most, most);
+      counts = omega (arith, i.counts, counts);
+    }
 
 pub returns : goal.returns
-returns c t e = no_more_behind c.args.count c.loop.counter _ t c.loop-test.false (c.loop.invariant t e)
+returns c =
+    let i = c.loop.invariant in
+    let back = ap (λ z. z.steps) c.go_to-2.ensures in
+    record {
+      behind = λ t e. c.checkpoint-behind.ensures.rest ∙ no_more_behind c.args.count c.loop.counter _ t c.loop-test.false (i.behind t e);
+      returned = record {
+        rest = ap (λ z. z.rest) c.go_to-2.ensures ∙ c.checkpoint-here.ensures.rest;
+        at = ap (λ z. z.at) c.go_to-2.ensures ∙ c.checkpoint-here.ensures.at;
+        most = omega (arith, i.most, back);
+        counts = omega (arith, i.counts, back);
+      };
+    }

@@ -1,6 +1,7 @@
 use Rattle.std.proofs.Common.{◌≡◌, ◌≤◌, arith}
 use Rattle.kdl_text.proofs.Looking.MovesJoin.{moves_then}
-use Rattle.kdl_text.proofs.RawStrings.LinesLoop.{few_quotes, closing_at, closed, open_still, signs_cost}
+use Rattle.kdl_text.proofs.RawStrings.LinesLoop.{few_quotes, closing_at, closed, open_still, signs_cost, closing_cost}
+use Rattle.kdl_text.proofs.Looking.Returns.{moves_returned}
 use Rattle.kdl_text.proofs.strings.raw.closing_place.Goals as goal
 
 pub returns-then-more-lt2-clause-none : goal.returns-then-more-lt2-clause-none
@@ -30,9 +31,10 @@ returns c =
     let some : 2 ≤ c.count_quotes-more.result = omega arith in
     let all : c.eat_signs.result ≡ c.args.signs = omega (arith, s.few) in
     let at = closing_at c.args.signs c.count_quotes-more.result c.eat_signs.result c.args.quote.now.rest _ _ _ c.requires.some c.requires.quote q.text q.stops s.text s.few s.stops some all in
+    let back = c.behind_quotes.ensures.returned in
     record {
-      found = closed c.args.signs c.count_quotes-more.result c.eat_signs.result c.args.quote.now.rest _ _ _ c.requires.some c.requires.quote q.text q.stops s.text s.few s.stops c.behind_quotes.result.rest some all (c.behind_quotes.ensures _ at);
+      found = rw back.rest (closed c.args.signs c.count_quotes-more.result c.eat_signs.result c.args.quote.now.rest _ _ _ c.requires.some c.requires.quote q.text q.stops s.text s.few s.stops c.behind_quotes.result.rest some all (c.behind_quotes.ensures.behind _ at));
       none = tt;
-      moves = moves_then q.moves s.moves;
-      costs = signs_cost c.count_quotes-more.result _ _ _ q.text some q.costs s.moves s.costs;
+      moves = moves_then q.moves (moves_then s.moves (moves_returned back));
+      costs = closing_cost c.count_quotes-more.result _ _ _ _ q.text some q.costs s.moves s.costs back;
     }

@@ -1,19 +1,29 @@
 use Rattle.kdl_text.specs.Raw.{RawContent, closing}
 use Rattle.kdl_text.specs.declared.strings.dedent.Line.TheVariants.{Plain}
-use Rattle.kdl_text.proofs.Looking.MovesJoin.{costs_at, moves_then}
+use Rattle.kdl_text.proofs.Looking.MovesJoin.{moves_then}
+use Rattle.kdl_text.proofs.ManyLines.LinesCost.{lines_stop, lines_read, two_in_four, plain_costs}
 use Rattle.kdl_text.proofs.ManyLines.LinesJoin.{lines_turn, lines_close}
 use Rattle.kdl_text.proofs.strings.raw.lines_content.Goals as goal
 
-pub returns-in_err-piece-clause-moves : goal.returns-in_err-piece-clause-moves
-returns-in_err-piece-clause-moves c = moves_then c.lines.invariant.moves c.read_line.ensures.moves
+pub returns-in_err-segment-clause-moves : goal.returns-in_err-segment-clause-moves
+returns-in_err-segment-clause-moves c = moves_then c.lines.invariant.moves c.read_line.ensures.moves
+
+pub returns-in_err-segment-clause-costs : goal.returns-in_err-segment-clause-costs
+returns-in_err-segment-clause-costs c = lines_stop _ _ _ _ c.lines.invariant.costs (two_in_four c.read_line.ensures.moves c.read_line.ensures.costs)
 
 pub returns-in_err-add_line-clause-moves : goal.returns-in_err-add_line-clause-moves
 returns-in_err-add_line-clause-moves c = moves_then c.lines.invariant.moves c.read_line.ensures.moves
 
+pub returns-in_err-add_line-clause-costs : goal.returns-in_err-add_line-clause-costs
+returns-in_err-add_line-clause-costs c = lines_stop _ _ _ _ c.lines.invariant.costs (two_in_four c.read_line.ensures.moves c.read_line.ensures.costs)
+
 pub returns-then-closed : goal.returns-then-closed
 returns-then-closed c =
-    let (found, moved, cost, shorter) = lines_close (RawContent (closing 3 c.args.signs)) _ _ _ _ (Plain c.in_ok-piece.piece) c.lines.invariant c.read_line.ensures.moves c.in_ok-piece.ensures.cost c.in_ok-piece.ensures.shorter (rw c.if-closed.true at c.in_ok-piece.ensures.found) _ c.in_ok-add_line.ensures in
-    record { found = found; shorter = shorter; only = λ r us x. tt; moves = moved; costs = costs_at cost }
+    let line = plain_costs c.in_ok-segment.segment _ _ c.in_ok-segment.ensures.cost c.in_ok-segment.ensures.shorter in
+    let (found, moved, cost) = lines_close (RawContent (closing 3 c.args.signs)) _ _ _ _ (Plain c.in_ok-segment.segment) c.lines.invariant c.read_line.ensures.moves line (rw c.if-closed.true at c.in_ok-segment.ensures.found) _ c.in_ok-add_line.ensures in
+    record { found = found; only = λ r us x. tt; moves = moved; costs = lines_read _ _ _ cost; cost = cost }
 
 pub lines-preserved : goal.lines-preserved
-lines-preserved c = lines_turn (RawContent (closing 3 c.args.signs)) _ _ _ _ (Plain c.in_ok-piece.piece) c.lines.invariant c.read_line.ensures.moves c.in_ok-piece.ensures.cost c.in_ok-piece.ensures.shorter (rw c.if-closed.false at c.in_ok-piece.ensures.found) _ c.in_ok-add_line.ensures
+lines-preserved c =
+    let line = plain_costs c.in_ok-segment.segment _ _ c.in_ok-segment.ensures.cost c.in_ok-segment.ensures.shorter in
+    lines_turn (RawContent (closing 3 c.args.signs)) _ _ _ _ (Plain c.in_ok-segment.segment) c.lines.invariant c.read_line.ensures.moves line (rw c.if-closed.false at c.in_ok-segment.ensures.found) _ c.in_ok-add_line.ensures

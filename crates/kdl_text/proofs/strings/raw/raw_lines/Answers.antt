@@ -1,9 +1,9 @@
 use Rattle.std.proofs.Common.{◌∙◌, map, sym, ap, arith, String, Global}
 use Rattle.std.specs.Prelude.{string_bytes}
 use Rattle.std.specs.Str.{chars}
-use Rattle.kdl_text.specs.Internal.Lines.{line_units, lines_len}
+use Rattle.kdl_text.specs.Internal.Lines.{line_units, lines_steps}
 use Rattle.kdl_text.specs.declared.strings.StringFailure.{StringFailure}
-use Rattle.kdl_text.proofs.ManyLines.LinesCost.{raw_lines_cost, raw_lines_fail, dedent_moves}
+use Rattle.kdl_text.proofs.ManyLines.LinesCost.{lines_cost, lines_fail, dedent_moves}
 use Rattle.kdl_text.proofs.Looking.MovesJoin.{moves_then}
 use Rattle.kdl_text.proofs.Quoted.BodyLoop.{failed}
 use Rattle.kdl_text.proofs.RawStrings.RawReads.{raw_body_found, raw_body_only, raw_body_content}
@@ -19,20 +19,22 @@ pub returns-in_err-lines-clause-moves : goal.returns-in_err-lines-clause-moves
 returns-in_err-lines-clause-moves c = moves_then c.newline.ensures.moves c.lines_content.ensures.moves
 
 pub returns-in_err-lines-clause-costs : goal.returns-in_err-lines-clause-costs
-returns-in_err-lines-clause-costs c = raw_lines_fail _ _ _ c.newline.ensures.moves c.newline.ensures.costs c.lines_content.ensures.moves c.lines_content.ensures.costs
+returns-in_err-lines-clause-costs c = lines_fail 5 _ _ _ (omega arith) c.newline.ensures.moves c.newline.ensures.costs c.lines_content.ensures.costs
 
 pub returns-clause-found : goal.returns-clause-found
 returns-clause-found c =
     let (us, x, e) = c.in_ok-lines.ensures.found in
-    rw (ap (λ z. z.rest) c.raise.ensures) (raw_body_found c.dedent-value.result (λ v. chars (string_bytes v)) c.args.signs _ _ _ us c.if-not-newline.ensures.reads x (c.dedent-value.ensures.found us (e ∙ ap (map line_units) (sym c.deref.ensures.value))))
+    rw c.dedent.ensures.returned.rest (raw_body_found c.dedent.result (λ v. chars (string_bytes v)) c.args.signs _ _ _ us c.if-not-newline.ensures.reads x (c.dedent.ensures.found us (e ∙ ap (map line_units) (sym c.deref.ensures.value))))
 
 pub returns-clause-only : goal.returns-clause-only
 returns-clause-only c =
     let (us, x, e) = c.in_ok-lines.ensures.found in
-    rw (ap (λ z. z.rest) c.raise.ensures) (raw_body_only c.dedent-value.result (λ v. chars (string_bytes v)) c.args.signs _ _ _ us _ c.if-not-newline.ensures.reads x (e ∙ ap (map line_units) (sym c.deref.ensures.value)) c.dedent-value.ensures.only)
+    rw c.dedent.ensures.returned.rest (raw_body_only c.dedent.result (λ v. chars (string_bytes v)) c.args.signs _ _ _ us _ c.if-not-newline.ensures.reads x (e ∙ ap (map line_units) (sym c.deref.ensures.value)) c.dedent.ensures.only)
 
 pub returns-clause-moves : goal.returns-clause-moves
-returns-clause-moves c = dedent_moves _ _ _ _ _ c.newline.ensures.moves c.lines_content.ensures.moves c.raise.ensures
+returns-clause-moves c = dedent_moves _ _ _ _ _ c.newline.ensures.moves c.lines_content.ensures.moves c.dedent.ensures.returned
 
 pub returns-clause-costs : goal.returns-clause-costs
-returns-clause-costs c = raw_lines_cost _ _ _ _ c.count.result (lines_len c.in_ok-lines.lines.items) c.newline.ensures.moves c.newline.ensures.costs c.lines_content.ensures.moves c.lines_content.ensures.costs c.in_ok-lines.ensures.shorter (omega (arith, c.count.ensures, c.dedent-value.ensures.cost, c.new-steps.ensures, ap lines_len c.deref.ensures.value)) c.raise.ensures
+returns-clause-costs c =
+    let dedent = rw (c.deref.ensures.value) at c.dedent.ensures.returned in
+    lines_cost 5 (lines_steps c.in_ok-lines.lines.items) _ _ _ _ (omega arith) c.newline.ensures.moves c.newline.ensures.costs c.in_ok-lines.ensures.cost dedent

@@ -6,8 +6,8 @@ use Rattle.kdl_text.proofs.strings.raw.read_line.Goals as goal
 pub parts-init : goal.parts-init
 parts-init c = raw_begins _ _
 
-pub slice_between-requires : goal.slice_between-requires
-slice_between-requires c =
+pub up_to-requires : goal.up_to-requires
+up_to-requires c =
     let place = c.closing_place.ensures in
     let (x, e) = raw_ahead c.args.signs _ _ c.parts.invariant _ _ c.in-Some-eq34.ensures.took c.checkpoint-end.result.rest _ _ c.checkpoint-end.ensures.rest place.moves place.costs c.in-Some-closing_place.ensures.found in
     (x, c.checkpoint-start.ensures.rest ∙ e)
@@ -15,17 +15,15 @@ slice_between-requires c =
 pub returns-in-Some-closing_place : goal.returns-in-Some-closing_place
 returns-in-Some-closing_place c =
     let place = c.closing_place.ensures in
-    let cut = c.slice_between.ensures in
-    let text = sym c.checkpoint-start.ensures.rest ∙ cut.result in
-    let (found, shorter, moved, cost) = raw_close c.args.signs _ _ c.parts.invariant _ _ c.in-Some-eq34.ensures.took c.checkpoint-end.result.rest _ _ c.checkpoint-end.ensures.rest place.moves place.costs c.in-Some-closing_place.ensures.found _ c.slice_between.result text cut.moved in
+    let text = sym c.checkpoint-start.ensures.rest ∙ c.up_to.ensures in
+    let (found, shorter, moved, cost) = raw_close c.args.signs _ _ c.parts.invariant _ _ c.in-Some-eq34.ensures.took c.checkpoint-end.result.rest _ _ c.checkpoint-end.ensures.rest place.moves place.costs c.in-Some-closing_place.ensures.found c.up_to.result text in
     record { found = found; shorter = shorter; only = λ r us x. tt; moves = moved; costs = costs_less cost; cost = cost }
 
 pub returns-in-Some : goal.returns-in-Some
 returns-in-Some c =
-    let cut = c.slice_between-in-Some.ensures in
-    let text = sym c.checkpoint-start.ensures.rest ∙ cut.result ∙ ap (λ z. c.slice_between-in-Some.result ++ z) c.checkpoint-end.ensures.rest in
+    let text = sym c.checkpoint-start.ensures.rest ∙ c.up_to-in-Some.ensures ∙ ap (λ z. c.up_to-in-Some.result ++ z) c.checkpoint-end.ensures.rest in
     let end = c.end_newline.ensures in
-    let (found, shorter, moved, cost) = raw_newline c.args.signs _ _ c.parts.invariant _ _ c.in-Some.ensures.took _ _ c.slice_between-in-Some.result end.newline end.moves end.costs text cut.moved in
+    let (found, shorter, moved, cost) = raw_newline c.args.signs _ _ c.parts.invariant _ _ c.in-Some.ensures.took _ c.up_to-in-Some.result end.newline end.moves end.costs text in
     record { found = found; shorter = shorter; only = λ r us x. tt; moves = moved; costs = costs_less cost; cost = cost }
 
 pub parts-preserved-in_default : goal.parts-preserved-in_default
