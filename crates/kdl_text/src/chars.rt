@@ -43,7 +43,7 @@ pub fn is_newline_char(c: char) -> bool
     matches!(c, '\n'..='\r' | '\u{85}' | '\u{2028}' | '\u{2029}')
 }
 
-/// Whether the character may stand in comments alone (KDL 2.0.0, Disallowed Literal Code Points).
+/// Whether KDL 2.0.0 bans the character from documents (Disallowed Literal Code Points). Here a comment may hold it.
 #[inline]
 #[tactic(auto, unfolding(crate::specs::Chars::is_banned))]
 pub fn is_banned(c: char) -> bool
