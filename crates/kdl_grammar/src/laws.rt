@@ -83,8 +83,8 @@ pub fn reads_back()
 {}
 
 /// Where a document is laid, each document that differs from it, spans aside, in its nodes' entries alone, at each node
-/// some of its own entries and entries without format and spelling in any order, reads back from the text that it
-/// prints, and is laid there with the spellings and the forms that it prints.
+/// some of its own entries, flagged or not, and entries without format and spelling in any order, reads back from the
+/// text that it prints, and is laid there with the spellings and the forms that it prints.
 #[tactic(auto, using(crate::proofs::Laying::FormedPrints::edited_is_laid))]
 pub fn edited_is_laid()
     ensures { EditedIsLaid }
