@@ -19,7 +19,7 @@ use Rattle.kdl_entry.proofs.Lexing.TokenUnique.{token_det, no_token}
 use Rattle.kdl_grammar.specs.Data.{Children, Nodes}
 use Rattle.kdl_grammar.specs.Grammar.{Terminator, named, AfterName, kept_entry, dropped_entry, blocks, Blocks, dropped_block, block, no_block, Gap, no_gap, dropped_node, AreNodes, last_gap, node_then, IsBlock, braces}
 use Rattle.kdl_grammar.specs.Grammar.Gap.{line_space as gap_space}
-use Rattle.kdl_grammar.proofs.Reading.Control.{Control, at, Spot, fresh, spaced, later, Phase, gap, node_slashdash, type_open, type_name, type_done, in_node, property, entry_slashdash, block_slashdash, kept, kept_slashdash, Frame, in_dropped, spaced_of, slashdash_at, step, held, accepts}
+use Rattle.kdl_grammar.specs.Internal.Control.{Control, at, Spot, fresh, spaced, later, Phase, gap, node_slashdash, type_open, type_name, type_done, in_node, property, entry_slashdash, block_slashdash, kept, kept_slashdash, Frame, in_dropped, spaced_of, slashdash_at, step, held, accepts}
 use Rattle.kdl_grammar.proofs.Reading.Sound.{derives}
 use Rattle.kdl_items.specs.Items as items
 use Rattle.kdl_items.specs.Items.{Item, piece, Place, before_entry, before_block, behind_block, takes_entries, takes_blocks, PlaceItems}
