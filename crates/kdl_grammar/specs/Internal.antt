@@ -2,5 +2,7 @@
 
 -- The machine without data: which tokens may come.
 pub mod Control
+-- What is proved of the machine that builds the tree, and of the tokens of a document.
+pub mod MachineLaws
 -- The machine that builds the tree: it goes over the tokens of a text once, with a stack of open blocks.
 pub mod Machine

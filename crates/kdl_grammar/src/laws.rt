@@ -1,6 +1,8 @@
 //! What is proved of the written grammar of documents and nodes.
 
-ghost use Rattle.kdl_grammar.specs.Laws.{OneDocument, OneNode, IsLexed, OneAnswer, AnswersDocuments, AnswersAreLaid, OneLaidDocument, OneLaidNode, LaidIsDerived, LaidNodeIsDerived, NodesAreLaid, FormerIsKept, ReadsBack, EditedIsLaid};
+ghost use Rattle.kdl_grammar.specs.Laws.{OneDocument, OneNode, OneLaidDocument, OneLaidNode, LaidIsDerived, LaidNodeIsDerived, NodesAreLaid, FormerIsKept, ReadsBack, EditedIsLaid};
+
+pub mod machine;
 
 /// No text can be read as two documents.
 #[tactic(auto, using(crate::proofs::LawProofs::one_document))]
@@ -12,30 +14,6 @@ pub fn unambiguous()
 #[tactic(auto, using(crate::proofs::LawProofs::one_node))]
 pub fn unambiguous_node()
     ensures { OneNode }
-{}
-
-/// A document is cut into tokens, with nothing left.
-#[tactic(auto, using(crate::proofs::LawProofs::is_lexed))]
-pub fn lexed()
-    ensures { IsLexed }
-{}
-
-/// The machine has one answer at most on each text.
-#[tactic(auto, using(crate::proofs::LawProofs::one_answer))]
-pub fn one_answer()
-    ensures { OneAnswer }
-{}
-
-/// The machine answers exactly where the text is a document, with the document's data.
-#[tactic(auto, using(crate::proofs::LawProofs::answers_documents))]
-pub fn answers()
-    ensures { AnswersDocuments }
-{}
-
-/// What the machine answers is laid in the text, with its spans.
-#[tactic(auto, using(crate::proofs::LawProofs::answers_are_laid))]
-pub fn answers_are_laid()
-    ensures { AnswersAreLaid }
 {}
 
 /// At most one document is laid in a text with the spans of its pieces.
