@@ -12,7 +12,6 @@ use Rattle.kdl_text.proofs.Looking.Stars.{snoc}
 use Rattle.kdl_value.specs.Data.{Value}
 use Rattle.kdl_entry.specs.Data.{Entry}
 use Rattle.kdl_entry.specs.Entries.{StringPiece, IsString, string as a_string', a_string, a_plain, parens, untyped, typed, MaybeType, IsValue, value as a_value, IsEntry, property as a_property, argument}
-use Rattle.kdl_entry.specs.Places.{between}
 use Rattle.kdl_entry.specs.Internal.Tokens.{Token, slashdash, string, BeginsToken, t_space, t_newline, t_slashdash, t_string, t_value, t_left, t_right, t_opening, t_closing, t_equals, t_semicolon, t_bom, Lexes, done, next}
 use Rattle.kdl_entry.specs.Internal.Tokens as token'
 use Rattle.kdl_entry.proofs.Lexing.TokenUnique.{token_det, no_token}
