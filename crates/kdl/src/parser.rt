@@ -78,8 +78,8 @@ impl KdlDocument {
         ensures kept { (x : Nodes) → IsFormerDocument (chars text.now) x → IsSyntax result → ⊥ }
         ensures former { (x : Nodes) → IsFormerDocument (chars text.now) x
             → IfOk result (λ d. document_says d ≡ x) }
-        // A document that differs from the answer in its nodes' entries alone, at each node some of its own and
-        // entries without form, prints a text that is derived with its data.
+        // A document that differs from the answer in its nodes' entries alone, at each node some of its own, flagged
+        // or not, and entries without form, prints a text that is derived with its data.
         ensures edited { IfOk result (λ d. (e : Document)
             → EachDocument IsEdited (document_tree d) e
             → IsDocument true (print_document e 0) (document_data e)) }

@@ -7,7 +7,7 @@ use Rattle.kdl_value.specs.Print.{print_value}
 use Rattle.kdl_entry.specs.Print.{print_identifier, print_entry}
 use Rattle.kdl_value.specs.Spelled.{spelled}
 use Rattle.kdl_value.specs.WellFormed.{IsWellFormed}
-use Rattle.kdl_entry.specs.Tree.{Identifier, EntryFormat, empty_format, Entry, cleared, entry_data}
+use Rattle.kdl_entry.specs.Tree.{Identifier, EntryFormat, empty_format, Entry, without_keep, cleared, entry_data}
 
 -- an entry without format and spelling; its key and its type are of Unicode scalar values, and its value is one that memory can hold
 pub record IsFormless (e : Entry) : Type 0 where
@@ -20,12 +20,12 @@ pub record IsFormless (e : Entry) : Type 0 where
 abbrev pub formed_identifier : Identifier → Identifier
 formed_identifier i = record i { repr = Some (print_identifier i) }
 
--- an entry with the form that it prints in a node: without a format it stands behind one space, as its value is spelled
+-- an entry with the form that it prints in a node: the texts of its format, flagged or not; without a format its value as it is spelled, after one space
 abbrev pub formed : Entry → Entry
 formed e = record e { ty = option_map formed_identifier e.ty; name = option_map formed_identifier e.name; format = Some (form e.format) }
   where
     form : Option EntryFormat → EntryFormat
-    form (Some f) = f
+    form (Some f) = without_keep f
     form None = record empty_format { value_repr = print_value e.value; leading = 32 ∷ [] }
 
 -- a printed string is an identifier with that string, and what an entry without format and spelling prints is an entry with its data

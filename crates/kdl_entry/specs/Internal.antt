@@ -14,5 +14,7 @@ pub mod Handed
 pub mod IdentifierReading
 -- An item under way: the type and value of an entry behind its key, or the type and name of a node, token by token.
 pub mod Items
+-- What is proved of the machine that reads entry texts.
+pub mod MachineLaws
 -- Tokens, and the cut of a text into tokens.
 pub mod Tokens

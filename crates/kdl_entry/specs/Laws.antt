@@ -1,9 +1,8 @@
 -- What is proved of the written grammar of identifiers and entries.
-use Rattle.std.specs.Prelude.{◌≡◌, ◌↔◌, Bool, true}
+use Rattle.std.specs.Prelude.{◌≡◌, Bool, true}
 use Rattle.kdl_text.specs.Chars.{Text}
 use Rattle.kdl_entry.specs.Data as data'
 use Rattle.kdl_entry.specs.Entries.{IsIdentifierText, IsEntryText}
-use Rattle.kdl_entry.specs.Internal.EntryMachine.{AnswersEntry}
 use Rattle.kdl_entry.specs.Laid.{LaidIdentifierText, LaidEntryText}
 use Rattle.kdl_entry.specs.Print.{print_identifier, print_entry}
 use Rattle.kdl_entry.specs.Tree.{Identifier, Entry, entry_data}
@@ -35,11 +34,3 @@ OneLaidEntry = (t : Text) (d e : Entry) → LaidEntryText true t d → LaidEntry
 -- in each text that is an identifier one is laid with its value, and so for entries
 abbrev pub TextsAreLaid : Type 0
 TextsAreLaid = ((t v : Text) → IsIdentifierText true t v → (i : Identifier) × LaidIdentifierText true i t × (i.value ≡ v)) × ((t : Text) (x : data'.Entry) → IsEntryText true t x → (e : Entry) × LaidEntryText true t e × (entry_data e ≡ x))
-
--- the machine that reads entry texts has one answer at most
-abbrev pub OneEntryAnswer : Type 0
-OneEntryAnswer = (t : Text) (d e : Entry) → AnswersEntry t d → AnswersEntry t e → d ≡ e
-
--- it answers exactly where the text is an entry, with its data, and what it answers is laid in the text, with its spans
-abbrev pub EntryAnswers : Type 0
-EntryAnswers = ((t : Text) (x : data'.Entry) → IsEntryText true t x ↔ ((e : Entry) × AnswersEntry t e × (entry_data e ≡ x))) × ((t : Text) (e : Entry) → AnswersEntry t e → LaidEntryText true t e)

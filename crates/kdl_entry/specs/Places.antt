@@ -1,5 +1,5 @@
 -- Places: the texts between the parts of an item, and what may stand in them.
-use Rattle.std.specs.Prelude.{◌≡◌, Bool, true, false, ◌++◌}
+use Rattle.std.specs.Prelude.{◌≡◌, ◌-◌, Bool, true, false, ◌++◌, length, take}
 use Rattle.kdl_text.specs.Chars.{Text, Star, Plus}
 use Rattle.kdl_text.specs.Trivia.{NodeSpace, Slashdash}
 use Rattle.kdl_text.specs.Spans.{span_between}
@@ -19,6 +19,10 @@ pub data DroppedEntry : Text → Text → Type 0 where
 -- before an entry in a node: such entries, and at least one node-space
 pub data EntryLeading : Text → Text → Type 0 where
   leading : {s t r : Text} → Star DroppedEntry s t → Plus NodeSpace t r → EntryLeading s r
+
+-- the text in t before its rest s
+unfoldable pub between : Text → Text → Text
+between t s = take (length t - length s) t
 
 -- the span, in the whole text, of what stands in s before r
 unfoldable pub span_of : Text → Text → Text → SourceSpan

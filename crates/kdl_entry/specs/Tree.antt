@@ -87,6 +87,18 @@ cleared e = record (unspelled_names e) { format = None }
 abbrev pub with_keep : EntryFormat → EntryFormat
 with_keep f = record f { autoformat_keep = true }
 
+-- a format that autoformat shall not keep
+abbrev pub without_keep : EntryFormat → EntryFormat
+without_keep f = record f { autoformat_keep = false }
+
+-- an entry that is not flagged
+abbrev pub unflagged : Entry → Entry
+unflagged e = record e { format = option_map without_keep e.format }
+
+-- an entry, wherever it and its identifiers stood, and flagged or not
+abbrev pub without_spans_and_flag : Entry → Entry
+without_spans_and_flag e = without_spans (unflagged e)
+
 -- what autoformat keeps of a format: the spelling of the value and the text before the entry, without the flag
 abbrev pub kept : EntryFormat → EntryFormat
 kept f = record empty_format { value_repr = f.value_repr; leading = f.leading }

@@ -3,7 +3,8 @@ use Rattle.std.proofs.Common.{Bool, true, false, subst}
 use Rattle.kdl_text.specs.Chars.{Text}
 use Rattle.kdl_grammar.specs.Data as data'
 use Rattle.kdl_grammar.specs.Grammar.{last_gap, node_then, IsDocument, IsNodeText, node_text}
-use Rattle.kdl_grammar.specs.Laws.{OneDocument, OneNode, IsLexed, OneAnswer, AnswersDocuments, AnswersAreLaid, LaidIsDerived, LaidNodeIsDerived, NodesAreLaid, FormerIsKept}
+use Rattle.kdl_grammar.specs.Internal.MachineLaws.{IsLexed, OneAnswer, AnswersDocuments, AnswersAreLaid}
+use Rattle.kdl_grammar.specs.Laws.{OneDocument, OneNode, LaidIsDerived, LaidNodeIsDerived, NodesAreLaid, FormerIsKept}
 use Rattle.kdl_grammar.proofs.Reading.Complete.{lines_gap, built_node}
 use Rattle.kdl_grammar.proofs.Laying.LaidIsDerived.{document_of, node_text_of}
 use Rattle.kdl_grammar.proofs.Reading.Erased as erased

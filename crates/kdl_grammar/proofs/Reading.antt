@@ -4,8 +4,6 @@
 pub mod Complete
 -- What the machine without data accepts, the grammar derives.
 pub mod Sound
--- The machine without data: which tokens may come.
-pub mod Control
 -- Without data and places the machine is the one that says which tokens may come.
 pub mod Erased
 -- Where no token begins before the end of the text, the text is no document.

@@ -3,15 +3,15 @@ use Rattle.std.specs.Prelude.{◌≡◌, ◌⊎◌, Option, option_map, map}
 use Rattle.std.specs.List.{All, Contains}
 use Rattle.kdl_text.specs.declared.span.SourceSpan.{SourceSpan}
 use Rattle.kdl_entry.specs.Formless.{IsFormless, formed_identifier, formed}
-use Rattle.kdl_entry.specs.Tree.{without_span, without_spans}
+use Rattle.kdl_entry.specs.Tree.{without_span, without_spans_and_flag}
 use Rattle.kdl_grammar.specs.Tree.{DocumentFormat, Head, Node, node, Children, no_children, children, Document, document, Nodes, none, first}
 
--- spans aside, they differ in entries alone: each of the second is one of the first, or has neither a format nor a spelling
+-- spans aside, they differ in entries alone: each of the second is one of the first, flagged or not, or has neither a format nor a spelling
 pub record IsEdited (h h' : Head) : Type 0 where
   pub ty : option_map without_span h.ty ≡ option_map without_span h'.ty
   pub name : without_span h.name ≡ without_span h'.name
   pub format : h.format ≡ h'.format
-  pub entries : All (λ e. Contains (map without_spans h.entries) (without_spans e) ⊎ IsFormless e) h'.entries
+  pub entries : All (λ e. Contains (map without_spans_and_flag h.entries) (without_spans_and_flag e) ⊎ IsFormless e) h'.entries
 
 -- the second is the first with the spellings and the forms that it prints
 abbrev pub IsFormed : Head → Head → Type 0

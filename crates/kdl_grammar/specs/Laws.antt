@@ -1,13 +1,11 @@
 -- What is proved of the written grammar of documents and nodes.
-use Rattle.std.specs.Prelude.{◌≡◌, ◌↔◌, Bool, true, false, List}
+use Rattle.std.specs.Prelude.{◌≡◌, Bool, true, false}
 use Rattle.kdl_text.specs.Chars.{Text}
-use Rattle.kdl_entry.specs.Internal.Tokens.{Token, Lexes}
 use Rattle.kdl_grammar.specs.Data as data'
 use Rattle.kdl_grammar.specs.Edited.{IsEdited, IsFormed, EachDocument}
 use Rattle.kdl_grammar.specs.Former.{IsFormerDocument, IsFormerNodeText}
 use Rattle.kdl_grammar.specs.Grammar.{IsDocument, IsNodeText}
 use Rattle.kdl_grammar.specs.Laid.{LaidDocument, LaidNodeText}
-use Rattle.kdl_grammar.specs.Internal.Machine.{AnswersDocument}
 use Rattle.kdl_grammar.specs.Print.{print_document, print_node}
 use Rattle.kdl_grammar.specs.Tree.{Document, Node, document_data, node_data}
 
@@ -18,22 +16,6 @@ OneDocument = (wide : Bool) (t : Text) (x y : data'.Nodes) → IsDocument wide t
 -- a text is one node at most
 abbrev pub OneNode : Type 0
 OneNode = (wide : Bool) (t : Text) (x y : data'.Node) → IsNodeText wide t x → IsNodeText wide t y → x ≡ y
-
--- a document is cut into tokens, with nothing left
-abbrev pub IsLexed : Type 0
-IsLexed = (wide : Bool) (t : Text) (x : data'.Nodes) → IsDocument wide t x → (ks : List Token) × Lexes t ks
-
--- the machine has one answer at most
-abbrev pub OneAnswer : Type 0
-OneAnswer = (t : Text) (d e : Document) → AnswersDocument t d → AnswersDocument t e → d ≡ e
-
--- the machine answers exactly where the text is a document, with its data
-abbrev pub AnswersDocuments : Type 0
-AnswersDocuments = (t : Text) (x : data'.Nodes) → IsDocument true t x ↔ ((d : Document) × AnswersDocument t d × (document_data d ≡ x))
-
--- what the machine answers is laid in the text, with its spans
-abbrev pub AnswersAreLaid : Type 0
-AnswersAreLaid = (t : Text) (d : Document) → AnswersDocument t d → LaidDocument true d t
 
 -- at most one document is laid in a text with the spans of its pieces
 abbrev pub OneLaidDocument : Type 0
@@ -63,7 +45,7 @@ FormerIsKept = ((t : Text) (x : data'.Nodes) → IsFormerDocument t x → IsDocu
 abbrev pub ReadsBack : Type 0
 ReadsBack = (d f : Document) → EachDocument IsFormed d f → LaidDocument false f (print_document d 0) → IsDocument true (print_document d 0) (document_data d)
 
--- so does what differs, spans aside, from a laid one in its nodes' entries alone, at each node some of its own and ones without form; it is so laid
+-- so does what differs, spans aside, from a laid one in its nodes' entries alone, at each node some of its own, flagged or not, and ones without form; it is so laid
 abbrev pub EditedIsLaid : Type 0
 EditedIsLaid = (exact : Bool) (t : Text) (d e : Document) → LaidDocument exact d t → EachDocument IsEdited d e
     → IsDocument true (print_document e 0) (document_data e) × ((f : Document) → EachDocument IsFormed e f → LaidDocument false f (print_document e 0))

@@ -1,6 +1,8 @@
 //! What is proved of the written grammar of documents and nodes.
 
-ghost use Rattle.kdl_grammar.specs.Laws.{OneDocument, OneNode, IsLexed, OneAnswer, AnswersDocuments, AnswersAreLaid, OneLaidDocument, OneLaidNode, LaidIsDerived, LaidNodeIsDerived, NodesAreLaid, FormerIsKept, ReadsBack, EditedIsLaid};
+ghost use Rattle.kdl_grammar.specs.Laws.{OneDocument, OneNode, OneLaidDocument, OneLaidNode, LaidIsDerived, LaidNodeIsDerived, NodesAreLaid, FormerIsKept, ReadsBack, EditedIsLaid};
+
+pub mod machine;
 
 /// No text can be read as two documents.
 #[tactic(auto, using(crate::proofs::LawProofs::one_document))]
@@ -12,30 +14,6 @@ pub fn unambiguous()
 #[tactic(auto, using(crate::proofs::LawProofs::one_node))]
 pub fn unambiguous_node()
     ensures { OneNode }
-{}
-
-/// A document is cut into tokens, with nothing left.
-#[tactic(auto, using(crate::proofs::LawProofs::is_lexed))]
-pub fn lexed()
-    ensures { IsLexed }
-{}
-
-/// The machine has one answer at most on each text.
-#[tactic(auto, using(crate::proofs::LawProofs::one_answer))]
-pub fn one_answer()
-    ensures { OneAnswer }
-{}
-
-/// The machine answers exactly where the text is a document, with the document's data.
-#[tactic(auto, using(crate::proofs::LawProofs::answers_documents))]
-pub fn answers()
-    ensures { AnswersDocuments }
-{}
-
-/// What the machine answers is laid in the text, with its spans.
-#[tactic(auto, using(crate::proofs::LawProofs::answers_are_laid))]
-pub fn answers_are_laid()
-    ensures { AnswersAreLaid }
 {}
 
 /// At most one document is laid in a text with the spans of its pieces.
@@ -83,8 +61,8 @@ pub fn reads_back()
 {}
 
 /// Where a document is laid, each document that differs from it, spans aside, in its nodes' entries alone, at each node
-/// some of its own entries and entries without format and spelling in any order, reads back from the text that it
-/// prints, and is laid there with the spellings and the forms that it prints.
+/// some of its own entries, flagged or not, and entries without format and spelling in any order, reads back from the
+/// text that it prints, and is laid there with the spellings and the forms that it prints.
 #[tactic(auto, using(crate::proofs::Laying::FormedPrints::edited_is_laid))]
 pub fn edited_is_laid()
     ensures { EditedIsLaid }

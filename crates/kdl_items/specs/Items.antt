@@ -5,7 +5,7 @@ use Rattle.kdl_text.specs.Chars.{Text, is_newline_char, Newline, Space, Star, Pl
 use Rattle.kdl_text.specs.Trivia.{BlockComment, LineComment, NodeSpace, Break, Slashdash}
 use Rattle.kdl_entry.specs.Data.{Entry}
 use Rattle.kdl_entry.specs.Entries.{IsEntry}
-use Rattle.kdl_entry.specs.Internal.Items.{between}
+use Rattle.kdl_entry.specs.Places.{between}
 use Rattle.kdl_grammar.specs.Data.{Node, Nodes}
 use Rattle.kdl_grammar.specs.Grammar.{IsNode, IsBlock}
 

@@ -2,7 +2,7 @@
 
 ghost use Rattle.kdl_entry.specs.Internal.Handed.{Cuts, kind_view};
 ghost use Rattle.kdl_entry.specs.Internal.Tokens.{newline, semicolon, space};
-ghost use Rattle.kdl_grammar.proofs.Reading.Control.{at, finish};
+ghost use Rattle.kdl_grammar.specs.Internal.Control.{at, finish};
 ghost use Rattle.kdl_items.specs.Internal.Passing.{follows_word, is_word, slashdash_in};
 ghost use Rattle.kdl_items.specs.Items.{ItemEnd};
 ghost use Rattle.kdl_items.specs.Internal.Machine.{machine_view, phase_view};

@@ -1,7 +1,7 @@
 //! Which tokens may come behind a slashdash, up to the end of what it drops. Nothing is built.
 
 ghost use Rattle.kdl_entry.specs.Internal.Handed.{kind_view};
-ghost use Rattle.kdl_grammar.proofs.Reading.Control as control;
+ghost use Rattle.kdl_grammar.specs.Internal.Control as control;
 ghost use Rattle.kdl_items.specs.Internal.Passing.{is_block, is_gap, is_over, is_word};
 ghost use Rattle.kdl_items.specs.Internal.Machine.{Moves, frame_view, machine_view, move_view, phase_view, spot_view};
 ghost use Rattle.kdl_items.specs.declared.machine.Phase.TheVariants.{InNode};

@@ -1,6 +1,6 @@
 //! Terminators that are line comments.
 
-ghost use Rattle.kdl_entry.specs.Internal.Items.{between};
+ghost use Rattle.kdl_entry.specs.Places.{between};
 ghost use Rattle.kdl_items.specs.Items.{line_end};
 ghost use Rattle.kdl_text.specs.Trivia.{LineComment};
 ghost use Rattle.std.specs.Prelude.{◌≡◌, ◌≢◌, [], MatchBool, MatchOption};

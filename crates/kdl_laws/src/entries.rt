@@ -1,7 +1,7 @@
 //! What `==` and hashes of identifiers and entries mean, that printed entries read back, and the laws of the written
 //! grammar of both.
 
-ghost use Rattle.kdl_entry.specs.Laws.{OneIdentifier, OneEntry, OneLaidIdentifier, OneLaidEntry, LaidIdentifierIsDerived, LaidEntryIsDerived, TextsAreLaid, OneEntryAnswer, EntryAnswers};
+ghost use Rattle.kdl_entry.specs.Laws.{OneIdentifier, OneEntry, OneLaidIdentifier, OneLaidEntry, LaidIdentifierIsDerived, LaidEntryIsDerived, TextsAreLaid};
 ghost use Rattle.kdl_entry.specs.Formless.{IsFormless, FormlessReadsBack};
 ghost use Rattle.kdl_entry.specs.Tree.{identifier_tree, entry_tree, entry_format_tree, cleared, without_span, without_spans};
 ghost use Rattle.std.specs.Prelude.{◌≡◌, IsTrue, ◌↔◌, fold};
@@ -123,17 +123,4 @@ pub fn one_laid_entry()
 #[tactic(auto, using(kdl_entry::proofs::Laying::TextLaws::texts_are_laid))]
 pub fn texts_are_laid()
     ensures { TextsAreLaid }
-{}
-
-/// The machine that reads entry texts has one answer at most on each text.
-#[tactic(auto, using(kdl_entry::proofs::Reading::EntryLaws::one_entry_answer))]
-pub fn one_entry_answer()
-    ensures { OneEntryAnswer }
-{}
-
-/// That machine answers exactly where the text is an entry, with the entry's data, and what it answers is laid in the
-/// text, with its spans.
-#[tactic(auto, using(kdl_entry::proofs::Reading::EntryLaws::entry_answers))]
-pub fn entry_answers()
-    ensures { EntryAnswers }
 {}

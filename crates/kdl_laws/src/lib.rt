@@ -9,11 +9,11 @@ pub mod formats;
 pub mod items;
 pub mod keys;
 pub mod layout;
+pub mod machine;
 pub mod nodes;
 pub mod values;
 
 pub use kdl_grammar::laws::{
-    answers, answers_are_laid, edited_is_laid, former_is_kept, laid_is_derived,
-    laid_node_is_derived, lexed, nodes_are_laid, one_answer, one_laid_document, one_laid_node,
-    reads_back, unambiguous, unambiguous_node,
+    edited_is_laid, former_is_kept, laid_is_derived, laid_node_is_derived, nodes_are_laid,
+    one_laid_document, one_laid_node, reads_back, unambiguous, unambiguous_node,
 };

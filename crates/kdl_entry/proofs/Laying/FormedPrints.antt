@@ -6,7 +6,7 @@ use Rattle.kdl_value.specs.Data.{Value}
 use Rattle.kdl_entry.specs.Formless.{formed_identifier, formed}
 use Rattle.kdl_value.specs.Print.{print_value}
 use Rattle.kdl_entry.specs.Print.{print_type, print_key, print_entry}
-use Rattle.kdl_entry.specs.Tree.{Identifier, EntryFormat, Entry, entry_data}
+use Rattle.kdl_entry.specs.Tree.{Identifier, EntryFormat, Entry, without_keep, unflagged, entry_data}
 
 no_places : (a v : Text) → 32 ∷ (((a ++ []) ++ v) ++ []) ≡ 32 ∷ (a ++ v)
 no_places a v = ap (λ (z : Text). 32 ∷ z) (append-nil ((a ++ []) ++ v) ∙ ap (λ (z : Text). z ++ v) (append-nil a))
@@ -15,8 +15,8 @@ module _ (v : Value) (at : SourceSpan) where
   abbrev an_entry : Option Identifier → Option Identifier → Option EntryFormat → Entry
   an_entry ty name f = record { ty = ty; value = v; name = name; format = f; span = at }
 
-  formed_same : (ty name : Option Identifier) (o : Option EntryFormat) (f : EntryFormat) → o ≡ Some f → option_map formed_identifier ty ≡ ty → option_map formed_identifier name ≡ name
-      → formed (an_entry ty name o) ≡ an_entry ty name o
+  formed_same : (ty name : Option Identifier) (o : Option EntryFormat) (f : EntryFormat) → option_map without_keep o ≡ Some f → option_map formed_identifier ty ≡ ty → option_map formed_identifier name ≡ name
+      → formed (an_entry ty name o) ≡ unflagged (an_entry ty name o)
   formed_same ty name None f h a b = cc
   formed_same ty name (Some g) f h a b = rw (a, b) refl
 
@@ -38,8 +38,8 @@ module _ (v : Value) (at : SourceSpan) where
   formed_printed (Some y) None = no_places (print_type (Some y) [] []) (print_value v)
   formed_printed (Some y) (Some k) = no_places (print_key (Some k) [] [] ++ print_type (Some y) [] []) (print_value v)
 
--- an entry with a format and spellings is left as it is
-pub formed_is : (e : Entry) (f : EntryFormat) → e.format ≡ Some f → option_map formed_identifier e.ty ≡ e.ty → option_map formed_identifier e.name ≡ e.name → formed e ≡ e
+-- an entry with a format and spellings is left as it is, but for the flag
+pub formed_is : (e : Entry) (f : EntryFormat) → option_map without_keep e.format ≡ Some f → option_map formed_identifier e.ty ≡ e.ty → option_map formed_identifier e.name ≡ e.name → formed e ≡ unflagged e
 formed_is e f h a b = formed_same e.value e.span e.ty e.name e.format f h a b
 
 -- with a format it prints the same

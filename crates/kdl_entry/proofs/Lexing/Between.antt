@@ -5,7 +5,7 @@ use Rattle.std.proofs.lemmas.Str.{chars-nil}
 use Rattle.std.specs.Prelude.{String, string_bytes}
 use Rattle.std.specs.Str.{chars}
 use Rattle.std.specs.declared.alloc.Global.{Global}
-use Rattle.kdl_entry.specs.Internal.Items.{between}
+use Rattle.kdl_entry.specs.Places.{between}
 use Rattle.kdl_value.specs.Tree.{text_of}
 use Rattle.kdl_text.specs.Chars.{Text}
 use Rattle.kdl_text.specs.Internal.Here.{Spot, Ahead}

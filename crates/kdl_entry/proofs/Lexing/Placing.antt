@@ -2,8 +2,7 @@
 use Rattle.std.proofs.Common.{◌≡◌, ◌++◌, ap, ◌∙◌}
 use Rattle.kdl_text.specs.Chars.{Text}
 use Rattle.kdl_text.proofs.Looking.Ends.{End}
-use Rattle.kdl_entry.specs.Internal.Items.{between}
-use Rattle.kdl_entry.specs.Places.{Is}
+use Rattle.kdl_entry.specs.Places.{Is, between}
 use Rattle.kdl_entry.proofs.Lexing.Between.{is_between}
 
 pub cut : {t s : Text} → End t s → t ≡ between t s ++ s

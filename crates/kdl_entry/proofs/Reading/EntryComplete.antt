@@ -8,9 +8,9 @@ use Rattle.kdl_entry.specs.Data as data'
 use Rattle.kdl_value.specs.Data.{Value, text}
 use Rattle.kdl_entry.specs.Entries.{IsString, string as a_string', IsPlainValue, a_string, a_plain, parens, MaybeType, untyped, typed, value as a_value, IsEntry, property, argument, DroppedFirst, dropped_first, BeforeEntry, before_entry, IsEntryText, entry_text}
 use Rattle.kdl_entry.specs.Internal.EntryMachine.{Word, State, ahead, entry_slashdash, under, dropped, word, done, opened_item, word_at, entry_by, argument_of, step, ended, Runs, stops, reads, AnswersEntry}
-use Rattle.kdl_entry.specs.Internal.Items.{between, TypeParts, KeyParts, type_of, before_name, after_name, behind_type, identifier_at, Stage, opened, named, closed, keyed, Item}
+use Rattle.kdl_entry.specs.Internal.Items.{TypeParts, KeyParts, type_of, before_name, after_name, behind_type, identifier_at, Stage, opened, named, closed, keyed, Item}
 use Rattle.kdl_entry.specs.Laid.{LaidIdentifier, spelled, LaidType, no_type, a_type, no_key, a_key, LaidItem, item, LaidEntryText, laid_entry_text}
-use Rattle.kdl_entry.specs.Places.{span_of}
+use Rattle.kdl_entry.specs.Places.{span_of, between}
 use Rattle.kdl_entry.specs.Internal.Tokens.{space, newline, slashdash as a_slashdash, string, value, left, t_space, t_newline, t_slashdash, t_string, t_value, t_left, t_right, t_equals}
 use Rattle.kdl_entry.specs.Tree.{Identifier, Entry, entry_data, plain_identifier}
 use Rattle.kdl_entry.proofs.Moving.EntryEnds.{end_spaces, end_lines, end_some, end_slashdash, end_string, end_plain, end_entry}

@@ -11,9 +11,9 @@ use Rattle.kdl_text.specs.Trivia.ValueEnd.{nothing}
 use Rattle.kdl_entry.specs.Entries.{StringPiece, IsString, string, IsIdentifierText}
 use Rattle.kdl_entry.specs.Internal.Handed.{Cuts, one, spaces, IsFaultAt, HandsOut, Lexed, kind_view}
 use Rattle.kdl_entry.specs.Internal.IdentifierReading.{AnswersIdentifierText}
-use Rattle.kdl_entry.specs.Internal.Items.{between, identifier_at}
+use Rattle.kdl_entry.specs.Internal.Items.{identifier_at}
 use Rattle.kdl_entry.specs.Laid.{LaidIdentifier, LaidIdentifierText, spelled}
-use Rattle.kdl_entry.specs.Places.{Is}
+use Rattle.kdl_entry.specs.Places.{Is, between}
 use Rattle.kdl_entry.specs.Internal.Tokens as tokens
 use Rattle.kdl_entry.specs.Internal.Tokens.{BeginsToken, t_space, t_string}
 use Rattle.kdl_value.specs.Tree.{text_of}

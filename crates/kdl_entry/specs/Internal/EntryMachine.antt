@@ -5,8 +5,8 @@ use Rattle.kdl_text.specs.Chars.{Text}
 use Rattle.kdl_text.specs.declared.span.SourceSpan.{SourceSpan}
 use Rattle.kdl_value.specs.Data.{Value, text}
 use Rattle.kdl_entry.specs.Internal.Items as items
-use Rattle.kdl_entry.specs.Internal.Items.{between, entry_at, KeyParts, TypeParts, Item, opened, keyed, Answer, goes, gives, refuses}
-use Rattle.kdl_entry.specs.Places.{span_of}
+use Rattle.kdl_entry.specs.Internal.Items.{entry_at, KeyParts, TypeParts, Item, opened, keyed, Answer, goes, gives, refuses}
+use Rattle.kdl_entry.specs.Places.{span_of, between}
 use Rattle.kdl_entry.specs.Internal.Tokens.{Token, space, newline, slashdash, string, value, left, equals, BeginsToken}
 use Rattle.kdl_entry.specs.Tree.{Identifier, EntryFormat, Entry, no_span, plain_identifier}
 

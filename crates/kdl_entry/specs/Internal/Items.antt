@@ -1,16 +1,12 @@
 -- An item under way: the type and value of an entry behind its key, or the type and name of a node, token by token.
 -- The token k stands in the text s before r, in the text `whole`. Where a place began is kept as the text from there on.
-use Rattle.std.specs.Prelude.{◌-◌, Bool, true, false, [], Option, Some, None, length, take}
+use Rattle.std.specs.Prelude.{Bool, true, false, [], Option, Some, None}
 use Rattle.kdl_text.specs.Chars.{Text}
 use Rattle.kdl_text.specs.declared.span.SourceSpan.{SourceSpan}
 use Rattle.kdl_value.specs.Data.{Value, text}
-use Rattle.kdl_entry.specs.Places.{span_of}
+use Rattle.kdl_entry.specs.Places.{between, span_of}
 use Rattle.kdl_entry.specs.Internal.Tokens.{Token, space, string, value, left, right}
 use Rattle.kdl_entry.specs.Tree.{Identifier, plain_identifier, Entry}
-
--- the text between two places
-unfoldable pub between : Text → Text → Text
-between t s = take (length t - length s) t
 
 -- a type, and the texts before its name, behind it, and behind the `)`
 pub record TypeParts : Type 0 where

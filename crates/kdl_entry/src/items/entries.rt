@@ -5,7 +5,7 @@ ghost use Rattle.kdl_entry.specs.Internal.EntryMachine as machine;
 ghost use Rattle.kdl_entry.specs.Internal.EntryMachine.{argument_of, ended, finish, keyed_item, entry_by, opened_item, step, word_at};
 ghost use Rattle.kdl_entry.specs.Internal.EntryReading.{word_view, state_view, AnswersEntryText, Stands, Stepped, Ended};
 ghost use Rattle.kdl_entry.specs.Internal.Handed.{kind_view};
-ghost use Rattle.kdl_entry.specs.Internal.Items.{between};
+ghost use Rattle.kdl_entry.specs.Places.{between};
 ghost use Rattle.kdl_value.specs.Tree.{text_of, value_tree};
 ghost use Rattle.kdl_entry.specs.Tree.{entry_tree, identifier_tree};
 ghost use Rattle.kdl_text.specs.Internal.Here.{Ahead};

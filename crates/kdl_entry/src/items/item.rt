@@ -6,8 +6,8 @@ ghost use Rattle.kdl_entry.specs.Internal.Building.{key_view, type_view, item_vi
 ghost use Rattle.kdl_entry.specs.Internal.Counted.{Sliced, ItemSliced};
 ghost use Rattle.kdl_entry.specs.Internal.Handed.{kind_view};
 ghost use Rattle.kdl_entry.specs.Internal.Items as spec;
-ghost use Rattle.kdl_entry.specs.Internal.Items.{between, entry_at, identifier_at};
-ghost use Rattle.kdl_entry.specs.Places.{span_of};
+ghost use Rattle.kdl_entry.specs.Internal.Items.{entry_at, identifier_at};
+ghost use Rattle.kdl_entry.specs.Places.{span_of, between};
 ghost use Rattle.kdl_value.specs.Tree.{value_tree, text_of};
 ghost use Rattle.kdl_entry.specs.Tree.{entry_tree, identifier_tree};
 ghost use Rattle.kdl_text.specs.Internal.Here.{Ahead};

@@ -1,7 +1,7 @@
 -- A document that is laid out has a list of items.
 use Rattle.std.proofs.Common.{◌≡◌, ℕ, ◌+◌, Bool, true, false, ◌||◌, List, [], ◌∷◌, ◌++◌, subst}
 use Rattle.kdl_text.specs.Chars.{Text}
-use Rattle.kdl_entry.specs.Internal.Items.{between}
+use Rattle.kdl_entry.specs.Places.{between}
 use Rattle.kdl_entry.specs.Tree.{Entry, autoformatted}
 use Rattle.kdl_grammar.specs.Tree.{DocumentFormat, Node, node, Children, no_children, children, Document, document, Nodes, none, first}
 use Rattle.kdl_items.specs.Items.{Item, comment, line_end, GapItems, before_entry, before_block, PlaceItems}

@@ -6,7 +6,7 @@ use Rattle.kdl_text.specs.Chars.{Text}
 use Rattle.kdl_text.specs.declared.span.SourceSpan.{SourceSpan}
 use Rattle.kdl_entry.specs.Formless.{IsFormless, formed_identifier, formed}
 use Rattle.kdl_entry.specs.Print.{print_type}
-use Rattle.kdl_entry.specs.Tree.{Identifier, EntryFormat, Entry, without_span, without_spans, entry_data}
+use Rattle.kdl_entry.specs.Tree.{Identifier, EntryFormat, Entry, without_span, without_spans_and_flag, entry_data}
 use Rattle.kdl_entry.proofs.Laying.FormedPrints.{same_data, same_printed, space_before}
 use Rattle.kdl_entry.proofs.Laying.FormlessLaid.{formless_stands}
 use Rattle.kdl_entry.proofs.Laying.EntryStands.{CanStand, own_stands, own_type, own_identifier}
@@ -124,20 +124,20 @@ module _ (R S : Head → Head → Type 0) where
     both_nodes EachNodes.last EachNodes.last = EachNodes.last
     both_nodes (EachNodes.next d ds) (EachNodes.next e es) = EachNodes.next (both_node d e) (both_nodes ds es)
 
--- an entry that is one of those laid, spans aside, can stand
+-- an entry that is one of those laid, spans and the flag aside, can stand
 contained_stands : {exact : Bool} {whole : Text} {es : List Entry} {s r : Text} → LaidEntries exact whole es s r → (e : Entry)
-    → (k : ℕ) → k < length (map without_spans es) → slice_index_or (map without_spans es) k (without_spans e) ≡ without_spans e → CanStand (formed e)
+    → (k : ℕ) → k < length (map without_spans_and_flag es) → slice_index_or (map without_spans_and_flag es) k (without_spans_and_flag e) ≡ without_spans_and_flag e → CanStand (formed e)
 contained_stands no_entry e k h x = absurd (omega arith)
 contained_stands (an_entry {e = y} d ds) e zero h x = own_stands {e = y} e x d
 contained_stands (an_entry d ds) e (suc k) h x = contained_stands ds e k (omega arith) x
 
 -- own entries and new ones can stand
 chosen_stand : {exact : Bool} {whole : Text} {old : List Entry} {s r : Text} → LaidEntries exact whole old s r → (es : List Entry)
-    → All (λ (e : Entry). Contains (map without_spans old) (without_spans e) ⊎ IsFormless e) es → AllStand (map formed es)
+    → All (λ (e : Entry). Contains (map without_spans_and_flag old) (without_spans_and_flag e) ⊎ IsFormless e) es → AllStand (map formed es)
 chosen_stand d [] c = none_stands
 chosen_stand {old = old} d (e ∷ es) c = one_stands (go (c zero e (omega arith))) (chosen_stand d es (λ k x h. c (suc k) x (omega arith)))
   where
-    go : Contains (map without_spans old) (without_spans e) ⊎ IsFormless e → CanStand (formed e)
+    go : Contains (map without_spans_and_flag old) (without_spans_and_flag e) ⊎ IsFormless e → CanStand (formed e)
     go (inl (k, h, x)) = contained_stands d e k h x
     go (inr f) = λ whole u v. formless_stands whole e u f v
 

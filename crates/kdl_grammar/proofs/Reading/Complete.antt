@@ -10,7 +10,7 @@ use Rattle.kdl_entry.specs.Data as entry_data'
 use Rattle.kdl_value.specs.Data.{Value, text}
 use Rattle.kdl_entry.specs.Entries.{IsString, string as a_string', PlainPiece, IsPlainValue, a_string, a_plain, parens, MaybeType, untyped, typed as a_typed, value as a_value, IsEntry, property as a_property, argument}
 use Rattle.kdl_entry.specs.Laid.{LaidIdentifier, spelled, LaidType, no_type, a_type, no_key, a_key, LaidItem, item, laid_entry}
-use Rattle.kdl_entry.specs.Places.{Is, DroppedEntry, leading as an_entry_leading, span_of}
+use Rattle.kdl_entry.specs.Places.{Is, DroppedEntry, leading as an_entry_leading, span_of, between}
 use Rattle.kdl_entry.specs.Internal.Tokens.{Token, space, newline, string, value, left, closing, semicolon, t_space, t_newline, t_slashdash, t_string, t_value, t_left, t_right, t_opening, t_closing, t_equals, t_semicolon}
 use Rattle.kdl_entry.specs.Tree.{Identifier, Entry, entry_data}
 use Rattle.kdl_entry.proofs.Lexing.TokenUnique.{token_det, no_token}
@@ -22,7 +22,7 @@ use Rattle.kdl_grammar.specs.Laid.{content_span}
 use Rattle.kdl_grammar.specs.Laid.{LaidEntries, no_entry, an_entry, laid_node, LaidChildren, no_block as laid_no_block, a_block, LaidNodes, no_node, a_node, LaidContent, without_nodes, with_nodes, LaidDocument, with_bom, node_format, LaidNodeText, laid_node_text}
 use Rattle.kdl_grammar.specs.Places.{DroppedBlock, AfterChildren, after as after_children, before as before_children}
 use Rattle.kdl_grammar.specs.Tree.{Node, node, Children, no_children, children, Document, document, Nodes, none, first, join, node_data, children_data, document_data, nodes_data}
-use Rattle.kdl_entry.specs.Internal.Items.{between, TypeParts, KeyParts, type_of, before_name, after_name, behind_type, key_identifier, identifier_at, entry_at}
+use Rattle.kdl_entry.specs.Internal.Items.{TypeParts, KeyParts, type_of, before_name, after_name, behind_type, key_identifier, identifier_at, entry_at}
 use Rattle.kdl_grammar.specs.Internal.Machine.{Under, Kept, Slot, no_name, for_name, no_value, for_value, Pending, pending, Spot, fresh, spaced, later, gap, node_slashdash, type_open, type_name, type_done, in_node, property, entry_slashdash, block_slashdash, kept, kept_slashdash, Frame, in_block, in_dropped, in_later, State, at, origin, moved, entry_slot, keyed, with_entry, filled, node_at, closed, closed_kept, ended, inside, content_at, spaced_of, slashdash_at, given, worded, typed, step, finish, initial, Runs, stops, reads, AnswersDocument}
 use Rattle.kdl_grammar.proofs.Moving.Ends.{end_terminator, end_gap, end_dropped_block}
 pub mod OneLaid

@@ -7,7 +7,7 @@ use Rattle.kdl_text.specs.Trivia.{Break}
 use Rattle.kdl_text.proofs.Looking.MovesJoin.{bytes-append}
 use Rattle.kdl_text.proofs.Looking.Texts.{bytes-chars}
 use Rattle.kdl_entry.specs.Internal.Handed.{Cuts, one, kind_view}
-use Rattle.kdl_entry.specs.Internal.Items.{between}
+use Rattle.kdl_entry.specs.Places.{between}
 use Rattle.kdl_entry.specs.Internal.Tokens.{newline, semicolon, t_newline, t_semicolon, Token}
 use Rattle.kdl_entry.specs.declared.items.lexer.TokenKind.{TokenKind}
 use Rattle.kdl_entry.specs.declared.items.lexer.TokenKind.TheVariants.{Semicolon}

@@ -11,7 +11,7 @@ use Rattle.kdl_entry.specs.Internal.Handed.{Cuts, one, spaces, NoToken, kind_vie
 use Rattle.kdl_entry.specs.Internal.Tokens.{Token, space, newline, semicolon, slashdash, string, value, left, right, opening, closing, equals, bom, t_space, BeginsToken}
 use Rattle.kdl_entry.specs.declared.items.lexer.Token.{Token as CodeToken}
 use Rattle.kdl_entry.proofs.Lexing.TokenUnique.{token_det, token_shorter, no_token}
-use Rattle.kdl_grammar.proofs.Reading.Control.{fresh, spaced, later, gap, node_slashdash, type_open, type_name, type_done, in_node, property, entry_slashdash, block_slashdash, kept, kept_slashdash, in_block, in_dropped, in_later, Control, at, step, finish, held}
+use Rattle.kdl_grammar.specs.Internal.Control.{fresh, spaced, later, gap, node_slashdash, type_open, type_name, type_done, in_node, property, entry_slashdash, block_slashdash, kept, kept_slashdash, in_block, in_dropped, in_later, Control, at, step, finish, held}
 use Rattle.kdl_items.specs.Items.{ItemEnd}
 use Rattle.kdl_items.specs.Internal.Passing.{moved, is_gap, NodeEnd, returned, ended, NodePasses, returns, ends, goes}
 use Rattle.kdl_items.specs.Internal.Passed.{Before, EndsAt, AnswersDroppedNode, of_spaces}

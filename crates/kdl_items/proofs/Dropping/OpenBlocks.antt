@@ -3,7 +3,7 @@ use Rattle.std.proofs.Common.{◌≡◌, ◌⊎◌, inl, inr, ℕ, suc, ◌==◌
 use Rattle.std.proofs.lemmas.Bool.{eq-eqb, eqb-true}
 use Rattle.std.specs.Prelude.{option_to_list}
 use Rattle.kdl_entry.specs.Internal.Tokens.{Token}
-use Rattle.kdl_grammar.proofs.Reading.Control as control
+use Rattle.kdl_grammar.specs.Internal.Control as control
 use Rattle.kdl_items.specs.Internal.Machine.{spot_view, phase_view, frame_view, stacked, move_view}
 use Rattle.kdl_items.specs.declared.machine.Frame.{Frame}
 use Rattle.kdl_items.specs.declared.machine.Move.{Move}

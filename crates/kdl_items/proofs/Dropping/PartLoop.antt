@@ -10,7 +10,7 @@ use Rattle.kdl_entry.specs.Internal.Handed.{Cuts, one, spaces, NoToken, kind_vie
 use Rattle.kdl_entry.specs.Internal.Tokens.{Token, space, t_space, BeginsToken}
 use Rattle.kdl_entry.specs.declared.items.lexer.Token.{Token as CodeToken}
 use Rattle.kdl_entry.proofs.Lexing.TokenUnique.{token_det, no_token}
-use Rattle.kdl_grammar.proofs.Reading.Control.{fresh, spaced, later, gap, node_slashdash, type_open, type_name, type_done, in_node, property, entry_slashdash, block_slashdash, kept, kept_slashdash, Control, at, step}
+use Rattle.kdl_grammar.specs.Internal.Control.{fresh, spaced, later, gap, node_slashdash, type_open, type_name, type_done, in_node, property, entry_slashdash, block_slashdash, kept, kept_slashdash, Control, at, step}
 use Rattle.kdl_items.specs.Items.{Place, before_entry, before_block, behind_block}
 use Rattle.kdl_items.specs.Internal.Passing.{moved, is_over, is_block, is_word, follows_word, slashdash_in, PartPasses, over, word_ends, word_over, goes}
 use Rattle.kdl_items.specs.Internal.Passed.{Before, AnswersDroppedPart, of_spaces}

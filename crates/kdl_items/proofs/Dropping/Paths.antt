@@ -11,7 +11,7 @@ use Rattle.kdl_entry.specs.Internal.Tokens.{Token, space, newline, string, value
 use Rattle.kdl_entry.proofs.Lexing.TokenUnique.{token_det, no_token}
 use Rattle.kdl_grammar.specs.Data.{Node, Children, Nodes}
 use Rattle.kdl_grammar.specs.Grammar.{Terminator, IsNode, named, AfterName, kept_entry, dropped_entry, Blocks, AfterBlock, dropped_later, no_more, Gap, no_gap, line_space, dropped_node, AreNodes, last_gap, node_then, IsBlock, braces}
-use Rattle.kdl_grammar.proofs.Reading.Control.{Spot, fresh, spaced, later, Phase, gap, node_slashdash, type_open, type_name, type_done, in_node, property, entry_slashdash, block_slashdash, kept, kept_slashdash, Frame, in_block, in_dropped, in_later, Control, at, popped, spaced_of, slashdash_at, step}
+use Rattle.kdl_grammar.specs.Internal.Control.{Spot, fresh, spaced, later, Phase, gap, node_slashdash, type_open, type_name, type_done, in_node, property, entry_slashdash, block_slashdash, kept, kept_slashdash, Frame, in_block, in_dropped, in_later, Control, at, popped, spaced_of, slashdash_at, step}
 use Rattle.kdl_items.specs.Internal.Passing.{moved, is_gap, NodeEnd, NodePasses, is_over, is_word, follows_word, PartPasses, slashdash_phase}
 
 -- behind the name of a node

@@ -3,10 +3,10 @@ use Rattle.std.proofs.Common.{◌≡◌, Bool, true, false, List, [], ◌∷◌,
 use Rattle.kdl_text.specs.Chars.{Text, Star, plus}
 use Rattle.kdl_text.specs.Chars.Star.{none as no_star, more}
 use Rattle.kdl_text.specs.Trivia.{NodeSpace, slashdash}
-use Rattle.kdl_entry.specs.Internal.Items.{between}
+use Rattle.kdl_entry.specs.Places.{between}
 use Rattle.kdl_grammar.specs.Data.{Node}
 use Rattle.kdl_grammar.specs.Grammar.{IsNode}
-use Rattle.kdl_grammar.proofs.Reading.Control.{at, node_slashdash}
+use Rattle.kdl_grammar.specs.Internal.Control.{at, node_slashdash}
 use Rattle.kdl_items.specs.Items.{Item, piece, EndsTight, GapItems, Place, takes_entries, PlaceItems}
 use Rattle.kdl_items.specs.Internal.Passing.{ended, NodePasses, PartPasses, slashdash_phase, slashdash_in}
 use Rattle.kdl_items.proofs.Dropping.DroppedNodes.{passes_node, passes_last, node_returned, node_ended}

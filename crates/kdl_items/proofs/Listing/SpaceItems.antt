@@ -17,7 +17,7 @@ use Rattle.kdl_text.proofs.Spacing.SpaceUnique.{slash_no_space, backslash_no_spa
 use Rattle.kdl_text.proofs.Spacing.NewlineUnique.{newline_det}
 use Rattle.kdl_text.proofs.Spacing.SpacePieces.{node_space_shorter, line_space_shorter, slashdash_shorter}
 use Rattle.kdl_entry.specs.Internal.Tokens.{t_space, t_newline, t_slashdash}
-use Rattle.kdl_entry.specs.Internal.Items.{between}
+use Rattle.kdl_entry.specs.Places.{between}
 use Rattle.kdl_entry.proofs.Lexing.TokenUnique.{token_det}
 use Rattle.kdl_items.specs.Items.{Item, comment, piece, line_end, EsclineItems, SpaceItems, LineSpaceItems, GapItems, Place, may_end, spaced, PlaceItems}
 

@@ -4,8 +4,7 @@ use Rattle.kdl_text.specs.Chars.{Text, is_space, Space, none, more, plus, space 
 use Rattle.kdl_text.specs.Trivia.{BlockComment, LineComment, Ws, EscEnd, escline, NodeSpace, Slashdash, ValueEnd}
 use Rattle.kdl_entry.specs.Data.{Entry}
 use Rattle.kdl_entry.specs.Entries.{IsEntry}
-use Rattle.kdl_entry.specs.Internal.Items.{between}
-use Rattle.kdl_entry.specs.Places.{dropped as dropped_e, EntryLeading, leading}
+use Rattle.kdl_entry.specs.Places.{dropped as dropped_e, EntryLeading, leading, between}
 use Rattle.kdl_entry.proofs.Lexing.Between.{between_is, is_between}
 use Rattle.kdl_entry.proofs.Moving.EntryMoves.{move_slashdash, move_entry}
 use Rattle.kdl_entry.proofs.Moving.Puts.{joined}

@@ -1,7 +1,7 @@
 -- What the fields of the machine behind a slashdash stand for.
 use Rattle.std.specs.Prelude.{◌≡◌, List, [], ◌∷◌, Option, Some, None}
 use Rattle.kdl_entry.specs.Internal.Tokens.{Token}
-use Rattle.kdl_grammar.proofs.Reading.Control as c
+use Rattle.kdl_grammar.specs.Internal.Control as c
 use Rattle.kdl_items.specs.declared.machine.Frame.{Frame}
 use Rattle.kdl_items.specs.declared.machine.Frame.TheVariants.{Node, Dropped, Later as LaterBlock}
 use Rattle.kdl_items.specs.declared.machine.Machine.{Machine}

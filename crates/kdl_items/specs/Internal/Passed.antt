@@ -5,7 +5,7 @@ use Rattle.std.specs.Str.{chars}
 use Rattle.kdl_text.specs.Chars.{Text}
 use Rattle.kdl_text.specs.Spans.{bytes}
 use Rattle.kdl_entry.specs.Internal.Tokens.{Token, space}
-use Rattle.kdl_grammar.proofs.Reading.Control.{at, node_slashdash}
+use Rattle.kdl_grammar.specs.Internal.Control.{at, node_slashdash}
 use Rattle.kdl_items.specs.Internal.Passing as passing
 use Rattle.kdl_items.specs.Internal.Passing.{NodePasses, PartPasses, returned, ended, slashdash_in}
 use Rattle.kdl_items.specs.Items.{Item, ItemEnd, Place, PlaceItems, behind_block, spaced, takes_blocks}

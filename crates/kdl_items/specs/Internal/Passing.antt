@@ -2,7 +2,7 @@
 use Rattle.std.specs.Prelude.{◌≡◌, Bool, true, false, ◌&&◌, not, [], Some}
 use Rattle.kdl_text.specs.Chars.{Text}
 use Rattle.kdl_entry.specs.Internal.Tokens.{Token, space, equals, BeginsToken}
-use Rattle.kdl_grammar.proofs.Reading.Control.{Control, at, gap, in_node, fresh, spaced, later, entry_slashdash, block_slashdash, Phase, step, finish}
+use Rattle.kdl_grammar.specs.Internal.Control.{Control, at, gap, in_node, fresh, spaced, later, entry_slashdash, block_slashdash, Phase, step, finish}
 use Rattle.kdl_items.specs.Items.{Place, takes_entries}
 
 -- where the last token that is no node-space ends

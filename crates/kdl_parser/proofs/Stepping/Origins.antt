@@ -1,7 +1,7 @@
 -- Where the place under way begins, behind an item or as before.
 use Rattle.std.proofs.Common.{◌≡◌, [], Option, Some, None, sym, subst}
 use Rattle.kdl_text.specs.Chars.{Text}
-use Rattle.kdl_entry.specs.Internal.Items.{between}
+use Rattle.kdl_entry.specs.Places.{between}
 use Rattle.kdl_entry.proofs.Lexing.Between.{between_is}
 use Rattle.kdl_grammar.specs.Internal.Machine.{origin}
 use Rattle.kdl_grammar.specs.Internal.Machine as machine

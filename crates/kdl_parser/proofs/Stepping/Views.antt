@@ -4,7 +4,7 @@ use Rattle.std.proofs.lemmas.Bool.{eq-eqb, eqb-true}
 use Rattle.kdl_text.specs.Chars.{Text}
 use Rattle.kdl_entry.specs.Tree.{entry_tree}
 use Rattle.kdl_entry.specs.declared.entry.KdlEntry.{KdlEntry}
-use Rattle.kdl_entry.specs.Internal.Items.{between}
+use Rattle.kdl_entry.specs.Places.{between}
 use Rattle.kdl_grammar.specs.Tree.{Node, Document, Nodes, none, first, join}
 use Rattle.kdl_parser.specs.Internal.Parts.{nodes_tree}
 use Rattle.kdl_grammar.specs.Internal.Machine as machine

@@ -13,7 +13,8 @@ use Rattle.kdl_entry.specs.Internal.Building.{key_view, item_view}
 use Rattle.kdl_entry.specs.Internal.Counted.{Sliced}
 use Rattle.kdl_entry.specs.Internal.Handed.{kind_view}
 use Rattle.kdl_entry.specs.Internal.Items as items
-use Rattle.kdl_entry.specs.Internal.Items.{between, TypeParts, KeyParts}
+use Rattle.kdl_entry.specs.Internal.Items.{TypeParts, KeyParts}
+use Rattle.kdl_entry.specs.Places.{between}
 use Rattle.kdl_entry.specs.Tree.{plain_identifier}
 use Rattle.kdl_entry.specs.declared.items.lexer.LexFailure.{LexFailure}
 use Rattle.kdl_entry.specs.declared.items.lexer.TokenKind.{TokenKind}

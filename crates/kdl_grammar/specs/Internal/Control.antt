@@ -28,20 +28,24 @@ pub data Frame : Type 0 where
   in_dropped : Frame
   in_later : Frame
 
+-- where in the grammar the machine is, and the open blocks, the innermost first
 pub data Control : Type 0 where
   at : Phase → List Frame → Control
 
+-- after the `}` of the innermost block
 abbrev pub popped : List Frame → Option Control
 popped [] = None
 popped (in_block ∷ fs) = Some (at kept fs)
 popped (in_dropped ∷ fs) = Some (at (in_node later) fs)
 popped (in_later ∷ fs) = Some (at kept fs)
 
+-- after spaces
 abbrev pub spaced_of : Spot → Spot
 spaced_of (fresh b) = spaced b
 spaced_of (spaced b) = spaced b
 spaced_of later = later
 
+-- after a slashdash: an entry or a block may come, but after a dropped block a block alone
 abbrev pub slashdash_at : Spot → Phase
 slashdash_at (fresh b) = entry_slashdash
 slashdash_at (spaced b) = entry_slashdash
@@ -63,6 +67,7 @@ abbrev pub for_value : Bool → Control → Option Control
 for_value true c = Some c
 for_value false c = None
 
+-- where the machine is after the token; nowhere, where the token may not come
 abbrev pub step : Control → Token → Option Control
 step (at gap fs) space = Some (at gap fs)
 step (at gap fs) newline = Some (at gap fs)
@@ -114,12 +119,14 @@ step (at kept_slashdash fs) newline = Some (at kept_slashdash fs)
 step (at kept_slashdash fs) opening = Some (at gap (in_later ∷ fs))
 step _ _ = None
 
+-- the text may end here
 abbrev pub finish : Control → Bool
 finish (at gap []) = true
 finish (at (in_node p) []) = true
 finish (at kept []) = true
 finish _ = false
 
+-- there is one, of which f holds
 abbrev pub held : (Control → Bool) → Option Control → Bool
 held f None = false
 held f (Some c) = f c

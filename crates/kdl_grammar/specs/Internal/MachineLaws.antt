@@ -1,0 +1,25 @@
+-- What is proved of the machine that builds the tree, and of the tokens of a document.
+use Rattle.std.specs.Prelude.{◌≡◌, ◌↔◌, Bool, true, List}
+use Rattle.kdl_text.specs.Chars.{Text}
+use Rattle.kdl_entry.specs.Internal.Tokens.{Token, Lexes}
+use Rattle.kdl_grammar.specs.Data as data'
+use Rattle.kdl_grammar.specs.Grammar.{IsDocument}
+use Rattle.kdl_grammar.specs.Laid.{LaidDocument}
+use Rattle.kdl_grammar.specs.Internal.Machine.{AnswersDocument}
+use Rattle.kdl_grammar.specs.Tree.{Document, document_data}
+
+-- a document is cut into tokens, with nothing left
+abbrev pub IsLexed : Type 0
+IsLexed = (wide : Bool) (t : Text) (x : data'.Nodes) → IsDocument wide t x → (ks : List Token) × Lexes t ks
+
+-- the machine has one answer at most
+abbrev pub OneAnswer : Type 0
+OneAnswer = (t : Text) (d e : Document) → AnswersDocument t d → AnswersDocument t e → d ≡ e
+
+-- the machine answers exactly where the text is a document, with its data
+abbrev pub AnswersDocuments : Type 0
+AnswersDocuments = (t : Text) (x : data'.Nodes) → IsDocument true t x ↔ ((d : Document) × AnswersDocument t d × (document_data d ≡ x))
+
+-- what the machine answers is laid in the text, with its spans
+abbrev pub AnswersAreLaid : Type 0
+AnswersAreLaid = (t : Text) (d : Document) → AnswersDocument t d → LaidDocument true d t
