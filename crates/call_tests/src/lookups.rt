@@ -5,9 +5,11 @@ ghost use Rattle.kdl.specs.declared.node.KdlNode.{out-KdlNode};
 ghost use Rattle.kdl_parts.specs.declared.key.NodeKey.TheVariants.{Index as at_index};
 ghost use Rattle.std.specs.Prelude.{◌≡◌, IsSome, OnErr, OnOk, option_map, slice_get};
 
-use crate::reading::{equal, holds, is_absent, is_whole, key, node, prints, text};
+use crate::reading::{equal, holds, is_absent, is_whole, key, node, prints, says, text};
 use kdl::{KdlEntry, KdlNode, KdlValue, NodeKey};
-use std::alloc::AllocError;
+use std::alloc::{AllocError, Global};
+use std::fmt::Debug;
+use std::process::Abort;
 
 /// Writes the value of the last property of that name, or pushes such a property.
 fn set_property(node: &mut KdlNode, name: &str, value: KdlValue) -> Result<(), AllocError>
@@ -26,6 +28,16 @@ fn set_first(node: &mut KdlNode, value: KdlValue)
     ensures { node.new ≡ with_value_there (key_place (at_index 0) node.old) node.old value }
 {
     node[0] = value;
+}
+
+/// Drops the entries of each child.
+fn clear_each_child(node: &mut KdlNode)
+    ensures { out-KdlNode node.new ≡ record (out-KdlNode node.old)
+        { children = (out-KdlNode node.new).children } }
+{
+    for child in node.iter_children_mut() {
+        child.clear();
+    }
 }
 
 /// Makes the entry that the key finds null.
@@ -165,5 +177,95 @@ fn no_children_without_a_block(rt: HostRuntime) {
     let is_over = bare.iter_children_mut().next().is_none();
     holds(&rt, is_over, "no children");
     equal(&rt, &bare.iter_children_mut().size_hint(), &(0, Some(0)));
+    drop(bare);
+}
+
+#[test]
+fn children_cleared_in_place(rt: HostRuntime) {
+    let alloc = rt.alloc();
+    let mut node = node(&rt, alloc, "(t)n 1 k=2 { a 3; b c=4 { d 5; }; } // e\n");
+    clear_each_child(&mut node);
+    prints(&rt, alloc, &node, "(t)n 1 k=2 { a; b { d 5; }; } // e\n");
+    drop(node);
+}
+
+/// The iterator shows what is left as the list, between these texts.
+fn shows(
+    rt: &impl Abort,
+    alloc: Global,
+    iterator: &impl Debug,
+    (before, after): (&str, &str),
+    left: &impl Debug,
+) {
+    let shown = format!(in alloc; "{iterator:?}").expect(rt, "memory");
+    let wanted = format!(in alloc; "{before}{left:?}{after}").expect(rt, "memory");
+    says(rt, shown.as_str(), wanted.as_str());
+    drop(shown);
+    drop(wanted);
+}
+
+/// The iterators over a node, or over its copy, show what is left once one item was taken.
+fn check_shown(rt: &impl Abort, alloc: Global, node: &KdlNode, copy: &mut KdlNode) {
+    let entries = &node.entries()[1..];
+    let mut iter = node.iter();
+    holds(rt, iter.next().is_some(), "an item");
+    shows(rt, alloc, &iter, ("EntryIter(Iter(", "))"), &entries);
+    let mut iter = copy.iter_mut();
+    holds(rt, iter.next().is_some(), "an item");
+    shows(rt, alloc, &iter, ("EntryIterMut(IterMut(", "))"), &entries);
+    let nodes = node.children().expect(rt, "no block").nodes();
+    let mut iter = node.iter_children();
+    shows(rt, alloc, &iter, ("ChildrenIter(Some(Iter(", ")))"), &nodes);
+    holds(rt, iter.next().is_some(), "an item");
+    shows(
+        rt,
+        alloc,
+        &iter,
+        ("ChildrenIter(Some(Iter(", ")))"),
+        &&nodes[1..],
+    );
+    let mut iter = copy.iter_children_mut();
+    shows(rt, alloc, &iter, ("ChildrenIterMut(", ")"), &nodes);
+    holds(rt, iter.next().is_some(), "an item");
+    shows(rt, alloc, &iter, ("ChildrenIterMut(", ")"), &&nodes[1..]);
+}
+
+#[test]
+fn iterators_show_what_is_left(rt: HostRuntime) {
+    let alloc = rt.alloc();
+    let node = node(&rt, alloc, "n 1 k=2 { a; b; }");
+    let mut copy = node.clone().expect(&rt, "memory");
+    check_shown(&rt, alloc, &node, &mut copy);
+    drop(node);
+    drop(copy);
+}
+
+#[test]
+fn iterators_show_that_nothing_is_left(rt: HostRuntime) {
+    let alloc = rt.alloc();
+    let mut bare = node(&rt, alloc, "n");
+    let none: [u8; 0] = [];
+    shows(&rt, alloc, &bare.iter(), ("EntryIter(Iter(", "))"), &none);
+    shows(
+        &rt,
+        alloc,
+        &bare.iter_mut(),
+        ("EntryIterMut(IterMut(", "))"),
+        &none,
+    );
+    shows(
+        &rt,
+        alloc,
+        &bare.iter_children(),
+        ("ChildrenIter(", ")"),
+        &None::<u8>,
+    );
+    shows(
+        &rt,
+        alloc,
+        &bare.iter_children_mut(),
+        ("ChildrenIterMut(", ")"),
+        &none,
+    );
     drop(bare);
 }

@@ -18,7 +18,7 @@ pub use Rattle.kdl_parts.specs.EntryLists.{is_argument, sought, there}
 pub use Rattle.kdl_fmt.specs.Canonical.{canonical_text}
 pub use Rattle.kdl_fmt.specs.Comments.{CommentsStay}
 pub use Rattle.kdl_fmt.specs.Config.{defaults, settings, without_comments}
-pub use Rattle.kdl_fmt.specs.Formatted.{DocumentKeepsNone, formatted_document}
+pub use Rattle.kdl_fmt.specs.Formatted.{DocumentKeepsNone, DocumentLevelsFit, NodeLevelsFit, formatted_document}
 pub use Rattle.kdl_fmt.specs.WithComments.{IsFormattedDocument}
 pub use Rattle.kdl.specs.Change.{with_entries, with_entry, with_node, with_nodes}
 pub use Rattle.kdl.specs.DocumentLookups.{argument_named, arguments_of, is_node_named, node_named, node_place, nodes_of, with_argument_named, with_node_named}

@@ -1,5 +1,5 @@
 -- What layout makes of a document where comments are left out: everything is as it was, but formats and spellings.
-use Rattle.std.specs.Prelude.{◌≡◌, ℕ, ◌+◌, Bool, true, false, List, [], ◌∷◌, ◌++◌, map, Option, Some, None, option_map}
+use Rattle.std.specs.Prelude.{◌≡◌, ℕ, ◌+◌, ◌<◌, ◌^◌, Bool, true, false, List, [], ◌∷◌, ◌++◌, map, Option, Some, None, option_map}
 use Rattle.kdl_text.specs.Chars.{Text}
 use Rattle.kdl_entry.specs.Tree.{Entry, unspelled, with_keep, autoformatted, cleared}
 use Rattle.kdl_grammar.specs.Tree.{NodeFormat, DocumentFormat, Head, Node, node, Children, no_children, children, Document, document, Nodes, none, first}
@@ -65,6 +65,23 @@ abbrev mutual
 -- a document whose nodes are at a level
 abbrev pub formatted_document : Settings → ℕ → Document → Document
 formatted_document s level (document f span ns) = document (Some (content_format ns)) span (formatted_nodes s level ns)
+
+-- where the node is at the level, the nodes in each block inside it are at levels below 2 ^ 64
+abbrev mutual
+  pub NodeLevelsFit : ℕ → Node → Type 0
+  NodeLevelsFit level (node h k) = ChildrenLevelsFit level k
+
+  pub ChildrenLevelsFit : ℕ → Children → Type 0
+  ChildrenLevelsFit level no_children = Unit {0}
+  ChildrenLevelsFit level (children (document f span ns)) = (level + 1 < 2 ^ 64) × NodesLevelsFit (level + 1) ns
+
+  pub NodesLevelsFit : ℕ → Nodes → Type 0
+  NodesLevelsFit level none = Unit {0}
+  NodesLevelsFit level (first n ns) = NodeLevelsFit level n × NodesLevelsFit level ns
+
+-- the same, where the nodes of the document are at the level
+abbrev pub DocumentLevelsFit : ℕ → Document → Type 0
+DocumentLevelsFit level (document f span ns) = NodesLevelsFit level ns
 
 -- what stays: all but formats and spellings
 abbrev pub bare_head : Head → Head

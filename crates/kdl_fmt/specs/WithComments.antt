@@ -1,5 +1,5 @@
 -- What layout makes of a document, with the comments that it keeps.
-use Rattle.std.specs.Prelude.{◌≡◌, ℕ, ◌+◌, Bool, true, false, List, [], ◌∷◌, ◌++◌, Option, Some, option_map}
+use Rattle.std.specs.Prelude.{◌≡◌, ℕ, ◌+◌, ◌<◌, ◌^◌, Bool, true, false, List, [], ◌∷◌, ◌++◌, Option, Some, option_map}
 use Rattle.kdl_text.specs.Chars.{Text}
 use Rattle.kdl_value.specs.Print.{print_value}
 use Rattle.kdl_entry.specs.Tree.{Entry, empty_format, unspelled, autoformatted}
@@ -83,7 +83,7 @@ abbrev pub has_block : Children → Bool
 has_block no_children = false
 has_block (children d) = true
 
--- the second node is the first one, laid out at the level
+-- the second node is the first one, laid out at the level; the level of the nodes in a block is below 2 ^ 64
 abbrev mutual
   pub IsFormattedNode : Settings → ℕ → Node → Node → Type 0
   IsFormattedNode s level (node h k) (node h' k') = IsFormattedHead s level (has_block k) h h' × IsFormattedChildren s level k k'
@@ -91,7 +91,7 @@ abbrev mutual
   pub IsFormattedChildren : Settings → ℕ → Children → Children → Type 0
   IsFormattedChildren s level no_children no_children = Unit {0}
   IsFormattedChildren s level (children (document f span ns)) (children (document f' span' ns')) =
-      IsBraced s level ns (or_empty_document f) f' × (span' ≡ span) × AreFormattedNodes s (level + 1) ns ns'
+      IsBraced s level ns (or_empty_document f) f' × (span' ≡ span) × AreFormattedNodes s (level + 1) ns ns' × (level + 1 < 2 ^ 64)
   IsFormattedChildren s level _ _ = ⊥
 
   pub AreFormattedNodes : Settings → ℕ → Nodes → Nodes → Type 0

@@ -7,8 +7,8 @@ use Rattle.kdl_parts.specs.declared.iter.EntryIterMut.{EntryIterMut}
 
 -- the entries that are still to come
 abbrev pub entries_left : EntryIterMut → List KdlEntry
-entries_left it = iter_mut_rest it.entries
+entries_left it = iter_mut_rest it.0
 
 -- the name of the loan
 abbrev pub entries_name : EntryIterMut → GName
-entries_name it = iter_mut_name it.entries
+entries_name it = iter_mut_name it.0

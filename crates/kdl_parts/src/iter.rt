@@ -28,9 +28,7 @@ use std::slice;
 pub fn entry_iter(entries: &[KdlEntry]) -> EntryIter<'_>
     ensures { result ≡ entries.now }
 {
-    EntryIter {
-        entries: entries.iter(),
-    }
+    EntryIter(entries.iter())
 }
 
 /// The iterator over these entries, each to be changed in place.
@@ -45,9 +43,7 @@ pub fn entry_iter_mut(entries: &mut Vec<KdlEntry>) -> EntryIterMut<'_>
         (entries_name result) (λ es. with_items entries.old es)) }
     ensures left { entries_left result ≡ entries.old.items }
 {
-    EntryIterMut {
-        entries: entries.iter_mut(),
-    }
+    EntryIterMut(entries.iter_mut())
 }
 
 /// The iterator over the values of the arguments among these entries.
@@ -79,10 +75,8 @@ fn next_argument<'a>(entries: &mut slice::Iter<'a, KdlEntry>) -> Option<&'a KdlV
 }
 
 /// The entries of a node, in order.
-#[derive(Drop)]
-pub struct EntryIter<'a> {
-    entries: slice::Iter<'a, KdlEntry>,
-}
+#[derive(Debug, Drop)]
+pub struct EntryIter<'a>(slice::Iter<'a, KdlEntry>);
 
 impl<'a> Model for EntryIter<'a> {
     ghost use Rattle.std.specs.Prelude.{List};
@@ -91,7 +85,7 @@ impl<'a> Model for EntryIter<'a> {
 
     ghost Value = { List KdlEntry };
 
-    ghost view = { λ a. iter_rest a.entries };
+    ghost view = { λ a. iter_rest a.0 };
 }
 
 impl<'a> Iterator for EntryIter<'a> {
@@ -104,7 +98,7 @@ impl<'a> Iterator for EntryIter<'a> {
     ghost remaining = { λ s. at_most (length s) };
 
     fn next(&mut self) -> Option<&'a KdlEntry> {
-        self.entries.next()
+        self.0.next()
     }
 
     /// How many entries are left.
@@ -113,16 +107,14 @@ impl<'a> Iterator for EntryIter<'a> {
         ensures upper { IfSome result.1 (UpTo (at_most (length self.now))) }
         ensures value { result ≡ (length self.now, Some (length self.now)) }
     {
-        let len = self.entries.len();
+        let len = self.0.len();
         (len, Some(len))
     }
 }
 
 /// The entries of a node, in order, each to be changed in place.
-#[derive(Drop)]
-pub struct EntryIterMut<'a> {
-    entries: slice::IterMut<'a, KdlEntry>,
-}
+#[derive(Debug, Drop)]
+pub struct EntryIterMut<'a>(slice::IterMut<'a, KdlEntry>);
 
 impl<'a> Iterator for EntryIterMut<'a> {
     type Item = &'a mut KdlEntry;
@@ -132,7 +124,7 @@ impl<'a> Iterator for EntryIterMut<'a> {
     ghost remaining = { λ s. at_most (length (entries_left s)) };
 
     fn next(&mut self) -> Option<&'a mut KdlEntry> {
-        self.entries.next()
+        self.0.next()
     }
 
     /// How many entries are left.
@@ -142,7 +134,7 @@ impl<'a> Iterator for EntryIterMut<'a> {
         ensures value { result ≡
             (length (entries_left self.now), Some (length (entries_left self.now))) }
     {
-        let left = self.entries.len();
+        let left = self.0.len();
         (left, Some(left))
     }
 }

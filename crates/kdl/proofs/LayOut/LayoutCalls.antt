@@ -9,7 +9,7 @@ use Rattle.kdl_grammar.specs.Tree.{Document, document_data, Node, node_data}
 use Rattle.kdl_fmt.specs.Canonical.{canonical, canonical_node, Canonical, CanonicalNode}
 use Rattle.kdl_fmt.specs.Comments.{CommentsStay}
 use Rattle.kdl_fmt.specs.Config.{Settings, IsPlain, defaults, without_comments}
-use Rattle.kdl_fmt.specs.Formatted.{formatted_document, formatted_node, bare_document, bare_node, DocumentKeepsNone, NodeKeepsNone}
+use Rattle.kdl_fmt.specs.Formatted.{formatted_document, formatted_node, DocumentLevelsFit, NodeLevelsFit, bare_document, bare_node, DocumentKeepsNone, NodeKeepsNone}
 use Rattle.kdl_fmt.specs.WellFormed.{AreWellFormed, IsWellFormedNode}
 use Rattle.kdl_fmt.specs.WithComments.{IsFormattedDocument, IsFormattedNode}
 use Rattle.kdl_fmt.proofs.Formatting.CommentsReadBack.{document_derived, node_derived}
@@ -34,6 +34,9 @@ module _ {A E : Type 0} (r : Result A E) (s : Settings) (level : ℕ) where
   module _ (x d : Document) where
     pub plain : IfOk r (λ _. IsFormattedDocument s level d x) → IfOk r (λ _. s.no_comments ≡ true → x ≡ formatted_document s level d)
     plain h = if_ok r (λ (f : IsFormattedDocument s level d x). λ e. layout.document_left_out s level d x e f) h
+
+    pub levels : IfOk r (λ _. IsFormattedDocument s level d x) → IfOk r (λ _. DocumentLevelsFit level d)
+    levels h = if_ok r (λ (f : IsFormattedDocument s level d x). layout.document_levels_fit s level d x f) h
 
     pub keeps_none : IfOk r (λ _. IsFormattedDocument s level d x) → IfOk r (λ _. DocumentKeepsNone x)
     keeps_none h = if_ok r (λ (f : IsFormattedDocument s level d x). layout.document_keeps_none s level d x f) h
@@ -61,6 +64,9 @@ module _ {A E : Type 0} (r : Result A E) (s : Settings) (level : ℕ) where
   module _ (x n : Node) where
     pub node_plain : IfOk r (λ _. IsFormattedNode s level n x) → IfOk r (λ _. s.no_comments ≡ true → x ≡ formatted_node s level n)
     node_plain h = if_ok r (λ (f : IsFormattedNode s level n x). λ e. layout.left_out s level n x e f) h
+
+    pub node_levels : IfOk r (λ _. IsFormattedNode s level n x) → IfOk r (λ _. NodeLevelsFit level n)
+    node_levels h = if_ok r (λ (f : IsFormattedNode s level n x). layout.levels_fit s level n x f) h
 
     pub node_keeps_none_then : IfOk r (λ _. IsFormattedNode s level n x) → IfOk r (λ _. NodeKeepsNone x)
     node_keeps_none_then h = if_ok r (λ (f : IsFormattedNode s level n x). layout.node_keeps_none s level n x f) h

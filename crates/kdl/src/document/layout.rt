@@ -6,12 +6,12 @@ ghost use Rattle.kdl.specs.declared.document.KdlDocument.{out-KdlDocument};
 ghost use Rattle.kdl_fmt.specs.Canonical.{Canonical, canonical, canonical_text};
 ghost use Rattle.kdl_fmt.specs.Comments.{CommentsStay};
 ghost use Rattle.kdl_fmt.specs.Config.{IsPlain, defaults, indentation, settings, without_comments};
-ghost use Rattle.kdl_fmt.specs.Formatted.{or_empty_document};
+ghost use Rattle.kdl_fmt.specs.Formatted.{DocumentLevelsFit, or_empty_document};
 ghost use Rattle.kdl_fmt.specs.WellFormed.{AreWellFormed};
 ghost use Rattle.kdl_fmt.specs.WithComments.{IsBraced};
 ghost use Rattle.kdl_grammar.specs.Grammar.{IsDocument};
 ghost use Rattle.kdl_parts.specs.Formats.{document_format_tree};
-ghost use Rattle.std.specs.Prelude.{◌≡◌, OnOk, false, option_map, true};
+ghost use Rattle.std.specs.Prelude.{◌≡◌, ◌+◌, ◌<◌, ◌^◌, OnOk, false, option_map, true};
 ghost use Rattle.std.specs.Str.{chars};
 
 use crate::document::KdlDocument;
@@ -64,6 +64,7 @@ impl KdlDocument {
         ensures kept { document_bare self.new ≡ document_bare self.old }
         ensures formatted { OnOk result
             (document_tree self.new ≡ plain_document without_comments self.old) }
+        ensures levels { OnOk result (DocumentLevelsFit 0 (document_tree self.old)) }
         ensures keeps_none { OnOk result (DocumentKeepsNoForm self.new) }
         ensures prints { OnOk result (DocumentKeepsNoForm self.old
             → document_prints self.new ≡ canonical_text (document_says self.old)) }
@@ -90,6 +91,8 @@ impl KdlDocument {
         ensures formatted { OnOk result (DocumentLaidOut (settings config.now) self.old self.new) }
         ensures plain { OnOk result (config.now.no_comments ≡ true
             → document_tree self.new ≡ plain_document (settings config.now) self.old) }
+        ensures levels { OnOk result
+            (DocumentLevelsFit config.now.indent_level (document_tree self.old)) }
         ensures keeps_none { OnOk result (DocumentKeepsNoForm self.new) }
         ensures derived { OnOk result (IndentsBySpaces (settings config.now)
             → config.now.entry_autoformate_keep ≡ false → DocumentKeepsNoForm self.old
@@ -130,6 +133,7 @@ impl KdlDocument {
     ) -> Result<(), AllocError>
         ensures nodes { (out-KdlDocument self.new).nodes ≡ (out-KdlDocument self.old).nodes }
         ensures span { (out-KdlDocument self.new).span ≡ (out-KdlDocument self.old).span }
+        ensures fits { OnOk result (level + 1 < 2 ^ 64) }
         ensures formatted { OnOk result (chars before.now ≡ indentation (settings config.now) level
             → IsBraced (settings config.now) level
             (nodes_tree (out-KdlDocument self.old).nodes.items)

@@ -1,21 +1,23 @@
 //! The iterators over the entries and the children of a node.
 
-ghost use Rattle.kdl.specs.Iterators.{child_nodes, nodes_in, nodes_left, with_written_entries};
+ghost use Rattle.kdl.specs.Change.{children_row};
+ghost use Rattle.kdl.specs.Iterators.{block_left, block_name, child_nodes, nodes_in, nodes_left, with_written_block, with_written_entries};
 ghost use Rattle.kdl.specs.Lookups.{entries_of};
 ghost use Rattle.kdl.specs.contracts.node.KdlNode.{the_row as node_row};
+ghost use Rattle.kdl.specs.declared.node.KdlNode.{out-KdlNode};
 ghost use Rattle.kdl_parts.specs.Iterators.{entries_left, entries_name};
 ghost use Rattle.std.specs.Borrow.{Array, follows, sem};
 ghost use Rattle.std.specs.Iterator.{UpTo, at_most};
 ghost use Rattle.std.specs.Iterator.SizeHint.{IsWithinCount};
 ghost use Rattle.std.specs.Map.Iter.{TakesFirst};
-ghost use Rattle.std.specs.Prelude.{◌≡◌, [], IfSome, Some, length, option_map, unwrap_or};
+ghost use Rattle.std.specs.Prelude.{◌≡◌, [], ◌∷◌, IfSome, Some, length};
 ghost use Rattle.std.specs.Slice.Iter.{iter_mut_rest};
 
 use crate::document::KdlDocument;
 use crate::node::KdlNode;
 use kdl_parts::iter::{EntryIter, EntryIterMut, entry_iter, entry_iter_mut};
 use std::marker::Model;
-use std::slice;
+use std::{fmt, slice};
 
 impl KdlNode {
     ghost use Rattle.kdl_entry.specs.contracts.entry.KdlEntry.{the_row as entry_row};
@@ -62,14 +64,12 @@ impl KdlNode {
         ensures { result ≡ child_nodes self.now }
     {
         match &self.children {
-            Some(children) => ChildrenIter {
-                nodes: children.nodes().iter(),
-            },
-            None => ChildrenIter { nodes: [].iter() },
+            Some(children) => ChildrenIter(Some(children.nodes().iter())),
+            None => ChildrenIter(None),
         }
     }
 
-    /// The children, in order, to be changed in place; none without a child block.
+    /// The children, in order, to be changed in place; none without a child block. All else of the node stays as it is.
     ///
     /// ```
     /// let mut node = KdlNode::parse(alloc, "a { b 1; c 2; }")?;
@@ -78,30 +78,34 @@ impl KdlNode {
     /// }
     /// ```
     pub fn iter_children_mut(&mut self) -> ChildrenIterMut<'_>
-        ensures { nodes_left result ≡ child_nodes self.old }
+        ensures* writes_back { sem 𝓛 (follows node_row (Array children_row 0) self.entry.ghost_name
+            (block_name result) (with_written_block self.old)) }
+        ensures block { block_left result ≡ (out-KdlNode self.old).children ∷ [] }
+        ensures left { nodes_left result ≡ child_nodes self.old }
     {
         ChildrenIterMut {
-            nodes: lent_nodes(&mut self.children),
+            block: slice::from_mut(&mut self.children).iter_mut(),
+            nodes: None,
         }
     }
 }
 
-/// The nodes of a child block, in order, to be changed in place.
-fn lent_nodes(children: &mut Option<KdlDocument>) -> Option<slice::IterMut<'_, KdlNode>>
-    ensures { nodes_in children.old ≡ unwrap_or (option_map iter_mut_rest result) [] }
+/// The nodes of a child block, in order, to be changed in place; none without a block.
+fn lent_nodes(children: &mut Option<KdlDocument>) -> slice::IterMut<'_, KdlNode>
+    ensures { iter_mut_rest result ≡ nodes_in children.old }
 {
-    let children = children.as_mut()?;
-    Some(children.iter_nodes_mut())
+    match children {
+        Some(children) => children.iter_nodes_mut(),
+        None => [].iter_mut(),
+    }
 }
 
 /// The children of a node, in order.
-#[derive(Drop)]
-pub struct ChildrenIter<'a> {
-    nodes: slice::Iter<'a, KdlNode>,
-}
+#[derive(Debug, Drop)]
+pub struct ChildrenIter<'a>(Option<slice::Iter<'a, KdlNode>>);
 
 impl<'a> Model for ChildrenIter<'a> {
-    ghost use Rattle.std.specs.Prelude.{List};
+    ghost use Rattle.std.specs.Prelude.{List, [], option_map, unwrap_or};
     ghost use Rattle.std.specs.Slice.Iter.{iter_rest};
     ghost use Rattle.std.specs.Coded.{codes};
     ghost use Rattle.kdl.specs.contracts.node.KdlNode as node;
@@ -111,7 +115,7 @@ impl<'a> Model for ChildrenIter<'a> {
 
     ghost coded = { Prim.hlevel (codes, node.the_row.coded) };
 
-    ghost view = { λ a. iter_rest a.nodes };
+    ghost view = { λ a. unwrap_or (option_map iter_rest a.0) [] };
 }
 
 impl<'a> Iterator for ChildrenIter<'a> {
@@ -124,7 +128,7 @@ impl<'a> Iterator for ChildrenIter<'a> {
     ghost remaining = { λ s. at_most (length s) };
 
     fn next(&mut self) -> Option<&'a KdlNode> {
-        self.nodes.next()
+        self.0.as_mut()?.next()
     }
 
     /// How many children are left.
@@ -133,15 +137,48 @@ impl<'a> Iterator for ChildrenIter<'a> {
         ensures upper { IfSome result.1 (UpTo (at_most (length self.now))) }
         ensures value { result ≡ (length self.now, Some (length self.now)) }
     {
-        let count = self.nodes.len();
-        (count, Some(count))
+        let left = match &self.0 {
+            Some(nodes) => nodes.len(),
+            None => 0,
+        };
+        (left, Some(left))
     }
 }
 
 /// The children of a node, in order, each to be changed in place.
+///
+/// The node lends its child block, and the first call of `next` enters it: so the contract of `iter_children_mut` can say
+/// that all else of the node stays.
 #[derive(Drop)]
 pub struct ChildrenIterMut<'a> {
+    /// The block as a list of one, until it is entered.
+    block: slice::IterMut<'a, Option<KdlDocument>>,
+    /// The children that are left, once the block is entered.
     nodes: Option<slice::IterMut<'a, KdlNode>>,
+}
+
+impl ChildrenIterMut<'_> {
+    /// The children that are left.
+    fn left(&self) -> &[KdlNode]
+        ensures { result.now ≡ nodes_left self.now }
+    {
+        match &self.nodes {
+            Some(nodes) => nodes.as_slice(),
+            None => match self.block.as_slice().first() {
+                Some(Some(children)) => children.nodes(),
+                _ => &[],
+            },
+        }
+    }
+}
+
+/// Shows the children that are left.
+impl fmt::Debug for ChildrenIterMut<'_> {
+    fn fmt<W: fmt::Write>(&self, f: &mut fmt::Formatter<W>) -> fmt::Result {
+        f.debug_tuple("ChildrenIterMut")
+            .field(&self.left())
+            .finish()
+    }
 }
 
 impl<'a> Iterator for ChildrenIterMut<'a> {
@@ -152,10 +189,11 @@ impl<'a> Iterator for ChildrenIterMut<'a> {
     ghost remaining = { λ s. at_most (length (nodes_left s)) };
 
     fn next(&mut self) -> Option<&'a mut KdlNode> {
-        match &mut self.nodes {
-            Some(nodes) => nodes.next(),
-            None => None,
+        if self.nodes.is_none() {
+            let block = self.block.next()?;
+            self.nodes = Some(lent_nodes(block));
         }
+        self.nodes.as_mut()?.next()
     }
 
     /// How many children are left.
@@ -165,9 +203,7 @@ impl<'a> Iterator for ChildrenIterMut<'a> {
         ensures value { result ≡
             (length (nodes_left self.now), Some (length (nodes_left self.now))) }
     {
-        match &self.nodes {
-            Some(nodes) => (nodes.len(), Some(nodes.len())),
-            None => (0, Some(0)),
-        }
+        let left = self.left().len();
+        (left, Some(left))
     }
 }

@@ -9,7 +9,7 @@ ghost use Rattle.kdl.specs.declared.document.KdlDocument.{out-KdlDocument};
 ghost use Rattle.kdl.specs.declared.node.KdlNode.{out-KdlNode};
 ghost use Rattle.kdl_fmt.specs.Canonical.{CanonicalNode, canonical_node};
 ghost use Rattle.kdl_fmt.specs.Config.{IsPlain, defaults, indentation, settings, without_comments};
-ghost use Rattle.kdl_fmt.specs.Formatted.{bare_children, bare_node};
+ghost use Rattle.kdl_fmt.specs.Formatted.{NodeLevelsFit, bare_children, bare_node};
 ghost use Rattle.kdl_fmt.specs.WellFormed.{IsWellFormedNode};
 ghost use Rattle.kdl_fmt.specs.WithComments.{AreFormattedNodes, IsFormattedChildren, IsFormattedNode};
 ghost use Rattle.kdl_grammar.specs.Data as data';
@@ -70,6 +70,7 @@ impl KdlNode {
         ensures kept { node_bare self.new ≡ node_bare self.old }
         ensures formatted { OnOk result
             (node_tree self.new ≡ plain_node without_comments self.old) }
+        ensures levels { OnOk result (NodeLevelsFit 0 (node_tree self.old)) }
         ensures keeps_none { OnOk result (NodeKeepsNoForm self.new) }
         ensures prints { OnOk result (NodeKeepsNoForm self.old
             → node_prints self.new ≡
@@ -97,6 +98,8 @@ impl KdlNode {
         ensures formatted { OnOk result (NodeLaidOut (settings config.now) self.old self.new) }
         ensures plain { OnOk result (config.now.no_comments ≡ true
             → node_tree self.new ≡ plain_node (settings config.now) self.old) }
+        ensures levels { OnOk result
+            (NodeLevelsFit config.now.indent_level (node_tree self.old)) }
         ensures keeps_none { OnOk result (NodeKeepsNoForm self.new) }
         ensures derived { OnOk result (IndentsBySpaces (settings config.now)
             → config.now.entry_autoformate_keep ≡ false → NodeKeepsNoForm self.old

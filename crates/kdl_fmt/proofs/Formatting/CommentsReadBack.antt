@@ -130,7 +130,7 @@ module _ (s : Settings) (ok : list_all is_space s.indent ≡ true) (no_keep : s.
       → KeepsTexts s level (has_block k) f t → (r : Text) → ValueEnd true (print_tail h k' depth ++ r)
   children_end level depth h f t no_children no_children line c kept r =
       rw (plain_text h (indentation s level) t line depth r) (last_ends (last_tail level false f t kept) (line_end level false f t kept) (t.behind ++ r))
-  children_end level depth h f t (children (document g span ns)) (children (document g' span' ns')) line (c, same, nodes) kept r =
+  children_end level depth h f t (children (document g span ns)) (children (document g' span' ns')) line (c, same, nodes, fits) kept r =
       rw (block_text h (indentation s level) t line g' span' ns ns' c.0 c.1 depth r c.3) (tail_ends (block_tail level f t kept) _ (space_ends _))
   children_end level depth h f t no_children (children d') line c kept r = absurd c
   children_end level depth h f t (children (document g span ns)) no_children line c kept r = absurd c
@@ -141,7 +141,7 @@ module _ (s : Settings) (ok : list_all is_space s.indent ≡ true) (no_keep : s.
         → AfterName true (print_tail h k' depth ++ r) (t.comment ++ (10 ∷ (t.behind ++ r))) [] (children_data k)
     children_read level depth h f t no_children no_children line c kept m w r =
         rw (plain_text h (indentation s level) t line depth r) (plain_of (last_text false (last_tail level false f t kept) (line_end level false f t kept) (t.behind ++ r)))
-    children_read level depth h f t (children (document g span ns)) (children (document g' span' ns')) line (c, same, nodes) kept m w r =
+    children_read level depth h f t (children (document g span ns)) (children (document g' span' ns')) line (c, same, nodes, fits) kept m w r =
         rw (block_text h (indentation s level) t line g' span' ns ns' c.0 c.1 depth r c.3)
         (braced_of (tail_spaced before_block (block_tail level f t kept) _)
         (braces (gap_nodes (newline_gap (content_gap (level + 1) (or_empty_document g) c.0 c.1 c.2 _))

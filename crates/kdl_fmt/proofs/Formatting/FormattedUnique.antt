@@ -8,7 +8,7 @@ use Rattle.kdl_items.specs.Items.{Item, GapItems, Place, before_entry, before_bl
 use Rattle.kdl_items.specs.Written.{lines, tail}
 use Rattle.kdl_items.proofs.Listing.ItemsUnique.{gap_items_det, place_items_det}
 use Rattle.kdl_fmt.specs.Config.{Settings, indentation}
-use Rattle.kdl_fmt.specs.Formatted.{with_keep_if, formatted_entry, or_empty, or_empty_document, content_format, in_braces, formatted_head, formatted_node, formatted_children, formatted_nodes, formatted_document, bare_head, bare_node, bare_children, bare_document, bare_nodes, EntriesKeepNone, NodeKeepsNone, ChildrenKeepNone, DocumentKeepsNone, NodesKeepNone}
+use Rattle.kdl_fmt.specs.Formatted.{with_keep_if, formatted_entry, or_empty, or_empty_document, content_format, in_braces, formatted_head, formatted_node, formatted_children, formatted_nodes, formatted_document, NodeLevelsFit, ChildrenLevelsFit, NodesLevelsFit, DocumentLevelsFit, bare_head, bare_node, bare_children, bare_document, bare_nodes, EntriesKeepNone, NodeKeepsNone, ChildrenKeepNone, DocumentKeepsNone, NodesKeepNone}
 use Rattle.kdl_fmt.specs.Kept.{Written, WrittenUnless, KeptLines, KeptTail, KeptBeforeBlock, last_place, WrittenEnd, KeptEnd, without_bom, entry_leading, is_kept_format, KeptBefore}
 use Rattle.kdl_fmt.specs.Plain.{plain_line}
 use Rattle.kdl_fmt.specs.WithComments.{behind, IsFormattedEntry, AreFormattedEntries, NodeTexts, KeepsTexts, line_of, IsLine, content_of, ContentTexts, IsContent, IsBraced, IsFormattedHead, has_block, IsFormattedNode, IsFormattedChildren, AreFormattedNodes, IsFormattedDocument}
@@ -113,6 +113,24 @@ document_left_out s level (document f span ns) (document f' span' ns') e d =
     let a = content_left s level ns (or_empty_document f) f' e d.0 in
     let b = nodes_left_out s level ns ns' e d.2 in
     λ i. document (a i) (d.1 i) (b i)
+
+-- what is laid out has no level that is too great
+mutual
+  pub levels_fit : (s : Settings) (level : ℕ) (n n' : Node) → IsFormattedNode s level n n' → NodeLevelsFit level n
+  levels_fit s level (node h k) (node h' k') f = children_levels_fit s level k k' f.1
+
+  children_levels_fit : (s : Settings) (level : ℕ) (k k' : Children) → IsFormattedChildren s level k k' → ChildrenLevelsFit level k
+  children_levels_fit s level no_children k' f = tt
+  children_levels_fit s level (children (document f span ns)) (children (document f' span' ns')) c = (c.3, nodes_levels_fit s (level + 1) ns ns' c.2)
+  children_levels_fit s level (children (document f span ns)) no_children c = absurd c
+
+  nodes_levels_fit : (s : Settings) (level : ℕ) (ns ns' : Nodes) → AreFormattedNodes s level ns ns' → NodesLevelsFit level ns
+  nodes_levels_fit s level none ns' f = tt
+  nodes_levels_fit s level (first n ns) (first n' ns') f = (levels_fit s level n n' f.0, nodes_levels_fit s level ns ns' f.1)
+  nodes_levels_fit s level (first n ns) none f = absurd f
+
+pub document_levels_fit : (s : Settings) (level : ℕ) (d d' : Document) → IsFormattedDocument s level d d' → DocumentLevelsFit level d
+document_levels_fit s level (document f span ns) (document f' span' ns') d = nodes_levels_fit s level ns ns' d.2
 
 -- but for formats and spellings all stays
 cleared_behind : (t : Text) (e : Entry) → cleared (behind t e) ≡ cleared e
@@ -235,19 +253,20 @@ head_made s level has h e = record {
 }
 
 mutual
-  pub node_made : (s : Settings) (level : ℕ) (n : Node) → s.no_comments ≡ true → IsFormattedNode s level n (formatted_node s level n)
-  node_made s level (node h k) e = (head_made s level (has_block k) h e, children_made s level k e)
+  pub node_made : (s : Settings) (level : ℕ) (n : Node) → s.no_comments ≡ true → NodeLevelsFit level n → IsFormattedNode s level n (formatted_node s level n)
+  node_made s level (node h k) e l = (head_made s level (has_block k) h e, children_made s level k e l)
 
-  pub children_made : (s : Settings) (level : ℕ) (k : Children) → s.no_comments ≡ true → IsFormattedChildren s level k (formatted_children s level k)
-  children_made s level no_children e = tt
-  children_made s level (children (document f span ns)) e = (([], [], content_kept s (level + 1) (or_empty_document f) e, refl), refl, nodes_made s (level + 1) ns e)
+  pub children_made : (s : Settings) (level : ℕ) (k : Children) → s.no_comments ≡ true → ChildrenLevelsFit level k → IsFormattedChildren s level k (formatted_children s level k)
+  children_made s level no_children e l = tt
+  children_made s level (children (document f span ns)) e l =
+      (([], [], content_kept s (level + 1) (or_empty_document f) e, refl), refl, nodes_made s (level + 1) ns e l.1, l.0)
 
-  pub nodes_made : (s : Settings) (level : ℕ) (ns : Nodes) → s.no_comments ≡ true → AreFormattedNodes s level ns (formatted_nodes s level ns)
-  nodes_made s level none e = tt
-  nodes_made s level (first n ns) e = (node_made s level n e, nodes_made s level ns e)
+  pub nodes_made : (s : Settings) (level : ℕ) (ns : Nodes) → s.no_comments ≡ true → NodesLevelsFit level ns → AreFormattedNodes s level ns (formatted_nodes s level ns)
+  nodes_made s level none e l = tt
+  nodes_made s level (first n ns) e l = (node_made s level n e l.0, nodes_made s level ns e l.1)
 
-pub document_made : (s : Settings) (level : ℕ) (d : Document) → s.no_comments ≡ true → IsFormattedDocument s level d (formatted_document s level d)
-document_made s level (document f span ns) e = (([], [], content_kept s level (or_empty_document f) e, refl), refl, nodes_made s level ns e)
+pub document_made : (s : Settings) (level : ℕ) (d : Document) → s.no_comments ≡ true → DocumentLevelsFit level d → IsFormattedDocument s level d (formatted_document s level d)
+document_made s level (document f span ns) e l = (([], [], content_kept s level (or_empty_document f) e, refl), refl, nodes_made s level ns e l)
 
 -- what is kept of a place is one text
 written_det : {has : Has} {write : Writes} {t u : Text} → ((is js : List Item) → has is → has js → is ≡ js) → Written has write t → Written has write u → t ≡ u

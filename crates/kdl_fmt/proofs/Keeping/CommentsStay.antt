@@ -175,7 +175,7 @@ module _ (s : Settings) (ok : list_all is_space s.indent ≡ true) (no_keep : s.
           behind = ItemsIn.items (kept_last s.no_comments with false f.terminator t.space t.comment t.last kept.end last);
           ends = subst (ValueEnd true) e (last_ends last.stands end rest);
         })
-    children_laid level depth h f t (children (document g span ns)) (children (document g' span' ns')) line (c, same, nodes) kept m w (block {is = is} {js = ks} i (of_document {a = a} {b = b} {c = d} ia ib id)) j r =
+    children_laid level depth h f t (children (document g span ns)) (children (document g' span' ns')) line (c, same, nodes, fits) kept m w (block {is = is} {js = ks} i (of_document {a = a} {b = b} {c = d} ia ib id)) j r =
         let end = line_end level true f t kept in
         let last = last_in level true f t kept j in
         let before = block_in level f t kept i in

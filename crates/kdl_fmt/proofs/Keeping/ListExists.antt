@@ -59,7 +59,7 @@ module _ (s : Settings) (no_keep : s.entry_autoformate_keep ≡ false) (with : s
 
     children_have : (level : ℕ) (place t : Text) (k k' : Children) → IsFormattedChildren s level k k' → KeptBeforeBlock s (has_block k) place t → ChildrenKeepNone k → (is : List Item) × ChildrenItems place k is
     children_have level place t no_children k' c b m = ([], ChildrenItems.no_block)
-    children_have level place t (children (document f span ns)) (children (document f' span' ns')) (c, same, nodes) b m =
+    children_have level place t (children (document f span ns)) (children (document f' span' ns')) (c, same, nodes, fits) b m =
         let x = kept_in s.no_comments with (PlaceItems before_block place) tail t b in
         let i = leading_has (level + 1) (or_empty_document f) c.0 c.1 c.2 in
         let y = nodes_have (level + 1) ns ns' nodes m in

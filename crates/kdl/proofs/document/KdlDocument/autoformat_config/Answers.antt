@@ -1,6 +1,6 @@
 use Rattle.kdl.specs.Tree.{document_tree}
 use Rattle.kdl_fmt.specs.Config.{settings}
-use Rattle.kdl.proofs.LayOut.LayoutCalls.{same_data, plain, keeps_none, derived, comments, prints, reads}
+use Rattle.kdl.proofs.LayOut.LayoutCalls.{same_data, plain, levels, keeps_none, derived, comments, prints, reads}
 use Rattle.kdl.proofs.document.KdlDocument.autoformat_config.Goals as goal
 
 pub returns-clause-data : goal.returns-clause-data
@@ -9,6 +9,10 @@ returns-clause-data c = same_data (document_tree c.lay_out.new.self) (document_t
 pub returns-clause-plain : goal.returns-clause-plain
 returns-clause-plain c =
     plain c.lay_out.result (settings c.args.config.now) c.args.config.now.indent_level (document_tree c.lay_out.new.self) (document_tree c.args.self.now) c.lay_out.ensures.formatted
+
+pub returns-clause-levels : goal.returns-clause-levels
+returns-clause-levels c =
+    levels c.lay_out.result (settings c.args.config.now) c.args.config.now.indent_level (document_tree c.lay_out.new.self) (document_tree c.args.self.now) c.lay_out.ensures.formatted
 
 pub returns-clause-keeps_none : goal.returns-clause-keeps_none
 returns-clause-keeps_none c =

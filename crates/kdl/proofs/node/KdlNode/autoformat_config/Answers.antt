@@ -1,6 +1,6 @@
 use Rattle.kdl.specs.Tree.{node_tree}
 use Rattle.kdl_fmt.specs.Config.{settings}
-use Rattle.kdl.proofs.LayOut.LayoutCalls.{same_node_data, node_plain, node_keeps_none_then, node_derives, node_comments, node_prints, node_reads}
+use Rattle.kdl.proofs.LayOut.LayoutCalls.{same_node_data, node_plain, node_levels, node_keeps_none_then, node_derives, node_comments, node_prints, node_reads}
 use Rattle.kdl.proofs.node.KdlNode.autoformat_config.Goals as goal
 
 pub returns-clause-data : goal.returns-clause-data
@@ -9,6 +9,10 @@ returns-clause-data c = same_node_data (node_tree c.lay_out.new.self) (node_tree
 pub returns-clause-plain : goal.returns-clause-plain
 returns-clause-plain c =
     node_plain c.lay_out.result (settings c.args.config.now) c.args.config.now.indent_level (node_tree c.lay_out.new.self) (node_tree c.args.self.now) c.lay_out.ensures.formatted
+
+pub returns-clause-levels : goal.returns-clause-levels
+returns-clause-levels c =
+    node_levels c.lay_out.result (settings c.args.config.now) c.args.config.now.indent_level (node_tree c.lay_out.new.self) (node_tree c.args.self.now) c.lay_out.ensures.formatted
 
 pub returns-clause-keeps_none : goal.returns-clause-keeps_none
 returns-clause-keeps_none c =
