@@ -8,7 +8,7 @@ use Rattle.kdl_text.specs.Trivia.{LineComment, NodeSpace, Break, LineSpace, Slas
 use Rattle.kdl_text.proofs.Looking.Stars.{join}
 use Rattle.kdl_entry.specs.Data.{Entry}
 use Rattle.kdl_entry.specs.Entries.{IsEntry}
-use Rattle.kdl_entry.specs.Internal.Items.{between}
+use Rattle.kdl_entry.specs.Places.{between}
 use Rattle.kdl_entry.specs.Places.{DroppedEntry, dropped as a_dropped_entry, EntryLeading, leading}
 use Rattle.kdl_grammar.specs.Data.{Node, Children, Nodes}
 use Rattle.kdl_grammar.specs.Grammar.{Terminator, IsNode, named, AfterName, kept_entry, Blocks, AfterBlock, dropped_later, no_more, Gap, no_gap, IsBlock}
