@@ -1,15 +1,16 @@
 -- Where pieces stand, and how the cursor moves past them.
-use Rattle.std.proofs.Common.{◌≡◌, ℕ, [], ◌∷◌, ◌++◌, ap, sym, ◌∙◌, arith}
+use Rattle.std.proofs.Common.{◌≡◌, ℕ, [], ◌∷◌, ◌++◌, refl, ap, sym, ◌∙◌, arith}
 use Rattle.std.proofs.lemmas.Str.{len_utf8_bounds}
 use Rattle.std.specs.Prelude.{Option, Some, None}
 use Rattle.kdl_text.specs.Chars.{Text}
 use Rattle.kdl_text.specs.Internal.Here.{Here, Took}
 use Rattle.kdl_text.specs.Spans.{bytes}
 use Rattle.kdl_text.specs.Internal.Reading.{Moves}
-use Rattle.kdl_faults.specs.Internal.Reading.{OnUnclosed, IsEnd, Stands, Spans, Begins, gone}
+use Rattle.kdl_faults.specs.Internal.Reading.{OnUnclosed, OnFound, FindsAlso, IsEnd, Stands, Spans, Begins, gone}
 use Rattle.kdl_faults.specs.declared.ends.Unclosed.{Unclosed}
 use Rattle.kdl_faults.specs.declared.ends.ValueEnd.{ValueEnd}
 use Rattle.kdl_faults.specs.declared.pieces.Piece.{Piece}
+use Rattle.kdl_faults.specs.declared.strings.Found.{Found}
 use Rattle.kdl_faults.specs.declared.pieces.Start.{Start}
 use Rattle.kdl_faults.proofs.Passing.{behind_then}
 
@@ -37,6 +38,10 @@ pub stands_word : (s : Start) (p : Piece) (m n : Here) (e : ValueEnd) → p.star
 stands_word s p m n e is_start is_next is_comment is_end spans back end =
     let b = behind_then _ _ _ back end.place.before in
     stands_at s p m n e.comment is_start is_next is_comment spans (b.0, b.1 ∙ ap (λ z. b.0 ++ z.rest) (sym is_end)) back end.comment
+
+-- the fault of a string that begins at the start of the piece: the one in it, or one at its start
+pub found_in_role : (s : Start) (a : Here) (f g : Option Found) → (p : Text) × (s.place.rest ≡ p ++ a.rest) → OnFound (gone s.place a) f a → FindsAlso f s.place g → OnFound (gone s.place a) g a
+found_in_role s a f g here on also = also (gone s.place a) a on (record { before = ([], refl); behind = here; at = refl })
 
 -- from the start of a piece to behind its first character
 pub begun : (s : Start) (a b : Here) → Spans s → b ≡ gone s.next a → Moves (gone s.place a) b

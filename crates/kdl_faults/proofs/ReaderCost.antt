@@ -1,8 +1,9 @@
 -- What the turns of a reader of faults cost, and where its cursor goes.
 use Rattle.std.proofs.Common.{◌≡◌, ℕ, ◌+◌, ◌*◌, ◌<◌, ◌≤◌, Bool, true, false, List, [], ◌∷◌, ◌++◌, length, refl, sym, ap, ◌∙◌, arith, append_assoc}
+use Rattle.std.specs.Prelude.{Option, Some, None}
 use Rattle.std.specs.Str.{chars, IsUtf8}
 use Rattle.kdl_text.specs.Chars.{Text}
-use Rattle.kdl_text.specs.Internal.Here.{Here, Spot, looked, stepped, tail}
+use Rattle.kdl_text.specs.Internal.Here.{Here, Spot, Took, looked}
 use Rattle.kdl_text.specs.Spans.{bytes, raise}
 use Rattle.kdl_text.specs.Internal.Reading.{Moves}
 use Rattle.kdl_text.proofs.Looking.MovesJoin.{fewer_bytes, stays}
@@ -12,8 +13,9 @@ use Rattle.kdl_faults.specs.Internal.Reading.{Most, WentPast}
 use Rattle.kdl_faults.specs.declared.pieces.PieceKind.{PieceKind}
 use Rattle.kdl_faults.specs.declared.pieces.PieceKind.TheVariants.{End}
 
-pub bounded_piece : (a b : Here) → Moves a b → Most 37 65 a b → Bounded 128 a b
-bounded_piece a b m k = record { most = omega arith; counts = m.counts }
+-- a piece that was read, and a step after it
+pub bounded_one : (a b e : Here) → Moves a b → Most 37 65 a b → e.steps ≡ raise b.steps 1 → Bounded 128 a e
+bounded_one a b e m k s = record { most = omega (arith, s); counts = omega (arith, m.counts, s) }
 
 same_rest : (text s r : Text) → r ≡ s → ((p : Text) × (text ≡ p ++ s)) → (p : Text) × (text ≡ p ++ r)
 same_rest text s r e x = (x.0, x.1 ∙ ap (λ (t : Text). x.0 ++ t) (sym e))
@@ -21,12 +23,10 @@ same_rest text s r e x = (x.0, x.1 ∙ ap (λ (t : Text). x.0 ++ t) (sym e))
 pub looked_lies : (text : Text) (place : Spot) (a b : Here) (steps : ℕ) → LiesIn text place → a ≡ record { rest = place.rest; at = place.at; steps = steps } → b ≡ looked a → (p : Text) × (text ≡ p ++ b.rest)
 looked_lies text place a b steps x e f = same_rest text place.rest b.rest (ap (λ (z : Here). z.rest) f ∙ ap (λ (z : Here). z.rest) e) x
 
-behind_first : (text s : Text) → ((p : Text) × (text ≡ p ++ s)) → (p : Text) × (text ≡ p ++ tail s)
-behind_first text [] x = x
-behind_first text (c ∷ s) x = (x.0 ++ (c ∷ []), x.1 ∙ sym (append_assoc x.0 (c ∷ []) s))
-
-pub stepped_lies : (text : Text) (a b : Here) → ((p : Text) × (text ≡ p ++ a.rest)) → b ≡ stepped a → (p : Text) × (text ≡ p ++ b.rest)
-stepped_lies text a b x e = same_rest text (tail a.rest) b.rest (ap (λ (z : Here). z.rest) e) (behind_first text a.rest x)
+-- a character that was taken, if there was one
+pub took_lies : (text : Text) (c : Option ℕ) (a b : Here) → ((p : Text) × (text ≡ p ++ a.rest)) → Took c a b → (p : Text) × (text ≡ p ++ b.rest)
+took_lies text None a b x t = same_rest text a.rest b.rest (ap (λ (z : Here). z.rest) t.1) x
+took_lies text (Some c) a b x t = (x.0 ++ (c ∷ []), x.1 ∙ ap (λ (z : Text). x.0 ++ z) t.0 ∙ sym (append_assoc x.0 (c ∷ []) b.rest))
 
 pub place_lies : (text : Text) (a : Here) (place : Spot) → ((p : Text) × (text ≡ p ++ a.rest)) → place.rest ≡ a.rest → LiesIn text place
 place_lies text a place x e = same_rest text a.rest place.rest e x

@@ -89,8 +89,9 @@ fn begins_slash_piece(cursor: &mut Cursor) -> bool
     cursor.looks_two('/', '*') || cursor.looks_two('/', '/') || cursor.looks_two('/', '-')
 }
 
-/// The value end at a backslash, where there is one: the backslash itself where it begins an escline, or the place behind it
-/// where spaces or a comment follow. None: the cursor went past the backslash alone.
+/// The value end at a backslash, where there is one: the backslash itself where it begins an escline, or the place after it
+/// where spaces or a comment follow. A backslash before a block comment that isn't closed begins no escline. None: the cursor
+/// went past the backslash alone.
 fn end_at_backslash<'a>(cursor: &mut Cursor<'a>) -> Option<ValueEnd<'a>>
     requires { begins 92 cursor.old.rest ≡ true }
     ensures end { IfSome result (λ e. IsEnd cursor.old e cursor.new) }
@@ -107,7 +108,7 @@ fn end_at_backslash<'a>(cursor: &mut Cursor<'a>) -> Option<ValueEnd<'a>>
             comment: None,
         }),
         Behind::Unclosed(comment) => Some(ValueEnd {
-            place,
+            place: behind,
             comment: Some(comment),
         }),
         Behind::Other if behind.at() == cursor.at() => None,

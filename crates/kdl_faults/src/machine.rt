@@ -4,7 +4,7 @@
 //! counts as read, and the machine goes on from there.
 
 use crate::kind::Kind;
-use crate::pieces::PieceKind;
+use crate::pieces::{PieceKind, StringRole};
 
 /// What a type belongs to.
 #[derive(Clone, Copy)]
@@ -98,6 +98,15 @@ impl Phase {
                 | Phase::Typeless
                 | Phase::Over
         )
+    }
+
+    /// What a string is in the phase.
+    pub(crate) fn string_role(self) -> StringRole {
+        match self {
+            Phase::TypeOpen(_) => StringRole::TypeName,
+            Phase::TypeName(_) => StringRole::SecondItem,
+            _ => StringRole::Plain,
+        }
     }
 
     /// What a piece does in the phase.

@@ -2,7 +2,7 @@
 //!
 //! Nothing is built: of a string, a number and a keyword the reader tells where it ends and what is wrong with it.
 
-ghost use Rattle.kdl_faults.specs.Internal.Reading.{Begins, IsPiece, Most, MostFrom, NoEarlier, OnFound, Spans, Stands, WentPast, gone};
+ghost use Rattle.kdl_faults.specs.Internal.Reading.{Begins, FindsAlso, IsPiece, Most, MostFrom, NoEarlier, OnFound, Spans, Stands, WentPast, gone};
 ghost use Rattle.kdl_text.specs.Chars.{is_identifier_char, is_number_sign, starts};
 ghost use Rattle.kdl_text.specs.Internal.Here.{Ahead, Behind as Follows, Spot, Stayed, first};
 ghost use Rattle.kdl_text.specs.Spans.{bytes};
@@ -11,7 +11,7 @@ ghost use Rattle.std.specs.Prelude.{◌≡◌, ℕ, ◌+◌, ◌*◌, ◌≤◌,
 
 use crate::ends::{Behind, Unclosed, behind_backslash, value_end};
 use crate::kind::{Form, Kind};
-use crate::strings::{Scan, scan_quoted, scan_raw};
+use crate::strings::{Found, Scan, scan_quoted, scan_raw};
 use kdl_text::chars::{
     Checkpoint, Class, Cursor, Piece as Slice, Steps, is_identifier_char, is_newline_char,
     is_space, newline,
@@ -52,6 +52,17 @@ pub(crate) enum PieceKind {
     Other,
     /// The end of the text.
     End,
+}
+
+/// What a string is in the place where a piece begins.
+#[derive(Clone, Copy)]
+pub(crate) enum StringRole {
+    /// A name, a key or a value, or a string outside types that can't stand there: its fault is its own.
+    Plain,
+    /// The name in a type: where the string is faulty, the type is.
+    TypeName,
+    /// A second item in a type, which is faulty from the string's start on.
+    SecondItem,
 }
 
 /// A piece of a text.
@@ -264,12 +275,37 @@ fn end_of_fault<'a>(
     }
 }
 
+/// The fault of a string that begins at the place, where this one was found in it: in a type it is the type's.
+fn fault_in_role<'a>(
+    role: StringRole,
+    start: &Checkpoint<'a>,
+    fault: Option<Found<'a>>,
+) -> Option<Found<'a>>
+    ensures { FindsAlso fault.entry start.now result }
+{
+    match role {
+        StringRole::Plain => fault,
+        StringRole::TypeName => {
+            let found = fault?;
+            Some(Found {
+                kind: Kind::Type,
+                place: found.place,
+            })
+        }
+        StringRole::SecondItem => Some(Found {
+            kind: Kind::Type,
+            place: start.copied(),
+        }),
+    }
+}
+
 /// A string that the cursor went past. Its fault goes up to the value end from there on, and the cursor goes to the value
 /// end behind the string.
 fn string<'a>(
     cursor: &mut Cursor<'a>,
     start: Start<'a>,
     scan: Scan<'a>,
+    role: StringRole,
     without_end: Kind,
 ) -> Piece<'a>
     requires start { Spans start }
@@ -281,7 +317,7 @@ fn string<'a>(
     ensures most { Most 26 48 (gone start.entry.place cursor.old) cursor.new }
 {
     let Scan { fault, cut } = scan;
-    let Some(found) = fault else {
+    let Some(found) = fault_in_role(role, &start.place, fault) else {
         return word(cursor, PieceKind::String, start, None, without_end);
     };
     let inside = end_within(cursor, &found.place);
@@ -407,6 +443,7 @@ fn sign_piece<'a>(
     alloc: Global,
     cursor: &mut Cursor<'a>,
     start: Start<'a>,
+    role: StringRole,
 ) -> Result<Piece<'a>, AllocError>
     requires start { Spans start }
     requires here { cursor.old ≡ gone start.place cursor.old }
@@ -420,7 +457,7 @@ fn sign_piece<'a>(
     let signs = cursor.at() - at;
     if cursor.look() == Some('"') {
         let scan = scan_raw(alloc, cursor, &start.place, signs)?;
-        return Ok(string(cursor, start, scan, Kind::RawEnd));
+        return Ok(string(cursor, start, scan, role, Kind::RawEnd));
     }
     Ok(keyword_piece(cursor, start))
 }
@@ -472,6 +509,7 @@ fn piece_of<'a>(
     c: char,
     cursor: &mut Cursor<'a>,
     start: Start<'a>,
+    role: StringRole,
 ) -> Result<Piece<'a>, AllocError>
     requires start { Begins start }
     requires here { cursor.old ≡ gone start.place cursor.old }
@@ -483,9 +521,9 @@ fn piece_of<'a>(
     match c {
         '"' => {
             let scan = scan_quoted(alloc, cursor)?;
-            Ok(string(cursor, start, scan, Kind::QuotedEnd))
+            Ok(string(cursor, start, scan, role, Kind::QuotedEnd))
         }
-        '#' => sign_piece(alloc, cursor, start),
+        '#' => sign_piece(alloc, cursor, start, role),
         '/' => Ok(slash_piece(cursor, start)),
         '\\' => Ok(backslash_piece(cursor, start)),
         c if is_identifier_char(c) => {
@@ -500,10 +538,11 @@ fn piece_of<'a>(
 }
 
 /// The piece here, which the cursor goes past; it may go past spaces behind a word too. Behind a faulty word it goes on to
-/// the next value end.
+/// the next value end. A string here has the role.
 pub(crate) fn next_piece<'a>(
     alloc: Global,
     cursor: &mut Cursor<'a>,
+    role: StringRole,
 ) -> Result<Piece<'a>, AllocError>
     ensures piece { IfOk result (λ p. Stands cursor.old.rest p) }
     ensures went { IfOk result (λ p. WentPast p.kind cursor.old cursor.new) }
@@ -517,5 +556,5 @@ pub(crate) fn next_piece<'a>(
     };
     let next = cursor.checkpoint();
     cursor.go_to(&place);
-    piece_of(alloc, c, cursor, Start { place, next })
+    piece_of(alloc, c, cursor, Start { place, next }, role)
 }

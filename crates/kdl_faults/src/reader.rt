@@ -12,13 +12,14 @@ ghost use Rattle.kdl_faults.specs.Internal.Noted.{
 ghost use Rattle.kdl_faults.specs.Internal.Reading.{Most};
 ghost use Rattle.kdl_faults.specs.declared.pieces.PieceKind.TheVariants.{End};
 ghost use Rattle.kdl_text.specs.Internal.Reading.{Moves};
+ghost use Rattle.kdl_text.specs.Spans.{raise};
 ghost use Rattle.std.specs.Prelude.{◌≡◌, [], true};
 ghost use Rattle.std.specs.Str.{chars};
 
 use crate::ends::value_end;
 use crate::kind::Kind;
 use crate::machine::{Move, Phase};
-use crate::pieces::{Piece, PieceKind, next_piece};
+use crate::pieces::{Piece, PieceKind, StringRole, next_piece};
 use crate::whole::Whole;
 use kdl_text::chars::{Checkpoint, Cursor, Steps};
 use kdl_text::span::SourceSpan;
@@ -196,8 +197,8 @@ impl<'a> Reader<'a> {
         self.note_up_to(kind, &from, &end, piece)
     }
 
-    /// Notes that the piece does not fit where it stands. In the text of an entry, and behind the only node of a text,
-    /// reading is over.
+    /// Notes that the piece does not fit where it stands: where a name is due, a `{` is a block without one, and a `}` outside
+    /// blocks is misplaced. In the text of an entry, and behind the only node of a text, reading is over.
     fn misfit(&mut self, piece: &Piece<'a>) -> Result<(), AllocError>
         ensures keeps { KeepsAt piece.now self.old self.new }
         ensures moves { Moves self.old.cursor self.new.cursor }
@@ -206,6 +207,7 @@ impl<'a> Reader<'a> {
     {
         let kind = match (self.phase.misfit(), piece.kind) {
             (Kind::Name, PieceKind::Opening) => Kind::Nameless,
+            (Kind::Name, PieceKind::Closing) if self.blocks.is_empty() => Kind::Misplaced,
             (kind, _) => kind,
         };
         self.note_misfit(kind, piece)?;
@@ -466,9 +468,9 @@ impl<'a> Reader<'a> {
         }
     }
 
-    /// What the text of a node or an entry lacks where it has none, and no other fault.
+    /// What the text of a node or an entry lacks where it has none, no open block and no other fault.
     fn missing(&self) -> Option<Kind> {
-        if self.has_item || !self.faults.is_empty() {
+        if self.has_item || !self.blocks.is_empty() || !self.faults.is_empty() {
             return None;
         }
         match self.text {
@@ -503,14 +505,26 @@ impl<'a> Reader<'a> {
         }
     }
 
+    /// Notes that the character at the place can't stand there, or that something is due where the text ends.
+    fn note_character(&mut self, from: &Checkpoint<'a>) -> Result<(), AllocError>
+        ensures keeps { KeepsBetween from.now from.now self.old self.new }
+        ensures steps { self.new.cursor.steps ≡ raise self.old.cursor.steps 1 }
+    {
+        self.cursor.go_to(from);
+        let _ = self.cursor.take();
+        let next = self.cursor.checkpoint();
+        self.note(Kind::Misplaced, from, &next)
+    }
+
     /// Notes the faults of a text that is to be an identifier.
     fn read_identifier(&mut self) -> Result<(), AllocError>
         ensures keeps { Keeps self.old self.new }
         ensures bounded { Bounded 128 self.old.cursor self.new.cursor }
     {
-        let piece = next_piece(self.alloc, &mut self.cursor)?;
+        let start = self.cursor.checkpoint();
+        let piece = next_piece(self.alloc, &mut self.cursor, StringRole::Plain)?;
         let (PieceKind::String, fault) = (piece.kind, piece.fault) else {
-            return self.note(Kind::Misplaced, &piece.start, &piece.next);
+            return self.note_character(&start);
         };
         if let Some(kind) = fault {
             return self.note(kind, &piece.start, &piece.end);
@@ -519,9 +533,7 @@ impl<'a> Reader<'a> {
         if self.cursor.look().is_none() {
             return Ok(());
         }
-        self.cursor.step();
-        let next = self.cursor.checkpoint();
-        self.note(Kind::Misplaced, &piece.end, &next)
+        self.note_character(&piece.end)
     }
 
     /// Goes past a U+FEFF at the start of a document.
@@ -545,7 +557,8 @@ impl<'a> Reader<'a> {
         }
         self.skip_bom();
         'pieces: while !self.is_over {
-            let piece = next_piece(self.alloc, &mut self.cursor)?;
+            let role = self.phase.string_role();
+            let piece = next_piece(self.alloc, &mut self.cursor, role)?;
             self.take(&piece)?;
         }
         Ok(())

@@ -12,7 +12,7 @@ pub returns-in-Unclosed-clause-end : goal.returns-in-Unclosed-clause-end
 returns-in-Unclosed-clause-end c =
     let s = stepped_begins 92 c.args.cursor.now c.step.new.self c.requires c.step.ensures in
     let u = c.in-Unclosed.ensures.comment in
-    record { place = passed_here c.args.cursor.now c.args.cursor.now c.behind_backslash.new.cursor c.checkpoint-place.result c.checkpoint-place.ensures.rest c.checkpoint-place.ensures.at (stays c.args.cursor.now) (moves_then s.moves c.behind_backslash.ensures.moves); comment = record { start = passed_from _ _ _ _ s.moves u.start; end = u.end } }
+    record { place = passed_here c.args.cursor.now c.step.new.self c.behind_backslash.new.cursor c.checkpoint-behind.result c.checkpoint-behind.ensures.rest c.checkpoint-behind.ensures.at s.moves c.behind_backslash.ensures.moves; comment = record { start = passed_from _ _ _ _ s.moves u.start; end = u.end } }
 
 pub returns-in-Other-2-clause-end : goal.returns-in-Other-2-clause-end
 returns-in-Other-2-clause-end c =

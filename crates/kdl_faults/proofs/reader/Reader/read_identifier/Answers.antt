@@ -1,8 +1,5 @@
-use Rattle.std.proofs.Common.{sym, subst}
-use Rattle.kdl_text.specs.Internal.Here.{Here}
-use Rattle.kdl_faults.specs.Internal.Noted.{Bounded}
-use Rattle.kdl_faults.proofs.NotedSpans.{end_lies, moved_here, next_lies, stands_in}
-use Rattle.kdl_faults.proofs.ReaderCost.{bounded_piece, looked_lies, place_lies, stepped_lies}
+use Rattle.kdl_faults.proofs.NotedSpans.{end_lies, moved_here, stands_in}
+use Rattle.kdl_faults.proofs.ReaderCost.{bounded_one, looked_lies, place_lies}
 use Rattle.kdl_faults.proofs.reader.Reader.read_identifier.Goals as goal
 
 pub returns-in_err-piece-clause-keeps : goal.returns-in_err-piece-clause-keeps
@@ -17,15 +14,15 @@ returns-in_err-piece-clause-keeps c text x = record {
 pub returns-in_default : goal.returns-in_default
 returns-in_default c = record {
   keeps = λ text x.
-      (let s = stands_in text c.args.self.now.cursor.rest c.in_ok-piece.piece x.here c.in_ok-piece.ensures.piece in
-      c.note.ensures.keeps text (record { whole = x.whole; here = moved_here text c.args.self.now.cursor c.next_piece.new.cursor x.here c.next_piece.ensures.moves; left = x.left; faults = x.faults; blocks = x.blocks }) s.start (next_lies text c.in_ok-piece.piece s));
-  bounded = subst (λ (z : Here). Bounded 128 c.args.self.now.cursor z) (sym c.note.ensures.cursor) (bounded_piece _ _ c.next_piece.ensures.moves c.next_piece.ensures.most);
+      (let start = place_lies text c.args.self.now.cursor c.checkpoint-start.result x.here c.checkpoint-start.ensures.rest in
+      c.note_character.ensures.keeps text (record { whole = x.whole; here = moved_here text c.args.self.now.cursor c.next_piece.new.cursor x.here c.next_piece.ensures.moves; left = x.left; faults = x.faults; blocks = x.blocks }) start start);
+  bounded = bounded_one _ _ _ c.next_piece.ensures.moves c.next_piece.ensures.most c.note_character.ensures.steps;
 }
 
 pub returns-in-Some-clause-keeps : goal.returns-in-Some-clause-keeps
 returns-in-Some-clause-keeps c text x =
     let s = stands_in text c.args.self.now.cursor.rest c.in_ok-piece.piece x.here c.in_ok-piece.ensures.piece in
-    c.note-in-Some.ensures.keeps text (record { whole = x.whole; here = moved_here text c.args.self.now.cursor c.next_piece.new.cursor x.here c.next_piece.ensures.moves; left = x.left; faults = x.faults; blocks = x.blocks }) s.start (end_lies text c.in_ok-piece.piece s)
+    c.note.ensures.keeps text (record { whole = x.whole; here = moved_here text c.args.self.now.cursor c.next_piece.new.cursor x.here c.next_piece.ensures.moves; left = x.left; faults = x.faults; blocks = x.blocks }) s.start (end_lies text c.in_ok-piece.piece s)
 
 pub returns-then-is_none-clause-keeps : goal.returns-then-is_none-clause-keeps
 returns-then-is_none-clause-keeps c text x =
@@ -43,5 +40,4 @@ returns-clause-keeps c text x =
     let s = stands_in text c.args.self.now.cursor.rest c.in_ok-piece.piece x.here c.in_ok-piece.ensures.piece in
     let end = end_lies text c.in_ok-piece.piece s in
     let here = looked_lies text c.in_ok-piece.piece.end c.go_to.new.self c.look.new.self _ end c.go_to.ensures c.look.ensures.moved in
-    let next = stepped_lies text c.look.new.self c.step.new.self here c.step.ensures in
-    c.note-2.ensures.keeps text (record { whole = x.whole; here = next; left = x.left; faults = x.faults; blocks = x.blocks }) end (place_lies text c.step.new.self c.checkpoint-next.result next c.checkpoint-next.ensures.rest)
+    c.note_character-2.ensures.keeps text (record { whole = x.whole; here = here; left = x.left; faults = x.faults; blocks = x.blocks }) end end
