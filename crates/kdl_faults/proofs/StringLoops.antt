@@ -2,7 +2,7 @@
 use Rattle.std.proofs.Common.{◌≡◌, ℕ, ◌+◌, ◌-◌, ◌*◌, ◌≤◌, ◌++◌, Bool, ap, arith}
 use Rattle.std.specs.Prelude.{Option, None}
 use Rattle.kdl_text.specs.Chars.{Text}
-use Rattle.kdl_text.specs.Internal.Here.{Here, Spot, Skips, looked, sliced, counted}
+use Rattle.kdl_text.specs.Internal.Here.{Here, Spot, Skips, looked}
 use Rattle.kdl_text.specs.Spans.{bytes}
 use Rattle.kdl_text.specs.Internal.Reading.{Moves, Costs}
 use Rattle.kdl_text.proofs.Looking.MovesJoin.{stays, moves_then, moves_stayed, stayed_looked, bytes-append}
@@ -42,12 +42,7 @@ at_unit k c f a b e kept p i (run, r) l =
       here = λ s x y. passed_here f e e s x y m (stays e);
     }
 
--- a string that is read once more, in a slice of it from the place on
-pub read_once_more : (c : ℕ) (s : Spot) (a b e i o : Here) (x : Text) (z n m : ℕ) → s.rest ≡ x ++ a.rest → b ≡ sliced x a → z ≡ 0 → i ≡ record { rest = x; at = 0; steps = z } → Costs 4 c i o → n ≡ o.steps → m ≡ n → e ≡ counted m b
+-- a string that is read once more, in a segment of the text from the place on
+pub read_once_more : (c : ℕ) (s : Spot) (a i o e : Here) (place : Spot) (x : Text) → s.rest ≡ x ++ a.rest → i ≡ record { rest = x; at = 0; steps = a.steps } → Costs 4 c i o → e ≡ record { rest = place.rest; at = place.at; steps = o.steps }
     → e.steps ≤ a.steps + 5 * (bytes s.rest - bytes a.rest) + c
-read_once_more c s a b e i o x z n m t cut zero is k done count raised =
-    let e1 = ap (λ y. y.steps) raised in
-    let b1 = ap (λ y. y.steps) cut in
-    let i1 = ap (λ y. y.steps) is in
-    let i2 = ap (λ y. bytes y.rest) is in
-    omega (arith, ap bytes t, bytes-append x a.rest, k.most)
+read_once_more c s a i o e place x t is k back = omega (arith, ap bytes t, bytes-append x a.rest, ap (λ y. y.steps) is, ap (λ y. bytes y.rest) is, k.most, ap (λ y. y.steps) back)

@@ -4,17 +4,16 @@
 
 ghost use Rattle.kdl_faults.specs.Internal.Reading.{Begins, FindsAlso, IsPiece, Most, MostFrom, NoEarlier, OnFound, Spans, Stands, WentPast, gone};
 ghost use Rattle.kdl_text.specs.Chars.{is_identifier_char, is_number_sign, starts};
-ghost use Rattle.kdl_text.specs.Internal.Here.{Ahead, Behind as Follows, Spot, Stayed, first};
+ghost use Rattle.kdl_text.specs.Internal.Here.{Ahead, Behind as Follows, Returned, Spot, first};
 ghost use Rattle.kdl_text.specs.Spans.{bytes};
 ghost use Rattle.kdl_text.specs.Internal.Reading.{Moves};
-ghost use Rattle.std.specs.Prelude.{◌≡◌, ℕ, ◌+◌, ◌*◌, ◌≤◌, true, IfOk, IfSome};
+ghost use Rattle.std.specs.Prelude.{◌≡◌, ◌+◌, ◌*◌, ◌≤◌, true, IfOk, IfSome};
 
 use crate::ends::{Behind, Unclosed, behind_backslash, value_end};
 use crate::kind::{Form, Kind};
 use crate::strings::{Found, Scan, scan_quoted, scan_raw};
 use kdl_text::chars::{
-    Checkpoint, Class, Cursor, Piece as Slice, Steps, is_identifier_char, is_newline_char,
-    is_space, newline,
+    Checkpoint, Class, Cursor, Segment, is_identifier_char, is_newline_char, is_space, newline,
 };
 use kdl_text::numbers::{Number, NumberFailure, begins_number, read_keyword, read_number};
 use kdl_text::strings::bare_string;
@@ -243,11 +242,8 @@ fn end_within<'a>(cursor: &mut Cursor<'a>, from: &Checkpoint<'a>) -> Checkpoint<
     ensures moves { Moves cursor.old cursor.new }
     ensures most { MostFrom 26 24 from.now cursor.old cursor.old cursor.new }
 {
-    let here = cursor.checkpoint();
-    let text = cursor.slice(from);
-    let mut inside = text.cursor(Steps::new());
-    let at = value_end(&mut inside).place.at();
-    cursor.raise(inside.into_steps().count());
+    let here = cursor.enter(&from.up_to(&cursor.checkpoint()));
+    let at = value_end(cursor).place.at();
     cursor.go_to(from);
     go_on(cursor, at);
     let place = cursor.checkpoint();
@@ -334,15 +330,15 @@ fn string<'a>(
     }
 }
 
-/// The form of the whole number that the slice begins with, by its prefix.
-fn form_of(number: &Slice, cursor: &mut Cursor) -> Form
-    ensures { (k : ℕ) × (k ≤ 4) × Stayed k cursor.old cursor.new }
+/// The form of the whole number that the segment begins with, by its prefix.
+fn form_of<'a>(number: &Segment<'a>, cursor: &mut Cursor<'a>) -> Form
+    ensures { Returned 4 cursor.old cursor.new }
 {
-    let mut inside = number.cursor(Steps::new());
-    let _ = inside.eat('-') || inside.eat('+');
-    let _ = inside.eat('0');
-    let letter = inside.look();
-    cursor.raise(inside.into_steps().count());
+    let place = cursor.enter(number);
+    let _ = cursor.eat('-') || cursor.eat('+');
+    let _ = cursor.eat('0');
+    let letter = cursor.look();
+    cursor.go_to(&place);
     match letter {
         Some('x' | 'X') => Form::Hexadecimal,
         Some('o' | 'O') => Form::Octal,
@@ -352,18 +348,16 @@ fn form_of(number: &Slice, cursor: &mut Cursor) -> Form
 }
 
 /// The fault of a number, all identifier characters at its place, and its form.
-fn number_fault(
+fn number_fault<'a>(
     alloc: Global,
-    cursor: &mut Cursor,
-    number: &Slice,
+    cursor: &mut Cursor<'a>,
+    number: &Segment<'a>,
 ) -> Result<(Option<Kind>, Form), AllocError>
-    ensures rest { cursor.new.rest ≡ cursor.old.rest }
-    ensures moves { Moves cursor.old cursor.new }
-    ensures most { cursor.new.steps ≤ cursor.old.steps + 4 * bytes number.now + 16 }
+    ensures { Returned (4 * bytes number.now + 16) cursor.old cursor.new }
 {
-    let mut inside = number.cursor(Steps::new());
-    let answer = read_number(alloc, &mut inside);
-    cursor.raise(inside.into_steps().count());
+    let place = cursor.enter(number);
+    let answer = read_number(alloc, cursor);
+    cursor.go_to(&place);
     match answer {
         Ok(Number::Decimal(_)) => Ok((None, Form::Float)),
         Ok(Number::Integer(_)) => Ok((None, form_of(number, cursor))),
@@ -386,7 +380,7 @@ fn number_piece<'a>(
     ensures most { Most 24 41 cursor.old cursor.new }
 {
     cursor.skip(Class::Identifier);
-    let number = cursor.slice(&start.place);
+    let number = start.place.up_to(&cursor.checkpoint());
     let (fault, form) = number_fault(alloc, cursor, &number)?;
     let without_end = Kind::NumberEnd(form);
     Ok(word(cursor, PieceKind::Value, start, fault, without_end))
@@ -409,14 +403,12 @@ fn bare_piece<'a>(cursor: &mut Cursor<'a>, start: Start<'a>) -> Piece<'a>
 }
 
 /// The fault of a keyword, by its number signs and all identifier characters behind them.
-fn keyword_fault(cursor: &mut Cursor, word: &Slice) -> Option<Kind>
-    ensures rest { cursor.new.rest ≡ cursor.old.rest }
-    ensures moves { Moves cursor.old cursor.new }
-    ensures most { cursor.new.steps ≤ cursor.old.steps + 4 * bytes word.now + 4 }
+fn keyword_fault<'a>(cursor: &mut Cursor<'a>, word: &Segment<'a>) -> Option<Kind>
+    ensures { Returned (4 * bytes word.now + 4) cursor.old cursor.new }
 {
-    let mut inside = word.cursor(Steps::new());
-    let answer = read_keyword(&mut inside);
-    cursor.raise(inside.into_steps().count());
+    let place = cursor.enter(word);
+    let answer = read_keyword(cursor);
+    cursor.go_to(&place);
     match answer {
         Some(_) => None,
         None => Some(Kind::Keyword),
@@ -433,7 +425,7 @@ fn keyword_piece<'a>(cursor: &mut Cursor<'a>, start: Start<'a>) -> Piece<'a>
     ensures most { Most 24 29 (gone start.entry.place cursor.old) cursor.new }
 {
     cursor.skip(Class::Identifier);
-    let text = cursor.slice(&start.place);
+    let text = start.place.up_to(&cursor.checkpoint());
     let fault = keyword_fault(cursor, &text);
     word(cursor, PieceKind::Value, start, fault, Kind::Keyword)
 }

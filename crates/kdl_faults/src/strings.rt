@@ -8,7 +8,7 @@ ghost use Rattle.kdl_text.specs.Internal.Reading.{Moves};
 ghost use Rattle.std.specs.Prelude.{◌≡◌, ◌<◌, Some, true, IfOk};
 
 use crate::kind::Kind;
-use kdl_text::chars::{Checkpoint, Class, Cursor, Steps, is_newline_char, newline};
+use kdl_text::chars::{Checkpoint, Class, Cursor, is_newline_char, newline};
 use kdl_text::strings::{StringFailure, StringFault, escaped_unit, quoted_string, raw_string};
 use std::alloc::{AllocError, Global};
 
@@ -153,11 +153,9 @@ fn fault_of_lines<'a>(
     ensures moves { Moves cursor.old cursor.new }
     ensures most { MostFrom 5 7 start.now cursor.old cursor.old cursor.new }
 {
-    let place = cursor.checkpoint();
-    let text = cursor.slice(start);
-    let mut inside = text.cursor(Steps::new());
-    let answer = quoted_string(alloc, &mut inside);
-    cursor.raise(inside.into_steps().count());
+    let place = cursor.enter(&start.up_to(&cursor.checkpoint()));
+    let answer = quoted_string(alloc, cursor);
+    cursor.go_to(&place);
     match answer {
         Ok(_) => Ok(None),
         Err(StringFailure::Fault(StringFault::NoPrefix)) => Ok(Some(Found {
@@ -289,11 +287,9 @@ fn fault_of_raw_lines<'a>(
     ensures moves { Moves cursor.old cursor.new }
     ensures most { MostFrom 5 9 start.now cursor.old cursor.old cursor.new }
 {
-    let place = cursor.checkpoint();
-    let text = cursor.slice(start);
-    let mut inside = text.cursor(Steps::new());
-    let answer = raw_string(alloc, &mut inside);
-    cursor.raise(inside.into_steps().count());
+    let place = cursor.enter(&start.up_to(&cursor.checkpoint()));
+    let answer = raw_string(alloc, cursor);
+    cursor.go_to(&place);
     match answer {
         Ok(_) => Ok(None),
         Err(StringFailure::Fault(_)) => Ok(Some(Found {
