@@ -2,16 +2,17 @@
 
 ghost use Rattle.kdl_text.specs.Chars.{starts};
 ghost use Rattle.kdl_text.specs.Chars as class;
-ghost use Rattle.kdl_text.specs.Internal.Here.{Stayed};
+ghost use Rattle.kdl_text.specs.Internal.Here.{Counted, Returned, Stayed};
 ghost use Rattle.kdl_text.specs.Internal.NumberReading.{radix_of, IsBase, LooksBasePrefix, Counts, IsDigit, ReadsDigits, ReadsInteger, ReadsFront, IsFault, IsPartFault, IsPowerFault, IsNumberFault, ReadsFraction, ReadsExponent, ReadsPart, ReadsNumber, ReadsKeyword, AteExponentLetter, WordOf, is_of_number};
 ghost use Rattle.kdl_text.specs.Numbers as spec;
 ghost use Rattle.kdl_text.specs.Numbers.{Sign, BasePrefix, Decimal, FloatKeyword, FloatText};
 ghost use Rattle.kdl_text.specs.Internal.Reading.{Moves, Costs};
-ghost use Rattle.std.specs.Prelude.{◌≡◌, ℕ, ◌+◌, ◌*◌, ◌<◌, ◌≤◌, ◌||◌, not, IfOk, if◌then◌else◌, ◌↔◌, IsTrue, IfSome, string_bytes, [], length, ◌==◌};
+ghost use Rattle.kdl_text.specs.Spans.{bytes};
+ghost use Rattle.std.specs.Prelude.{◌≡◌, ℕ, ◌+◌, ◌*◌, ◌<◌, ◌≤◌, ◌++◌, ◌||◌, false, not, IfOk, if◌then◌else◌, ◌↔◌, IsTrue, IfSome, string_bytes, [], length, ◌==◌};
 ghost use Rattle.std.specs.List.{list_all};
 ghost use Rattle.std.specs.Str.{chars};
 
-use crate::chars::{Class, Cursor, Piece, Steps, is_digit, is_identifier_char, is_sign};
+use crate::chars::{Class, Cursor, Piece, Segment, Steps, is_digit, is_identifier_char, is_sign};
 use std::alloc::{AllocError, Global};
 
 /// The base in which a whole number is written.
@@ -406,26 +407,66 @@ fn decimal_part(cursor: &mut Cursor) -> Result<(), NumberFault>
     Ok(())
 }
 
-/// Whether no `_` stands in the text.
-fn has_no_underscore(text: &str) -> bool
-    ensures { result ≡ list_all (λ c. not (c == 95)) (chars text.now) }
+/// Whether no `_` comes from here to the end of the text. Goes past the first that does.
+fn has_no_underscore(cursor: &mut Cursor) -> bool
+    ensures result { result ≡ list_all (λ c. not (c == 95)) cursor.old.rest }
+    ensures moves { Moves cursor.old cursor.new }
+    ensures costs { Costs 1 1 cursor.old cursor.new }
+    ensures cost { result ≡ false → Costs 1 0 cursor.old cursor.new }
 {
-    text.chars().all(|c| c != '_')
+    'chars: while let Some(c) = cursor.take() {
+        if c == '_' {
+            return false;
+        }
+    }
+    true
 }
 
-/// A copy of the piece without its `_`.
-fn without_underscores(alloc: Global, piece: &Piece) -> Result<String, AllocError>
-    ensures { IfOk result (λ s. chars (string_bytes s) ≡ spec.plain piece.now) }
+/// Appends the text from here to its end, but its `_`.
+fn push_plain(out: &mut String, cursor: &mut Cursor) -> Result<(), AllocError>
+    ensures pushed { IfOk result (λ _. chars (string_bytes out.new)
+        ≡ chars (string_bytes out.old) ++ spec.plain cursor.old.rest) }
+    ensures moves { Moves cursor.old cursor.new }
+    ensures costs { Costs 1 1 cursor.old cursor.new }
 {
-    let mut text = match piece.to_string(alloc) {
-        Ok(text) => text,
-        Err(refused) => return Err(refused),
-    };
-    if has_no_underscore(text.as_str()) {
-        return Ok(text);
+    'chars: while let Some(c) = cursor.take() {
+        if c == '_' {
+            continue 'chars;
+        }
+        out.push(c)?;
     }
-    text.retain(|c| c != '_');
+    Ok(())
+}
+
+/// A copy of the text from here to its end, without its `_`.
+fn plain_rest(alloc: Global, cursor: &mut Cursor) -> Result<String, AllocError>
+    ensures plain { IfOk result (λ s. chars (string_bytes s) ≡ spec.plain cursor.old.rest) }
+    ensures counted { Counted (2 * bytes cursor.old.rest + 1) cursor.old cursor.new }
+{
+    let start = cursor.checkpoint();
+    let is_plain = has_no_underscore(cursor);
+    cursor.go_to(&start);
+    if is_plain {
+        return cursor.slice_rest().to_string(alloc);
+    }
+    let mut text = String::new(alloc);
+    push_plain(&mut text, cursor)?;
     Ok(text)
+}
+
+/// A copy of the segment without its `_`.
+fn without_underscores<'a>(
+    alloc: Global,
+    segment: &Segment<'a>,
+    cursor: &mut Cursor<'a>,
+) -> Result<String, AllocError>
+    ensures plain { IfOk result (λ s. chars (string_bytes s) ≡ spec.plain segment.now) }
+    ensures returned { Returned (2 * bytes segment.now + 1) cursor.old cursor.new }
+{
+    let place = cursor.enter(segment);
+    let text = plain_rest(alloc, cursor);
+    cursor.go_to(&place);
+    text
 }
 
 /// The number with its sign, where it is one of `i128`.
@@ -466,8 +507,8 @@ pub fn read_number(alloc: Global, cursor: &mut Cursor) -> Result<Number, NumberF
     if let Err(fault) = decimal_part(cursor) {
         return Err(NumberFailure::Fault(fault));
     }
-    let piece = cursor.slice(&start);
-    match without_underscores(alloc, &piece) {
+    let segment = start.up_to(&cursor.checkpoint());
+    match without_underscores(alloc, &segment, cursor) {
         Ok(text) => Ok(Number::Decimal(text)),
         Err(_) => Err(NumberFailure::Memory),
     }
@@ -525,7 +566,7 @@ fn is_plain_decimal(text: &str) -> bool
     let Ok(()) = decimal_part(&mut cursor) else {
         return false;
     };
-    cursor.look().is_none() && has_no_underscore(text)
+    cursor.look().is_none() && has_no_underscore(&mut Cursor::new(text, Steps::new()))
 }
 
 /// Whether the keyword is that of a number.

@@ -1,7 +1,7 @@
 -- What is read costs so much, whether or not it is right.
-use Rattle.std.proofs.Common.{◌≡◌, ℕ, ◌≤◌, ◌++◌, length, length-append, ap, arith}
+use Rattle.std.proofs.Common.{◌≡◌, ℕ, ◌+◌, ◌*◌, ◌≤◌, ◌++◌, length, length-append, ap, arith}
 use Rattle.kdl_text.specs.Chars.{Text}
-use Rattle.kdl_text.specs.Internal.Here.{Here, Took, Ran, Stayed, sliced, looked}
+use Rattle.kdl_text.specs.Internal.Here.{Here, Took, Ran, Returned, Stayed, sliced, looked}
 use Rattle.kdl_text.specs.Spans.{bytes}
 use Rattle.kdl_text.specs.Internal.Reading.{Moves, Costs}
 use Rattle.std.specs.Prelude.{Some, Bool}
@@ -23,11 +23,11 @@ front_looked f a b c s = costs_then 2 4 1 f a b c (costs_stayed a b s)
 pub front_all : (f a b d : Here) → Costs 2 4 f a → Stayed 1 a b → Costs 2 6 b d → Costs 2 11 f d
 front_all f a b d c s k = costs_then 2 5 6 f b d (front_looked f a b c s) k
 
--- a slice of what was read costs a step for each byte
-pub sliced_most : (i c : ℕ) (p : Text) (a b e : Here) → Moves a b → Costs 2 i a b → a.rest ≡ p ++ b.rest → e ≡ sliced p b → i ≤ c → Costs 4 c a e
-sliced_most i c p a b e m k h x le = record {
-  most = omega (arith, k.most, fewer_bytes m, ap bytes h, bytes-append p b.rest, ap (λ z. z.steps) x, ap (λ z. bytes z.rest) x, le);
-  least = omega (arith, k.least, ap (λ z. z.steps) x, ap (λ z. length z.rest) x);
+-- what was read is copied: two steps for each byte, and one more
+pub copied_most : (p : Text) (a b e : Here) → Costs 2 11 a b → a.rest ≡ p ++ b.rest → Returned (2 * bytes p + 1) b e → Costs 4 12 a e
+copied_most p a b e k h r = record {
+  most = omega (arith, k.most, ap bytes h, bytes-append p b.rest, r.most, ap bytes r.rest);
+  least = omega (arith, k.least, r.counts, ap length r.rest);
 }
 
 -- no number sign stands here

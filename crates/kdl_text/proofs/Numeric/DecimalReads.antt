@@ -1,17 +1,11 @@
 -- Readers of numbers that may be decimals, a step at a time.
-use Rattle.std.proofs.Common.{◌≡◌, ℕ, ◌<◌, ◌≤◌, List, [], ◌∷◌, ◌++◌, Bool, true, false, not, ◌||◌, ◌==◌, length, refl, ap, sym, ◌∙◌, subst, arith, ℤ, Some, ◌↔◌, lit≤, length-append, ◌⊎◌, inl, inr, append-nil, IsTrue, cond, suc, ◌&&◌}
+use Rattle.std.proofs.Common.{◌≡◌, ℕ, ◌<◌, ◌≤◌, [], ◌∷◌, ◌++◌, Bool, true, false, not, ◌||◌, ◌==◌, length, refl, ap, sym, ◌∙◌, subst, arith, ℤ, Some, ◌↔◌, lit≤, length-append, ◌⊎◌, inl, inr, append-nil, IsTrue, cond, suc, ◌&&◌, ◌+◌, ◌*◌, eqb-true}
 use Rattle.std.specs.Prelude.{if◌then◌else◌, Result, Ok, Err, IfOk, Option}
 use Rattle.std.specs.Option.{is_some}
 use Rattle.std.specs.List.{list_all}
-use Rattle.std.specs.Str.{encode_utf8_all}
-use Rattle.std.proofs.Math.Utf8.{scalars}
-use lib.Utf8.{scalar}
-use Rattle.std.proofs.lemmas.Str.{chars-encodes}
-use Rattle.std.proofs.lemmas.Bool.{and_parts}
 use Rattle.std.specs.Str.Parse.{digits_value}
-use Rattle.std.specs.Str.{chars}
 use Rattle.kdl_text.specs.Chars.{Text, is_identifier_char, starts}
-use Rattle.kdl_text.specs.Internal.Here.{Here, Stayed, Ate, sliced, first}
+use Rattle.kdl_text.specs.Internal.Here.{Here, Returned, Stayed, Ate, first}
 use Rattle.kdl_text.specs.Spans.{bytes}
 use Rattle.kdl_text.specs.Internal.Reading.{Moves, Costs}
 use Rattle.kdl_text.specs.Numbers.{is_digit_of, Sign, BasePrefix, Integer, WholeNumber, whole, signed, fits, Fraction, Exponent, is_exponent_letter, DecimalPart, part, plain, Decimal, decimal, IsNumber, is_whole, is_decimal, NumberValue, decimal_text}
@@ -177,12 +171,12 @@ pub whole_err : (b : Bool) (e : NumberFault) (z : ℤ) → broken_result e ≡ (
 whole_err true e z h = cc
 whole_err false e z h = refl
 
-pub slice_costs : (c : ℕ) (p : Text) (a b e : Here) → a.rest ≡ p ++ b.rest → Costs 2 c a b → e ≡ sliced p b → c ≤ 17 → length b.rest < length a.rest → Costs 20 0 a e
-slice_costs c p a b e h k x le less =
+copied_costs : (p : Text) (a b e : Here) → a.rest ≡ p ++ b.rest → Costs 2 11 a b → Returned (2 * bytes p + 1) b e → length b.rest < length a.rest → Costs 20 0 a e
+copied_costs p a b e h k r less =
     let more : 1 ≤ bytes p = omega (arith, ap length h, length-append p b.rest, less, length-bytes p) in
     record {
-      most = omega (arith, k.most, ap bytes h, bytes-append p b.rest, ap (λ z. z.steps) x, ap (λ z. bytes z.rest) x, more, le);
-      least = omega (arith, k.least, ap (λ z. z.steps) x, ap (λ z. length z.rest) x);
+      most = omega (arith, k.most, ap bytes h, bytes-append p b.rest, r.most, ap bytes r.rest, more);
+      least = omega (arith, k.least, r.counts, ap length r.rest);
     }
 
 costs_stayed : (a b : Here) → Stayed 1 a b → Costs 2 1 a b
@@ -201,9 +195,9 @@ whole_costs r f a b m c less s =
 pub part_moves : (f a b d : Here) → Moves f a → Stayed 1 a b → Moves b d → Moves f d
 part_moves f a b d m s n = moves_then m (moves_then (moves_stayed s) n)
 
-pub part_costs : (p : Text) (f a b d e : Here) → Moves f a → Costs 2 4 f a → length a.rest < length f.rest → Stayed 1 a b → Moves b d → Costs 2 6 b d → f.rest ≡ p ++ d.rest → e ≡ sliced p d → Costs 20 0 f e
+pub part_costs : (p : Text) (f a b d e : Here) → Moves f a → Costs 2 4 f a → length a.rest < length f.rest → Stayed 1 a b → Moves b d → Costs 2 6 b d → f.rest ≡ p ++ d.rest → Returned (2 * bytes p + 1) d e → Costs 20 0 f e
 part_costs p f a b d e m c less s n k h x =
-    slice_costs 11 p f d e h (costs_then 2 4 7 f a d c (costs_then 2 1 6 a b d (costs_stayed a b s) k)) x (lit≤ tt) (omega (arith, less, ap length s.rest, shorter n))
+    copied_costs p f d e h (costs_then 2 4 7 f a d c (costs_then 2 1 6 a b d (costs_stayed a b s) k)) x (omega (arith, less, ap length s.rest, shorter n))
 
 -- the end of a text, seen by a look
 pub at_end : (s : Text) (o : Option ℕ) (b : Bool) → o ≡ first s → is_some o ≡ not b → IsTrue b ↔ (s ≡ [])
@@ -268,20 +262,26 @@ module _ (f : Front) (s t u : Text) (e : s ≡ t) (x : IsFront f s u) where
           let d : Decimal s [] (plain s) = front_part f s u x [] s (ap radix_of base) part (sym (append-nil s)) in
           subst (λ z. Decimal t [] z) (plain_same t h) (subst (λ z. Decimal z [] (plain z)) e d)
 
--- what `retain` leaves
-scalars_kept : (s : Text) → scalars s ≡ true → scalars (plain s) ≡ true
-scalars_kept [] h = refl
-scalars_kept (c ∷ s) h = let k = and_parts (scalar c) (scalars s) h in go (not (c == 95)) k.0 (scalars_kept s k.1)
-  where
-    go : (b : Bool) → scalar c ≡ true → scalars (plain s) ≡ true → scalars (cond b (c ∷ plain s) (plain s)) ≡ true
-    go true x y = rw (x, y) refl
-    go false x y = y
+-- a character and what follows it, without `_`
+pub plain_drops : (c : ℕ) (s : Text) → c ≡ 95 → plain (c ∷ s) ≡ plain s
+plain_drops c s e = rw e refl
 
-pub kept_text : (bs out all kept piece : List ℕ) → scalars all ≡ true → encode_utf8_all all ≡ bs → kept ≡ plain all → out ≡ encode_utf8_all kept → chars bs ≡ piece → chars out ≡ plain piece
-kept_text bs out all kept piece s e k o h =
-    let x : chars bs ≡ all = ap chars (sym e) ∙ chars-encodes all s in
-    let y : chars (encode_utf8_all (plain all)) ≡ plain all = chars-encodes (plain all) (scalars_kept all s) in
-    ap chars (o ∙ ap encode_utf8_all k) ∙ y ∙ ap plain (sym x ∙ h)
+pub plain_keeps : (c : ℕ) (s : Text) → (c ≡ 95 → ⊥) → plain (c ∷ s) ≡ c ∷ plain s
+plain_keeps c s ne = go (c == 95) refl
+  where
+    go : (b : Bool) → (c == 95) ≡ b → plain (c ∷ s) ≡ c ∷ plain s
+    go true e = absurd (ne (eqb-true c 95 e))
+    go false e = rw e refl
+
+pub no_underscore_ends : (c : ℕ) (s : Text) → c ≡ 95 → has_no_underscore (c ∷ s) ≡ false
+no_underscore_ends c s e = rw e refl
+
+pub no_underscore_here : (c : ℕ) (s : Text) → (c ≡ 95 → ⊥) → has_no_underscore (c ∷ s) ≡ has_no_underscore s
+no_underscore_here c s ne = go (c == 95) refl
+  where
+    go : (b : Bool) → (c == 95) ≡ b → has_no_underscore (c ∷ s) ≡ has_no_underscore s
+    go true e = absurd (ne (eqb-true c 95 e))
+    go false e = rw e refl
 
 -- which fault is answered
 module _ (f : Front) (t u : Text) (x : IsFront f t u) where

@@ -3,7 +3,7 @@ use Rattle.kdl_text.specs.Numbers.{DecimalPart}
 use Rattle.kdl_text.specs.Internal.NumberReading.{radix_of}
 use Rattle.kdl_text.proofs.Numeric.DecimalReads.{front_trails, number_range, whole_costs, front_number, front_other, front_no_part, front_part, reads_number, not_ten, part_moves, part_costs}
 use Rattle.kdl_text.proofs.Looking.MovesJoin.{moves_then, moves_stayed}
-use Rattle.kdl_text.proofs.Looking.MostCost.{more, front_looked, front_all, sliced_most}
+use Rattle.kdl_text.proofs.Looking.MostCost.{more, front_looked, front_all, copied_most}
 use Rattle.kdl_text.proofs.numbers.read_number.Goals as goal
 
 pub returns-then-is_end-clause-reads : goal.returns-then-is_end-clause-reads
@@ -28,21 +28,20 @@ returns-in-Err-decimal_part-clause-reads c =
 pub returns-in-Err-decimal_part-clause-moves : goal.returns-in-Err-decimal_part-clause-moves
 returns-in-Err-decimal_part-clause-moves c = moves_then c.read_front.ensures.moves (moves_then (moves_stayed c.is_end.ensures.stayed) c.decimal_part.ensures.moves)
 
-pub slice-piece-requires : goal.slice-piece-requires
-slice-piece-requires c = rw c.checkpoint-start.ensures.rest (part_moves _ _ _ _ c.read_front.ensures.moves c.is_end.ensures.stayed c.decimal_part.ensures.moves).piece
+pub up_to-segment-requires : goal.up_to-segment-requires
+up_to-segment-requires c = rw (c.checkpoint-start.ensures.rest, c.checkpoint.ensures.rest) (part_moves _ _ _ _ c.read_front.ensures.moves c.is_end.ensures.stayed c.decimal_part.ensures.moves).piece
 
 pub returns-in-Ok-without_underscores-clause-reads : goal.returns-in-Ok-without_underscores-clause-reads
 returns-in-Ok-without_underscores-clause-reads c =
-    let p = c.slice-piece.result in
-    let rest : c.slice-piece.new.self.rest ≡ c.decimal_part.new.cursor.rest = ap (λ h. h.rest) c.slice-piece.ensures.moved in
-    let text : c.args.cursor.now.rest ≡ p ++ c.decimal_part.new.cursor.rest = sym c.checkpoint-start.ensures.rest ∙ c.slice-piece.ensures.result in
+    let p = c.up_to-segment.result in
+    let text : c.args.cursor.now.rest ≡ p ++ c.decimal_part.new.cursor.rest = sym c.checkpoint-start.ensures.rest ∙ c.up_to-segment.ensures ∙ ap (λ z. p ++ z) c.checkpoint.ensures.rest in
     let part : DecimalPart c.read_front.new.cursor.rest c.decimal_part.new.cursor.rest = subst (λ q. DecimalPart q c.decimal_part.new.cursor.rest) c.is_end.ensures.stayed.rest c.in_default-decimal_part.ensures.reads in
-    reads_number _ _ p _ c.in-Ok-without_underscores.ensures (rw rest (front_part _ _ _ c.in-Ok.ensures.reads _ p (ap radix_of c.in-Decimal.is) part text))
+    reads_number _ _ p _ c.in-Ok-without_underscores.ensures.plain (rw c.without_underscores.ensures.returned.rest (front_part _ _ _ c.in-Ok.ensures.reads _ p (ap radix_of c.in-Decimal.is) part text))
 
 pub returns-in-Ok-without_underscores-clause-costs : goal.returns-in-Ok-without_underscores-clause-costs
 returns-in-Ok-without_underscores-clause-costs c =
     part_costs _ _ _ _ _ _ c.read_front.ensures.moves c.read_front.ensures.costs c.in-Ok.ensures.shorter c.is_end.ensures.stayed c.decimal_part.ensures.moves c.decimal_part.ensures.costs
-    (sym c.checkpoint-start.ensures.rest ∙ c.slice-piece.ensures.result) c.slice-piece.ensures.moved
+    (sym c.checkpoint-start.ensures.rest ∙ c.up_to-segment.ensures ∙ ap (λ z. c.up_to-segment.result ++ z) c.checkpoint.ensures.rest) c.without_underscores.ensures.returned
 
 pub returns-then-is_end-clause-fault : goal.returns-then-is_end-clause-fault
 returns-then-is_end-clause-fault c = number_range _ _ _ c.in-Ok.ensures.reads _ _ c.is_end.ensures.stayed.rest c.whole.ensures
@@ -60,12 +59,10 @@ returns-in-Err-decimal_part-clause-most c =
 
 pub returns-in-Ok-without_underscores-clause-most : goal.returns-in-Ok-without_underscores-clause-most
 returns-in-Ok-without_underscores-clause-most c =
-    sliced_most _ _ _ _ _ _ (part_moves _ _ _ _ c.read_front.ensures.moves c.is_end.ensures.stayed c.decimal_part.ensures.moves)
-    (front_all _ _ _ _ c.read_front.ensures.costs c.is_end.ensures.stayed c.decimal_part.ensures.costs)
-    (sym c.checkpoint-start.ensures.rest ∙ c.slice-piece.ensures.result) c.slice-piece.ensures.moved (lit≤ tt)
+    copied_most c.up_to-segment.result _ _ _ (front_all _ _ _ _ c.read_front.ensures.costs c.is_end.ensures.stayed c.decimal_part.ensures.costs)
+    (sym c.checkpoint-start.ensures.rest ∙ c.up_to-segment.ensures ∙ ap (λ z. c.up_to-segment.result ++ z) c.checkpoint.ensures.rest) c.without_underscores.ensures.returned
 
 pub returns-in-Err-without_underscores-clause-most : goal.returns-in-Err-without_underscores-clause-most
 returns-in-Err-without_underscores-clause-most c =
-    sliced_most _ _ _ _ _ _ (part_moves _ _ _ _ c.read_front.ensures.moves c.is_end.ensures.stayed c.decimal_part.ensures.moves)
-    (front_all _ _ _ _ c.read_front.ensures.costs c.is_end.ensures.stayed c.decimal_part.ensures.costs)
-    (sym c.checkpoint-start.ensures.rest ∙ c.slice-piece.ensures.result) c.slice-piece.ensures.moved (lit≤ tt)
+    copied_most c.up_to-segment.result _ _ _ (front_all _ _ _ _ c.read_front.ensures.costs c.is_end.ensures.stayed c.decimal_part.ensures.costs)
+    (sym c.checkpoint-start.ensures.rest ∙ c.up_to-segment.ensures ∙ ap (λ z. c.up_to-segment.result ++ z) c.checkpoint.ensures.rest) c.without_underscores.ensures.returned
