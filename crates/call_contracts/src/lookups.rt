@@ -1,15 +1,18 @@
 //! What is looked up, and what look-ups lend.
 
+ghost use Rattle.kdl.specs.Change.{children_row};
 ghost use Rattle.kdl.specs.DocumentLookups.{dash_arguments_of, node_named};
+ghost use Rattle.kdl.specs.Iterators.{block_left, block_name, with_written_block};
 ghost use Rattle.kdl.specs.Lookups.{HasSameEntries, HasWritten, found_entry, property_place, property_value, with_found_entry};
 ghost use Rattle.kdl.specs.contracts.node.KdlNode.{the_row};
+ghost use Rattle.kdl.specs.declared.node.KdlNode.{out-KdlNode};
 ghost use Rattle.kdl_entry.specs.contracts.entry.KdlEntry.{the_row as entry_row};
 ghost use Rattle.kdl_value.specs.Tree.{or_null, value_tree};
 ghost use Rattle.kdl_value.specs.contracts.value.KdlValue.{the_row as value_row};
-ghost use Rattle.std.specs.Borrow.{LendsIf, LendsSoOk, sem};
-ghost use Rattle.std.specs.Prelude.{◌≡◌, IfOk, option_map};
+ghost use Rattle.std.specs.Borrow.{Array, LendsIf, LendsSoOk, follows, sem};
+ghost use Rattle.std.specs.Prelude.{◌≡◌, [], ◌∷◌, IfOk, option_map};
 
-use kdl::{DashArgsIter, KdlDocument, KdlEntry, KdlNode, KdlValue, NodeKey};
+use kdl::{ChildrenIterMut, DashArgsIter, KdlDocument, KdlEntry, KdlNode, KdlValue, NodeKey};
 use std::alloc::AllocError;
 
 /// `KdlDocument::get`.
@@ -33,6 +36,15 @@ pub fn entry_mut(node: &mut KdlNode, key: NodeKey) -> Option<&mut KdlEntry>
     ensures value { option_map (λ e. e.now) result ≡ found_entry key node.old }
 {
     node.entry_mut(key)
+}
+
+/// `KdlNode::iter_children_mut`: the block that it lends, and the node once that is written.
+pub fn iter_children_mut(node: &mut KdlNode) -> ChildrenIterMut<'_>
+    ensures* writes_back { sem 𝓛 (follows the_row (Array children_row 0) node.entry.ghost_name
+        (block_name result) (with_written_block node.old)) }
+    ensures block { block_left result ≡ (out-KdlNode node.old).children ∷ [] }
+{
+    node.iter_children_mut()
 }
 
 /// `KdlNode::get_or_null_mut`: the value, and the node once it is written.
