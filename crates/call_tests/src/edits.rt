@@ -23,7 +23,7 @@ fn old_prints(rt: &impl Abort, alloc: Global, old: Option<&KdlEntry>, text: &str
 }
 
 /// Puts the value in under the name, and what was handed back prints this text.
-fn sets(
+pub fn sets(
     rt: &impl Abort,
     alloc: Global,
     node: &mut KdlNode,
@@ -42,7 +42,7 @@ fn sets(
 }
 
 /// Takes out the first property of that name, which prints this text.
-fn takes(rt: &impl Abort, alloc: Global, node: &mut KdlNode, name: &str, text: &str) {
+pub fn takes(rt: &impl Abort, alloc: Global, node: &mut KdlNode, name: &str, text: &str) {
     let old = node.remove(NodeKey::Key(identifier(rt, alloc, name)));
     old_prints(rt, alloc, old.as_ref(), text);
     drop(old);
@@ -194,7 +194,13 @@ fn an_argument_is_put_in_behind_a_property(rt: HostRuntime) {
 }
 
 /// Takes out the argument at the index, which is there and prints this text.
-fn takes_argument(rt: &impl Abort, alloc: Global, node: &mut KdlNode, index: usize, text: &str) {
+pub fn takes_argument(
+    rt: &impl Abort,
+    alloc: Global,
+    node: &mut KdlNode,
+    index: usize,
+    text: &str,
+) {
     let old = remove_argument(node, index).expect(rt, "no argument");
     prints(rt, alloc, &old, text);
     drop(old);
@@ -236,7 +242,7 @@ fn entries_are_sorted(rt: HostRuntime) {
 }
 
 /// The entry of a text.
-fn entry(rt: &impl Abort, alloc: Global, text: &str) -> KdlEntry {
+pub fn entry(rt: &impl Abort, alloc: Global, text: &str) -> KdlEntry {
     match KdlEntry::parse(alloc, text) {
         Ok(entry) => entry,
         Err(_) => panic!(rt; "{text:?} is refused"),

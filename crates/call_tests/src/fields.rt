@@ -40,12 +40,12 @@ pub fn document_of(alloc: Global, nodes: Vec<KdlNode>) -> KdlDocument {
 }
 
 /// A new document of the one node.
-fn document_with(rt: &impl Abort, alloc: Global, node: KdlNode) -> KdlDocument {
+pub fn document_with(rt: &impl Abort, alloc: Global, node: KdlNode) -> KdlDocument {
     document_of(alloc, vec![in alloc; node].expect(rt, "memory"))
 }
 
 /// Puts the node behind the others of the document.
-fn push(rt: &impl Abort, document: &mut KdlDocument, node: KdlNode) {
+pub fn push(rt: &impl Abort, document: &mut KdlDocument, node: KdlNode) {
     document.nodes_mut().push(node).expect(rt, "memory");
 }
 

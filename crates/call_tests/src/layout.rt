@@ -2,7 +2,7 @@
 //! bound, the configuration, and running out of memory.
 
 use crate::edits::{add, add_property, exchange};
-use crate::fields::{built, document_of};
+use crate::fields::{built, document_of, push};
 use crate::reading::{equal, holds, prints, read, string, text};
 use kdl::{
     FormatConfig, FormatConfigBuilder, KdlDocument, KdlEntry, KdlEntryFormat, KdlNode,
@@ -19,7 +19,7 @@ fn document_becomes(rt: &impl Abort, alloc: Global, document: &mut KdlDocument, 
 }
 
 /// The document prints the text once it is laid out, with comments where they are to be kept.
-fn lays_out(
+pub fn lays_out(
     rt: &impl Abort,
     alloc: Global,
     document: &mut KdlDocument,
@@ -132,8 +132,7 @@ fn built_document(rt: &impl Abort, alloc: Global) -> KdlDocument {
     ] {
         add(rt, &mut bar, value);
     }
-    let child = vec![in alloc; built(rt, alloc, "barchild")];
-    bar.set_children(document_of(alloc, child.expect(rt, "memory")));
+    push(rt, bar.ensure_children(), built(rt, alloc, "barchild"));
     let nodes = vec![in alloc; built(rt, alloc, "foo"), bar, built(rt, alloc, "baz")];
     document_of(alloc, nodes.expect(rt, "memory"))
 }
@@ -143,7 +142,7 @@ const BUILT: &str = "foo\nbar prop=value 1 2 #false #null {\n    barchild\n}\nba
 
 /// A place in the format of a node.
 #[derive(Clone, Copy)]
-enum Place {
+pub enum Place {
     Leading,
     BeforeTerminator,
     Terminator,
@@ -163,7 +162,13 @@ impl Place {
 }
 
 /// Puts the text into the place in the format of the node.
-fn break_in_node(rt: &impl Abort, alloc: Global, node: &mut KdlNode, place: Place, broken: &str) {
+pub fn break_in_node(
+    rt: &impl Abort,
+    alloc: Global,
+    node: &mut KdlNode,
+    place: Place,
+    broken: &str,
+) {
     let format = node.format_mut().expect(rt, "no format");
     place.put(format, text(rt, alloc, broken));
 }

@@ -5,6 +5,8 @@
 use std::hash::{DefaultHasher, Hash, Hasher};
 
 #[cfg(test)]
+mod broken;
+#[cfg(test)]
 mod copies;
 #[cfg(test)]
 mod depth;
@@ -24,6 +26,8 @@ mod layout;
 mod lookups;
 #[cfg(test)]
 mod reading;
+#[cfg(test)]
+mod rust_tests;
 #[cfg(test)]
 mod settings;
 #[cfg(test)]

@@ -12,7 +12,7 @@ use std::fmt::Debug;
 use std::process::Abort;
 
 /// Writes the value of the last property of that name, or pushes such a property.
-fn set_property(node: &mut KdlNode, name: &str, value: KdlValue) -> Result<(), AllocError>
+pub fn set_property(node: &mut KdlNode, name: &str, value: KdlValue) -> Result<(), AllocError>
     ensures written { OnOk result
         (HasWritten (property_place name.now node.old) name.now node.old value node.new) }
     ensures refused { OnErr result (HasSameEntries node.old node.new) }
@@ -23,7 +23,7 @@ fn set_property(node: &mut KdlNode, name: &str, value: KdlValue) -> Result<(), A
 }
 
 /// Writes the value of the first argument.
-fn set_first(node: &mut KdlNode, value: KdlValue)
+pub fn set_first(node: &mut KdlNode, value: KdlValue)
     requires { IsSome (key_place (at_index 0) node.old) }
     ensures { node.new ≡ with_value_there (key_place (at_index 0) node.old) node.old value }
 {

@@ -83,6 +83,12 @@ pub fn is_whole(rt: &impl Abort, value: Option<&KdlValue>, number: i128) {
     equal(rt, &value.as_integer(), &Some(number));
 }
 
+/// The value is there, and is this string.
+pub fn is_text(rt: &impl Abort, value: Option<&KdlValue>, text: &str) {
+    let value = value.expect(rt, "no value");
+    equal(rt, &value.as_string(), &Some(text));
+}
+
 /// There is no such item.
 pub fn is_absent<T>(rt: &impl Abort, item: Option<&T>) {
     assert!(rt; item.is_none());

@@ -16,7 +16,7 @@ struct Reads<'a> {
     fails_at: u32,
 }
 
-/// What comes of a run: the outcome, all that is written, and how the report begins, which is empty of Done alone.
+/// What comes of a run: the outcome, all that is written, and the whole report.
 #[derive(Clone, Copy)]
 struct Wanted<'a> {
     outcome: &'a str,
@@ -42,7 +42,7 @@ fn done(output: &str) -> Wanted<'_> {
     }
 }
 
-/// Nothing is written, and the report begins so.
+/// Nothing is written, and this is reported.
 fn nothing<'a>(outcome: &'a str, report: &'a str) -> Wanted<'a> {
     Wanted {
         outcome,
@@ -74,12 +74,22 @@ fn name_of(outcome: &Outcome) -> &'static str {
     }
 }
 
-/// How the report of the outcome begins.
+/// The status of the outcome of that name.
+fn status_of(name: &str) -> u8 {
+    match name {
+        "Done" => 0,
+        "Refused" | "NotUtf8" | "NoValue" => 1,
+        "Usage" => 2,
+        _ => 3,
+    }
+}
+
+/// The outcome has the status of its name, and this report.
 fn reports(rt: &impl Abort, alloc: Global, outcome: &Outcome, report: &str) {
     let mut told = Sink::new(alloc, 16, NEVER);
     assert!(rt; outcome.report(&mut Watched::new(&mut told)));
-    assert_eq!(rt; told.bytes.is_empty(), matches!(outcome, Outcome::Done));
-    assert!(rt; told.bytes.starts_with(report.as_bytes()), "{report}");
+    assert_eq!(rt; told.bytes.as_slice(), report.as_bytes());
+    assert_eq!(rt; outcome.status(), status_of(name_of(outcome)), "{report}");
 }
 
 /// Runs the tool, with a writer that takes so many bytes at a time and fails at the write of that number: what comes of
@@ -124,14 +134,18 @@ const FORMATTED: &str =
 const STRIPPED: &str =
     "hello 1 2 3\nworld prop=string-value {\n    child 1\n    child 2\n    child #inf\n}\n";
 
+/// U+FEFF, and a name and a string whose characters have two bytes.
+const MARKED: &str = "\u{FEFF}\u{E9} \"\u{FC}\"";
+
 /// Documents in forms that no printing of their data would give.
-const DOCUMENTS: [&str; 6] = [
+const DOCUMENTS: [&str; 7] = [
     "",
     "node 1 \"two\" three;\n",
     " \n \n n +",
     "\"a\\tb\"\u{3000}-1_0\u{2028}\r\nc  ;\t",
     "e\u{301} \"\u{1F980}\"\u{85}f",
     "\u{FEFF}\u{E9} \"\u{4E00}\u{1F980}\" // \u{E9}\r\n",
+    MARKED,
 ];
 
 #[test]
@@ -151,6 +165,26 @@ fn cat_writes_what_it_reads(rt: HostRuntime) -> Result<(), Fail> {
                 (step, NEVER),
                 done(document),
             )?;
+        }
+    }
+    Ok(())
+}
+
+#[test]
+fn a_byte_at_a_time(rt: HostRuntime) -> Result<(), Fail> {
+    let table: [(&[&str], &str); 3] = [
+        (&["fmt"], "\u{E9} \u{FC}\n"),
+        (&["strip"], "\u{E9} \u{FC}\n"),
+        (&["get", "\u{E9}"], "\u{FC}\n"),
+    ];
+    for (line, output) in table {
+        for step in [1, 4096] {
+            let reads = Reads {
+                input: MARKED.as_bytes(),
+                step,
+                fails_at: NEVER,
+            };
+            comes_of(&rt, rt.alloc(), line, reads, (1, NEVER), done(output))?;
         }
     }
     Ok(())
@@ -185,17 +219,29 @@ fn what_fmt_strip_and_get_write(rt: HostRuntime) -> Result<(), Fail> {
 #[test]
 fn what_is_refused(rt: HostRuntime) -> Result<(), Fail> {
     let none = "0..0 No such value\n";
+    let no_name = "0..1 Found invalid node name\n";
+    let unclosed = "5..6 No closing '}' for child block\n";
+    let unclosed_second = "6..7 No closing '}' for child block\n";
+    let unclosed_third = "13..14 No closing '}' for child block\n";
+    let end = "2..3 Expected end of document\n";
+    let no_value = "4..4 Expected property value\n";
+    let no_quote = "2..4 Expected quoted string\n";
     let table: [(&[&str], &str, &str, &str); 14] = [
-        (&["cat"], ";", "Refused", "0..1 "),
-        (&["cat"], "node {", "Refused", ""),
-        (&["cat"], "a 1\nb {\n", "Refused", ""),
-        (&["cat"], "a\n}", "Refused", ""),
-        (&["cat"], "a b=", "Refused", ""),
-        (&["cat"], "a\n\"b", "Refused", ""),
-        (&["fmt"], "node {", "Refused", ""),
-        (&["strip"], ";", "Refused", "0..1 "),
-        (&["strip"], "node {", "Refused", ""),
-        (&["get", "node"], "node 1; node {", "Refused", ""),
+        (&["cat"], ";", "Refused", no_name),
+        (&["cat"], "node {", "Refused", unclosed),
+        (&["cat"], "a 1\nb {\n", "Refused", unclosed_second),
+        (&["cat"], "a\n}", "Refused", end),
+        (&["cat"], "a b=", "Refused", no_value),
+        (&["cat"], "a\n\"b", "Refused", no_quote),
+        (&["fmt"], "node {", "Refused", unclosed),
+        (&["strip"], ";", "Refused", no_name),
+        (&["strip"], "node {", "Refused", unclosed),
+        (
+            &["get", "node"],
+            "node 1; node {",
+            "Refused",
+            unclosed_third,
+        ),
         (&["get", "n"], "n k=1", "NoValue", none),
         (&["get", "n"], "n k=1\nn 2\n", "NoValue", none),
         (&["get", "m"], "n 1 { m 2; }", "NoValue", none),
@@ -234,7 +280,7 @@ fn other_words_are_usage(rt: HostRuntime) -> Result<(), Fail> {
             line,
             text("a\n"),
             (16, NEVER),
-            nothing("Usage", "usage: "),
+            nothing("Usage", "usage: kdl-tool cat, fmt, strip or get NAME\n"),
         )?;
     }
     Ok(())
