@@ -476,7 +476,7 @@ impl<'a> Lexer<'a> {
     pub fn count_look(&mut self)
         ensures { self.new ≡ looked self.old }
     {
-        self.cursor.raise(1);
+        self.cursor.count_look();
     }
 
     /// The text from one place to another behind it. A step for each of its bytes.
