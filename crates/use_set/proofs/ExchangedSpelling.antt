@@ -17,7 +17,7 @@ use Rattle.use_set.specs.Edit.{IsExchanged, IsSet, respelled}
 
 -- one piece between two others
 exchanged : (a was now b : Text) → IsExchanged (a ++ was ++ b) (a ++ now ++ b) now
-exchanged a was now b = record { before = a; was = was; behind = b; old = refl; new = refl }
+exchanged a was now b = record { before = a; was = was; after = b; old = refl; new = refl }
 
 -- a piece of a piece
 seam : (a b p c d : Text) → a ++ (b ++ p ++ c) ++ d ≡ (a ++ b) ++ p ++ (c ++ d)
@@ -27,9 +27,9 @@ within : (a b s t piece text out : Text) → text ≡ a ++ s ++ b → out ≡ a 
 within a b s t piece text out o n x = record {
   before = a ++ x.before;
   was = x.was;
-  behind = x.behind ++ b;
-  old = o ∙ ap (λ z. a ++ z ++ b) x.old ∙ seam a x.before x.was x.behind b;
-  new = n ∙ ap (λ z. a ++ z ++ b) x.new ∙ seam a x.before piece x.behind b;
+  after = x.after ++ b;
+  old = o ∙ ap (λ z. a ++ z ++ b) x.old ∙ seam a x.before x.was x.after b;
+  new = n ∙ ap (λ z. a ++ z ++ b) x.new ∙ seam a x.before piece x.after b;
 }
 
 -- an entry with a format prints its spelling

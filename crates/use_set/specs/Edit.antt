@@ -42,6 +42,6 @@ pub record HasNone (text : Text) (name : List ℕ) : Type 0 where
 pub record IsExchanged (text out piece : Text) : Type 0 where
   pub before : Text
   pub was : Text
-  pub behind : Text
-  pub old : text ≡ before ++ was ++ behind
-  pub new : out ≡ before ++ piece ++ behind
+  pub after : Text
+  pub old : text ≡ before ++ was ++ after
+  pub new : out ≡ before ++ piece ++ after

@@ -11,7 +11,7 @@ use Rattle.use_settings.specs.declared.settings.Fault.{Fault}
 abbrev pub number_value : ℤ → Value → Option ℤ
 number_value most v = option_and_then (λ n. if int_le (pos 1) n && int_le n most then Some n else None) (integer_value v)
 
--- what is read of an entry: its value, or else where it stands
+-- what is read of an entry: its value, or else its span
 abbrev pub read_at : {A : Type 0} → (Value → Option A) → KdlEntry → Result A SourceSpan
 read_at read e = ok_or (read (value_tree e.value)) e.span
 
