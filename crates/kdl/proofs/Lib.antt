@@ -14,6 +14,8 @@ pub mod NodeCounts
 pub mod EditLaws
 -- What is laid in a text keeps no form.
 pub mod FormKept
+-- Each node and each entry that is laid in a text has a format.
+pub mod LaidFormats
 -- What a document, or a node, that was read says of the grammar.
 pub mod ParseAnswers
 -- A node, and a document, with another span is equal to what it was.

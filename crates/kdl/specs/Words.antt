@@ -14,7 +14,7 @@ pub use Rattle.kdl_grammar.specs.Laid.{LaidDocument, LaidNodeText}
 pub use Rattle.kdl_grammar.specs.Print.{print_document, print_node, print_piece}
 pub use Rattle.kdl_grammar.specs.Tree.{Document, Node, document_data, node_data}
 pub use Rattle.kdl_parts.specs.Edits.{GoesUnder, HasArgumentAt, HasRoomAt, IsInserted, removed}
-pub use Rattle.kdl_parts.specs.EntryLists.{is_argument, sought, there}
+pub use Rattle.kdl_parts.specs.EntryLists.{has_name, is_argument, sought, there}
 pub use Rattle.kdl_fmt.specs.Canonical.{canonical_text}
 pub use Rattle.kdl_fmt.specs.Comments.{CommentsStay}
 pub use Rattle.kdl_fmt.specs.Config.{defaults, settings, without_comments}

@@ -1,16 +1,20 @@
 //! Lays out KDL files, with their comments, and writes them one behind another.
 #![tactic(auto)]
 
-ghost use Rattle.kdl.specs.Words.{IsDocument, IsSyntax, Nodes, TellsOnSyntax};
-ghost use Rattle.std.specs.Prelude.{chars, true};
+ghost use Rattle.kdl.specs.Words.{IsDocument, IsSyntax, Nodes, TellsOnSyntax, text_of};
+ghost use Rattle.std.specs.Prelude.{IfOk, chars, true};
+ghost use Rattle.use_fmt.specs.LaidOut.{IsLaidOut};
 
 use kdl::{KdlDocument, ParseFailure};
 use std::alloc::Global;
 use std::process::ExitCode;
 use std::{env, fs, io};
 
-/// The document of the text, laid out.
+/// The document of the text, laid out: it says what the text says, and has its comments.
 fn laid_out(alloc: Global, text: &str) -> Result<String, ParseFailure>
+    ensures laid_out { IfOk result (λ out. IsLaidOut (chars text.now) (text_of out)) }
+    ensures same { IfOk result (λ out. (x : Nodes) → IsDocument true (chars text.now) x
+        → IsDocument true (text_of out) x) }
     ensures refused { IsSyntax result → (x : Nodes) → IsDocument true (chars text.now) x → ⊥ }
     ensures told { TellsOnSyntax text.now result }
 {

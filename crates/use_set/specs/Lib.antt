@@ -1,2 +1,2 @@
--- What an edit of one number leaves of an entry.
+-- What an edit of one number makes of a document, and of its text.
 pub mod Edit

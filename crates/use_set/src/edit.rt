@@ -1,8 +1,8 @@
 //! The edit of one number.
 
-ghost use Rattle.kdl.specs.Words.{IsDocument, IsSyntax, Nodes, TellsOnSyntax, argument_named, entry_tree, text_of, value_tree};
-ghost use Rattle.std.specs.Prelude.{◌≡◌, chars, is_some, true};
-ghost use Rattle.use_set.specs.Edit.{respelled};
+ghost use Rattle.kdl.specs.Words.{IsDocument, IsSyntax, Nodes, TellsOnSyntax, argument_named, entry_tree, integer, print_value, text_of, value_tree};
+ghost use Rattle.std.specs.Prelude.{◌≡◌, IfOk, IfSome, IfNone, IsTrue, chars, is_some, true};
+ghost use Rattle.use_set.specs.Edit.{HasNone, IsEdited, IsExchanged, IsSet, respelled};
 
 use kdl::{KdlDocument, KdlEntry, KdlValue, NodeKey, ParseFailure};
 use std::alloc::Global;
@@ -15,6 +15,15 @@ pub fn edit(
     name: &str,
     number: i128,
 ) -> Result<Option<String>, ParseFailure>
+    // The document with the number in its place is written,
+    ensures edited { IfOk result (λ o. IfSome o (λ out.
+        IsEdited (chars text.now) name.now (integer number) (text_of out))) }
+    // in which no byte differs but those of the number.
+    ensures kept { IfOk result (λ o. IfSome o (λ out.
+        IsExchanged (chars text.now) (text_of out) (print_value (integer number)))) }
+    // Where nothing is written, there is no such argument.
+    ensures missing { IfOk result (λ o. IfNone o (HasNone (chars text.now) name.now)) }
+    // What is refused is no document, and an error tells where.
     ensures refused { IsSyntax result → (x : Nodes) → IsDocument true (chars text.now) x → ⊥ }
     ensures told { TellsOnSyntax text.now result }
 {
@@ -30,6 +39,8 @@ pub fn edit(
 /// Sets the first argument of the first node of that name, and answers whether there is one.
 fn set(document: &mut KdlDocument, name: &str, value: KdlValue, spelling: String) -> bool
     ensures found { result ≡ is_some (argument_named name.now document.old) }
+    ensures set { IsTrue result
+        → IsSet name.now (value_tree value) (text_of spelling) document.old document.new }
 {
     let Some(node) = document.get_mut(name) else {
         return false;

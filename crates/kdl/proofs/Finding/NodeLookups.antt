@@ -9,6 +9,7 @@ use Rattle.kdl_entry.specs.declared.entry.KdlEntry.{KdlEntry}
 use Rattle.kdl_value.specs.declared.value.KdlValue.{KdlValue}
 use Rattle.kdl.specs.Change.{with_entries, with_value}
 use Rattle.kdl_parts.specs.Written.{set_value_at, HasProperty, IsPushed}
+pub use Rattle.kdl_parts.proofs.EntryLookups.{name_compared}
 use Rattle.kdl_parts.proofs.EntryLookups.{set_value_is}
 use Rattle.kdl.specs.Lookups.{entries_of, value_there, HasPushed, HasWritten}
 use Rattle.kdl.specs.declared.document.KdlDocument.TheViews.{out-KdlNode, roll-KdlNode, out-roll-KdlNode}

@@ -1,0 +1,2 @@
+-- What layout makes of a text.
+pub mod LaidOut

@@ -1,0 +1,94 @@
+-- Which rule is breached where in a document.
+use Rattle.std.specs.List.{list_any}
+use Rattle.std.specs.Option.{option_map_or}
+use Rattle.std.specs.Prelude.{◌≡◌, ℕ, Bool, true, not, ◌&&◌, ◌||◌, nat_le, if◌then◌else◌, List, [], ◌∷◌, ◌++◌, Contains, count_by, filter, find, map, Option, Some, is_some, codes}
+use Rattle.kdl.specs.Words.{Value, entries_of, has_name, integer_value, is_argument, is_node_named, nodes_of, text_value, truth_value, value_tree}
+use Rattle.kdl.specs.declared.KdlEntry.{KdlEntry}
+use Rattle.kdl.specs.declared.SourceSpan.{SourceSpan}
+use Rattle.kdl.specs.declared.document.KdlDocument.{KdlDocument}
+use Rattle.kdl.specs.declared.node.KdlNode.{KdlNode, out-KdlNode}
+use Rattle.use_schema.specs.declared.schema.Breach.{Breach}
+use Rattle.use_schema.specs.declared.schema.Due.{Due}
+use Rattle.use_schema.specs.declared.schema.Kind.{Kind}
+use Rattle.use_schema.specs.declared.schema.Kind.TheVariants.{Text, Whole, Boolean}
+use Rattle.use_schema.specs.declared.schema.Rule.{Rule}
+
+-- the value is of that kind
+abbrev pub is_kind : Kind → Value → Bool
+is_kind Text v = is_some (text_value v)
+is_kind Whole v = is_some (integer_value v)
+is_kind Boolean v = is_some (truth_value v)
+
+-- the entry is a property of that name and kind
+abbrev pub is_property : KdlEntry → List ℕ → Kind → Bool
+is_property e name kind = has_name name e && is_kind kind (value_tree e.value)
+
+-- the entry is a property that the rule has
+abbrev pub is_listed : Rule → KdlEntry → Bool
+is_listed r e = list_any (λ p. is_property e p.0.now p.1) r.properties.now
+
+-- the entry is an argument, or such a property
+abbrev pub is_entry : Rule → KdlEntry → Bool
+is_entry r e = is_argument e || is_listed r e
+
+-- the node has as many arguments as the rule says
+abbrev pub has_arguments : Rule → KdlNode → Bool
+has_arguments r n = nat_le r.arguments.0 (count_by is_argument (entries_of n)) && nat_le (count_by is_argument (entries_of n)) r.arguments.1
+
+-- the node is allowed in the block of a node of that rule
+abbrev pub is_allowed : Rule → KdlNode → Bool
+is_allowed above n = list_any (λ name. is_node_named name.now n) above.children.now
+
+-- the first rule of the node's name
+abbrev pub rule_of : List Rule → KdlNode → Option Rule
+rule_of rules n = find (λ r. is_node_named r.name.now n) rules
+
+-- a breach, with its text as bytes
+pub record BreachView : Type 0 where
+  pub span : SourceSpan
+  pub what : List ℕ
+
+abbrev pub breach_view : Breach → BreachView
+breach_view b = record { span = b.span; what = b.what.now }
+
+-- the breach of a node that has too few arguments, or too many
+abbrev pub argument_breaches : Rule → KdlNode → List BreachView
+argument_breaches r n = if has_arguments r n then [] else record { span = (out-KdlNode n).span; what = codes "too few or too many arguments" } ∷ []
+
+-- those of the entries that are not allowed in such a node
+abbrev pub entry_breaches : Rule → List KdlEntry → List BreachView
+entry_breaches r es = map (λ e. record { span = e.span; what = codes "a property that is not known, or of another type" }) (filter (λ e. not (is_entry r e)) es)
+
+-- both, of a node that has that rule
+abbrev pub own_breaches : Rule → KdlNode → List BreachView
+own_breaches r n = argument_breaches r n ++ entry_breaches r (entries_of n)
+
+-- the breaches of a node in a block of the rule `above`, but for those in its own block
+abbrev pub breaches_at : List Rule → Rule → KdlNode → List BreachView
+breaches_at rules above n =
+    if is_allowed above n then option_map_or (λ r. own_breaches r n) (rule_of rules n) []
+    else record { span = (out-KdlNode n).span; what = codes "a node that may not stand here" } ∷ []
+
+-- a breach among nodes in a block of the rule `above`: of one of them, or in the block of one that is allowed there and has a rule
+pub data IsBreach (rules : List Rule) : Rule → List KdlNode → BreachView → Type 0 where
+  at : {above : Rule} {ns : List KdlNode} {n : KdlNode} {b : BreachView} → Contains ns n → Contains (breaches_at rules above n) b → IsBreach rules above ns b
+  below : {above r : Rule} {ns : List KdlNode} {n : KdlNode} {d : KdlDocument} {b : BreachView} → Contains ns n → is_allowed above n ≡ true → rule_of rules n ≡ Some r → (out-KdlNode n).children ≡ Some d
+      → IsBreach rules r (nodes_of d) b → IsBreach rules above ns b
+
+-- a breach in the document, in which the first rule is that of the top; without rules there is none
+abbrev pub IsBreachIn : List Rule → KdlDocument → BreachView → Type 0
+IsBreachIn [] d b = ⊥
+IsBreachIn (top ∷ rules) d b = IsBreach (top ∷ rules) top (nodes_of d) b
+
+-- nodes, and the rule of the block that they are in
+pub record Block : Type 0 where
+  pub nodes : List KdlNode
+  pub above : Rule
+
+abbrev pub block_of : Due → Block
+block_of d = record { nodes = d.nodes.now; above = d.above.now }
+
+-- the block of a node, where it is to be checked
+abbrev pub blocks_at : List Rule → Rule → KdlNode → List Block
+blocks_at rules above n =
+    if is_allowed above n then option_map_or (λ r. option_map_or (λ d. record { nodes = nodes_of d; above = r } ∷ []) (out-KdlNode n).children []) (rule_of rules n) [] else []

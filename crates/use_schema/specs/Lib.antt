@@ -1,0 +1,2 @@
+-- Which rule is breached where in a document.
+pub mod Breaches
