@@ -199,20 +199,23 @@ fn push_units(
     Ok(())
 }
 
-/// Goes past the unit's character, if it comes next. Whether it does.
+/// Goes past the next character. Whether it is that of the unit.
 fn eat_unit(unit: LineUnit, cursor: &mut Cursor) -> bool
     ensures eats { EatsUnits (unit ∷ []) result cursor.old.rest cursor.new.rest }
     ensures moves { Moves cursor.old cursor.new }
     ensures costs { Costs 1 1 cursor.old cursor.new }
     ensures cost { result ≡ true → Costs 1 0 cursor.old cursor.new }
 {
-    match unit {
-        LineUnit::Literal(c) => cursor.eat(c),
-        _ => false,
+    let LineUnit::Literal(wanted) = unit else {
+        return false;
+    };
+    match cursor.take() {
+        Some(c) => c == wanted,
+        None => false,
     }
 }
 
-/// Goes past the prefix, if it comes next, and else past a part of it. Whether it does.
+/// Goes past the prefix, if it comes next. Whether it does.
 fn eat_prefix(prefix: &[LineUnit], cursor: &mut Cursor) -> bool
     ensures eats { EatsUnits prefix.now result cursor.old.rest cursor.new.rest }
     ensures moves { Moves cursor.old cursor.new }

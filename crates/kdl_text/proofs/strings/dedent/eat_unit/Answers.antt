@@ -1,12 +1,8 @@
 use Rattle.std.proofs.Common.{arith}
 use Rattle.std.proofs.lemmas.Bool.{false≢true}
-use Rattle.kdl_text.proofs.Looking.MovesJoin.{stays}
-use Rattle.kdl_text.proofs.Looking.SliceCost.{ate}
+use Rattle.kdl_text.proofs.Looking.MovesJoin.{moves_one, stays}
 use Rattle.kdl_text.proofs.ManyLines.DedentReads.{first_literal}
 use Rattle.kdl_text.proofs.strings.dedent.eat_unit.Goals as goal
-
-pub returns-in-Literal-clause-moves : goal.returns-in-Literal-clause-moves
-returns-in-Literal-clause-moves c = (ate _ _ _ _ c.eat.ensures).0
 
 pub returns-in_default : goal.returns-in_default
 returns-in_default c = record {
@@ -17,3 +13,6 @@ returns-in_default c = record {
   costs = record { most = omega arith; least = omega arith };
   cost = λ h. absurd (false≢true h);
 }
+
+pub returns-in-Some-clause-moves : goal.returns-in-Some-clause-moves
+returns-in-Some-clause-moves c = moves_one c.in-Some.ensures.took
