@@ -204,30 +204,31 @@ fn shows(
     drop(wanted);
 }
 
-/// The iterators over a node, or over its copy, show what is left once one item was taken.
-fn check_shown(rt: &impl Abort, alloc: Global, node: &KdlNode, copy: &mut KdlNode) {
-    let entries = &node.entries()[1..];
-    let mut iter = node.iter();
-    holds(rt, iter.next().is_some(), "an item");
-    shows(rt, alloc, &iter, ("EntryIter(Iter(", "))"), &entries);
-    let mut iter = copy.iter_mut();
-    holds(rt, iter.next().is_some(), "an item");
-    shows(rt, alloc, &iter, ("EntryIterMut(IterMut(", "))"), &entries);
-    let nodes = node.children().expect(rt, "no block").nodes();
-    let mut iter = node.iter_children();
-    shows(rt, alloc, &iter, ("ChildrenIter(Some(Iter(", ")))"), &nodes);
-    holds(rt, iter.next().is_some(), "an item");
-    shows(
-        rt,
-        alloc,
-        &iter,
-        ("ChildrenIter(Some(Iter(", ")))"),
-        &&nodes[1..],
-    );
-    let mut iter = copy.iter_children_mut();
-    shows(rt, alloc, &iter, ("ChildrenIterMut(", ")"), &nodes);
-    holds(rt, iter.next().is_some(), "an item");
-    shows(rt, alloc, &iter, ("ChildrenIterMut(", ")"), &&nodes[1..]);
+/// The iterators over the entries of a node, and of its copy, show what is left once an entry was taken.
+fn check_entries(rt: &impl Abort, alloc: Global, node: &KdlNode, copy: &mut KdlNode) {
+    let (_, left) = node.entries().split_first().expect(rt, "no entry");
+    let mut entries = node.iter();
+    holds(rt, entries.next().is_some(), "an entry");
+    shows(rt, alloc, &entries, ("EntryIter(Iter(", "))"), &left);
+    let mut entries = copy.iter_mut();
+    holds(rt, entries.next().is_some(), "an entry");
+    shows(rt, alloc, &entries, ("EntryIterMut(IterMut(", "))"), &left);
+}
+
+/// The iterators over the children show all of them, and then what is left once a child was taken.
+fn check_children(rt: &impl Abort, alloc: Global, node: &KdlNode, copy: &mut KdlNode) {
+    let all = node.children().expect(rt, "no block").nodes();
+    let (_, left) = all.split_first().expect(rt, "no child");
+    let around = ("ChildrenIter(Some(Iter(", ")))");
+    let mut children = node.iter_children();
+    shows(rt, alloc, &children, around, &all);
+    holds(rt, children.next().is_some(), "a child");
+    shows(rt, alloc, &children, around, &left);
+    let around = ("ChildrenIterMut(", ")");
+    let mut children = copy.iter_children_mut();
+    shows(rt, alloc, &children, around, &all);
+    holds(rt, children.next().is_some(), "a child");
+    shows(rt, alloc, &children, around, &left);
 }
 
 #[test]
@@ -235,7 +236,8 @@ fn iterators_show_what_is_left(rt: HostRuntime) {
     let alloc = rt.alloc();
     let node = node(&rt, alloc, "n 1 k=2 { a; b; }");
     let mut copy = node.clone().expect(&rt, "memory");
-    check_shown(&rt, alloc, &node, &mut copy);
+    check_entries(&rt, alloc, &node, &mut copy);
+    check_children(&rt, alloc, &node, &mut copy);
     drop(node);
     drop(copy);
 }
