@@ -1,10 +1,12 @@
-//! Documents that are laid out.
+//! Documents and nodes that are laid out.
 
-ghost use Rattle.kdl.specs.Layout.{DocumentLaidOut};
-ghost use Rattle.kdl_fmt.specs.Config.{defaults};
-ghost use Rattle.std.specs.Prelude.{OnOk};
+ghost use Rattle.kdl.specs.Layout.{DocumentKeepsNoForm, DocumentLaidOut, NodeLaidOut};
+ghost use Rattle.kdl.specs.Tree.{document_prints, document_says};
+ghost use Rattle.kdl_fmt.specs.Canonical.{Canonical, canonical_text};
+ghost use Rattle.kdl_fmt.specs.Config.{defaults, without_comments};
+ghost use Rattle.std.specs.Prelude.{◌≡◌, OnOk};
 
-use kdl::KdlDocument;
+use kdl::{KdlDocument, KdlNode};
 use std::alloc::AllocError;
 
 /// `KdlDocument::autoformat`: what it makes of the document.
@@ -12,4 +14,21 @@ pub fn autoformat(document: &mut KdlDocument) -> Result<(), AllocError>
     ensures formatted { OnOk result (DocumentLaidOut defaults document.old document.new) }
 {
     document.autoformat()
+}
+
+/// `KdlNode::autoformat`: what it makes of the node.
+pub fn autoformat_node(node: &mut KdlNode) -> Result<(), AllocError>
+    ensures formatted { OnOk result (NodeLaidOut defaults node.old node.new) }
+{
+    node.autoformat()
+}
+
+/// `KdlDocument::autoformat_no_comments`: the document prints the canonical text of what it said, which reads back.
+pub fn autoformat_no_comments(document: &mut KdlDocument) -> Result<(), AllocError>
+    ensures prints { OnOk result (DocumentKeepsNoForm document.old
+        → document_prints document.new ≡ canonical_text (document_says document.old)) }
+    ensures reads { OnOk result
+        (Canonical without_comments.indent 0 (document_says document.old)) }
+{
+    document.autoformat_no_comments()
 }
