@@ -1,12 +1,13 @@
-//! Documents that are laid out.
+//! Documents and nodes that are laid out.
 
-ghost use Rattle.kdl.specs.Layout.{DocumentLaidOut};
-ghost use Rattle.kdl.specs.Tree.{document_tree};
-ghost use Rattle.kdl_fmt.specs.Config.{defaults};
+ghost use Rattle.kdl.specs.Layout.{DocumentKeepsNoForm, DocumentLaidOut, NodeLaidOut};
+ghost use Rattle.kdl.specs.Tree.{document_prints, document_says, document_tree};
+ghost use Rattle.kdl_fmt.specs.Canonical.{Canonical, canonical_text};
+ghost use Rattle.kdl_fmt.specs.Config.{defaults, without_comments};
 ghost use Rattle.kdl_fmt.specs.Formatted.{DocumentLevelsFit};
-ghost use Rattle.std.specs.Prelude.{OnOk};
+ghost use Rattle.std.specs.Prelude.{◌≡◌, OnOk};
 
-use kdl::{FormatConfig, KdlDocument};
+use kdl::{FormatConfig, KdlDocument, KdlNode};
 use std::alloc::AllocError;
 
 /// `KdlDocument::autoformat`: what it makes of the document.
@@ -25,4 +26,21 @@ pub fn autoformat_config(
         (DocumentLevelsFit config.now.indent_level (document_tree document.old)) }
 {
     document.autoformat_config(config)
+}
+
+/// `KdlNode::autoformat`: what it makes of the node.
+pub fn autoformat_node(node: &mut KdlNode) -> Result<(), AllocError>
+    ensures formatted { OnOk result (NodeLaidOut defaults node.old node.new) }
+{
+    node.autoformat()
+}
+
+/// `KdlDocument::autoformat_no_comments`: the document prints the canonical text of what it said, which reads back.
+pub fn autoformat_no_comments(document: &mut KdlDocument) -> Result<(), AllocError>
+    ensures prints { OnOk result (DocumentKeepsNoForm document.old
+        → document_prints document.new ≡ canonical_text (document_says document.old)) }
+    ensures reads { OnOk result
+        (Canonical without_comments.indent 0 (document_says document.old)) }
+{
+    document.autoformat_no_comments()
 }

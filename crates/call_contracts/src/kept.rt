@@ -1,0 +1,21 @@
+//! What stays where a document is laid out.
+
+ghost use Rattle.kdl.specs.Layout.{DocumentKeepsNoForm};
+ghost use Rattle.kdl.specs.Tree.{document_prints, document_says, document_tree};
+ghost use Rattle.kdl_fmt.specs.Comments.{CommentsStay};
+ghost use Rattle.kdl_grammar.specs.Grammar.{IsDocument};
+ghost use Rattle.std.specs.Prelude.{◌≡◌, OnOk, true};
+
+use kdl::KdlDocument;
+use std::alloc::AllocError;
+
+/// `KdlDocument::autoformat`: the document says what it said, and so does the text that it prints, with its comments.
+pub fn autoformat(document: &mut KdlDocument) -> Result<(), AllocError>
+    ensures data { document_says document.new ≡ document_says document.old }
+    ensures derived { OnOk result (DocumentKeepsNoForm document.old
+        → IsDocument true (document_prints document.new) (document_says document.old)) }
+    ensures comments { OnOk result (DocumentKeepsNoForm document.old
+        → CommentsStay (document_tree document.old) (document_prints document.new)) }
+{
+    document.autoformat()
+}

@@ -1,0 +1,18 @@
+//! The lines of comments, and of what slashdashes drop.
+
+ghost use Rattle.kdl_items.specs.Internal.Reading.{item_view};
+ghost use Rattle.kdl_items.specs.Written.{lines};
+ghost use Rattle.kdl_value.specs.Tree.{text_of};
+ghost use Rattle.std.specs.Prelude.{◌≡◌, ◌∷◌, ◌++◌, [], OnOk};
+ghost use Rattle.std.specs.Str.{chars};
+
+use kdl_items::{Item, push_lines};
+use std::alloc::AllocError;
+
+/// `push_lines` of one item, which layout keeps on a line of its own.
+pub fn push_line(out: &mut String, before: &str, item: Item) -> Result<(), AllocError>
+    ensures { OnOk result (text_of out.new ≡ text_of out.old
+        ++ lines (chars before.now) (item_view item.entry ∷ [])) }
+{
+    push_lines(out, before, &[item])
+}

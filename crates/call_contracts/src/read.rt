@@ -1,0 +1,31 @@
+//! Documents that were read.
+
+ghost use Rattle.kdl.specs.Tree.{document_prints, document_says, document_tree};
+ghost use Rattle.kdl_grammar.specs.Data.{Nodes};
+ghost use Rattle.kdl_grammar.specs.Edited.{EachDocument, IsEdited};
+ghost use Rattle.kdl_grammar.specs.Former.{IsFormerDocument};
+ghost use Rattle.kdl_grammar.specs.Grammar.{IsDocument};
+ghost use Rattle.kdl_grammar.specs.Print.{print_document};
+ghost use Rattle.kdl_grammar.specs.Tree.{Document, document_data};
+ghost use Rattle.kdl_text.specs.Failures.{IsSyntax};
+ghost use Rattle.std.specs.Prelude.{◌≡◌, IfOk, true};
+ghost use Rattle.std.specs.Str.{chars};
+
+use kdl::{KdlDocument, ParseFailure};
+use std::alloc::Global;
+
+/// `KdlDocument::parse`: its answer is the only one, prints the text, is that of the former language where there is
+/// one, and reads back once its entries are edited.
+pub fn parse(alloc: Global, text: &str) -> Result<KdlDocument, ParseFailure>
+    ensures only { IfOk result (λ d. (x : Nodes) → IsDocument true (chars text.now) x
+        → x ≡ document_says d) }
+    ensures prints { IfOk result (λ d. document_prints d ≡ chars text.now) }
+    ensures kept { (x : Nodes) → IsFormerDocument (chars text.now) x → IsSyntax result → ⊥ }
+    ensures former { (x : Nodes) → IsFormerDocument (chars text.now) x
+        → IfOk result (λ d. document_says d ≡ x) }
+    ensures edited { IfOk result (λ d. (e : Document)
+        → EachDocument IsEdited (document_tree d) e
+        → IsDocument true (print_document e 0) (document_data e)) }
+{
+    KdlDocument::parse(alloc, text)
+}
