@@ -74,4 +74,4 @@ in_document text name d n m piece l h x = go (node_place name d) (sym (found_the
 pub set_exchanges : (text : Text) (name : List ℕ) (v : Value) (spelling : Text) (d e : KdlDocument) → LaidDocument true (document_tree d) text → IsSet name v spelling d e → IsExchanged (document_prints d) (document_prints e) spelling
 set_exchanges text name v spelling d e l s =
     rw s.rest
-    (in_document text name d s.node (with_found_entry (Index 0) s.node s.now) spelling l s.named (λ h. in_found s.node s.was s.now v spelling h s.argument s.entry))
+    (in_document text name d s.node (with_found_entry (Index 0) s.node s.changed) spelling l s.named (λ h. in_found s.node s.argument s.changed v spelling h s.found s.tree))

@@ -14,15 +14,15 @@ with_spelling spelling f = record f { value_repr = spelling }
 abbrev pub respelled : Value → Text → Entry → Entry
 respelled v spelling e = record e { value = v; format = option_map (with_spelling spelling) e.format }
 
--- new is old with that value, so spelled, for the first argument of the first node of that name
+-- new is old with that value, so spelled, for the first argument of the first node of that name; all else is as it was
 pub record IsSet (name : List ℕ) (v : Value) (spelling : Text) (old new : KdlDocument) : Type 0 where
   pub node : KdlNode
-  pub was : KdlEntry
-  pub now : KdlEntry
+  pub argument : KdlEntry
+  pub changed : KdlEntry
   pub named : node_named name old ≡ Some node
-  pub argument : found_entry (Index 0) node ≡ Some was
-  pub entry : entry_tree now ≡ respelled v spelling (entry_tree was)
-  pub rest : new ≡ with_node_named name old (with_found_entry (Index 0) node now)
+  pub found : found_entry (Index 0) node ≡ Some argument
+  pub tree : entry_tree changed ≡ respelled v spelling (entry_tree argument)
+  pub rest : new ≡ with_node_named name old (with_found_entry (Index 0) node changed)
 
 -- out is what the document of the text prints, with that value set
 pub record IsEdited (text : Text) (name : List ℕ) (v : Value) (out : Text) : Type 0 where

@@ -1,6 +1,6 @@
 -- Settings, and what is wrong with them, by what a document says.
 use Rattle.std.specs.Option.{ok_or}
-use Rattle.std.specs.Prelude.{ℕ, ℤ, pos, Bool, false, ◌&&◌, int_le, if◌then◌else◌, List, [], ◌∷◌, ◌++◌, Option, Some, None, option_and_then, option_map, unwrap_or, Result, Ok, Err, codes}
+use Rattle.std.specs.Prelude.{ℕ, ℤ, pos, Bool, ◌&&◌, int_le, if◌then◌else◌, List, [], ◌∷◌, ◌++◌, Option, Some, None, option_and_then, option_map, unwrap_or, Result, Ok, Err, codes}
 use Rattle.kdl.specs.Words.{Text, Value, argument_named, integer_value, text_value, truth_value, value_tree}
 use Rattle.kdl.specs.declared.KdlEntry.{KdlEntry}
 use Rattle.kdl.specs.declared.SourceSpan.{SourceSpan}

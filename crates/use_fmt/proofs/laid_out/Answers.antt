@@ -1,7 +1,7 @@
 use Rattle.std.proofs.Common.{◌≡◌, Global, String, string_bytes, sym, subst, true}
 use Rattle.std.proofs.lemmas.Str.{IsUtf8-string_bytes, chars_from_encodes}
 use Rattle.std.specs.Prelude.{encode_utf8_all}
-use Rattle.kdl.specs.Words.{CommentsStay, IsDocument, Nodes, Text, document_prints, document_says, document_tree, text_of}
+use Rattle.kdl.specs.Words.{CommentsStay, IsDocument, Text, document_prints, document_tree, text_of}
 use Rattle.kdl.proofs.FormKept.{laid_keeps_none}
 use Rattle.use_fmt.proofs.laid_out.Goals as goal
 
