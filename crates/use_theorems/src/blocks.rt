@@ -1,0 +1,1 @@
+//! An edit in a nested block: all bytes of the text outside that piece stay.

@@ -1,0 +1,1 @@
+//! Documents that calls build: what they print reads back.

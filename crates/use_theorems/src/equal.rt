@@ -1,0 +1,1 @@
+//! Equal documents: their printed texts and their data are equal.

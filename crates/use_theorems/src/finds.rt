@@ -1,0 +1,1 @@
+//! What look-ups find after an entry is inserted, pushed or removed.

@@ -1,0 +1,1 @@
+//! What look-ups find after layout.

@@ -1,0 +1,1 @@
+//! Nodes that are added and removed.

@@ -1,0 +1,1 @@
+//! A program that sets a port in a text.

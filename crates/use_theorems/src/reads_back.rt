@@ -1,0 +1,1 @@
+//! Edited documents: what they print reads back.

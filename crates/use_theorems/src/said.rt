@@ -1,0 +1,1 @@
+//! What look-ups find in a document that was read.

@@ -1,0 +1,1 @@
+//! The piece of a refused text that a diagnostic points at.
