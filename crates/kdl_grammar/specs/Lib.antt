@@ -18,3 +18,5 @@ pub mod Print
 pub mod Tree
 -- What only proofs and contracts inside the crates need.
 pub mod Internal
+-- Parts of a document that read back wherever they may be.
+pub mod ReadsBack
