@@ -24,8 +24,6 @@ pub data Rests : Type 0 where
   TextEnd : Rests
   -- the `}` of a block with this format, after the indentation that a block without a format prints
   BlockEnd : Option DocumentFormat → Rests
-  -- this text, and what may follow it
-  Trailed : Text → Rests → Rests
 
 -- the text r is one of them
 abbrev pub MayFollow : Rests → Text → Type 0
@@ -33,7 +31,6 @@ MayFollow Anything r = Unit {0}
 MayFollow TextEnd r = r ≡ []
 MayFollow (BlockEnd None) r = (n : ℕ) × (t : Text) × (r ≡ spaces n ++ (125 ∷ t))
 MayFollow (BlockEnd (Some f)) r = (t : Text) × (r ≡ 125 ∷ t)
-MayFollow (Trailed t P) r = (u : Text) × MayFollow P u × (r ≡ t ++ u)
 
 -- what an entry in a node prints before its value, and its value
 abbrev pub front_text : Entry → Option EntryFormat → Text
@@ -102,6 +99,11 @@ pub record EndReads (P : Rests) (k : Children) (f : NodeFormat) : Type 0 where
   pub place : (r : Text) {v : Text} → MayFollow P r → Terminator (terminator_text f ++ r) v → BeforeTerminator k (f.before_terminator ++ (terminator_text f ++ r)) (terminator_text f ++ r)
   pub terminator : Terminates P (terminator_text f)
 
+-- what may follow the last node of a document, before the rests P: before a trailing text it ends by itself
+abbrev pub last_rests : Text → Rests → Rests
+last_rests [] P = P
+last_rests (c ∷ t) P = Anything
+
 mutual
   -- a node with a format, before the rests P
   pub data NodeReads : Rests → Node → Type 0 where
@@ -122,7 +124,7 @@ mutual
   pub data ContentReads : Rests → Text → Text → Nodes → Type 0 where
     one_text : {P : Rests} {leading : Text} → IsGapBefore P leading → ContentReads P leading [] none
     two_texts : {P : Rests} {leading trailing : Text} → AddsNothing leading → IsGapBefore P trailing → ContentReads P leading trailing none
-    with_nodes : {P : Rests} {leading trailing : Text} {n : Node} {ns : Nodes} → AddsNothing leading → NodesRead (Trailed trailing P) (first n ns) → IsGapBefore P trailing
+    with_nodes : {P : Rests} {leading trailing : Text} {n : Node} {ns : Nodes} → AddsNothing leading → NodesRead (last_rests trailing P) (first n ns) → IsGapBefore P trailing
         → ContentReads P leading trailing (first n ns)
 
   -- a document that is the block of a node
