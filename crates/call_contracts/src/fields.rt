@@ -2,11 +2,12 @@
 
 ghost use Rattle.kdl.specs.Change.{with_children};
 ghost use Rattle.kdl.specs.Cleared.{new_document};
+ghost use Rattle.kdl.specs.Fields.{block_of};
 ghost use Rattle.kdl.specs.Same.{same_document};
 ghost use Rattle.kdl.specs.Tree.{document_tree};
 ghost use Rattle.kdl.specs.contracts.document.KdlDocument.{the_row as document_row};
 ghost use Rattle.kdl.specs.contracts.node.KdlNode.{the_row as node_row};
-ghost use Rattle.kdl.specs.declared.node.KdlNode.{out-KdlNode};
+ghost use Rattle.kdl_entry.specs.Fields.{entry_value_of, with_entry_value};
 ghost use Rattle.kdl_entry.specs.contracts.entry.KdlEntry.{the_row as entry_row};
 ghost use Rattle.kdl_value.specs.contracts.value.KdlValue.{the_row as value_row};
 ghost use Rattle.std.specs.Borrow.{Lends, sem};
@@ -18,8 +19,8 @@ use std::hash::{Hash, Hasher};
 /// `KdlEntry::value_mut`.
 pub fn value_mut(entry: &mut KdlEntry) -> &mut KdlValue
     ensures* writes_back { sem 𝓛 (Lends entry_row value_row entry.entry result
-        (λ v. record entry.old { value = v })) }
-    ensures value { result.now ≡ entry.old.value }
+        (with_entry_value entry.old)) }
+    ensures value { result.now ≡ entry_value_of entry.old }
 {
     entry.value_mut()
 }
@@ -28,8 +29,8 @@ pub fn value_mut(entry: &mut KdlEntry) -> &mut KdlValue
 pub fn ensure_children(node: &mut KdlNode) -> &mut KdlDocument
     ensures* writes_back { sem 𝓛 (Lends node_row document_row node.entry result
         (λ d. with_children node.old (Some d))) }
-    ensures found { IfSome (out-KdlNode node.old).children (λ d. result.now ≡ d) }
-    ensures made { IfNone (out-KdlNode node.old).children
+    ensures found { IfSome (block_of node.old) (λ d. result.now ≡ d) }
+    ensures made { IfNone (block_of node.old)
         (document_tree result.now ≡ new_document) }
 {
     node.ensure_children()

@@ -2,10 +2,10 @@
 
 ghost use Rattle.kdl.specs.Change.{children_row};
 ghost use Rattle.kdl.specs.DocumentLookups.{dash_arguments_of, node_named};
+ghost use Rattle.kdl.specs.Fields.{block_of};
 ghost use Rattle.kdl.specs.Iterators.{block_left, block_name, with_written_block};
 ghost use Rattle.kdl.specs.Lookups.{HasSameEntries, HasWritten, found_entry, property_place, property_value, with_found_entry};
 ghost use Rattle.kdl.specs.contracts.node.KdlNode.{the_row};
-ghost use Rattle.kdl.specs.declared.node.KdlNode.{out-KdlNode};
 ghost use Rattle.kdl_entry.specs.contracts.entry.KdlEntry.{the_row as entry_row};
 ghost use Rattle.kdl_value.specs.Tree.{or_null, value_tree};
 ghost use Rattle.kdl_value.specs.contracts.value.KdlValue.{the_row as value_row};
@@ -42,7 +42,7 @@ pub fn entry_mut(node: &mut KdlNode, key: NodeKey) -> Option<&mut KdlEntry>
 pub fn iter_children_mut(node: &mut KdlNode) -> ChildrenIterMut<'_>
     ensures* writes_back { sem 𝓛 (follows the_row (Array children_row 0) node.entry.ghost_name
         (block_name result) (with_written_block node.old)) }
-    ensures block { block_left result ≡ (out-KdlNode node.old).children ∷ [] }
+    ensures block { block_left result ≡ block_of node.old ∷ [] }
 {
     node.iter_children_mut()
 }

@@ -7,6 +7,7 @@ use Rattle.std.specs.contracts.impls.GlobalAllocator.TheImpl.{ghosts}
 use Rattle.std.specs.contracts.option.Option as option
 use Rattle.std.specs.contracts.vec.Vec as vec
 use Rattle.std.specs.declared.alloc.Global.{Global}
+use Rattle.kdl_text.specs.declared.span.SourceSpan.{SourceSpan}
 use Rattle.kdl_entry.specs.contracts.identifier.KdlIdentifier as identifier
 use Rattle.kdl_entry.specs.declared.entry.KdlEntry.{KdlEntry}
 use Rattle.kdl_entry.specs.declared.identifier.KdlIdentifier.{KdlIdentifier}
@@ -35,11 +36,17 @@ with_children n w = roll-KdlNode (record (out-KdlNode n) { children = w })
 abbrev pub with_format : KdlNode → Option KdlNodeFormat → KdlNode
 with_format n w = roll-KdlNode (record (out-KdlNode n) { format = w })
 
+abbrev pub with_span : KdlNode → SourceSpan → KdlNode
+with_span n w = roll-KdlNode (record (out-KdlNode n) { span = w })
+
 abbrev pub with_nodes : KdlDocument → Vec KdlNode Global → KdlDocument
 with_nodes d w = roll-KdlDocument (record (out-KdlDocument d) { nodes = w })
 
 abbrev pub with_document_format : KdlDocument → Option KdlDocumentFormat → KdlDocument
 with_document_format d w = roll-KdlDocument (record (out-KdlDocument d) { format = w })
+
+abbrev pub with_document_span : KdlDocument → SourceSpan → KdlDocument
+with_document_span d w = roll-KdlDocument (record (out-KdlDocument d) { span = w })
 
 -- with the entry at i exchanged
 abbrev pub with_entry : KdlNode → ℕ → KdlEntry → KdlNode

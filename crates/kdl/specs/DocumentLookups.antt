@@ -3,22 +3,24 @@ use Rattle.std.specs.List.{filter, filter_map, find}
 use Rattle.std.specs.Prelude.{ℕ, Bool, List, [], Option, Some, None, codes, option_and_then, option_map, position, slice_get, string_bytes}
 use Rattle.kdl_value.specs.Data.{Value}
 use Rattle.kdl_value.specs.Tree.{value_tree}
+use Rattle.kdl_entry.specs.Fields.{entry_value_of, string_of}
 use Rattle.kdl_entry.specs.declared.entry.KdlEntry.{KdlEntry}
 use Rattle.kdl_value.specs.declared.value.KdlValue.{KdlValue}
 use Rattle.kdl.specs.Change.{with_node}
 use Rattle.kdl_parts.specs.EntryLists.{arguments, is_argument, nth_place, same_text}
+use Rattle.kdl.specs.Fields.{held_nodes, name_of}
 use Rattle.kdl.specs.Iterators.{child_nodes}
 use Rattle.kdl.specs.Lookups.{entries_of, entry_there, with_value_there}
-use Rattle.kdl.specs.declared.document.KdlDocument.{KdlDocument, out-KdlDocument}
-use Rattle.kdl.specs.declared.node.KdlNode.{KdlNode, out-KdlNode}
+use Rattle.kdl.specs.declared.document.KdlDocument.{KdlDocument}
+use Rattle.kdl.specs.declared.node.KdlNode.{KdlNode}
 
 -- the node has that name
 abbrev pub is_node_named : List ℕ → KdlNode → Bool
-is_node_named s n = same_text (string_bytes (out-KdlNode n).name.value) s
+is_node_named s n = same_text (string_bytes (string_of (name_of n))) s
 
 -- the nodes of a document
 abbrev pub nodes_of : KdlDocument → List KdlNode
-nodes_of d = (out-KdlDocument d).nodes.items
+nodes_of d = (held_nodes d).items
 
 -- the first node of that name
 abbrev pub node_named : List ℕ → KdlDocument → Option KdlNode
@@ -47,7 +49,7 @@ first_argument n = entry_there (argument_place n) n
 
 -- the value of the first argument
 abbrev pub argument_value : KdlNode → Option Value
-argument_value n = option_map (λ e. value_tree e.value) (first_argument n)
+argument_value n = option_map (λ e. value_tree (entry_value_of e)) (first_argument n)
 
 -- the first argument of the first node of that name
 abbrev pub argument_named : List ℕ → KdlDocument → Option KdlEntry

@@ -6,6 +6,8 @@ pub mod EditLaw
 pub mod Cleared
 -- What look-ups in a document give, and what a document is once what they lent was written.
 pub mod DocumentLookups
+-- The fields of a node or a document in memory.
+pub mod Fields
 -- What the iterator over the children of a node has left, and what the node is once its entries are written.
 pub mod Iterators
 -- What layout makes of nodes and documents in memory.

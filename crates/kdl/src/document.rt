@@ -1,12 +1,15 @@
 //! Documents.
 
-ghost use Rattle.kdl_grammar.specs.Tree.{document, none};
 ghost use Rattle.kdl.specs.Tree.{node_tree, document_of, document_tree};
 ghost use Rattle.kdl_parser.specs.Internal.Parts.{document_by};
 ghost use Rattle.kdl_parser.specs.Internal.Whole.{whole_by};
 ghost use Rattle.kdl_grammar.specs.Laid.{with_bom};
 ghost use Rattle.kdl_grammar.specs.Print.{print_document};
 ghost use Rattle.kdl.specs.Internal.Left.{Prints, block_end, block_front};
+ghost use Rattle.kdl.specs.Change.{with_document_span};
+ghost use Rattle.kdl.specs.Cleared.{new_document};
+ghost use Rattle.kdl.specs.DocumentLookups.{nodes_of};
+ghost use Rattle.kdl.specs.Fields.{document_format_of, document_span_of};
 ghost use Rattle.kdl.specs.Same.{same_document};
 ghost use Rattle.kdl.specs.declared.document.KdlDocument.{out-KdlDocument};
 ghost use Rattle.std.specs.Prelude.{◌≡◌, IfOk, None, Some, map, option_map, true};
@@ -91,7 +94,7 @@ impl KdlDocument {
     /// document.nodes_mut().push(KdlNode::new(name)?)?; // prints `server` and a newline
     /// ```
     pub fn new(alloc: Global) -> KdlDocument
-        ensures { document_tree result ≡ document None (record { offset = 0; len = 0 }) none }
+        ensures { document_tree result ≡ new_document }
     {
         KdlDocument {
             nodes: Vec::new(alloc),
@@ -144,7 +147,7 @@ impl KdlDocument {
     /// let names = document.nodes().iter().map(|node| node.name().value()); // "a", "c"
     /// ```
     pub fn nodes(&self) -> &[KdlNode]
-        ensures { result.now ≡ (out-KdlDocument self.now).nodes.items }
+        ensures { result.now ≡ nodes_of self.now }
     {
         self.nodes.as_slice()
     }
@@ -158,7 +161,7 @@ impl KdlDocument {
     /// }
     /// ```
     pub fn format(&self) -> Option<&KdlDocumentFormat>
-        ensures { option_map (λ f. f.now) result ≡ (out-KdlDocument self.now).format }
+        ensures { option_map (λ f. f.now) result ≡ document_format_of self.now }
     {
         self.format.as_ref()
     }
@@ -170,7 +173,7 @@ impl KdlDocument {
     /// let span = document.span(); // from the node `a` on: offset 2
     /// ```
     pub fn span(&self) -> SourceSpan
-        ensures { result ≡ (out-KdlDocument self.now).span }
+        ensures { result ≡ document_span_of self.now }
     {
         self.span
     }
@@ -184,8 +187,7 @@ impl KdlDocument {
     #[tactic(auto, using(crate::proofs::SpanIsIgnored::document_spanned))]
     pub fn set_span(&mut self, span: SourceSpan)
         ensures same { same_document self.old self.new ≡ true }
-        ensures rest { out-KdlDocument self.new ≡
-            record (out-KdlDocument self.old) { span = span } }
+        ensures rest { self.new ≡ with_document_span self.old span }
     {
         self.span = span;
     }

@@ -6,10 +6,13 @@ ghost use Rattle.kdl_parser.specs.Internal.NodeText.{text_by};
 ghost use Rattle.kdl_grammar.specs.Print.{print_node};
 ghost use Rattle.kdl.specs.Internal.Copied.{with_children};
 ghost use Rattle.kdl.specs.Internal.Left.{Prints, front, node_before_block, node_end};
+ghost use Rattle.kdl.specs.Change.{with_span};
+ghost use Rattle.kdl.specs.Fields.{block_of, name_of, node_format_of, node_span_of, ty_of};
+ghost use Rattle.kdl.specs.Lookups.{entries_of};
 ghost use Rattle.kdl.specs.Same.{same_node};
 ghost use Rattle.kdl.specs.declared.node.KdlNode.{out-KdlNode};
 ghost use Rattle.kdl_entry.specs.Tree.{identifier_tree, entry_tree};
-ghost use Rattle.std.specs.Prelude.{◌≡◌, [], IfOk, None, Some, map, option_map, true};
+ghost use Rattle.std.specs.Prelude.{◌≡◌, IfOk, None, Some, option_map, true};
 ghost use Rattle.std.specs.Str.{encode_utf8_all};
 
 mod clears;
@@ -100,7 +103,7 @@ impl KdlNode {
     /// let name = node.name().value(); // an `a`, a tabulator and a `b`
     /// ```
     pub fn name(&self) -> &KdlIdentifier
-        ensures { result.now ≡ (out-KdlNode self.now).name }
+        ensures { result.now ≡ name_of self.now }
     {
         &self.name
     }
@@ -112,7 +115,7 @@ impl KdlNode {
     /// let ty = node.ty(); // the identifier `date`
     /// ```
     pub fn ty(&self) -> Option<&KdlIdentifier>
-        ensures { option_map (λ t. t.now) result ≡ (out-KdlNode self.now).ty }
+        ensures { option_map (λ t. t.now) result ≡ ty_of self.now }
     {
         self.ty.as_ref()
     }
@@ -124,7 +127,7 @@ impl KdlNode {
     /// let count = node.entries().len(); // 2: what a slashdash drops is no entry
     /// ```
     pub fn entries(&self) -> &[KdlEntry]
-        ensures { result.now ≡ (out-KdlNode self.now).entries.items }
+        ensures { result.now ≡ entries_of self.now }
     {
         self.entries.as_slice()
     }
@@ -136,7 +139,7 @@ impl KdlNode {
     /// let some = KdlNode::parse(alloc, "a {}")?.children().is_some(); // true: an empty block differs from none
     /// ```
     pub fn children(&self) -> Option<&KdlDocument>
-        ensures { option_map (λ d. d.now) result ≡ (out-KdlNode self.now).children }
+        ensures { option_map (λ d. d.now) result ≡ block_of self.now }
     {
         self.children.as_ref()
     }
@@ -150,7 +153,7 @@ impl KdlNode {
     /// }
     /// ```
     pub fn format(&self) -> Option<&KdlNodeFormat>
-        ensures { option_map (λ f. f.now) result ≡ (out-KdlNode self.now).format }
+        ensures { option_map (λ f. f.now) result ≡ node_format_of self.now }
     {
         self.format.as_ref()
     }
@@ -163,7 +166,7 @@ impl KdlNode {
     /// let span = document.nodes()[1].span(); // offset 5, since `é` has two bytes
     /// ```
     pub fn span(&self) -> SourceSpan
-        ensures { result ≡ (out-KdlNode self.now).span }
+        ensures { result ≡ node_span_of self.now }
     {
         self.span
     }
@@ -177,7 +180,7 @@ impl KdlNode {
     #[tactic(auto, using(crate::proofs::SpanIsIgnored::node_spanned))]
     pub fn set_span(&mut self, span: SourceSpan)
         ensures same { same_node self.old self.new ≡ true }
-        ensures rest { out-KdlNode self.new ≡ record (out-KdlNode self.old) { span = span } }
+        ensures rest { self.new ≡ with_span self.old span }
     {
         self.span = span;
     }

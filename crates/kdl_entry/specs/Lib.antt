@@ -2,6 +2,8 @@
 pub mod Data
 -- Strings, types, values and entries as they are written (KDL 2.0.0, String, Value, Type Annotation, Argument, Property).
 pub mod Entries
+-- The fields of an identifier or an entry in memory, and an entry with one field changed.
+pub mod Fields
 -- Entries without format and spelling, and the form in which they stand in a node.
 pub mod Formless
 -- Identifiers and entries laid in a text: their spellings and places, in the order of printing, are the text, and each is what it has to be.

@@ -142,6 +142,7 @@ pub struct KdlEntry {
 }
 
 impl KdlEntry {
+    ghost use Rattle.kdl_entry.specs.Fields.{entry_format_of, entry_name_of, entry_ty_of, entry_value_of, with_entry_format, with_entry_name, with_entry_ty, with_entry_value};
     ghost use Rattle.kdl_entry.specs.contracts.entry.KdlEntry.{the_row};
     ghost use Rattle.kdl_entry.specs.contracts.entry.KdlEntryFormat.{the_row as format_row};
     ghost use Rattle.kdl_entry.specs.contracts.identifier.KdlIdentifier.{the_row as identifier_row};
@@ -195,8 +196,8 @@ impl KdlEntry {
     /// ```
     pub fn name_mut(&mut self) -> Option<&mut KdlIdentifier>
         ensures* writes_back { sem 𝓛 (LendsIf the_row identifier_row self.entry result
-            (λ i. record self.old { name = Some i }) self.old) }
-        ensures value { option_map (λ i. i.now) result ≡ self.old.name }
+            (λ i. with_entry_name self.old (Some i)) self.old) }
+        ensures value { option_map (λ i. i.now) result ≡ entry_name_of self.old }
     {
         self.name.as_mut()
     }
@@ -235,8 +236,8 @@ impl KdlEntry {
     /// ```
     pub fn value_mut(&mut self) -> &mut KdlValue
         ensures* writes_back { sem 𝓛 (Lends the_row value_row self.entry result
-            (λ v. record self.old { value = v })) }
-        ensures value { result.now ≡ self.old.value }
+            (with_entry_value self.old)) }
+        ensures value { result.now ≡ entry_value_of self.old }
     {
         &mut self.value
     }
@@ -304,8 +305,8 @@ impl KdlEntry {
     /// ```
     pub fn ty_mut(&mut self) -> Option<&mut KdlIdentifier>
         ensures* writes_back { sem 𝓛 (LendsIf the_row identifier_row self.entry result
-            (λ i. record self.old { ty = Some i }) self.old) }
-        ensures value { option_map (λ i. i.now) result ≡ self.old.ty }
+            (λ i. with_entry_ty self.old (Some i)) self.old) }
+        ensures value { option_map (λ i. i.now) result ≡ entry_ty_of self.old }
     {
         self.ty.as_mut()
     }
@@ -348,8 +349,8 @@ impl KdlEntry {
     /// ```
     pub fn format_mut(&mut self) -> Option<&mut KdlEntryFormat>
         ensures* writes_back { sem 𝓛 (LendsIf the_row format_row self.entry result
-            (λ f. record self.old { format = Some f }) self.old) }
-        ensures value { option_map (λ f. f.now) result ≡ self.old.format }
+            (λ f. with_entry_format self.old (Some f)) self.old) }
+        ensures value { option_map (λ f. f.now) result ≡ entry_format_of self.old }
     {
         self.format.as_mut()
     }

@@ -1,5 +1,6 @@
 //! Identifiers: the names of nodes and properties, and types.
 
+ghost use Rattle.kdl_entry.specs.Fields.{string_of};
 ghost use Rattle.kdl_entry.specs.Print.{print_identifier};
 ghost use Rattle.kdl_value.specs.Tree.{text_of};
 ghost use Rattle.kdl_entry.specs.Tree.{identifier_tree, plain_identifier, spelling_of, unspelled};
@@ -230,7 +231,7 @@ pub fn sliced_identifier(
 /// let more = String::new(*identifier_allocator(&name)); // takes its memory where the name does
 /// ```
 pub fn identifier_allocator(identifier: &KdlIdentifier) -> &Global
-    ensures { result.now ≡ vec_allocator (string_vec identifier.now.value) }
+    ensures { result.now ≡ vec_allocator (string_vec (string_of identifier.now)) }
 {
     identifier.value.allocator()
 }
@@ -326,12 +327,13 @@ impl fmt::Display for KdlIdentifier {
 /// let same = bare == quoted; // false: they are spelled otherwise
 /// ```
 impl PartialEq for KdlIdentifier {
+    ghost use Rattle.kdl_entry.specs.Fields.{string_of};
     ghost use Rattle.kdl_entry.specs.Tree.{spelling_of};
     ghost use Rattle.std.specs.Option.{option_eq};
     ghost use Rattle.std.specs.Ordering.{eq_of_both, on};
     ghost use Rattle.std.specs.String.{string_eq};
 
-    ghost eq = { eq_of_both (on (λ i. i.value) string_eq) (on spelling_of (option_eq string_eq)) };
+    ghost eq = { eq_of_both (on string_of string_eq) (on spelling_of (option_eq string_eq)) };
 
     ghost laws = { Prim.search (comparing, rules) };
 
@@ -350,11 +352,12 @@ impl Eq for KdlIdentifier {
 /// KdlIdentifier::parse(alloc, "a")?.hash(&mut hasher); // as each bare `a` does, wherever it stood
 /// ```
 impl Hash for KdlIdentifier {
+    ghost use Rattle.kdl_entry.specs.Fields.{string_of};
     ghost use Rattle.kdl_entry.specs.Tree.{spelling_of};
     ghost use Rattle.std.specs.Hash as fed;
     ghost use Rattle.std.specs.Prelude.{◌++◌, string_bytes};
 
-    ghost hash_input = { λ i. fed.str (string_bytes i.value)
+    ghost hash_input = { λ i. fed.str (string_bytes (string_of i))
         ++ fed.option (λ s. fed.str (string_bytes s)) (spelling_of i) };
 
     ghost respects_eq = { Prim.search (hashing, rules) };

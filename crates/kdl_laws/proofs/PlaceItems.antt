@@ -16,6 +16,7 @@ use Rattle.kdl_grammar.specs.Places.{DroppedBlock, dropped as a_dropped_block, A
 use Rattle.kdl_items.specs.Items.{Item, piece, ItemEnd, GapItems, Place, before_entry, before_block, behind_block, may_end, takes_entries, takes_blocks, spaced, PlaceItems}
 use Rattle.kdl_items.proofs.Dropping.DroppedNodes.{passes_last, node_ended}
 use Rattle.kdl_items.proofs.Dropping.Paths.{at_brace, halts}
+use Rattle.kdl_items.proofs.Rewriting.PlacesAgain.{blocks_spaced, entries_spaced, spaced_again}
 use Rattle.kdl_items.proofs.Listing.SpaceItems.{space_of, line_space_of, space_items, line_space_items}
 use Rattle.kdl_fmt.specs.Comments.{EndItems}
 use Rattle.kdl_fmt.specs.Kept.{without_bom}
@@ -91,22 +92,6 @@ gap_of (GapItems.last_node m x tight ss g) = Gap.dropped_node m (node_spaces x s
 pub gap_items : (s : Text) → Gap true s [] ↔ ((is : List Item) × GapItems s is)
 gap_items s = (λ g. gap_has g, λ h. gap_of h.1)
 
--- what a place takes does not depend on the node-spaces in it
-entries_spaced : (p : Place) → takes_entries (spaced true p) ≡ takes_entries p
-entries_spaced (before_entry b) = refl
-entries_spaced before_block = refl
-entries_spaced behind_block = refl
-
-blocks_spaced : (p : Place) → takes_blocks (spaced true p) ≡ takes_blocks p
-blocks_spaced (before_entry b) = refl
-blocks_spaced before_block = refl
-blocks_spaced behind_block = refl
-
-unspaced : (p : Place) → spaced false (spaced true p) ≡ spaced false p
-unspaced (before_entry b) = refl
-unspaced before_block = refl
-unspaced behind_block = refl
-
 -- node-spaces, a dropped entry and a dropped block in a place
 space_first : {p : Place} {s t : Text} → NodeSpace s t → Has (spaced true p) t → Has p s
 space_first n g = let d = space_items n in (d.0 ++ g.0, PlaceItems.space d.1 g.1)
@@ -117,11 +102,11 @@ spaces_first p e {s} (more {t = t} n ss) g = space_first n (subst (λ (q : Place
 
 entry_first : (p : Place) → takes_entries p ≡ true → {s t u r : Text} {e : Entry} → Star NodeSpace s t → Slashdash t u → IsEntry true u r e → Has (spaced false p) r → Has p s
 entry_first p h {s} {r = r} no_star m i g = (piece (between s r) ∷ g.0, PlaceItems.dropped_entry h m i g.1)
-entry_first p h {r = r} (more n ss) m i g = space_first n (entry_first (spaced true p) (entries_spaced p ∙ h) ss m i (subst (λ (q : Place). Has q r) (sym (unspaced p)) g))
+entry_first p h {r = r} (more n ss) m i g = space_first n (entry_first (spaced true p) (entries_spaced true p ∙ h) ss m i (subst (λ (q : Place). Has q r) (sym (spaced_again false true p)) g))
 
 block_first : (p : Place) → takes_blocks p ≡ true → {s t u r : Text} {xs : Nodes} → Star NodeSpace s t → Slashdash t u → IsBlock true u r xs → Has behind_block r → Has p s
 block_first p h {s} {r = r} no_star m b g = (piece (between s r) ∷ g.0, PlaceItems.dropped_block h m b g.1)
-block_first p h (more n ss) m b g = space_first n (block_first (spaced true p) (blocks_spaced p ∙ h) ss m b g)
+block_first p h (more n ss) m b g = space_first n (block_first (spaced true p) (blocks_spaced true p ∙ h) ss m b g)
 
 -- each text of a place has items
 after_has : (p : Place) → takes_blocks p ≡ true → spaced true p ≡ p → may_end p ≡ true → {s t : Text} → Star DroppedBlock s t → Star NodeSpace t [] → Has p s

@@ -1,3 +1,5 @@
+-- The words of the laws that `Words` of kdl does not pass on, from one place for the crates that cite laws. Declares nothing.
+pub mod ClientWords
 -- Errors with every text as its bytes, every span, and nothing of how memory holds them.
 pub mod Errors
 -- What keys look for, wherever their names stood.

@@ -2,7 +2,7 @@
 //! hashes and copies; of layout and of the items that it keeps; and that what is printed reads back.
 #![tactic(auto)]
 
-pub mod edits;
+pub mod bytes;
 pub mod entries;
 pub mod errors;
 pub mod formats;

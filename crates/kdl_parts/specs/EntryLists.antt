@@ -7,6 +7,7 @@ use Rattle.kdl_entry.specs.declared.identifier.KdlIdentifier.{KdlIdentifier}
 use Rattle.kdl_value.specs.Data.{Value}
 use Rattle.kdl_value.specs.declared.value.KdlValue.{KdlValue}
 use Rattle.kdl_value.specs.Tree.{value_tree}
+use Rattle.kdl_entry.specs.Fields.{entry_name_of, entry_value_of, string_of}
 use Rattle.kdl_entry.specs.Tree.{Identifier, identifier_tree}
 use Rattle.kdl_parts.specs.declared.key.NodeKey.{NodeKey}
 use Rattle.kdl_parts.specs.declared.key.NodeKey.TheVariants.{Key, Index}
@@ -27,15 +28,15 @@ same_text = pointwise ◌==◌
 -- the identifier's value is the text
 abbrev pub is_name : List ℕ → Option KdlIdentifier → Bool
 is_name s None = false
-is_name s (Some i) = same_text (string_bytes i.value) s
+is_name s (Some i) = same_text (string_bytes (string_of i)) s
 
 -- the entry is a property of that name
 abbrev pub has_name : List ℕ → KdlEntry → Bool
-has_name s e = is_name s e.name
+has_name s e = is_name s (entry_name_of e)
 
 -- the entry has no name
 abbrev pub is_argument : KdlEntry → Bool
-is_argument e = is_none e.name
+is_argument e = is_none (entry_name_of e)
 
 -- the last place, where those behind the first element have this last place, and b tells of the first
 abbrev pub later : Option ℕ → Bool → Option ℕ
@@ -61,12 +62,12 @@ nth_place p (x ∷ xs) n = nth_step (p x) n (nth_place p xs)
 
 -- the place that `get` looks at: the last property of that name, or that argument
 abbrev pub place_of : NodeKey → List KdlEntry → Option ℕ
-place_of (Key k) es = last_place (has_name (string_bytes k.value)) es
+place_of (Key k) es = last_place (has_name (string_bytes (string_of k))) es
 place_of (Index n) es = nth_place is_argument es n
 
 -- the place that `remove` looks at: the first property of that name, or that argument
 abbrev pub removed_place : NodeKey → List KdlEntry → Option ℕ
-removed_place (Key k) es = position (has_name (string_bytes k.value)) es
+removed_place (Key k) es = position (has_name (string_bytes (string_of k))) es
 removed_place (Index n) es = nth_place is_argument es n
 
 -- what stands at a place that was found
@@ -86,11 +87,11 @@ property_named s es = there (last_place (has_name s) es) es
 
 -- the value of an entry, where there is one; the same as it is in memory
 abbrev pub value_of : Option KdlEntry → Option Value
-value_of o = option_map (λ e. value_tree e.value) o
+value_of o = option_map (λ e. value_tree (entry_value_of e)) o
 
 abbrev pub held_value : Option KdlEntry → Option KdlValue
-held_value o = option_map (λ e. e.value) o
+held_value o = option_map entry_value_of o
 
 -- the values of the arguments among entries, in order
 abbrev pub arguments : List KdlEntry → List Value
-arguments es = map (λ e. value_tree e.value) (filter is_argument es)
+arguments es = map (λ e. value_tree (entry_value_of e)) (filter is_argument es)

@@ -9,6 +9,7 @@ use Rattle.std.specs.contracts.vec.Vec as vec
 use Rattle.std.specs.declared.alloc.Global.{Global}
 use Rattle.kdl_entry.specs.contracts.entry.KdlEntry as entry
 use Rattle.kdl_entry.specs.declared.entry.KdlEntry.{KdlEntry}
+use Rattle.kdl_entry.specs.Fields.{with_entry_value}
 use Rattle.kdl_entry.specs.Tree.{entry_tree, plain_entry, plain_identifier}
 use Rattle.kdl_value.specs.Data.{Value, null}
 use Rattle.kdl_value.specs.declared.value.KdlValue.{KdlValue}
@@ -26,7 +27,7 @@ set_entry_there (Some i) v e = with_item v i e
 
 -- with the value of the entry at i exchanged
 abbrev pub set_value_at : Vec KdlEntry Global → ℕ → KdlValue → Vec KdlEntry Global
-set_value_at v i w = elim (slice_get v.items i) [ None ↦ v | Some e ↦ with_item v i (record e { value = w }) ]
+set_value_at v i w = elim (slice_get v.items i) [ None ↦ v | Some e ↦ with_item v i (with_entry_value e w) ]
 
 -- with the value of the entry at a place that was found exchanged
 abbrev pub set_value_there : Option ℕ → Vec KdlEntry Global → KdlValue → Vec KdlEntry Global

@@ -3,6 +3,7 @@
 ghost use Rattle.kdl_parts.specs.EntryLists.{argument_at, found, has_name, held_value, is_argument, last_place, nth_place, property_named, value_of};
 ghost use Rattle.kdl_parts.specs.Written.{entries_row, set_value_at, with_argument_value, with_found, with_found_value, HasProperty};
 ghost use Rattle.kdl_value.specs.Tree.{value_tree};
+ghost use Rattle.kdl_entry.specs.Fields.{entry_value_of};
 ghost use Rattle.kdl_entry.specs.contracts.entry.KdlEntry.{the_row as entry_row};
 ghost use Rattle.kdl_value.specs.contracts.value.KdlValue.{the_row as value_row};
 ghost use Rattle.std.specs.Borrow.{Lends, LendsIf, sem};
@@ -95,7 +96,7 @@ pub fn value_at_mut(entries: &mut Vec<KdlEntry>, at: usize) -> &mut KdlValue
     requires { at < length entries.old.items }
     ensures* writes_back { sem 𝓛 (Lends entries_row value_row entries.entry result
         (set_value_at entries.old at)) }
-    ensures value { option_map (λ e. e.value) (slice_get entries.old.items at) ≡ Some result.now }
+    ensures value { option_map entry_value_of (slice_get entries.old.items at) ≡ Some result.now }
 {
     entries[at].value_mut()
 }

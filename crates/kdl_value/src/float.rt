@@ -4,8 +4,11 @@ ghost use Rattle.kdl_text.specs.Numbers.{FloatText};
 ghost use Rattle.std.specs.Prelude.{◌≡◌, ◌↔◌, IfOk, IsErrOf, Some, string_bytes};
 ghost use Rattle.std.specs.Str.{chars, encode_utf8_all};
 
+mod parsed;
+
 use crate::print::write_text;
 use kdl_text::numbers::is_float_text;
+pub use parsed::parsed_float;
 use std::alloc::{AllocError, Global};
 use std::fmt;
 use thiserror::Error;
@@ -66,18 +69,6 @@ impl KdlFloat {
     {
         self.text.as_str()
     }
-}
-
-/// A float as it was read: its text, which is a float's.
-///
-/// ```
-/// let float = parsed_float(String::from_str(alloc, "1.5")?); // the caller knows that this is a float's text
-/// ```
-pub fn parsed_float(text: String) -> KdlFloat
-    requires { FloatText (chars (string_bytes text)) }
-    ensures { chars (string_bytes result.text) ≡ chars (string_bytes text) }
-{
-    KdlFloat { text }
 }
 
 /// A copy with the same text. Fails where memory runs out.

@@ -2,11 +2,12 @@
 
 ghost use Rattle.kdl.specs.Change.{with_nodes, with_document_format, nodes_row};
 ghost use Rattle.kdl.specs.Cleared.{cleared_document};
+ghost use Rattle.kdl.specs.DocumentLookups.{nodes_of};
+ghost use Rattle.kdl.specs.Fields.{document_format_of, held_nodes};
 ghost use Rattle.kdl_grammar.specs.Print.{print_document};
 ghost use Rattle.kdl.specs.Tree.{document_tree};
 ghost use Rattle.kdl.specs.contracts.document.KdlDocument.{the_row};
 ghost use Rattle.kdl_parts.specs.contracts.format.KdlDocumentFormat.{the_row as format_row};
-ghost use Rattle.kdl.specs.declared.document.KdlDocument.{out-KdlDocument};
 ghost use Rattle.kdl_text.specs.Spans.{bytes};
 ghost use Rattle.std.specs.Borrow.{Lends, LendsIf, sem};
 ghost use Rattle.std.specs.Prelude.{◌≡◌, ◌↔◌, IfOk, IsTrue, [], None, Some, option_map};
@@ -29,7 +30,7 @@ impl KdlDocument {
     pub fn nodes_mut(&mut self) -> &mut Vec<KdlNode>
         ensures* writes_back { sem 𝓛 (Lends the_row nodes_row self.entry result
             (with_nodes self.old)) }
-        ensures value { result.now ≡ (out-KdlDocument self.old).nodes }
+        ensures value { result.now ≡ held_nodes self.old }
     {
         &mut self.nodes
     }
@@ -45,7 +46,7 @@ impl KdlDocument {
     pub fn format_mut(&mut self) -> Option<&mut KdlDocumentFormat>
         ensures* writes_back { sem 𝓛 (LendsIf the_row format_row self.entry result
             (λ f. with_document_format self.old (Some f)) self.old) }
-        ensures value { option_map (λ f. f.now) result ≡ (out-KdlDocument self.old).format }
+        ensures value { option_map (λ f. f.now) result ≡ document_format_of self.old }
     {
         self.format.as_mut()
     }
@@ -57,8 +58,7 @@ impl KdlDocument {
     /// document.set_format(KdlDocumentFormat::new(alloc));
     /// ```
     pub fn set_format(&mut self, format: KdlDocumentFormat)
-        ensures { out-KdlDocument self.new ≡
-            record (out-KdlDocument self.old) { format = Some format } }
+        ensures { self.new ≡ with_document_format self.old (Some format) }
     {
         self.format = Some(format);
     }
@@ -70,7 +70,7 @@ impl KdlDocument {
     /// document.clear_format(); // prints "a // one\n"
     /// ```
     pub fn clear_format(&mut self)
-        ensures { out-KdlDocument self.new ≡ record (out-KdlDocument self.old) { format = None } }
+        ensures { self.new ≡ with_document_format self.old None }
     {
         self.format = None;
     }
@@ -125,7 +125,7 @@ impl IntoIterator for KdlDocument {
 
     type IntoIter = IntoIter<KdlNode>;
 
-    ghost into_iter_gives = { λ d r. into_iter_items r ≡ (out-KdlDocument d).nodes.items };
+    ghost into_iter_gives = { λ d r. into_iter_items r ≡ nodes_of d };
 
     fn into_iter(self) -> IntoIter<KdlNode> {
         self.into_nodes().into_iter()

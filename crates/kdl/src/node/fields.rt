@@ -2,11 +2,11 @@
 
 ghost use Rattle.kdl.specs.Change.{with_name, with_ty, with_children, with_format, ty_row, children_row};
 ghost use Rattle.kdl.specs.Cleared.{new_node, new_document};
+ghost use Rattle.kdl.specs.Fields.{block_of, name_of, node_format_of, ty_of};
 ghost use Rattle.kdl.specs.Tree.{node_tree, document_tree};
 ghost use Rattle.kdl.specs.contracts.document.KdlDocument.{the_row as document_row};
 ghost use Rattle.kdl.specs.contracts.node.KdlNode.{the_row};
 ghost use Rattle.kdl_parts.specs.contracts.format.KdlNodeFormat.{the_row as format_row};
-ghost use Rattle.kdl.specs.declared.node.KdlNode.{out-KdlNode};
 ghost use Rattle.kdl_entry.specs.contracts.identifier.KdlIdentifier.{the_row as identifier_row};
 ghost use Rattle.kdl_entry.specs.Tree.{identifier_tree};
 ghost use Rattle.std.specs.Borrow.{Lends, LendsIf, sem};
@@ -52,7 +52,7 @@ impl KdlNode {
     pub fn name_mut(&mut self) -> &mut KdlIdentifier
         ensures* writes_back { sem 𝓛 (Lends the_row identifier_row self.entry result
             (with_name self.old)) }
-        ensures value { result.now ≡ (out-KdlNode self.old).name }
+        ensures value { result.now ≡ name_of self.old }
     {
         &mut self.name
     }
@@ -64,7 +64,7 @@ impl KdlNode {
     /// node.set_name(KdlIdentifier::from_text(alloc, "new")?); // prints "new 1 // kept"
     /// ```
     pub fn set_name(&mut self, name: KdlIdentifier)
-        ensures { out-KdlNode self.new ≡ record (out-KdlNode self.old) { name = name } }
+        ensures { self.new ≡ with_name self.old name }
     {
         self.name = name;
     }
@@ -78,7 +78,7 @@ impl KdlNode {
     pub fn ty_mut(&mut self) -> &mut Option<KdlIdentifier>
         ensures* writes_back { sem 𝓛 (Lends the_row ty_row self.entry result
             (with_ty self.old)) }
-        ensures value { result.now ≡ (out-KdlNode self.old).ty }
+        ensures value { result.now ≡ ty_of self.old }
     {
         &mut self.ty
     }
@@ -90,7 +90,7 @@ impl KdlNode {
     /// node.set_ty(KdlIdentifier::from_text(alloc, "date")?); // prints "(date)today"
     /// ```
     pub fn set_ty(&mut self, ty: KdlIdentifier)
-        ensures { out-KdlNode self.new ≡ record (out-KdlNode self.old) { ty = Some ty } }
+        ensures { self.new ≡ with_ty self.old (Some ty) }
     {
         self.ty = Some(ty);
     }
@@ -106,7 +106,7 @@ impl KdlNode {
     pub fn children_mut(&mut self) -> &mut Option<KdlDocument>
         ensures* writes_back { sem 𝓛 (Lends the_row children_row self.entry result
             (with_children self.old)) }
-        ensures value { result.now ≡ (out-KdlNode self.old).children }
+        ensures value { result.now ≡ block_of self.old }
     {
         &mut self.children
     }
@@ -118,8 +118,7 @@ impl KdlNode {
     /// node.set_children(KdlDocument::parse(alloc, "b; c")?); // in place of those that were there
     /// ```
     pub fn set_children(&mut self, children: KdlDocument)
-        ensures { out-KdlNode self.new ≡
-            record (out-KdlNode self.old) { children = Some children } }
+        ensures { self.new ≡ with_children self.old (Some children) }
     {
         self.children = Some(children);
     }
@@ -131,7 +130,7 @@ impl KdlNode {
     /// node.clear_children();
     /// ```
     pub fn clear_children(&mut self)
-        ensures { out-KdlNode self.new ≡ record (out-KdlNode self.old) { children = None } }
+        ensures { self.new ≡ with_children self.old None }
     {
         self.children = None;
     }
@@ -147,8 +146,8 @@ impl KdlNode {
     pub fn ensure_children(&mut self) -> &mut KdlDocument
         ensures* writes_back { sem 𝓛 (Lends the_row document_row self.entry result
             (λ d. with_children self.old (Some d))) }
-        ensures found { IfSome (out-KdlNode self.old).children (λ d. result.now ≡ d) }
-        ensures made { IfNone (out-KdlNode self.old).children
+        ensures found { IfSome (block_of self.old) (λ d. result.now ≡ d) }
+        ensures made { IfNone (block_of self.old)
             (document_tree result.now ≡ new_document) }
     {
         let alloc = *self.entries.allocator();
@@ -166,7 +165,7 @@ impl KdlNode {
     pub fn format_mut(&mut self) -> Option<&mut KdlNodeFormat>
         ensures* writes_back { sem 𝓛 (LendsIf the_row format_row self.entry result
             (λ f. with_format self.old (Some f)) self.old) }
-        ensures value { option_map (λ f. f.now) result ≡ (out-KdlNode self.old).format }
+        ensures value { option_map (λ f. f.now) result ≡ node_format_of self.old }
     {
         self.format.as_mut()
     }
@@ -178,7 +177,7 @@ impl KdlNode {
     /// node.set_format(KdlNodeFormat::new(alloc)); // prints "a 1", since all its texts are empty
     /// ```
     pub fn set_format(&mut self, format: KdlNodeFormat)
-        ensures { out-KdlNode self.new ≡ record (out-KdlNode self.old) { format = Some format } }
+        ensures { self.new ≡ with_format self.old (Some format) }
     {
         self.format = Some(format);
     }
@@ -190,7 +189,7 @@ impl KdlNode {
     /// node.clear_format(); // the entry keeps its own spaces and its spelling
     /// ```
     pub fn clear_format(&mut self)
-        ensures { out-KdlNode self.new ≡ record (out-KdlNode self.old) { format = None } }
+        ensures { self.new ≡ with_format self.old None }
     {
         self.format = None;
     }

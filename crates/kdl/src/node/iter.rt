@@ -1,10 +1,10 @@
 //! The iterators over the entries and the children of a node.
 
 ghost use Rattle.kdl.specs.Change.{children_row};
+ghost use Rattle.kdl.specs.Fields.{block_of};
 ghost use Rattle.kdl.specs.Iterators.{block_left, block_name, child_nodes, nodes_in, nodes_left, with_written_block, with_written_entries};
 ghost use Rattle.kdl.specs.Lookups.{entries_of};
 ghost use Rattle.kdl.specs.contracts.node.KdlNode.{the_row as node_row};
-ghost use Rattle.kdl.specs.declared.node.KdlNode.{out-KdlNode};
 ghost use Rattle.kdl_parts.specs.Iterators.{entries_left, entries_name};
 ghost use Rattle.std.specs.Borrow.{Array, follows, sem};
 ghost use Rattle.std.specs.Iterator.{UpTo, at_most};
@@ -80,7 +80,7 @@ impl KdlNode {
     pub fn iter_children_mut(&mut self) -> ChildrenIterMut<'_>
         ensures* writes_back { sem 𝓛 (follows node_row (Array children_row 0) self.entry.ghost_name
             (block_name result) (with_written_block self.old)) }
-        ensures block { block_left result ≡ (out-KdlNode self.old).children ∷ [] }
+        ensures block { block_left result ≡ block_of self.old ∷ [] }
         ensures left { nodes_left result ≡ child_nodes self.old }
     {
         ChildrenIterMut {

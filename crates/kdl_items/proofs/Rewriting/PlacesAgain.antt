@@ -38,17 +38,17 @@ in_join no_item b = b
 in_join (one_more i a) b = one_more i (in_join a b)
 
 -- what a place takes does not hang on the node-spaces in it
-spaced_again : (a b : Bool) (p : Place) → spaced a (spaced b p) ≡ spaced a p
+pub spaced_again : (a b : Bool) (p : Place) → spaced a (spaced b p) ≡ spaced a p
 spaced_again a b (before_entry c) = refl
 spaced_again a b before_block = refl
 spaced_again a b behind_block = refl
 
-entries_spaced : (b : Bool) (p : Place) → takes_entries (spaced b p) ≡ takes_entries p
+pub entries_spaced : (b : Bool) (p : Place) → takes_entries (spaced b p) ≡ takes_entries p
 entries_spaced b (before_entry c) = refl
 entries_spaced b before_block = refl
 entries_spaced b behind_block = refl
 
-blocks_spaced : (b : Bool) (p : Place) → takes_blocks (spaced b p) ≡ takes_blocks p
+pub blocks_spaced : (b : Bool) (p : Place) → takes_blocks (spaced b p) ≡ takes_blocks p
 blocks_spaced b (before_entry c) = refl
 blocks_spaced b before_block = refl
 blocks_spaced b behind_block = refl

@@ -1,8 +1,9 @@
-//! What is printed once what a call lent was changed: the parts of `entries_mut` and `entry_mut`, and of `nodes_mut`.
+//! Which bytes of the printed text an edit changes: those of its own piece, whatever was changed through `entries_mut`,
+//! `entry_mut` or `nodes_mut`.
 
 ghost use Rattle.kdl.specs.EditLaw.{EntriesExchanged, EntryExchanged, FormedPiece, NodesExchanged, NodeExchanged, PrintsInstead};
+ghost use Rattle.kdl.specs.Fields.{node_format_of};
 ghost use Rattle.kdl.specs.Tree.{node_tree};
-ghost use Rattle.kdl.specs.declared.node.KdlNode.{out-KdlNode};
 ghost use Rattle.kdl_entry.specs.Tree.{entry_tree};
 ghost use Rattle.std.specs.Prelude.{IsSome, map};
 
@@ -41,7 +42,7 @@ pub fn node_exchanged()
 /// had, and the pieces of these entries between them.
 #[tactic(auto, using(kdl::proofs::EditLaws::entries_exchanged))]
 pub fn exchange_entries(node: &mut KdlNode, entries: Vec<KdlEntry>)
-    ensures { IsSome (out-KdlNode node.old).format
+    ensures { IsSome (node_format_of node.old)
         → PrintsInstead (node_tree node.old) (map entry_tree entries.items) (node_tree node.new) }
 {
     *node.entries_mut() = entries;

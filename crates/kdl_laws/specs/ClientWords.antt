@@ -1,0 +1,25 @@
+-- The words of the laws that `Words` of kdl does not pass on, from one place for the crates that cite laws. Declares nothing.
+
+-- Laws of the written grammar of documents and nodes.
+pub use Rattle.kdl_grammar.specs.Laws.{EditedIsLaid, FormerIsKept, LaidIsDerived, LaidNodeIsDerived, NodesAreLaid, OneDocument, OneLaidDocument, OneLaidNode, OneNode, ReadsBack}
+-- Laws of the written grammar of identifiers and entries.
+pub use Rattle.kdl_entry.specs.Laws.{LaidEntryIsDerived, LaidIdentifierIsDerived, OneEntry, OneIdentifier, OneLaidEntry, OneLaidIdentifier, TextsAreLaid}
+-- Laws of what is printed: strings, floats, entries without form.
+pub use Rattle.kdl_value.specs.Spelled.{SpelledReadsBack, SpelledReadsBackBefore}
+pub use Rattle.kdl_value.specs.Floats.{DecimalsAreFloats}
+pub use Rattle.kdl_entry.specs.Formless.{FormlessReadsBack}
+-- Items: the lists of a place, of a node and of a document.
+pub use Rattle.kdl_items.specs.Items.{GapItems, Item, Place, PlaceItems, before_block, before_entry, behind_block}
+pub use Rattle.kdl_fmt.specs.Comments.{DocumentItems, EndItems, NodeItems}
+-- The texts that may stand in a place.
+pub use Rattle.kdl_text.specs.Trivia.{LineComment}
+pub use Rattle.kdl_entry.specs.Places.{EntryLeading}
+pub use Rattle.kdl_grammar.specs.Grammar.{Gap}
+pub use Rattle.kdl_grammar.specs.Places.{AfterChildren, BeforeChildren}
+pub use Rattle.kdl_fmt.specs.Kept.{without_bom}
+pub use Rattle.kdl_laws.specs.Leading.{DocumentLeading}
+-- Written items.
+pub use Rattle.kdl_items.specs.Written.{lines, on_line, tail}
+-- Keys, errors and their parts, on which `==` goes.
+pub use Rattle.kdl_laws.specs.Keys.{sought_anywhere}
+pub use Rattle.kdl_laws.specs.Errors.{Diagnostic, Failure, Refusal, diagnostic_tree, error_tree, failure_tree, memory, syntax'}

@@ -1,0 +1,20 @@
+//! Floats as they are read. A file of its own: no contract in the file of `KdlFloat` can cite specs that name the type.
+
+ghost use Rattle.kdl_text.specs.Numbers.{FloatText};
+ghost use Rattle.kdl_value.specs.Tree.{float_text_of};
+ghost use Rattle.std.specs.Prelude.{◌≡◌, string_bytes};
+ghost use Rattle.std.specs.Str.{chars};
+
+use super::KdlFloat;
+
+/// A float as it was read: its text, which is a float's.
+///
+/// ```
+/// let float = parsed_float(String::from_str(alloc, "1.5")?); // the caller knows that this is a float's text
+/// ```
+pub fn parsed_float(text: String) -> KdlFloat
+    requires { FloatText (chars (string_bytes text)) }
+    ensures { float_text_of result ≡ chars (string_bytes text) }
+{
+    KdlFloat { text }
+}
