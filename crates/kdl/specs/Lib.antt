@@ -14,6 +14,8 @@ pub mod Iterators
 pub mod Layout
 -- What look-ups in a node give, and what a node is once what they lent was written.
 pub mod Lookups
+-- What look-ups find in data.
+pub mod Said
 -- Which nodes, and which documents, `==` takes for one.
 pub mod Same
 -- The trees of nodes and documents in memory.

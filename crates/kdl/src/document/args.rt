@@ -2,12 +2,15 @@
 
 ghost use Rattle.kdl.specs.DocumentLookups.{arguments_of, dash_arguments, dash_arguments_of, node_named};
 ghost use Rattle.kdl.specs.Iterators.{child_nodes};
+ghost use Rattle.kdl.specs.Said.{said_args, said_dash_args};
+ghost use Rattle.kdl.specs.Tree.{document_says};
 ghost use Rattle.kdl_value.specs.Tree.{value_tree};
 ghost use Rattle.std.specs.Iterator.{UpTo, at_most};
 ghost use Rattle.std.specs.Iterator.SizeHint.{IsWithinCount};
 ghost use Rattle.std.specs.Map.Iter.{TakesFirst};
 ghost use Rattle.std.specs.Prelude.{◌≡◌, IfSome, IsSome, length};
 ghost use Rattle.std.specs.Slice.Iter.{iter_rest};
+ghost use Rattle.std.specs.Str.{chars};
 
 use crate::document::KdlDocument;
 use crate::document::lookup::is_named;
@@ -27,8 +30,10 @@ impl KdlDocument {
     ///     let number = port.as_integer(); // 80, then 443
     /// }
     /// ```
+    #[tactic(auto, using(crate::proofs::Finding::SaidLookups::got_args))]
     pub fn iter_args(&self, name: &str) -> ArgsIter<'_>
-        ensures { result ≡ arguments_of (node_named name.now self.now) }
+        ensures value { result ≡ arguments_of (node_named name.now self.now) }
+        ensures said { result ≡ said_args (chars name.now) (document_says self.now) }
     {
         match self.get(name) {
             Some(node) => args_iter(node.entries()),
@@ -45,8 +50,10 @@ impl KdlDocument {
     ///     let number = value.as_integer(); // 1, then 2
     /// }
     /// ```
+    #[tactic(auto, using(crate::proofs::Finding::SaidLookups::got_dash_args))]
     pub fn iter_dash_args(&self, name: &str) -> DashArgsIter<'_>
-        ensures { result ≡ dash_arguments_of (node_named name.now self.now) }
+        ensures value { result ≡ dash_arguments_of (node_named name.now self.now) }
+        ensures said { result ≡ said_dash_args (chars name.now) (document_says self.now) }
     {
         match self.get(name) {
             Some(node) => DashArgsIter {

@@ -2,6 +2,8 @@
 
 ghost use Rattle.kdl.specs.DocumentLookups.{argument_named, argument_place, first_argument, is_node_named, node_named, with_argument_named, with_node_named};
 ghost use Rattle.kdl.specs.Lookups.{held_value, value_of};
+ghost use Rattle.kdl.specs.Said.{said_arg, said_node};
+ghost use Rattle.kdl.specs.Tree.{document_says, node_says};
 ghost use Rattle.kdl.specs.contracts.document.KdlDocument.{the_row};
 ghost use Rattle.kdl.specs.contracts.node.KdlNode.{the_row as node_row};
 ghost use Rattle.kdl_value.specs.Tree.{value_tree};
@@ -9,6 +11,7 @@ ghost use Rattle.kdl_value.specs.contracts.value.KdlValue.{the_row as value_row}
 ghost use Rattle.std.specs.Borrow.{LendsIf, sem};
 ghost use Rattle.std.specs.List.{find};
 ghost use Rattle.std.specs.Prelude.{◌≡◌, ◌<◌, IfNone, IfSome, IsSome, None, Some, length, option_and_then, option_map, position, slice_get};
+ghost use Rattle.std.specs.Str.{chars};
 
 use crate::document::KdlDocument;
 use crate::node::KdlNode;
@@ -20,6 +23,13 @@ pub(crate) fn is_named(node: &KdlNode, name: &str) -> bool
     ensures { result ≡ is_node_named name.now node.now }
 {
     node.name().value() == name
+}
+
+/// The first node of that name.
+fn first_named<'a>(nodes: &'a [KdlNode], name: &str) -> Option<&'a KdlNode>
+    ensures { option_map (λ n. n.now) result ≡ find (is_node_named name.now) nodes.now }
+{
+    nodes.iter().find(|node| is_named(*node, name))
 }
 
 /// The place of the first node of that name.
@@ -55,10 +65,13 @@ impl KdlDocument {
     /// let document = KdlDocument::parse(alloc, "host 1\n\"host\" 2")?;
     /// let host = document.get("host"); // the first one
     /// ```
+    #[tactic(auto, using(crate::proofs::Finding::SaidLookups::got_node))]
     pub fn get(&self, name: &str) -> Option<&KdlNode>
-        ensures { option_map (λ n. n.now) result ≡ node_named name.now self.now }
+        ensures value { option_map (λ n. n.now) result ≡ node_named name.now self.now }
+        ensures said { option_map (λ n. node_says n.now) result ≡
+            said_node (chars name.now) (document_says self.now) }
     {
-        self.nodes.iter().find(|node| is_named(*node, name))
+        first_named(&self.nodes, name)
     }
 
     /// The first node of that name, to be changed in place. All else stays as it is.
@@ -86,9 +99,12 @@ impl KdlDocument {
     /// let document = KdlDocument::parse(alloc, "port udp=#true 8080 8081")?;
     /// let port = document.get_arg("port"); // the whole number 8080
     /// ```
+    #[tactic(auto, using(crate::proofs::Finding::SaidLookups::got_arg))]
     pub fn get_arg(&self, name: &str) -> Option<&KdlValue>
-        ensures { option_map (λ v. value_tree v.now) result ≡
+        ensures value { option_map (λ v. value_tree v.now) result ≡
             value_of (argument_named name.now self.now) }
+        ensures said { option_map (λ v. value_tree v.now) result ≡
+            said_arg (chars name.now) (document_says self.now) }
     {
         match self.get(name) {
             Some(node) => node.get(NodeKey::Index(0)),

@@ -1,10 +1,15 @@
 //! Look-ups of entries by the name of a property, or by the place of an argument.
 
 ghost use Rattle.kdl.specs.Lookups.{found_entry, found_value, held_value, key_place, property_place, property_value, with_found_entry, with_found_value, HasSameEntries, HasWritten};
+ghost use Rattle.kdl.specs.Said.{said_entry, said_property, said_value};
+ghost use Rattle.kdl.specs.Tree.{node_says};
+ghost use Rattle.kdl_entry.specs.Tree.{entry_data, entry_tree};
+ghost use Rattle.kdl_parts.specs.EntryLists.{sought};
 ghost use Rattle.kdl_parts.specs.declared.key.NodeKey.TheVariants.{Index as at_index};
 ghost use Rattle.kdl_value.specs.Tree.{or_null, value_tree};
 ghost use Rattle.std.specs.Borrow.{Lends, LendsIf, LendsSoOk, sem};
 ghost use Rattle.std.specs.Prelude.{◌≡◌, IfOk, IsNone, IsOk, IsSome, OnErr, Some, is_some, option_map};
+ghost use Rattle.std.specs.Str.{chars};
 
 use crate::node::KdlNode;
 use kdl_entry::{KdlEntry, KdlValue};
@@ -21,8 +26,11 @@ impl KdlNode {
     /// let node = KdlNode::parse(alloc, "a 1 b=2 3")?;
     /// let three = node.entry(NodeKey::from(1)); // the argument 3, the second one
     /// ```
+    #[tactic(auto, using(crate::proofs::Finding::SaidLookups::got_entry))]
     pub fn entry(&self, key: NodeKey) -> Option<&KdlEntry>
-        ensures { option_map (λ e. e.now) result ≡ found_entry key self.now }
+        ensures value { option_map (λ e. e.now) result ≡ found_entry key self.now }
+        ensures said { option_map (λ e. entry_data (entry_tree e.now)) result ≡
+            said_entry (sought key) (node_says self.now) }
     {
         lookup::entry(&self.entries, key)
     }
@@ -34,8 +42,11 @@ impl KdlNode {
     /// let node = KdlNode::parse(alloc, "a b=1 b=2")?;
     /// let two = node.get(NodeKey::from_text(alloc, "b")?); // 2: the last one counts
     /// ```
+    #[tactic(auto, using(crate::proofs::Finding::SaidLookups::got_value))]
     pub fn get(&self, key: NodeKey) -> Option<&KdlValue>
-        ensures { option_map (λ v. value_tree v.now) result ≡ found_value key self.now }
+        ensures value { option_map (λ v. value_tree v.now) result ≡ found_value key self.now }
+        ensures said { option_map (λ v. value_tree v.now) result ≡
+            said_value (sought key) (node_says self.now) }
     {
         lookup::value(&self.entries, key)
     }
@@ -47,8 +58,10 @@ impl KdlNode {
     /// let node = KdlNode::parse(alloc, "a b=1 c")?;
     /// let both = (node.has_property("b"), node.has_property("c")); // true and false: `c` is an argument
     /// ```
+    #[tactic(auto, using(crate::proofs::Finding::SaidLookups::got_property))]
     pub fn has_property(&self, name: &str) -> bool
-        ensures { result ≡ is_some (property_place name.now self.now) }
+        ensures value { result ≡ is_some (property_place name.now self.now) }
+        ensures said { result ≡ is_some (said_property (chars name.now) (node_says self.now)) }
     {
         lookup::has_property(&self.entries, name)
     }

@@ -1,0 +1,355 @@
+-- What look-ups find in memory is what the data say, and data that are the same are the same to each look-up.
+use Rattle.std.proofs.Common.{Bor, ◌≡◌, ℕ, zero, suc, Bool, true, false, List, [], ◌∷◌, map, Option, Some, None, is_none, is_some, option_and_then, option_map, slice_get, string_bytes, refl, ap, ◌∙◌, sym, cond}
+use Rattle.std.proofs.lemmas.Option.{none-some, slice_get-map}
+use Rattle.std.proofs.lemmas.Slice.Eq.{bytes_eq-Decides}
+use Rattle.std.proofs.lemmas.Str.{IsUtf8-string_bytes, encodes-chars}
+use lib.Utf8.{encodes}
+use Rattle.std.specs.Bool.{one_answer}
+use Rattle.std.specs.List.{cons_option, filter, filter_map, find, last_or}
+use Rattle.std.specs.Option.{option_map_or, option_or}
+use Rattle.std.specs.Prelude.{codes, unwrap_or}
+use Rattle.std.specs.Str.{IsUtf8, chars}
+use Rattle.kdl_text.specs.Chars.{Text}
+use Rattle.kdl_value.specs.Data.{Value}
+use Rattle.kdl_value.specs.Tree.{text_of, value_tree}
+use Rattle.kdl_entry.specs.Data as data'
+use Rattle.kdl_value.specs.declared.value.KdlValue.{KdlValue}
+use Rattle.kdl_entry.specs.Tree.{Identifier, identifier_tree, entry_tree, entry_data}
+use Rattle.kdl_entry.specs.declared.entry.KdlEntry.{KdlEntry}
+use Rattle.kdl_entry.specs.declared.identifier.KdlIdentifier.{KdlIdentifier}
+use Rattle.kdl_grammar.specs.Data as nodes'
+use Rattle.kdl_grammar.specs.Tree.{node_data, nodes_data, document_data, children_data, children_of}
+use Rattle.kdl_parts.specs.EntryLists.{has_name, is_argument, is_name, last_place, later, nth_place, nth_step, same_text, sought, there, arguments}
+use Rattle.kdl_parts.specs.declared.key.NodeKey.{NodeKey}
+use Rattle.kdl_parts.specs.declared.key.NodeKey.TheVariants.{Key, Index}
+use Rattle.kdl_parts.proofs.EntryLookups.{same_bytes}
+use Rattle.kdl.specs.DocumentLookups.{argument_named, argument_value, arguments_of, dash_arguments, dash_arguments_of, first_argument, is_node_named, node_named, nodes_of}
+use Rattle.kdl.specs.Iterators.{child_nodes, nodes_in}
+use Rattle.kdl.specs.Lookups.{entries_of, found_entry, found_value, property_place, property_value, value_of}
+use Rattle.kdl.specs.Said.{is_argument_of, is_node_of, is_property_of, last_property, nodes_inside, nth_argument, said_arg, said_args, said_argument, said_arguments, said_children, said_dash_args, said_dashes, said_entries, said_entry, said_name, said_node, said_nodes, said_property, said_type, said_value}
+use Rattle.kdl.specs.Tree.{document_says, document_tree, node_says, nodes_tree}
+use Rattle.kdl.specs.declared.node.KdlNode.{KdlNode}
+use Rattle.kdl.specs.declared.document.KdlDocument.{KdlDocument}
+use Rattle.kdl.specs.declared.document.KdlDocument.TheViews.{out-KdlNode}
+use Rattle.kdl.proofs.Trees.{document_tree_out, node_tree_out}
+
+-- what stands at the last place is the last of those that pass
+there_none : {A : Type 0} (p : A → Bool) (xs : List A) → there (last_place p xs) xs ≡ None → last_place p xs ≡ None
+there_none p [] h = refl
+there_none {A = A} p (x ∷ xs) h = go (p x) (last_place p xs) (there_none p xs) h
+  where
+    go : (b : Bool) (o : Option ℕ) → (there o xs ≡ None → o ≡ None) → there (later o b) (x ∷ xs) ≡ None → later o b ≡ None
+    go true None k e = absurd (none-some _ (sym e))
+    go false None k e = refl
+    go b (Some i) k e = absurd (none-some _ (sym (k e)))
+
+last_is : {A : Type 0} (p : A → Bool) (xs : List A) (o : Option A) → last_or o (filter p xs) ≡ option_or (there (last_place p xs) xs) o
+last_is p [] o = refl
+last_is {A = A} p (x ∷ xs) o = go (p x) (last_place p xs) (there_none p xs) (last_is p xs)
+  where
+    got : (i : ℕ) (r s : Option A) (y : Option A) → (y ≡ None → Some i ≡ None) → option_or y r ≡ option_or y s
+    got i r s None k = absurd (none-some _ (sym (k refl)))
+    got i r s (Some y) k = refl
+
+    go : (b : Bool) (l : Option ℕ) → (there l xs ≡ None → l ≡ None) → ((r : Option A) → last_or r (filter p xs) ≡ option_or (there l xs) r) → last_or o (cond b (x ∷ filter p xs) (filter p xs)) ≡ option_or (there (later l b) (x ∷ xs)) o
+    go true None k h = h (Some x)
+    go true (Some i) k h = h (Some x) ∙ got i (Some x) o (slice_get xs i) k
+    go false None k h = h o
+    go false (Some i) k h = h o
+
+or_none : {A : Type 0} (o : Option A) → option_or o None ≡ o
+or_none None = refl
+or_none (Some x) = refl
+
+last_found : {A : Type 0} (p : A → Bool) (xs : List A) → there (last_place p xs) xs ≡ last_or None (filter p xs)
+last_found p xs = sym (or_none (there (last_place p xs) xs)) ∙ sym (last_is p xs None)
+
+-- and what stands at the n-th place is the n-th of them
+there_behind : {A : Type 0} (x : A) (xs : List A) (o : Option ℕ) → there (option_map suc o) (x ∷ xs) ≡ there o xs
+there_behind x xs None = refl
+there_behind x xs (Some i) = refl
+
+nth_found : {A : Type 0} (p : A → Bool) (xs : List A) (n : ℕ) → there (nth_place p xs n) xs ≡ slice_get (filter p xs) n
+nth_found p [] n = refl
+nth_found {A = A} p (x ∷ xs) n = go (λ k. nth_found p xs k) (p x) n
+  where
+    go : ((k : ℕ) → there (nth_place p xs k) xs ≡ slice_get (filter p xs) k) → (b : Bool) (k : ℕ) → there (nth_step b k (nth_place p xs)) (x ∷ xs) ≡ slice_get (cond b (x ∷ filter p xs) (filter p xs)) k
+    go h true zero = refl
+    go h true (suc k) = there_behind x xs (nth_place p xs k) ∙ h k
+    go h false k = there_behind x xs (nth_place p xs k) ∙ h k
+
+-- what is found in a list is found in the list of what its elements are mapped to
+last_mapped : {A B : Type 0} (f : A → B) (xs : List A) (o : Option A) → option_map f (last_or o xs) ≡ last_or (option_map f o) (map f xs)
+last_mapped f [] o = refl
+last_mapped f (x ∷ xs) o = last_mapped f xs (Some x)
+
+find_mapped : {A B : Type 0} (f : A → B) (p : A → Bool) (q : B → Bool) → ((x : A) → p x ≡ q (f x)) → (xs : List A) → option_map f (find p xs) ≡ find q (map f xs)
+find_mapped f p q h [] = refl
+find_mapped {A = A} {B = B} f p q h (x ∷ xs) = go (p x) (q (f x)) (h x) (find_mapped f p q h xs)
+  where
+    go : (b c : Bool) → b ≡ c → option_map f (find p xs) ≡ find q (map f xs) → option_map f (cond b (Some x) (find p xs)) ≡ cond c (Some (f x)) (find q (map f xs))
+    go true true e k = refl
+    go true false e k = cc
+    go false true e k = cc
+    go false false e k = k
+
+filter_mapped : {A B : Type 0} (f : A → B) (p : A → Bool) (q : B → Bool) → ((x : A) → p x ≡ q (f x)) → (xs : List A) → map f (filter p xs) ≡ filter q (map f xs)
+filter_mapped f p q h [] = refl
+filter_mapped {A = A} {B = B} f p q h (x ∷ xs) = go (p x) (q (f x)) (h x) (filter_mapped f p q h xs)
+  where
+    go : (b c : Bool) → b ≡ c → map f (filter p xs) ≡ filter q (map f xs) → map f (cond b (x ∷ filter p xs) (filter p xs)) ≡ cond c (f x ∷ filter q (map f xs)) (filter q (map f xs))
+    go true true e k = ap (λ l. f x ∷ l) k
+    go true false e k = cc
+    go false true e k = cc
+    go false false e k = k
+
+values_mapped : {A B C : Type 0} (f : A → B) (g : A → C) (h : B → Option C) → ((x : A) → Some (g x) ≡ h (f x)) → (xs : List A) → map g xs ≡ filter_map h (map f xs)
+values_mapped f g h e [] = refl
+values_mapped f g h e (x ∷ xs) = ap (λ l. g x ∷ l) (values_mapped f g h e xs) ∙ ap (λ o. cons_option o (filter_map h (map f xs))) (e x)
+
+given_mapped : {A B C : Type 0} (f : A → B) (g : A → Option C) (h : B → Option C) → ((x : A) → g x ≡ h (f x)) → (xs : List A) → filter_map g xs ≡ filter_map h (map f xs)
+given_mapped f g h e [] = refl
+given_mapped f g h e (x ∷ xs) = ap (λ o. cons_option o (filter_map g xs)) (e x) ∙ ap (cons_option (h (f x))) (given_mapped f g h e xs)
+
+map_twice : {A B C : Type 0} (f : A → B) (g : B → C) (xs : List A) → map (λ x. g (f x)) xs ≡ map g (map f xs)
+map_twice f g [] = refl
+map_twice f g (x ∷ xs) = ap (λ l. g (f x) ∷ l) (map_twice f g xs)
+
+value_mapped : {A B C : Type 0} (f : A → B) (g : B → C) (o : Option A) → option_map (λ x. g (f x)) o ≡ option_map g (option_map f o)
+value_mapped f g None = refl
+value_mapped f g (Some x) = refl
+
+some_mapped : {A B : Type 0} (f : A → B) (o : Option A) → is_some o ≡ is_some (option_map f o)
+some_mapped f None = refl
+some_mapped f (Some x) = refl
+
+-- a test of names by their bytes s is the test q of their characters
+pub record Tests (s : List ℕ) (q : Text → Bool) : Type 0 where
+  pub same : (b : List ℕ) → IsUtf8 b → same_text b s ≡ q (chars b)
+
+-- texts of the same characters, and no others, have the same bytes
+pub same_chars : (s : List ℕ) → IsUtf8 s → Tests s (λ t. same_text t (chars s))
+same_chars s v = record {
+  same = λ b u.
+    let texts = bytes_eq-Decides (chars b) (chars s) in
+    one_answer _ _ (bytes_eq-Decides b s) (λ t. same_bytes b s u v (texts.0 t), λ e. texts.1 (ap chars e));
+}
+
+-- whatever bytes the test is of, it is one of characters
+pub same_encoded : (s : List ℕ) → Tests s (λ t. same_text (encodes t) s)
+same_encoded s = record { same = λ b u. ap (λ t. same_text t s) (sym (encodes-chars b u)) }
+
+-- what an entry in memory says
+abbrev pub entry_says : KdlEntry → data'.Entry
+entry_says e = entry_data (entry_tree e)
+
+abbrev value_in : data'.Entry → Value
+value_in e = e.value
+
+abbrev is_tested : (Text → Bool) → data'.Entry → Bool
+is_tested q e = option_map_or q e.key false
+
+has_tested_name : (s : List ℕ) (q : Text → Bool) → Tests s q → (e : KdlEntry) → has_name s e ≡ is_tested q (entry_says e)
+has_tested_name s q t e = go e.name
+  where
+    go : (o : Option KdlIdentifier) → is_name s o ≡ option_map_or q (option_map (λ (i : Identifier). i.value) (option_map identifier_tree o)) false
+    go None = refl
+    go (Some i) = t.same (string_bytes i.value) (IsUtf8-string_bytes i.value)
+
+has_said_none : (e : KdlEntry) → is_argument e ≡ is_argument_of (entry_says e)
+has_said_none e = go e.name
+  where
+    go : (o : Option KdlIdentifier) → is_none o ≡ is_none (option_map (λ (i : Identifier). i.value) (option_map identifier_tree o))
+    go None = refl
+    go (Some i) = refl
+
+-- the entries of a node say what the node says of them
+pub entries_said : (n : KdlNode) → map entry_says (entries_of n) ≡ said_entries (node_says n)
+entries_said n = map_twice entry_tree entry_data (entries_of n) ∙ ap (λ t. said_entries (node_data t)) (sym (node_tree_out n))
+
+-- its name, its type and its children
+pub name_said : (n : KdlNode) → text_of (out-KdlNode n).name.value ≡ said_name (node_says n)
+name_said n = ap (λ t. said_name (node_data t)) (sym (node_tree_out n))
+
+pub type_said : (n : KdlNode) → option_map (λ (i : Identifier). i.value) (option_map identifier_tree (out-KdlNode n).ty) ≡ said_type (node_says n)
+type_said n = ap (λ t. said_type (node_data t)) (sym (node_tree_out n))
+
+pub children_said : (n : KdlNode) → option_map document_says (out-KdlNode n).children ≡ said_children (node_says n)
+children_said n = go (out-KdlNode n).children ∙ ap (λ t. said_children (node_data t)) (sym (node_tree_out n))
+  where
+    go : (o : Option KdlDocument) → option_map document_says o ≡ nodes_inside (children_data (children_of (option_map document_tree o)))
+    go None = refl
+    go (Some d) = refl
+
+-- the last property that the test finds, and the argument at a place
+property_tested : (s : List ℕ) (q : Text → Bool) → Tests s q → (n : KdlNode) → option_map entry_says (there (property_place s n) (entries_of n)) ≡ last_or None (filter (is_tested q) (said_entries (node_says n)))
+property_tested s q t n =
+    ap (option_map entry_says) (last_found (has_name s) (entries_of n))
+    ∙ last_mapped entry_says (filter (has_name s) (entries_of n)) None
+    ∙ ap (last_or None) (filter_mapped entry_says (has_name s) (is_tested q) (has_tested_name s q t) (entries_of n) ∙ ap (filter (is_tested q)) (entries_said n))
+
+pub last_property_said : (s : List ℕ) (n : KdlNode) → IsUtf8 s → option_map entry_says (there (property_place s n) (entries_of n)) ≡ last_property (chars s) (node_says n)
+last_property_said s n u = property_tested s (λ t. same_text t (chars s)) (same_chars s u) n
+
+pub nth_argument_said : (i : ℕ) (n : KdlNode) → option_map entry_says (there (nth_place is_argument (entries_of n) i) (entries_of n)) ≡ nth_argument i (node_says n)
+nth_argument_said i n =
+    ap (option_map entry_says) (nth_found is_argument (entries_of n) i)
+    ∙ sym (slice_get-map entry_says (filter is_argument (entries_of n)) i)
+    ∙ ap (λ es. slice_get es i) (filter_mapped entry_says is_argument is_argument_of has_said_none (entries_of n) ∙ ap (filter is_argument_of) (entries_said n))
+
+-- what a key finds in a node
+pub entry_said : (key : NodeKey) (n : KdlNode) → option_map entry_says (found_entry key n) ≡ said_entry (sought key) (node_says n)
+entry_said (Key k) n = last_property_said (string_bytes k.value) n (IsUtf8-string_bytes k.value)
+entry_said (Index i) n = nth_argument_said i n
+
+value_of_says : (o : Option KdlEntry) → value_of o ≡ option_map value_in (option_map entry_says o)
+value_of_says o = value_mapped entry_says value_in o
+
+pub value_said : (key : NodeKey) (n : KdlNode) → found_value key n ≡ said_value (sought key) (node_says n)
+value_said key n = value_of_says (found_entry key n) ∙ ap (option_map value_in) (entry_said key n)
+
+pub property_said : (s : List ℕ) (n : KdlNode) → IsUtf8 s → property_value s n ≡ said_property (chars s) (node_says n)
+property_said s n u = value_of_says (there (property_place s n) (entries_of n)) ∙ ap (option_map value_in) (last_property_said s n u)
+
+pub argument_said : (i : ℕ) (n : KdlNode) → found_value (Index i) n ≡ said_argument i (node_says n)
+argument_said i n = value_said (Index i) n
+
+-- whether there is a property of that name
+some_there : {A : Type 0} (p : A → Bool) (xs : List A) → is_some (last_place p xs) ≡ is_some (there (last_place p xs) xs)
+some_there {A = A} p xs = go (last_place p xs) (there_none p xs)
+  where
+    told : (i : ℕ) (o : Option A) → (o ≡ None → Some i ≡ None) → true ≡ is_some o
+    told i None k = absurd (none-some _ (sym (k refl)))
+    told i (Some y) k = refl
+
+    go : (o : Option ℕ) → (there o xs ≡ None → o ≡ None) → is_some o ≡ is_some (there o xs)
+    go None k = refl
+    go (Some i) k = told i (slice_get xs i) k
+
+pub has_said : (s : List ℕ) (n : KdlNode) → IsUtf8 s → is_some (property_place s n) ≡ is_some (said_property (chars s) (node_says n))
+has_said s n u =
+    some_there (has_name s) (entries_of n) ∙ some_mapped (λ e. value_tree e.value) (there (property_place s n) (entries_of n)) ∙ ap is_some (property_said s n u)
+
+-- the values of its arguments
+pub arguments_said : (n : KdlNode) → arguments (entries_of n) ≡ said_arguments (node_says n)
+arguments_said n =
+    map_twice entry_says value_in (filter is_argument (entries_of n))
+    ∙ ap (map value_in) (filter_mapped entry_says is_argument is_argument_of has_said_none (entries_of n) ∙ ap (filter is_argument_of) (entries_said n))
+
+-- the nodes of a document, and in a node's block
+listed : (ns : List KdlNode) → map node_says ns ≡ said_nodes (nodes_data (nodes_tree ns))
+listed [] = refl
+listed (n ∷ ns) = ap (λ l. node_says n ∷ l) (listed ns)
+
+pub nodes_said : (d : KdlDocument) → map node_says (nodes_of d) ≡ said_nodes (document_says d)
+nodes_said d = listed (nodes_of d) ∙ ap (λ t. said_nodes (document_data t)) (sym (document_tree_out d))
+
+abbrev nodes_or_none : Option nodes'.Nodes → List nodes'.Node
+nodes_or_none o = unwrap_or (option_map said_nodes o) []
+
+pub child_nodes_said : (n : KdlNode) → map node_says (child_nodes n) ≡ unwrap_or (option_map said_nodes (said_children (node_says n))) []
+child_nodes_said n = go (out-KdlNode n).children ∙ ap nodes_or_none (children_said n)
+  where
+    go : (o : Option KdlDocument) → map node_says (nodes_in o) ≡ nodes_or_none (option_map document_says o)
+    go None = refl
+    go (Some d) = nodes_said d
+
+named_tested : (s : List ℕ) (q : Text → Bool) → Tests s q → (n : KdlNode) → is_node_named s n ≡ q (said_name (node_says n))
+named_tested s q t n = t.same (string_bytes (out-KdlNode n).name.value) (IsUtf8-string_bytes (out-KdlNode n).name.value) ∙ ap q (name_said n)
+
+-- the first node that the test finds
+node_tested : (s : List ℕ) (q : Text → Bool) → Tests s q → (d : KdlDocument) → option_map node_says (node_named s d) ≡ find (λ n. q (said_name n)) (said_nodes (document_says d))
+node_tested s q t d = find_mapped node_says (is_node_named s) (λ n. q (said_name n)) (named_tested s q t) (nodes_of d) ∙ ap (find (λ n. q (said_name n))) (nodes_said d)
+
+pub node_said : (s : List ℕ) (d : KdlDocument) → IsUtf8 s → option_map node_says (node_named s d) ≡ said_node (chars s) (document_says d)
+node_said s d u = node_tested s (λ t. same_text t (chars s)) (same_chars s u) d
+
+-- its first argument, all its arguments, and those of the nodes named `-` in its block
+argument_value_said : (n : KdlNode) → argument_value n ≡ said_argument 0 (node_says n)
+argument_value_said n = argument_said 0 n
+
+abbrev said_in : Option nodes'.Node → Option Value
+said_in o = option_and_then (said_argument 0) o
+
+argument_in : (o : Option KdlNode) → value_of (option_and_then first_argument o) ≡ said_in (option_map node_says o)
+argument_in None = refl
+argument_in (Some n) = argument_value_said n
+
+abbrev all_in : Option nodes'.Node → List Value
+all_in o = unwrap_or (option_map said_arguments o) []
+
+arguments_in : (o : Option KdlNode) → arguments_of o ≡ all_in (option_map node_says o)
+arguments_in None = refl
+arguments_in (Some n) = arguments_said n
+
+dash : Tests (codes "-") (λ t. same_text t (codes "-"))
+unfolding lib.Utf8.encode chars
+dash = same_chars (codes "-") (codes "-", (refl, refl))
+
+pub dashes_said : (n : KdlNode) → dash_arguments (child_nodes n) ≡ said_dashes (node_says n)
+dashes_said n =
+    given_mapped node_says argument_value (said_argument 0) argument_value_said (filter (is_node_named (codes "-")) (child_nodes n))
+    ∙ ap (filter_map (said_argument 0))
+      (filter_mapped node_says (is_node_named (codes "-")) (is_node_of (codes "-")) (named_tested (codes "-") (λ t. same_text t (codes "-")) dash) (child_nodes n) ∙ ap (filter (is_node_of (codes "-"))) (child_nodes_said n))
+
+abbrev dashes_all : Option nodes'.Node → List Value
+dashes_all o = unwrap_or (option_map said_dashes o) []
+
+dashes_in : (o : Option KdlNode) → dash_arguments_of o ≡ dashes_all (option_map node_says o)
+dashes_in None = refl
+dashes_in (Some n) = dashes_said n
+
+pub arg_said : (s : List ℕ) (d : KdlDocument) → IsUtf8 s → value_of (argument_named s d) ≡ said_arg (chars s) (document_says d)
+arg_said s d u = argument_in (node_named s d) ∙ ap said_in (node_said s d u)
+
+pub args_said : (s : List ℕ) (d : KdlDocument) → IsUtf8 s → arguments_of (node_named s d) ≡ said_args (chars s) (document_says d)
+args_said s d u = arguments_in (node_named s d) ∙ ap all_in (node_said s d u)
+
+pub dash_args_said : (s : List ℕ) (d : KdlDocument) → IsUtf8 s → dash_arguments_of (node_named s d) ≡ said_dash_args (chars s) (document_says d)
+dash_args_said s d u = dashes_in (node_named s d) ∙ ap dashes_all (node_said s d u)
+
+-- so documents, and nodes, that say the same are the same to each look-up, whatever bytes it asks for
+pub same_node : (s : List ℕ) (d e : KdlDocument) → document_says d ≡ document_says e → option_map node_says (node_named s d) ≡ option_map node_says (node_named s e)
+same_node s d e h =
+    let t = same_encoded s in
+    node_tested s _ t d ∙ ap (λ x. find (λ n. same_text (encodes (said_name n)) s) (said_nodes x)) h ∙ sym (node_tested s _ t e)
+
+pub same_argument : (s : List ℕ) (d e : KdlDocument) → document_says d ≡ document_says e → value_of (argument_named s d) ≡ value_of (argument_named s e)
+same_argument s d e h = argument_in (node_named s d) ∙ ap said_in (same_node s d e h) ∙ sym (argument_in (node_named s e))
+
+pub same_arguments : (s : List ℕ) (d e : KdlDocument) → document_says d ≡ document_says e → arguments_of (node_named s d) ≡ arguments_of (node_named s e)
+same_arguments s d e h = arguments_in (node_named s d) ∙ ap all_in (same_node s d e h) ∙ sym (arguments_in (node_named s e))
+
+pub same_dash_arguments : (s : List ℕ) (d e : KdlDocument) → document_says d ≡ document_says e → dash_arguments_of (node_named s d) ≡ dash_arguments_of (node_named s e)
+same_dash_arguments s d e h = dashes_in (node_named s d) ∙ ap dashes_all (same_node s d e h) ∙ sym (dashes_in (node_named s e))
+
+pub same_value : (key : NodeKey) (n m : KdlNode) → node_says n ≡ node_says m → found_value key n ≡ found_value key m
+same_value key n m h = value_said key n ∙ ap (said_value (sought key)) h ∙ sym (value_said key m)
+
+pub same_property : (s : List ℕ) (n m : KdlNode) → node_says n ≡ node_says m → property_value s n ≡ property_value s m
+same_property s n m h =
+    let t = same_encoded s in
+    let said = λ (k : KdlNode). value_of_says (there (property_place s k) (entries_of k)) ∙ ap (option_map value_in) (property_tested s _ t k) in
+    said n ∙ ap (λ x. option_map value_in (last_or None (filter (is_tested (λ t. same_text (encodes t) s)) (said_entries x)))) h ∙ sym (said m)
+
+-- the same of what a call gives
+pub got_node : (s : List ℕ) (d : KdlDocument) (r : Option (Bor KdlNode)) → IsUtf8 s → option_map (λ n. n.now) r ≡ node_named s d → option_map (λ n. node_says n.now) r ≡ said_node (chars s) (document_says d)
+got_node s d r u h = value_mapped (λ n. n.now) node_says r ∙ ap (option_map node_says) h ∙ node_said s d u
+
+pub got_arg : (s : List ℕ) (d : KdlDocument) (r : Option (Bor KdlValue)) → IsUtf8 s → option_map (λ v. value_tree v.now) r ≡ value_of (argument_named s d) → option_map (λ v. value_tree v.now) r ≡ said_arg (chars s) (document_says d)
+got_arg s d r u h = h ∙ arg_said s d u
+
+pub got_args : (s : List ℕ) (d : KdlDocument) (r : List Value) → IsUtf8 s → r ≡ arguments_of (node_named s d) → r ≡ said_args (chars s) (document_says d)
+got_args s d r u h = h ∙ args_said s d u
+
+pub got_dash_args : (s : List ℕ) (d : KdlDocument) (r : List Value) → IsUtf8 s → r ≡ dash_arguments_of (node_named s d) → r ≡ said_dash_args (chars s) (document_says d)
+got_dash_args s d r u h = h ∙ dash_args_said s d u
+
+pub got_entry : (key : NodeKey) (n : KdlNode) (r : Option (Bor KdlEntry)) → option_map (λ e. e.now) r ≡ found_entry key n → option_map (λ e. entry_data (entry_tree e.now)) r ≡ said_entry (sought key) (node_says n)
+got_entry key n r h = value_mapped (λ e. e.now) entry_says r ∙ ap (option_map entry_says) h ∙ entry_said key n
+
+pub got_value : (key : NodeKey) (n : KdlNode) (r : Option (Bor KdlValue)) → option_map (λ v. value_tree v.now) r ≡ found_value key n → option_map (λ v. value_tree v.now) r ≡ said_value (sought key) (node_says n)
+got_value key n r h = h ∙ value_said key n
+
+pub got_property : (s : List ℕ) (n : KdlNode) (b : Bool) → IsUtf8 s → b ≡ is_some (property_place s n) → b ≡ is_some (said_property (chars s) (node_says n))
+got_property s n b u h = h ∙ has_said s n u
