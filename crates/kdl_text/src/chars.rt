@@ -468,6 +468,45 @@ impl<'a> Model for Segment<'a> {
     ghost view = { λ s. chars s.text.now };
 }
 
+/// The characters of a segment, all of which are counted. Each is taken once.
+#[derive(Drop)]
+pub struct Characters<'a> {
+    text: &'a str,
+}
+
+impl<'a> Model for Characters<'a> {
+    ghost use Rattle.kdl_text.specs.Chars.{Text};
+    ghost use Rattle.std.specs.Str.{chars};
+
+    ghost Value = { Text };
+
+    ghost view = { λ s. chars s.text.now };
+}
+
+impl<'a> Characters<'a> {
+    /// The next character, if there is one.
+    #[inline]
+    pub fn next(&mut self) -> Option<char>
+        ensures { MatchOption result (self.old ≡ []) (λ c. self.old ≡ c ∷ self.new) }
+    {
+        match split_first(self.text) {
+            Some((c, rest)) => {
+                self.text = rest;
+                Some(c)
+            }
+            None => None,
+        }
+    }
+
+    /// The bytes of the characters that are left.
+    #[inline]
+    pub fn byte_len(&self) -> usize
+        ensures { result ≡ bytes self.now }
+    {
+        byte_len(self.text)
+    }
+}
+
 /// A piece of a text, whose slice was counted. It is copied, or compared as a whole.
 #[derive(Drop)]
 pub struct Piece<'a> {
@@ -721,6 +760,26 @@ impl<'a> Cursor<'a> {
         let text = cut(from.rest, to.rest);
         self.steps.raise(text.len() as u64);
         Piece { text }
+    }
+
+    /// The segment as a slice. A step for each of its bytes.
+    #[inline]
+    pub fn slice_segment(&mut self, segment: &Segment<'a>) -> Piece<'a>
+        ensures result { result ≡ segment.now }
+        ensures moved { self.new ≡ sliced segment.now self.old }
+    {
+        self.steps.raise(byte_len(segment.text) as u64);
+        Piece { text: segment.text }
+    }
+
+    /// The characters of the segment. A step for each of its bytes.
+    #[inline]
+    pub fn characters(&mut self, segment: &Segment<'a>) -> Characters<'a>
+        ensures result { result ≡ segment.now }
+        ensures moved { self.new ≡ sliced segment.now self.old }
+    {
+        self.steps.raise(byte_len(segment.text) as u64);
+        Characters { text: segment.text }
     }
 
     /// The text from here to its end. A step for each of its bytes.

@@ -2,7 +2,7 @@
 
 ghost use Rattle.kdl_text.specs.Chars.{starts};
 ghost use Rattle.kdl_text.specs.Chars as class;
-ghost use Rattle.kdl_text.specs.Internal.Here.{Counted, Returned, Stayed};
+ghost use Rattle.kdl_text.specs.Internal.Here.{Returned, Stayed};
 ghost use Rattle.kdl_text.specs.Internal.NumberReading.{radix_of, IsBase, LooksBasePrefix, Counts, IsDigit, ReadsDigits, ReadsInteger, ReadsFront, IsFault, IsPartFault, IsPowerFault, IsNumberFault, ReadsFraction, ReadsExponent, ReadsPart, ReadsNumber, ReadsKeyword, AteExponentLetter, WordOf, is_of_number};
 ghost use Rattle.kdl_text.specs.Numbers as spec;
 ghost use Rattle.kdl_text.specs.Numbers.{Sign, BasePrefix, Decimal, FloatKeyword, FloatText};
@@ -12,7 +12,9 @@ ghost use Rattle.std.specs.Prelude.{◌≡◌, ℕ, ◌+◌, ◌*◌, ◌<◌, �
 ghost use Rattle.std.specs.List.{list_all};
 ghost use Rattle.std.specs.Str.{chars};
 
-use crate::chars::{Class, Cursor, Piece, Segment, Steps, is_digit, is_identifier_char, is_sign};
+use crate::chars::{
+    Characters, Class, Cursor, Piece, Segment, Steps, is_digit, is_identifier_char, is_sign,
+};
 use std::alloc::{AllocError, Global};
 
 /// The base in which a whole number is written.
@@ -407,14 +409,11 @@ fn decimal_part(cursor: &mut Cursor) -> Result<(), NumberFault>
     Ok(())
 }
 
-/// Whether no `_` comes from here to the end of the text. Goes past the first that does.
-fn has_no_underscore(cursor: &mut Cursor) -> bool
-    ensures result { result ≡ list_all (λ c. not (c == 95)) cursor.old.rest }
-    ensures moves { Moves cursor.old cursor.new }
-    ensures costs { Costs 1 1 cursor.old cursor.new }
-    ensures cost { result ≡ false → Costs 1 0 cursor.old cursor.new }
+/// Whether no character is `_`.
+fn has_no_underscore(mut characters: Characters) -> bool
+    ensures { result ≡ list_all (λ c. not (c == 95)) characters.entry }
 {
-    'chars: while let Some(c) = cursor.take() {
+    'chars: while let Some(c) = characters.next() {
         if c == '_' {
             return false;
         }
@@ -422,36 +421,18 @@ fn has_no_underscore(cursor: &mut Cursor) -> bool
     true
 }
 
-/// Appends the text from here to its end, but its `_`.
-fn push_plain(out: &mut String, cursor: &mut Cursor) -> Result<(), AllocError>
-    ensures pushed { IfOk result (λ _. chars (string_bytes out.new)
-        ≡ chars (string_bytes out.old) ++ spec.plain cursor.old.rest) }
-    ensures moves { Moves cursor.old cursor.new }
-    ensures costs { Costs 1 1 cursor.old cursor.new }
+/// Appends the characters, but no `_`.
+fn push_plain(out: &mut String, mut characters: Characters) -> Result<(), AllocError>
+    ensures { IfOk result (λ _. chars (string_bytes out.new)
+        ≡ chars (string_bytes out.old) ++ spec.plain characters.entry) }
 {
-    'chars: while let Some(c) = cursor.take() {
+    'chars: while let Some(c) = characters.next() {
         if c == '_' {
             continue 'chars;
         }
         out.push(c)?;
     }
     Ok(())
-}
-
-/// A copy of the text from here to its end, without its `_`.
-fn plain_rest(alloc: Global, cursor: &mut Cursor) -> Result<String, AllocError>
-    ensures plain { IfOk result (λ s. chars (string_bytes s) ≡ spec.plain cursor.old.rest) }
-    ensures counted { Counted (2 * bytes cursor.old.rest + 1) cursor.old cursor.new }
-{
-    let start = cursor.checkpoint();
-    let is_plain = has_no_underscore(cursor);
-    cursor.go_to(&start);
-    if is_plain {
-        return cursor.slice_rest().to_string(alloc);
-    }
-    let mut text = String::new(alloc);
-    push_plain(&mut text, cursor)?;
-    Ok(text)
 }
 
 /// A copy of the segment without its `_`.
@@ -463,10 +444,13 @@ fn without_underscores<'a>(
     ensures plain { IfOk result (λ s. chars (string_bytes s) ≡ spec.plain segment.now) }
     ensures returned { Returned (2 * bytes segment.now + 1) cursor.old cursor.new }
 {
-    let place = cursor.enter(segment);
-    let text = plain_rest(alloc, cursor);
-    cursor.go_to(&place);
-    text
+    if has_no_underscore(cursor.characters(segment)) {
+        return cursor.slice_segment(segment).to_string(alloc);
+    }
+    let characters = cursor.characters(segment);
+    let mut text = String::with_capacity(alloc, characters.byte_len())?;
+    push_plain(&mut text, characters)?;
+    Ok(text)
 }
 
 /// The number with its sign, where it is one of `i128`.
@@ -557,6 +541,7 @@ fn is_plain_decimal(text: &str) -> bool
     ensures { IsTrue result ↔ Decimal (chars text.now) [] (chars text.now) }
 {
     let mut cursor = Cursor::new(text, Steps::new());
+    let start = cursor.checkpoint();
     let Ok(number) = read_front(&mut cursor) else {
         return false;
     };
@@ -566,7 +551,8 @@ fn is_plain_decimal(text: &str) -> bool
     let Ok(()) = decimal_part(&mut cursor) else {
         return false;
     };
-    cursor.look().is_none() && has_no_underscore(&mut Cursor::new(text, Steps::new()))
+    let segment = start.up_to(&cursor.checkpoint());
+    cursor.look().is_none() && has_no_underscore(cursor.characters(&segment))
 }
 
 /// Whether the keyword is that of a number.

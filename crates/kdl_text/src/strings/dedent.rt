@@ -14,7 +14,7 @@ ghost use Rattle.std.specs.Prelude.{◌≡◌, ◌++◌, ◌∷◌, [], ◌+◌,
 ghost use Rattle.std.specs.List.{list_all};
 ghost use Rattle.std.specs.Str.{chars};
 
-use crate::chars::{Class, Cursor, Segment, is_space};
+use crate::chars::{Characters, Class, Cursor, Segment, is_space};
 use crate::strings::{StringFailure, StringFault};
 use std::alloc::{AllocError, Global};
 
@@ -54,31 +54,28 @@ pub fn push_unit(units: &mut Vec<LineUnit>, unit: LineUnit) -> Result<(), AllocE
     Ok(())
 }
 
-/// Appends the characters from here to the end of the text, each of which stands for itself.
-fn push_chars(units: &mut Vec<LineUnit>, cursor: &mut Cursor) -> Result<(), AllocError>
-    ensures pushed { IfOk result (λ _. units.new.items ≡ units.old.items ++ literals cursor.old.rest) }
-    ensures moves { Moves cursor.old cursor.new }
-    ensures costs { Costs 1 1 cursor.old cursor.new }
+/// Appends a literal unit for each character.
+fn push_chars(units: &mut Vec<LineUnit>, mut characters: Characters) -> Result<(), AllocError>
+    ensures { IfOk result (λ _. units.new.items ≡ units.old.items ++ literals characters.entry) }
 {
-    'chars: while let Some(c) = cursor.take() {
+    units.reserve(characters.byte_len())?;
+    'chars: while let Some(c) = characters.next() {
         push_unit(units, LineUnit::Literal(c))?;
     }
     Ok(())
 }
 
-/// Appends the characters of the segment, each of which stands for itself.
+/// Appends a literal unit for each character of the segment.
 pub fn push_literals<'a>(
     units: &mut Vec<LineUnit>,
     segment: &Segment<'a>,
     cursor: &mut Cursor<'a>,
 ) -> Result<(), AllocError>
-    ensures pushed { IfOk result (λ _. units.new.items ≡ units.old.items ++ literals segment.now) }
+    ensures pushed { IfOk result
+        (λ _. units.new.items ≡ units.old.items ++ literals segment.now) }
     ensures returned { Returned (bytes segment.now + 1) cursor.old cursor.new }
 {
-    let place = cursor.enter(segment);
-    let pushed = push_chars(units, cursor);
-    cursor.go_to(&place);
-    pushed
+    push_chars(units, cursor.characters(segment))
 }
 
 fn is_space_unit(unit: LineUnit) -> bool

@@ -1,13 +1,17 @@
-use Rattle.std.proofs.Common.{ap, arith}
-use Rattle.kdl_text.specs.Spans.{bytes}
-use Rattle.kdl_text.proofs.Looking.Returns.{comes_back}
+use Rattle.std.proofs.Common.{◌++◌, ap, sym, ◌∙◌}
+use Rattle.std.specs.Str.{chars}
+use Rattle.std.proofs.lemmas.Str.{chars-nil}
+use Rattle.kdl_text.specs.Numbers.{plain}
+use Rattle.kdl_text.proofs.Numeric.DecimalReads.{has_no_underscore, plain_same}
 use Rattle.kdl_text.proofs.numbers.without_underscores.Goals as goal
 
-pub returns-clause-plain : goal.returns-clause-plain
-returns-clause-plain c = rw (ap (λ z. z.rest) c.enter-place.ensures.inside) at c.plain_rest-text.ensures.plain
+pub returns-then-has_no_underscore-clause-plain : goal.returns-then-has_no_underscore-clause-plain
+returns-then-has_no_underscore-clause-plain c =
+    let segment = c.args.segment.now in
+    let none = ap has_no_underscore (sym c.characters.ensures.result) ∙ sym c.has_no_underscore.ensures ∙ c.if-has_no_underscore.true in
+    rw (plain_same segment none ∙ sym c.slice_segment.ensures.result) c.to_string.ensures
 
-pub returns-clause-returned : goal.returns-clause-returned
-returns-clause-returned c =
-    let here = c.enter-place.ensures in
-    let did = c.plain_rest-text.ensures.counted in
-    comes_back _ _ _ c.plain_rest-text.new.cursor _ c.enter-place.result _ here.inside here.rest here.at (record { most = omega (arith, did.most, ap (λ z. bytes z.rest) here.inside); counts = did.counts }) c.go_to.ensures
+pub returns-clause-plain : goal.returns-clause-plain
+returns-clause-plain c =
+    let none = ap chars c.in_ok-text.ensures.bytes ∙ chars-nil in
+    c.in_ok-push_plain.ensures ∙ ap (λ z. z ++ plain c.characters-characters.result) none ∙ ap plain c.characters-characters.ensures.result
