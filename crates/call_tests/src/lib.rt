@@ -25,6 +25,8 @@ mod layout;
 #[cfg(test)]
 mod lookups;
 #[cfg(test)]
+mod nodes;
+#[cfg(test)]
 mod reading;
 #[cfg(test)]
 mod rust_tests;

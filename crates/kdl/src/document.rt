@@ -21,6 +21,7 @@ mod fields;
 mod iter;
 mod layout;
 mod lookup;
+mod nodes;
 
 use crate::copies::copy_nodes;
 use crate::drops::dismantle;

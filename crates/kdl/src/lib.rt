@@ -59,6 +59,7 @@ mod clears;
 mod copies;
 mod document;
 mod drops;
+mod ends;
 mod lays;
 mod node;
 mod parser;

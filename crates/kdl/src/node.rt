@@ -15,6 +15,7 @@ ghost use Rattle.kdl_entry.specs.Tree.{identifier_tree, entry_tree};
 ghost use Rattle.std.specs.Prelude.{◌≡◌, IfOk, None, Some, option_map, true};
 ghost use Rattle.std.specs.Str.{encode_utf8_all};
 
+mod children;
 mod clears;
 mod edit;
 mod fields;

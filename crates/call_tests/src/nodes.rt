@@ -1,0 +1,380 @@
+//! Nodes put in among others and taken out: what is printed then, and that it reads back.
+
+use crate::reading::{equal, identifier, node_text, prints, read, says, text};
+use kdl::{KdlDocument, KdlNode};
+use std::alloc::Global;
+use std::process::Abort;
+
+/// A text, and what it becomes.
+#[derive(Clone, Copy)]
+struct Row<'a>(&'a str, &'a str);
+
+/// The names of the nodes, each with a space behind it.
+fn names(rt: &impl Abort, alloc: Global, nodes: &[KdlNode]) -> String {
+    let mut all = text(rt, alloc, "");
+    for node in nodes {
+        all.push_str(node.name().value()).expect(rt, "memory");
+        all.push(' ').expect(rt, "memory");
+    }
+    all
+}
+
+/// The document prints the text, which is a document of nodes of the same names.
+fn reads_back(rt: &impl Abort, alloc: Global, document: &KdlDocument, printed: &str) {
+    prints(rt, alloc, document, printed);
+    let again = read(rt, alloc, printed);
+    let found = names(rt, alloc, again.nodes());
+    let wanted = names(rt, alloc, document.nodes());
+    says(rt, found.as_str(), wanted.as_str());
+    drop(found);
+    drop(wanted);
+    drop(again);
+}
+
+/// The node prints the text, which is a node with children of the same names.
+fn node_reads_back(rt: &impl Abort, alloc: Global, node: &KdlNode, printed: &str) {
+    prints(rt, alloc, node, printed);
+    let again = node_text(rt, alloc, printed);
+    let (Some(found), Some(wanted)) = (again.children(), node.children()) else {
+        panic!(rt; "no children");
+    };
+    let found = names(rt, alloc, found.nodes());
+    let wanted = names(rt, alloc, wanted.nodes());
+    says(rt, found.as_str(), wanted.as_str());
+    drop(found);
+    drop(wanted);
+    drop(again);
+}
+
+/// Puts the node in at the index.
+fn put(rt: &impl Abort, document: &mut KdlDocument, index: usize, node: KdlNode) {
+    let count = document.nodes().len();
+    let put = if index < count {
+        document.insert_node(index, node)
+    } else {
+        document.push_node(node)
+    };
+    match put {
+        Ok(()) => equal(rt, &document.nodes().len(), &(count + 1)),
+        Err(_) => panic!(rt; "memory"),
+    }
+}
+
+/// The document of the text becomes the printed one where the node of that text is put in at the index.
+fn puts(rt: &impl Abort, alloc: Global, before: &str, index: usize, new: &str, printed: &str) {
+    let mut document = read(rt, alloc, before);
+    let node = node_text(rt, alloc, new);
+    put(rt, &mut document, index, node);
+    reads_back(rt, alloc, &document, printed);
+    drop(document);
+}
+
+/// The same for each row, with `b`.
+fn puts_each(rt: &impl Abort, alloc: Global, index: usize, rows: &[Row]) {
+    for Row(before, printed) in rows {
+        puts(rt, alloc, before, index, "b", printed);
+    }
+}
+
+#[test]
+fn a_node_behind_others(rt: HostRuntime) {
+    let rows = [
+        Row("a", "a\nb"),
+        Row("a;", "a;b"),
+        Row("a\n", "a\nb"),
+        Row("a // c", "a // c\nb"),
+        Row("a // c\n", "a // c\nb"),
+        Row("a \\", "a \\\n\nb"),
+        Row("a \\\n", "a \\\n\nb"),
+        Row("a \\ // c", "a \\ // c\n\nb"),
+        Row("a \\ // c\n", "a \\ // c\n\nb"),
+        Row("a /-3", "a /-3\nb"),
+        Row("a /-k=3", "a /-k=3\nb"),
+        Row("a /* c */", "a /* c */\nb"),
+        Row("a {}", "a {}\nb"),
+        Row("a {} \\", "a {} \\\n\nb"),
+        Row("a {} /-{}", "a {} /-{}\nb"),
+        Row("c { d }", "c { d }\nb"),
+        Row("c { d \\\n}", "c { d \\\n}\nb"),
+        Row("c { d }; e", "c { d }; e\nb"),
+    ];
+    puts_each(&rt, rt.alloc(), 9, &rows);
+}
+
+#[test]
+fn a_node_behind_texts(rt: HostRuntime) {
+    let rows = [
+        Row("", "b"),
+        Row(" ", " b"),
+        Row("\n\n", "\n\nb"),
+        Row("// c", "// c\nb"),
+        Row("// c\n", "// c\nb"),
+        Row("/* c */", "/* c */b"),
+        Row("\\", "\\\nb"),
+        Row("\\ // c", "\\ // c\nb"),
+        Row("/-x", "/-x\nb"),
+        Row("/-x;", "/-x;b"),
+        Row("/-x \\", "/-x \\\n\nb"),
+        Row("/-x // c", "/-x // c\nb"),
+        Row("/-x {}", "/-x {}\nb"),
+        Row("\u{feff}", "\u{feff}b"),
+        Row("\u{feff}// c", "\u{feff}// c\nb"),
+        Row("\u{feff}a", "\u{feff}a\nb"),
+    ];
+    puts_each(&rt, rt.alloc(), 9, &rows);
+}
+
+#[test]
+fn newlines_of_other_forms(rt: HostRuntime) {
+    let rows = [
+        Row("a\r\n", "a\r\nb"),
+        Row("a\r", "a\rb"),
+        Row("a\u{85}", "a\u{85}b"),
+        Row("a // c\r\n", "a // c\r\nb"),
+        Row("a \\\r\n", "a \\\r\n\nb"),
+        Row("// c\r\n", "// c\r\nb"),
+        Row("a\r\n// c\r\n", "a\r\nb\n// c\r\n"),
+    ];
+    puts_each(&rt, rt.alloc(), 9, &rows);
+}
+
+#[test]
+fn a_node_before_a_trailing_text(rt: HostRuntime) {
+    let rows = [
+        Row("a; /-x {}", "a;b\n /-x {}"),
+        Row("a\n/-x", "a\nb\n/-x"),
+        Row("a\n// end\n", "a\nb\n// end\n"),
+        Row("a;// end", "a;b\n// end"),
+        Row("a\n\n", "a\nb\n\n"),
+    ];
+    puts_each(&rt, rt.alloc(), 9, &rows);
+}
+
+#[test]
+fn a_node_before_others(rt: HostRuntime) {
+    let rows = [
+        Row("a", "b\na"),
+        Row(" a;", "b\n a;"),
+        Row("// c\na", "b\n// c\na"),
+        Row("/-x\na", "b\n/-x\na"),
+        Row("c { d }", "b\nc { d }"),
+        Row("\u{feff}a", "\u{feff}b\na"),
+        Row("\u{feff}// c\na", "\u{feff}b\n// c\na"),
+    ];
+    puts_each(&rt, rt.alloc(), 0, &rows);
+}
+
+#[test]
+fn a_node_between_others(rt: HostRuntime) {
+    let rows = [
+        Row("a\nc", "a\nb\nc"),
+        Row("a;c", "a;b\nc"),
+        Row("a // x\n// y\nc", "a // x\nb\n// y\nc"),
+        Row("a \\ // x\n\nc", "a \\ // x\n\nb\nc"),
+        Row("a {}\nc", "a {}\nb\nc"),
+        Row("a { d }; c", "a { d };b\n c"),
+    ];
+    puts_each(&rt, rt.alloc(), 1, &rows);
+}
+
+/// What is printed where a node of each text goes behind `a`, and before it.
+#[test]
+fn new_nodes_of_each_form(rt: HostRuntime) {
+    let alloc = rt.alloc();
+    let rows = [
+        Row("b", "b\n"),
+        Row("b;", "b;"),
+        Row("b\n", "b\n"),
+        Row("// y\nb 1", "// y\nb 1\n"),
+        Row("b // x", "b // x\n"),
+        Row("b // x\n", "b // x\n"),
+        Row("b; // x", "b; // x\n"),
+        Row("b; \\", "b; \\\n"),
+        Row("b\n\n", "b\n\n"),
+        Row("b \\", "b \\\n\n"),
+        Row("b \\ // x", "b \\ // x\n\n"),
+        Row("b /-3", "b /-3\n"),
+        Row("b { d }", "b { d }\n"),
+        Row("b { d } \\", "b { d } \\\n\n"),
+        Row("b { d; } // x", "b { d; } // x\n"),
+    ];
+    for Row(new, ended) in &rows {
+        let mut last = text(&rt, alloc, "a\n");
+        last.push_str(new).expect(&rt, "memory");
+        puts(&rt, alloc, "a", 1, new, &last);
+        drop(last);
+        let mut first = text(&rt, alloc, ended);
+        first.push('a').expect(&rt, "memory");
+        puts(&rt, alloc, "a", 0, new, &first);
+        drop(first);
+    }
+}
+
+/// A new node of that name.
+fn built(rt: &impl Abort, alloc: Global, name: &str) -> KdlNode {
+    let name = identifier(rt, alloc, name);
+    KdlNode::new(name).expect(rt, "memory")
+}
+
+/// The node of a text, without its format.
+fn formless(rt: &impl Abort, alloc: Global, text: &str) -> KdlNode {
+    let mut node = node_text(rt, alloc, text);
+    node.clear_format();
+    node
+}
+
+#[test]
+fn nodes_that_are_built(rt: HostRuntime) {
+    let alloc = rt.alloc();
+    let mut document = KdlDocument::new(alloc);
+    put(&rt, &mut document, 0, built(&rt, alloc, "a"));
+    put(&rt, &mut document, 1, node_text(&rt, alloc, "c // x"));
+    put(&rt, &mut document, 2, built(&rt, alloc, "d"));
+    put(&rt, &mut document, 1, built(&rt, alloc, "b"));
+    reads_back(&rt, alloc, &document, "a\nb\nc // x\nd\n");
+    drop(document);
+}
+
+#[test]
+fn nodes_without_a_format(rt: HostRuntime) {
+    let alloc = rt.alloc();
+    let mut document = read(&rt, alloc, "a");
+    put(&rt, &mut document, 1, formless(&rt, alloc, "b { d }"));
+    reads_back(&rt, alloc, &document, "a\nb { d }");
+    put(&rt, &mut document, 0, formless(&rt, alloc, "e 1"));
+    reads_back(&rt, alloc, &document, "e 1\na\nb { d }");
+    put(&rt, &mut document, 9, formless(&rt, alloc, "c"));
+    reads_back(&rt, alloc, &document, "e 1\na\nb { d }\nc");
+    drop(document);
+}
+
+/// Puts the node in as a child at the index.
+fn put_child(rt: &impl Abort, node: &mut KdlNode, index: usize, child: KdlNode) {
+    let count = match node.children() {
+        Some(children) => children.nodes().len(),
+        None => 0,
+    };
+    let put = if index < count {
+        node.insert_child(index, child)
+    } else {
+        node.push_child(child)
+    };
+    if put.is_err() {
+        panic!(rt; "memory");
+    }
+}
+
+/// The node of the text becomes the printed one where the node of the other text is put in as a child at the index.
+fn puts_child(
+    rt: &impl Abort,
+    alloc: Global,
+    before: &str,
+    index: usize,
+    new: &str,
+    printed: &str,
+) {
+    let mut node = node_text(rt, alloc, before);
+    let child = node_text(rt, alloc, new);
+    put_child(rt, &mut node, index, child);
+    node_reads_back(rt, alloc, &node, printed);
+    drop(node);
+}
+
+#[test]
+fn a_child_behind_others(rt: HostRuntime) {
+    let rows = [
+        Row("c {}", "c {e}"),
+        Row("c { d }", "c { d \ne}"),
+        Row("c { d; }", "c { d;e\n }"),
+        Row("c { d // x\n}", "c { d // x\ne}"),
+        Row("c { d \\\n}", "c { d \\\n\ne}"),
+        Row("c { // x\n}", "c { // x\ne}"),
+        Row("c { /-x }", "c { /-x \ne}"),
+        Row("c { d\n // x\n}", "c { d\ne\n // x\n}"),
+        Row("c { d }; // x", "c { d \ne}; // x"),
+    ];
+    for Row(before, printed) in &rows {
+        puts_child(&rt, rt.alloc(), before, 9, "e", printed);
+    }
+}
+
+#[test]
+fn a_child_in_a_new_block(rt: HostRuntime) {
+    let rows = [
+        Row("c", "c{\ne\n}"),
+        Row("c;", "c{\ne\n};"),
+        Row("c\n", "c{\ne\n}\n"),
+        Row("c 1 // x", "c 1 {\ne\n}// x"),
+        Row("c \\", "c \\\n{\ne\n}"),
+        Row("c \\ // x", "c \\ // x\n{\ne\n}"),
+        Row("c /-3", "c /-3{\ne\n}"),
+        Row("c /-{} \\\n;", "c /-{} \\\n{\ne\n};"),
+    ];
+    for Row(before, printed) in &rows {
+        puts_child(&rt, rt.alloc(), before, 9, "e", printed);
+    }
+}
+
+#[test]
+fn new_children_of_each_form(rt: HostRuntime) {
+    let rows = [
+        Row("e", "c {e}"),
+        Row("e;", "c {e;}"),
+        Row("e // x", "c {e // x\n}"),
+        Row("e \\", "c {e \\\n}"),
+        Row("e \\ // x", "c {e \\ // x\n}"),
+        Row("e /-3", "c {e /-3}"),
+        Row("e { f } \\", "c {e { f } \\\n}"),
+        Row("e; // x", "c {e; // x\n}"),
+    ];
+    for Row(new, printed) in &rows {
+        puts_child(&rt, rt.alloc(), "c {}", 0, new, printed);
+    }
+}
+
+#[test]
+fn a_child_before_others(rt: HostRuntime) {
+    let alloc = rt.alloc();
+    puts_child(&rt, alloc, "c { d }", 0, "e", "c {e\n d }");
+    puts_child(&rt, alloc, "c { d;f }", 1, "e", "c { d;e\nf }");
+    puts_child(&rt, alloc, "c { // x\n d }", 0, "e", "c {e\n // x\n d }");
+}
+
+#[test]
+fn children_without_a_format(rt: HostRuntime) {
+    let alloc = rt.alloc();
+    let mut node = node_text(&rt, alloc, "c {}");
+    put_child(&rt, &mut node, 0, formless(&rt, alloc, "d 1"));
+    node_reads_back(&rt, alloc, &node, "c {    d 1}");
+    put_child(&rt, &mut node, 1, formless(&rt, alloc, "e"));
+    node_reads_back(&rt, alloc, &node, "c {d 1\n    e}");
+    drop(node);
+    let mut node = formless(&rt, alloc, "c");
+    put_child(&rt, &mut node, 0, formless(&rt, alloc, "d"));
+    node_reads_back(&rt, alloc, &node, "c {\nd\n}");
+    drop(node);
+}
+
+/// Takes out the node at the index, which prints the text.
+fn takes(rt: &impl Abort, alloc: Global, document: &mut KdlDocument, index: usize, printed: &str) {
+    if index < document.nodes().len() {
+        let node = document.remove_node(index);
+        prints(rt, alloc, &node, printed);
+        drop(node);
+    } else {
+        panic!(rt; "no such node");
+    }
+}
+
+#[test]
+fn a_node_taken_out(rt: HostRuntime) {
+    let alloc = rt.alloc();
+    let mut document = read(&rt, alloc, "a // x\n// y\nb // z\n// w\nc");
+    takes(&rt, alloc, &mut document, 1, "// y\nb // z\n");
+    reads_back(&rt, alloc, &document, "a // x\n// w\nc");
+    takes(&rt, alloc, &mut document, 1, "// w\nc");
+    reads_back(&rt, alloc, &document, "a // x\n");
+    takes(&rt, alloc, &mut document, 0, "a // x\n");
+    reads_back(&rt, alloc, &document, "");
+    drop(document);
+}
