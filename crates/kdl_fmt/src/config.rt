@@ -98,9 +98,10 @@ impl<'a> FormatConfigBuilder<'a> {
     pub fn maybe_indent<'b>(self, indent: Option<&'b str>) -> FormatConfigBuilder<'b>
     where
         'a: 'b,
-        ensures { settings_so_far result ≡ record (settings_so_far self.entry)
-            { indent = unwrap_or (option_map (λ s. chars s.now) indent.entry)
-            (settings_so_far self.entry).indent } }
+        ensures { settings_so_far result ≡ record (settings_so_far self.entry) {
+          indent = unwrap_or (option_map (λ s. chars s.now) indent.entry)
+              (settings_so_far self.entry).indent;
+        } }
     {
         match indent {
             Some(indent) => self.indent(indent),
