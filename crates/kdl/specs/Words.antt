@@ -76,7 +76,7 @@ pub use Rattle.kdl_parts.specs.Edits.{GoesUnder, HasArgumentAt, HasRoomAt, IsIns
 -- What is printed once entries or nodes are exchanged.
 pub use Rattle.kdl.specs.EditLaw.{EntriesExchanged, EntryExchanged, FormedPiece, NodeExchanged, NodesExchanged, PrintsAtPlace, PrintsInstead}
 -- Layout: its settings.
-pub use Rattle.kdl_fmt.specs.Config.{IsPlain, Settings, defaults, settings, without_comments}
+pub use Rattle.kdl_fmt.specs.Config.{IsPlain, Settings, defaults, settings, settings_so_far, without_comments}
 pub use Rattle.kdl.specs.Layout.{IndentsBySpaces}
 -- What it asks for: no entry that keeps its form, levels that a machine can count.
 pub use Rattle.kdl_fmt.specs.Formatted.{DocumentKeepsNone, DocumentLevelsFit, NodeKeepsNone, NodeLevelsFit}

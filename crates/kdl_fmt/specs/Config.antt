@@ -4,6 +4,7 @@ use Rattle.std.specs.List.{list_all, repeat}
 use Rattle.std.specs.Str.{chars}
 use Rattle.kdl_text.specs.Chars.{Text, is_space}
 use Rattle.kdl_fmt.specs.declared.config.FormatConfig.{FormatConfig}
+use Rattle.kdl_fmt.specs.declared.config.FormatConfigBuilder.{FormatConfigBuilder}
 
 -- the level of the outermost nodes, the text that stands before a node once for each level, whether comments are dropped, and whether all entries keep their form
 pub record Settings : Type 0 where
@@ -35,3 +36,7 @@ indentation s level = repeat level s.indent
 -- the configuration in memory, with the text as characters
 abbrev pub settings : FormatConfig → Settings
 settings c = record { indent_level = c.indent_level; indent = chars c.indent.now; no_comments = c.no_comments; entry_autoformate_keep = c.entry_autoformate_keep }
+
+-- what a builder has set so far
+abbrev pub settings_so_far : FormatConfigBuilder → Settings
+settings_so_far b = settings b.0

@@ -1,6 +1,6 @@
 //! The configuration of layout.
 
-ghost use Rattle.kdl_fmt.specs.Config.{Settings, defaults, settings};
+ghost use Rattle.kdl_fmt.specs.Config.{Settings, defaults, settings, settings_so_far};
 ghost use Rattle.kdl_text.specs.Chars as class;
 ghost use Rattle.std.specs.List.{list_all};
 ghost use Rattle.std.specs.Prelude.{◌≡◌, option_map, unwrap_or};
@@ -51,7 +51,7 @@ impl FormatConfig<'_> {
     /// let config = FormatConfig::builder().indent("\t").no_comments(true).build();
     /// ```
     pub fn builder() -> FormatConfigBuilder<'static>
-        ensures { settings result.0 ≡ defaults }
+        ensures { settings_so_far result ≡ defaults }
     {
         FormatConfigBuilder::new()
     }
@@ -64,7 +64,7 @@ pub struct FormatConfigBuilder<'a>(FormatConfig<'a>);
 impl<'a> FormatConfigBuilder<'a> {
     /// A builder that begins with the default configuration.
     pub fn new() -> Self
-        ensures { settings result.0 ≡ defaults }
+        ensures { settings_so_far result ≡ defaults }
     {
         FormatConfigBuilder(FormatConfig {
             indent_level: 0,
@@ -76,8 +76,8 @@ impl<'a> FormatConfigBuilder<'a> {
 
     /// Sets the level of the outermost nodes, where there is one given.
     pub fn maybe_indent_level(self, indent_level: Option<usize>) -> Self
-        ensures { settings result.0 ≡ record (settings self.entry.0)
-            { indent_level = unwrap_or indent_level (settings self.entry.0).indent_level } }
+        ensures { settings_so_far result ≡ record (settings_so_far self.entry)
+            { indent_level = unwrap_or indent_level (settings_so_far self.entry).indent_level } }
     {
         match indent_level {
             Some(indent_level) => self.indent_level(indent_level),
@@ -87,7 +87,7 @@ impl<'a> FormatConfigBuilder<'a> {
 
     /// Sets the level of the outermost nodes.
     pub fn indent_level(mut self, indent_level: usize) -> Self
-        ensures { settings result.0 ≡ record (settings self.entry.0)
+        ensures { settings_so_far result ≡ record (settings_so_far self.entry)
             { indent_level = indent_level } }
     {
         self.0.indent_level = indent_level;
@@ -98,8 +98,10 @@ impl<'a> FormatConfigBuilder<'a> {
     pub fn maybe_indent<'b>(self, indent: Option<&'b str>) -> FormatConfigBuilder<'b>
     where
         'a: 'b,
-        ensures { settings result.0 ≡ record (settings self.entry.0)
-            { indent = unwrap_or (option_map (λ s. chars s.now) indent.entry) (settings self.entry.0).indent } }
+        ensures { settings_so_far result ≡ record (settings_so_far self.entry) {
+          indent = unwrap_or (option_map (λ s. chars s.now) indent.entry)
+              (settings_so_far self.entry).indent;
+        } }
     {
         match indent {
             Some(indent) => self.indent(indent),
@@ -111,7 +113,7 @@ impl<'a> FormatConfigBuilder<'a> {
     pub fn indent<'b>(self, indent: &'b str) -> FormatConfigBuilder<'b>
     where
         'a: 'b,
-        ensures { settings result.0 ≡ record (settings self.entry.0)
+        ensures { settings_so_far result ≡ record (settings_so_far self.entry)
             { indent = chars indent.now } }
     {
         FormatConfigBuilder(FormatConfig { indent, ..self.0 })
@@ -119,8 +121,8 @@ impl<'a> FormatConfigBuilder<'a> {
 
     /// Sets whether comments are left out, where it is given.
     pub fn maybe_no_comments(self, no_comments: Option<bool>) -> Self
-        ensures { settings result.0 ≡ record (settings self.entry.0)
-            { no_comments = unwrap_or no_comments (settings self.entry.0).no_comments } }
+        ensures { settings_so_far result ≡ record (settings_so_far self.entry)
+            { no_comments = unwrap_or no_comments (settings_so_far self.entry).no_comments } }
     {
         match no_comments {
             Some(no_comments) => self.no_comments(no_comments),
@@ -130,7 +132,7 @@ impl<'a> FormatConfigBuilder<'a> {
 
     /// Sets whether comments are left out.
     pub fn no_comments(mut self, no_comments: bool) -> Self
-        ensures { settings result.0 ≡ record (settings self.entry.0)
+        ensures { settings_so_far result ≡ record (settings_so_far self.entry)
             { no_comments = no_comments } }
     {
         self.0.no_comments = no_comments;
@@ -139,14 +141,14 @@ impl<'a> FormatConfigBuilder<'a> {
 
     /// The configuration.
     pub fn build(self) -> FormatConfig<'a>
-        ensures { settings result ≡ settings self.entry.0 }
+        ensures { settings result ≡ settings_so_far self.entry }
     {
         self.0
     }
 }
 
 impl Default for FormatConfigBuilder<'_> {
-    ghost is_default = { λ b. settings b.0 ≡ defaults };
+    ghost is_default = { λ b. settings_so_far b ≡ defaults };
 
     fn default() -> Self {
         FormatConfigBuilder::new()
