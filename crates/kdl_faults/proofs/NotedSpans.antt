@@ -8,9 +8,10 @@ use Rattle.kdl_text.specs.Internal.Reading.{Moves}
 use Rattle.kdl_text.specs.Spans.{InText, span_between, bytes}
 use Rattle.kdl_text.specs.declared.span.SourceSpan.{SourceSpan}
 use Rattle.kdl_text.proofs.Looking.MovesJoin.{bytes-append}
-use Rattle.kdl_faults.specs.Internal.Noted.{LiesIn, Noted, Opened, IsReaderOf}
+use Rattle.kdl_faults.specs.Internal.Noted.{LiesIn, Noted, Opened, Candidates, IsReaderOf}
 use Rattle.kdl_faults.specs.Internal.Reading.{Stands}
 use Rattle.kdl_faults.specs.declared.ends.Unclosed.{Unclosed}
+use Rattle.kdl_faults.specs.declared.esclines.Candidate.{Candidate}
 use Rattle.kdl_faults.specs.declared.pieces.Piece.{Piece}
 use Rattle.kdl_faults.specs.declared.reader.Block.{Block}
 use Rattle.kdl_faults.specs.declared.reader.Fault.{Fault}
@@ -60,6 +61,7 @@ stands_in text rest p x s = record {
   start = then_ends text rest p.start.rest x s.start;
   next = s.next;
   end = s.end;
+  backslash = s.backslash;
   comment = λ c e. (let y = s.comment c e in let z = then_ends text rest c.start.rest x (y.0, y.2) in (z.0, y.1, z.1, y.3));
 }
 
@@ -78,6 +80,12 @@ opened_more text old new b e x y = All-same (λ (b : Block). InText text b.span)
 
 pub opened_less : (text : Text) (old new : List Block) (r : Option Block) → old ≡ new ++ option_to_list r → Opened text old → Opened text new × IfSome r (λ (b : Block). InText text b.span)
 opened_less text old new r e x = All-pop (λ (b : Block). InText text b.span) old new r e x
+
+pub candidates_same : (text : Text) (old new : List Candidate) → new ≡ old → Candidates text old → Candidates text new
+candidates_same text old new e x = All-same (λ (c : Candidate). InText text c.fault.span) new old e x
+
+pub candidates_more : (text : Text) (old new : List Candidate) (c : Candidate) → new ≡ old ++ (c ∷ []) → Candidates text old → InText text c.fault.span → Candidates text new
+candidates_more text old new c e x y = All-same (λ (c : Candidate). InText text c.fault.span) new (old ++ (c ∷ [])) e (All-push (λ (c : Candidate). InText text c.fault.span) old c x y)
 
 -- a place that is another one
 pub same_lies : (text : Text) (a b : Spot) → a ≡ b → LiesIn text b → LiesIn text a

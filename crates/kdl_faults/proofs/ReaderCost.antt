@@ -8,13 +8,14 @@ use Rattle.kdl_text.specs.Spans.{bytes, raise}
 use Rattle.kdl_text.specs.Internal.Reading.{Moves}
 use Rattle.kdl_text.proofs.Looking.MovesJoin.{fewer_bytes, stays}
 use Rattle.kdl_text.proofs.Looking.Texts.{bytes-chars}
-use Rattle.kdl_faults.specs.Internal.Noted.{Bounded, LiesIn}
+use Rattle.kdl_faults.specs.Internal.Noted.{Bounded, IsReaderOf, LiesIn, ReadsAgain}
 use Rattle.kdl_faults.specs.Internal.Reading.{Most, WentPast}
 use Rattle.kdl_faults.specs.declared.pieces.PieceKind.{PieceKind}
 use Rattle.kdl_faults.specs.declared.pieces.PieceKind.TheVariants.{End}
+use Rattle.kdl_faults.specs.declared.reader.Reader.{Reader}
 
 -- a piece that was read, and a step after it
-pub bounded_one : (a b e : Here) → Moves a b → Most 37 65 a b → e.steps ≡ raise b.steps 1 → Bounded 128 a e
+pub bounded_one : (a b e : Here) → Moves a b → Most 37 41 a b → e.steps ≡ raise b.steps 1 → Bounded 124 a e
 bounded_one a b e m k s = record { most = omega (arith, s); counts = omega (arith, m.counts, s) }
 
 same_rest : (text s r : Text) → r ≡ s → ((p : Text) × (text ≡ p ++ s)) → (p : Text) × (text ≡ p ++ r)
@@ -38,7 +39,7 @@ turns_left false = 1
 
 pub record Turning (old new : Here) (over : Bool) : Type 0 where
   pub counts : raise old.steps 0 ≤ raise new.steps 0
-  pub most : new.steps + 128 * bytes new.rest + 89 * turns_left over ≤ old.steps + 128 * bytes old.rest + 90
+  pub most : new.steps + 124 * bytes new.rest + 65 * turns_left over ≤ old.steps + 124 * bytes old.rest + 66
 
 one_left : (over : Bool) → turns_left over ≤ 1
 one_left true = omega arith
@@ -58,7 +59,7 @@ went_on : (k : PieceKind) (a b : Here) (over : Bool) → WentPast k a b → (k �
 went_on End a b over w o = omega (arith, ap bytes w, none_left over (o refl))
 went_on _ a b over w o = omega (arith, w, one_left over)
 
-pub turning_turn : (f a b e : Here) (k : PieceKind) (over over' : Bool) → over ≡ false → Turning f a over → Moves a b → Most 37 65 a b → WentPast k a b → Moves b e → Most 24 24 b e → (k ≡ End → over' ≡ true) → Turning f e over'
+pub turning_turn : (f a b e : Here) (k : PieceKind) (over over' : Bool) → over ≡ false → Turning f a over → Moves a b → Most 37 41 a b → WentPast k a b → Moves b e → Most 24 24 b e → (k ≡ End → over' ≡ true) → Turning f e over'
 turning_turn f a b e k over over' n t m x w m' x' o = record {
   counts = omega (arith, t.counts, m.counts, m'.counts);
   most = omega (arith, t.most, still_left over n, fewer_bytes m, fewer_bytes m', went_on k a b over' w o);
@@ -68,18 +69,36 @@ pub turning_nearer : (a b e : Here) (k : PieceKind) (over over' : Bool) → over
 turning_nearer a b e k over over' n w m o = omega (arith, still_left over n, fewer_bytes m, went_on k a b over' w o)
 
 -- where memory is refused, and at the end
-pub turning_fails : (f a b : Here) (over : Bool) → over ≡ false → Turning f a over → Moves a b → Most 37 65 a b → Bounded 128 f b
+pub turning_fails : (f a b : Here) (over : Bool) → over ≡ false → Turning f a over → Moves a b → Most 37 41 a b → Bounded 124 f b
 turning_fails f a b over n t m x = record { most = omega (arith, t.most, still_left over n, fewer_bytes m); counts = omega (arith, t.counts, m.counts) }
 
-pub turning_stops : (f a b e : Here) (over : Bool) → over ≡ false → Turning f a over → Moves a b → Most 37 65 a b → Moves b e → Most 24 24 b e → Bounded 128 f e
+pub turning_stops : (f a b e : Here) (over : Bool) → over ≡ false → Turning f a over → Moves a b → Most 37 41 a b → Moves b e → Most 24 24 b e → Bounded 124 f e
 turning_stops f a b e over n t m x m' x' = record { most = omega (arith, t.most, still_left over n, fewer_bytes m, fewer_bytes m'); counts = omega (arith, t.counts, m.counts, m'.counts) }
 
-pub turning_ends : (f a : Here) (over : Bool) → Turning f a over → Bounded 128 f a
+pub turning_ends : (f a : Here) (over : Bool) → Turning f a over → Bounded 124 f a
 turning_ends f a over t = record { most = omega (arith, t.most); counts = t.counts }
 
 -- where the cursor stays
 pub same_cursor : (a b : Here) → b ≡ a → Moves a b × Most 24 24 a b
 same_cursor a b e = (rw e (stays a), rw e (omega arith))
+
+-- the text of a reader, read again from its start
+pub read_again : (old new : Reader) (a b : Here) → a ≡ record { rest = old.whole.rest; at = old.whole.at; steps = old.cursor.steps } → Moves a b → Most 4 1 a b → new.cursor ≡ b → ReadsAgain 4 old new
+read_again old new a b e m k f =
+    let s : a.steps ≡ old.cursor.steps = ap (λ (z : Here). z.steps) e in
+    let r : bytes a.rest ≡ bytes old.whole.rest = ap (λ (z : Here). bytes z.rest) e in
+    let t : new.cursor.steps ≡ b.steps = ap (λ (z : Here). z.steps) f in
+    record { most = omega (arith, s, r, t, k); counts = omega (arith, s, t, m.counts) }
+
+pub again_lies : (text : Text) (r : Reader) (a b : Here) → IsReaderOf text r → a ≡ record { rest = r.whole.rest; at = r.whole.at; steps = r.cursor.steps } → Moves a b → (p : Text) × (text ≡ p ++ b.rest)
+again_lies text r a b x e m = (m.piece.0, sym x.whole ∙ sym (ap (λ (z : Here). z.rest) e) ∙ m.piece.1)
+
+-- a text that is read, and then read again
+pub read_twice : (text : Text) (old mid new : Reader) → IsReaderOf text mid → old.cursor.rest ≡ text → Bounded 124 old.cursor mid.cursor → ReadsAgain 4 mid new → Bounded 128 old.cursor new.cursor
+read_twice text old mid new x e a b = record { most = omega (arith, ap bytes x.whole, ap bytes e, a.most, b.most); counts = omega (arith, a.counts, b.counts) }
+
+pub bounded_more : (a b : Here) → Bounded 124 a b → Bounded 128 a b
+bounded_more a b x = record { most = omega (arith, x.most); counts = x.counts }
 
 -- the steps over a whole text
 pub steps_bounded : (text : List ℕ) (a b : Here) (before after : ℕ) → IsUtf8 text → Bounded 128 a b → a.rest ≡ chars text → a.steps ≡ before → after ≡ b.steps → after ≤ before + 128 * (length text + 1)

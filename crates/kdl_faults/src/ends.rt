@@ -124,7 +124,7 @@ fn end_at_backslash<'a>(cursor: &mut Cursor<'a>) -> Option<ValueEnd<'a>>
 pub(crate) fn value_end<'a>(cursor: &mut Cursor<'a>) -> ValueEnd<'a>
     ensures end { IsEnd cursor.old result cursor.new }
     ensures moves { Moves cursor.old cursor.new }
-    ensures most { Most 24 24 cursor.old cursor.new }
+    ensures most { Most 24 12 cursor.old cursor.new }
 {
     'ends: loop {
         cursor.skip(Class::Identifier);

@@ -6,6 +6,7 @@
 #![tactic(auto)]
 
 mod ends;
+mod esclines;
 mod kind;
 mod machine;
 mod pieces;

@@ -3,11 +3,11 @@
 //! Nothing is built: of a string, a number and a keyword the reader tells where it ends and what is wrong with it.
 
 ghost use Rattle.kdl_faults.specs.Internal.Reading.{Begins, FindsAlso, IsPiece, Most, MostFrom, NoEarlier, OnFound, Spans, Stands, WentPast, gone};
-ghost use Rattle.kdl_text.specs.Chars.{is_identifier_char, is_number_sign, starts};
+ghost use Rattle.kdl_text.specs.Chars.{Text, is_identifier_char, is_number_sign, starts};
 ghost use Rattle.kdl_text.specs.Internal.Here.{Ahead, Behind as Follows, Returned, Spot, first};
 ghost use Rattle.kdl_text.specs.Spans.{bytes};
 ghost use Rattle.kdl_text.specs.Internal.Reading.{Moves};
-ghost use Rattle.std.specs.Prelude.{◌≡◌, ◌+◌, ◌*◌, ◌≤◌, true, IfOk, IfSome};
+ghost use Rattle.std.specs.Prelude.{◌≡◌, ◌+◌, ◌*◌, ◌≤◌, ◌++◌, true, IfOk, IfSome};
 
 use crate::ends::{Behind, Unclosed, behind_backslash, value_end};
 use crate::kind::{Form, Kind};
@@ -76,6 +76,8 @@ pub(crate) struct Piece<'a> {
     pub end: Checkpoint<'a>,
     /// What is wrong with a string, a number or a keyword.
     pub fault: Option<Kind>,
+    /// The backslash before the end, where it begins an escline if the text after the string closes the block comment after it.
+    pub backslash: Option<Checkpoint<'a>>,
     /// A block comment that isn't closed, in what begins as an escline behind the piece.
     pub comment: Option<Unclosed<'a>>,
     /// Whether the text ended in it.
@@ -101,6 +103,7 @@ fn plain<'a>(kind: PieceKind, start: Start<'a>) -> Piece<'a>
         start: start.place,
         next: start.next,
         fault: None,
+        backslash: None,
         comment: None,
         cut: false,
     }
@@ -118,6 +121,7 @@ fn unclosed<'a>(comment: Unclosed<'a>) -> Piece<'a>
         next: comment.end.copied(),
         end: comment.end,
         fault: None,
+        backslash: None,
         comment: None,
         cut: true,
     }
@@ -128,7 +132,7 @@ fn other<'a>(cursor: &mut Cursor<'a>, start: Start<'a>) -> Piece<'a>
     requires { Begins start }
     ensures piece { IsPiece start.entry.place result cursor.new }
     ensures moves { Moves (gone start.entry.place cursor.old) cursor.new }
-    ensures most { Most 24 24 (gone start.entry.place cursor.old) cursor.new }
+    ensures most { Most 24 12 (gone start.entry.place cursor.old) cursor.new }
 {
     cursor.go_to(&start.next);
     let end = value_end(cursor);
@@ -138,6 +142,7 @@ fn other<'a>(cursor: &mut Cursor<'a>, start: Start<'a>) -> Piece<'a>
         next: start.next,
         end: end.place,
         fault: None,
+        backslash: None,
         comment: end.comment,
         cut: false,
     }
@@ -149,7 +154,7 @@ fn slash_piece<'a>(cursor: &mut Cursor<'a>, start: Start<'a>) -> Piece<'a>
     requires here { cursor.old ≡ gone start.place cursor.old }
     ensures piece { IsPiece start.entry.place result cursor.new }
     ensures moves { Moves (gone start.entry.place cursor.old) cursor.new }
-    ensures most { Most 24 30 (gone start.entry.place cursor.old) cursor.new }
+    ensures most { Most 24 18 (gone start.entry.place cursor.old) cursor.new }
 {
     match slash(cursor) {
         SlashRead::Block => plain(PieceKind::Space, start),
@@ -168,7 +173,7 @@ fn backslash_piece<'a>(cursor: &mut Cursor<'a>, start: Start<'a>) -> Piece<'a>
     requires start { Begins start }
     ensures piece { IsPiece start.entry.place result cursor.new }
     ensures moves { Moves (gone start.entry.place cursor.old) cursor.new }
-    ensures most { Most 24 36 (gone start.entry.place cursor.old) cursor.new }
+    ensures most { Most 24 24 (gone start.entry.place cursor.old) cursor.new }
 {
     cursor.go_to(&start.next);
     match behind_backslash(cursor) {
@@ -181,6 +186,7 @@ fn backslash_piece<'a>(cursor: &mut Cursor<'a>, start: Start<'a>) -> Piece<'a>
             start: start.place,
             next: start.next,
             fault: None,
+            backslash: None,
             comment: None,
             cut: false,
         },
@@ -201,7 +207,7 @@ fn word<'a>(
     ensures stands { Stands start.entry.place.rest result }
     ensures kind { result.kind ≡ kind }
     ensures moves { Moves cursor.old cursor.new }
-    ensures most { Most 24 24 cursor.old cursor.new }
+    ensures most { Most 24 12 cursor.old cursor.new }
 {
     let here = cursor.at();
     let end = value_end(cursor);
@@ -216,39 +222,56 @@ fn word<'a>(
         next: start.next,
         end: end.place,
         fault,
+        backslash: None,
         comment: end.comment,
         cut: false,
     }
 }
 
-/// Goes on by so many bytes, or to the end of the text.
-fn go_on(cursor: &mut Cursor, by: usize)
+/// Goes on by so many bytes, or to the end of the text. Returns the place before the last character that it goes past.
+fn go_on<'a>(cursor: &mut Cursor<'a>, by: usize) -> Checkpoint<'a>
+    ensures last { (p : Text) × (cursor.old.rest ≡ p ++ result.rest) }
     ensures moves { Moves cursor.old cursor.new }
     ensures most { cursor.new.steps ≤ cursor.old.steps + by }
 {
     let start = cursor.at();
+    let mut last = cursor.checkpoint();
     'chars: while cursor.at() - start < by {
+        last = cursor.checkpoint();
         let Some(_) = cursor.take() else {
-            return;
+            return last;
         };
     }
+    last
+}
+
+/// The first value end from a place in a string on, in the string alone.
+#[derive(Drop)]
+struct EndWithin<'a> {
+    place: Checkpoint<'a>,
+    /// The backslash before it, where a block comment after the backslash isn't closed in the string.
+    backslash: Option<Checkpoint<'a>>,
 }
 
 /// The first value end from the place on in the part of the text up to here, or its end.
-fn end_within<'a>(cursor: &mut Cursor<'a>, from: &Checkpoint<'a>) -> Checkpoint<'a>
+fn end_within<'a>(cursor: &mut Cursor<'a>, from: &Checkpoint<'a>) -> EndWithin<'a>
     requires { Follows from.now cursor.old }
-    ensures place { Ahead from.now result }
+    ensures place { Ahead from.now result.place }
+    ensures backslash { IfSome result.backslash (λ b. Ahead from.now b) }
     ensures rest { cursor.new.rest ≡ cursor.old.rest }
     ensures moves { Moves cursor.old cursor.new }
-    ensures most { MostFrom 26 24 from.now cursor.old cursor.old cursor.new }
+    ensures most { MostFrom 26 12 from.now cursor.old cursor.old cursor.new }
 {
     let here = cursor.enter(&from.up_to(&cursor.checkpoint()));
-    let at = value_end(cursor).place.at();
+    let end = value_end(cursor);
     cursor.go_to(from);
-    go_on(cursor, at);
+    let last = go_on(cursor, end.place.at());
     let place = cursor.checkpoint();
     cursor.go_to(&here);
-    place
+    EndWithin {
+        place,
+        backslash: end.comment.is_some().then_some(last),
+    }
 }
 
 /// Where a fault in a string ends: at the value end in the string, or else at the one behind it. A string that looks like
@@ -310,7 +333,7 @@ fn string<'a>(
     ensures stands { Stands start.entry.place.rest result }
     ensures kind { result.kind ≡ PieceKind.String }
     ensures moves { Moves cursor.old cursor.new }
-    ensures most { Most 26 48 (gone start.entry.place cursor.old) cursor.new }
+    ensures most { Most 26 24 (gone start.entry.place cursor.old) cursor.new }
 {
     let Scan { fault, cut } = scan;
     let Some(found) = fault_in_role(role, &start.place, fault) else {
@@ -323,8 +346,9 @@ fn string<'a>(
         kind: PieceKind::String,
         start: start.place,
         next: start.next,
-        end: end_of_fault(found.kind, inside, behind, end.place),
+        end: end_of_fault(found.kind, inside.place, behind, end.place),
         fault: Some(found.kind),
+        backslash: inside.backslash,
         comment: end.comment,
         cut,
     }
@@ -377,7 +401,7 @@ fn number_piece<'a>(
     requires number { starts is_identifier_char cursor.old.rest ≡ true }
     ensures piece { IfOk result (λ p. IsPiece start.entry.place p cursor.new) }
     ensures moves { Moves cursor.old cursor.new }
-    ensures most { Most 24 41 cursor.old cursor.new }
+    ensures most { Most 24 29 cursor.old cursor.new }
 {
     cursor.skip(Class::Identifier);
     let number = start.place.up_to(&cursor.checkpoint());
@@ -393,7 +417,7 @@ fn bare_piece<'a>(cursor: &mut Cursor<'a>, start: Start<'a>) -> Piece<'a>
     requires string { starts is_identifier_char cursor.old.rest ≡ true }
     ensures piece { IsPiece start.entry.place result cursor.new }
     ensures moves { Moves cursor.old cursor.new }
-    ensures most { Most 24 28 cursor.old cursor.new }
+    ensures most { Most 24 16 cursor.old cursor.new }
 {
     let fault = match bare_string(cursor) {
         Some(_) => None,
@@ -422,7 +446,7 @@ fn keyword_piece<'a>(cursor: &mut Cursor<'a>, start: Start<'a>) -> Piece<'a>
     ensures stands { Stands start.entry.place.rest result }
     ensures kind { result.kind ≡ PieceKind.Value }
     ensures moves { Moves cursor.old cursor.new }
-    ensures most { Most 24 29 (gone start.entry.place cursor.old) cursor.new }
+    ensures most { Most 24 17 (gone start.entry.place cursor.old) cursor.new }
 {
     cursor.skip(Class::Identifier);
     let text = start.place.up_to(&cursor.checkpoint());
@@ -442,7 +466,7 @@ fn sign_piece<'a>(
     requires sign { starts is_number_sign cursor.old.rest ≡ true }
     ensures piece { IfOk result (λ p. IsPiece start.entry.place p cursor.new) }
     ensures moves { Moves cursor.old cursor.new }
-    ensures most { Most 37 64 cursor.old cursor.new }
+    ensures most { Most 37 40 cursor.old cursor.new }
 {
     let at = cursor.at();
     cursor.skip(Class::NumberSign);
@@ -476,7 +500,7 @@ fn plain_piece<'a>(c: char, cursor: &mut Cursor<'a>, start: Start<'a>) -> Piece<
     requires first { first cursor.old.rest ≡ Some c }
     ensures piece { IsPiece start.entry.place result cursor.new }
     ensures moves { Moves cursor.old cursor.new }
-    ensures most { Most 24 24 cursor.old cursor.new }
+    ensures most { Most 24 12 cursor.old cursor.new }
 {
     if is_space(c) {
         cursor.skip(Class::Space);
@@ -508,7 +532,7 @@ fn piece_of<'a>(
     requires first { first cursor.old.rest ≡ Some c }
     ensures piece { IfOk result (λ p. IsPiece start.entry.place p cursor.new) }
     ensures moves { Moves cursor.old cursor.new }
-    ensures most { Most 37 64 cursor.old cursor.new }
+    ensures most { Most 37 40 cursor.old cursor.new }
 {
     match c {
         '"' => {
@@ -539,7 +563,7 @@ pub(crate) fn next_piece<'a>(
     ensures piece { IfOk result (λ p. Stands cursor.old.rest p) }
     ensures went { IfOk result (λ p. WentPast p.kind cursor.old cursor.new) }
     ensures moves { Moves cursor.old cursor.new }
-    ensures most { Most 37 65 cursor.old cursor.new }
+    ensures most { Most 37 41 cursor.old cursor.new }
 {
     let place = cursor.checkpoint();
     let Some(c) = cursor.take() else {

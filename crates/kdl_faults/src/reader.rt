@@ -8,15 +8,18 @@ ghost use Rattle.kdl_faults.specs.Internal.Noted.{
   KeepsBetween,
   KeepsUpTo,
   IsReaderOf,
+  ReadsAgain,
 };
 ghost use Rattle.kdl_faults.specs.Internal.Reading.{Most};
 ghost use Rattle.kdl_faults.specs.declared.pieces.PieceKind.TheVariants.{End};
 ghost use Rattle.kdl_text.specs.Internal.Reading.{Moves};
+ghost use Rattle.kdl_text.specs.Chars.{Text};
 ghost use Rattle.kdl_text.specs.Spans.{raise};
 ghost use Rattle.std.specs.Prelude.{◌≡◌, [], true};
 ghost use Rattle.std.specs.Str.{chars};
 
 use crate::ends::value_end;
+use crate::esclines::{Candidate, esclines};
 use crate::kind::Kind;
 use crate::machine::{Move, Phase};
 use crate::pieces::{Piece, PieceKind, StringRole, next_piece};
@@ -64,6 +67,8 @@ pub(crate) struct Reader<'a> {
     /// Whether reading is over.
     is_over: bool,
     faults: Vec<Fault>,
+    /// Where a fault may end a byte earlier, in the order of the text.
+    candidates: Vec<Candidate>,
 }
 
 /// Whether the piece begins a node or an entry.
@@ -112,6 +117,7 @@ impl<'a> Reader<'a> {
             is_cut: false,
             is_over: false,
             faults: Vec::new(alloc),
+            candidates: Vec::new(alloc),
         }
     }
 
@@ -139,6 +145,28 @@ impl<'a> Reader<'a> {
         Ok(())
     }
 
+    /// Notes that a fault of the kind, which is the next to be noted and begins at the place, may end at a backslash.
+    fn note_candidate(
+        &mut self,
+        kind: Kind,
+        from: &Checkpoint<'a>,
+        piece: &Piece<'a>,
+    ) -> Result<(), AllocError>
+        ensures keeps { KeepsUpTo piece.now from.now from.now self.old self.new }
+        ensures cursor { self.new.cursor ≡ self.old.cursor }
+        ensures same { self.new.is_over ≡ self.old.is_over }
+    {
+        if let Some(backslash) = &piece.backslash {
+            let span = self.whole.span_between(from, backslash);
+            self.candidates.push(Candidate {
+                at: backslash.at(),
+                number: self.faults.len(),
+                fault: Fault { kind, span },
+            })?;
+        }
+        Ok(())
+    }
+
     /// Notes a fault from a place up to another behind it, or at the first character of the piece where they are one place.
     fn note_up_to(
         &mut self,
@@ -154,6 +182,7 @@ impl<'a> Reader<'a> {
         if from.at() == to.at() {
             self.note(kind, &piece.start, &piece.next)
         } else {
+            self.note_candidate(kind, from, piece)?;
             self.note(kind, from, to)
         }
     }
@@ -378,7 +407,7 @@ impl<'a> Reader<'a> {
         if let Some(kind) = piece.fault {
             match self.phase {
                 Phase::TypeFaulty => {}
-                _ => self.note(kind, &piece.start, &piece.end)?,
+                _ => self.note_up_to(kind, &piece.start, &piece.end, piece)?,
             }
         }
         self.apply(piece, step, false)
@@ -519,7 +548,7 @@ impl<'a> Reader<'a> {
     /// Notes the faults of a text that is to be an identifier.
     fn read_identifier(&mut self) -> Result<(), AllocError>
         ensures keeps { Keeps self.old self.new }
-        ensures bounded { Bounded 128 self.old.cursor self.new.cursor }
+        ensures bounded { Bounded 124 self.old.cursor self.new.cursor }
     {
         let start = self.cursor.checkpoint();
         let piece = next_piece(self.alloc, &mut self.cursor, StringRole::Plain)?;
@@ -527,7 +556,7 @@ impl<'a> Reader<'a> {
             return self.note_character(&start);
         };
         if let Some(kind) = fault {
-            return self.note(kind, &piece.start, &piece.end);
+            return self.note_up_to(kind, &piece.start, &piece.end, &piece);
         }
         self.cursor.go_to(&piece.end);
         if self.cursor.look().is_none() {
@@ -547,10 +576,10 @@ impl<'a> Reader<'a> {
         }
     }
 
-    /// Notes the faults of the text.
-    pub(crate) fn read(&mut self) -> Result<(), AllocError>
+    /// Notes the faults of the text, with esclines that begin in strings left aside.
+    fn read(&mut self) -> Result<(), AllocError>
         ensures keeps { Keeps self.old self.new }
-        ensures bounded { Bounded 128 self.old.cursor self.new.cursor }
+        ensures bounded { Bounded 124 self.old.cursor self.new.cursor }
     {
         if let Whole::Identifier = self.text {
             return self.read_identifier();
@@ -562,5 +591,44 @@ impl<'a> Reader<'a> {
             self.take(&piece)?;
         }
         Ok(())
+    }
+
+    /// Sets the fault of the candidate with the number: the backslash begins an escline.
+    fn settle(&mut self, candidate: usize)
+        ensures keeps { Keeps self.old self.new }
+        ensures cursor { self.new.cursor ≡ self.old.cursor }
+    {
+        if candidate >= self.candidates.len() {
+            return;
+        }
+        let Candidate { number, fault, .. } = self.candidates[candidate];
+        if number < self.faults.len() {
+            self.faults[number] = fault;
+        }
+    }
+
+    /// Sets the faults that end at an escline which begins in a string.
+    fn settle_all(&mut self) -> Result<(), AllocError>
+        ensures keeps { Keeps self.old self.new }
+        ensures bounded { ReadsAgain 4 self.old self.new }
+    {
+        if self.candidates.is_empty() {
+            return Ok(());
+        }
+        self.cursor.go_to(&self.whole);
+        let found = esclines(self.alloc, &mut self.cursor, &self.candidates)?;
+        for candidate in &found {
+            self.settle(*candidate);
+        }
+        Ok(())
+    }
+
+    /// Notes the faults of the text.
+    pub(crate) fn find(&mut self) -> Result<(), AllocError>
+        ensures keeps { Keeps self.old self.new }
+        ensures bounded { (text : Text) → IsReaderOf text self.old → self.old.cursor.rest ≡ text → Bounded 128 self.old.cursor self.new.cursor }
+    {
+        self.read()?;
+        self.settle_all()
     }
 }

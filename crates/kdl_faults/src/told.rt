@@ -64,7 +64,7 @@ pub fn faults(
     ensures raised { raise steps.old 0 ≤ raise steps.new 0 }
 {
     let mut reader = Reader::new(alloc, text, whole, mem::replace(steps, Steps::new()));
-    let answer = reader.read();
+    let answer = reader.find();
     let (faults, count) = reader.into_parts();
     *steps = count;
     answer?;

@@ -7,6 +7,7 @@ use Rattle.kdl_faults.specs.Internal.Reading.{Stands}
 use Rattle.kdl_faults.specs.declared.pieces.Piece.{Piece}
 use Rattle.kdl_faults.specs.declared.reader.Block.{Block}
 use Rattle.kdl_faults.specs.declared.reader.Fault.{Fault}
+use Rattle.kdl_faults.specs.declared.esclines.Candidate.{Candidate}
 use Rattle.kdl_faults.specs.declared.reader.Reader.{Reader}
 
 -- the place lies in the text
@@ -21,6 +22,10 @@ Noted text faults = All (λ (f : Fault). InText text f.span) faults
 abbrev pub Opened : Text → List Block → Type 0
 Opened text blocks = All (λ (b : Block). InText text b.span) blocks
 
+-- each fault that may be noted has a span in the text
+abbrev pub Candidates : Text → List Candidate → Type 0
+Candidates text candidates = All (λ (c : Candidate). InText text c.fault.span) candidates
+
 -- a reader of the text: all its places are in the text, all its spans too
 pub record IsReaderOf (text : Text) (r : Reader) : Type 0 where
   pub whole : r.whole.rest ≡ text
@@ -28,6 +33,7 @@ pub record IsReaderOf (text : Text) (r : Reader) : Type 0 where
   pub left : LiesIn text r.left
   pub faults : Noted text r.faults.items
   pub blocks : Opened text r.blocks.items
+  pub candidates : Candidates text r.candidates.items
 
 -- what a reader holds of a text stays of the text
 abbrev pub Keeps : Reader → Reader → Type 0
@@ -53,3 +59,8 @@ IsPlaceAt r p place = (text : Text) → IsReaderOf text r → Stands text p → 
 pub record Bounded (k : ℕ) (old new : Here) : Type 0 where
   pub most : new.steps ≤ old.steps + k * (bytes old.rest + 1)
   pub counts : raise old.steps 0 ≤ raise new.steps 0
+
+-- at most k steps for each byte of the text that is read again, and k more; the count did not fall
+pub record ReadsAgain (k : ℕ) (old new : Reader) : Type 0 where
+  pub most : new.cursor.steps ≤ old.cursor.steps + k * (bytes old.whole.rest + 1)
+  pub counts : raise old.cursor.steps 0 ≤ raise new.cursor.steps 0

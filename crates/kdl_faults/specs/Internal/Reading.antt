@@ -1,5 +1,6 @@
 -- What the readers of pieces and value ends go past, and what that costs.
 use Rattle.std.specs.Prelude.{◌≡◌, ℕ, ◌+◌, ◌-◌, ◌*◌, ◌<◌, ◌≤◌, ◌++◌, Option, Some, None}
+use Rattle.std.specs.Option.{IfSome}
 use Rattle.kdl_text.specs.Chars.{Text}
 use Rattle.kdl_text.specs.Internal.Here.{Ahead, Here, Spot}
 use Rattle.kdl_text.specs.Spans.{bytes}
@@ -70,6 +71,7 @@ pub record Stands (rest : Text) (p : Piece) : Type 0 where
   pub start : (q : Text) × (rest ≡ q ++ p.start.rest)
   pub next : (q : Text) × (p.start.rest ≡ q ++ p.next.rest)
   pub end : (q : Text) × (p.start.rest ≡ q ++ p.end.rest)
+  pub backslash : IfSome p.backslash (λ b. (q : Text) × (p.start.rest ≡ q ++ b.rest))
   pub comment : (c : Unclosed) → p.comment ≡ Some c → (q r : Text) × (rest ≡ q ++ c.start.rest) × (c.start.rest ≡ r ++ c.end.rest)
 
 -- the cursor went past a piece, or the text ends here

@@ -23,7 +23,7 @@ returns-in-Other-2-clause-piece c =
     let m = begun c.args.start c.args.cursor.now c.go_to.new.self c.requires.start.spans c.go_to.ensures in
     let next = c.requires.start.spans.next in
     record {
-      stands = stands_at c.args.start _ c.go_to.new.self c.behind_backslash.new.cursor _ refl refl refl c.requires.start.spans (next.0, next.1 ∙ ap (λ z. next.0 ++ z.rest) (sym c.copied.ensures)) m.piece tt;
+      stands = stands_at c.args.start _ c.go_to.new.self c.behind_backslash.new.cursor _ refl refl refl c.requires.start.spans (next.0, next.1 ∙ ap (λ z. next.0 ++ z.rest) (sym c.copied.ensures)) m.piece tt tt;
       more = λ e. cc;
       went = omega (arith, c.requires.start.fewer, ap (λ z. bytes z.rest) c.go_to.ensures, fewer_bytes c.behind_backslash.ensures.moves);
     }

@@ -6,7 +6,7 @@ use Rattle.kdl_faults.proofs.pieces.end_within.Goals as goal
 pub returns-clause-most : goal.returns-clause-most
 returns-clause-most c =
     let inside = c.enter-here.ensures.inside in
-    let end = c.value_end.ensures in
+    let end = c.value_end-end.ensures in
     omega (
       arith,
       ap bytes (c.up_to.ensures ∙ ap (λ z. c.up_to.result ++ z) c.checkpoint.ensures.rest),
@@ -16,8 +16,8 @@ returns-clause-most c =
       ap (λ z. bytes z.rest) inside,
       end.most,
       end.end.place.at,
-      c.at-at.ensures,
+      c.at.ensures,
       ap (λ z. z.steps) c.go_to.ensures,
-      c.go_on.ensures.most,
+      c.go_on-last.ensures.most,
       ap (λ z. z.steps) c.go_to-2.ensures,
     )

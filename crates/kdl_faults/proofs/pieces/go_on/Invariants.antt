@@ -1,4 +1,5 @@
-use Rattle.std.proofs.Common.{◌+◌, ◌-◌, ◌≤◌}
+use Rattle.std.proofs.Common.{◌≡◌, ◌+◌, ◌-◌, ◌≤◌, ◌++◌}
+use Rattle.kdl_text.specs.Chars.{Text}
 use Rattle.kdl_text.specs.Spans.{bytes}
 use Rattle.kdl_text.specs.Internal.Reading.{Moves}
 use Rattle.kdl_faults.proofs.pieces.go_on.Given as goal
@@ -9,6 +10,7 @@ invariant-chars l = record {
   on : l.start ≤ l.cursor.at;
   steps : l.cursor.steps ≤ l.fn.cursor.steps + (l.cursor.at - l.start);
   most : l.cursor.steps ≤ l.fn.cursor.steps + l.by;
+  last : (p : Text) × (l.fn.cursor.rest ≡ p ++ l.last.rest);
 }
 
 abbrev pub decreases-chars : goal.decreases-chars

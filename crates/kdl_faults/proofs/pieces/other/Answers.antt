@@ -11,7 +11,7 @@ pub returns-clause-piece : goal.returns-clause-piece
 returns-clause-piece c =
     let m = begun c.args.start c.args.cursor.now c.go_to.new.self c.requires.spans c.go_to.ensures in
     record {
-      stands = stands_word c.args.start _ c.go_to.new.self c.value_end-end.new.cursor c.value_end-end.result refl refl refl refl c.requires.spans m.piece c.value_end-end.ensures.end;
+      stands = stands_word c.args.start _ c.go_to.new.self c.value_end-end.new.cursor c.value_end-end.result refl refl refl refl refl c.requires.spans m.piece c.value_end-end.ensures.end;
       more = λ e. cc;
       went = omega (arith, c.requires.fewer, ap (λ z. bytes z.rest) c.go_to.ensures, fewer_bytes c.value_end-end.ensures.moves);
     }

@@ -24,3 +24,8 @@ returns-in_ok-scan-in-34-clause-most c =
       fewer_bytes c.string.ensures.moves,
       ap (λ z. bytes z.rest) c.requires.here,
     )
+
+pub returns-then-begins_number-clause-most : goal.returns-then-begins_number-clause-most
+returns-then-begins_number-clause-most c =
+    let b = c.begins_number.ensures.stayed in
+    omega (arith, b.1, b.2.steps, ap bytes b.2.rest, c.number_piece.ensures.most, fewer_bytes c.number_piece.ensures.moves)

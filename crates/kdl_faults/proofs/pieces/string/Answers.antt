@@ -2,7 +2,7 @@ use Rattle.std.proofs.Common.{refl, ap, arith}
 use Rattle.kdl_text.specs.Spans.{bytes}
 use Rattle.kdl_text.proofs.Looking.MovesJoin.{fewer_bytes}
 use Rattle.kdl_faults.proofs.Passing.{behind_then, behind_same, behind_bytes}
-use Rattle.kdl_faults.proofs.PieceMoves.{found_in_role, stands_at}
+use Rattle.kdl_faults.proofs.PieceMoves.{ahead_if, found_in_role, stands_at}
 use Rattle.kdl_faults.proofs.pieces.string.Goals as goal
 
 pub returns-in_default-clause-most : goal.returns-in_default-clause-most
@@ -18,6 +18,7 @@ returns-clause-stands c =
     let behind = behind_same _ _ _ back c.checkpoint-behind.ensures.rest in
     let end = behind_then _ _ _ back c.value_end-end.ensures.end.place.before in
     stands_at c.args.start _ c.end_within-inside.new.cursor c.value_end-end.new.cursor _ refl refl refl c.requires.start (c.end_of_fault.ensures c.args.start.place inside behind end) back c.value_end-end.ensures.end.comment
+    (ahead_if _ _ _ found.before c.end_within-inside.ensures.backslash)
 
 pub returns-clause-most : goal.returns-clause-most
 returns-clause-most c =

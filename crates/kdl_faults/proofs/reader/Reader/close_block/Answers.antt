@@ -6,7 +6,7 @@ use Rattle.kdl_faults.proofs.reader.Reader.close_block.Goals.{then-not-is_told+i
 
 pub returns-in_err-note-in-None-clause-keeps : goal.returns-in_err-note-in-None-clause-keeps
 returns-in_err-note-in-None-clause-keeps c text x s =
-    c.note.ensures.keeps text (record { whole = x.whole; here = x.here; left = x.left; faults = x.faults; blocks = (opened_less text _ _ None c.in-None.ensures.items x.blocks).0 }) s.start (next_lies text c.args.piece.now s)
+    c.note.ensures.keeps text (record { whole = x.whole; here = x.here; left = x.left; faults = x.faults; blocks = (opened_less text _ _ None c.in-None.ensures.items x.blocks).0; candidates = x.candidates }) s.start (next_lies text c.args.piece.now s)
 
 pub returns-in-Some-clause-keeps : goal.returns-in-Some-clause-keeps
 returns-in-Some-clause-keeps c text x s = record {
@@ -15,13 +15,14 @@ returns-in-Some-clause-keeps c text x s = record {
   left = x.left;
   faults = x.faults;
   blocks = (opened_less text c.args.self.now.blocks.items c.pop.new.self.items (Some c.in-Some.block) c.in-Some.ensures.items x.blocks).0;
+  candidates = x.candidates;
 }
 
 pub returns-after-not-is_told-clause-keeps : goal.returns-after-not-is_told-clause-keeps
 returns-after-not-is_told-clause-keeps c text x s =
     let blocks = (opened_less text c.args.self.now.blocks.items c.pop.new.self.items None c.in-None.ensures.items x.blocks).0 in
     let mid : IsReaderOf text c.if-not-is_told.self = elim c.if-not-is_told.branch [
-      | then-not-is_told+in_ok-note-in-None w ↦ rw w.self-is (w.note.ensures.keeps text (record { whole = x.whole; here = x.here; left = x.left; faults = x.faults; blocks = blocks }) s.start (next_lies text c.args.piece.now s))
-      | else-not-is_told w ↦ rw w.self-is (record { whole = x.whole; here = x.here; left = x.left; faults = x.faults; blocks = blocks })
+      | then-not-is_told+in_ok-note-in-None w ↦ rw w.self-is (w.note.ensures.keeps text (record { whole = x.whole; here = x.here; left = x.left; faults = x.faults; blocks = blocks; candidates = x.candidates }) s.start (next_lies text c.args.piece.now s))
+      | else-not-is_told w ↦ rw w.self-is (record { whole = x.whole; here = x.here; left = x.left; faults = x.faults; blocks = blocks; candidates = x.candidates })
     ] in
     c.go_to.ensures.keeps text mid

@@ -11,6 +11,7 @@ returns-in-Left-clause-keeps c text x = record {
   left = x.left;
   faults = x.faults;
   blocks = x.blocks;
+  candidates = x.candidates;
 }
 
 pub returns-in_default-clause-end : goal.returns-in_default-clause-end

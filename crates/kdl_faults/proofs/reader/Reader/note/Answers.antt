@@ -8,6 +8,7 @@ returns-in_err-push-clause-keeps c text x u v = record {
   left = x.left;
   faults = noted_same text c.args.self.now.faults.items c.push.new.self.items c.in_err-push.ensures.items x.faults;
   blocks = x.blocks;
+  candidates = x.candidates;
 }
 
 pub returns-clause-keeps : goal.returns-clause-keeps
@@ -19,4 +20,5 @@ returns-clause-keeps c text x u v =
       left = x.left;
       faults = noted_more text c.args.self.now.faults.items c.push.new.self.items _ c.in_ok-push.ensures.items x.faults s;
       blocks = x.blocks;
+      candidates = x.candidates;
     }

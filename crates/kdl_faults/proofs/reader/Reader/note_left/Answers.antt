@@ -8,4 +8,5 @@ returns-in-Left-clause-keeps c text x s = record {
   left = same_lies text c.copied-self.result c.args.piece.now.next c.copied-self.ensures (next_lies text c.args.piece.now s);
   faults = x.faults;
   blocks = x.blocks;
+  candidates = x.candidates;
 }

@@ -8,6 +8,7 @@ returns-in_err-push-clause-keeps c text x s = record {
   left = x.left;
   faults = x.faults;
   blocks = opened_same text c.args.self.now.blocks.items c.push.new.self.items c.in_err-push.ensures.items x.blocks;
+  candidates = x.candidates;
 }
 
 pub returns-clause-keeps : goal.returns-clause-keeps
@@ -19,4 +20,5 @@ returns-clause-keeps c text x s =
       left = x.left;
       faults = x.faults;
       blocks = opened_more text c.args.self.now.blocks.items c.push.new.self.items _ c.in_ok-push.ensures.items x.blocks i;
+      candidates = x.candidates;
     }

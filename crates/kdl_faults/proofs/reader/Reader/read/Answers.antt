@@ -12,7 +12,7 @@ pub returns-in_err-piece : goal.returns-in_err-piece
 returns-in_err-piece c = record {
   keeps = λ text x.
       (let y = c.pieces.invariant.keeps text x in
-      record { whole = y.whole; here = moved_here text c.pieces.self.cursor c.next_piece.new.cursor y.here c.next_piece.ensures.moves; left = y.left; faults = y.faults; blocks = y.blocks });
+      record { whole = y.whole; here = moved_here text c.pieces.self.cursor c.next_piece.new.cursor y.here c.next_piece.ensures.moves; left = y.left; faults = y.faults; blocks = y.blocks; candidates = y.candidates });
   bounded = turning_fails c.args.self.now.cursor c.pieces.self.cursor c.next_piece.new.cursor c.pieces.self.is_over c.pieces-test.true c.pieces.invariant.turning c.next_piece.ensures.moves c.next_piece.ensures.most;
 }
 
@@ -25,7 +25,7 @@ pieces-preserved c = record {
   keeps = λ text x.
       (let y = c.pieces.invariant.keeps text x in
       let s = stands_in text c.pieces.self.cursor.rest c.in_ok-piece.piece y.here c.in_ok-piece.ensures.piece in
-      c.take.ensures.keeps text (record { whole = y.whole; here = moved_here text c.pieces.self.cursor c.next_piece.new.cursor y.here c.next_piece.ensures.moves; left = y.left; faults = y.faults; blocks = y.blocks }) s);
+      c.take.ensures.keeps text (record { whole = y.whole; here = moved_here text c.pieces.self.cursor c.next_piece.new.cursor y.here c.next_piece.ensures.moves; left = y.left; faults = y.faults; blocks = y.blocks; candidates = y.candidates }) s);
   turning = turning_turn c.args.self.now.cursor c.pieces.self.cursor c.next_piece.new.cursor c.take.new.self.cursor c.in_ok-piece.piece.kind c.pieces.self.is_over c.take.new.self.is_over c.pieces-test.true c.pieces.invariant.turning c.next_piece.ensures.moves c.next_piece.ensures.most c.in_ok-piece.ensures.went c.take.ensures.moves c.take.ensures.most c.take.ensures.over;
 }
 
@@ -34,6 +34,6 @@ returns-in_err-take c = record {
   keeps = λ text x.
       (let y = c.pieces.invariant.keeps text x in
       let s = stands_in text c.pieces.self.cursor.rest c.in_ok-piece.piece y.here c.in_ok-piece.ensures.piece in
-      c.take.ensures.keeps text (record { whole = y.whole; here = moved_here text c.pieces.self.cursor c.next_piece.new.cursor y.here c.next_piece.ensures.moves; left = y.left; faults = y.faults; blocks = y.blocks }) s);
+      c.take.ensures.keeps text (record { whole = y.whole; here = moved_here text c.pieces.self.cursor c.next_piece.new.cursor y.here c.next_piece.ensures.moves; left = y.left; faults = y.faults; blocks = y.blocks; candidates = y.candidates }) s);
   bounded = turning_stops c.args.self.now.cursor c.pieces.self.cursor c.next_piece.new.cursor c.take.new.self.cursor c.pieces.self.is_over c.pieces-test.true c.pieces.invariant.turning c.next_piece.ensures.moves c.next_piece.ensures.most c.take.ensures.moves c.take.ensures.most;
 }

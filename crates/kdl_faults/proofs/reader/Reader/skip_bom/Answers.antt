@@ -9,6 +9,7 @@ returns-in-Document-clause-keeps c text x = record {
   left = x.left;
   faults = x.faults;
   blocks = x.blocks;
+  candidates = x.candidates;
 }
 
 pub returns-in-Document-clause-moves : goal.returns-in-Document-clause-moves

@@ -1,0 +1,171 @@
+//! Backslashes in strings that begin an escline together with the text after the string.
+
+ghost use Rattle.kdl_faults.specs.Internal.Reading.{Most};
+ghost use Rattle.kdl_faults.specs.declared.esclines.Part.TheVariants.{Last};
+ghost use Rattle.kdl_text.specs.Internal.Reading.{Moves};
+ghost use Rattle.kdl_text.specs.Spans.{bytes};
+ghost use Rattle.std.specs.Prelude.{◌≡◌, ◌+◌, ◌<◌, ◌≤◌};
+
+use crate::reader::Fault;
+use kdl_text::chars::{Cursor, is_newline_char, is_space};
+use std::alloc::{AllocError, Global};
+
+/// A backslash in a string, before a block comment that the string does not close. It begins an escline if the text after
+/// the string closes the comment, and a line ends there.
+#[derive(Clone, Copy)]
+pub(crate) struct Candidate {
+    /// Where the backslash is, in bytes from the start of the text.
+    pub at: usize,
+    /// The number of the string's fault among the faults of the text, from 0 on.
+    pub number: usize,
+    /// The string's fault if the backslash begins an escline.
+    pub fault: Fault,
+}
+
+/// A part of a text, as far as block comments and esclines go.
+#[derive(Clone, Copy)]
+enum Part {
+    /// `/*`.
+    Opening,
+    /// `*/`.
+    Closing,
+    /// A backslash.
+    Backslash,
+    /// A space.
+    Space,
+    /// What ends an escline: a newline, or the first character of `//`.
+    Break,
+    /// Another character.
+    Other,
+    /// The end of the text, which ends an escline too.
+    Last,
+}
+
+/// The part that begins with a slash, which the cursor went past.
+fn slash_part(cursor: &mut Cursor) -> Part
+    ensures moves { Moves cursor.old cursor.new }
+    ensures most { cursor.new.steps ≤ cursor.old.steps + 2 }
+{
+    if cursor.eat('*') {
+        Part::Opening
+    } else if cursor.look() == Some('/') {
+        Part::Break
+    } else {
+        Part::Other
+    }
+}
+
+/// The part that begins with a star, which the cursor went past.
+fn star_part(cursor: &mut Cursor) -> Part
+    ensures moves { Moves cursor.old cursor.new }
+    ensures most { cursor.new.steps ≤ cursor.old.steps + 2 }
+{
+    if cursor.eat('/') {
+        Part::Closing
+    } else {
+        Part::Other
+    }
+}
+
+/// The part that the character c is alone, which is no slash and no star.
+fn part_of(c: char) -> Part {
+    match c {
+        '\\' => Part::Backslash,
+        c if is_space(c) => Part::Space,
+        c if is_newline_char(c) => Part::Break,
+        _ => Part::Other,
+    }
+}
+
+/// Goes past the part here.
+fn next_part(cursor: &mut Cursor) -> Part
+    ensures moves { Moves cursor.old cursor.new }
+    ensures went { (result ≡ Last → ⊥) → bytes cursor.new.rest < bytes cursor.old.rest }
+    ensures most { Most 3 1 cursor.old cursor.new }
+{
+    match cursor.take() {
+        None => Part::Last,
+        Some('/') => slash_part(cursor),
+        Some('*') => star_part(cursor),
+        Some(c) => part_of(c),
+    }
+}
+
+/// The block comments around a place in a text.
+#[derive(Drop)]
+struct Comments {
+    /// How many candidates are before the place.
+    next: usize,
+    /// For each open block comment the candidate that it follows, with nothing but spaces and block comments between.
+    open: Vec<Option<usize>>,
+    /// The candidate that the place follows in this way.
+    last: Option<usize>,
+    /// The candidates that begin an escline.
+    found: Vec<usize>,
+}
+
+impl Comments {
+    /// No comment, and no candidate yet.
+    fn new(alloc: Global) -> Self {
+        Comments {
+            next: 0,
+            open: Vec::new(alloc),
+            last: None,
+            found: Vec::new(alloc),
+        }
+    }
+
+    /// The candidate whose backslash is at the place, if one is.
+    fn begin(&mut self, at: usize, candidates: &[Candidate]) -> Option<usize> {
+        let next = self.next;
+        if next >= candidates.len() || candidates[next].at != at {
+            return None;
+        }
+        self.next = next + 1;
+        Some(next)
+    }
+
+    /// Goes past the part at the place.
+    fn take(&mut self, part: Part, at: usize, candidates: &[Candidate]) -> Result<(), AllocError> {
+        self.last = match part {
+            Part::Space => self.last,
+            Part::Opening => {
+                self.open.push(self.last)?;
+                None
+            }
+            Part::Closing => self.open.pop().flatten(),
+            Part::Backslash => self.begin(at, candidates),
+            Part::Break | Part::Last => {
+                if let Some(candidate) = self.last {
+                    self.found.push(candidate)?;
+                }
+                None
+            }
+            Part::Other => None,
+        };
+        Ok(())
+    }
+}
+
+/// The candidates that begin an escline, by their numbers from 0 on. The cursor is at the start of the text, or before the
+/// first candidate, and the candidates are in the order of the text. It goes to the end of the text.
+///
+/// Block comments nest, and a backslash is a part alone, so one pass reads the comments of all candidates.
+pub(crate) fn esclines(
+    alloc: Global,
+    cursor: &mut Cursor,
+    candidates: &[Candidate],
+) -> Result<Vec<usize>, AllocError>
+    ensures moves { Moves cursor.old cursor.new }
+    ensures most { Most 4 1 cursor.old cursor.new }
+{
+    let mut comments = Comments::new(alloc);
+    'parts: loop {
+        let at = cursor.at();
+        let part = next_part(cursor);
+        comments.take(part, at, candidates)?;
+        if let Part::Last = part {
+            return Ok(comments.found);
+        }
+    }
+}
