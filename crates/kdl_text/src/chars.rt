@@ -98,6 +98,9 @@ pub fn is_identifier_char(c: char) -> bool
 pub fn is_literal(c: char) -> bool
     ensures { result ≡ class.is_literal c }
 {
+    if c.is_ascii() {
+        return is_inside(c as u8, &LITERALS);
+    }
     !(c == '\\' || c == '"' || is_newline_char(c) || is_banned(c))
 }
 
@@ -468,6 +471,16 @@ impl<'a> Model for Segment<'a> {
     ghost view = { λ s. chars s.text.now };
 }
 
+impl<'a> Segment<'a> {
+    /// The bytes of the segment. No step.
+    #[inline]
+    pub fn byte_len(&self) -> usize
+        ensures { result ≡ bytes self.now }
+    {
+        byte_len(self.text)
+    }
+}
+
 /// The characters of a segment, all of which are counted. Each is taken once.
 #[derive(Drop)]
 pub struct Characters<'a> {
@@ -504,6 +517,14 @@ impl<'a> Characters<'a> {
         ensures { result ≡ bytes self.now }
     {
         byte_len(self.text)
+    }
+
+    /// The characters that are left, as a piece.
+    #[inline]
+    pub fn into_piece(self) -> Piece<'a>
+        ensures { result ≡ self.entry }
+    {
+        Piece { text: self.text }
     }
 }
 

@@ -1,9 +1,11 @@
 -- What the lines of a string and their dedent cost.
-use Rattle.std.proofs.Common.{ℕ, ◌+◌, ◌*◌, ◌≤◌, length, ap, arith}
+use Rattle.std.proofs.Common.{◌≡◌, ℕ, ◌+◌, ◌*◌, ◌<◌, ◌≤◌, List, [], ◌∷◌, ◌++◌, length, take, drop, get_or, ap, arith}
+use Rattle.std.proofs.lemmas.List.{take-append-drop, take_more}
 use Rattle.kdl_text.specs.Chars.{Text}
 use Rattle.kdl_text.specs.Internal.Here.{Here, Returned}
-use Rattle.kdl_text.specs.Internal.Lines.{CostsWith}
+use Rattle.kdl_text.specs.Internal.Lines.{CostsWith, line_room, lines_room}
 use Rattle.kdl_text.specs.Spans.{bytes}
+use Rattle.kdl_text.specs.declared.strings.dedent.Line.{Line}
 use Rattle.kdl_text.specs.Internal.Reading.{Moves, Costs}
 use Rattle.kdl_text.proofs.Looking.MovesJoin.{fewer_bytes, moves_then}
 use Rattle.kdl_text.proofs.Looking.Returns.{moves_returned}
@@ -38,3 +40,14 @@ plain_costs p a b k s = record { most = omega (arith, k.most, s); least = k.leas
 -- lines that were read, without their dedent
 pub lines_read : (n : ℕ) (f a : Here) → CostsWith n f a → Costs 4 1 f a
 lines_read n f a i = record { most = omega (arith, i.most); least = i.least }
+
+lines_room-append : (ls ks : List Line) → lines_room (ls ++ ks) ≡ lines_room ls + lines_room ks
+lines_room-append [] ks = omega arith
+lines_room-append (l ∷ ls) ks = omega (arith, lines_room-append ls ks)
+
+-- room for one line more
+pub room_more : (ls : List Line) (i : ℕ) (x : Line) → i < length ls → x ≡ get_or ls i x → lines_room (take (i + 1) ls) ≡ lines_room (take i ls) + line_room x
+room_more ls i x h is = omega (arith, ap lines_room (take_more ls i x h), lines_room-append (take i ls) (get_or ls i x ∷ []), ap line_room is)
+
+pub room_whole : (ls : List Line) (i : ℕ) → lines_room (take i ls) ≤ lines_room ls
+room_whole ls i = omega (arith, ap lines_room (take-append-drop i ls), lines_room-append (take i ls) (drop i ls))

@@ -1,5 +1,5 @@
 -- Keywords: a text begins with one at most.
-use Rattle.std.proofs.Common.{◌≡◌, ℕ, ◌<◌, [], ◌∷◌, ◌++◌, Bool, true, false, ◌==◌, refl, ap, sym, ◌∙◌, subst, arith, Some, None, ◌↔◌, inl, inr, IsTrue, lit<, zero, suc}
+use Rattle.std.proofs.Common.{◌≡◌, ℕ, [], ◌∷◌, ◌++◌, Bool, true, false, ◌==◌, refl, ap, sym, ◌∙◌, subst, arith, Some, None, ◌↔◌, inl, inr, IsTrue, lit<, zero, suc}
 use Rattle.std.proofs.lemmas.Bool.{and_parts}
 use Rattle.std.proofs.lemmas.List.{append_cancel_right}
 use Rattle.std.specs.Prelude.{if◌then◌else◌, Option, codes, nat_lt}

@@ -19,6 +19,16 @@ abbrev pub line_units : Line → List LineUnit
 line_units (Plain p) = literals p
 line_units (Units us) = us.items
 
+-- room for the value of a line and a line feed, as far as each unit is a byte
+abbrev pub line_room : Line → ℕ
+line_room (Plain p) = bytes p + 1
+line_room (Units us) = length us.items + 1
+
+-- and for the values of lines
+abbrev pub lines_room : List Line → ℕ
+lines_room [] = 0
+lines_room (line ∷ lines) = line_room line + lines_room lines
+
 -- how many bytes of a line are read again when it is dedented
 abbrev pub bytes_again : Line → ℕ
 bytes_again (Plain p) = bytes p

@@ -4,8 +4,7 @@ ghost use Rattle.kdl_text.specs.Chars.{is_space};
 ghost use Rattle.kdl_text.specs.Dedent as spec;
 ghost use Rattle.kdl_text.specs.Dedent.{Dedents, LineValue, LineValues, joined, lines_of};
 ghost use Rattle.kdl_text.specs.Internal.Here.{Counted, Returned};
-ghost use Rattle.kdl_text.specs.Internal.Lines.{EatsUnits, bytes_again, line_steps, line_units, lines_steps};
-ghost use Rattle.kdl_text.specs.Internal.Reading.{Moves, Costs};
+ghost use Rattle.kdl_text.specs.Internal.Lines.{EatsUnits, bytes_again, line_room, line_steps, line_units, lines_room, lines_steps};
 ghost use Rattle.kdl_text.specs.Raw.{literals};
 ghost use Rattle.kdl_text.specs.Spans.{bytes};
 ghost use Rattle.kdl_text.specs.declared.strings.StringFailure.TheVariants.{Memory};
@@ -91,8 +90,6 @@ fn is_space_unit(unit: LineUnit) -> bool
 fn is_all_space(cursor: &mut Cursor) -> bool
     ensures result { result ≡ list_all is_space cursor.old.rest }
     ensures counted { Counted (bytes cursor.old.rest + 2) cursor.old cursor.new }
-    ensures fewer { result ≡ false
-        → cursor.new.steps ≤ cursor.old.steps + bytes cursor.old.rest + 1 }
 {
     cursor.skip(Class::Space);
     cursor.look().is_none()
@@ -196,60 +193,29 @@ fn push_units(
     Ok(())
 }
 
-/// Goes past the next character. Whether it is that of the unit.
-fn eat_unit(unit: LineUnit, cursor: &mut Cursor) -> bool
-    ensures eats { EatsUnits (unit ∷ []) result cursor.old.rest cursor.new.rest }
-    ensures moves { Moves cursor.old cursor.new }
-    ensures costs { Costs 1 1 cursor.old cursor.new }
-    ensures cost { result ≡ true → Costs 1 0 cursor.old cursor.new }
+/// Takes the next character. Whether it is that of the unit.
+fn eat_unit(unit: LineUnit, characters: &mut Characters) -> bool
+    ensures { EatsUnits (unit ∷ []) result characters.old characters.new }
 {
     let LineUnit::Literal(wanted) = unit else {
         return false;
     };
-    match cursor.take() {
+    match characters.next() {
         Some(c) => c == wanted,
         None => false,
     }
 }
 
-/// Goes past the prefix, if it comes next. Whether it does.
-fn eat_prefix(prefix: &[LineUnit], cursor: &mut Cursor) -> bool
-    ensures eats { EatsUnits prefix.now result cursor.old.rest cursor.new.rest }
-    ensures moves { Moves cursor.old cursor.new }
-    ensures costs { Costs 1 1 cursor.old cursor.new }
-    ensures cost { result ≡ true → Costs 1 0 cursor.old cursor.new }
+/// Takes the prefix, if it comes next. Whether it does.
+fn eat_prefix(prefix: &[LineUnit], characters: &mut Characters) -> bool
+    ensures { EatsUnits prefix.now result characters.old characters.new }
 {
     for unit in prefix {
-        if !eat_unit(*unit, cursor) {
+        if !eat_unit(*unit, characters) {
             return false;
         }
     }
     true
-}
-
-/// Appends the value of a line without escapes, which reaches from here to the end of the text.
-fn push_rest(
-    out: &mut String,
-    prefix: &[LineUnit],
-    cursor: &mut Cursor,
-) -> Result<(), StringFailure>
-    ensures done { OnOk result
-        ((v : List ℕ) × LineValue prefix.now (literals cursor.old.rest) v
-        × (chars (string_bytes out.new) ≡ chars (string_bytes out.old) ++ v)) }
-    ensures failed { IfErr result (λ e. (e ≡ Memory → ⊥) → (v : List ℕ)
-        → LineValue prefix.now (literals cursor.old.rest) v → ⊥) }
-    ensures counted { Counted (2 * (bytes cursor.old.rest + 1)) cursor.old cursor.new }
-{
-    let start = cursor.checkpoint();
-    if is_all_space(cursor) {
-        return Ok(());
-    }
-    cursor.go_to(&start);
-    if !eat_prefix(prefix, cursor) {
-        return Err(StringFailure::Fault(StringFault::NoPrefix));
-    }
-    cursor.slice_rest().push_to(out)?;
-    Ok(())
 }
 
 /// Appends the value of a line without escapes.
@@ -266,10 +232,15 @@ fn push_plain<'a>(
         → LineValue prefix.now (literals segment.now) v → ⊥) }
     ensures returned { Returned (2 * (bytes segment.now + 1)) cursor.old cursor.new }
 {
-    let place = cursor.enter(segment);
-    let pushed = push_rest(out, prefix, cursor);
-    cursor.go_to(&place);
-    pushed
+    if is_space_segment(segment, cursor) {
+        return Ok(());
+    }
+    let mut characters = cursor.characters(segment);
+    if !eat_prefix(prefix, &mut characters) {
+        return Err(StringFailure::Fault(StringFault::NoPrefix));
+    }
+    characters.into_piece().push_to(out)?;
+    Ok(())
 }
 
 /// Appends the value of a line.
@@ -324,6 +295,28 @@ fn push_lines<'a>(
     Ok(())
 }
 
+/// The bytes of the line's value after a prefix of so many units, and of a line feed, as far as each unit is a byte.
+fn room_of(line: &Line, prefix: usize) -> usize
+    ensures { result ≤ line_room line.now }
+{
+    let len = match line {
+        Line::Plain(segment) => segment.byte_len(),
+        Line::Units(units) => units.len(),
+    };
+    len.saturating_sub(prefix).saturating_add(1)
+}
+
+/// The bytes to make room for before the lines' values are appended.
+fn room_for(lines: &[Line], prefix: usize) -> usize
+    ensures { result ≤ lines_room lines.now }
+{
+    let mut room: usize = 0;
+    for line in lines {
+        room = room.saturating_add(room_of(line, prefix));
+    }
+    room
+}
+
 /// The value of the lines, without the last, whose spaces are taken from the front of the others
 /// (KDL 2.0.0, Multi-line String).
 /// The cursor reads lines without escapes again, and comes back to where it is. A fault: the last line is not spaces
@@ -339,14 +332,14 @@ pub fn dedent<'a>(
         → Dedents us v → MatchResult result (λ s. v ≡ chars (string_bytes s)) (λ e. e ≡ Memory) }
     ensures returned { Returned (lines_steps lines.now + 1) cursor.old cursor.new }
 {
-    let mut out = String::new(alloc);
     let Some((last, front)) = lines.split_last() else {
-        return Ok(out);
+        return Ok(String::new(alloc));
     };
     if !is_blank(last, cursor) {
         return Err(StringFailure::Fault(StringFault::BadLastLine));
     }
     let prefix = units_of(alloc, last, cursor)?;
+    let mut out = String::with_capacity(alloc, room_for(front, prefix.len()))?;
     match push_lines(&mut out, &prefix, front, cursor) {
         Ok(()) => Ok(out),
         Err(e) => Err(e),

@@ -23,6 +23,10 @@ pub returns-in_err-prefix-clause-returned : goal.returns-in_err-prefix-clause-re
 returns-in_err-prefix-clause-returned c =
     returned_less _ _ _ _ (omega (arith, last_steps c.args.lines.now _ _ c.in-Some.ensures.cases.0)) (returned_then _ _ _ _ _ c.is_blank.ensures.returned c.units_of.ensures.returned)
 
+pub returns-in_err-out-clause-returned : goal.returns-in_err-out-clause-returned
+returns-in_err-out-clause-returned c =
+    returned_less _ _ _ _ (omega (arith, last_steps c.args.lines.now _ _ c.in-Some.ensures.cases.0)) (returned_then _ _ _ _ _ c.is_blank.ensures.returned c.units_of.ensures.returned)
+
 pub returns-in-Ok-clause-found : goal.returns-in-Ok-clause-found
 returns-in-Ok-clause-found c us e =
     let (vs, k, is) = c.in-Ok.ensures.found in
@@ -40,12 +44,12 @@ pub returns-in-Ok-clause-returned : goal.returns-in-Ok-clause-returned
 returns-in-Ok-clause-returned c =
     returned_less _ _ _ _ (omega (arith, last_steps c.args.lines.now _ _ c.in-Some.ensures.cases.0)) (returned_then _ _ _ _ _ c.is_blank.ensures.returned (returned_then _ _ _ _ _ c.units_of.ensures.returned c.push_lines.ensures.returned))
 
-pub returns-in-Err-clause-only : goal.returns-in-Err-clause-only
-returns-in-Err-clause-only c us v e d =
+pub returns-clause-only : goal.returns-clause-only
+returns-clause-only c us v e d =
     let prefix = c.deref.ensures.value ∙ c.in_ok-prefix.ensures.units in
     let (blank, ws, l, same) = dedents_from us c.args.lines.now _ _ v e c.in-Some.ensures.cases.0 d in
     c.in-Err.ensures.only ws (rw prefix l)
 
-pub returns-in-Err-clause-returned : goal.returns-in-Err-clause-returned
-returns-in-Err-clause-returned c =
+pub returns-clause-returned : goal.returns-clause-returned
+returns-clause-returned c =
     returned_less _ _ _ _ (omega (arith, last_steps c.args.lines.now _ _ c.in-Some.ensures.cases.0)) (returned_then _ _ _ _ _ c.is_blank.ensures.returned (returned_then _ _ _ _ _ c.units_of.ensures.returned c.push_lines.ensures.returned))

@@ -1,5 +1,4 @@
 use Rattle.std.proofs.Common.{ap, arith}
-use Rattle.kdl_text.proofs.Looking.Runs.{one_there}
 use Rattle.kdl_text.proofs.Looking.SliceCost.{costs_ran, moves_ran}
 use Rattle.kdl_text.proofs.strings.dedent.is_all_space.Goals as goal
 
@@ -8,8 +7,3 @@ returns-clause-counted c =
     let run = costs_ran c.skip.ensures.1 in
     let look = ap (λ z. z.steps) c.look.ensures.moved in
     record { most = omega (arith, run.most, look); counts = omega (arith, (moves_ran c.skip.ensures.1).counts, look) }
-
-pub returns-clause-fewer : goal.returns-clause-fewer
-returns-clause-fewer c h =
-    let some = one_there c.skip.new.self.rest _ _ c.look.ensures.result c.is_none.ensures h in
-    omega (arith, (costs_ran c.skip.ensures.1).most, ap (λ z. z.steps) c.look.ensures.moved, some)

@@ -1,16 +1,22 @@
-use Rattle.std.proofs.Common.{ap, arith}
-use Rattle.kdl_text.specs.Spans.{bytes}
-use Rattle.kdl_text.proofs.Looking.Returns.{comes_back}
+use Rattle.std.proofs.Common.{◌++◌, [], refl, ap, sym, ◌∙◌, append-nil, string_bytes, arith}
+use Rattle.std.specs.Str.{chars}
+use Rattle.kdl_text.specs.Dedent.{blank, dedented}
+use Rattle.kdl_text.specs.Raw.{literals}
+use Rattle.kdl_text.proofs.ManyLines.DedentReads.{literals_text, no_value}
+use Rattle.kdl_text.proofs.ManyLines.LinesJoin.{blank_literals}
 use Rattle.kdl_text.proofs.strings.dedent.push_plain.Goals as goal
 
+pub returns-then-is_space_segment-clause-done : goal.returns-then-is_space_segment-clause-done
+returns-then-is_space_segment-clause-done c =
+    ([], blank (sym (blank_literals c.args.segment.now) ∙ sym c.is_space_segment.ensures.result ∙ c.if-is_space_segment.true) refl, sym (append-nil (chars (string_bytes c.args.out.now))))
+
+pub returns-then-not-eat_prefix-clause-failed : goal.returns-then-not-eat_prefix-clause-failed
+returns-then-not-eat_prefix-clause-failed c memory v line =
+    let is_blank = sym (blank_literals c.args.segment.now) ∙ sym c.is_space_segment.ensures.result ∙ c.if-is_space_segment.false in
+    no_value c.args.prefix.now (literals c.args.segment.now) v is_blank (λ m e. c.if-not-eat_prefix.ensures m (ap literals c.characters-characters.ensures.result ∙ e)) line
+
 pub returns-clause-done : goal.returns-clause-done
-returns-clause-done c = rw (ap (λ z. z.rest) c.enter-place.ensures.inside) at c.push_rest-pushed.ensures.done
-
-pub returns-clause-failed : goal.returns-clause-failed
-returns-clause-failed c = rw (ap (λ z. z.rest) c.enter-place.ensures.inside) at c.push_rest-pushed.ensures.failed
-
-pub returns-clause-returned : goal.returns-clause-returned
-returns-clause-returned c =
-    let here = c.enter-place.ensures in
-    let did = c.push_rest-pushed.ensures in
-    comes_back _ _ _ c.push_rest-pushed.new.cursor _ c.enter-place.result _ here.inside here.rest here.at (record { most = omega (arith, did.counted.most, ap (λ z. bytes z.rest) here.inside); counts = did.counted.counts }) c.go_to.ensures
+returns-clause-done c =
+    let is_blank = sym (blank_literals c.args.segment.now) ∙ sym c.is_space_segment.ensures.result ∙ c.if-is_space_segment.false in
+    let rest = c.eat_prefix.new.characters in
+    (rest, dedented (literals rest) is_blank (ap literals (sym c.characters-characters.ensures.result) ∙ c.if-not-eat_prefix.ensures) (sym (literals_text rest)), c.in_ok-push_to.ensures ∙ ap (λ z. chars (string_bytes c.args.out.now) ++ z) c.into_piece.ensures)
