@@ -627,7 +627,8 @@ impl<'a> Reader<'a> {
     /// Notes the faults of the text.
     pub(crate) fn find(&mut self) -> Result<(), AllocError>
         ensures keeps { Keeps self.old self.new }
-        ensures bounded { (text : Text) → IsReaderOf text self.old → self.old.cursor.rest ≡ text → Bounded 128 self.old.cursor self.new.cursor }
+        ensures bounded { (text : Text) → IsReaderOf text self.old → self.old.cursor.rest ≡ text
+            → Bounded 128 self.old.cursor self.new.cursor }
     {
         self.read()?;
         self.settle_all()
