@@ -4,7 +4,7 @@ pub mod ValueEnds
 pub mod NotedSpans
 -- Places that a cursor went past, and what its steps cost.
 pub mod Passing
--- Where pieces stand, and how the cursor moves past them.
+-- Where pieces are, and how the cursor moves past them.
 pub mod PieceMoves
 -- The loops over the units of a string.
 pub mod StringLoops

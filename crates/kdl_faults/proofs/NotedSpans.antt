@@ -23,7 +23,7 @@ ends_of [] a q b e = inl (q, e)
 ends_of (c ∷ p) a [] b e = inr (c ∷ p, sym e)
 ends_of (c ∷ p) a (d ∷ q) b e = ends_of p a q b cc
 
--- what stands between two places of a text is a piece of it, and where the second stands before the first, an empty one
+-- what is between two places of a text is a piece of it, and where the second is before the first, an empty one
 between : (text a b : Text) → ((p : Text) × (text ≡ p ++ a)) → ((q : Text) × (text ≡ q ++ b)) → InText text (span_between text a b)
 between text a b x y = go (ends_of x.0 a y.0 b (sym x.1 ∙ y.1))
   where

@@ -81,7 +81,7 @@ pub found_from : (a m b : Here) (f : Option Found) → Moves a m → OnFound m f
 found_from a m b None v p = tt
 found_from a m b (Some f) v p = passed_from a m b f.place v p
 
--- a run of a class, and a look behind it
+-- a run of a class, and a look after it
 pub record Ended (a e : Here) : Type 0 where
   pub moves : Moves a e
   pub most : Most 1 2 a e

@@ -1,4 +1,4 @@
--- Where pieces stand, and how the cursor moves past them.
+-- Where pieces are, and how the cursor moves past them.
 use Rattle.std.proofs.Common.{◌≡◌, ℕ, [], ◌∷◌, ◌++◌, refl, ap, sym, subst, ◌∙◌, arith}
 use Rattle.std.proofs.lemmas.Str.{len_utf8_bounds}
 use Rattle.std.specs.Prelude.{Option, Some, None}
@@ -15,7 +15,7 @@ use Rattle.kdl_faults.specs.declared.strings.Found.{Found}
 use Rattle.kdl_faults.specs.declared.pieces.Start.{Start}
 use Rattle.kdl_faults.proofs.Passing.{behind_then}
 
--- a piece with its end anywhere behind its start, and behind it what was read from m on
+-- a piece with its end anywhere after its start, and after it what was read from m on
 pub stands_at : (s : Start) (p : Piece) (m n : Here) (c : Option Unclosed) → p.start ≡ s.place → p.next ≡ s.next → p.comment ≡ c → Spans s → (q : Text) × (s.place.rest ≡ q ++ p.end.rest) → (q : Text) × (s.place.rest ≡ q ++ m.rest) → OnUnclosed m c n
     → IfSome p.backslash (λ b. (q : Text) × (s.place.rest ≡ q ++ b.rest)) → Stands s.place.rest p
 stands_at s p m n c is_start is_next is_comment spans (q, e) back unclosed backslash =
@@ -41,7 +41,7 @@ stands_word s p m n e is_start is_next is_comment is_backslash is_end spans back
     let b = behind_then _ _ _ back end.place.before in
     stands_at s p m n e.comment is_start is_next is_comment spans (b.0, b.1 ∙ ap (λ z. b.0 ++ z.rest) (sym is_end)) back end.comment (subst (λ z. IfSome z (λ b. (q : Text) × (s.place.rest ≡ q ++ b.rest))) (sym is_backslash) tt)
 
--- a place further back than a place that may be there
+-- a place that may be there, from further back
 pub ahead_if : (s t : Text) (o : Option Spot) → (p : Text) × (s ≡ p ++ t) → IfSome o (λ b. (p : Text) × (t ≡ p ++ b.rest)) → IfSome o (λ b. (p : Text) × (s ≡ p ++ b.rest))
 ahead_if s t None x y = tt
 ahead_if s t (Some b) x y = behind_then s t b.rest x y
@@ -50,7 +50,7 @@ ahead_if s t (Some b) x y = behind_then s t b.rest x y
 pub found_in_role : (s : Start) (a : Here) (f g : Option Found) → (p : Text) × (s.place.rest ≡ p ++ a.rest) → OnFound (gone s.place a) f a → FindsAlso f s.place g → OnFound (gone s.place a) g a
 found_in_role s a f g here on also = also (gone s.place a) a on (record { before = ([], refl); behind = here; at = refl })
 
--- from the start of a piece to behind its first character
+-- from the start of a piece to after its first character
 pub begun : (s : Start) (a b : Here) → Spans s → b ≡ gone s.next a → Moves (gone s.place a) b
 begun s a b spans e = rw e (record { piece = spans.next; at = spans.at; counts = omega arith })
 

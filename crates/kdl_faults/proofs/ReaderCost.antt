@@ -32,7 +32,7 @@ took_lies text (Some c) a b x t = (x.0 ++ (c ∷ []), x.1 ∙ ap (λ (z : Text).
 pub place_lies : (text : Text) (a : Here) (place : Spot) → ((p : Text) × (text ≡ p ++ a.rest)) → place.rest ≡ a.rest → LiesIn text place
 place_lies text a place x e = same_rest text a.rest place.rest e x
 
--- where the loop over the pieces stands: until reading is over, a last turn is to come
+-- how far the loop over the pieces is: until reading is over, a last turn is to come
 abbrev pub turns_left : Bool → ℕ
 turns_left true = 0
 turns_left false = 1

@@ -25,7 +25,7 @@ pub(crate) struct ValueEnd<'a> {
     pub comment: Option<Unclosed<'a>>,
 }
 
-/// What stands behind a backslash.
+/// What follows a backslash.
 #[derive(Drop)]
 pub(crate) enum Behind<'a> {
     /// What makes an escline of it, which the cursor went past.
@@ -57,7 +57,7 @@ fn ws_run<'a>(cursor: &mut Cursor<'a>) -> Option<Unclosed<'a>>
     }
 }
 
-/// Goes past what stands behind a backslash.
+/// Goes past what follows a backslash.
 pub(crate) fn behind_backslash<'a>(cursor: &mut Cursor<'a>) -> Behind<'a>
     ensures comment { StandsBehind cursor.old result cursor.new }
     ensures moves { Moves cursor.old cursor.new }

@@ -10,8 +10,8 @@ use crate::reader::Fault;
 use kdl_text::chars::{Cursor, is_newline_char, is_space};
 use std::alloc::{AllocError, Global};
 
-/// A backslash in a string, before a block comment that the string does not close. It begins an escline if the text after
-/// the string closes the comment, and a line ends there.
+/// A backslash in a string, before a block comment that the string does not close. It begins an
+/// escline if the text after the string closes the comment and an escline ends there.
 #[derive(Clone, Copy)]
 pub(crate) struct Candidate {
     /// Where the backslash is, in bytes from the start of the text.
@@ -96,9 +96,10 @@ fn next_part(cursor: &mut Cursor) -> Part
 struct Comments {
     /// How many candidates are before the place.
     next: usize,
-    /// For each open block comment the candidate that it follows, with nothing but spaces and block comments between.
+    /// For each open block comment the candidate before it, with only spaces and block comments
+    /// between.
     open: Vec<Option<usize>>,
-    /// The candidate that the place follows in this way.
+    /// The candidate before the place, with only spaces and block comments between.
     last: Option<usize>,
     /// The candidates that begin an escline.
     found: Vec<usize>,
@@ -147,10 +148,11 @@ impl Comments {
     }
 }
 
-/// The candidates that begin an escline, by their numbers from 0 on. The cursor is at the start of the text, or before the
-/// first candidate, and the candidates are in the order of the text. It goes to the end of the text.
+/// The candidates that begin an escline, by their numbers from 0 on. The candidates are in the order
+/// of the text. The cursor is before the first one, and goes to the end of the text.
 ///
-/// Block comments nest, and a backslash is a part alone, so one pass reads the comments of all candidates.
+/// A backslash is never a part of `/*` or `*/`, and block comments nest. So one pass reads the block
+/// comments of all candidates.
 pub(crate) fn esclines(
     alloc: Global,
     cursor: &mut Cursor,

@@ -1,4 +1,4 @@
-//! The faults that a text can have, and the words in which they are told.
+//! The faults that a text can have, and the words that report them.
 
 ghost use Rattle.kdl_faults.specs.Kinds.{form_of, kind_of};
 ghost use Rattle.std.specs.Prelude.{◌≡◌};
@@ -36,47 +36,47 @@ pub enum Kind {
     Nameless,
     /// No string where a node's name is due.
     Name,
-    /// Behind a bare string stands no value end.
+    /// A bare string without a value end after it.
     BareEnd,
     /// Identifier characters that are no bare string: a keyword without its `#`, or a point and a digit.
     Bare,
-    /// Behind a quoted string stands no value end.
+    /// A quoted string without a value end after it.
     QuotedEnd,
-    /// A quoted string that is not closed, or in which a character or an escape can't stand.
+    /// A quoted string that is not closed, or that has a character or an escape that it can't have.
     Quoted,
     /// A newline in a quoted string of one line.
     QuotedNewline,
-    /// Three quotes with no newline behind them.
+    /// Three quotes with no newline after them.
     Opening,
     /// A line of a string of many lines that lacks the last line's spaces.
     Prefix,
-    /// Behind a raw string stands no value end.
+    /// A raw string without a value end after it.
     RawEnd,
     /// A raw string of one line that is one quote or begins with two.
     RawQuotes,
-    /// A raw string that is not closed, or with a character or lines that can't stand in it.
+    /// A raw string that is not closed, or that has a character or lines that it can't have.
     Raw,
-    /// Behind a number stands no value end.
+    /// A number without a value end after it.
     NumberEnd(Form),
-    /// Behind the prefix of a base stands no digit of it.
+    /// The prefix of a base without a digit of it after it.
     Digits(Form),
-    /// Behind the point of a decimal stands no digit.
+    /// A decimal without a digit after its point.
     Fraction,
-    /// In the exponent of a decimal stands no digit.
+    /// A decimal without a digit in its exponent.
     Exponent,
     /// A whole number past `i128`.
     Range,
-    /// Behind `#` stands no keyword.
+    /// A `#` without a keyword after it.
     Keyword,
-    /// Between `(` and `)` stands not one string alone.
+    /// Anything but one string alone between `(` and `)`.
     Type,
-    /// Behind `=` stands no value.
+    /// A `=` without a value after it.
     Value,
     /// A block that is not closed.
     Block,
     /// A block comment that is not closed.
     Comment,
-    /// Anything else that can't stand where it does.
+    /// Anything else that can't be where it is.
     Misplaced,
 }
 
@@ -259,7 +259,7 @@ pub struct Words {
     pub help: Option<&'static str>,
 }
 
-/// The help where a value is read and no value end stands behind it.
+/// The help where a value is read and no value end follows it.
 const VALUE_END: &str =
     "A valid value was partially parsed, but was not followed by a value terminator. Did you want a space here?";
 

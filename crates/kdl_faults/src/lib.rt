@@ -1,7 +1,7 @@
 //! What is wrong with a text that is refused: each fault in it, with its place and its words.
 //!
 //! The reader of faults goes over the text once more, from its start, with pieces and a machine of its own: it holds the
-//! phase of the grammar and the open blocks, builds nothing, and goes on behind a fault. So a text that is accepted pays
+//! phase of the grammar and the open blocks, builds nothing, and goes on after a fault. So a text that is accepted pays
 //! nothing for it.
 #![tactic(auto)]
 

@@ -17,14 +17,14 @@ pub(crate) enum Typed {
     Property,
 }
 
-/// What may be dropped behind a `/-`.
+/// What may be dropped after a `/-`.
 #[derive(Clone, Copy)]
 pub(crate) enum Dropped {
     /// An entry or a block.
     Any,
     /// A block, before the node's own.
     Block,
-    /// A block, behind the node's own.
+    /// A block, after the node's own.
     Last,
 }
 
@@ -33,31 +33,31 @@ pub(crate) enum Dropped {
 pub(crate) enum Phase {
     /// Between nodes.
     Gap,
-    /// Between nodes, behind `/-`.
+    /// Between nodes, after `/-`.
     NodeSlashdash,
-    /// Behind the name or an entry of a node.
+    /// After the name or an entry of a node.
     Node,
-    /// Behind a string there that may be a key.
+    /// After a string there that may be a key.
     Word,
-    /// Behind `/-` in a node.
+    /// After `/-` in a node.
     Drop(Dropped),
-    /// Behind a dropped block, before the node's own.
+    /// After a dropped block, before the node's own.
     Later,
-    /// Behind the node's block.
+    /// After the node's block.
     Behind,
-    /// Behind the `=` of a property.
+    /// After the `=` of a property.
     Property,
-    /// Behind the `(` of a type.
+    /// After the `(` of a type.
     TypeOpen(Typed),
-    /// Behind the name in a type.
+    /// After the name in a type.
     TypeName(Typed),
     /// In a type that is faulty.
     TypeFaulty,
-    /// Behind such a type: what it belongs to may follow.
+    /// After such a type: what it belongs to may follow.
     Typeless,
-    /// Behind a type.
+    /// After a type.
     TypeDone(Typed),
-    /// Behind the only node or entry of a text, where line-spaces alone follow.
+    /// After the only node or entry of a text, where line-spaces alone follow.
     Over,
 }
 
@@ -66,7 +66,7 @@ pub(crate) enum Phase {
 pub(crate) enum Move {
     /// On to the phase.
     To(Phase),
-    /// A block opens, behind which the phase follows.
+    /// A block opens, after which the phase follows.
     Open(Phase),
     /// The block closes, or there is none.
     Close,
@@ -129,7 +129,7 @@ impl Phase {
         }
     }
 
-    /// The phase behind a piece that does not fit: what was due counts as read.
+    /// The phase after a piece that does not fit: what was due counts as read.
     pub(crate) fn behind_misfit(self, kind: PieceKind) -> Phase {
         match (self, kind) {
             (Phase::TypeOpen(_), PieceKind::Right) => Phase::Typeless,
@@ -157,7 +157,7 @@ fn in_gap(kind: PieceKind) -> Move {
     }
 }
 
-/// Between nodes, behind `/-`.
+/// Between nodes, after `/-`.
 fn in_node_slashdash(kind: PieceKind) -> Move {
     match kind {
         PieceKind::Newline => Move::To(Phase::NodeSlashdash),
@@ -167,7 +167,7 @@ fn in_node_slashdash(kind: PieceKind) -> Move {
     }
 }
 
-/// What ends a node: its terminator, or the `}` of the block that it stands in.
+/// What ends a node: its terminator, or the `}` of the block that it is in.
 fn at_end_of_node(kind: PieceKind) -> Move {
     match kind {
         PieceKind::Newline | PieceKind::Semicolon => Move::To(Phase::Gap),
@@ -176,7 +176,7 @@ fn at_end_of_node(kind: PieceKind) -> Move {
     }
 }
 
-/// Behind the name or an entry of a node, which may be a key.
+/// After the name or an entry of a node, which may be a key.
 fn in_node(kind: PieceKind, is_key: bool) -> Move {
     match kind {
         PieceKind::String => Move::To(Phase::Word),
@@ -189,7 +189,7 @@ fn in_node(kind: PieceKind, is_key: bool) -> Move {
     }
 }
 
-/// Behind `/-` in a node.
+/// After `/-` in a node.
 fn behind_slashdash(dropped: Dropped, kind: PieceKind) -> Move {
     match (kind, dropped) {
         (PieceKind::Newline, _) => Move::To(Phase::Drop(dropped)),
@@ -202,7 +202,7 @@ fn behind_slashdash(dropped: Dropped, kind: PieceKind) -> Move {
     }
 }
 
-/// Behind a dropped block, before the node's own.
+/// After a dropped block, before the node's own.
 fn behind_dropped_block(kind: PieceKind) -> Move {
     match kind {
         PieceKind::Slashdash => Move::To(Phase::Drop(Dropped::Block)),
@@ -211,7 +211,7 @@ fn behind_dropped_block(kind: PieceKind) -> Move {
     }
 }
 
-/// Behind the node's block.
+/// After the node's block.
 fn behind_block(kind: PieceKind) -> Move {
     match kind {
         PieceKind::Slashdash => Move::To(Phase::Drop(Dropped::Last)),
@@ -228,7 +228,7 @@ fn at_value(typed: Typed, kind: PieceKind) -> Move {
     }
 }
 
-/// Behind the `(` of a type.
+/// After the `(` of a type.
 fn in_type(typed: Typed, kind: PieceKind) -> Move {
     match kind {
         PieceKind::String => Move::To(Phase::TypeName(typed)),
@@ -236,7 +236,7 @@ fn in_type(typed: Typed, kind: PieceKind) -> Move {
     }
 }
 
-/// Behind the name in a type.
+/// After the name in a type.
 fn behind_type_name(typed: Typed, kind: PieceKind) -> Move {
     match kind {
         PieceKind::Right => Move::To(Phase::TypeDone(typed)),
@@ -254,7 +254,7 @@ fn in_faulty_type(kind: PieceKind) -> Move {
     }
 }
 
-/// Behind a type that is faulty: a name or a value may follow, or what follows that.
+/// After a type that is faulty: a name or a value may follow, or what follows that.
 fn behind_faulty_type(kind: PieceKind) -> Move {
     match kind {
         PieceKind::String | PieceKind::Value => Move::To(Phase::Node),
@@ -262,7 +262,7 @@ fn behind_faulty_type(kind: PieceKind) -> Move {
     }
 }
 
-/// Behind a type.
+/// After a type.
 fn behind_type(typed: Typed, kind: PieceKind) -> Move {
     match (kind, typed) {
         (PieceKind::String, _) => Move::To(Phase::Node),
@@ -271,7 +271,7 @@ fn behind_type(typed: Typed, kind: PieceKind) -> Move {
     }
 }
 
-/// Behind the only node or entry of a text.
+/// After the only node or entry of a text.
 fn behind_all(kind: PieceKind) -> Move {
     match kind {
         PieceKind::Newline => Move::To(Phase::Over),

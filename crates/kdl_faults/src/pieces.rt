@@ -1,6 +1,6 @@
 //! The pieces of a text, one at a time, the faulty ones too.
 //!
-//! Nothing is built: of a string, a number and a keyword the reader tells where it ends and what is wrong with it.
+//! Nothing is built: the reader finds where a string, a number or a keyword ends, and what is wrong with it.
 
 ghost use Rattle.kdl_faults.specs.Internal.Reading.{Begins, FindsAlso, IsPiece, Most, MostFrom, NoEarlier, OnFound, Spans, Stands, WentPast, gone};
 ghost use Rattle.kdl_text.specs.Chars.{Text, is_identifier_char, is_number_sign, starts};
@@ -56,7 +56,7 @@ pub(crate) enum PieceKind {
 /// What a string is in the place where a piece begins.
 #[derive(Clone, Copy)]
 pub(crate) enum StringRole {
-    /// A name, a key or a value, or a string outside types that can't stand there: its fault is its own.
+    /// A name, a key or a value, or a string outside types that can't be there: its fault is its own.
     Plain,
     /// The name in a type: where the string is faulty, the type is.
     TypeName,
@@ -70,21 +70,22 @@ pub(crate) struct Piece<'a> {
     pub kind: PieceKind,
     /// Where it begins.
     pub start: Checkpoint<'a>,
-    /// Behind its first character.
+    /// The place after its first character.
     pub next: Checkpoint<'a>,
     /// The next value end from its fault on; of a piece that ends a value, its start.
     pub end: Checkpoint<'a>,
     /// What is wrong with a string, a number or a keyword.
     pub fault: Option<Kind>,
-    /// The backslash before the end, where it begins an escline if the text after the string closes the block comment after it.
+    /// The backslash before the end of a string's fault, where a block comment after it begins in
+    /// the string and is not closed there.
     pub backslash: Option<Checkpoint<'a>>,
-    /// A block comment that isn't closed, in what begins as an escline behind the piece.
+    /// A block comment that isn't closed, in what begins as an escline after the piece.
     pub comment: Option<Unclosed<'a>>,
     /// Whether the text ended in it.
     pub cut: bool,
 }
 
-/// Where a piece begins, and the place behind its first character.
+/// Where a piece begins, and the place after its first character.
 #[derive(Drop)]
 struct Start<'a> {
     place: Checkpoint<'a>,
@@ -228,7 +229,8 @@ fn word<'a>(
     }
 }
 
-/// Goes on by so many bytes, or to the end of the text. Returns the place before the last character that it goes past.
+/// Goes on by so many bytes, or to the end of the text. Returns the place before the last character
+/// that it goes past.
 fn go_on<'a>(cursor: &mut Cursor<'a>, by: usize) -> Checkpoint<'a>
     ensures last { (p : Text) × (cursor.old.rest ≡ p ++ result.rest) }
     ensures moves { Moves cursor.old cursor.new }
@@ -249,7 +251,8 @@ fn go_on<'a>(cursor: &mut Cursor<'a>, by: usize) -> Checkpoint<'a>
 #[derive(Drop)]
 struct EndWithin<'a> {
     place: Checkpoint<'a>,
-    /// The backslash before it, where a block comment after the backslash isn't closed in the string.
+    /// The backslash before it, where a block comment after it begins in the string and is not
+    /// closed there.
     backslash: Option<Checkpoint<'a>>,
 }
 
@@ -274,7 +277,7 @@ fn end_within<'a>(cursor: &mut Cursor<'a>, from: &Checkpoint<'a>) -> EndWithin<'
     }
 }
 
-/// Where a fault in a string ends: at the value end in the string, or else at the one behind it. A string that looks like
+/// Where a fault in a string ends: at the value end in the string, or else at the one after it. A string that looks like
 /// one of many lines is faulty as a whole.
 fn end_of_fault<'a>(
     kind: Kind,
@@ -319,7 +322,7 @@ fn fault_in_role<'a>(
 }
 
 /// A string that the cursor went past. Its fault goes up to the value end from there on, and the cursor goes to the value
-/// end behind the string.
+/// end after the string.
 fn string<'a>(
     cursor: &mut Cursor<'a>,
     start: Start<'a>,
@@ -426,7 +429,7 @@ fn bare_piece<'a>(cursor: &mut Cursor<'a>, start: Start<'a>) -> Piece<'a>
     word(cursor, PieceKind::String, start, fault, Kind::BareEnd)
 }
 
-/// The fault of a keyword, by its number signs and all identifier characters behind them.
+/// The fault of a keyword, by its number signs and all identifier characters after them.
 fn keyword_fault<'a>(cursor: &mut Cursor<'a>, word: &Segment<'a>) -> Option<Kind>
     ensures { Returned (4 * bytes word.now + 4) cursor.old cursor.new }
 {
@@ -553,7 +556,7 @@ fn piece_of<'a>(
     }
 }
 
-/// The piece here, which the cursor goes past; it may go past spaces behind a word too. Behind a faulty word it goes on to
+/// The piece here, which the cursor goes past; it may go past spaces after a word too. After a faulty word it goes on to
 /// the next value end. A string here has the role.
 pub(crate) fn next_piece<'a>(
     alloc: Global,

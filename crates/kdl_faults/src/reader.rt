@@ -28,14 +28,14 @@ use kdl_text::chars::{Checkpoint, Cursor, Steps};
 use kdl_text::span::SourceSpan;
 use std::alloc::{AllocError, Global};
 
-/// A fault of a text, and the place of which it is told.
+/// A fault of a text, and the place that it is reported at.
 #[derive(Clone, Copy)]
 pub struct Fault {
     pub kind: Kind,
     pub span: SourceSpan,
 }
 
-/// An open block: its `{`, where in the grammar the place behind its `}` is, and whether a fault was noted at its `{`.
+/// An open block: its `{`, where in the grammar the place after its `}` is, and whether a fault was noted at its `{`.
 #[derive(Clone, Copy)]
 struct Block {
     span: SourceSpan,
@@ -54,7 +54,7 @@ pub(crate) struct Reader<'a> {
     cursor: Cursor<'a>,
     phase: Phase,
     blocks: Vec<Block>,
-    /// Behind the `(` that was read last.
+    /// The place after the `(` that was read last.
     left: Checkpoint<'a>,
     /// Whether the only node or entry of the text has begun.
     has_item: bool,
@@ -67,7 +67,7 @@ pub(crate) struct Reader<'a> {
     /// Whether reading is over.
     is_over: bool,
     faults: Vec<Fault>,
-    /// Where a fault may end a byte earlier, in the order of the text.
+    /// The faults that may end a byte earlier, in the order of the text.
     candidates: Vec<Candidate>,
 }
 
@@ -145,7 +145,8 @@ impl<'a> Reader<'a> {
         Ok(())
     }
 
-    /// Notes that a fault of the kind, which is the next to be noted and begins at the place, may end at a backslash.
+    /// Notes a candidate where the piece has one: the fault that is noted next, of the kind and from
+    /// the place on, ends at the backslash if an escline begins there.
     fn note_candidate(
         &mut self,
         kind: Kind,
@@ -167,7 +168,7 @@ impl<'a> Reader<'a> {
         Ok(())
     }
 
-    /// Notes a fault from a place up to another behind it, or at the first character of the piece where they are one place.
+    /// Notes a fault from a place up to another after it, or at the first character of the piece where they are one place.
     fn note_up_to(
         &mut self,
         kind: Kind,
@@ -187,7 +188,7 @@ impl<'a> Reader<'a> {
         }
     }
 
-    /// The end of a fault that the piece brings: the next value end behind a `(`, and else the piece's own.
+    /// The end of a fault that the piece brings: the next value end after a `(`, and else the piece's own.
     fn end_of(&mut self, piece: &Piece<'a>) -> Checkpoint<'a>
         ensures end { IsPlaceAt self.old piece.now result }
         ensures keeps { Keeps self.old self.new }
@@ -201,7 +202,7 @@ impl<'a> Reader<'a> {
         }
     }
 
-    /// The start of a fault of the kind that the piece brings: in a type behind its `(`, and else the piece's own.
+    /// The start of a fault of the kind that the piece brings: in a type after its `(`, and else the piece's own.
     fn start_of(&self, kind: Kind, piece: &Piece<'a>) -> Checkpoint<'a>
         ensures { IsPlaceAt self.now piece.now result }
     {
@@ -226,8 +227,8 @@ impl<'a> Reader<'a> {
         self.note_up_to(kind, &from, &end, piece)
     }
 
-    /// Notes that the piece does not fit where it stands: where a name is due, a `{` is a block without one, and a `}` outside
-    /// blocks is misplaced. In the text of an entry, and behind the only node of a text, reading is over.
+    /// Notes that the piece does not fit where it is: where a name is due, a `{` is a block without one, and a `}` outside
+    /// blocks is misplaced. In the text of an entry, and after the only node of a text, reading is over.
     fn misfit(&mut self, piece: &Piece<'a>) -> Result<(), AllocError>
         ensures keeps { KeepsAt piece.now self.old self.new }
         ensures moves { Moves self.old.cursor self.new.cursor }
@@ -251,12 +252,12 @@ impl<'a> Reader<'a> {
         Ok(())
     }
 
-    /// Whether the place is behind an entry, or before the first one, in the text of an entry.
+    /// Whether the place is after an entry, or before the first one, in the text of an entry.
     fn is_between_entries(&self) -> bool {
         matches!(self.phase, Phase::Node | Phase::Word | Phase::Typeless)
     }
 
-    /// What the piece does in the text of an entry, where a space stands behind each entry that is dropped.
+    /// What the piece does in the text of an entry, where a space follows each entry that is dropped.
     fn move_in_entry(&self, kind: PieceKind) -> Move {
         match (self.phase, kind) {
             (_, PieceKind::Opening | PieceKind::Closing | PieceKind::Semicolon) => Move::Refuse,
@@ -307,7 +308,7 @@ impl<'a> Reader<'a> {
         }
     }
 
-    /// Goes on to the phase. Behind the only node of a text line-spaces alone may follow.
+    /// Goes on to the phase. After the only node of a text line-spaces alone may follow.
     fn go_to(&mut self, phase: Phase)
         ensures keeps { Keeps self.old self.new }
         ensures cursor { self.new.cursor ≡ self.old.cursor }
@@ -320,7 +321,7 @@ impl<'a> Reader<'a> {
         };
     }
 
-    /// Closes the block that is open. A `}` outside blocks is misplaced, and is told once.
+    /// Closes the block that is open. A `}` outside blocks is misplaced, and is reported once.
     fn close_block(&mut self, piece: &Piece<'a>, is_told: bool) -> Result<(), AllocError>
         ensures keeps { KeepsAt piece.now self.old self.new }
         ensures cursor { self.new.cursor ≡ self.old.cursor }
@@ -376,7 +377,7 @@ impl<'a> Reader<'a> {
         }
     }
 
-    /// Notes the place behind a `(`.
+    /// Notes the place after a `(`.
     fn note_left(&mut self, piece: &Piece<'a>)
         ensures keeps { KeepsAt piece.now self.old self.new }
         ensures cursor { self.new.cursor ≡ self.old.cursor }
@@ -414,7 +415,7 @@ impl<'a> Reader<'a> {
     }
 
     /// A piece that does not fit: that is noted, what was due counts as read, and what ends or begins a node, a block or a
-    /// dropped piece does so behind it.
+    /// dropped piece does so after it.
     fn mend(&mut self, piece: &Piece<'a>) -> Result<(), AllocError>
         ensures keeps { KeepsAt piece.now self.old self.new }
         ensures moves { Moves self.old.cursor self.new.cursor }
@@ -482,7 +483,7 @@ impl<'a> Reader<'a> {
         }
     }
 
-    /// A piece alone, without what stands behind it.
+    /// A piece alone, without what follows it.
     fn take_alone(&mut self, piece: &Piece<'a>) -> Result<(), AllocError>
         ensures keeps { KeepsAt piece.now self.old self.new }
         ensures moves { Moves self.old.cursor self.new.cursor }
@@ -520,7 +521,7 @@ impl<'a> Reader<'a> {
         self.behind(piece)
     }
 
-    /// What stands behind the piece: a block comment that isn't closed, in what begins as an escline.
+    /// What follows the piece: a block comment that isn't closed, in what begins as an escline.
     fn behind(&mut self, piece: &Piece<'a>) -> Result<(), AllocError>
         ensures keeps { KeepsAt piece.now self.old self.new }
         ensures cursor { self.new.cursor ≡ self.old.cursor }
@@ -534,7 +535,7 @@ impl<'a> Reader<'a> {
         }
     }
 
-    /// Notes that the character at the place can't stand there, or that something is due where the text ends.
+    /// Notes that the character at the place can't be there, or that something is due where the text ends.
     fn note_character(&mut self, from: &Checkpoint<'a>) -> Result<(), AllocError>
         ensures keeps { KeepsBetween from.now from.now self.old self.new }
         ensures steps { self.new.cursor.steps ≡ raise self.old.cursor.steps 1 }
@@ -576,7 +577,7 @@ impl<'a> Reader<'a> {
         }
     }
 
-    /// Notes the faults of the text, with esclines that begin in strings left aside.
+    /// Notes the faults of the text. Each candidate counts as no escline.
     fn read(&mut self) -> Result<(), AllocError>
         ensures keeps { Keeps self.old self.new }
         ensures bounded { Bounded 124 self.old.cursor self.new.cursor }
@@ -593,7 +594,7 @@ impl<'a> Reader<'a> {
         Ok(())
     }
 
-    /// Sets the fault of the candidate with the number: the backslash begins an escline.
+    /// Ends the fault of the candidate with the number at its backslash, which begins an escline.
     fn settle(&mut self, candidate: usize)
         ensures keeps { Keeps self.old self.new }
         ensures cursor { self.new.cursor ≡ self.old.cursor }
@@ -607,7 +608,7 @@ impl<'a> Reader<'a> {
         }
     }
 
-    /// Sets the faults that end at an escline which begins in a string.
+    /// Ends the faults of all candidates that begin an escline at their backslashes.
     fn settle_all(&mut self) -> Result<(), AllocError>
         ensures keeps { Keeps self.old self.new }
         ensures bounded { ReadsAgain 4 self.old self.new }
@@ -626,7 +627,8 @@ impl<'a> Reader<'a> {
     /// Notes the faults of the text.
     pub(crate) fn find(&mut self) -> Result<(), AllocError>
         ensures keeps { Keeps self.old self.new }
-        ensures bounded { (text : Text) → IsReaderOf text self.old → self.old.cursor.rest ≡ text → Bounded 128 self.old.cursor self.new.cursor }
+        ensures bounded { (text : Text) → IsReaderOf text self.old → self.old.cursor.rest ≡ text
+            → Bounded 128 self.old.cursor self.new.cursor }
     {
         self.read()?;
         self.settle_all()

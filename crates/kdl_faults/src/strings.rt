@@ -66,7 +66,7 @@ fn escape(cursor: &mut Cursor) -> bool
     escaped_unit(cursor).is_ok()
 }
 
-/// Goes past a character that is no plain one of a quoted string: past an escape, or a character that can't stand there.
+/// Goes past a character that is no plain one of a quoted string: past an escape, or a character that can't be there.
 fn odd_unit<'a>(cursor: &mut Cursor<'a>, c: char, fault: Option<Found<'a>>) -> Option<Found<'a>>
     requires here { first cursor.old.rest ≡ Some c }
     ensures fault { FindsOn fault.entry cursor.old result cursor.new }
@@ -85,7 +85,7 @@ fn odd_unit<'a>(cursor: &mut Cursor<'a>, c: char, fault: Option<Found<'a>>) -> O
     earlier(fault, Kind::Quoted, place)
 }
 
-/// Behind the quote of a string of one line: goes past it, or to the newline or the end of the text before its quote.
+/// After the quote of a string of one line: goes past it, or to the newline or the end of the text before its quote.
 fn quoted_line<'a>(cursor: &mut Cursor<'a>) -> Scan<'a>
     ensures fault { OnFound cursor.old result.fault cursor.new }
     ensures moves { Moves cursor.old cursor.new }
@@ -108,7 +108,7 @@ fn quoted_line<'a>(cursor: &mut Cursor<'a>) -> Scan<'a>
     }
 }
 
-/// Behind three quotes: goes past the string that they begin. One without a newline there is faulty.
+/// After three quotes: goes past the string that they begin. One without a newline there is faulty.
 fn quoted_lines<'a>(cursor: &mut Cursor<'a>) -> Scan<'a>
     ensures fault { OnFound cursor.old result.fault cursor.new }
     ensures moves { Moves cursor.old cursor.new }
@@ -208,7 +208,7 @@ fn eat_signs(cursor: &mut Cursor, most: usize) -> bool
     true
 }
 
-/// Behind the quote of a raw string of one line: goes past it, or to the newline or the end of the text before its closing.
+/// After the quote of a raw string of one line: goes past it, or to the newline or the end of the text before its closing.
 fn raw_line<'a>(cursor: &mut Cursor<'a>, signs: usize) -> Scan<'a>
     ensures fault { OnFound cursor.old result.fault cursor.new }
     ensures moves { Moves cursor.old cursor.new }
@@ -235,7 +235,7 @@ fn raw_line<'a>(cursor: &mut Cursor<'a>, signs: usize) -> Scan<'a>
     }
 }
 
-/// Goes past the quotes here. Whether they are three at least, with so many number signs behind them.
+/// Goes past the quotes here. Whether they are three at least, with so many number signs after them.
 fn closes_lines(cursor: &mut Cursor, signs: usize) -> bool
     requires { begins 34 cursor.old.rest ≡ true }
     ensures moves { Moves cursor.old cursor.new }
@@ -247,7 +247,7 @@ fn closes_lines(cursor: &mut Cursor, signs: usize) -> bool
     cursor.at() - start >= 3 && eat_signs(cursor, signs)
 }
 
-/// Behind the newline of a raw string of many lines: goes past it, or to the end of the text before its closing.
+/// After the newline of a raw string of many lines: goes past it, or to the end of the text before its closing.
 fn raw_lines<'a>(cursor: &mut Cursor<'a>, signs: usize) -> Scan<'a>
     ensures fault { OnFound cursor.old result.fault cursor.new }
     ensures moves { Moves cursor.old cursor.new }
@@ -300,7 +300,7 @@ fn fault_of_raw_lines<'a>(
     }
 }
 
-/// Behind the number signs and three quotes with no newline behind them: goes past a raw string of one line. It looks like
+/// After the number signs and three quotes with no newline after them: goes past a raw string of one line. It looks like
 /// one of many lines, where it is closed on its line.
 fn raw_quotes<'a>(cursor: &mut Cursor<'a>, signs: usize) -> Scan<'a>
     ensures fault { OnFound cursor.old result.fault cursor.new }
@@ -319,7 +319,7 @@ fn raw_quotes<'a>(cursor: &mut Cursor<'a>, signs: usize) -> Scan<'a>
     }))
 }
 
-/// Goes past the raw string that begins at the place, whose quote is here, behind so many number signs.
+/// Goes past the raw string that begins at the place, whose quote is here, after so many number signs.
 pub(crate) fn scan_raw<'a>(
     alloc: Global,
     cursor: &mut Cursor<'a>,

@@ -22,7 +22,7 @@ Noted text faults = All (λ (f : Fault). InText text f.span) faults
 abbrev pub Opened : Text → List Block → Type 0
 Opened text blocks = All (λ (b : Block). InText text b.span) blocks
 
--- each fault that may be noted has a span in the text
+-- each candidate's fault has a span in the text
 abbrev pub Candidates : Text → List Candidate → Type 0
 Candidates text candidates = All (λ (c : Candidate). InText text c.fault.span) candidates
 

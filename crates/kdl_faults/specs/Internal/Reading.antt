@@ -23,7 +23,7 @@ Most k c old new = new.steps + k * bytes new.rest ≤ old.steps + k * bytes old.
 abbrev pub MostFrom : ℕ → ℕ → Spot → Here → Here → Here → Type 0
 MostFrom k c from to old new = new.steps ≤ old.steps + k * (bytes from.rest - bytes to.rest) + c
 
--- the place lies behind each place that all three lie behind
+-- the place is after each place that all three are after, or is that place
 abbrev pub NoEarlier : Spot → Spot → Spot → Spot → Type 0
 NoEarlier a b c place = (from : Spot) → Ahead from a → Ahead from b → Ahead from c → Ahead from place
 
@@ -33,7 +33,7 @@ pub record Passed (old : Here) (spot : Spot) (new : Here) : Type 0 where
   pub behind : (p : Text) × (spot.rest ≡ p ++ new.rest)
   pub at : spot.at + bytes spot.rest ≡ old.at + bytes old.rest
 
--- a comment that was met, which begins at a place that was passed and ends behind it
+-- a comment that was met, which begins at a place that was passed and ends after it
 pub record IsUnclosed (old : Here) (c : Unclosed) (new : Here) : Type 0 where
   pub start : Passed old c.start new
   pub end : (p : Text) × (c.start.rest ≡ p ++ c.end.rest)
@@ -43,12 +43,12 @@ abbrev pub OnUnclosed : Here → Option Unclosed → Here → Type 0
 OnUnclosed old None new = Unit {0}
 OnUnclosed old (Some c) new = IsUnclosed old c new
 
--- what stands behind a backslash
+-- what follows a backslash
 abbrev pub StandsBehind : Here → Behind → Here → Type 0
 StandsBehind old (behind.Unclosed c) new = IsUnclosed old c new
 StandsBehind old _ new = Unit {0}
 
--- a value end that was met, and the comment behind it
+-- a value end that was met, and the comment after it
 pub record IsEnd (old : Here) (e : ValueEnd) (new : Here) : Type 0 where
   pub place : Passed old e.place new
   pub comment : OnUnclosed old e.comment new
@@ -62,11 +62,11 @@ OnFound old (Some f) new = Passed old f.place new
 abbrev pub FindsAlso : Option Found → Spot → Option Found → Type 0
 FindsAlso fault place found = (old new : Here) → OnFound old fault new → Passed old place new → OnFound old found new
 
--- what is found, from wherever reading began, once the cursor went on: what was found before, or a fault behind it
+-- what is found, from wherever reading began, once the cursor went on: what was found before, or a fault after it
 abbrev pub FindsOn : Option Found → Here → Option Found → Here → Type 0
 FindsOn fault old found new = (start : Here) → Moves start old → OnFound start fault old → OnFound start found new
 
--- where a piece stands, in a text of which the rest is given: its places lie behind its start
+-- where a piece is, in a text of which the rest is given: its places are at or after its start
 pub record Stands (rest : Text) (p : Piece) : Type 0 where
   pub start : (q : Text) × (rest ≡ q ++ p.start.rest)
   pub next : (q : Text) × (p.start.rest ≡ q ++ p.next.rest)
@@ -83,17 +83,17 @@ WentPast _ old new = bytes new.rest < bytes old.rest
 abbrev pub gone : Spot → Here → Here
 gone spot here = record here { rest = spot.rest; at = spot.at }
 
--- the place where a piece begins, and one behind it
+-- the place where a piece begins, and one at or after it
 pub record Spans (start : Start) : Type 0 where
   pub next : (q : Text) × (start.place.rest ≡ q ++ start.next.rest)
   pub at : start.next.at + bytes start.next.rest ≡ start.place.at + bytes start.place.rest
 
--- the place where a piece begins, and one behind it by a character at least
+-- the place where a piece begins, and one after it by a character at least
 pub record Begins (start : Start) : Type 0 where
   pub spans : Spans start
   pub fewer : bytes start.next.rest < bytes start.place.rest
 
--- a piece that begins at the place or behind it, and is not the end of the text; the cursor went past it
+-- a piece that begins at the place or after it, and is not the end of the text; the cursor went past it
 pub record IsPiece (place : Spot) (p : Piece) (new : Here) : Type 0 where
   pub stands : Stands place.rest p
   pub more : p.kind ≡ End → ⊥
