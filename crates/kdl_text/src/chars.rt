@@ -485,7 +485,7 @@ impl<'a> Segment<'a> {
     }
 }
 
-/// The characters of a segment, all of which are counted. Each is taken once.
+/// The characters of a segment, whose bytes were counted. Each is taken once.
 #[derive(Drop)]
 pub struct Characters<'a> {
     text: &'a str,
@@ -786,16 +786,6 @@ impl<'a> Cursor<'a> {
         let text = cut(from.rest, to.rest);
         self.steps.raise(text.len() as u64);
         Piece { text }
-    }
-
-    /// The segment as a slice. A step for each of its bytes.
-    #[inline]
-    pub fn slice_segment(&mut self, segment: &Segment<'a>) -> Piece<'a>
-        ensures result { result ≡ segment.now }
-        ensures moved { self.new ≡ sliced segment.now self.old }
-    {
-        self.steps.raise(byte_len(segment.text) as u64);
-        Piece { text: segment.text }
     }
 
     /// The characters of the segment. A step for each of its bytes.

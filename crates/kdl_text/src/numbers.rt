@@ -446,7 +446,7 @@ fn without_underscores<'a>(
     ensures returned { Returned (2 * bytes segment.now + 1) cursor.old cursor.new }
 {
     if has_no_underscore(cursor.characters(segment)) {
-        return cursor.slice_segment(segment).to_string(alloc);
+        return cursor.characters(segment).into_piece().to_string(alloc);
     }
     let characters = cursor.characters(segment);
     let mut text = String::with_capacity(alloc, characters.byte_len())?;
