@@ -8,12 +8,12 @@ use Rattle.kdl_text.specs.Chars.{Text, is_identifier_char, is_digit, is_sign, st
 abbrev pub is_excluded : Text → Bool
 is_excluded s = (((bytes_eq s (codes "true") || bytes_eq s (codes "false")) || bytes_eq s (codes "null")) || bytes_eq s (codes "inf")) || bytes_eq s (codes "nan")
 
--- behind a point: nothing, or no digit
+-- after a point: nothing, or no digit
 abbrev pub after_point : Text → Bool
 after_point [] = true
 after_point (c ∷ s) = not (is_digit c)
 
--- behind a sign: nothing, a point as above, or no digit
+-- after a sign: nothing, a point as above, or no digit
 abbrev pub after_sign : Text → Bool
 after_sign [] = true
 after_sign (c ∷ s) = if c == 46 then after_point s else not (is_digit c)
@@ -30,6 +30,6 @@ bare_form (c ∷ s) =
 unfoldable pub is_bare : Text → Bool
 is_bare s = list_all is_identifier_char s && bare_form s
 
--- a bare string, and no identifier character behind it
+-- a bare string, and no identifier character after it
 pub data BareString : Text → Text → Text → Type 0 where
   bare : {s r w : Text} → s ≡ w ++ r → is_bare w ≡ true → starts is_identifier_char r ≡ false → BareString s r w

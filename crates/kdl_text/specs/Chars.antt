@@ -22,7 +22,7 @@ is_space c =
 unfoldable pub is_newline_char : ℕ → Bool
 is_newline_char c = ((within 10 13 c || c == 0x85) || c == 0x2028) || c == 0x2029
 
--- the characters that stand nowhere but in comments
+-- the characters that only comments contain
 unfoldable pub is_banned : ℕ → Bool
 is_banned c =
     ((((((within 0 8 c || within 14 31 c) || c == 127) || within 0x200E 0x200F c) || within 0x202A 0x202E c) || within 0x2066 0x2069 c) || c == 0xFEFF)
@@ -64,7 +64,7 @@ is_quote c = c == 34
 abbrev pub is_comment_char : ℕ → Bool
 is_comment_char c = not (c == 42 || c == 47)
 
--- a character that stands for itself in a quoted string
+-- a literal character of a quoted string
 unfoldable pub is_literal : ℕ → Bool
 is_literal c = not (((c == 92 || c == 34) || is_newline_char c) || is_banned c)
 

@@ -1,11 +1,11 @@
--- Dedent (KDL 2.0.0, Multi-line Strings): what lines stand for, the last of which is spaces alone.
+-- Dedent (KDL 2.0.0, Multi-line Strings): the value of lines, the last of which is spaces alone.
 use Rattle.std.specs.Prelude.{◌≡◌, Bool, true, false, List, [], ◌∷◌, ◌++◌}
 use Rattle.std.specs.List.{list_all}
 use Rattle.kdl_text.specs.Chars.{Text, is_space}
 use Rattle.kdl_text.specs.declared.strings.dedent.LineUnit.{LineUnit}
 use Rattle.kdl_text.specs.declared.strings.dedent.LineUnit.TheVariants.{Literal, Escape, LineEnd}
 
--- a literal space; an escape is none, whichever character it stands for
+-- a literal space; an escape is none, whichever character it means
 abbrev pub is_space_unit : LineUnit → Bool
 is_space_unit (Literal c) = is_space c
 is_space_unit (Escape c) = false
@@ -21,13 +21,13 @@ is_line_end LineEnd = true
 abbrev pub is_blank_line : List LineUnit → Bool
 is_blank_line line = list_all is_space_unit line
 
--- what a unit of a line stands for
+-- the text of a unit of a line
 abbrev pub unit_text : LineUnit → Text
 unit_text (Literal c) = c ∷ []
 unit_text (Escape c) = c ∷ []
 unit_text LineEnd = []
 
--- what units of a line stand for
+-- the text of units of a line
 abbrev pub line_text : List LineUnit → Text
 line_text [] = []
 line_text (u ∷ us) = unit_text u ++ line_text us
@@ -48,7 +48,7 @@ abbrev pub lines_of : List LineUnit → List (List LineUnit)
 lines_of [] = [] ∷ []
 lines_of (u ∷ us) = onto_lines u (lines_of us)
 
--- a blank line stands for nothing; any other begins with the prefix, and stands for what follows it
+-- the value of a blank line is empty; any other line begins with the prefix, and its value is what follows it
 pub data LineValue (prefix line : List LineUnit) (v : Text) : Type 0 where
   blank : is_blank_line line ≡ true → v ≡ [] → LineValue prefix line v
   dedented : (m : List LineUnit) → is_blank_line line ≡ false → line ≡ prefix ++ m → v ≡ line_text m → LineValue prefix line v
@@ -64,7 +64,7 @@ joined [] = []
 joined (v ∷ []) = v
 joined (v ∷ w ∷ vs) = v ++ (10 ∷ joined (w ∷ vs))
 
--- the last line is blank, and is the prefix; the lines before it stand for v
+-- the last line is blank, and is the prefix; v is the value of the lines before it
 pub record Dedents (us : List LineUnit) (v : Text) : Type 0 where
   pub lines : List (List LineUnit)
   pub prefix : List LineUnit
@@ -74,7 +74,7 @@ pub record Dedents (us : List LineUnit) (v : Text) : Type 0 where
   pub values : LineValues prefix lines each
   pub value : v ≡ joined each
 
--- what lines stand for under a prefix that is given
+-- the value of lines under a prefix that is given
 pub record Lines (prefix us : List LineUnit) (v : Text) : Type 0 where
   pub each : List Text
   pub values : LineValues prefix (lines_of us) each

@@ -1,4 +1,4 @@
--- What is told of a refused text.
+-- The error of a refused text.
 use Rattle.std.specs.Prelude.{◌≡◌, ℕ, ◌<◌, List, length, All, Result, Ok, Err}
 use Rattle.std.specs.Rc.{rc_str_bytes}
 use Rattle.std.specs.Str.{chars}
@@ -25,12 +25,12 @@ pub record Tells (text : List ℕ) (e : KdlError) : Type 0 where
   pub some : 0 < length e.diagnostics.items
   pub each : All (IsToldOf text) e.diagnostics.items
 
--- a refusal tells of the text
+-- a refusal is of the text
 abbrev pub TellsOf : List ℕ → ParseFailure → Type 0
 TellsOf text (Syntax e) = Tells text e
 TellsOf text Memory = Unit {0}
 
--- where the text was refused, an error tells of it
+-- where the text was refused, the error is of it
 abbrev pub TellsOnSyntax : {A : Type 0} → List ℕ → Result A ParseFailure → Type 0
 TellsOnSyntax text (Ok x) = Unit {0}
 TellsOnSyntax text (Err e) = TellsOf text e

@@ -4,11 +4,11 @@
 pub mod Here
 -- Lines of strings of many lines, as they are read.
 pub mod Lines
--- How a reader of numbers stands to the text while the number is under way.
+-- How far a reader of numbers has come in the text while the number is under way.
 pub mod NumberReading
--- How a reader's answer stands to a relation, and what it costs.
+-- What the result of a reader says of a relation, and what it costs.
 pub mod Reading
 -- Tables of ASCII characters: bit h of number l is that of the character 16 * h + l.
 pub mod Tables
--- How the answers of the readers of comments and spaces stand to the text.
+-- What the results of the readers of comments and spaces say of the text.
 pub mod TriviaReading

@@ -2,9 +2,9 @@
 pub mod Bare
 -- Texts and classes of characters (KDL 2.0.0: Unicode scalar values, spaces, newlines, disallowed code points).
 pub mod Chars
--- Dedent (KDL 2.0.0, Multi-line Strings): what lines stand for, the last of which is spaces alone.
+-- Dedent (KDL 2.0.0, Multi-line Strings): the value of lines, the last of which is spaces alone.
 pub mod Dedent
--- What is told of a refused text.
+-- The error of a refused text.
 pub mod Failures
 -- Quoted strings in either form (KDL 2.0.0, Quoted String and Multi-line String).
 pub mod MultiLine
@@ -14,9 +14,9 @@ pub mod Numbers
 pub mod Raw
 -- Spans: places in a text, in bytes.
 pub mod Spans
--- Quoted strings on one line (KDL 2.0.0, Quoted String). `X t r x`: an X begins the text t, leaves r, and stands for x.
+-- Quoted strings on one line (KDL 2.0.0, Quoted String). `X t r x`: an X begins the text t, leaves r, and has the value x.
 pub mod Strings
--- Comments, spaces, esclines, slashdashes, and what may stand behind a value (KDL 2.0.0).
+-- Comments, spaces, esclines, slashdashes, and what may follow a value (KDL 2.0.0).
 pub mod Trivia
 -- What only proofs and contracts inside the crates need.
 pub mod Internal

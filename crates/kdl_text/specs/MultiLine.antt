@@ -28,7 +28,7 @@ pub data Content : Text → Text → List LineUnit → Type 0 where
 pub data MultiLineBody : Text → Text → Text → Type 0 where
   lines : {t m r v : Text} {us : List LineUnit} → Newline t m → Content m r us → Dedents us v → MultiLineBody t r v
 
--- three quotes, and behind them such a body
+-- three quotes, and after them such a body
 pub data MultiLineString : Text → Text → Text → Type 0 where
   multi_line : {t r v : Text} → MultiLineBody t r v → MultiLineString (34 ∷ 34 ∷ 34 ∷ t) r v
 

@@ -20,7 +20,7 @@ pub data Sign : Text → Text → Bool → Type 0 where
   plus : {r : Text} → Sign (43 ∷ r) r false
   minus : {r : Text} → Sign (45 ∷ r) r true
 
--- the base that the letter behind a `0` stands for: 16 by `x` or `X`, 8 by `o` or `O`, 2 by `b` or `B`
+-- the base that the letter after a `0` means: 16 by `x` or `X`, 8 by `o` or `O`, 2 by `b` or `B`
 abbrev pub base_of : ℕ → Option ℕ
 base_of c =
     if c == 120 || c == 88 then Some 16
@@ -39,7 +39,7 @@ pub data BasePrefix : Text → Text → ℕ → Type 0 where
   ten : {t : Text} → base_prefix t ≡ None → BasePrefix t t 10
   other : {c d radix : ℕ} {r : Text} → base_prefix (c ∷ d ∷ r) ≡ Some radix → BasePrefix (c ∷ d ∷ r) r radix
 
--- digits and `_`, as many as stand here; w is the digits alone
+-- digits and `_`, as many as are here; w is the digits alone
 pub data Digits (radix : ℕ) : Text → Text → Text → Type 0 where
   stop : {r : Text} → starts (is_part radix) r ≡ false → Digits radix r r []
   digit : {c : ℕ} {s r w : Text} → is_digit_of radix c ≡ true → Digits radix s r w → Digits radix (c ∷ s) r (c ∷ w)
@@ -49,7 +49,7 @@ pub data Digits (radix : ℕ) : Text → Text → Text → Type 0 where
 pub data Integer (radix : ℕ) : Text → Text → Text → Type 0 where
   integer : {c : ℕ} {s r w : Text} → is_digit_of radix c ≡ true → Digits radix s r w → Integer radix (c ∷ s) r (c ∷ w)
 
--- n, or -n behind `-`
+-- n, or -n after `-`
 abbrev pub signed : Bool → ℕ → ℤ
 signed negative n = if negative then neg_ℤ (pos n) else pos n
 
@@ -57,7 +57,7 @@ signed negative n = if negative then neg_ℤ (pos n) else pos n
 abbrev pub fits : Bool → ℕ → Bool
 fits negative n = if negative then nat_le n (2 ^ 127) else nat_lt n (2 ^ 127)
 
--- a sign, the prefix of a base and an integer, which stand for z, and no identifier character behind them
+-- a sign, the prefix of a base and an integer, whose value is z, and no identifier character after them
 pub data WholeNumber : Text → Text → ℤ → Type 0 where
   whole : {t s u r w : Text} {negative : Bool} {radix : ℕ} {z : ℤ} → Sign t s negative → BasePrefix s u radix → Integer radix u r w → starts is_identifier_char r ≡ false
       → fits negative (digits_value radix w) ≡ true → z ≡ signed negative (digits_value radix w) → WholeNumber t r z
@@ -76,7 +76,7 @@ pub data Exponent : Text → Text → Bool → Type 0 where
   none : {t : Text} → starts is_exponent_letter t ≡ false → Exponent t t false
   exponent : {c : ℕ} {s t r w : Text} {negative : Bool} → is_exponent_letter c ≡ true → Sign s t negative → Integer 10 t r w → Exponent (c ∷ s) r true
 
--- what makes a decimal of an integer: a fraction or an exponent or both, and no identifier character behind them
+-- what makes a decimal of an integer: a fraction or an exponent or both, and no identifier character after them
 pub data DecimalPart : Text → Text → Type 0 where
   part : {t s r : Text} {point power : Bool} → Fraction t s point → Exponent s r power → (point || power) ≡ true → starts is_identifier_char r ≡ false → DecimalPart t r
 
@@ -88,7 +88,7 @@ plain p = filter (λ c. not (c == 95)) p
 pub data Decimal : Text → Text → Text → Type 0 where
   decimal : {t s u r v w : Text} {negative : Bool} (p : Text) → Sign t s negative → Integer 10 s u v → DecimalPart u r → t ≡ p ++ r → w ≡ plain p → Decimal t r w
 
--- what a number stands for
+-- the value of a number
 pub data NumberValue : Type 0 where
   whole_value : ℤ → NumberValue
   decimal_text : Text → NumberValue
@@ -107,7 +107,7 @@ keyword_text Infinity = codes "#inf"
 keyword_text NegativeInfinity = codes "#-inf"
 keyword_text NotANumber = codes "#nan"
 
--- the text of the keyword k, and no identifier character behind it
+-- the text of the keyword k, and no identifier character after it
 pub data IsKeyword : Text → Text → Keyword → Type 0 where
   keyword : {t r : Text} {k : Keyword} → t ≡ keyword_text k ++ r → starts is_identifier_char r ≡ false → IsKeyword t r k
 

@@ -20,7 +20,7 @@ pub data RawUnits (close : Text) : Text → Text → List LineUnit → Type 0 wh
   none : {r : Text} → RawUnits close r r []
   more : {t m r : Text} {u : LineUnit} {us : List LineUnit} → RawUnit close t m u → RawUnits close m r us → RawUnits close t r (u ∷ us)
 
--- such units, and behind them the closing
+-- such units, and after them the closing
 pub data RawContent (close : Text) : Text → Text → List LineUnit → Type 0 where
   content : {t m r : Text} {us : List LineUnit} → RawUnits close t m us → m ≡ close ++ r → RawContent close t r us
 
@@ -48,7 +48,7 @@ pub record RawString (t r v : Text) : Type 0 where
 pub data MultiLineRawBody (signs : ℕ) : Text → Text → Text → Type 0 where
   lines : {t m r v : Text} {us : List LineUnit} → Newline t m → RawContent (closing 3 signs) m r us → Dedents us v → MultiLineRawBody signs t r v
 
--- number signs, three quotes, and behind them such a body
+-- number signs, three quotes, and after them such a body
 pub record MultiLineRawString (t r v : Text) : Type 0 where
   pub signs : ℕ
   pub some : 0 < signs

@@ -13,7 +13,7 @@ bytes (c ∷ s) = len_utf8 c + bytes s
 abbrev pub raise : ℕ → ℕ → ℕ
 raise count by = min (count + by) (2 ^ 64 - 1)
 
--- the span, in the whole text, of what stands in t before r
+-- the span, in the whole text, of what is in t before r
 abbrev pub span_between : Text → Text → Text → SourceSpan
 span_between whole t r = record { offset = bytes whole - bytes t; len = bytes t - bytes r }
 

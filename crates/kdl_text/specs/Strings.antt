@@ -1,11 +1,11 @@
--- Quoted strings on one line (KDL 2.0.0, Quoted String). `X t r x`: an X begins the text t, leaves r, and stands for x.
+-- Quoted strings on one line (KDL 2.0.0, Quoted String). `X t r x`: an X begins the text t, leaves r, and has the value x.
 use Rattle.std.specs.Prelude.{◌≡◌, ℕ, ◌<◌, ◌≤◌, Bool, true, false, ◌||◌, ◌==◌, if◌then◌else◌, List, [], ◌∷◌, ◌++◌, length, Option, Some, None}
 use Rattle.std.specs.List.{list_all}
 use Rattle.std.specs.Char.{is_digit}
 use Rattle.std.specs.Str.Parse.{digits_value}
 use Rattle.kdl_text.specs.Chars.{Text, is_scalar, is_space, is_newline_char, is_literal, starts}
 
--- a character that stands for itself, an escape with its character, or an escape of spaces and newlines
+-- a literal character, an escape with its character, or an escape of spaces and newlines
 pub data StringUnit : Type 0 where
   literal : ℕ → StringUnit
   escape : ℕ → StringUnit
@@ -16,13 +16,13 @@ abbrev pub escape_of : Option ℕ → StringUnit
 escape_of None = spaces
 escape_of (Some c) = escape c
 
--- what a unit stands for
+-- the value of a unit
 abbrev pub unit_value : StringUnit → Text
 unit_value (literal c) = c ∷ []
 unit_value (escape c) = c ∷ []
 unit_value spaces = []
 
--- what units in a row stand for
+-- the value of units in a row
 abbrev pub values : List StringUnit → Text
 values [] = []
 values (u ∷ us) = unit_value u ++ values us
@@ -35,7 +35,7 @@ is_escaped_space c = is_space c || is_newline_char c
 abbrev pub is_hex : ℕ → Bool
 is_hex c = is_digit c 16
 
--- the character that a letter behind a backslash stands for: `\ " b f n r t s`
+-- the character that a letter after a backslash means: `\ " b f n r t s`
 abbrev pub letter_escape : ℕ → Option ℕ
 letter_escape e =
     if e == 92 || e == 34 then Some e

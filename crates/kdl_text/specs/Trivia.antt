@@ -1,4 +1,4 @@
--- Comments, spaces, esclines, slashdashes, and what may stand behind a value (KDL 2.0.0).
+-- Comments, spaces, esclines, slashdashes, and what may follow a value (KDL 2.0.0).
 use Rattle.std.specs.Prelude.{◌≡◌, ℕ, Bool, true, false, ◌||◌, ◌==◌, [], ◌∷◌}
 use Rattle.kdl_text.specs.Chars.{Text, is_newline_char, begins_two, Newline, Star, Space}
 
@@ -37,7 +37,7 @@ pub data EscEnd : Text → Text → Type 0 where
 pub data Escline : Text → Text → Type 0 where
   escline : {s t r : Text} → Star Ws s t → EscEnd t r → Escline (92 ∷ s) r
 
--- what may stand between the parts of a node: a space, a block comment or an escline
+-- what may separate the parts of a node: a space, a block comment or an escline
 pub data NodeSpace : Text → Text → Type 0 where
   ws : {s r : Text} → Ws s r → NodeSpace s r
   escline : {s r : Text} → Escline s r → NodeSpace s r
@@ -47,7 +47,7 @@ pub data Break : Text → Text → Type 0 where
   newline : {s r : Text} → Newline s r → Break s r
   comment : {s r : Text} → LineComment s r → Break s r
 
--- what may stand between nodes: a node-space or a break
+-- what may separate nodes: a node-space or a break
 pub data LineSpace : Text → Text → Type 0 where
   space : {s r : Text} → NodeSpace s r → LineSpace s r
   «break» : {s r : Text} → Break s r → LineSpace s r
@@ -56,11 +56,11 @@ pub data LineSpace : Text → Text → Type 0 where
 pub data Slashdash : Text → Text → Type 0 where
   slashdash : {s r : Text} → Star LineSpace s r → Slashdash (47 ∷ 45 ∷ s) r
 
--- `= ) { } ;`, which may stand directly behind a value
+-- `= ) { } ;`, which may directly follow a value
 unfoldable pub ends_value : ℕ → Bool
 ends_value c = (((c == 61 || c == 41) || c == 123) || c == 125) || c == 59
 
--- what may stand behind a value
+-- what may follow a value
 pub data ValueEnd (wide : Bool) : Text → Type 0 where
   -- the end of the text
   nothing : ValueEnd wide []

@@ -1,7 +1,9 @@
 //! Characters: their classes, and the cursor through which every reader looks at a text.
 //!
-//! A text is looked at by a `Cursor` alone, which counts each look and each byte of a slice. A slice is a `Piece`: it is
-//! copied, or compared as a whole. What is read again is a `Segment`: a cursor enters it, and counts each look in it.
+//! A text is looked at by a `Cursor` alone, which counts each look and each byte of a slice. A
+//! slice is a `Piece`: it is copied, or compared as a whole. What is read again is a `Segment`: a
+//! cursor enters it and counts each look in it, or counts its bytes at once and returns its
+//! `Characters`.
 
 ghost use Rattle.kdl_text.specs.Chars as class;
 ghost use Rattle.kdl_text.specs.Chars.{Text, Newline};
@@ -43,7 +45,8 @@ pub fn is_newline_char(c: char) -> bool
     matches!(c, '\n'..='\r' | '\u{85}' | '\u{2028}' | '\u{2029}')
 }
 
-/// Whether KDL 2.0.0 bans the character from documents (Disallowed Literal Code Points). Here a comment may hold it.
+/// Whether KDL 2.0.0 bans the character from documents (Disallowed Literal Code Points). Here a
+/// comment may hold it.
 #[inline]
 #[tactic(auto, unfolding(crate::specs::Chars::is_banned))]
 pub fn is_banned(c: char) -> bool
@@ -80,7 +83,7 @@ fn is_punctuation(c: char) -> bool
     )
 }
 
-/// Whether the character may stand in a bare string (KDL 2.0.0, Identifier String).
+/// Whether a bare string may contain the character (KDL 2.0.0, Identifier String).
 #[inline]
 #[tactic(auto, unfolding(crate::specs::Chars::is_identifier_char))]
 pub fn is_identifier_char(c: char) -> bool
@@ -92,7 +95,7 @@ pub fn is_identifier_char(c: char) -> bool
     !(is_space(c) || is_newline_char(c) || is_banned(c) || is_punctuation(c))
 }
 
-/// Whether the character stands for itself in a quoted string (KDL 2.0.0, Quoted String).
+/// Whether the character is a literal one in a quoted string (KDL 2.0.0, Quoted String).
 #[inline]
 #[tactic(auto, unfolding(crate::specs::Chars::is_literal))]
 pub fn is_literal(c: char) -> bool
@@ -104,7 +107,7 @@ pub fn is_literal(c: char) -> bool
     !(c == '\\' || c == '"' || is_newline_char(c) || is_banned(c))
 }
 
-/// Whether the character may stand in a line of a raw string (KDL 2.0.0, Raw String).
+/// Whether a line of a raw string may contain the character (KDL 2.0.0, Raw String).
 #[inline]
 #[tactic(auto, unfolding(crate::specs::Chars::is_raw))]
 pub fn is_raw(c: char) -> bool
@@ -113,7 +116,7 @@ pub fn is_raw(c: char) -> bool
     !(is_newline_char(c) || is_banned(c))
 }
 
-/// Whether the character may stand in a line of a raw string and is no quote.
+/// Whether a line of a raw string may contain the character, and it is no quote.
 #[inline]
 #[tactic(auto, unfolding(crate::specs::Chars::is_unquoted))]
 fn is_unquoted(c: char) -> bool
@@ -129,11 +132,11 @@ pub enum Class {
     Space,
     /// The characters of bare strings and numbers.
     Identifier,
-    /// The characters that stand for themselves in a quoted string.
+    /// The literal characters of a quoted string.
     Literal,
     /// All but the characters of newlines.
     Line,
-    /// All that may stand in a line of a raw string, but quotes.
+    /// All that a line of a raw string may contain, but quotes.
     Unquoted,
     /// Number signs.
     NumberSign,
@@ -220,7 +223,7 @@ impl Class {
     }
 }
 
-/// The text behind its longest run of ASCII characters of the class, and how many these are.
+/// The text after its longest run of ASCII characters of the class, and how many these are.
 #[inline]
 #[tactic(auto, using(crate::proofs::Looking::ClassTables::ascii_boundary))]
 fn skip_ascii(text: &str, class: Class) -> (&str, u64)
@@ -268,7 +271,7 @@ impl Steps {
     }
 }
 
-/// The first character, and the text behind it.
+/// The first character, and the text after it.
 #[inline]
 fn split_first(text: &str) -> Option<(char, &str)>
     ensures parts { MatchOption result (chars text.now ≡ []) (λ (c, rest). (chars text.now ≡ c ∷ chars rest.now)
@@ -313,7 +316,7 @@ fn starts_with_two(text: &str, a: char, b: char) -> bool
     }
 }
 
-/// The same from the place on to which `skip_ascii` came, behind so many characters.
+/// The same from the place on to which `skip_ascii` came, after so many characters.
 #[inline(never)]
 #[tactic(auto, using(crate::proofs::Looking::Runs::run_begins, crate::proofs::Looking::Runs::run_turn, crate::proofs::Looking::Runs::run_stops, crate::proofs::Looking::Runs::run_ends, crate::proofs::Looking::Runs::run_counts))]
 fn skip_beyond<'a>(text: &str, behind: &'a str, read: u64, class: Class) -> (&'a str, u64)
@@ -334,7 +337,7 @@ fn skip_beyond<'a>(text: &str, behind: &'a str, read: u64, class: Class) -> (&'a
     (rest, count)
 }
 
-/// The text behind the longest run of characters of the class, and how many these are.
+/// The text after the longest run of characters of the class, and how many these are.
 #[inline]
 fn skip_class(text: &str, class: Class) -> (&str, u64)
     ensures { RunOf (in_class class) text.now result.0.now result.1 }
@@ -349,7 +352,7 @@ fn skip_class(text: &str, class: Class) -> (&str, u64)
     skip_beyond(text, rest, count, class)
 }
 
-/// What stands before the rest of a text.
+/// The text before its rest.
 #[inline]
 fn cut<'a>(text: &'a str, rest: &str) -> &'a str
     requires { (p : Text) × (chars text.now ≡ p ++ chars rest.now) }
@@ -445,7 +448,7 @@ impl<'a> Checkpoint<'a> {
         }
     }
 
-    /// The span of what stands between two places, in the text that begins here, in bytes.
+    /// The span between two places, in the text that begins here, in bytes.
     pub fn span_between(&self, from: &Checkpoint, to: &Checkpoint) -> SourceSpan
         ensures { result ≡ spans.span_between self.now.rest from.now.rest to.now.rest }
     {
@@ -456,7 +459,8 @@ impl<'a> Checkpoint<'a> {
     }
 }
 
-/// A segment of a text, which a cursor enters to read it again. It shows nothing of the text by itself.
+/// A segment of a text, which a cursor enters to read it again. It shows nothing of the text by
+/// itself.
 #[derive(Drop)]
 pub struct Segment<'a> {
     text: &'a str,
@@ -481,7 +485,7 @@ impl<'a> Segment<'a> {
     }
 }
 
-/// The characters of a segment, all of which are counted. Each is taken once.
+/// The characters of a segment, whose bytes were counted. Each is taken once.
 #[derive(Drop)]
 pub struct Characters<'a> {
     text: &'a str,
@@ -609,7 +613,7 @@ impl<'a> Cursor<'a> {
         self.steps
     }
 
-    /// Where the cursor stands, in bytes from the start of the text.
+    /// Where the cursor is, in bytes from the start of the text.
     #[inline]
     pub fn at(&self) -> usize
         ensures { result ≡ self.now.at }
@@ -625,7 +629,7 @@ impl<'a> Cursor<'a> {
         self.steps.raise(1);
     }
 
-    /// Where the cursor stands, to slice from there.
+    /// Where the cursor is, to slice from there.
     #[inline]
     pub fn checkpoint(&self) -> Checkpoint<'a>
         ensures rest { result.rest ≡ self.now.rest }
@@ -649,8 +653,8 @@ impl<'a> Cursor<'a> {
         self.at = place.at;
     }
 
-    /// Goes to the start of a segment, at whose end the text ends for the cursor. Gives the place where the cursor was,
-    /// to which it goes back by `go_to`. No step.
+    /// Goes to the start of a segment, at whose end the text ends for the cursor. Gives the place
+    /// where the cursor was, to which it goes back by `go_to`. No step.
     pub fn enter(&mut self, segment: &Segment<'a>) -> Checkpoint<'a>
         ensures inside { self.new ≡ record { rest = segment.now; at = 0; steps = self.old.steps } }
         ensures rest { result.rest ≡ self.old.rest }
@@ -674,7 +678,7 @@ impl<'a> Cursor<'a> {
         first_char(self.rest)
     }
 
-    /// The character behind the one here, if there is one. A step.
+    /// The character after the one here, if there is one. A step.
     pub fn look_second(&mut self) -> Option<char>
         ensures result { result ≡ first (tail self.old.rest) }
         ensures moved { self.new ≡ looked self.old }
@@ -712,7 +716,7 @@ impl<'a> Cursor<'a> {
         }
     }
 
-    /// Goes past the character c, if it stands here. A step.
+    /// Goes past the character c, if it is here. A step.
     #[inline]
     pub fn eat(&mut self, c: char) -> bool
         ensures { Ate c result self.old self.new }
@@ -724,7 +728,7 @@ impl<'a> Cursor<'a> {
         eats
     }
 
-    /// Whether the characters a and b stand here. Two steps.
+    /// Whether the characters a and b are here. Two steps.
     #[inline]
     pub fn looks_two(&mut self, a: char, b: char) -> bool
         ensures result { result ≡ class.begins_two a b self.old.rest }
@@ -734,7 +738,7 @@ impl<'a> Cursor<'a> {
         starts_with_two(self.rest, a, b)
     }
 
-    /// Goes past the characters a and b, if they stand here. Two steps.
+    /// Goes past the characters a and b, if they are here. Two steps.
     #[inline]
     pub fn eat_two(&mut self, a: char, b: char) -> bool
         ensures { AteTwo a b result self.old self.new }
@@ -747,7 +751,8 @@ impl<'a> Cursor<'a> {
         eats
     }
 
-    /// Goes past the longest run of characters of a class. A step for each, and one for the character behind them.
+    /// Goes past the longest run of characters of a class. A step for each, and one for the
+    /// character after them.
     #[inline]
     pub fn skip(&mut self, class: Class)
         ensures { Skips (in_class class) self.old self.new }
@@ -771,7 +776,7 @@ impl<'a> Cursor<'a> {
         Piece { text }
     }
 
-    /// The text from one checkpoint to another behind it. A step for each of its bytes.
+    /// The text from one checkpoint to a later one. A step for each of its bytes.
     #[inline]
     pub fn slice_between(&mut self, from: &Checkpoint<'a>, to: &Checkpoint<'a>) -> Piece<'a>
         requires { Ahead from.now to.now }
@@ -781,16 +786,6 @@ impl<'a> Cursor<'a> {
         let text = cut(from.rest, to.rest);
         self.steps.raise(text.len() as u64);
         Piece { text }
-    }
-
-    /// The segment as a slice. A step for each of its bytes.
-    #[inline]
-    pub fn slice_segment(&mut self, segment: &Segment<'a>) -> Piece<'a>
-        ensures result { result ≡ segment.now }
-        ensures moved { self.new ≡ sliced segment.now self.old }
-    {
-        self.steps.raise(byte_len(segment.text) as u64);
-        Piece { text: segment.text }
     }
 
     /// The characters of the segment. A step for each of its bytes.

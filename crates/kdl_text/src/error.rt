@@ -1,4 +1,4 @@
-//! What is told of a text that is refused.
+//! The error of a text that is refused.
 
 ghost use Rattle.kdl_text.specs.declared.error.ParseFailure.TheVariants.{Memory};
 ghost use Rattle.std.specs.Prelude.{◌≡◌};

@@ -1,4 +1,5 @@
-//! The text layer of KDL 2: characters, comments and spaces, strings, numbers, and the places of faults.
+//! The text layer of KDL 2: characters, comments and spaces, strings, numbers, and the places of
+//! faults.
 #![tactic(auto)]
 
 pub mod chars;

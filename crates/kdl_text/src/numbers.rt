@@ -20,13 +20,13 @@ use std::alloc::{AllocError, Global};
 /// The base in which a whole number is written.
 #[derive(Clone, Copy)]
 pub enum Radix {
-    /// Base 2, behind `0b` or `0B`.
+    /// Base 2, after `0b` or `0B`.
     Binary,
-    /// Base 8, behind `0o` or `0O`.
+    /// Base 8, after `0o` or `0O`.
     Octal,
     /// Base 10.
     Decimal,
-    /// Base 16, behind `0x` or `0X`.
+    /// Base 16, after `0x` or `0X`.
     Hexadecimal,
 }
 
@@ -47,7 +47,7 @@ impl Radix {
     }
 }
 
-/// The base that the letter behind a `0` stands for.
+/// The base that the letter after a `0` means.
 fn base_of(c: char) -> Option<Radix>
     ensures { IsBase result (spec.base_of c) }
 {
@@ -62,15 +62,16 @@ fn base_of(c: char) -> Option<Radix>
 /// Why no number was read where one begins.
 #[derive(Clone, Copy)]
 pub enum NumberFault {
-    /// Behind the digits of a whole number stands a character that can't follow them.
+    /// A character follows the digits of a whole number that can't follow them.
     Trailing(Radix),
-    /// Behind the digits of a decimal stands a character that can't follow them.
+    /// A character follows the digits of a decimal that can't follow them.
     TrailingDecimal,
-    /// No digit of the base stands where the first is due: behind the prefix of the base, or behind the sign.
+    /// No digit of the base where the first has to be: after the prefix of the base, or after the
+    /// sign.
     MissingDigits(Radix),
-    /// No digit stands behind the point.
+    /// No digit after the point.
     MissingFraction,
-    /// No digit stands in the exponent.
+    /// No digit in the exponent.
     MissingExponent,
     /// The whole number is none of `i128`.
     OutOfRange,
@@ -85,7 +86,7 @@ pub enum NumberFailure {
     Memory,
 }
 
-/// What a number stands for.
+/// The value of a number.
 #[derive(Drop)]
 pub enum Number {
     /// A whole number.
@@ -94,7 +95,7 @@ pub enum Number {
     Decimal(String),
 }
 
-/// A word behind `#` (KDL 2.0.0, Boolean, Null, Keyword Numbers).
+/// A word after `#` (KDL 2.0.0, Boolean, Null, Keyword Numbers).
 #[derive(Clone, Copy)]
 pub enum Keyword {
     /// `#true`
@@ -191,7 +192,7 @@ fn digit_of(c: char, radix: u32) -> Option<u32>
     c.to_digit(radix)
 }
 
-/// Goes past a sign, if one stands here. Whether it is `-`.
+/// Goes past a sign, if one is here. Whether it is `-`.
 #[inline]
 fn sign(cursor: &mut Cursor) -> bool
     ensures reads { Sign cursor.old.rest cursor.new.rest result }
@@ -211,7 +212,7 @@ fn sign(cursor: &mut Cursor) -> bool
     }
 }
 
-/// The base whose prefix stands here.
+/// The base whose prefix is here.
 #[inline]
 fn base_here(cursor: &mut Cursor) -> Option<Radix>
     ensures { LooksBasePrefix result cursor.old cursor.new }
@@ -225,7 +226,7 @@ fn base_here(cursor: &mut Cursor) -> Option<Radix>
     }
 }
 
-/// Goes past the prefix of a base, if one stands here.
+/// Goes past the prefix of a base, if one is here.
 #[inline]
 fn eat_base_prefix(cursor: &mut Cursor) -> Radix
     ensures reads { BasePrefix cursor.old.rest cursor.new.rest (radix_of result) }
@@ -264,7 +265,7 @@ fn digits(cursor: &mut Cursor, radix: u32, before: Magnitude) -> Magnitude
     }
 }
 
-/// Goes past an integer of the base, if one stands here: a digit, then digits and `_`.
+/// Goes past an integer of the base, if one is here: a digit, then digits and `_`.
 #[inline]
 fn integer(cursor: &mut Cursor, radix: u32) -> Option<Magnitude>
     requires low { 2 ≤ radix }
@@ -283,7 +284,7 @@ fn integer(cursor: &mut Cursor, radix: u32) -> Option<Magnitude>
     Some(digits(cursor, radix, Magnitude::Small(u64::from(first))))
 }
 
-/// Whether no identifier character stands here.
+/// Whether no identifier character is here.
 #[inline]
 fn is_end(cursor: &mut Cursor) -> bool
     ensures result { result ≡ not (starts class.is_identifier_char cursor.old.rest) }
@@ -338,7 +339,7 @@ fn read_front(cursor: &mut Cursor) -> Result<Front, NumberFault>
     }
 }
 
-/// Goes past a point and an integer, if a point stands here. Whether one did.
+/// Goes past a point and an integer, if a point is here. Whether it is.
 fn fraction(cursor: &mut Cursor) -> Result<bool, NumberFault>
     ensures reads { ReadsFraction result cursor.old.rest cursor.new.rest }
     ensures fault { IsPartFault result cursor.old.rest cursor.new.rest }
@@ -354,7 +355,7 @@ fn fraction(cursor: &mut Cursor) -> Result<bool, NumberFault>
     }
 }
 
-/// Goes past an exponent, if its letter stands here. Whether one did.
+/// Goes past an exponent, if its letter is here. Whether it is.
 fn exponent(cursor: &mut Cursor) -> Result<bool, NumberFault>
     ensures reads { ReadsExponent result cursor.old.rest cursor.new.rest }
     ensures fault { IsPowerFault result cursor.old.rest cursor.new.rest }
@@ -371,7 +372,7 @@ fn exponent(cursor: &mut Cursor) -> Result<bool, NumberFault>
     }
 }
 
-/// Goes past `e` or `E`, if it stands here.
+/// Goes past `e` or `E`, if it is here.
 #[inline]
 fn eat_exponent_letter(cursor: &mut Cursor) -> bool
     ensures { AteExponentLetter result cursor.old cursor.new }
@@ -445,7 +446,7 @@ fn without_underscores<'a>(
     ensures returned { Returned (2 * bytes segment.now + 1) cursor.old cursor.new }
 {
     if has_no_underscore(cursor.characters(segment)) {
-        return cursor.slice_segment(segment).to_string(alloc);
+        return cursor.characters(segment).into_piece().to_string(alloc);
     }
     let characters = cursor.characters(segment);
     let mut text = String::with_capacity(alloc, characters.byte_len())?;
@@ -466,10 +467,11 @@ fn whole(number: Front) -> Result<Number, NumberFailure>
     }
 }
 
-/// Goes past a number, and gives what it stands for (KDL 2.0.0, Number).
+/// Goes past a number, and gives its value (KDL 2.0.0, Number).
 ///
-/// A fault where no number begins here: a digit is missing, an identifier character follows, or a whole number is none
-/// of `i128`. The cursor then stands where the fault was seen. A decimal takes memory for its text.
+/// A fault where no number begins here: a digit is missing, an identifier character follows, or a
+/// whole number is none of `i128`. The cursor is then where the fault was seen. A decimal takes
+/// memory for its text.
 pub fn read_number(alloc: Global, cursor: &mut Cursor) -> Result<Number, NumberFailure>
     ensures reads { ReadsNumber result cursor.old.rest cursor.new.rest }
     ensures fault { IsNumberFault result cursor.old.rest cursor.new.rest }
@@ -498,7 +500,7 @@ pub fn read_number(alloc: Global, cursor: &mut Cursor) -> Result<Number, NumberF
     }
 }
 
-/// The keyword behind `#`, by its word.
+/// The keyword after `#`, by its word.
 fn keyword_of(word: &Piece) -> Option<Keyword>
     ensures { WordOf result word.now }
 {
@@ -519,8 +521,8 @@ fn keyword_of(word: &Piece) -> Option<Keyword>
     }
 }
 
-/// Goes past a keyword, and gives it (KDL 2.0.0, Boolean, Null, Keyword Numbers). None where no keyword begins here;
-/// the cursor then stands behind the word.
+/// Goes past a keyword, and gives it (KDL 2.0.0, Boolean, Null, Keyword Numbers). None where no
+/// keyword begins here; the cursor is then after the word.
 pub fn read_keyword(cursor: &mut Cursor) -> Option<Keyword>
     ensures reads { ReadsKeyword result cursor.old.rest cursor.new.rest }
     ensures moves { Moves cursor.old cursor.new }

@@ -1,10 +1,10 @@
 //! Readers of strings (KDL 2.0.0, String).
 //!
-//! Each stands on the first character of the string, and leaves the cursor behind its last one.
+//! Each begins at the first character of the string, and leaves the cursor after its last one.
 
 ghost use Rattle.kdl_text.specs.Bare as bare;
 ghost use Rattle.kdl_text.specs.Bare.{BareString};
-ghost use Rattle.kdl_text.specs.Chars.{Text, is_digit, is_identifier_char, is_literal, is_newline_char, is_sign, starts, within};
+ghost use Rattle.kdl_text.specs.Chars.{Text, is_digit, is_identifier_char, is_newline_char, within};
 ghost use Rattle.kdl_text.specs.Internal.Here.{Counted, in_class};
 ghost use Rattle.kdl_text.specs.MultiLine.{IsQuoted};
 ghost use Rattle.kdl_text.specs.Internal.Reading.{Moves, Costs};
@@ -13,7 +13,7 @@ ghost use Rattle.kdl_text.specs.Strings.{QuotedBody, StringUnit, IsUnit, HexNumb
 ghost use Rattle.kdl_text.specs.declared.chars.Class.TheVariants.{Literal};
 ghost use Rattle.kdl_text.specs.declared.strings.StringFault.TheVariants.{Newline, Banned};
 ghost use Rattle.kdl_text.specs.declared.strings.StringFailure.TheVariants.{Memory, Fault};
-ghost use Rattle.std.specs.Prelude.{◌≡◌, ◌&&◌, ◌||◌, [], not, ℕ, true, false, IsTrue, ◌∷◌, ◌++◌, MatchOption, MatchResult, IfSome, IfNone, IfOk, IfErr, string_bytes};
+ghost use Rattle.std.specs.Prelude.{◌≡◌, ◌&&◌, ◌||◌, not, ℕ, true, false, ◌∷◌, ◌++◌, MatchOption, MatchResult, IfSome, IfNone, IfOk, IfErr, string_bytes};
 ghost use Rattle.std.specs.List.{list_all};
 ghost use Rattle.std.specs.Str.{chars, bytes_eq};
 
@@ -34,17 +34,18 @@ pub enum StringFault {
     Unopened,
     /// The text ends before the closing quote.
     Unclosed,
-    /// A backslash with no escape behind it.
+    /// A backslash without an escape after it.
     BadEscape,
     /// A newline in a string of a single line.
     Newline,
-    /// A character that may not stand in a document.
+    /// A character that a document may not contain.
     Banned,
-    /// No newline behind the three quotes that begin a string of many lines.
+    /// No newline after the three quotes that begin a string of many lines.
     NoNewline,
     /// The last line of a string of many lines is not spaces alone.
     BadLastLine,
-    /// A line of a string of many lines that has not the last line's spaces at its front, and is not spaces alone.
+    /// A line of a string of many lines that has not the last line's spaces at its front, and is
+    /// not spaces alone.
     NoPrefix,
     /// A raw string of a single line that is one quote or begins with two.
     LooksMultiLine,
@@ -129,15 +130,22 @@ fn follows_sign(cursor: &mut Cursor) -> bool
     }
 }
 
-/// Whether the identifier characters from here to the end of the text are a bare string. They are this word.
+/// Whether the identifier characters from here to the end of the text are a bare string. They are
+/// this word.
 fn has_bare_form(word: &Piece, cursor: &mut Cursor) -> bool
     requires { word.now ≡ cursor.old.rest }
     ensures result { result ≡ bare.bare_form word.now }
     ensures counted { Counted 3 cursor.old cursor.new }
 {
-    match cursor.take() {
-        Some('+' | '-') => follows_sign(cursor),
-        Some('.') => follows_point(cursor),
+    match cursor.look() {
+        Some('+' | '-') => {
+            cursor.step();
+            follows_sign(cursor)
+        }
+        Some('.') => {
+            cursor.step();
+            follows_point(cursor)
+        }
         Some(c) => !is_digit(c) && !is_excluded(word),
         None => false,
     }
@@ -182,7 +190,7 @@ fn skip_blanks(cursor: &mut Cursor)
     }
 }
 
-/// Behind `\u{`: the character whose number stands before the brace.
+/// After `\u{`: the character whose number is before the brace.
 fn hex_number(cursor: &mut Cursor) -> Option<char>
     ensures found { IfSome result (λ c. HexNumber cursor.old.rest cursor.new.rest c) }
     ensures none { IfNone result ((r : Text) (c : ℕ) → HexNumber cursor.old.rest r c → ⊥) }
@@ -212,7 +220,7 @@ fn hex_number(cursor: &mut Cursor) -> Option<char>
     }
 }
 
-/// The character that a letter behind a backslash stands for.
+/// The character that a letter after a backslash means.
 fn letter_escape(letter: char) -> Option<char>
     ensures { result ≡ spec.letter_escape letter }
 {
@@ -228,7 +236,8 @@ fn letter_escape(letter: char) -> Option<char>
     }
 }
 
-/// The character of the escape that begins with this letter: `u` has its number behind it, in braces.
+/// The character of the escape that begins with this letter: after `u` its number follows, in
+/// braces.
 fn escaped_char(letter: char, cursor: &mut Cursor) -> Option<char>
     ensures found { IfSome result
         (λ c. IsUnit (92 ∷ letter ∷ cursor.old.rest) cursor.new.rest (spec.escape c)) }
@@ -247,7 +256,7 @@ fn escaped_char(letter: char, cursor: &mut Cursor) -> Option<char>
     hex_number(cursor)
 }
 
-/// Reads what stands behind a backslash: the character of an escape, or none of spaces and newlines.
+/// Reads what follows a backslash: the character of an escape, or none of spaces and newlines.
 pub fn escaped_unit(cursor: &mut Cursor) -> Result<Option<char>, StringFault>
     ensures found { IfOk result
         (λ o. IsUnit (92 ∷ cursor.old.rest) cursor.new.rest (spec.escape_of o)) }
@@ -269,9 +278,10 @@ pub fn escaped_unit(cursor: &mut Cursor) -> Result<Option<char>, StringFault>
     Ok(Some(c))
 }
 
-/// Reads what stands behind a backslash, and appends its character, or nothing for spaces and newlines.
+/// Reads what follows a backslash, and appends its character, or nothing for spaces and newlines.
 fn escape(cursor: &mut Cursor, out: &mut String) -> Result<(), StringFailure>
-    ensures found { IfOk result (λ _. (u : StringUnit) × IsUnit (92 ∷ cursor.old.rest) cursor.new.rest u
+    ensures found { IfOk result
+        (λ _. (u : StringUnit) × IsUnit (92 ∷ cursor.old.rest) cursor.new.rest u
         × (chars (string_bytes out.new) ≡ chars (string_bytes out.old) ++ unit_value u)) }
     ensures only { (r : Text) (u : StringUnit) → IsUnit (92 ∷ cursor.old.rest) r u
         → IfErr result (λ e. e ≡ Memory) }
@@ -287,7 +297,7 @@ fn escape(cursor: &mut Cursor, out: &mut String) -> Result<(), StringFailure>
     }
 }
 
-/// Why the character may not stand in a quoted string.
+/// Why a quoted string may not contain the character.
 fn fault_at(c: char) -> StringFault
     ensures newline { is_newline_char c ≡ true → result ≡ Newline }
     ensures banned { is_newline_char c ≡ false → result ≡ Banned }
@@ -303,8 +313,9 @@ fn fault_at(c: char) -> StringFault
 fn quoted_body(alloc: Global, cursor: &mut Cursor) -> Result<String, StringFailure>
     ensures found { IfOk result
         (λ v. QuotedBody cursor.old.rest cursor.new.rest (chars (string_bytes v))) }
-    ensures only { (r w : Text) → QuotedBody cursor.old.rest r w →
-        MatchResult result (λ v. (r ≡ cursor.new.rest) × (w ≡ chars (string_bytes v))) (λ e. e ≡ Memory) }
+    ensures only { (r w : Text) → QuotedBody cursor.old.rest r w
+        → MatchResult result (λ v. (r ≡ cursor.new.rest) × (w ≡ chars (string_bytes v)))
+        (λ e. e ≡ Memory) }
     ensures moves { Moves cursor.old cursor.new }
     ensures costs { Costs 3 2 cursor.old cursor.new }
 {
@@ -320,14 +331,15 @@ fn quoted_body(alloc: Global, cursor: &mut Cursor) -> Result<String, StringFailu
     }
 }
 
-/// Reads a quoted string, of one line or of many (KDL 2.0.0, Quoted String and Multi-line String): its value,
-/// and the cursor goes behind the closing quotes.
-/// A fault: no quoted string begins here. `Memory`: the memory for the value is missing.
+/// Reads a quoted string, of one line or of many (KDL 2.0.0, Quoted String and Multi-line String):
+/// its value, and the cursor goes past the closing quotes. A fault: no quoted string begins here.
+/// `Memory`: the memory for the value is missing.
 pub fn quoted_string(alloc: Global, cursor: &mut Cursor) -> Result<String, StringFailure>
     ensures found { IfOk result
         (λ v. IsQuoted cursor.old.rest cursor.new.rest (chars (string_bytes v))) }
-    ensures only { (r w : Text) → IsQuoted cursor.old.rest r w →
-        MatchResult result (λ v. (r ≡ cursor.new.rest) × (w ≡ chars (string_bytes v))) (λ e. e ≡ Memory) }
+    ensures only { (r w : Text) → IsQuoted cursor.old.rest r w
+        → MatchResult result (λ v. (r ≡ cursor.new.rest) × (w ≡ chars (string_bytes v)))
+        (λ e. e ≡ Memory) }
     ensures moves { Moves cursor.old cursor.new }
     ensures costs { Costs 4 7 cursor.old cursor.new }
     ensures cost { IfOk result (λ _. Costs 24 0 cursor.old cursor.new) }

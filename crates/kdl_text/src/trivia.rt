@@ -24,7 +24,8 @@ pub enum SlashRead {
     Other,
 }
 
-/// Goes past all that follows the `/*` of a block comment. False: it isn't closed, and the cursor is at the end.
+/// Goes past all that follows the `/*` of a block comment. False: it isn't closed, and the cursor
+/// is at the end.
 fn block_end(cursor: &mut Cursor) -> bool
     ensures reads { Reads Parts result cursor.old.rest cursor.new.rest }
     ensures ended { result ≡ false → cursor.new.rest ≡ [] }
@@ -53,8 +54,8 @@ fn block_end(cursor: &mut Cursor) -> bool
     }
 }
 
-/// Goes past the block comment that begins here (KDL 2.0.0, Multi-line Comments). False: it isn't closed, and the
-/// cursor is at the end.
+/// Goes past the block comment that begins here (KDL 2.0.0, Multi-line Comments). False: it isn't
+/// closed, and the cursor is at the end.
 pub fn block_comment(cursor: &mut Cursor) -> bool
     requires { begins_two 47 42 cursor.old.rest ≡ true }
     ensures reads { Reads BlockComment result cursor.old.rest cursor.new.rest }
@@ -76,7 +77,8 @@ fn line_end(cursor: &mut Cursor)
     let _ = newline(cursor);
 }
 
-/// Goes past the line comment that begins here, its newline included (KDL 2.0.0, Single-line Comments).
+/// Goes past the line comment that begins here, its newline included (KDL 2.0.0, Single-line
+/// Comments).
 pub fn line_comment(cursor: &mut Cursor)
     requires { begins_two 47 47 cursor.old.rest ≡ true }
     ensures reads { Reads LineComment true cursor.old.rest cursor.new.rest }
@@ -97,7 +99,8 @@ pub fn spaces(cursor: &mut Cursor)
     cursor.skip(Class::Space);
 }
 
-/// Goes past spaces and block comments, as many as there are. False: one of the comments isn't closed.
+/// Goes past spaces and block comments, as many as there are. False: one of the comments isn't
+/// closed.
 fn ws_run(cursor: &mut Cursor) -> bool
     ensures reads { RunsWs result cursor.old cursor.new }
     ensures moves { Moves cursor.old cursor.new }
@@ -114,8 +117,8 @@ fn ws_run(cursor: &mut Cursor) -> bool
     }
 }
 
-/// Goes past what ends an escline: a line comment, a newline, or nothing at the end of the text. False: none of these
-/// is here.
+/// Goes past what ends an escline: a line comment, a newline, or nothing at the end of the text.
+/// False: none of these is here.
 fn escline_end(cursor: &mut Cursor) -> bool
     ensures reads { Reads EscEnd result cursor.old.rest cursor.new.rest }
     ensures moves { Moves cursor.old cursor.new }
@@ -134,8 +137,9 @@ fn escline_end(cursor: &mut Cursor) -> bool
     }
 }
 
-/// Goes past the escline whose backslash is here (KDL 2.0.0, Line Continuation). False: none is here, since a block
-/// comment isn't closed, or since anything else than a line comment, a newline or the end of the text follows.
+/// Goes past the escline whose backslash is here (KDL 2.0.0, Line Continuation). False: none is
+/// here, since a block comment isn't closed, or since anything else than a line comment, a newline
+/// or the end of the text follows.
 pub fn escline(cursor: &mut Cursor) -> bool
     requires { begins 92 cursor.old.rest ≡ true }
     ensures reads { Reads Escline result cursor.old.rest cursor.new.rest }
@@ -158,7 +162,8 @@ pub fn eat_slashdash(cursor: &mut Cursor) -> bool
     cursor.eat_two('/', '-')
 }
 
-/// Goes past the block comment, the line comment or the `/-` that begins with the slash here, if one of them does.
+/// Goes past the block comment, the line comment or the `/-` that begins with the slash here, if
+/// one of them does.
 pub fn slash(cursor: &mut Cursor) -> SlashRead
     ensures reads { ReadsSlash result cursor.old cursor.new }
     ensures moves { Moves cursor.old cursor.new }

@@ -1,7 +1,7 @@
 -- Runs of characters of a class.
 use Rattle.std.proofs.Common.{◌≡◌, ℕ, ◌+◌, ◌≤◌, List, [], ◌∷◌, ◌++◌, Bool, true, false, length, refl, ap, sym, ◌∙◌, arith, append_assoc, length-append, not, ◌&&◌}
-use Rattle.std.specs.Prelude.{nat_lt, Option, Some, None, is_some}
-use Rattle.std.proofs.lemmas.Bool.{and_parts, false≢true}
+use Rattle.std.specs.Prelude.{nat_lt, Some, None}
+use Rattle.std.proofs.lemmas.Bool.{and_parts}
 use Rattle.std.proofs.lemmas.List.Folds.{list_all-append}
 use Rattle.std.proofs.lemmas.Str.{len_utf8_bounds}
 use Rattle.std.specs.List.{list_all}
@@ -53,11 +53,6 @@ run_stops p old s r c n i e h = record { run = i.run; text = i.text; all = i.all
 
 pub run_ends : (p : ℕ → Bool) (old s : List ℕ) (n : ℕ) → SoFar p old s n → chars s ≡ [] → RunOf p old s n
 run_ends p old s n i e = record { run = i.run; text = i.text; all = i.all; stops = ap (starts p) e; len = i.len; count_is = i.count_is }
-
--- a character is there
-pub one_there : (s : Text) (o : Option ℕ) (b : Bool) → o ≡ first s → is_some o ≡ not b → b ≡ false → 1 ≤ bytes s
-one_there [] o b e h k = absurd (false≢true (sym (ap is_some e) ∙ h ∙ ap not k))
-one_there (c ∷ s) o b e h k = omega (arith, (len_utf8_bounds c).0)
 
 ascii_run : (p : ℕ → Bool) (old s : List ℕ) (n : ℕ) → AsciiOf p old s n → starts p (chars s) ≡ false → RunOf p old s n
 ascii_run p old s n i h = record { run = i.run; text = i.text; all = i.all; stops = h; len = omega (arith, i.len, i.bytes_is); count_is = sym i.count_is }

@@ -8,13 +8,13 @@ use Rattle.kdl_text.specs.Spans.{bytes, raise}
 use Rattle.kdl_text.specs.declared.chars.Class.{Class}
 use Rattle.kdl_text.specs.declared.chars.Class.TheVariants.{Space, Identifier, Literal, Line, Unquoted, NumberSign, Quote, Comment}
 
--- what a cursor has before it: the characters to come, where it stands in bytes, and the steps so far
+-- what a cursor has before it: the characters to come, where it is in bytes, and the steps so far
 pub record Here : Type 0 where
   pub rest : Text
   pub at : ℕ
   pub steps : ℕ
 
--- a place to which a slice can go back: the characters that follow it, and where it stands in bytes
+-- a place to which a slice can go back: the characters that follow it, and where it is in bytes
 pub record Spot : Type 0 where
   pub rest : Text
   pub at : ℕ
@@ -24,7 +24,7 @@ abbrev pub first : Text → Option ℕ
 first [] = None
 first (c ∷ s) = Some c
 
--- the text behind the first character
+-- the text after the first character
 abbrev pub tail : Text → Text
 tail [] = []
 tail (c ∷ s) = s
@@ -59,7 +59,7 @@ abbrev pub Took : Option ℕ → Here → Here → Type 0
 Took None old new = (old.rest ≡ []) × (new ≡ looked old)
 Took (Some c) old new = (old.rest ≡ c ∷ new.rest) × (new.at ≡ old.at + len_utf8 c) × (new.steps ≡ raise old.steps 1)
 
--- a look whether c stands here, and a step past it where it does
+-- a look whether c is here, and a step past it where it is
 abbrev pub Ate : ℕ → Bool → Here → Here → Type 0
 Ate c true old new = Took (Some c) old new
 Ate c false old new = (begins c old.rest ≡ false) × (new ≡ looked old)
@@ -104,7 +104,7 @@ in_class NumberSign c = is_number_sign c
 in_class Quote c = is_quote c
 in_class Comment c = is_comment_char c
 
--- past the longest run of characters of a class, each looked at once, and the one behind it
+-- past the longest run of characters of a class, each looked at once, and the one after it
 pub record Ran (p : ℕ → Bool) (run : Text) (old new : Here) : Type 0 where
   pub text : old.rest ≡ run ++ new.rest
   pub all : list_all p run ≡ true

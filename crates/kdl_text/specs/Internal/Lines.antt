@@ -57,12 +57,12 @@ EatsUnits us false s r = (m : List LineUnit) → literals s ≡ us ++ m → ⊥
 abbrev pub is_one_line : List LineUnit → Bool
 is_one_line us = list_all (λ u. not (is_line_end u)) us
 
--- the units us stand in one line; an X begins the text s with them, and ends in t, or goes on behind a newline
+-- the units us are in one line; an X begins the text s with them, and ends in t, or goes on after a newline
 abbrev pub ReadsLine : (Text → Text → List LineUnit → Type 0) → Bool → Text → List LineUnit → Text → Type 0
 ReadsLine X true s us t = (is_one_line us ≡ true) × X s t us
 ReadsLine X false s us t = (is_one_line us ≡ true) × Goes X s (us ++ (LineEnd ∷ [])) t
 
--- the piece p stands for itself at the front of s, and what ends it stands before t
+-- the characters of the piece p are literal at the front of s, and what ends it is before t
 abbrev pub ReadsPlain : (Text → Text → List LineUnit → Type 0) → Stop → Text → Text → Text → Type 0
 ReadsPlain X at_newline s p t = ReadsLine X false s (literals p) t
 ReadsPlain X Close s p t = ReadsLine X true s (literals p) t

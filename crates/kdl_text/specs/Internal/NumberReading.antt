@@ -1,4 +1,4 @@
--- How a reader of numbers stands to the text while the number is under way.
+-- How far a reader of numbers has come in the text while the number is under way.
 use Rattle.std.specs.Prelude.{◌≡◌, ℕ, ◌<◌, ◌≤◌, ◌^◌, ◌↔◌, true, false, Option, Some, None, Result, Ok, Err}
 use Rattle.std.specs.Prelude.{string_bytes, ◌∷◌, Bool}
 use Rattle.std.specs.Str.{chars}
@@ -28,12 +28,12 @@ radix_of Octal = 8
 radix_of Decimal = 10
 radix_of Hexadecimal = 16
 
--- the base that a letter stands for
+-- the base that a letter means
 abbrev pub IsBase : Option Radix → Option ℕ → Type 0
 IsBase (Some b) k = k ≡ Some (radix_of b)
 IsBase None k = k ≡ None
 
--- the base whose prefix stands here, at which one or two looks were made
+-- the base whose prefix is here, at which one or two looks were made
 abbrev pub LooksBasePrefix : Option Radix → Here → Here → Type 0
 LooksBasePrefix (Some b) old new = (base_prefix old.rest ≡ Some (radix_of b)) × Stayed 2 old new
 LooksBasePrefix None old new = (base_prefix old.rest ≡ None) × (k : ℕ) × (k ≤ 2) × Stayed k old new
@@ -53,7 +53,7 @@ IsDigit radix c (Some d) = (is_digit_of radix c ≡ true) × (d ≡ digit_value 
 abbrev pub ReadsDigits : ℕ → Magnitude → Magnitude → Text → Text → Type 0
 ReadsDigits radix before after s rest = (w : Text) × Digits radix s rest w × ((n : ℕ) → Counts before n → Counts after (digits_value_after radix n w))
 
--- an integer was read, or no digit of the base stands here
+-- an integer was read, or no digit of the base is here
 abbrev pub ReadsInteger : ℕ → Option Magnitude → Text → Text → Type 0
 ReadsInteger radix (Some m) s rest = (w : Text) × Integer radix s rest w × Counts m (digits_value radix w)
 ReadsInteger radix None s rest = (rest ≡ s) × (starts (is_digit_of radix) s ≡ false)
@@ -86,7 +86,7 @@ PointFault s rest = (s ≡ 46 ∷ rest) × (starts (is_digit_of 10) rest ≡ fal
 abbrev pub PowerFault : Text → Text → Type 0
 PowerFault s rest = (c : ℕ) × (t : Text) × (n : Bool) × (s ≡ c ∷ t) × (is_exponent_letter c ≡ true) × Sign t rest n × (starts (is_digit_of 10) rest ≡ false)
 
--- what is wrong behind the first integer of a decimal, where the text is left
+-- what is wrong after the first integer of a decimal, where the text is left
 abbrev pub PartFault : NumberFault → Text → Text → Type 0
 PartFault MissingFraction s rest = PointFault s rest
 PartFault MissingExponent s rest = (t : Text) × (point : Bool) × Fraction s t point × PowerFault t rest
@@ -103,12 +103,12 @@ FaultAt MissingFraction t rest = (u : Text) × Begun Decimal t u × PartFault Mi
 FaultAt MissingExponent t rest = (u : Text) × Begun Decimal t u × PartFault MissingExponent u rest
 FaultAt TrailingDecimal t rest = (u : Text) × Begun Decimal t u × PartFault TrailingDecimal u rest
 
--- where a fault is answered, it is the one that is there
+-- where a fault is returned, it is the one that is there
 abbrev pub IsFault : {A : Type 0} → Result A NumberFault → Text → Text → Type 0
 IsFault (Ok x) t rest = Unit {0}
 IsFault (Err e) t rest = FaultAt e t rest
 
--- likewise behind an integer
+-- likewise after an integer
 abbrev pub IsPartFault : {A : Type 0} → Result A NumberFault → Text → Text → Type 0
 IsPartFault (Ok x) t rest = Unit {0}
 IsPartFault (Err e) t rest = PartFault e t rest
@@ -128,27 +128,27 @@ abbrev pub ReadsFront : Result Front NumberFault → Text → Text → Type 0
 ReadsFront (Ok f) s rest = IsFront f s rest
 ReadsFront (Err e) s rest = (r : Text) (v : NumberValue) → IsNumber s r v → ⊥
 
--- a fraction was read, or seen not to stand here; or its point has no digit behind it
+-- a fraction was read, or seen not to be here; or its point has no digit after it
 abbrev pub ReadsFraction : Result Bool NumberFault → Text → Text → Type 0
 ReadsFraction (Ok b) s rest = Fraction s rest b
 ReadsFraction (Err e) s rest = (r : Text) (b : Bool) → Fraction s r b → ⊥
 
--- an exponent was read, or seen not to stand here; or its letter has no digit behind it
+-- an exponent was read, or seen not to be here; or its letter has no digit after it
 abbrev pub ReadsExponent : Result Bool NumberFault → Text → Text → Type 0
 ReadsExponent (Ok b) s rest = Exponent s rest b
 ReadsExponent (Err e) s rest = (r : Text) (b : Bool) → Exponent s r b → ⊥
 
--- the part was read that makes a decimal of an integer, or none stands here
+-- the part was read that makes a decimal of an integer, or none is here
 abbrev pub ReadsPart : {A : Type 0} → Result A NumberFault → Text → Text → Type 0
 ReadsPart (Ok x) s rest = DecimalPart s rest
 ReadsPart (Err e) s rest = (r : Text) → DecimalPart s r → ⊥
 
--- what the number stands for
+-- the value of the number
 abbrev pub number_value : Number → NumberValue
 number_value (IntegerNumber n) = whole_value n
 number_value (DecimalNumber s) = decimal_text (chars (string_bytes s))
 
--- a number begins here, and stands for x alone; or none begins here; or memory was refused
+-- a number begins here, and its only value is x; or none begins here; or memory was refused
 abbrev pub ReadsNumber : Result Number NumberFailure → Text → Text → Type 0
 ReadsNumber (Ok x) s rest = (r : Text) (v : NumberValue) → IsNumber s r v ↔ ((r ≡ rest) × (v ≡ number_value x))
 ReadsNumber (Err (Fault e)) s rest = (r : Text) (v : NumberValue) → IsNumber s r v → ⊥
@@ -159,12 +159,12 @@ abbrev pub ReadsKeyword : Option Keyword → Text → Text → Type 0
 ReadsKeyword (Some k) s rest = (r : Text) (x : Keyword) → IsKeyword s r x ↔ ((r ≡ rest) × (x ≡ k))
 ReadsKeyword None s rest = (r : Text) (x : Keyword) → IsKeyword s r x → ⊥
 
--- `e` or `E` was read where it stands, and else the cursor stayed
+-- `e` or `E` was read where it is, and else the cursor stayed
 abbrev pub AteExponentLetter : Bool → Here → Here → Type 0
 AteExponentLetter true old new = (c : ℕ) × (is_exponent_letter c ≡ true) × Took (Some c) old new
 AteExponentLetter false old new = (starts is_exponent_letter old.rest ≡ false) × Stayed 1 old new
 
--- the keyword whose word behind `#` this is, or none has it
+-- the keyword whose word after `#` this is, or none has it
 abbrev pub WordOf : Option Keyword → Text → Type 0
 WordOf (Some k) w = keyword_text k ≡ 35 ∷ w
 WordOf None w = (k : Keyword) → keyword_text k ≡ 35 ∷ w → ⊥

@@ -1,10 +1,10 @@
--- How a reader's answer stands to a relation, and what it costs.
+-- What the result of a reader says of a relation, and what it costs.
 use Rattle.std.specs.Prelude.{◌≡◌, ℕ, ◌+◌, ◌*◌, ◌≤◌, ◌↔◌, Bool, true, false, List, ◌++◌, length}
 use Rattle.kdl_text.specs.Chars.{Text, Star, Newline}
 use Rattle.kdl_text.specs.Internal.Here.{Here, Stayed}
 use Rattle.kdl_text.specs.Spans.{bytes, raise}
 
--- exactly one piece begins here, and rest is what is left of the text behind it, or none does
+-- exactly one piece begins here, and rest is what is left of the text after it, or none does
 abbrev pub Reads : (Text → Text → Type 0) → Bool → Text → Text → Type 0
 Reads R true s rest = (r : Text) → R s r ↔ (r ≡ rest)
 Reads R false s rest = (r : Text) → R s r → ⊥
@@ -20,7 +20,7 @@ pub record Costs (k c : ℕ) (old new : Here) : Type 0 where
   pub most : new.steps + k * bytes new.rest ≤ old.steps + k * bytes old.rest + c
   pub least : raise old.steps (length old.rest) ≤ raise new.steps (length new.rest)
 
--- a run of pieces begins here, and none more behind it
+-- a run of pieces begins here, and none more after it
 abbrev pub Longest : (Text → Text → Type 0) → Text → Text → Type 0
 Longest R s rest = Star R s rest × ((t : Text) → R rest t → ⊥)
 
@@ -29,7 +29,7 @@ abbrev pub ReadsNewline : Bool → Here → Here → Type 0
 ReadsNewline true old new = Newline old.rest new.rest
 ReadsNewline false old new = Stayed 1 old new × ((t : Text) → Newline old.rest t → ⊥)
 
--- an X from s stands for `out`, and then for what an X from t stands for
+-- the value of an X from s is `out`, and then that of an X from t
 pub record Goes {A : Type 0} (X : Text → Text → List A → Type 0) (s : Text) (out : List A) (t : Text) : Type 0 where
   pub on : (r : Text) (v : List A) → X t r v → X s r (out ++ v)
   pub back : (r : Text) (w : List A) → X s r w → (v : List A) × (w ≡ out ++ v) × X t r v

@@ -18,7 +18,7 @@ outside table c = bit_and (column_of table c) (row_of c) == 0
 abbrev pub TableOf : (ℕ → Bool) → List ℕ → Type 0
 TableOf p table = (c : ℕ) → c < 256 → outside table c ≡ not (nat_lt c 128 && p c)
 
--- so many bytes at the front are in the table, and the one behind them is not
+-- so many bytes at the front are in the table, and the one after them is not
 pub record InsideLen (table bytes : List ℕ) (n : ℕ) : Type 0 where
   pub within : n ≤ length bytes
   pub inside : (k : ℕ) → k < n → outside table (get_or bytes k 0) ≡ false

@@ -1,4 +1,4 @@
--- How the answers of the readers of comments and spaces stand to the text.
+-- What the results of the readers of comments and spaces say of the text.
 use Rattle.std.specs.Prelude.{◌≡◌, ℕ, ◌<◌, Bool, true, false, [], ◌∷◌}
 use Rattle.kdl_text.specs.Chars.{Text, begins_two, Star}
 use Rattle.kdl_text.specs.Internal.Here.{Here, Stayed}

@@ -20,7 +20,7 @@ use std::alloc::{AllocError, Global};
 /// A unit of a string of many lines, from which space escapes are taken out.
 #[derive(Clone, Copy, Drop, PartialEq, Eq)]
 pub enum LineUnit {
-    /// A character that stands for itself.
+    /// A literal character.
     Literal(char),
     /// The character of an escape.
     Escape(char),
@@ -295,7 +295,8 @@ fn push_lines<'a>(
     Ok(())
 }
 
-/// The bytes of the line's value after a prefix of so many units, and of a line feed, as far as each unit is a byte.
+/// The bytes of the line's value after a prefix of so many units, and of a line feed, as far as
+/// each unit is a byte.
 fn room_of(line: &Line, prefix: usize) -> usize
     ensures { result ≤ line_room line.now }
 {
@@ -318,9 +319,9 @@ fn room_for(lines: &[Line], prefix: usize) -> usize
 }
 
 /// The value of the lines, without the last, whose spaces are taken from the front of the others
-/// (KDL 2.0.0, Multi-line String).
-/// The cursor reads lines without escapes again, and comes back to where it is. A fault: the last line is not spaces
-/// alone, or another has not these spaces at its front and is not spaces alone.
+/// (KDL 2.0.0, Multi-line String). The cursor reads lines without escapes again, and comes back to
+/// where it is. A fault: the last line is not spaces alone, or another has not these spaces at its
+/// front and is not spaces alone.
 pub fn dedent<'a>(
     alloc: Global,
     lines: &[Line<'a>],

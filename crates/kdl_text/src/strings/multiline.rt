@@ -17,7 +17,7 @@ use crate::strings::dedent::{Line, LineUnit, add_line, dedent, push_literals, pu
 use crate::strings::{StringFailure, StringFault, escaped_unit};
 use std::alloc::Global;
 
-/// Behind the first character c of a newline: goes past what else belongs to it.
+/// After the first character c of a newline: goes past what else belongs to it.
 pub fn end_newline(c: char, cursor: &mut Cursor)
     requires { is_newline_char c ≡ true }
     ensures newline { Newline (c ∷ cursor.old.rest) cursor.new.rest }
@@ -29,7 +29,7 @@ pub fn end_newline(c: char, cursor: &mut Cursor)
     }
 }
 
-/// What ends characters that stand for themselves.
+/// What ends literal characters.
 #[derive(Clone, Copy)]
 enum Stop {
     /// A newline.
@@ -40,7 +40,7 @@ enum Stop {
     Escape,
 }
 
-/// Goes past characters that stand for themselves, quotes among them, and past what ends them in a string of many
+/// Goes past literal characters, quotes among them, and past what ends them in a string of many
 /// lines.
 fn plain_part<'a>(cursor: &mut Cursor<'a>) -> Result<(Segment<'a>, Stop), StringFault>
     ensures found { IfOk result
@@ -74,7 +74,7 @@ fn plain_part<'a>(cursor: &mut Cursor<'a>) -> Result<(Segment<'a>, Stop), String
     }
 }
 
-/// Behind the backslash of an escape: appends its character, or nothing for spaces and newlines.
+/// After the backslash of an escape: appends its character, or nothing for spaces and newlines.
 fn push_escape(cursor: &mut Cursor, units: &mut Vec<LineUnit>) -> Result<(), StringFailure>
     ensures found { IfOk result
         (λ _. (u : StringUnit) × IsUnit (92 ∷ cursor.old.rest) cursor.new.rest u
@@ -93,14 +93,16 @@ fn push_escape(cursor: &mut Cursor, units: &mut Vec<LineUnit>) -> Result<(), Str
     }
 }
 
-/// Behind the backslash of an escape: appends the units of the line from the backslash on. Gives whether three quotes
-/// end the line.
+/// After the backslash of an escape: appends the units of the line from the backslash on. Gives
+/// whether three quotes end the line.
 fn escaped_line<'a>(
     cursor: &mut Cursor<'a>,
     units: &mut Vec<LineUnit>,
 ) -> Result<bool, StringFailure>
-    ensures found { IfOk result (λ closed. (us : List LineUnit) × (units.new.items ≡ units.old.items ++ us)
-        × ReadsLine Content closed (92 ∷ cursor.old.rest) us cursor.new.rest × (bytes cursor.new.rest + 1 ≤ bytes cursor.old.rest)) }
+    ensures found { IfOk result
+        (λ closed. (us : List LineUnit) × (units.new.items ≡ units.old.items ++ us)
+        × ReadsLine Content closed (92 ∷ cursor.old.rest) us cursor.new.rest
+        × (bytes cursor.new.rest + 1 ≤ bytes cursor.old.rest)) }
     ensures only { (r : Text) (us : List LineUnit) → Content (92 ∷ cursor.old.rest) r us
         → IfErr result (λ e. e ≡ Memory) }
     ensures moves { Moves cursor.old cursor.new }
@@ -168,12 +170,13 @@ fn content<'a>(alloc: Global, cursor: &mut Cursor<'a>) -> Result<Vec<Line<'a>>, 
     }
 }
 
-/// Behind three quotes: the value of a string of many lines.
+/// After three quotes: the value of a string of many lines.
 pub fn many_lines(alloc: Global, cursor: &mut Cursor) -> Result<String, StringFailure>
     ensures found { IfOk result
         (λ v. MultiLineBody cursor.old.rest cursor.new.rest (chars (string_bytes v))) }
-    ensures only { (r w : List ℕ) → MultiLineBody cursor.old.rest r w →
-        MatchResult result (λ v. (r ≡ cursor.new.rest) × (w ≡ chars (string_bytes v))) (λ e. e ≡ Memory) }
+    ensures only { (r w : List ℕ) → MultiLineBody cursor.old.rest r w
+        → MatchResult result (λ v. (r ≡ cursor.new.rest) × (w ≡ chars (string_bytes v)))
+        (λ e. e ≡ Memory) }
     ensures moves { Moves cursor.old cursor.new }
     ensures costs { Costs 4 4 cursor.old cursor.new }
 {

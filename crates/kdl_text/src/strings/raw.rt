@@ -60,7 +60,7 @@ fn eat_signs(cursor: &mut Cursor, most: usize) -> usize
     count
 }
 
-/// The line up to the first quote with so many number signs behind it; the cursor goes past these.
+/// The line up to the first quote that so many number signs follow; the cursor goes past these.
 fn line_content<'a>(cursor: &mut Cursor<'a>, signs: usize) -> Result<Piece<'a>, StringFault>
     requires { 0 < signs }
     ensures found { IfOk result
@@ -104,8 +104,8 @@ fn behind_quotes<'a>(
     behind
 }
 
-/// Behind the quote at a place: goes past the quotes that follow, and past the number signs where these are two or
-/// more. Gives where the closing begins, if one stands there.
+/// After the quote at a place: goes past the quotes that follow, and past the number signs where
+/// these are two or more. Gives where the closing begins, if one is there.
 fn closing_place<'a>(
     quote: &Checkpoint<'a>,
     cursor: &mut Cursor<'a>,
@@ -133,7 +133,8 @@ fn closing_place<'a>(
     Some(behind_quotes(quote, more - 2, cursor))
 }
 
-/// Reads a line and its newline, or the closing of three quotes and so many number signs. Gives whether it was this.
+/// Reads a line and its newline, or the closing of three quotes and so many number signs. Gives
+/// whether it was this.
 fn read_line<'a>(cursor: &mut Cursor<'a>, signs: usize) -> Result<(Segment<'a>, bool), StringFault>
     requires { 0 < signs }
     ensures found { IfOk result
@@ -167,7 +168,8 @@ fn read_line<'a>(cursor: &mut Cursor<'a>, signs: usize) -> Result<(Segment<'a>, 
     }
 }
 
-/// The lines up to the first three quotes with so many number signs behind them; the cursor goes past these.
+/// The lines up to the first three quotes that so many number signs follow; the cursor goes past
+/// these.
 fn lines_content<'a>(
     alloc: Global,
     cursor: &mut Cursor<'a>,
@@ -194,13 +196,14 @@ fn lines_content<'a>(
     }
 }
 
-/// Behind the number signs and three quotes: the value of a raw string of many lines.
+/// After the number signs and three quotes: the value of a raw string of many lines.
 fn raw_lines(alloc: Global, cursor: &mut Cursor, signs: usize) -> Result<String, StringFailure>
     requires { 0 < signs }
     ensures found { IfOk result
         (λ v. MultiLineRawBody signs cursor.old.rest cursor.new.rest (chars (string_bytes v))) }
-    ensures only { (r w : Text) → MultiLineRawBody signs cursor.old.rest r w →
-        MatchResult result (λ v. (r ≡ cursor.new.rest) × (w ≡ chars (string_bytes v))) (λ e. e ≡ Memory) }
+    ensures only { (r w : Text) → MultiLineRawBody signs cursor.old.rest r w
+        → MatchResult result (λ v. (r ≡ cursor.new.rest) × (w ≡ chars (string_bytes v)))
+        (λ e. e ≡ Memory) }
     ensures moves { Moves cursor.old cursor.new }
     ensures costs { Costs 4 5 cursor.old cursor.new }
 {
@@ -211,14 +214,16 @@ fn raw_lines(alloc: Global, cursor: &mut Cursor, signs: usize) -> Result<String,
     dedent(alloc, &lines, cursor)
 }
 
-/// Reads a raw string, of one line or of many (KDL 2.0.0, Raw String): its value, and the cursor goes behind the
-/// closing. A fault: no raw string begins here; `Unopened`: no number signs with a quote behind them.
+/// Reads a raw string, of one line or of many (KDL 2.0.0, Raw String): its value, and the cursor
+/// goes past the closing. A fault: no raw string begins here; `Unopened`: no number signs with a
+/// quote after them.
 /// `Memory`: the memory for the value is missing.
 pub fn raw_string(alloc: Global, cursor: &mut Cursor) -> Result<String, StringFailure>
     ensures found { IfOk result
         (λ v. IsRaw cursor.old.rest cursor.new.rest (chars (string_bytes v))) }
-    ensures only { (r w : Text) → IsRaw cursor.old.rest r w →
-        MatchResult result (λ v. (r ≡ cursor.new.rest) × (w ≡ chars (string_bytes v))) (λ e. e ≡ Memory) }
+    ensures only { (r w : Text) → IsRaw cursor.old.rest r w
+        → MatchResult result (λ v. (r ≡ cursor.new.rest) × (w ≡ chars (string_bytes v)))
+        (λ e. e ≡ Memory) }
     ensures moves { Moves cursor.old cursor.new }
     ensures costs { Costs 4 9 cursor.old cursor.new }
     ensures cost { IfOk result (λ _. Costs 24 0 cursor.old cursor.new) }

@@ -9,7 +9,7 @@ pub returns-then-has_no_underscore-clause-plain : goal.returns-then-has_no_under
 returns-then-has_no_underscore-clause-plain c =
     let segment = c.args.segment.now in
     let none = ap has_no_underscore (sym c.characters.ensures.result) ∙ sym c.has_no_underscore.ensures ∙ c.if-has_no_underscore.true in
-    rw (plain_same segment none ∙ sym c.slice_segment.ensures.result) c.to_string.ensures
+    rw (plain_same segment none ∙ sym (c.into_piece.ensures ∙ c.characters-then-has_no_underscore.ensures.result)) c.to_string.ensures
 
 pub returns-clause-plain : goal.returns-clause-plain
 returns-clause-plain c =

@@ -1,4 +1,4 @@
-use Rattle.std.proofs.Common.{◌++◌, [], refl, ap, sym, ◌∙◌, append-nil, string_bytes, arith}
+use Rattle.std.proofs.Common.{◌++◌, [], refl, ap, sym, ◌∙◌, append-nil, string_bytes}
 use Rattle.std.specs.Str.{chars}
 use Rattle.kdl_text.specs.Dedent.{blank, dedented}
 use Rattle.kdl_text.specs.Raw.{literals}
