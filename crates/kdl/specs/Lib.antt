@@ -6,12 +6,16 @@ pub mod EditLaw
 pub mod Cleared
 -- What look-ups in a document give, and what a document is once what they lent was written.
 pub mod DocumentLookups
+-- The fields of a node or a document in memory.
+pub mod Fields
 -- What the iterator over the children of a node has left, and what the node is once its entries are written.
 pub mod Iterators
 -- What layout makes of nodes and documents in memory.
 pub mod Layout
 -- What look-ups in a node give, and what a node is once what they lent was written.
 pub mod Lookups
+-- What look-ups find after an edit.
+pub mod Found
 -- Which nodes, and which documents, `==` takes for one.
 pub mod Same
 -- The trees of nodes and documents in memory.

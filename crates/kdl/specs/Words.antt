@@ -26,3 +26,5 @@ pub use Rattle.kdl.specs.EditLaw.{EntryExchanged, NodeExchanged, PrintsAtPlace}
 pub use Rattle.kdl.specs.Layout.{DocumentLaidOut, DocumentKeepsNoForm, IndentsBySpaces, NodeCommentsStay, NodeLaidOut, NodeKeepsNoForm, plain_document, plain_node}
 pub use Rattle.kdl.specs.Lookups.{entries_of, entry_there, found_entry, found_value, held_value, key_place, property_place, property_value, value_of, with_found_entry, with_found_value}
 pub use Rattle.kdl.specs.Tree.{document_prints, document_says, document_tree, node_prints, node_says, node_tree, nodes_tree}
+pub use Rattle.kdl_parts.specs.EntryLists.{key_index, key_name}
+pub use Rattle.kdl.specs.Found.{IsAdded, IsArgumentSet, IsPutIn, IsSet, IsSetIn, IsTakenOut, IsTakenOutAt, argument_count, property_count, value_at, value_named}

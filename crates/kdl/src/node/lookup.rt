@@ -1,10 +1,13 @@
 //! Look-ups of entries by the name of a property, or by the place of an argument.
 
-ghost use Rattle.kdl.specs.Lookups.{found_entry, found_value, held_value, key_place, property_place, property_value, with_found_entry, with_found_value, HasSameEntries, HasWritten};
+ghost use Rattle.kdl.specs.Found.{IsArgumentSet, IsSet, value_at};
+ghost use Rattle.kdl.specs.Lookups.{entry_there, found_entry, found_value, held_value, key_place, property_place, property_value, with_found_entry, with_found_value, HasSameEntries, HasWritten};
+ghost use Rattle.kdl_entry.specs.Tree.{entry_tree};
+ghost use Rattle.kdl_parts.specs.EntryLists.{key_index, key_name};
 ghost use Rattle.kdl_parts.specs.declared.key.NodeKey.TheVariants.{Index as at_index};
 ghost use Rattle.kdl_value.specs.Tree.{or_null, value_tree};
 ghost use Rattle.std.specs.Borrow.{Lends, LendsIf, LendsSoOk, sem};
-ghost use Rattle.std.specs.Prelude.{◌≡◌, IfOk, IsNone, IsOk, IsSome, OnErr, Some, is_some, option_map};
+ghost use Rattle.std.specs.Prelude.{◌≡◌, IfOk, IfSome, IsNone, IsOk, IsSome, OnErr, Some, is_some, option_map};
 
 use crate::node::KdlNode;
 use kdl_entry::{KdlEntry, KdlValue};
@@ -22,7 +25,9 @@ impl KdlNode {
     /// let three = node.entry(NodeKey::from(1)); // the argument 3, the second one
     /// ```
     pub fn entry(&self, key: NodeKey) -> Option<&KdlEntry>
-        ensures { option_map (λ e. e.now) result ≡ found_entry key self.now }
+        ensures value { option_map (λ e. e.now) result ≡ found_entry key self.now }
+        ensures by_name { IfSome (key_name key) (λ name. option_map (λ e. e.now) result ≡
+            entry_there (property_place name self.now) self.now) }
     {
         lookup::entry(&self.entries, key)
     }
@@ -35,7 +40,11 @@ impl KdlNode {
     /// let two = node.get(NodeKey::from_text(alloc, "b")?); // 2: the last one counts
     /// ```
     pub fn get(&self, key: NodeKey) -> Option<&KdlValue>
-        ensures { option_map (λ v. value_tree v.now) result ≡ found_value key self.now }
+        ensures value { option_map (λ v. value_tree v.now) result ≡ found_value key self.now }
+        ensures by_name { IfSome (key_name key) (λ name.
+            option_map (λ v. value_tree v.now) result ≡ property_value name self.now) }
+        ensures by_index { IfSome (key_index key) (λ i.
+            option_map (λ v. value_tree v.now) result ≡ value_at i self.now) }
     {
         lookup::value(&self.entries, key)
     }
@@ -71,6 +80,12 @@ impl KdlNode {
         ensures* writes_back { sem 𝓛 (LendsIf the_row entry_row self.entry result
             (with_found_entry key self.old) self.old) }
         ensures value { option_map (λ e. e.now) result ≡ found_entry key self.old }
+        ensures sets { IfSome result (λ e. IfSome (key_name key) (λ name. (w : KdlEntry) →
+            (entry_tree w).name ≡ (entry_tree e.now).name →
+            IsSet name (entry_tree w).value self.old (with_found_entry key self.old w))) }
+        ensures sets_at { IfSome result (λ e. IfSome (key_index key) (λ i. (w : KdlEntry) →
+            (entry_tree w).name ≡ (entry_tree e.now).name →
+            IsArgumentSet i (entry_tree w).value self.old (with_found_entry key self.old w))) }
     {
         lookup::entry_mut(&mut self.entries, key)
     }
@@ -88,6 +103,10 @@ impl KdlNode {
         ensures* writes_back { sem 𝓛 (LendsIf the_row value_row self.entry result
             (with_found_value key self.old) self.old) }
         ensures value { option_map (λ v. v.now) result ≡ held_value (found_entry key self.old) }
+        ensures sets { IsSome result → IfSome (key_name key) (λ name. (w : KdlValue) →
+            IsSet name (value_tree w) self.old (with_found_value key self.old w)) }
+        ensures sets_at { IsSome result → IfSome (key_index key) (λ i. (w : KdlValue) →
+            IsArgumentSet i (value_tree w) self.old (with_found_value key self.old w)) }
     {
         lookup::value_mut(&mut self.entries, key)
     }
@@ -108,6 +127,9 @@ impl KdlNode {
             value_tree v.now ≡ or_null (property_value name.now self.old)) }
         ensures answers { IsSome (property_place name.now self.old) → IsOk result }
         ensures missing { OnErr result (IsNone (property_place name.now self.old)) }
+        ensures sets { (w : KdlValue) (n : KdlNode) →
+            HasWritten (property_place name.now self.old) name.now self.old w n →
+            IsSet name.now (value_tree w) self.old n }
     {
         let at = lookup::property_or_null(&mut self.entries, name)?;
         Ok(value_at_mut(&mut self.entries, at))
@@ -165,6 +187,8 @@ impl IndexMut<usize> for KdlNode {
         ensures* writes_back { sem 𝓛 (Lends the_row value_row self.entry result
             (with_found_value (at_index index) self.old)) }
         ensures value { held_value (found_entry (at_index index) self.old) ≡ Some result.now }
+        ensures sets { (w : KdlValue) → IsArgumentSet index (value_tree w) self.old
+            (with_found_value (at_index index) self.old w) }
     {
         lookup::argument_mut(&mut self.entries, index)
     }
