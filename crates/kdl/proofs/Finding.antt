@@ -6,3 +6,11 @@ pub mod DocumentLookups
 pub mod NodeLookups
 -- What look-ups find in memory is what the data say.
 pub mod SaidLookups
+-- What is found in a list by a test, once an element is put in, exchanged or taken out.
+pub mod ListLookups
+-- What a node's look-ups find once an entry is inserted, pushed or removed.
+pub mod EntriesFound
+-- What a node's look-ups find once the value of an entry is written.
+pub mod WritesFound
+-- What a document's look-ups find once an argument is written.
+pub mod NodesFound

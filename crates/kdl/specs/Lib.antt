@@ -16,6 +16,8 @@ pub mod Layout
 pub mod Lookups
 -- What look-ups find in data.
 pub mod Said
+-- What look-ups find after an edit.
+pub mod Found
 -- Which nodes, and which documents, `==` takes for one.
 pub mod Same
 -- The trees of nodes and documents in memory.

@@ -90,3 +90,6 @@ pub use Rattle.kdl_fmt.specs.Comments.{CommentsStay}
 pub use Rattle.kdl.specs.Layout.{NodeCommentsStay}
 -- The canonical text of what a document says.
 pub use Rattle.kdl_fmt.specs.Canonical.{Canonical, CanonicalNode, canonical, canonical_node, canonical_text}
+-- What look-ups find after an edit.
+pub use Rattle.kdl_parts.specs.EntryLists.{key_index, key_name}
+pub use Rattle.kdl.specs.Found.{IsAdded, IsArgumentSet, IsPutIn, IsSet, IsSetIn, IsTakenOut, IsTakenOutAt, argument_count, property_count, value_at, value_named}

@@ -2,9 +2,11 @@
 
 ghost use Rattle.kdl_entry.specs.Print.{print_entry};
 ghost use Rattle.kdl_value.specs.Tree.{value_tree};
+ghost use Rattle.kdl_value.specs.WellFormed.{IsWellFormed};
 ghost use Rattle.kdl_entry.specs.Tree.{entry_tree, entry_format_tree, identifier_tree, empty_format, plain_entry, unspelled, cleared, with_keep, kept, autoformatted_format, autoformatted};
 ghost use Rattle.kdl_text.specs.Spans.{bytes};
-ghost use Rattle.std.specs.Prelude.{◌≡◌, ◌↔◌, IsTrue, IfOk, [], None, Some, option_map};
+ghost use Rattle.std.specs.Prelude.{◌≡◌, ◌↔◌, FitsSigned, IsTrue, IfOk, [], None, Some, option_map};
+ghost use Rattle.std.specs.Int.{w128};
 ghost use Rattle.std.specs.Str.{encode_utf8_all};
 
 use crate::identifier::KdlIdentifier;
@@ -76,6 +78,20 @@ impl KdlEntryFormat {
         self.after_key.clear();
         self.after_eq.clear();
         self.autoformat_keep = false;
+    }
+}
+
+// A number has 128 bits with a sign.
+fn number_fits(number: i128)
+    ensures { FitsSigned w128 number }
+{}
+
+/// What a value in memory is, for the proofs: at run time it does nothing.
+fn well_formed(value: &KdlValue)
+    ensures { IsWellFormed (value_tree value.now) }
+{
+    if let KdlValue::Integer(number) = value {
+        number_fits(*number);
     }
 }
 
@@ -155,15 +171,18 @@ impl KdlEntry {
     /// let entry = KdlEntry::new(KdlValue::from(8080)); // prints "8080"; in a node one space stands before it
     /// ```
     pub fn new(value: KdlValue) -> KdlEntry
-        ensures { entry_tree result ≡ plain_entry None (value_tree value) }
+        ensures tree { entry_tree result ≡ plain_entry None (value_tree value) }
+        ensures well_formed { IsWellFormed (entry_tree result).value }
     {
         KdlEntry::plain(None, value)
     }
 
     fn plain(name: Option<KdlIdentifier>, value: KdlValue) -> KdlEntry
-        ensures { entry_tree result
+        ensures tree { entry_tree result
             ≡ plain_entry (option_map identifier_tree name) (value_tree value) }
+        ensures well_formed { IsWellFormed (entry_tree result).value }
     {
+        well_formed(&value);
         KdlEntry {
             ty: None,
             value,
@@ -474,7 +493,9 @@ impl KdlEntry {
     /// let entry = KdlEntry::new_prop(key, KdlValue::from(8080)); // prints "port=8080"
     /// ```
     pub fn new_prop(name: KdlIdentifier, value: KdlValue) -> KdlEntry
-        ensures { entry_tree result ≡ plain_entry (Some (identifier_tree name)) (value_tree value) }
+        ensures tree { entry_tree result
+            ≡ plain_entry (Some (identifier_tree name)) (value_tree value) }
+        ensures well_formed { IsWellFormed (entry_tree result).value }
     {
         KdlEntry::plain(Some(name), value)
     }

@@ -21,6 +21,20 @@ abbrev pub sought : NodeKey → Sought
 sought (Key k) = property (identifier_tree k)
 sought (Index n) = argument n
 
+-- the bytes of the name that a key looks for, none where it looks for an argument
+abbrev pub key_name : NodeKey → Option (List ℕ)
+key_name (Key k) = Some (string_bytes k.value)
+key_name (Index n) = None
+
+-- the place of the argument that is sought, none where a property is
+abbrev pub argument_sought : Sought → Option ℕ
+argument_sought (property k) = None
+argument_sought (argument n) = Some n
+
+-- the place of the argument that a key looks for, none where it looks for a property
+abbrev pub key_index : NodeKey → Option ℕ
+key_index k = argument_sought (sought k)
+
 -- the two texts have the same bytes
 abbrev pub same_text : List ℕ → List ℕ → Bool
 same_text = pointwise ◌==◌

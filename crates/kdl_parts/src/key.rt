@@ -1,9 +1,9 @@
 //! What an entry of a node is looked up by.
 
-ghost use Rattle.kdl_parts.specs.EntryLists.{sought, property, argument};
+ghost use Rattle.kdl_parts.specs.EntryLists.{key_name, sought, property, argument};
 ghost use Rattle.kdl_value.specs.Tree.{text_of};
 ghost use Rattle.kdl_entry.specs.Tree.{plain_identifier};
-ghost use Rattle.std.specs.Prelude.{◌≡◌, IfOk};
+ghost use Rattle.std.specs.Prelude.{◌≡◌, IfOk, Some, string_bytes};
 ghost use Rattle.std.specs.Str.{chars};
 
 use kdl_entry::KdlIdentifier;
@@ -26,7 +26,9 @@ impl NodeKey {
     /// let key = NodeKey::from_text(alloc, "two words")?; // finds `"two words"=1` and `#"two words"#=1`
     /// ```
     pub fn from_text(alloc: Global, name: &str) -> Result<NodeKey, AllocError>
-        ensures { IfOk result (λ k. sought k ≡ property (plain_identifier (chars name.now))) }
+        ensures sought { IfOk result (λ k.
+            sought k ≡ property (plain_identifier (chars name.now))) }
+        ensures name { IfOk result (λ k. key_name k ≡ Some name.now) }
     {
         Ok(NodeKey::Key(KdlIdentifier::from_text(alloc, name)?))
     }
@@ -38,7 +40,8 @@ impl NodeKey {
 /// let key = NodeKey::from(String::from_str(alloc, "port")?); // the last property of that name
 /// ```
 impl From<String> for NodeKey {
-    ghost from_gives = { λ s k. sought k ≡ property (plain_identifier (text_of s)) };
+    ghost from_gives = { λ s k. (sought k ≡ property (plain_identifier (text_of s)))
+        × (key_name k ≡ Some (string_bytes s)) };
 
     fn from(name: String) -> NodeKey {
         NodeKey::Key(KdlIdentifier::from(name))

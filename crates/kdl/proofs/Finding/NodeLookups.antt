@@ -11,7 +11,7 @@ use Rattle.kdl.specs.Change.{with_entries, with_value}
 use Rattle.kdl_parts.specs.Written.{set_value_at, HasProperty, IsPushed}
 pub use Rattle.kdl_parts.proofs.EntryLookups.{name_compared}
 use Rattle.kdl_parts.proofs.EntryLookups.{set_value_is}
-use Rattle.kdl.specs.Lookups.{entries_of, value_there, HasPushed, HasWritten}
+use Rattle.kdl.specs.Lookups.{entries_of, value_there, HasPushed, HasSameEntries, HasWritten}
 use Rattle.kdl.specs.declared.document.KdlDocument.TheViews.{out-KdlNode, roll-KdlNode, out-roll-KdlNode}
 use Rattle.kdl.specs.declared.node.KdlNode.{KdlNode}
 
@@ -66,3 +66,10 @@ value_there_was (Some k) s n v i w h e = value_of _ w e ∙ ap (λ j. or_null (o
 -- its value is the one that was there, or null
 pub value_found : (o : Option ℕ) (s : List ℕ) (n : KdlNode) (v : Vec KdlEntry Global) (i : ℕ) (w : KdlValue) → HasProperty o s (out-KdlNode n).entries i v → option_map (λ e. e.value) (slice_get (entries_of (with_entries n v)) i) ≡ Some w → value_tree w ≡ or_null (value_there o n)
 value_found o s n v i w h e = value_there_was o s n v i w h (ap (λ u. option_map (λ e. e.value) (slice_get u.items i)) (sym (with_entries_out n v)) ∙ e)
+
+-- a node with entries that are what they were
+pub entries_refused : (n : KdlNode) (v : Vec KdlEntry Global) → v.items ≡ entries_of n → HasSameEntries n (with_entries n v)
+entries_refused n v h = record {
+  items = ap (λ u. u.items) (with_entries_out n v) ∙ h;
+  rest = ap (with_entries n) (sym (with_entries_out n v));
+}

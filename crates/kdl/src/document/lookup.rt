@@ -1,6 +1,7 @@
 //! Look-ups of nodes by their name.
 
 ghost use Rattle.kdl.specs.DocumentLookups.{argument_named, argument_place, first_argument, is_node_named, node_named, with_argument_named, with_node_named};
+ghost use Rattle.kdl.specs.Found.{IsSetIn};
 ghost use Rattle.kdl.specs.Lookups.{held_value, value_of};
 ghost use Rattle.kdl.specs.Said.{said_arg, said_node};
 ghost use Rattle.kdl.specs.Tree.{document_says, node_says};
@@ -126,6 +127,8 @@ impl KdlDocument {
             (with_argument_named name.now self.old) self.old) }
         ensures value { option_map (λ v. v.now) result ≡
             held_value (argument_named name.now self.old) }
+        ensures sets { IsSome result → (w : KdlValue) → IsSetIn name.now (value_tree w) self.old
+            (with_argument_named name.now self.old w) }
     {
         match place_with_argument(&self.nodes, name) {
             Some(at) => Some(&mut self.nodes[at][0]),

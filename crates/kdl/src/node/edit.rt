@@ -2,20 +2,22 @@
 
 ghost use Rattle.kdl.specs.Change.{with_entries};
 ghost use Rattle.kdl.specs.EditLaw.{PrintsAtPlace};
+ghost use Rattle.kdl.specs.Fields.{held_entries, node_format_of};
+ghost use Rattle.kdl.specs.Found.{IsAdded, IsPutIn, IsSet, IsTakenOut, IsTakenOutAt};
 ghost use Rattle.kdl.specs.Lookups.{entries_of, entry_there};
 ghost use Rattle.kdl_parts.specs.Edits.{GoesUnder, HasArgumentAt, HasRoomAt, IsInserted, removed, replaced_place, under};
-ghost use Rattle.kdl_parts.specs.EntryLists.{is_argument, removed_place, sought};
+ghost use Rattle.kdl_parts.specs.EntryLists.{is_argument, key_index, key_name, removed_place, sought};
 ghost use Rattle.kdl_parts.specs.Written.{entries_row};
 ghost use Rattle.kdl.specs.Tree.{node_tree};
 ghost use Rattle.kdl.specs.contracts.node.KdlNode.{the_row};
-ghost use Rattle.kdl.specs.declared.node.KdlNode.{out-KdlNode};
 ghost use Rattle.kdl_entry.specs.Tree.{entry_tree};
 ghost use Rattle.std.specs.Borrow.{Lends, sem};
 ghost use Rattle.std.specs.Fn.{CalledAt};
 ghost use Rattle.std.specs.List.{count_by};
 ghost use Rattle.std.specs.List.Retain.{IsFiltered};
 ghost use Rattle.std.specs.List.Sorted.{IsPermutation, IsSortedByClosure, IsSortedByKeyClosure, IsStableByClosure, IsStableByKeyClosure};
-ghost use Rattle.std.specs.Prelude.{◌≡◌, ◌==◌, [], ◌∷◌, ◌++◌, if◌then◌else◌, IfErr, IfOk, IfSome, IsSome, IsOk, OnErr, OnOk, is_ok, length};
+ghost use Rattle.std.specs.Str.{encode_utf8_all};
+ghost use Rattle.std.specs.Prelude.{◌≡◌, ◌==◌, [], ◌∷◌, ◌++◌, if◌then◌else◌, IfErr, IfNone, IfOk, IfSome, IsSome, IsOk, OnErr, OnOk, is_ok, length};
 
 use crate::node::KdlNode;
 use kdl_entry::KdlEntry;
@@ -78,7 +80,7 @@ impl KdlNode {
     pub fn entries_mut(&mut self) -> &mut Vec<KdlEntry>
         ensures* writes_back { sem 𝓛 (Lends the_row entries_row self.entry result
             (with_entries self.old)) }
-        ensures value { result.now ≡ (out-KdlNode self.old).entries }
+        ensures value { result.now ≡ held_entries self.old }
     {
         &mut self.entries
     }
@@ -91,7 +93,7 @@ impl KdlNode {
     /// ```
     pub fn clear(&mut self)
         ensures items { entries_of self.new ≡ [] }
-        ensures rest { self.new ≡ with_entries self.old (out-KdlNode self.new).entries }
+        ensures rest { self.new ≡ with_entries self.old (held_entries self.new) }
     {
         edit::clear(&mut self.entries);
     }
@@ -107,9 +109,13 @@ impl KdlNode {
     pub fn push(&mut self, entry: KdlEntry) -> Result<(), (KdlEntry, AllocError)>
         ensures items { entries_of self.new ≡
             (if is_ok result then entries_of self.old ++ (entry ∷ []) else entries_of self.old) }
-        ensures rest { self.new ≡ with_entries self.old (out-KdlNode self.new).entries }
+        ensures rest { self.new ≡ with_entries self.old (held_entries self.new) }
         ensures back { IfErr result (λ e. e.0 ≡ entry) }
         ensures refused { OnErr result (node_tree self.new ≡ node_tree self.old) }
+        ensures adds { OnOk result (IfNone (entry_tree entry).name
+            (IsAdded (entry_tree entry).value self.old self.new)) }
+        ensures sets { OnOk result (IfSome (entry_tree entry).name (λ name.
+            IsSet (encode_utf8_all name.value) (entry_tree entry).value self.old self.new)) }
     {
         edit::push(&mut self.entries, entry)
     }
@@ -137,16 +143,20 @@ impl KdlNode {
         requires room { HasRoomAt (sought key) (entries_of self.old) }
         ensures items { OnOk result
             (IsInserted key entry (entries_of self.old) (entries_of self.new)) }
-        ensures rest { self.new ≡ with_entries self.old (out-KdlNode self.new).entries }
+        ensures rest { self.new ≡ with_entries self.old (held_entries self.new) }
         ensures replaced { IfOk result (λ e.
             e ≡ entry_there (replaced_place key (entries_of self.old)) self.old) }
-        ensures prints { OnOk result (IsSome (out-KdlNode self.old).format
+        ensures prints { OnOk result (IsSome (node_format_of self.old)
             → IfSome (replaced_place key (entries_of self.old)) (λ i.
             PrintsAtPlace (node_tree self.old) i (under (sought key) (entry_tree entry))
             (node_tree self.new))) }
         ensures succeeds { IsSome (replaced_place key (entries_of self.old)) → IsOk result }
         ensures back { IfErr result (λ e. entry_tree e.0 ≡ under (sought key) (entry_tree entry)) }
         ensures refused { OnErr result (node_tree self.new ≡ node_tree self.old) }
+        ensures sets { OnOk result (IfSome (key_name key) (λ name.
+            IsSet name (entry_tree entry).value self.old self.new)) }
+        ensures puts { OnOk result (IfSome (key_index key) (λ i.
+            IsPutIn i (entry_tree entry).value self.old self.new)) }
     {
         edit::insert(&mut self.entries, key, entry)
     }
@@ -161,9 +171,11 @@ impl KdlNode {
     pub fn remove(&mut self, key: NodeKey) -> Option<KdlEntry>
         requires { HasArgumentAt (sought key) (entries_of self.old) }
         ensures items { entries_of self.new ≡ removed key (entries_of self.old) }
-        ensures rest { self.new ≡ with_entries self.old (out-KdlNode self.new).entries }
+        ensures rest { self.new ≡ with_entries self.old (held_entries self.new) }
         ensures value { result ≡
             entry_there (removed_place key (entries_of self.old)) self.old }
+        ensures takes { IfSome (key_name key) (λ name. IsTakenOut name self.old self.new) }
+        ensures takes_at { IfSome (key_index key) (λ i. IsTakenOutAt i self.old self.new) }
     {
         edit::remove(&mut self.entries, key)
     }
@@ -179,7 +191,7 @@ impl KdlNode {
         requires { F.IsAlwaysCallable keep }
         ensures items { IsFiltered (CalledAt F.FnMut) keep
             (entries_of self.old) (entries_of self.new) }
-        ensures rest { self.new ≡ with_entries self.old (out-KdlNode self.new).entries }
+        ensures rest { self.new ≡ with_entries self.old (held_entries self.new) }
     {
         edit::retain(&mut self.entries, keep);
     }
@@ -200,7 +212,7 @@ impl KdlNode {
         ensures sorted { OnOk result (IsSortedByClosure F.FnMut compare (entries_of self.new)) }
         ensures stable { IsStableByClosure F.FnMut compare
             (entries_of self.old) (entries_of self.new) }
-        ensures rest { self.new ≡ with_entries self.old (out-KdlNode self.new).entries }
+        ensures rest { self.new ≡ with_entries self.old (held_entries self.new) }
     {
         edit::sort_by(&mut self.entries, compare)
     }
@@ -220,7 +232,7 @@ impl KdlNode {
         ensures sorted { OnOk result (IsSortedByKeyClosure F.FnMut K.cmp f (entries_of self.new)) }
         ensures stable { IsStableByKeyClosure F.FnMut K.cmp f
             (entries_of self.old) (entries_of self.new) }
-        ensures rest { self.new ≡ with_entries self.old (out-KdlNode self.new).entries }
+        ensures rest { self.new ≡ with_entries self.old (held_entries self.new) }
     {
         edit::sort_by_key(&mut self.entries, f)
     }

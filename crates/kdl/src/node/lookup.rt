@@ -1,5 +1,6 @@
 //! Look-ups of entries by the name of a property, or by the place of an argument.
 
+<<<<<<< HEAD
 ghost use Rattle.kdl.specs.Lookups.{found_entry, found_value, held_value, key_place, property_place, property_value, with_found_entry, with_found_value, HasSameEntries, HasWritten};
 ghost use Rattle.kdl.specs.Said.{said_entry, said_property, said_value};
 ghost use Rattle.kdl.specs.Tree.{node_says};
@@ -10,6 +11,16 @@ ghost use Rattle.kdl_value.specs.Tree.{or_null, value_tree};
 ghost use Rattle.std.specs.Borrow.{Lends, LendsIf, LendsSoOk, sem};
 ghost use Rattle.std.specs.Prelude.{◌≡◌, IfOk, IsNone, IsOk, IsSome, OnErr, Some, is_some, option_map};
 ghost use Rattle.std.specs.Str.{chars};
+=======
+ghost use Rattle.kdl.specs.Found.{IsArgumentSet, IsSet, value_at};
+ghost use Rattle.kdl.specs.Lookups.{entry_there, found_entry, found_value, held_value, key_place, property_place, property_value, with_found_entry, with_found_value, HasSameEntries, HasWritten};
+ghost use Rattle.kdl_entry.specs.Tree.{entry_tree};
+ghost use Rattle.kdl_parts.specs.EntryLists.{key_index, key_name};
+ghost use Rattle.kdl_parts.specs.declared.key.NodeKey.TheVariants.{Index as at_index};
+ghost use Rattle.kdl_value.specs.Tree.{or_null, value_tree};
+ghost use Rattle.std.specs.Borrow.{Lends, LendsIf, LendsSoOk, sem};
+ghost use Rattle.std.specs.Prelude.{◌≡◌, IfOk, IfSome, IsNone, IsOk, IsSome, OnErr, Some, is_some, option_map};
+>>>>>>> finds
 
 use crate::node::KdlNode;
 use kdl_entry::{KdlEntry, KdlValue};
@@ -29,8 +40,13 @@ impl KdlNode {
     #[tactic(auto, using(crate::proofs::Finding::SaidLookups::got_entry))]
     pub fn entry(&self, key: NodeKey) -> Option<&KdlEntry>
         ensures value { option_map (λ e. e.now) result ≡ found_entry key self.now }
+<<<<<<< HEAD
         ensures said { option_map (λ e. entry_data (entry_tree e.now)) result ≡
             said_entry (sought key) (node_says self.now) }
+=======
+        ensures by_name { IfSome (key_name key) (λ name. option_map (λ e. e.now) result ≡
+            entry_there (property_place name self.now) self.now) }
+>>>>>>> finds
     {
         lookup::entry(&self.entries, key)
     }
@@ -45,8 +61,15 @@ impl KdlNode {
     #[tactic(auto, using(crate::proofs::Finding::SaidLookups::got_value))]
     pub fn get(&self, key: NodeKey) -> Option<&KdlValue>
         ensures value { option_map (λ v. value_tree v.now) result ≡ found_value key self.now }
+<<<<<<< HEAD
         ensures said { option_map (λ v. value_tree v.now) result ≡
             said_value (sought key) (node_says self.now) }
+=======
+        ensures by_name { IfSome (key_name key) (λ name.
+            option_map (λ v. value_tree v.now) result ≡ property_value name self.now) }
+        ensures by_index { IfSome (key_index key) (λ i.
+            option_map (λ v. value_tree v.now) result ≡ value_at i self.now) }
+>>>>>>> finds
     {
         lookup::value(&self.entries, key)
     }
@@ -84,6 +107,12 @@ impl KdlNode {
         ensures* writes_back { sem 𝓛 (LendsIf the_row entry_row self.entry result
             (with_found_entry key self.old) self.old) }
         ensures value { option_map (λ e. e.now) result ≡ found_entry key self.old }
+        ensures sets { IfSome result (λ e. IfSome (key_name key) (λ name. (w : KdlEntry) →
+            (entry_tree w).name ≡ (entry_tree e.now).name →
+            IsSet name (entry_tree w).value self.old (with_found_entry key self.old w))) }
+        ensures sets_at { IfSome result (λ e. IfSome (key_index key) (λ i. (w : KdlEntry) →
+            (entry_tree w).name ≡ (entry_tree e.now).name →
+            IsArgumentSet i (entry_tree w).value self.old (with_found_entry key self.old w))) }
     {
         lookup::entry_mut(&mut self.entries, key)
     }
@@ -101,6 +130,10 @@ impl KdlNode {
         ensures* writes_back { sem 𝓛 (LendsIf the_row value_row self.entry result
             (with_found_value key self.old) self.old) }
         ensures value { option_map (λ v. v.now) result ≡ held_value (found_entry key self.old) }
+        ensures sets { IsSome result → IfSome (key_name key) (λ name. (w : KdlValue) →
+            IsSet name (value_tree w) self.old (with_found_value key self.old w)) }
+        ensures sets_at { IsSome result → IfSome (key_index key) (λ i. (w : KdlValue) →
+            IsArgumentSet i (value_tree w) self.old (with_found_value key self.old w)) }
     {
         lookup::value_mut(&mut self.entries, key)
     }
@@ -121,6 +154,9 @@ impl KdlNode {
             value_tree v.now ≡ or_null (property_value name.now self.old)) }
         ensures answers { IsSome (property_place name.now self.old) → IsOk result }
         ensures missing { OnErr result (IsNone (property_place name.now self.old)) }
+        ensures sets { (w : KdlValue) (n : KdlNode) →
+            HasWritten (property_place name.now self.old) name.now self.old w n →
+            IsSet name.now (value_tree w) self.old n }
     {
         let at = lookup::property_or_null(&mut self.entries, name)?;
         Ok(value_at_mut(&mut self.entries, at))
@@ -178,6 +214,8 @@ impl IndexMut<usize> for KdlNode {
         ensures* writes_back { sem 𝓛 (Lends the_row value_row self.entry result
             (with_found_value (at_index index) self.old)) }
         ensures value { held_value (found_entry (at_index index) self.old) ≡ Some result.now }
+        ensures sets { (w : KdlValue) → IsArgumentSet index (value_tree w) self.old
+            (with_found_value (at_index index) self.old w) }
     {
         lookup::argument_mut(&mut self.entries, index)
     }

@@ -1,0 +1,8 @@
+use Rattle.kdl.proofs.Finding.EntriesFound.{push_adds, push_sets}
+use Rattle.kdl.proofs.node.KdlNode.push.Goals as goal
+
+pub returns-clause-adds : goal.returns-clause-adds
+returns-clause-adds c = push_adds c.push.result c.args.entry c.args.self.now c.push.new.entries c.push.ensures.items
+
+pub returns-clause-sets : goal.returns-clause-sets
+returns-clause-sets c = push_sets c.push.result c.args.entry c.args.self.now c.push.new.entries c.push.ensures.items

@@ -1,0 +1,15 @@
+use Rattle.std.proofs.Common.{Some, refl, sym}
+use Rattle.kdl_value.specs.declared.value.KdlValue.{KdlValue}
+use Rattle.kdl_parts.specs.declared.key.NodeKey.TheVariants.{Index}
+use Rattle.kdl.proofs.Finding.WritesFound.{value_sets_at}
+use Rattle.kdl.proofs.node.lookup.KdlNodeIndexMutUsize.index_mut.Goals as goal
+
+pub returns : goal.returns
+returns c = (
+  (refl, λ w. refl),
+  record {
+    writes_back = tt;
+    value = c.argument_mut.ensures.value;
+    sets = value_sets_at (λ (v : KdlValue). v) (Index c.args.index) c.args.self.now (Some c.argument_mut.result.now) (sym c.argument_mut.ensures.value) refl;
+  },
+)

@@ -1,0 +1,9 @@
+use Rattle.std.proofs.Common.{Some, ap}
+use Rattle.std.proofs.lemmas.Str.{IsUtf8-string_bytes}
+use Rattle.kdl_entry.specs.Tree.{Identifier}
+use Rattle.kdl_parts.proofs.EntryLookups.{same_bytes}
+use Rattle.kdl_parts.proofs.key.NodeKey.from_text.Goals as goal
+
+pub returns-clause-name : goal.returns-clause-name
+returns-clause-name c =
+    ap Some (same_bytes _ _ (IsUtf8-string_bytes c.in_ok-from_text.field-0.value) c.utf8.name (ap (λ (i : Identifier). i.value) c.in_ok-from_text.ensures))

@@ -1,0 +1,12 @@
+use Rattle.std.proofs.Common.{Some, ap}
+use Rattle.std.proofs.lemmas.Str.{IsUtf8-string_bytes}
+use Rattle.kdl_entry.specs.Tree.{Identifier}
+use Rattle.kdl_parts.specs.EntryLists.{property}
+use Rattle.kdl_parts.proofs.EntryLookups.{same_bytes}
+use Rattle.kdl_parts.proofs.key.NodeKeyFromString.from.Goals as goal
+
+pub returns : goal.returns
+returns c = (
+  ap property c.from.ensures,
+  ap Some (same_bytes _ _ (IsUtf8-string_bytes c.from.result.value) (IsUtf8-string_bytes c.args.name) (ap (λ (i : Identifier). i.value) c.from.ensures)),
+)
