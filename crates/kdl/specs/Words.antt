@@ -26,3 +26,7 @@ pub use Rattle.kdl.specs.EditLaw.{EntryExchanged, NodeExchanged, PrintsAtPlace}
 pub use Rattle.kdl.specs.Layout.{DocumentLaidOut, DocumentKeepsNoForm, IndentsBySpaces, NodeCommentsStay, NodeLaidOut, NodeKeepsNoForm, plain_document, plain_node}
 pub use Rattle.kdl.specs.Lookups.{entries_of, entry_there, found_entry, found_value, held_value, key_place, property_place, property_value, value_of, with_found_entry, with_found_value}
 pub use Rattle.kdl.specs.Tree.{document_prints, document_says, document_tree, node_prints, node_says, node_tree, nodes_tree}
+-- What look-ups find in what a document or a node says.
+pub use Rattle.kdl.specs.Said.{said_arg, said_argument, said_argument_in, said_arguments, said_args, said_child_nodes, said_children, said_dash_args, said_dashes, said_entries, said_entry, said_name, said_node, said_nodes, said_property, said_property_in, said_type, said_value}
+-- Documents, and nodes, in which look-ups find the same.
+pub use Rattle.kdl.specs.Finds.{FindsSame, GivesArgument, GivesProperty, NodeFindsSame}

@@ -1,14 +1,15 @@
 //! Nodes.
 
 ghost use Rattle.kdl_grammar.specs.Tree.{node, children_of};
-ghost use Rattle.kdl.specs.Tree.{node_tree, document_tree};
+ghost use Rattle.kdl.specs.Said.{said_children, said_entries, said_name, said_type};
+ghost use Rattle.kdl.specs.Tree.{document_says, document_tree, node_says, node_tree};
 ghost use Rattle.kdl_parser.specs.Internal.NodeText.{text_by};
 ghost use Rattle.kdl_grammar.specs.Print.{print_node};
 ghost use Rattle.kdl.specs.Internal.Copied.{with_children};
 ghost use Rattle.kdl.specs.Internal.Left.{Prints, front, node_before_block, node_end};
 ghost use Rattle.kdl.specs.Same.{same_node};
 ghost use Rattle.kdl.specs.declared.node.KdlNode.{out-KdlNode};
-ghost use Rattle.kdl_entry.specs.Tree.{identifier_tree, entry_tree};
+ghost use Rattle.kdl_entry.specs.Tree.{entry_data, entry_tree, identifier_tree};
 ghost use Rattle.std.specs.Prelude.{◌≡◌, [], IfOk, None, Some, map, option_map, true};
 ghost use Rattle.std.specs.Str.{encode_utf8_all};
 
@@ -99,8 +100,10 @@ impl KdlNode {
     /// let node = KdlNode::parse(alloc, "\"a\\tb\"")?;
     /// let name = node.name().value(); // an `a`, a tabulator and a `b`
     /// ```
+    #[tactic(auto, using(crate::proofs::Finding::SaidLookups::got_name))]
     pub fn name(&self) -> &KdlIdentifier
-        ensures { result.now ≡ (out-KdlNode self.now).name }
+        ensures value { result.now ≡ (out-KdlNode self.now).name }
+        ensures said { (identifier_tree result.now).value ≡ said_name (node_says self.now) }
     {
         &self.name
     }
@@ -111,8 +114,11 @@ impl KdlNode {
     /// let node = KdlNode::parse(alloc, "(date)today")?;
     /// let ty = node.ty(); // the identifier `date`
     /// ```
+    #[tactic(auto, using(crate::proofs::Finding::SaidLookups::got_type))]
     pub fn ty(&self) -> Option<&KdlIdentifier>
-        ensures { option_map (λ t. t.now) result ≡ (out-KdlNode self.now).ty }
+        ensures value { option_map (λ t. t.now) result ≡ (out-KdlNode self.now).ty }
+        ensures said { option_map (λ t. (identifier_tree t.now).value) result ≡
+            said_type (node_says self.now) }
     {
         self.ty.as_ref()
     }
@@ -123,8 +129,11 @@ impl KdlNode {
     /// let node = KdlNode::parse(alloc, "a 1 /-2 b=3")?;
     /// let count = node.entries().len(); // 2: what a slashdash drops is no entry
     /// ```
+    #[tactic(auto, using(crate::proofs::Finding::SaidLookups::got_entries))]
     pub fn entries(&self) -> &[KdlEntry]
-        ensures { result.now ≡ (out-KdlNode self.now).entries.items }
+        ensures value { result.now ≡ (out-KdlNode self.now).entries.items }
+        ensures said { map (λ e. entry_data (entry_tree e)) result.now ≡
+            said_entries (node_says self.now) }
     {
         self.entries.as_slice()
     }
@@ -135,8 +144,11 @@ impl KdlNode {
     /// let none = KdlNode::parse(alloc, "a")?.children().is_none(); // true
     /// let some = KdlNode::parse(alloc, "a {}")?.children().is_some(); // true: an empty block differs from none
     /// ```
+    #[tactic(auto, using(crate::proofs::Finding::SaidLookups::got_children))]
     pub fn children(&self) -> Option<&KdlDocument>
-        ensures { option_map (λ d. d.now) result ≡ (out-KdlNode self.now).children }
+        ensures value { option_map (λ d. d.now) result ≡ (out-KdlNode self.now).children }
+        ensures said { option_map (λ d. document_says d.now) result ≡
+            said_children (node_says self.now) }
     {
         self.children.as_ref()
     }

@@ -1,5 +1,6 @@
 //! Look-ups of entries by the name of a property, or by the place of an argument.
 
+ghost use Rattle.kdl.specs.Finds.{GivesArgument, GivesProperty};
 ghost use Rattle.kdl.specs.Lookups.{found_entry, found_value, held_value, key_place, property_place, property_value, with_found_entry, with_found_value, HasSameEntries, HasWritten};
 ghost use Rattle.kdl.specs.Said.{said_entry, said_property, said_value};
 ghost use Rattle.kdl.specs.Tree.{node_says};
@@ -138,8 +139,9 @@ impl Index<usize> for KdlNode {
 
     ghost can_index = { λ n i. IsSome (key_place (at_index i) n) };
 
-    ghost index_gives = { λ n i v. found_value (at_index i) n ≡ Some (value_tree v) };
+    ghost index_gives = { λ n i v. GivesArgument i (value_tree v) n };
 
+    #[tactic(auto, using(crate::proofs::Finding::SaidLookups::got_argument))]
     fn index(&self, index: usize) -> &KdlValue {
         lookup::argument(&self.entries, index)
     }
@@ -156,8 +158,9 @@ impl<'q> Index<&'q str> for KdlNode {
 
     ghost can_index = { λ n name. IsSome (property_place name.now n) };
 
-    ghost index_gives = { λ n name v. property_value name.now n ≡ Some (value_tree v) };
+    ghost index_gives = { λ n name v. GivesProperty name.now (value_tree v) n };
 
+    #[tactic(auto, using(crate::proofs::Finding::SaidLookups::got_property_value))]
     fn index(&self, name: &'q str) -> &KdlValue {
         lookup::property(&self.entries, name)
     }
