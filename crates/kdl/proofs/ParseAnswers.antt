@@ -12,9 +12,11 @@ use Rattle.kdl_grammar.specs.Internal.Machine.{AnswersDocument}
 use Rattle.kdl_grammar.specs.Print.{print_document, print_node}
 use Rattle.kdl_grammar.specs.Tree.{Document, document_data, node_data}
 use Rattle.kdl_grammar.proofs.Moving.FormerIsPresent.{wider, wider_node}
+use Rattle.kdl.specs.Layout.{DocumentKeepsNoForm, NodeKeepsNoForm}
 use Rattle.kdl.specs.Tree.{node_tree, document_tree}
 use Rattle.kdl.specs.declared.node.KdlNode.{KdlNode}
 use Rattle.kdl.specs.declared.document.KdlDocument.{KdlDocument}
+use Rattle.kdl.proofs.FormKept.{laid_keeps_none, laid_node_keeps_none}
 use Rattle.kdl_parser.proofs.Answering.Outcomes as outcomes
 use Rattle.kdl_parser.proofs.Answering.EditedOutcomes as edited_outcomes
 use Rattle.kdl_parser.proofs.Answering.NodeTexts as node_texts
@@ -37,6 +39,11 @@ laid t (Err e) a = tt
 pub prints : (t : Text) (r : Result KdlDocument ParseFailure) → Read t r → IfOk r (λ d. print_document (document_tree d) 0 ≡ t)
 prints t (Ok d) a = outcomes.prints t (document_tree d) a
 prints t (Err e) a = tt
+
+-- no entry is flagged
+pub keeps_none : (t : Text) (r : Result KdlDocument ParseFailure) → Read t r → IfOk r (λ d. DocumentKeepsNoForm d)
+keeps_none t (Ok d) a = laid_keeps_none true (document_tree d) t (outcomes.laid t (document_tree d) a)
+keeps_none t (Err e) a = tt
 
 -- what the former language derives is derived
 pub kept : (t : Text) (x : Nodes) → ((y : Nodes) → IsDocument true t y → ⊥) → IsFormerDocument t x → ⊥
@@ -64,6 +71,10 @@ node_only t (Err e) l = tt
 pub node_prints : (t : Text) (r : Result KdlNode ParseFailure) → ReadNode t r → IfOk r (λ n. print_node (node_tree n) 0 ≡ t)
 node_prints t (Ok n) l = node_texts.prints t (node_tree n) l
 node_prints t (Err e) l = tt
+
+pub node_keeps_none : (t : Text) (r : Result KdlNode ParseFailure) → ReadNode t r → IfOk r (λ n. NodeKeepsNoForm n)
+node_keeps_none t (Ok n) l = laid_node_keeps_none true (node_tree n) t l
+node_keeps_none t (Err e) l = tt
 
 pub node_kept : (t : Text) (x : data'.Node) → ((y : data'.Node) → IsNodeText true t y → ⊥) → IsFormerNodeText t x → ⊥
 node_kept t x n i = n x (wider_node false i)

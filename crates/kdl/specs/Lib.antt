@@ -14,6 +14,8 @@ pub mod Iterators
 pub mod Layout
 -- What look-ups in a node give, and what a node is once what they lent was written.
 pub mod Lookups
+-- Documents, and nodes, in which look-ups find the same.
+pub mod Finds
 -- What look-ups find in data.
 pub mod Said
 -- What look-ups find after an edit.

@@ -8,7 +8,7 @@ use Rattle.kdl_entry.specs.Data.{Entry}
 use Rattle.kdl_grammar.specs.Data.{Node, node, Children, no_children, children, Nodes, none, first}
 use Rattle.kdl_parts.specs.EntryLists.{Sought, property, argument, same_text}
 
--- the type of a node, its name, its entries and the nodes in its block
+-- the type of a node, its name, its entries and what is in its block
 abbrev pub said_type : Node → Option Text
 said_type (node ty name es k) = ty
 
@@ -29,6 +29,10 @@ said_children (node ty name es k) = nodes_inside k
 abbrev pub said_nodes : Nodes → List Node
 said_nodes none = []
 said_nodes (first n x) = n ∷ said_nodes x
+
+-- the nodes in the block of a node, none without one
+abbrev pub said_child_nodes : Node → List Node
+said_child_nodes n = unwrap_or (option_map said_nodes (said_children n)) []
 
 -- the entry is a property of that name, or an argument
 abbrev pub is_property_of : Text → Entry → Bool
@@ -79,7 +83,7 @@ said_args s x = unwrap_or (option_map said_arguments (said_node s x)) []
 
 -- the value of the first argument of each node named `-` in its block that has one
 abbrev pub said_dashes : Node → List Value
-said_dashes n = filter_map (said_argument 0) (filter (is_node_of (codes "-")) (unwrap_or (option_map said_nodes (said_children n)) []))
+said_dashes n = filter_map (said_argument 0) (filter (is_node_of (codes "-")) (said_child_nodes n))
 
 abbrev pub said_dash_args : Text → Nodes → List Value
 said_dash_args s x = unwrap_or (option_map said_dashes (said_node s x)) []

@@ -1,6 +1,7 @@
 //! Documents.
 
-ghost use Rattle.kdl.specs.Tree.{node_tree, document_of, document_tree};
+ghost use Rattle.kdl.specs.Said.{said_nodes};
+ghost use Rattle.kdl.specs.Tree.{document_of, document_says, document_tree, node_says, node_tree};
 ghost use Rattle.kdl_parser.specs.Internal.Parts.{document_by};
 ghost use Rattle.kdl_parser.specs.Internal.Whole.{whole_by};
 ghost use Rattle.kdl_grammar.specs.Laid.{with_bom};
@@ -147,8 +148,10 @@ impl KdlDocument {
     /// let document = KdlDocument::parse(alloc, "a; /-b; c")?;
     /// let names = document.nodes().iter().map(|node| node.name().value()); // "a", "c"
     /// ```
+    #[tactic(auto, using(crate::proofs::Finding::SaidLookups::got_nodes))]
     pub fn nodes(&self) -> &[KdlNode]
-        ensures { result.now ≡ nodes_of self.now }
+        ensures value { result.now ≡ nodes_of self.now }
+        ensures said { map node_says result.now ≡ said_nodes (document_says self.now) }
     {
         self.nodes.as_slice()
     }

@@ -1,7 +1,8 @@
 //! Nodes.
 
 ghost use Rattle.kdl_grammar.specs.Tree.{node, children_of};
-ghost use Rattle.kdl.specs.Tree.{node_tree, document_tree};
+ghost use Rattle.kdl.specs.Said.{said_children, said_entries, said_name, said_type};
+ghost use Rattle.kdl.specs.Tree.{document_says, document_tree, node_says, node_tree};
 ghost use Rattle.kdl_parser.specs.Internal.NodeText.{text_by};
 ghost use Rattle.kdl_grammar.specs.Print.{print_node};
 ghost use Rattle.kdl.specs.Internal.Copied.{with_children};
@@ -11,8 +12,8 @@ ghost use Rattle.kdl.specs.Fields.{block_of, name_of, node_format_of, node_span_
 ghost use Rattle.kdl.specs.Lookups.{entries_of};
 ghost use Rattle.kdl.specs.Same.{same_node};
 ghost use Rattle.kdl.specs.declared.node.KdlNode.{out-KdlNode};
-ghost use Rattle.kdl_entry.specs.Tree.{identifier_tree, entry_tree};
-ghost use Rattle.std.specs.Prelude.{◌≡◌, IfOk, None, Some, option_map, true};
+ghost use Rattle.kdl_entry.specs.Tree.{entry_data, entry_tree, identifier_tree};
+ghost use Rattle.std.specs.Prelude.{◌≡◌, IfOk, None, Some, map, option_map, true};
 ghost use Rattle.std.specs.Str.{encode_utf8_all};
 
 mod children;
@@ -103,8 +104,10 @@ impl KdlNode {
     /// let node = KdlNode::parse(alloc, "\"a\\tb\"")?;
     /// let name = node.name().value(); // an `a`, a tabulator and a `b`
     /// ```
+    #[tactic(auto, using(crate::proofs::Finding::SaidLookups::got_name))]
     pub fn name(&self) -> &KdlIdentifier
-        ensures { result.now ≡ name_of self.now }
+        ensures value { result.now ≡ name_of self.now }
+        ensures said { (identifier_tree result.now).value ≡ said_name (node_says self.now) }
     {
         &self.name
     }
@@ -115,8 +118,11 @@ impl KdlNode {
     /// let node = KdlNode::parse(alloc, "(date)today")?;
     /// let ty = node.ty(); // the identifier `date`
     /// ```
+    #[tactic(auto, using(crate::proofs::Finding::SaidLookups::got_type))]
     pub fn ty(&self) -> Option<&KdlIdentifier>
-        ensures { option_map (λ t. t.now) result ≡ ty_of self.now }
+        ensures value { option_map (λ t. t.now) result ≡ ty_of self.now }
+        ensures said { option_map (λ t. (identifier_tree t.now).value) result ≡
+            said_type (node_says self.now) }
     {
         self.ty.as_ref()
     }
@@ -127,8 +133,11 @@ impl KdlNode {
     /// let node = KdlNode::parse(alloc, "a 1 /-2 b=3")?;
     /// let count = node.entries().len(); // 2: what a slashdash drops is no entry
     /// ```
+    #[tactic(auto, using(crate::proofs::Finding::SaidLookups::got_entries))]
     pub fn entries(&self) -> &[KdlEntry]
-        ensures { result.now ≡ entries_of self.now }
+        ensures value { result.now ≡ entries_of self.now }
+        ensures said { map (λ e. entry_data (entry_tree e)) result.now ≡
+            said_entries (node_says self.now) }
     {
         self.entries.as_slice()
     }
@@ -139,8 +148,11 @@ impl KdlNode {
     /// let none = KdlNode::parse(alloc, "a")?.children().is_none(); // true
     /// let some = KdlNode::parse(alloc, "a {}")?.children().is_some(); // true: an empty block differs from none
     /// ```
+    #[tactic(auto, using(crate::proofs::Finding::SaidLookups::got_children))]
     pub fn children(&self) -> Option<&KdlDocument>
-        ensures { option_map (λ d. d.now) result ≡ block_of self.now }
+        ensures value { option_map (λ d. d.now) result ≡ block_of self.now }
+        ensures said { option_map (λ d. document_says d.now) result ≡
+            said_children (node_says self.now) }
     {
         self.children.as_ref()
     }

@@ -1,5 +1,6 @@
 //! Documents and nodes, read from a text.
 
+ghost use Rattle.kdl.specs.Layout.{DocumentKeepsNoForm, NodeKeepsNoForm};
 ghost use Rattle.kdl.specs.Tree.{document_prints, document_says, document_tree, node_prints, node_says, node_tree};
 ghost use Rattle.kdl_grammar.specs.Data as data';
 ghost use Rattle.kdl_grammar.specs.Data.{Nodes};
@@ -71,6 +72,7 @@ impl KdlDocument {
         // The document lies in the text, each place in its class and each span that of its piece, and prints it.
         ensures laid { IfOk result (λ d. LaidDocument true (document_tree d) (chars text.now)) }
         ensures prints { IfOk result (λ d. document_prints d ≡ chars text.now) }
+        ensures keeps_none { IfOk result (λ d. DocumentKeepsNoForm d) }
         // What is refused is not derived, and an error tells where.
         ensures refused { IsSyntax result → (x : Nodes) → IsDocument true (chars text.now) x → ⊥ }
         ensures told { TellsOnSyntax text.now result }
@@ -110,6 +112,7 @@ impl KdlDocument {
             → x ≡ document_says d) }
         ensures laid { IfOk result (λ d. LaidDocument true (document_tree d) (chars text.now)) }
         ensures prints { IfOk result (λ d. document_prints d ≡ chars text.now) }
+        ensures keeps_none { IfOk result (λ d. DocumentKeepsNoForm d) }
         ensures refused { IsSyntax result → (x : Nodes) → IsDocument true (chars text.now) x → ⊥ }
         ensures told { TellsOnSyntax text.now result }
         ensures kept { (x : Nodes) → IsFormerDocument (chars text.now) x → IsSyntax result → ⊥ }
@@ -140,6 +143,7 @@ impl KdlDocument {
             → x ≡ document_says d) }
         ensures laid { IfOk result (λ d. LaidDocument true (document_tree d) (chars text.now)) }
         ensures prints { IfOk result (λ d. document_prints d ≡ chars text.now) }
+        ensures keeps_none { IfOk result (λ d. DocumentKeepsNoForm d) }
         ensures refused { IsSyntax result → (x : Nodes) → IsDocument true (chars text.now) x → ⊥ }
         ensures told { TellsOnSyntax text.now result }
         ensures kept { (x : Nodes) → IsFormerDocument (chars text.now) x → IsSyntax result → ⊥ }
@@ -177,6 +181,8 @@ impl KdlNode {
         // The node lies in the text, each place in its class and each span that of its piece, and prints it.
         ensures laid { IfOk result (λ n. LaidNodeText true (chars text.now) (node_tree n)) }
         ensures prints { IfOk result (λ n. node_prints n ≡ chars text.now) }
+        // No entry of it is flagged to keep its form.
+        ensures keeps_none { IfOk result (λ n. NodeKeepsNoForm n) }
         // What is refused is not derived, and an error tells where.
         ensures refused { IsSyntax result → (x : data'.Node)
             → IsNodeText true (chars text.now) x → ⊥ }

@@ -1,3 +1,5 @@
+-- Documents, and nodes, that `==` takes for one print the same, and say the same.
+pub mod EqualDocuments
 -- What `==` of nodes and documents means, on trees.
 pub mod Equality
 -- What clones of errors have, on their trees.
@@ -10,7 +12,11 @@ pub mod ItemLists
 pub mod KeyEquality
 -- Each document and each node has a list of items.
 pub mod ListExists
+-- Spans in a text cut it between characters.
+pub mod PiecesOfText
 -- A text has a list of items exactly where it may be in its place.
 pub mod PlaceItems
+-- Spans are not printed, and say nothing.
+pub mod SpansPrintNothing
 -- What two layouts make.
 pub mod TwoLayouts

@@ -4,5 +4,7 @@ pub mod ClientWords
 pub mod Errors
 -- What keys look for, wherever their names stood.
 pub mod Keys
+-- The pieces of a text.
+pub mod Pieces
 -- What the text before the nodes of a document may be.
 pub mod Leading

@@ -4,6 +4,7 @@
 
 pub mod bytes;
 pub mod entries;
+pub mod equal;
 pub mod errors;
 pub mod formats;
 pub mod items;
@@ -11,6 +12,7 @@ pub mod keys;
 pub mod layout;
 pub mod machine;
 pub mod nodes;
+pub mod spans;
 pub mod values;
 
 pub use kdl_grammar::laws::{

@@ -1,10 +1,8 @@
 -- What the tool's words ask for, and what is written for them.
-use Rattle.std.specs.Prelude.{◌≡◌, ℕ, true, if◌then◌else◌, List, [], ◌∷◌, Option, Some, None, is_none, option_map, codes, chars, encode_utf8_all}
-use Rattle.kdl_text.specs.Chars.{Text}
+use Rattle.std.specs.Prelude.{◌≡◌, ℕ, true, List, [], ◌∷◌, Option, Some, option_map, codes, chars, encode_utf8_all}
 use Rattle.kdl_value.specs.Data.{Value}
 use Rattle.kdl_value.specs.Print.{print_value}
-use Rattle.kdl_entry.specs.Data.{Entry}
-use Rattle.kdl_grammar.specs.Data.{node, Nodes, none, first}
+use Rattle.kdl_grammar.specs.Data.{Nodes}
 use Rattle.kdl_grammar.specs.Grammar.{IsDocument}
 use Rattle.kdl_grammar.specs.Laid.{LaidDocument}
 use Rattle.kdl_grammar.specs.Print.{print_document}
@@ -12,7 +10,7 @@ use Rattle.kdl_grammar.specs.Tree.{Document}
 use Rattle.kdl_fmt.specs.Canonical.{canonical_text}
 use Rattle.kdl_fmt.specs.Config.{defaults}
 use Rattle.kdl_fmt.specs.WithComments.{IsFormattedDocument}
-use Rattle.kdl_parts.specs.EntryLists.{same_text}
+use Rattle.kdl.specs.Said.{said_arg}
 use Rattle.kdl_tool.specs.Reports.{line}
 use Rattle.kdl_tool.specs.declared.tool.Command.{Command}
 use Rattle.kdl_tool.specs.declared.tool.Command.TheVariants.{Cat, Fmt, Strip, Get}
@@ -42,16 +40,6 @@ asked_by Fmt = fmt
 asked_by Strip = strip
 asked_by (Get name) = get name.now
 
--- the value of the first entry that has no key
-abbrev pub argument : List Entry → Option Value
-argument [] = None
-argument (e ∷ es) = if is_none e.key then Some e.value else argument es
-
--- the value of the first argument of the first node of that name; later nodes are not looked at
-abbrev pub first_argument : Text → Nodes → Option Value
-first_argument name none = None
-first_argument name (first (node ty this es k) ns) = if same_text this name then argument es else first_argument name ns
-
 -- the printed value, on a line
 abbrev pub value_line : Option Value → Option (List ℕ)
 value_line = option_map (λ v. line (encode_utf8_all (print_value v)))
@@ -70,4 +58,4 @@ abbrev pub IsWritten : Asked → List ℕ → Nodes → Option (List ℕ) → Ty
 IsWritten cat text x o = o ≡ Some text
 IsWritten fmt text x o = (out : List ℕ) × IsLaidOut text x out × (o ≡ Some out)
 IsWritten strip text x o = o ≡ Some (encode_utf8_all (canonical_text x))
-IsWritten (get name) text x o = o ≡ value_line (first_argument (chars name) x)
+IsWritten (get name) text x o = o ≡ value_line (said_arg (chars name) x)

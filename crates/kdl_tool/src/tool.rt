@@ -1,9 +1,9 @@
 //! The tool itself, over any reader and any writer.
 ghost use Rattle.std.specs.Prelude.{◌≡◌, ◌↔◌, ◌||◌, true, IfOk, IsTrue, MatchOption, OnOk, ◌≤◌, chars, length, map, take, flat_map, decimal, option_map, string_bytes};
 ghost use Rattle.kdl_text.specs.Failures.{IsSyntax, TellsOnSyntax};
-ghost use Rattle.kdl_grammar.specs.Tree.{document_data};
-ghost use Rattle.kdl.specs.Tree.{document_tree};
-ghost use Rattle.kdl_tool.specs.Commands.{AreOther, asked_by, first_argument, value_line, words_of};
+ghost use Rattle.kdl.specs.Said.{said_arg};
+ghost use Rattle.kdl.specs.Tree.{document_says};
+ghost use Rattle.kdl_tool.specs.Commands.{AreOther, asked_by, value_line, words_of};
 ghost use Rattle.kdl_tool.specs.Runs.{IsUsage, IsInput, Output, Ran, WritesNothing, Flagged, Answered, AreNoDocument, IsDone, is_read_failed, is_write_failed, is_unread_failed};
 ghost use Rattle.kdl_tool.specs.Reports.{status_of, report_of, line, diagnostic_line, lines_of};
 ghost use Rattle.kdl_tool.specs.Writing.{Writes};
@@ -210,8 +210,7 @@ fn value_line(
     name: &str,
 ) -> Result<Option<String>, AllocError>
     ensures { IfOk result (λ o. option_map string_bytes o
-        ≡ value_line (first_argument (chars name.now)
-        (document_data (document_tree document.now)))) }
+        ≡ value_line (said_arg (chars name.now) (document_says document.now))) }
 {
     let Some(value) = document.get_arg(name) else {
         return Ok(None);

@@ -1,1 +1,37 @@
 //! The piece of a refused text that a diagnostic points at.
+
+ghost use Rattle.kdl.specs.Words.{Tells};
+
+use kdl::{KdlDocument, KdlError, ParseFailure};
+use std::alloc::{AllocError, Global};
+
+/// The piece of the text at the first fault.
+#[tactic(auto, using(kdl_laws::proofs::PiecesOfText::told_within, kdl_laws::proofs::PiecesOfText::told_begins, kdl_laws::proofs::PiecesOfText::told_ends))]
+pub fn first_piece<'a>(text: &'a str, error: &KdlError) -> &'a str
+    requires { Tells text.now error.now }
+{
+    let at = error.diagnostics[0].span;
+    &text[at.offset..at.offset + at.len]
+}
+
+/// The piece of the text at the first fault, none where the text is a document.
+pub fn refusal<'a>(alloc: Global, text: &'a str) -> Result<Option<&'a str>, AllocError> {
+    match KdlDocument::parse(alloc, text) {
+        Ok(_) => Ok(None),
+        Err(ParseFailure::Syntax(error)) => Ok(Some(first_piece(text, &error))),
+        Err(ParseFailure::Memory) => Err(AllocError),
+    }
+}
+
+/// The pieces of the text at all faults.
+#[tactic(auto, using(kdl_laws::proofs::PiecesOfText::told_within, kdl_laws::proofs::PiecesOfText::told_begins, kdl_laws::proofs::PiecesOfText::told_ends))]
+pub fn pieces<'a>(alloc: Global, text: &'a str, error: &KdlError) -> Result<Vec<&'a str>, AllocError>
+    requires { Tells text.now error.now }
+{
+    let mut found = Vec::new(alloc);
+    for diagnostic in &error.diagnostics {
+        let at = diagnostic.span;
+        found.push(&text[at.offset..at.offset + at.len])?;
+    }
+    Ok(found)
+}

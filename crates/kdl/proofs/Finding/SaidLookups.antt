@@ -24,9 +24,10 @@ use Rattle.kdl_parts.specs.declared.key.NodeKey.{NodeKey}
 use Rattle.kdl_parts.specs.declared.key.NodeKey.TheVariants.{Key, Index}
 use Rattle.kdl_parts.proofs.EntryLookups.{same_bytes}
 use Rattle.kdl.specs.DocumentLookups.{argument_named, argument_value, arguments_of, dash_arguments, dash_arguments_of, first_argument, is_node_named, node_named, nodes_of}
+use Rattle.kdl.specs.Finds.{FindsSame, GivesArgument, GivesProperty, NodeFindsSame}
 use Rattle.kdl.specs.Iterators.{child_nodes, nodes_in}
 use Rattle.kdl.specs.Lookups.{entries_of, found_entry, found_value, property_place, property_value, value_of}
-use Rattle.kdl.specs.Said.{is_argument_of, is_node_of, is_property_of, last_property, nodes_inside, nth_argument, said_arg, said_args, said_argument, said_arguments, said_children, said_dash_args, said_dashes, said_entries, said_entry, said_name, said_node, said_nodes, said_property, said_type, said_value}
+use Rattle.kdl.specs.Said.{is_argument_of, is_node_of, is_property_of, last_property, nodes_inside, nth_argument, said_child_nodes, said_arg, said_args, said_argument, said_arguments, said_children, said_dash_args, said_dashes, said_entries, said_entry, said_name, said_node, said_nodes, said_property, said_type, said_value}
 use Rattle.kdl.specs.Tree.{document_says, document_tree, node_says, nodes_tree}
 use Rattle.kdl.specs.declared.node.KdlNode.{KdlNode}
 use Rattle.kdl.specs.declared.document.KdlDocument.{KdlDocument}
@@ -131,8 +132,8 @@ pub record Tests (s : List ℕ) (q : Text → Bool) : Type 0 where
 pub same_chars : (s : List ℕ) → IsUtf8 s → Tests s (λ t. same_text t (chars s))
 same_chars s v = record {
   same = λ b u.
-    let texts = bytes_eq-Decides (chars b) (chars s) in
-    one_answer _ _ (bytes_eq-Decides b s) (λ t. same_bytes b s u v (texts.0 t), λ e. texts.1 (ap chars e));
+      let texts = bytes_eq-Decides (chars b) (chars s) in
+      one_answer _ _ (bytes_eq-Decides b s) (λ t. same_bytes b s u v (texts.0 t), λ e. texts.1 (ap chars e));
 }
 
 -- whatever bytes the test is of, it is one of characters
@@ -247,7 +248,7 @@ nodes_said d = listed (nodes_of d) ∙ ap (λ t. said_nodes (document_data t)) (
 abbrev nodes_or_none : Option nodes'.Nodes → List nodes'.Node
 nodes_or_none o = unwrap_or (option_map said_nodes o) []
 
-pub child_nodes_said : (n : KdlNode) → map node_says (child_nodes n) ≡ unwrap_or (option_map said_nodes (said_children (node_says n))) []
+pub child_nodes_said : (n : KdlNode) → map node_says (child_nodes n) ≡ said_child_nodes (node_says n)
 child_nodes_said n = go (out-KdlNode n).children ∙ ap nodes_or_none (children_said n)
   where
     go : (o : Option KdlDocument) → map node_says (nodes_in o) ≡ nodes_or_none (option_map document_says o)
@@ -290,7 +291,7 @@ pub dashes_said : (n : KdlNode) → dash_arguments (child_nodes n) ≡ said_dash
 dashes_said n =
     given_mapped node_says argument_value (said_argument 0) argument_value_said (filter (is_node_named (codes "-")) (child_nodes n))
     ∙ ap (filter_map (said_argument 0))
-      (filter_mapped node_says (is_node_named (codes "-")) (is_node_of (codes "-")) (named_tested (codes "-") (λ t. same_text t (codes "-")) dash) (child_nodes n) ∙ ap (filter (is_node_of (codes "-"))) (child_nodes_said n))
+    (filter_mapped node_says (is_node_named (codes "-")) (is_node_of (codes "-")) (named_tested (codes "-") (λ t. same_text t (codes "-")) dash) (child_nodes n) ∙ ap (filter (is_node_of (codes "-"))) (child_nodes_said n))
 
 abbrev dashes_all : Option nodes'.Node → List Value
 dashes_all o = unwrap_or (option_map said_dashes o) []
@@ -309,30 +310,51 @@ pub dash_args_said : (s : List ℕ) (d : KdlDocument) → IsUtf8 s → dash_argu
 dash_args_said s d u = dashes_in (node_named s d) ∙ ap dashes_all (node_said s d u)
 
 -- so documents, and nodes, that say the same are the same to each look-up, whatever bytes it asks for
-pub same_node : (s : List ℕ) (d e : KdlDocument) → document_says d ≡ document_says e → option_map node_says (node_named s d) ≡ option_map node_says (node_named s e)
+same_node : (s : List ℕ) (d e : KdlDocument) → document_says d ≡ document_says e → option_map node_says (node_named s d) ≡ option_map node_says (node_named s e)
 same_node s d e h =
     let t = same_encoded s in
     node_tested s _ t d ∙ ap (λ x. find (λ n. same_text (encodes (said_name n)) s) (said_nodes x)) h ∙ sym (node_tested s _ t e)
 
-pub same_argument : (s : List ℕ) (d e : KdlDocument) → document_says d ≡ document_says e → value_of (argument_named s d) ≡ value_of (argument_named s e)
+same_argument : (s : List ℕ) (d e : KdlDocument) → document_says d ≡ document_says e → value_of (argument_named s d) ≡ value_of (argument_named s e)
 same_argument s d e h = argument_in (node_named s d) ∙ ap said_in (same_node s d e h) ∙ sym (argument_in (node_named s e))
 
-pub same_arguments : (s : List ℕ) (d e : KdlDocument) → document_says d ≡ document_says e → arguments_of (node_named s d) ≡ arguments_of (node_named s e)
+same_arguments : (s : List ℕ) (d e : KdlDocument) → document_says d ≡ document_says e → arguments_of (node_named s d) ≡ arguments_of (node_named s e)
 same_arguments s d e h = arguments_in (node_named s d) ∙ ap all_in (same_node s d e h) ∙ sym (arguments_in (node_named s e))
 
-pub same_dash_arguments : (s : List ℕ) (d e : KdlDocument) → document_says d ≡ document_says e → dash_arguments_of (node_named s d) ≡ dash_arguments_of (node_named s e)
+same_dash_arguments : (s : List ℕ) (d e : KdlDocument) → document_says d ≡ document_says e → dash_arguments_of (node_named s d) ≡ dash_arguments_of (node_named s e)
 same_dash_arguments s d e h = dashes_in (node_named s d) ∙ ap dashes_all (same_node s d e h) ∙ sym (dashes_in (node_named s e))
 
-pub same_value : (key : NodeKey) (n m : KdlNode) → node_says n ≡ node_says m → found_value key n ≡ found_value key m
+same_value : (key : NodeKey) (n m : KdlNode) → node_says n ≡ node_says m → found_value key n ≡ found_value key m
 same_value key n m h = value_said key n ∙ ap (said_value (sought key)) h ∙ sym (value_said key m)
 
-pub same_property : (s : List ℕ) (n m : KdlNode) → node_says n ≡ node_says m → property_value s n ≡ property_value s m
+same_property : (s : List ℕ) (n m : KdlNode) → node_says n ≡ node_says m → property_value s n ≡ property_value s m
 same_property s n m h =
     let t = same_encoded s in
     let said = λ (k : KdlNode). value_of_says (there (property_place s k) (entries_of k)) ∙ ap (option_map value_in) (property_tested s _ t k) in
     said n ∙ ap (λ x. option_map value_in (last_or None (filter (is_tested (λ t. same_text (encodes t) s)) (said_entries x)))) h ∙ sym (said m)
 
 -- the same of what a call gives
+pub got_name : (n : KdlNode) (i : KdlIdentifier) → i ≡ (out-KdlNode n).name → (identifier_tree i).value ≡ said_name (node_says n)
+got_name n i h = ap (λ (k : KdlIdentifier). (identifier_tree k).value) h ∙ name_said n
+
+pub got_type : (n : KdlNode) (r : Option (Bor KdlIdentifier)) → option_map (λ t. t.now) r ≡ (out-KdlNode n).ty → option_map (λ t. (identifier_tree t.now).value) r ≡ said_type (node_says n)
+got_type n r h =
+    value_mapped (λ t. t.now) (λ (i : KdlIdentifier). (identifier_tree i).value) r
+    ∙ value_mapped identifier_tree (λ (i : Identifier). i.value) (option_map (λ t. t.now) r)
+    ∙ ap (λ o. option_map (λ (i : Identifier). i.value) (option_map identifier_tree o)) h ∙ type_said n
+
+pub got_entries : (n : KdlNode) (es : List KdlEntry) → es ≡ entries_of n → map (λ e. entry_data (entry_tree e)) es ≡ said_entries (node_says n)
+got_entries n es h = ap (map entry_says) h ∙ entries_said n
+
+pub got_children : (n : KdlNode) (r : Option (Bor KdlDocument)) → option_map (λ d. d.now) r ≡ (out-KdlNode n).children → option_map (λ d. document_says d.now) r ≡ said_children (node_says n)
+got_children n r h = value_mapped (λ d. d.now) document_says r ∙ ap (option_map document_says) h ∙ children_said n
+
+pub got_child_nodes : (n : KdlNode) (ns : List KdlNode) → ns ≡ child_nodes n → map node_says ns ≡ said_child_nodes (node_says n)
+got_child_nodes n ns h = ap (map node_says) h ∙ child_nodes_said n
+
+pub got_nodes : (d : KdlDocument) (ns : List KdlNode) → ns ≡ nodes_of d → map node_says ns ≡ said_nodes (document_says d)
+got_nodes d ns h = ap (map node_says) h ∙ nodes_said d
+
 pub got_node : (s : List ℕ) (d : KdlDocument) (r : Option (Bor KdlNode)) → IsUtf8 s → option_map (λ n. n.now) r ≡ node_named s d → option_map (λ n. node_says n.now) r ≡ said_node (chars s) (document_says d)
 got_node s d r u h = value_mapped (λ n. n.now) node_says r ∙ ap (option_map node_says) h ∙ node_said s d u
 
@@ -353,3 +375,37 @@ got_value key n r h = h ∙ value_said key n
 
 pub got_property : (s : List ℕ) (n : KdlNode) (b : Bool) → IsUtf8 s → b ≡ is_some (property_place s n) → b ≡ is_some (said_property (chars s) (node_says n))
 got_property s n b u h = h ∙ has_said s n u
+
+same_arguments_in : (n m : KdlNode) → node_says n ≡ node_says m → arguments (entries_of n) ≡ arguments (entries_of m)
+same_arguments_in n m h = arguments_said n ∙ ap said_arguments h ∙ sym (arguments_said m)
+
+same_children : (n m : KdlNode) → node_says n ≡ node_says m → map node_says (child_nodes n) ≡ map node_says (child_nodes m)
+same_children n m h = child_nodes_said n ∙ ap (λ x. nodes_or_none (said_children x)) h ∙ sym (child_nodes_said m)
+
+same_nodes : (d e : KdlDocument) → document_says d ≡ document_says e → map node_says (nodes_of d) ≡ map node_says (nodes_of e)
+same_nodes d e h = nodes_said d ∙ ap said_nodes h ∙ sym (nodes_said e)
+
+pub finds_same : (d e : KdlDocument) → document_says e ≡ document_says d → FindsSame d e
+finds_same d e h = record {
+  node = λ s. same_node s e d h;
+  argument = λ s. same_argument s e d h;
+  arguments = λ s. same_arguments s e d h;
+  dash_arguments = λ s. same_dash_arguments s e d h;
+  nodes = same_nodes e d h;
+}
+
+pub node_finds_same : (n m : KdlNode) → node_says m ≡ node_says n → NodeFindsSame n m
+node_finds_same n m h = record {
+  value = λ key. same_value key m n h;
+  property = λ s. same_property s m n h;
+  arguments = same_arguments_in m n h;
+  name = ap said_name h;
+  children = same_children m n h;
+}
+
+-- what an index gives
+pub got_argument : (i : ℕ) (v : Value) (n : KdlNode) → found_value (Index i) n ≡ Some v → GivesArgument i v n
+got_argument i v n h = record { value = h; said = sym (argument_said i n) ∙ h }
+
+pub got_property_value : (s : List ℕ) (v : Value) (n : KdlNode) → IsUtf8 s → property_value s n ≡ Some v → GivesProperty s v n
+got_property_value s v n u h = record { value = h; said = sym (property_said s n u) ∙ h }

@@ -1,5 +1,6 @@
 //! Layout of documents.
 
+ghost use Rattle.kdl.specs.Finds.{FindsSame};
 ghost use Rattle.kdl.specs.Layout.{DocumentLaidOut, DocumentKeepsNoForm, IndentsBySpaces, document_bare, plain_document};
 ghost use Rattle.kdl.specs.Tree.{document_prints, document_says, document_tree, nodes_tree};
 ghost use Rattle.kdl.specs.declared.document.KdlDocument.{out-KdlDocument};
@@ -37,6 +38,7 @@ impl KdlDocument {
     /// ```
     pub fn autoformat(&mut self) -> Result<(), AllocError>
         ensures data { document_says self.new ≡ document_says self.old }
+        ensures finds { FindsSame self.old self.new }
         ensures kept { document_bare self.new ≡ document_bare self.old }
         ensures formatted { OnOk result (DocumentLaidOut defaults self.old self.new) }
         ensures keeps_none { OnOk result (DocumentKeepsNoForm self.new) }
@@ -61,6 +63,7 @@ impl KdlDocument {
     /// ```
     pub fn autoformat_no_comments(&mut self) -> Result<(), AllocError>
         ensures data { document_says self.new ≡ document_says self.old }
+        ensures finds { FindsSame self.old self.new }
         ensures kept { document_bare self.new ≡ document_bare self.old }
         ensures formatted { OnOk result
             (document_tree self.new ≡ plain_document without_comments self.old) }
@@ -87,6 +90,7 @@ impl KdlDocument {
     /// ```
     pub fn autoformat_config(&mut self, config: &FormatConfig) -> Result<(), AllocError>
         ensures data { document_says self.new ≡ document_says self.old }
+        ensures finds { FindsSame self.old self.new }
         ensures kept { document_bare self.new ≡ document_bare self.old }
         ensures formatted { OnOk result (DocumentLaidOut (settings config.now) self.old self.new) }
         ensures plain { OnOk result (config.now.no_comments ≡ true

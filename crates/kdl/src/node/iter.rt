@@ -4,13 +4,16 @@ ghost use Rattle.kdl.specs.Change.{children_row};
 ghost use Rattle.kdl.specs.Fields.{block_of};
 ghost use Rattle.kdl.specs.Iterators.{block_left, block_name, child_nodes, nodes_in, nodes_left, with_written_block, with_written_entries};
 ghost use Rattle.kdl.specs.Lookups.{entries_of};
+ghost use Rattle.kdl.specs.Said.{said_child_nodes, said_entries};
+ghost use Rattle.kdl.specs.Tree.{node_says};
 ghost use Rattle.kdl.specs.contracts.node.KdlNode.{the_row as node_row};
+ghost use Rattle.kdl_entry.specs.Tree.{entry_data, entry_tree};
 ghost use Rattle.kdl_parts.specs.Iterators.{entries_left, entries_name};
 ghost use Rattle.std.specs.Borrow.{Array, follows, sem};
 ghost use Rattle.std.specs.Iterator.{UpTo, at_most};
 ghost use Rattle.std.specs.Iterator.SizeHint.{IsWithinCount};
 ghost use Rattle.std.specs.Map.Iter.{TakesFirst};
-ghost use Rattle.std.specs.Prelude.{◌≡◌, [], ◌∷◌, IfSome, Some, length};
+ghost use Rattle.std.specs.Prelude.{◌≡◌, [], ◌∷◌, IfSome, Some, length, map};
 ghost use Rattle.std.specs.Slice.Iter.{iter_mut_rest};
 
 use crate::document::KdlDocument;
@@ -30,8 +33,11 @@ impl KdlNode {
     ///     let value = entry.value(); // 1, then 2
     /// }
     /// ```
+    #[tactic(auto, using(crate::proofs::Finding::SaidLookups::got_entries))]
     pub fn iter(&self) -> EntryIter<'_>
-        ensures { result ≡ entries_of self.now }
+        ensures value { result ≡ entries_of self.now }
+        ensures said { map (λ e. entry_data (entry_tree e)) result ≡
+            said_entries (node_says self.now) }
     {
         entry_iter(&self.entries)
     }
@@ -60,8 +66,10 @@ impl KdlNode {
     ///     let name = child.name().value(); // "b", then "c"
     /// }
     /// ```
+    #[tactic(auto, using(crate::proofs::Finding::SaidLookups::got_child_nodes))]
     pub fn iter_children(&self) -> ChildrenIter<'_>
-        ensures { result ≡ child_nodes self.now }
+        ensures value { result ≡ child_nodes self.now }
+        ensures said { map node_says result ≡ said_child_nodes (node_says self.now) }
     {
         match &self.children {
             Some(children) => ChildrenIter(Some(children.nodes().iter())),

@@ -1,6 +1,7 @@
 //! Layout of nodes.
 
 ghost use Rattle.kdl.specs.Change.{with_nodes};
+ghost use Rattle.kdl.specs.Finds.{NodeFindsSame};
 ghost use Rattle.kdl.specs.Iterators.{child_nodes, nodes_in};
 ghost use Rattle.kdl.specs.Internal.Laid.{Laid, LaidBut, filled_block};
 ghost use Rattle.kdl.specs.Layout.{IndentsBySpaces, NodeCommentsStay, NodeLaidOut, NodeKeepsNoForm, node_bare, plain_node};
@@ -44,6 +45,7 @@ impl KdlNode {
     /// ```
     pub fn autoformat(&mut self) -> Result<(), AllocError>
         ensures data { node_says self.new ≡ node_says self.old }
+        ensures finds { NodeFindsSame self.old self.new }
         ensures kept { node_bare self.new ≡ node_bare self.old }
         ensures formatted { OnOk result (NodeLaidOut defaults self.old self.new) }
         ensures keeps_none { OnOk result (NodeKeepsNoForm self.new) }
@@ -67,6 +69,7 @@ impl KdlNode {
     /// ```
     pub fn autoformat_no_comments(&mut self) -> Result<(), AllocError>
         ensures data { node_says self.new ≡ node_says self.old }
+        ensures finds { NodeFindsSame self.old self.new }
         ensures kept { node_bare self.new ≡ node_bare self.old }
         ensures formatted { OnOk result
             (node_tree self.new ≡ plain_node without_comments self.old) }
@@ -94,6 +97,7 @@ impl KdlNode {
     /// ```
     pub fn autoformat_config(&mut self, config: &FormatConfig) -> Result<(), AllocError>
         ensures data { node_says self.new ≡ node_says self.old }
+        ensures finds { NodeFindsSame self.old self.new }
         ensures kept { node_bare self.new ≡ node_bare self.old }
         ensures formatted { OnOk result (NodeLaidOut (settings config.now) self.old self.new) }
         ensures plain { OnOk result (config.now.no_comments ≡ true

@@ -1,26 +1,17 @@
 //! Look-ups of entries by the name of a property, or by the place of an argument.
 
-<<<<<<< HEAD
-ghost use Rattle.kdl.specs.Lookups.{found_entry, found_value, held_value, key_place, property_place, property_value, with_found_entry, with_found_value, HasSameEntries, HasWritten};
+ghost use Rattle.kdl.specs.Finds.{GivesArgument, GivesProperty};
+ghost use Rattle.kdl.specs.Found.{IsArgumentSet, IsSet, value_at};
+ghost use Rattle.kdl.specs.Lookups.{entry_there, found_entry, found_value, held_value, key_place, property_place, property_value, with_found_entry, with_found_value, HasSameEntries, HasWritten};
 ghost use Rattle.kdl.specs.Said.{said_entry, said_property, said_value};
 ghost use Rattle.kdl.specs.Tree.{node_says};
 ghost use Rattle.kdl_entry.specs.Tree.{entry_data, entry_tree};
-ghost use Rattle.kdl_parts.specs.EntryLists.{sought};
-ghost use Rattle.kdl_parts.specs.declared.key.NodeKey.TheVariants.{Index as at_index};
-ghost use Rattle.kdl_value.specs.Tree.{or_null, value_tree};
-ghost use Rattle.std.specs.Borrow.{Lends, LendsIf, LendsSoOk, sem};
-ghost use Rattle.std.specs.Prelude.{◌≡◌, IfOk, IsNone, IsOk, IsSome, OnErr, Some, is_some, option_map};
-ghost use Rattle.std.specs.Str.{chars};
-=======
-ghost use Rattle.kdl.specs.Found.{IsArgumentSet, IsSet, value_at};
-ghost use Rattle.kdl.specs.Lookups.{entry_there, found_entry, found_value, held_value, key_place, property_place, property_value, with_found_entry, with_found_value, HasSameEntries, HasWritten};
-ghost use Rattle.kdl_entry.specs.Tree.{entry_tree};
-ghost use Rattle.kdl_parts.specs.EntryLists.{key_index, key_name};
+ghost use Rattle.kdl_parts.specs.EntryLists.{key_index, key_name, sought};
 ghost use Rattle.kdl_parts.specs.declared.key.NodeKey.TheVariants.{Index as at_index};
 ghost use Rattle.kdl_value.specs.Tree.{or_null, value_tree};
 ghost use Rattle.std.specs.Borrow.{Lends, LendsIf, LendsSoOk, sem};
 ghost use Rattle.std.specs.Prelude.{◌≡◌, IfOk, IfSome, IsNone, IsOk, IsSome, OnErr, Some, is_some, option_map};
->>>>>>> finds
+ghost use Rattle.std.specs.Str.{chars};
 
 use crate::node::KdlNode;
 use kdl_entry::{KdlEntry, KdlValue};
@@ -40,13 +31,10 @@ impl KdlNode {
     #[tactic(auto, using(crate::proofs::Finding::SaidLookups::got_entry))]
     pub fn entry(&self, key: NodeKey) -> Option<&KdlEntry>
         ensures value { option_map (λ e. e.now) result ≡ found_entry key self.now }
-<<<<<<< HEAD
         ensures said { option_map (λ e. entry_data (entry_tree e.now)) result ≡
             said_entry (sought key) (node_says self.now) }
-=======
         ensures by_name { IfSome (key_name key) (λ name. option_map (λ e. e.now) result ≡
             entry_there (property_place name self.now) self.now) }
->>>>>>> finds
     {
         lookup::entry(&self.entries, key)
     }
@@ -61,15 +49,12 @@ impl KdlNode {
     #[tactic(auto, using(crate::proofs::Finding::SaidLookups::got_value))]
     pub fn get(&self, key: NodeKey) -> Option<&KdlValue>
         ensures value { option_map (λ v. value_tree v.now) result ≡ found_value key self.now }
-<<<<<<< HEAD
         ensures said { option_map (λ v. value_tree v.now) result ≡
             said_value (sought key) (node_says self.now) }
-=======
         ensures by_name { IfSome (key_name key) (λ name.
             option_map (λ v. value_tree v.now) result ≡ property_value name self.now) }
         ensures by_index { IfSome (key_index key) (λ i.
             option_map (λ v. value_tree v.now) result ≡ value_at i self.now) }
->>>>>>> finds
     {
         lookup::value(&self.entries, key)
     }
@@ -174,8 +159,9 @@ impl Index<usize> for KdlNode {
 
     ghost can_index = { λ n i. IsSome (key_place (at_index i) n) };
 
-    ghost index_gives = { λ n i v. found_value (at_index i) n ≡ Some (value_tree v) };
+    ghost index_gives = { λ n i v. GivesArgument i (value_tree v) n };
 
+    #[tactic(auto, using(crate::proofs::Finding::SaidLookups::got_argument))]
     fn index(&self, index: usize) -> &KdlValue {
         lookup::argument(&self.entries, index)
     }
@@ -192,8 +178,9 @@ impl<'q> Index<&'q str> for KdlNode {
 
     ghost can_index = { λ n name. IsSome (property_place name.now n) };
 
-    ghost index_gives = { λ n name v. property_value name.now n ≡ Some (value_tree v) };
+    ghost index_gives = { λ n name v. GivesProperty name.now (value_tree v) n };
 
+    #[tactic(auto, using(crate::proofs::Finding::SaidLookups::got_property_value))]
     fn index(&self, name: &'q str) -> &KdlValue {
         lookup::property(&self.entries, name)
     }

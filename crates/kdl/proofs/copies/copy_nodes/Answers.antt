@@ -26,7 +26,7 @@ left-smaller-in-Some-children c =
     let first : c.left.rest.now ≡ c.in-Some.node.now ∷ c.in-Some.behind.now = search rules in
     let has : (out-KdlNode c.in-Some.node.now).children ≡ Some c.in-Some-children.block.now = search rules in
     let pushed : c.push.new.self.items ≡ c.left.above.items ++ o ∷ [] = search rules in
-    omega (arith, block_counted behind c.in-Some.node.now c.in-Some-children.block.now o c.left.above.items has, ap (λ r. count_left behind r c.left.above.items) first, ap (count_left behind c.nodes-rest.result.now) pushed, ap (λ r. count_left behind r (c.left.above.items ++ o ∷ [])) c.nodes-rest.ensures)
+    omega (arith, block_counted behind c.in-Some.node.now c.in-Some-children.block.now o c.left.above.items has, ap (λ r. count_left behind r c.left.above.items) first, ap (count_left behind c.nodes-rest.result.now) pushed, ap (λ r. count_left behind r (c.left.above.items ++ o ∷ [])) c.nodes-rest.ensures.value)
 
 pub left-preserved-in-Some-children : goal.left-preserved-in-Some-children
 left-preserved-in-Some-children c =
@@ -39,7 +39,7 @@ left-preserved-in-Some-children c =
     let made : c.replace-before.new.dest.items ≡ [] = search rules in
     ap (λ os. outermost os (map node_tree c.replace-before.new.dest.items ++ map node_tree c.nodes-rest.result.now)) pushed
     ∙ ap (λ ns. outermost (above ++ o ∷ []) (map node_tree ns ++ map node_tree c.nodes-rest.result.now)) made
-    ∙ ap (λ ns. outermost (above ++ o ∷ []) (map node_tree ns)) c.nodes-rest.ensures
+    ∙ ap (λ ns. outermost (above ++ o ∷ []) (map node_tree ns)) c.nodes-rest.ensures.value
     ∙ block_opened o above has
     ∙ ap (λ b. outermost above (map node_tree b.items ++ (node_tree c.in-Some.node.now ∷ map node_tree c.in-Some.behind.now))) before
     ∙ ap (λ r. outermost above (map node_tree c.left.made.items ++ map node_tree r)) (sym first)

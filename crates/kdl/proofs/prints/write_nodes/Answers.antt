@@ -30,7 +30,7 @@ left-smaller-in-Some-children g c =
     let first : c.left.rest.now ≡ c.in-Some.node.now ∷ c.in-Some.behind.now = search rules in
     let has : (out-KdlNode c.in-Some.node.now).children ≡ Some c.in-Some-children.block.now = search rules in
     let pushed : c.push.new.self.items ≡ c.left.above.items ++ o ∷ [] = search rules in
-    omega (arith, block_counted behind c.in-Some.node.now c.in-Some-children.block.now o c.left.above.items has, ap (λ r. count_left behind r c.left.above.items) first, ap (count_left behind c.nodes-rest.result.now) pushed, ap (λ r. count_left behind r (c.left.above.items ++ o ∷ [])) c.nodes-rest.ensures)
+    omega (arith, block_counted behind c.in-Some.node.now c.in-Some-children.block.now o c.left.above.items has, ap (λ r. count_left behind r c.left.above.items) first, ap (count_left behind c.nodes-rest.result.now) pushed, ap (λ r. count_left behind r (c.left.above.items ++ o ∷ [])) c.nodes-rest.ensures.value)
 
 pub left-preserved-in-Some-children : goal.left-preserved-in-Some-children
 left-preserved-in-Some-children g c = λ plain.
@@ -43,7 +43,7 @@ left-preserved-in-Some-children g c = λ plain.
     let pushed : c.push.new.self.items ≡ above.items ++ o ∷ [] = search rules in
     let at : c.len.result ≡ length above.items = search rules in
     written_more _ _ _ _ p.0 _ _ _ _ p.1 p.2 (c.write_opening.ensures p.1.plain done)
-    (ap (λ r. opening o.node.now o.block.now c.len.result ++ print_left r c.push.new.self.items) c.nodes-rest.ensures
+    (ap (λ r. opening o.node.now o.block.now c.len.result ++ print_left r c.push.new.self.items) c.nodes-rest.ensures.value
     ∙ ap (λ os. opening o.node.now o.block.now c.len.result ++ print_left (out-KdlDocument o.block.now).nodes.items os) pushed
     ∙ block_left o above.items c.len.result at has
     ∙ ap (λ r. print_left r above.items) (sym first))

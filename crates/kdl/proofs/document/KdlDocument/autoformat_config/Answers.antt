@@ -1,10 +1,15 @@
 use Rattle.kdl.specs.Tree.{document_tree}
 use Rattle.kdl_fmt.specs.Config.{settings}
+use Rattle.kdl.proofs.Finding.SaidLookups.{finds_same}
 use Rattle.kdl.proofs.LayOut.LayoutCalls.{same_data, plain, levels, keeps_none, derived, comments, prints, reads}
 use Rattle.kdl.proofs.document.KdlDocument.autoformat_config.Goals as goal
 
 pub returns-clause-data : goal.returns-clause-data
 returns-clause-data c = same_data (document_tree c.lay_out.new.self) (document_tree c.args.self.now) c.lay_out.ensures.kept
+
+pub returns-clause-finds : goal.returns-clause-finds
+returns-clause-finds c =
+    finds_same c.args.self.now c.lay_out.new.self (same_data (document_tree c.lay_out.new.self) (document_tree c.args.self.now) c.lay_out.ensures.kept)
 
 pub returns-clause-plain : goal.returns-clause-plain
 returns-clause-plain c =

@@ -1,6 +1,9 @@
 use Rattle.std.specs.Str.{chars}
-use Rattle.kdl.proofs.ParseAnswers.{kept, former, edited}
+use Rattle.kdl.proofs.ParseAnswers.{keeps_none, kept, former, edited}
 use Rattle.kdl.proofs.document.KdlDocument.parse_counted.Goals as goal
+
+pub returns-clause-keeps_none : goal.returns-clause-keeps_none
+returns-clause-keeps_none c = keeps_none (chars c.args.text.now) c.parse_from.result c.parse_from.ensures.answers
 
 pub returns-clause-kept : goal.returns-clause-kept
 returns-clause-kept c x i s = kept (chars c.args.text.now) x (c.parse_from.ensures.refused s) i

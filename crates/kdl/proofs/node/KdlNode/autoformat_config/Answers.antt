@@ -1,10 +1,15 @@
 use Rattle.kdl.specs.Tree.{node_tree}
 use Rattle.kdl_fmt.specs.Config.{settings}
+use Rattle.kdl.proofs.Finding.SaidLookups.{node_finds_same}
 use Rattle.kdl.proofs.LayOut.LayoutCalls.{same_node_data, node_plain, node_levels, node_keeps_none_then, node_derives, node_comments, node_prints, node_reads}
 use Rattle.kdl.proofs.node.KdlNode.autoformat_config.Goals as goal
 
 pub returns-clause-data : goal.returns-clause-data
 returns-clause-data c = same_node_data (node_tree c.lay_out.new.self) (node_tree c.args.self.now) c.lay_out.ensures.kept
+
+pub returns-clause-finds : goal.returns-clause-finds
+returns-clause-finds c =
+    node_finds_same c.args.self.now c.lay_out.new.self (same_node_data (node_tree c.lay_out.new.self) (node_tree c.args.self.now) c.lay_out.ensures.kept)
 
 pub returns-clause-plain : goal.returns-clause-plain
 returns-clause-plain c =

@@ -1,6 +1,9 @@
 use Rattle.std.specs.Str.{chars}
-use Rattle.kdl.proofs.ParseAnswers.{node_kept, node_former}
+use Rattle.kdl.proofs.ParseAnswers.{node_keeps_none, node_kept, node_former}
 use Rattle.kdl.proofs.node.KdlNode.parse.Goals as goal
+
+pub returns-clause-keeps_none : goal.returns-clause-keeps_none
+returns-clause-keeps_none c = node_keeps_none (chars c.args.text.now) c.read_node.result c.read_node.ensures.laid
 
 pub returns-clause-kept : goal.returns-clause-kept
 returns-clause-kept c x i s = node_kept (chars c.args.text.now) x (c.read_node.ensures.refused s) i

@@ -1,0 +1,68 @@
+-- Spans in a text cut it between characters.
+use Rattle.std.specs.Prelude.{All}
+use Rattle.std.proofs.Common.{get_or, ◌≡◌, ℕ, ◌+◌, ◌≤◌, ◌<◌, List, [], ◌∷◌, ◌++◌, length, length-append, refl, ap, ◌∙◌, sym, subst, true, append_assoc}
+use Rattle.std.proofs.lemmas.Bool.{and_parts}
+use Rattle.std.proofs.lemmas.Str.{IsCharBoundary-at_seam, encodes-append, encodes-chars, scalars-chars, length-encode}
+use Rattle.std.specs.Char.{len_utf8}
+use Rattle.std.specs.Str.{IsCharBoundary, IsUtf8, chars}
+use lib.Utf8.{encodes, encode, scalar, scalars}
+use Rattle.std.proofs.lemmas.List.Elements.{All-get_or, All-weaker}
+use Rattle.kdl_text.specs.Chars.{Text}
+use Rattle.kdl_text.specs.Failures.{IsToldOf, Tells}
+use Rattle.kdl_text.specs.declared.error.KdlDiagnostic.{KdlDiagnostic}
+use Rattle.kdl_text.specs.declared.error.KdlError.{KdlError}
+use Rattle.kdl_laws.specs.Pieces.{IsPiece}
+use Rattle.kdl_text.specs.Spans.{InText, bytes}
+use Rattle.kdl_text.specs.declared.span.SourceSpan.{SourceSpan}
+
+length-encodes : (s : Text) → length (encodes s) ≡ bytes s
+length-encodes [] = refl
+length-encodes (c ∷ s) = length-append (encode c) (encodes s) ∙ ap (λ n. n + length (encodes s)) (length-encode c) ∙ ap (λ n. len_utf8 c + n) (length-encodes s)
+
+scalars_behind : (xs ys : List ℕ) → scalars (xs ++ ys) ≡ true → scalars ys ≡ true
+scalars_behind [] ys h = h
+scalars_behind (x ∷ xs) ys h = scalars_behind xs ys (and_parts (scalar x) (scalars (xs ++ ys)) h).1
+
+utf8_of : (cs : Text) → scalars cs ≡ true → IsUtf8 (encodes cs)
+utf8_of cs h = (cs, (h, refl))
+
+pub is_piece : (text : List ℕ) (span : SourceSpan) → IsUtf8 text → InText (chars text) span → IsPiece text span
+is_piece text span u (before, piece, behind, whole, offset, len) =
+    let ok : scalars (before ++ piece ++ behind) ≡ true = subst (λ (t : Text). scalars t ≡ true) whole (scalars-chars text u) in
+    let last : scalars behind ≡ true = scalars_behind (before ++ piece) behind ok in
+    let ok' : scalars (before ++ (piece ++ behind)) ≡ true = subst (λ (t : Text). scalars t ≡ true) (append_assoc before piece behind) ok in
+    let later : scalars (piece ++ behind) ≡ true = scalars_behind before (piece ++ behind) ok' in
+    let all : text ≡ encodes (before ++ piece ++ behind) = sym (encodes-chars text u) ∙ ap encodes whole in
+    let seam : text ≡ encodes (before ++ piece) ++ encodes behind = all ∙ encodes-append (before ++ piece) behind in
+    let seam' : text ≡ encodes before ++ encodes (piece ++ behind) = all ∙ ap encodes (append_assoc before piece behind) ∙ encodes-append before (piece ++ behind) in
+    let long : length (encodes (before ++ piece)) ≡ span.offset + span.len =
+    ap length (encodes-append before piece) ∙ length-append (encodes before) (encodes piece) ∙ ap (λ n. n + length (encodes piece)) (length-encodes before ∙ sym offset) ∙ ap (λ n. span.offset + n) (length-encodes piece ∙ sym len) in
+    let short : length (encodes before) ≡ span.offset = length-encodes before ∙ sym offset in
+    let e : IsCharBoundary text (span.offset + span.len) = subst (λ (n : ℕ). IsCharBoundary text n) long (IsCharBoundary-at_seam text (encodes (before ++ piece)) (encodes behind) seam (utf8_of behind last)) in
+    record {
+      within = e.0;
+      begins = subst (λ (n : ℕ). IsCharBoundary text n) short (IsCharBoundary-at_seam text (encodes before) (encodes (piece ++ behind)) seam' (utf8_of (piece ++ behind) later));
+      ends = e;
+    }
+
+-- so do those of the diagnostics of an error
+all_pieces : (text : List ℕ) (ds : List KdlDiagnostic) → IsUtf8 text → All (IsToldOf text) ds → All (λ d. IsPiece text d.span) ds
+all_pieces text ds u h = All-weaker (IsToldOf text) (λ d. IsPiece text d.span) (λ d t. is_piece text d.span u t.span) ds h
+
+pub told_pieces : (text : List ℕ) (e : KdlError) → IsUtf8 text → Tells text e → All (λ d. IsPiece text d.span) e.diagnostics.items
+told_pieces text e u t = all_pieces text e.diagnostics.items u t.each
+
+-- each one alone
+told_piece : (text : List ℕ) (e : KdlError) (i : ℕ) (d : KdlDiagnostic) → IsUtf8 text → Tells text e → i < length e.diagnostics.items → d ≡ get_or e.diagnostics.items i d → IsPiece text d.span
+told_piece text e i d u t b h =
+    let told : IsToldOf text (get_or e.diagnostics.items i d) = All-get_or (IsToldOf text) e.diagnostics.items i d b t.each in
+    is_piece text d.span u (subst (λ (x : KdlDiagnostic). IsToldOf text x) (sym h) told).span
+
+pub told_within : {text : List ℕ} {e : KdlError} {i : ℕ} {d : KdlDiagnostic} → IsUtf8 text → Tells text e → i < length e.diagnostics.items → d ≡ get_or e.diagnostics.items i d → d.span.offset + d.span.len ≤ length text
+told_within u t b h = (told_piece _ _ _ _ u t b h).within
+
+pub told_begins : {text : List ℕ} {e : KdlError} {i : ℕ} {d : KdlDiagnostic} → IsUtf8 text → Tells text e → i < length e.diagnostics.items → d ≡ get_or e.diagnostics.items i d → IsCharBoundary text d.span.offset
+told_begins u t b h = (told_piece _ _ _ _ u t b h).begins
+
+pub told_ends : {text : List ℕ} {e : KdlError} {i : ℕ} {d : KdlDiagnostic} → IsUtf8 text → Tells text e → i < length e.diagnostics.items → d ≡ get_or e.diagnostics.items i d → IsCharBoundary text (d.span.offset + d.span.len)
+told_ends u t b h = (told_piece _ _ _ _ u t b h).ends
