@@ -2,11 +2,11 @@
 use Rattle.std.specs.List.{list_any}
 use Rattle.std.specs.Option.{option_map_or}
 use Rattle.std.specs.Prelude.{◌≡◌, ℕ, Bool, true, not, ◌&&◌, ◌||◌, nat_le, if◌then◌else◌, List, [], ◌∷◌, ◌++◌, Contains, count_by, filter, find, map, Option, Some, is_some, codes}
-use Rattle.kdl.specs.Words.{Value, entries_of, has_name, integer_value, is_argument, is_node_named, nodes_of, text_value, truth_value, value_tree}
+use Rattle.kdl.specs.Words.{Value, block_of as child_block, entries_of, entry_tree, has_name, integer_value, is_argument, is_node_named, node_span_of, nodes_of, text_value, truth_value}
 use Rattle.kdl.specs.declared.KdlEntry.{KdlEntry}
 use Rattle.kdl.specs.declared.SourceSpan.{SourceSpan}
 use Rattle.kdl.specs.declared.document.KdlDocument.{KdlDocument}
-use Rattle.kdl.specs.declared.node.KdlNode.{KdlNode, out-KdlNode}
+use Rattle.kdl.specs.declared.node.KdlNode.{KdlNode}
 use Rattle.use_schema.specs.declared.schema.Breach.{Breach}
 use Rattle.use_schema.specs.declared.schema.Due.{Due}
 use Rattle.use_schema.specs.declared.schema.Kind.{Kind}
@@ -21,7 +21,7 @@ is_kind Boolean v = is_some (truth_value v)
 
 -- the entry is a property of that name and kind
 abbrev pub is_property : KdlEntry → List ℕ → Kind → Bool
-is_property e name kind = has_name name e && is_kind kind (value_tree e.value)
+is_property e name kind = has_name name e && is_kind kind (entry_tree e).value
 
 -- the entry is a property that the rule has
 abbrev pub is_listed : Rule → KdlEntry → Bool
@@ -53,11 +53,11 @@ breach_view b = record { span = b.span; what = b.what.now }
 
 -- the breach of a node that has too few arguments, or too many
 abbrev pub argument_breaches : Rule → KdlNode → List BreachView
-argument_breaches r n = if has_arguments r n then [] else record { span = (out-KdlNode n).span; what = codes "too few or too many arguments" } ∷ []
+argument_breaches r n = if has_arguments r n then [] else record { span = node_span_of n; what = codes "too few or too many arguments" } ∷ []
 
 -- those of the entries that are not allowed in such a node
 abbrev pub entry_breaches : Rule → List KdlEntry → List BreachView
-entry_breaches r es = map (λ e. record { span = e.span; what = codes "a property that is not known, or of another type" }) (filter (λ e. not (is_entry r e)) es)
+entry_breaches r es = map (λ e. record { span = (entry_tree e).span; what = codes "a property that is not known, or of another type" }) (filter (λ e. not (is_entry r e)) es)
 
 -- both, of a node that has that rule
 abbrev pub own_breaches : Rule → KdlNode → List BreachView
@@ -67,12 +67,12 @@ own_breaches r n = argument_breaches r n ++ entry_breaches r (entries_of n)
 abbrev pub breaches_at : List Rule → Rule → KdlNode → List BreachView
 breaches_at rules above n =
     if is_allowed above n then option_map_or (λ r. own_breaches r n) (rule_of rules n) []
-    else record { span = (out-KdlNode n).span; what = codes "a node that may not stand here" } ∷ []
+    else record { span = node_span_of n; what = codes "a node that may not stand here" } ∷ []
 
 -- a breach among nodes in a block of the rule `above`: of one of them, or in the block of one that is allowed there and has a rule
 pub data IsBreach (rules : List Rule) : Rule → List KdlNode → BreachView → Type 0 where
   at : {above : Rule} {ns : List KdlNode} {n : KdlNode} {b : BreachView} → Contains ns n → Contains (breaches_at rules above n) b → IsBreach rules above ns b
-  below : {above r : Rule} {ns : List KdlNode} {n : KdlNode} {d : KdlDocument} {b : BreachView} → Contains ns n → is_allowed above n ≡ true → rule_of rules n ≡ Some r → (out-KdlNode n).children ≡ Some d
+  below : {above r : Rule} {ns : List KdlNode} {n : KdlNode} {d : KdlDocument} {b : BreachView} → Contains ns n → is_allowed above n ≡ true → rule_of rules n ≡ Some r → child_block n ≡ Some d
       → IsBreach rules r (nodes_of d) b → IsBreach rules above ns b
 
 -- a breach in the document, in which the first rule is that of the top; without rules there is none
@@ -91,4 +91,4 @@ block_of d = record { nodes = d.nodes.now; above = d.above.now }
 -- the block of a node, where it is to be checked
 abbrev pub blocks_at : List Rule → Rule → KdlNode → List Block
 blocks_at rules above n =
-    if is_allowed above n then option_map_or (λ r. option_map_or (λ d. record { nodes = nodes_of d; above = r } ∷ []) (out-KdlNode n).children []) (rule_of rules n) [] else []
+    if is_allowed above n then option_map_or (λ r. option_map_or (λ d. record { nodes = nodes_of d; above = r } ∷ []) (child_block n) []) (rule_of rules n) [] else []

@@ -1,10 +1,10 @@
 -- Settings, and what is wrong with them, by what a document says.
 use Rattle.std.specs.Option.{ok_or}
 use Rattle.std.specs.Prelude.{ℕ, ℤ, pos, Bool, ◌&&◌, int_le, if◌then◌else◌, List, [], ◌∷◌, ◌++◌, Option, Some, None, option_and_then, option_map, unwrap_or, Result, Ok, Err, codes}
-use Rattle.kdl.specs.Words.{Text, Value, argument_named, integer_value, text_value, truth_value, value_tree}
+use Rattle.kdl.specs.Words.{Text, Value, argument_named, document_span_of, entry_tree, integer_value, text_value, truth_value}
 use Rattle.kdl.specs.declared.KdlEntry.{KdlEntry}
 use Rattle.kdl.specs.declared.SourceSpan.{SourceSpan}
-use Rattle.kdl.specs.declared.document.KdlDocument.{KdlDocument, out-KdlDocument}
+use Rattle.kdl.specs.declared.document.KdlDocument.{KdlDocument}
 use Rattle.use_settings.specs.declared.settings.Fault.{Fault}
 
 -- a whole number from 1 to the greatest
@@ -13,7 +13,7 @@ number_value most v = option_and_then (λ n. if int_le (pos 1) n && int_le n mos
 
 -- what is read of an entry: its value, or else its span
 abbrev pub read_at : {A : Type 0} → (Value → Option A) → KdlEntry → Result A SourceSpan
-read_at read e = ok_or (read (value_tree e.value)) e.span
+read_at read e = ok_or (read (entry_tree e).value) (entry_tree e).span
 
 -- what is read of the first argument of the first node of that name, where there is one
 abbrev pub setting : {A : Type 0} → (Value → Option A) → List ℕ → KdlDocument → Option (Result A SourceSpan)
@@ -39,7 +39,7 @@ faults_in wants _ = []
 
 -- the host, which has to be there
 abbrev pub host : KdlDocument → Option (Result Text SourceSpan)
-host d = Some (unwrap_or (setting text_value (codes "host") d) (Err (out-KdlDocument d).span))
+host d = Some (unwrap_or (setting text_value (codes "host") d) (Err (document_span_of d)))
 
 -- the port
 abbrev pub port : KdlDocument → Option (Result ℤ SourceSpan)
