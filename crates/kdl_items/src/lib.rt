@@ -3,7 +3,9 @@
 #![tactic(auto)]
 
 mod dropped;
+mod ends;
 mod item;
+mod lacks;
 mod machine;
 mod places;
 mod slices;
@@ -12,6 +14,7 @@ mod terminator;
 mod written;
 
 pub use item::{Item, Place};
+pub use lacks::{gap_lacks, place_lacks, terminator_lacks};
 pub use places::{gap_items, place_items};
 pub use terminator::line_comment;
 pub use written::{push_lines, push_tail, push_text};
