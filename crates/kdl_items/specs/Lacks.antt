@@ -2,27 +2,14 @@
 use Rattle.std.specs.Prelude.{ℕ, ◌<◌, Bool, true, false, [], ◌∷◌, ◌++◌, Option, Some, None}
 use Rattle.kdl_text.specs.Chars.{Text, times}
 use Rattle.kdl_entry.specs.Places.{EntryLeading}
-use Rattle.kdl_grammar.specs.Data.{Nodes}
-use Rattle.kdl_grammar.specs.Grammar.{Terminator, Gap, AreNodes}
+use Rattle.kdl_grammar.specs.Grammar.{Terminator, Gap}
 use Rattle.kdl_grammar.specs.Places.{BeforeChildren, AfterChildren}
+use Rattle.kdl_grammar.specs.ReadsBack.{Anything, Terminates, AddsNothing}
 use Rattle.kdl_items.specs.Items.{Place, before_entry, before_block, behind_block}
-
--- where nodes end: the text ends, or a `}` follows
-pub data NodesEnd : Text → Type 0 where
-  at_end : NodesEnd []
-  at_close : {r : Text} → NodesEnd (125 ∷ r)
 
 -- so many newlines
 abbrev pub newlines : ℕ → Text
 newlines k = times k 10
-
--- before whatever follows, a text adds nothing to the nodes there
-abbrev pub AddsNothing : Text → Type 0
-AddsNothing t = (r s : Text) (xs : Nodes) → NodesEnd s → AreNodes true r s xs → AreNodes true (t ++ r) s xs
-
--- before whatever follows, a text ends the node before it, and adds nothing to the nodes that follow
-abbrev pub EndsNode : Text → Type 0
-EndsNode t = (r s : Text) (xs : Nodes) → NodesEnd s → AreNodes true r s xs → (v : Text) × Terminator (t ++ r) v × AreNodes true v s xs
 
 -- so many newlines make it hold of a text, and fewer do not
 abbrev pub Lacks : (Text → Type 0) → Text → ℕ → Type 0
@@ -39,7 +26,7 @@ Terminating t = (v : Text) × Terminator t v × Gap true v []
 
 -- a terminator and the gap behind it lack so many newlines; or the text is none
 abbrev pub TerminatorLacks : Text → Option ℕ → Type 0
-TerminatorLacks t (Some k) = Terminating t × EndsNode (t ++ newlines k)
+TerminatorLacks t (Some k) = Terminating t × Terminates Anything (t ++ newlines k)
 TerminatorLacks t None = Terminating t → ⊥
 
 -- a text that is in the place of a node before what follows

@@ -1,5 +1,5 @@
 -- What the first piece of a gap adds to the nodes behind it.
-use Rattle.std.proofs.Common.{◌≡◌, ℕ, ◌<◌, Bool, true, false, ◌&&◌, ◌==◌, if◌then◌else◌, length-append, List, [], ◌∷◌, ◌++◌, length, Option, Some, None, Bor, refl, sym, ap, subst, ◌∙◌, arith, append_assoc, append-nil}
+use Rattle.std.proofs.Common.{◌≡◌, ◌⊎◌, inl, inr, ℕ, ◌<◌, Bool, true, false, ◌&&◌, ◌==◌, if◌then◌else◌, length-append, List, [], ◌∷◌, ◌++◌, length, Option, Some, None, Bor, refl, sym, ap, subst, ◌∙◌, arith, append_assoc, append-nil}
 use Rattle.std.proofs.lemmas.Bool.{and_parts, eqb-true}
 use Rattle.std.specs.Str.{chars}
 use Rattle.kdl_text.specs.Chars.{Text, is_newline_char, begins, begins_two, starts, Newline, crlf, one, Star, none, more, Plus, plus}
@@ -17,9 +17,10 @@ use Rattle.kdl_entry.proofs.Moving.EntryMoves.{move_spaces, move_slashdash, spac
 use Rattle.kdl_grammar.specs.Data.{Node, Nodes}
 use Rattle.kdl_grammar.specs.Grammar.{Terminator, IsNode, named, Gap, no_gap, line_space, dropped_node, AreNodes, last_gap, node_then}
 use Rattle.kdl_grammar.specs.Internal.Control.{Control, at, node_slashdash}
+use Rattle.kdl_grammar.specs.ReadsBack.{NodesEnd, AddsNothing}
 use Rattle.kdl_grammar.proofs.Moving.Moves.{terminator_end}
 use Rattle.kdl_items.specs.Items.{Item, line_end, ItemEnd, EndsTight, GapItems}
-use Rattle.kdl_items.specs.Lacks.{NodesEnd, at_end, at_close, newlines, AddsNothing}
+use Rattle.kdl_items.specs.Lacks.{newlines}
 use Rattle.kdl_items.specs.Internal.Lacking.{EndsInReturn, IsOpen, EndsAs, HasOpenEnd, semicolon, ended, unended, SpacesLack, Through, PieceEnds}
 use Rattle.kdl_items.specs.Internal.Passed.{Before, EndsAt, AnswersDroppedNode}
 use Rattle.kdl_items.specs.Internal.Passing.{moved, returned, NodePasses, ends, goes}
@@ -54,12 +55,16 @@ lines_gap (more n ns) = line_space n (lines_gap ns)
 lf_space : (r : Text) → LineSpace (10 ∷ r) r
 lf_space r = LineSpace.«break» (Break.newline (lf r))
 
+no_lf_end : {r : Text} → NodesEnd (10 ∷ r) → ⊥
+no_lf_end (inl e) = cc
+no_lf_end (inr (t, e)) = cc
+
 no_lf_node : {r u : Text} {x : Node} → IsNode true (10 ∷ r) u x → ⊥
 no_lf_node {r = r} (named untyped (a_string' p e) d) = let e = (token_det (t_newline (Break.newline (lf r))) (t_string p)).1 in cc
 no_lf_node (named (typed y ss) z d) = elim y [ ]
 
 gap_behind_lf : {r z : Text} → NodesEnd z → Gap true (10 ∷ r) z → Gap true r z
-gap_behind_lf e no_gap = elim e [ ]
+gap_behind_lf e no_gap = absurd (no_lf_end e)
 gap_behind_lf {r = r} {z = z} e (line_space n g) = subst (λ (y : Text). Gap true y z) (line_space_det n (lf_space r)) g
 gap_behind_lf e (dropped_node m x t g) = elim m [ ]
 

@@ -6,8 +6,9 @@ use Rattle.kdl_text.specs.Trivia.{Line, LineComment, line as a_line, Break}
 use Rattle.kdl_text.proofs.Spacing.SpaceUnique.{newline_begins, no_line_comment, break_det}
 use Rattle.kdl_grammar.specs.Data.{Nodes}
 use Rattle.kdl_grammar.specs.Grammar.{Terminator, Gap, no_gap, AreNodes}
+use Rattle.kdl_grammar.specs.ReadsBack.{NodesEnd}
 use Rattle.kdl_items.specs.Items.{line_end}
-use Rattle.kdl_items.specs.Lacks.{NodesEnd, newlines, AddsNothing, EndsNode, GapLacks, Terminating, TerminatorLacks}
+use Rattle.kdl_items.specs.Lacks.{newlines, GapLacks, Terminating, TerminatorLacks}
 use Rattle.kdl_items.specs.Internal.Lacking.{LineEnds}
 use Rattle.kdl_items.specs.declared.ends.Ending.{Ending}
 use Rattle.kdl_items.specs.declared.ends.Ending.TheVariants.{Before, InReturn, Open}
@@ -32,7 +33,7 @@ behind (Terminator.comment l) = elim l [ ]
 
 semicolon_lacks : (r : Text) (o : Option ℕ) → GapLacks r o → TerminatorLacks (59 ∷ r) o
 semicolon_lacks r None f = λ (v, t, g). f (subst (λ (y : Text). Gap true y []) (behind t) g)
-semicolon_lacks r (Some k) (g, f) = ((r, Terminator.semicolon, g), λ w z xs e ds. ((r ++ newlines k) ++ w, Terminator.semicolon, f w z xs e ds))
+semicolon_lacks r (Some k) (g, f) = ((r, Terminator.semicolon, g), λ w z xs a e ds. ((r ++ newlines k) ++ w, Terminator.semicolon, f w z xs e ds))
 
 pub semicolon_gap : (t r : Text) (o : Option ℕ) → t ≡ 59 ∷ r → GapLacks r o → TerminatorLacks t o
 semicolon_gap t r o e g = subst (λ (y : Text). TerminatorLacks y o) (sym e) (semicolon_lacks r o g)
@@ -65,7 +66,7 @@ break_lacks : (t r : Text) (o : Option ℕ) → ((w : Text) → Break (t ++ w) (
 break_lacks t r None b f = λ (v, m, g). f (subst (λ (y : Text). Gap true y []) (break_only (alone Break t r (b [])) m) g)
 break_lacks t r (Some k) b (g, f) = (
   (r, break_terminator (alone Break t r (b [])), g),
-  λ w z xs e ds. (
+  λ w z xs a e ds. (
     r ++ (newlines k ++ w),
     subst (λ (y : Text). Terminator y (r ++ (newlines k ++ w))) (sym (append_assoc t (newlines k) w)) (break_terminator (b (newlines k ++ w))),
     subst (λ (y : Text). AreNodes true y z xs) (append_assoc r (newlines k) w) (f w z xs e ds),
@@ -82,7 +83,7 @@ return_alone t e x n =
     let at_crlf = λ (w : Text). at (10 ∷ w) w (subst (λ (y : Text). Newline (y ++ (10 ∷ w)) w) (sym n) crlf) in
     (
       ([], break_terminator (subst (λ (y : Text). Break y []) (append-nil t) (at_cr [] refl)), no_gap),
-      λ w z xs e ds. go w z xs e ds at_cr at_crlf (begins 10 w) refl,
+      λ w z xs a e ds. go w z xs e ds at_cr at_crlf (begins 10 w) refl,
     )
   where
     go : (w z : Text) (xs : Nodes) → NodesEnd z → AreNodes true w z xs → ((w : Text) → begins 10 w ≡ false → Break (t ++ w) w) → ((w : Text) → Break (t ++ (10 ∷ w)) w) → (b : Bool) → begins 10 w ≡ b
@@ -104,7 +105,7 @@ pub open_alone : (t e : Text) → e ≡ (if begins_two 47 47 t then line_end t e
 open_alone t e x n =
     let b = begins_two 47 47 t in let h = rest_is t e x in (
       ([], open_terminator b t e refl h n, no_gap),
-      λ w z xs f ds. (
+      λ w z xs a f ds. (
         w,
         subst (λ (y : Text). Terminator y w) (sym (append_assoc t (10 ∷ []) w)) (break_terminator (break_at b t e refl h (10 ∷ w) w (subst (λ (y : Text). Newline (y ++ (10 ∷ w)) w) (sym n) (lf w)))),
         ds,

@@ -6,8 +6,9 @@ use Rattle.kdl_text.specs.Chars.{Text, begins, Newline, Star, Plus}
 use Rattle.kdl_text.specs.Trivia.{NodeSpace, Break, LineSpace, ValueEnd}
 use Rattle.kdl_grammar.specs.Data.{Nodes}
 use Rattle.kdl_grammar.specs.Grammar.{Gap, AreNodes}
+use Rattle.kdl_grammar.specs.ReadsBack.{NodesEnd, AddsNothing}
 use Rattle.kdl_items.specs.Items.{Item, Place, PlaceItems, takes_blocks, line_end}
-use Rattle.kdl_items.specs.Lacks.{NodesEnd, newlines, AddsNothing, InPlace}
+use Rattle.kdl_items.specs.Lacks.{newlines, InPlace}
 use Rattle.kdl_items.specs.Internal.Reading.{place_view}
 use Rattle.kdl_items.specs.declared.ends.Ending.{Ending}
 use Rattle.kdl_items.specs.declared.ends.Ending.TheVariants.{Before, InReturn, Open}
