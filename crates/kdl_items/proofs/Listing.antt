@@ -10,3 +10,5 @@ pub mod PlaceReads
 pub mod SpaceReads
 -- A text that is cut at a place in bytes.
 pub mod Cuts
+-- A text has a list of items exactly where it may be in its place.
+pub mod PlaceTexts

@@ -5,6 +5,7 @@ ghost use Rattle.kdl_entry.specs.Internal.Tokens.{newline, semicolon, space};
 ghost use Rattle.kdl_grammar.specs.Internal.Control.{at, finish};
 ghost use Rattle.kdl_items.specs.Internal.Passing.{follows_word, is_word, slashdash_in};
 ghost use Rattle.kdl_items.specs.Items.{ItemEnd};
+ghost use Rattle.kdl_items.specs.Internal.Lacking.{HasOpenEnd};
 ghost use Rattle.kdl_items.specs.Internal.Machine.{machine_view, phase_view};
 ghost use Rattle.kdl_items.specs.Internal.Passed.{Before, BehindPart, AnswersDroppedNode, AnswersDroppedPart, PlaceTakesHeld, of_spaces};
 ghost use Rattle.kdl_items.specs.Internal.Reading.{TakesHeld, place_view};
@@ -22,16 +23,18 @@ use std::alloc::{AllocError, Global};
 
 /// Where a dropped node ends, and where what stands behind it begins, in bytes from behind its `/-`.
 #[derive(Clone, Copy)]
-struct NodeEnd {
+pub(crate) struct NodeEnd {
     item: usize,
-    behind: usize,
+    pub(crate) behind: usize,
+    /// It has no terminator, or a line comment without a newline.
+    pub(crate) is_open: bool,
 }
 
 /// Where a dropped entry or block ends, in bytes from behind its `/-`, and which of the two it is.
 #[derive(Clone, Copy)]
-struct PartEnd {
-    at: usize,
-    is_block: bool,
+pub(crate) struct PartEnd {
+    pub(crate) at: usize,
+    pub(crate) is_block: bool,
 }
 
 fn is_space(kind: &TokenKind) -> bool
@@ -74,13 +77,15 @@ fn node_end(text: &str, token: &Token) -> NodeEnd
     requires ends { (kind_view token.now.kind ≡ newline) ⊎ (kind_view token.now.kind ≡ semicolon) }
     ensures { (i : Text) × ItemEnd token.now.start.rest token.now.end.rest i
         × Before (chars text.now) result.item i
-        × Before (chars text.now) result.behind token.now.end.rest }
+        × Before (chars text.now) result.behind token.now.end.rest
+        × HasOpenEnd token.now.start.rest token.now.end.rest result.is_open }
 {
     let behind = token.end.at();
     if let TokenKind::Semicolon = token.kind {
         return NodeEnd {
             item: behind,
             behind,
+            is_open: false,
         };
     }
     let (_, terminator) = cut(text, token.start.at());
@@ -88,18 +93,21 @@ fn node_end(text: &str, token: &Token) -> NodeEnd
     NodeEnd {
         item: text.len() - end.len(),
         behind,
+        is_open: end.is_empty(),
     }
 }
 
 /// The end of a node where the text ends: behind it stand node-spaces. None where the node can't end.
 fn last_end(machine: &Machine, last: usize) -> Option<NodeEnd>
     ensures { MatchOption result (finish (machine_view machine.now) ≡ false)
-        (λ e. (finish (machine_view machine.now) ≡ true) × (e.item ≡ last) × (e.behind ≡ last)) }
+        (λ e. (finish (machine_view machine.now) ≡ true) × (e.item ≡ last) × (e.behind ≡ last)
+        × (e.is_open ≡ true)) }
 {
     if machine.may_end() {
         Some(NodeEnd {
             item: last,
             behind: last,
+            is_open: true,
         })
     } else {
         None
@@ -122,7 +130,7 @@ fn word_end(machine: &Machine, last: usize) -> Option<PartEnd>
 }
 
 /// Where the node ends that a `/-` before the text drops; none where none does.
-fn pass_node(alloc: Global, text: &str) -> Result<Option<NodeEnd>, AllocError>
+pub(crate) fn pass_node(alloc: Global, text: &str) -> Result<Option<NodeEnd>, AllocError>
     ensures { IfOk result (λ o. AnswersDroppedNode (chars text.now) o) }
 {
     let mut lexer = Lexer::new(text, Steps::new());
@@ -177,7 +185,7 @@ fn slashdash_phase(place: Place) -> Phase
 }
 
 /// The place behind an entry or a block that is dropped in it; none where no block may be dropped there.
-fn behind_part(place: Place, is_block: bool) -> Option<Place>
+pub(crate) fn behind_part(place: Place, is_block: bool) -> Option<Place>
     ensures { BehindPart (place_view place) is_block (option_map place_view result) }
 {
     match place {
@@ -189,7 +197,7 @@ fn behind_part(place: Place, is_block: bool) -> Option<Place>
 }
 
 /// Where the entry or block ends that a `/-` before the text drops in the place; none where none does.
-fn pass_part(alloc: Global, place: Place, text: &str) -> Result<Option<PartEnd>, AllocError>
+pub(crate) fn pass_part(alloc: Global, place: Place, text: &str) -> Result<Option<PartEnd>, AllocError>
     ensures { IfOk result (λ o. AnswersDroppedPart (place_view place) (chars text.now) o) }
 {
     let mut lexer = Lexer::new(text, Steps::new());

@@ -1,78 +1,232 @@
-//! What a text lacks at its end before others may follow it. A stub.
+//! How many newlines a text around nodes lacks, so that whatever follows it is not part of it.
 
-ghost use Rattle.std.specs.Prelude.{◌≤◌, IfOk, IfSome};
+ghost use Rattle.kdl_items.specs.Internal.Lacking.{PieceEnds, PlaceGoes, PlacePieceEnds, SpacesLack};
+ghost use Rattle.kdl_items.specs.Internal.Reading.{place_view};
+ghost use Rattle.kdl_items.specs.Lacks.{GapLacks, PlaceLacks, TerminatorLacks};
+ghost use Rattle.kdl_text.specs.Chars.{Star, Text, begins_two};
+ghost use Rattle.kdl_text.specs.Trivia.{NodeSpace};
+ghost use Rattle.std.specs.Prelude.{◌≡◌, ◌∷◌, IfOk, [], false};
+ghost use Rattle.std.specs.Str.{chars};
 
+use crate::dropped::{behind_part, pass_node, pass_part};
+use crate::ends::{Ending, behind_comment, line_ending, line_spaces_ending, node_spaces_ending};
 use crate::item::Place;
-use crate::places::{gap_items, place_items};
+use crate::places::{begins_slashdash, same, spaced};
+use crate::slices::cut;
+use crate::spaces::behind_semicolon;
 use std::alloc::{AllocError, Global};
 
-fn gap_count(alloc: Global, text: &str) -> Result<Option<usize>, AllocError> {
-    match gap_items(alloc, text)? {
-        Some(items) => Ok(Some(items.len())),
-        None => Ok(None),
-    }
+/// The first piece of a gap: line-spaces, or a dropped node.
+#[derive(Clone, Copy)]
+enum GapPiece<'a> {
+    /// It ends before this text, whatever follows that.
+    Until(&'a str),
+    /// It goes on to the end of the text, and lacks so many newlines.
+    Last(usize),
 }
 
-fn place_count(alloc: Global, place: Place, text: &str) -> Result<Option<usize>, AllocError> {
-    match place_items(alloc, place, text)? {
-        Some(items) => Ok(Some(items.len())),
-        None => Ok(None),
-    }
-}
-
-fn joined(alloc: Global, one: &str, two: &str, three: &str) -> Result<String, AllocError> {
-    let mut text = String::new(alloc);
-    text.push_str(one)?;
-    text.push_str(two)?;
-    text.push_str(three)?;
-    Ok(text)
-}
-
-fn gap_ends(alloc: Global, text: &str, more: &str) -> Result<bool, AllocError> {
-    let whole = joined(alloc, text, more, "")?;
-    let probed = joined(alloc, text, more, "/-p;")?;
-    match (gap_count(alloc, &whole)?, gap_count(alloc, &probed)?) {
-        (Some(n), Some(m)) => Ok(m > n),
-        _ => Ok(false),
-    }
-}
-
-pub fn gap_lacks(alloc: Global, text: &str) -> Result<Option<usize>, AllocError>
-    ensures { IfOk result (λ o. IfSome o (λ n. n ≤ 2)) }
+/// Whether the node-spaces that are the text lack the newline of an escline.
+fn spaces_lack(text: &str) -> bool
+    requires { Star NodeSpace (chars text.now) [] }
+    ensures { SpacesLack (chars text.now) result }
 {
-    if gap_count(alloc, text)?.is_none() {
-        return Ok(None);
+    let mut rest = text;
+    'spaces: while !rest.is_empty() {
+        match node_spaces_ending(rest) {
+            Some(Ending::Before(behind)) => rest = same(behind),
+            Some(Ending::InReturn) => return true,
+            Some(Ending::Open) => return true,
+            None => return false,
+        }
     }
-    if gap_ends(alloc, text, "")? {
-        return Ok(Some(0));
-    }
-    if gap_ends(alloc, text, "\n")? {
-        return Ok(Some(1));
-    }
-    Ok(Some(2))
+    false
 }
 
-pub fn place_lacks(alloc: Global, place: Place, text: &str) -> Result<Option<bool>, AllocError> {
-    let Some(count) = place_count(alloc, place, text)? else {
+/// The dropped node that begins the text.
+fn dropped_piece<'a>(
+    alloc: Global,
+    text: &'a str,
+) -> Result<Option<GapPiece<'a>>, AllocError>
+    requires { (t : Text) × (chars text.now ≡ 47 ∷ 45 ∷ t) }
+    ensures { IfOk result (λ o. PieceEnds (chars text.now) o) }
+{
+    let (_, behind) = cut(text, 2);
+    let Some(end) = pass_node(alloc, behind)? else {
         return Ok(None);
     };
-    let probed = joined(alloc, text, "/-{}", "")?;
-    match place_count(alloc, place, &probed)? {
-        Some(more) => Ok(Some(more == count)),
-        None => Ok(Some(true)),
+    let (_, rest) = cut(behind, end.behind);
+    if end.is_open {
+        if spaces_lack(rest) {
+            Ok(Some(GapPiece::Last(2)))
+        } else {
+            Ok(Some(GapPiece::Last(1)))
+        }
+    } else {
+        Ok(Some(GapPiece::Until(rest)))
     }
 }
 
-pub fn terminator_lacks(alloc: Global, text: &str) -> Result<Option<usize>, AllocError>
-    ensures { IfOk result (λ o. IfSome o (λ n. n ≤ 2)) }
+/// The line-spaces that begin the text.
+fn spaces_piece(text: &str) -> Option<GapPiece<'_>>
+    requires begun { chars text.now ≡ [] → ⊥ }
+    requires no_slashdash { begins_two 47 45 (chars text.now) ≡ false }
+    ensures { PieceEnds (chars text.now) result }
 {
-    let begins = text.starts_with(';')
-        || text.starts_with("//")
-        || text.starts_with('\n')
-        || text.starts_with('\r');
-    if !begins {
-        return Ok(None);
+    match line_spaces_ending(text) {
+        Some(Ending::Before(rest)) => Some(GapPiece::Until(rest)),
+        Some(Ending::InReturn) => Some(GapPiece::Last(0)),
+        Some(Ending::Open) => Some(GapPiece::Last(1)),
+        None => None,
     }
-    let gap = joined(alloc, "/-x", text, "")?;
-    gap_lacks(alloc, &gap)
+}
+
+/// The first piece of the text of a gap; none where the text is no gap.
+fn gap_piece<'a>(alloc: Global, text: &'a str) -> Result<Option<GapPiece<'a>>, AllocError>
+    requires { chars text.now ≡ [] → ⊥ }
+    ensures { IfOk result (λ o. PieceEnds (chars text.now) o) }
+{
+    if begins_slashdash(text) {
+        dropped_piece(alloc, text)
+    } else {
+        Ok(spaces_piece(text))
+    }
+}
+
+/// How many newlines the text of a gap lacks, at most two, so that it adds nothing to the nodes that follow it, whatever
+/// they are: one where it ends in a line comment or an escline without a newline, and one where its last node, which a
+/// slashdash drops, has no terminator. None where the text is no gap.
+///
+/// Fails where memory runs out.
+///
+/// ```
+/// assert_eq!(gap_lacks(alloc, "/-x // a")?, Some(1));
+/// assert_eq!(gap_lacks(alloc, "/-x \\")?, Some(2));
+/// ```
+pub fn gap_lacks(alloc: Global, text: &str) -> Result<Option<usize>, AllocError>
+    ensures { IfOk result (λ o. GapLacks (chars text.now) o) }
+{
+    let mut rest = text;
+    'pieces: while !rest.is_empty() {
+        match gap_piece(alloc, rest)? {
+            Some(GapPiece::Until(behind)) => rest = same(behind),
+            Some(GapPiece::Last(lacks)) => return Ok(Some(lacks)),
+            None => return Ok(None),
+        }
+    }
+    Ok(Some(0))
+}
+
+/// How many newlines a terminator lacks, with the gap behind it, so that it ends the node before it and adds nothing to
+/// the nodes that follow, whatever they are. Without a terminator it lacks one. None where the text is no terminator
+/// with a gap behind it.
+///
+/// Fails where memory runs out.
+///
+/// ```
+/// assert_eq!(terminator_lacks(alloc, "; // a\n")?, Some(0));
+/// assert_eq!(terminator_lacks(alloc, "// a")?, Some(1));
+/// ```
+pub fn terminator_lacks(alloc: Global, text: &str) -> Result<Option<usize>, AllocError>
+    ensures { IfOk result (λ o. TerminatorLacks (chars text.now) o) }
+{
+    if let Some(gap) = behind_semicolon(text) {
+        return gap_lacks(alloc, gap);
+    }
+    match line_ending(behind_comment(text)) {
+        Some(Ending::Before(gap)) => gap_lacks(alloc, gap),
+        Some(Ending::InReturn) => Ok(Some(0)),
+        Some(Ending::Open) => Ok(Some(1)),
+        None => Ok(None),
+    }
+}
+
+/// The first piece of a place in a node: node-spaces, or a dropped entry or block.
+#[derive(Clone, Copy)]
+enum PlacePiece<'a> {
+    /// It ends before this text in the place there.
+    Onward(Place, &'a str),
+    /// It goes on to the end of the text, in an escline that has no newline, or none but a CR.
+    InEscline,
+}
+
+/// The text behind the entry or block that is dropped at its start, and the place there. None where none may be.
+fn dropped_place<'a>(
+    alloc: Global,
+    place: Place,
+    text: &'a str,
+) -> Result<Option<(Place, &'a str)>, AllocError>
+    requires { (t : Text) × (chars text.now ≡ 47 ∷ 45 ∷ t) }
+    ensures { IfOk result (λ o. PlaceGoes place (chars text.now) o) }
+{
+    let (_, behind) = cut(text, 2);
+    let Some(end) = pass_part(alloc, place, behind)? else {
+        return Ok(None);
+    };
+    let Some(next) = behind_part(place, end.is_block) else {
+        return Ok(None);
+    };
+    let (_, rest) = cut(behind, end.at);
+    Ok(Some((next, rest)))
+}
+
+/// The node-spaces that begin the text in a place.
+fn spaces_place(place: Place, text: &str) -> Option<PlacePiece<'_>>
+    requires begun { chars text.now ≡ [] → ⊥ }
+    requires no_slashdash { begins_two 47 45 (chars text.now) ≡ false }
+    ensures { PlacePieceEnds place (chars text.now) result }
+{
+    match node_spaces_ending(text) {
+        Some(Ending::Before(rest)) => Some(PlacePiece::Onward(spaced(place), rest)),
+        Some(Ending::InReturn) => Some(PlacePiece::InEscline),
+        Some(Ending::Open) => Some(PlacePiece::InEscline),
+        None => None,
+    }
+}
+
+/// The first piece of the text in a place; none where the text can't stand in the place.
+fn place_piece<'a>(
+    alloc: Global,
+    place: Place,
+    text: &'a str,
+) -> Result<Option<PlacePiece<'a>>, AllocError>
+    requires { chars text.now ≡ [] → ⊥ }
+    ensures { IfOk result (λ o. PlacePieceEnds place (chars text.now) o) }
+{
+    if begins_slashdash(text) {
+        match dropped_place(alloc, place, text)? {
+            Some((next, rest)) => Ok(Some(PlacePiece::Onward(next, rest))),
+            None => Ok(None),
+        }
+    } else {
+        Ok(spaces_place(place, text))
+    }
+}
+
+/// Whether the text before a node's terminator lacks the newline of an escline at its end, so that it may stand there
+/// whatever the terminator is: before the block or without one, or behind it. A CR at its end is no such newline, since
+/// an LF behind it would be part of it. None where the text can't stand there. Nothing is said of a place before an
+/// entry.
+///
+/// Fails where memory runs out.
+///
+/// ```
+/// assert_eq!(place_lacks(alloc, Place::BeforeBlock, " /-1")?, Some(false));
+/// assert_eq!(place_lacks(alloc, Place::BeforeBlock, " \\ // a")?, Some(true));
+/// ```
+pub fn place_lacks(alloc: Global, place: Place, text: &str) -> Result<Option<bool>, AllocError>
+    ensures { IfOk result (λ o. PlaceLacks (place_view place) (chars text.now) o) }
+{
+    let mut rest = text;
+    let mut place = place;
+    'pieces: while !rest.is_empty() {
+        match place_piece(alloc, place, rest)? {
+            Some(PlacePiece::Onward(next, behind)) => {
+                place = next;
+                rest = same(behind);
+            }
+            Some(PlacePiece::InEscline) => return Ok(Some(true)),
+            None => return Ok(None),
+        }
+    }
+    Ok(Some(false))
 }

@@ -3,6 +3,7 @@
 #![tactic(auto)]
 
 mod dropped;
+mod ends;
 mod item;
 mod lacks;
 mod machine;

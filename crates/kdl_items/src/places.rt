@@ -14,7 +14,7 @@ use kdl_text::chars::{Cursor, Steps};
 use std::alloc::{AllocError, Global};
 
 /// Whether `/-` begins the text.
-fn begins_slashdash(text: &str) -> bool
+pub(crate) fn begins_slashdash(text: &str) -> bool
     ensures { result ≡ begins_two 47 45 (chars text.now) }
 {
     Cursor::new(text, Steps::new()).looks_two('/', '-')
@@ -22,7 +22,7 @@ fn begins_slashdash(text: &str) -> bool
 
 /// The same text: a loop that goes on with a call's result knows that it is UTF-8.
 #[inline]
-fn same(text: &str) -> &str
+pub(crate) fn same(text: &str) -> &str
     ensures { chars result.now ≡ chars text.now }
 {
     text
@@ -66,7 +66,7 @@ pub fn gap_items<'a>(alloc: Global, text: &'a str) -> Result<Option<Vec<Item<'a>
 }
 
 /// The place behind a node-space.
-fn spaced(place: Place) -> Place
+pub(crate) fn spaced(place: Place) -> Place
     ensures { place_view result ≡ spaced true (place_view place) }
 {
     match place {
@@ -76,7 +76,7 @@ fn spaced(place: Place) -> Place
 }
 
 /// Whether the place may end here.
-fn may_end(place: Place) -> bool
+pub(crate) fn may_end(place: Place) -> bool
     ensures { result ≡ may_end (place_view place) }
 {
     match place {

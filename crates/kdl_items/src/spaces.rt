@@ -15,7 +15,7 @@ use kdl_text::trivia::block_comment;
 use std::alloc::AllocError;
 
 /// Whether a space begins the text.
-fn begins_space(text: &str) -> bool
+pub(crate) fn begins_space(text: &str) -> bool
     ensures { result ≡ starts is_space (chars text.now) }
 {
     match Cursor::new(text, Steps::new()).look() {
@@ -25,7 +25,7 @@ fn begins_space(text: &str) -> bool
 }
 
 /// The text behind the spaces that begin it.
-fn behind_spaces(text: &str) -> &str
+pub(crate) fn behind_spaces(text: &str) -> &str
     ensures { Longest Space (chars text.now) (chars result.now) }
 {
     let mut cursor = Cursor::new(text, Steps::new());
@@ -35,7 +35,7 @@ fn behind_spaces(text: &str) -> &str
 }
 
 /// The block comment that begins the text, and the text behind it; none where none begins it or it isn't closed.
-fn block(text: &str) -> Option<(&str, &str)>
+pub(crate) fn block(text: &str) -> Option<(&str, &str)>
     ensures { MatchOption result ((r : Text) → BlockComment (chars text.now) r → ⊥)
         (λ (comment, rest). BlockComment (chars text.now) (chars rest.now)
         × (chars text.now ≡ chars comment.now ++ chars rest.now)) }
@@ -60,7 +60,7 @@ pub(crate) fn line(text: &str) -> (&str, &str)
 }
 
 /// The text behind the newline that begins it.
-fn behind_newline(text: &str) -> Option<&str>
+pub(crate) fn behind_newline(text: &str) -> Option<&str>
     ensures { MatchOption result ((r : Text) → Newline (chars text.now) r → ⊥)
         (λ rest. Newline (chars text.now) (chars rest.now)) }
 {
@@ -91,12 +91,26 @@ pub(crate) fn comment(text: &str) -> Option<(&str, &str)>
 }
 
 /// The text behind its first character, where that is a backslash.
-fn behind_backslash(text: &str) -> Option<&str>
+pub(crate) fn behind_backslash(text: &str) -> Option<&str>
     ensures { MatchOption result ((s : Text) → chars text.now ≡ 92 ∷ s → ⊥)
         (λ rest. chars text.now ≡ 92 ∷ chars rest.now) }
 {
     let mut cursor = Cursor::new(text, Steps::new());
     if cursor.eat('\\') {
+        let (_, rest) = cut(text, cursor.at());
+        Some(rest)
+    } else {
+        None
+    }
+}
+
+/// The text behind its first character, where that is a semicolon.
+pub(crate) fn behind_semicolon(text: &str) -> Option<&str>
+    ensures { MatchOption result ((s : Text) → chars text.now ≡ 59 ∷ s → ⊥)
+        (λ rest. chars text.now ≡ 59 ∷ chars rest.now) }
+{
+    let mut cursor = Cursor::new(text, Steps::new());
+    if cursor.eat(';') {
         let (_, rest) = cut(text, cursor.at());
         Some(rest)
     } else {

@@ -135,7 +135,7 @@ passes_last {t = t} {t' = t'} {u = u} {x = y} ls x ss =
     (λ c w q x' ws. tail_spaces (PassesLast t' u y) (λ c d last s r k t e g o w p. (p.0, p.1, p.2, goes t e g p.3)) q ss here (λ c' q'. (w, x', ws, ends (tail_gap q') (tail_finish q')))) t
 
 -- a gap that begins with a slashdash begins with a dropped node
-data DroppedItems (t : Text) : List Item → Type 0 where
+pub data DroppedItems (t : Text) : List Item → Type 0 where
   with_end : {t' u v e : Text} {x : Node} {is : List Item} → Star LineSpace t t' → IsNode true t' u x → ItemEnd u v e → GapItems v is → DroppedItems t (piece (between (47 ∷ 45 ∷ t) e) ∷ is)
   at_last : {t' u : Text} {x : Node} {is : List Item} → Star LineSpace t t' → IsNode true t' u x → EndsTight t' u → Star NodeSpace u [] → GapItems u is → DroppedItems t (piece (between (47 ∷ 45 ∷ t) u) ∷ is)
 
@@ -147,7 +147,7 @@ no_dash_node : {t r : Text} {x : Node} → IsNode true (47 ∷ 45 ∷ t) r x →
 no_dash_node (named untyped (a_string' p e) d) = let e = (token_det (t_string p) t_slashdash).1 in cc
 no_dash_node (named (typed y ss) z d) = elim y [ ]
 
-dash_items : {t : Text} {is : List Item} → GapItems (47 ∷ 45 ∷ t) is → DroppedItems t is
+pub dash_items : {t : Text} {is : List Item} → GapItems (47 ∷ 45 ∷ t) is → DroppedItems t is
 dash_items (GapItems.space n g) = absurd (no_dash_space (line_space_of n))
 dash_items (GapItems.dropped_node (slashdash ls) x e g) = with_end ls x e g
 dash_items (GapItems.last_node (slashdash ls) x tight ss g) = at_last ls x tight ss g

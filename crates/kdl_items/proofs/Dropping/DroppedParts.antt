@@ -248,7 +248,7 @@ data PartDropped (t : Text) : Type 0 where
   an_entry : {u v : Text} {e : Entry} → Star LineSpace t u → IsEntry true u v e → Quiet v → PartDropped t
   some_block : BlockDropped t → PartDropped t
 
-dash_space : {s t r : Text} → BeginsToken s slashdash t → NodeSpace s r → ⊥
+pub dash_space : {s t r : Text} → BeginsToken s slashdash t → NodeSpace s r → ⊥
 dash_space b n = let e = (token_det b (t_space n)).1 in cc
 
 dash_end : {s t v : Text} → BeginsToken s slashdash t → Terminator s v → ⊥
@@ -261,7 +261,7 @@ dash_end b Terminator.at_close = let e = (token_det b t_closing).1 in cc
 dash_block : {s t r : Text} {xs : Nodes} → BeginsToken s slashdash t → IsBlock true s r xs → ⊥
 dash_block b (braces ns) = let e = (token_det b t_opening).1 in cc
 
-dash_lines : {s t u : Text} → BeginsToken s slashdash t → Slashdash s u → Star LineSpace t u
+pub dash_lines : {s t u : Text} → BeginsToken s slashdash t → Slashdash s u → Star LineSpace t u
 dash_lines {u = u} b (a_slashdash ls) = subst (λ (z : Text). Star LineSpace z u) (sym (token_det b t_slashdash).0) ls
 
 blocks_dropped : {c : Bool} {s t r v : Text} {k : Children} → BeginsToken s slashdash t → Blocks true c s r k → Terminator r v → BlockDropped t

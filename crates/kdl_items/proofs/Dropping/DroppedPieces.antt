@@ -1,5 +1,5 @@
 -- What a slashdash drops is cut out of the text, and what stands behind it goes on.
-use Rattle.std.proofs.Common.{◌≡◌, ◌↔◌, ◌⊎◌, inl, inr, ℕ, ◌+◌, ◌-◌, ◌<◌, ◌≤◌, Bool, true, false, List, [], ◌∷◌, ◌++◌, length, Option, Some, None, refl, sym, ap, subst, ◌∙◌, arith, append_assoc, length-append}
+use Rattle.std.proofs.Common.{◌≡◌, ◌↔◌, ◌⊎◌, inl, inr, ℕ, ◌+◌, ◌-◌, ◌<◌, ◌≤◌, ◌==◌, Bool, true, false, List, [], ◌∷◌, ◌++◌, length, Option, Some, None, refl, sym, ap, subst, ◌∙◌, arith, append_assoc, length-append}
 use Rattle.std.specs.Str.{chars, IsUtf8}
 use Rattle.kdl_text.specs.Chars.{Text}
 use Rattle.kdl_text.specs.Spans.{bytes}
@@ -14,6 +14,7 @@ use Rattle.kdl_entry.specs.declared.items.lexer.TokenKind.TheVariants.{Semicolon
 use Rattle.kdl_entry.proofs.Lexing.Between.{is_between}
 use Rattle.kdl_items.specs.Items as items
 use Rattle.kdl_items.specs.Items.{Item, piece, ItemEnd, line_end, GapItems, PlaceItems, Place, behind_block}
+use Rattle.kdl_items.specs.Internal.Lacking.{HasOpenEnd}
 use Rattle.kdl_items.specs.Internal.Passing.{PartPasses, slashdash_in}
 use Rattle.kdl_items.specs.Internal.Passed.{Before, EndsAt, AnswersDroppedNode, AnswersDroppedPart, BehindPart, PlaceTakes}
 use Rattle.kdl_items.specs.Internal.Reading.{Cut, Takes, item_view, items_view}
@@ -22,11 +23,16 @@ use Rattle.kdl_items.specs.declared.dropped.PartEnd.{PartEnd}
 use Rattle.kdl_items.specs.declared.item.Item.{Item as CodeItem}
 use Rattle.kdl_items.proofs.Dropping.DroppedNodes.{node_returned, node_ended, node_refused}
 use Rattle.kdl_items.proofs.Dropping.DroppedParts.{part_entry, part_block, part_no_block, part_refused}
+use Rattle.kdl_items.proofs.Listing.SpaceReads.{no_chars, some_chars}
 
 -- the terminator of a node
 semicolon_cut : {s r : Text} {k : Token} → Cuts s k r → k ≡ semicolon → ItemEnd s r r
 semicolon_cut (one t_semicolon) e = ItemEnd.semicolon
 semicolon_cut _ e = absurd cc
+
+semicolon_open : {s r : Text} {k : Token} → Cuts s k r → k ≡ semicolon → HasOpenEnd s r false
+semicolon_open (one t_semicolon) e = HasOpenEnd.semicolon
+semicolon_open _ e = absurd cc
 
 newline_cut : {s r : Text} {k : Token} → Cuts s k r → k ≡ newline → Break s r
 newline_cut (one (t_newline n)) e = n
@@ -43,8 +49,8 @@ len_before bs ds p u v e =
     (omega (arith, n), omega (arith, n))
 
 -- the end of a node
-pub end_semicolon : (t s r : Text) (k : TokenKind) (n : ℕ) → Cuts s (kind_view k) r → k ≡ Semicolon → Before t n r → (i : Text) × ItemEnd s r i × Before t n i × Before t n r
-end_semicolon t s r k n c e b = (r, semicolon_cut c (ap kind_view e), b, b)
+pub end_semicolon : (t s r : Text) (k : TokenKind) (n : ℕ) → Cuts s (kind_view k) r → k ≡ Semicolon → Before t n r → (i : Text) × ItemEnd s r i × Before t n i × Before t n r × HasOpenEnd s r false
+end_semicolon t s r k n c e b = (r, semicolon_cut c (ap kind_view e), b, b, semicolon_open c (ap kind_view e))
 
 -- what stands behind a line's text
 line_parts : (s u f e : Text) → u ≡ s → u ≡ f ++ e → e ≡ line_end u → (s ≡ f ++ e) × (e ≡ line_end s)
@@ -61,6 +67,12 @@ line_before bs ds s u f x n v w (p, e, m) h y z =
 pub end_line : (s r : Text) (k : TokenKind) → Cuts s (kind_view k) r → (kind_view k ≡ newline) ⊎ (kind_view k ≡ semicolon) → (k ≡ Semicolon → ⊥) → ItemEnd s r (line_end s)
 end_line s r k c (inl e) f = ItemEnd.line (newline_cut c e)
 end_line s r k c (inr e) f = absurd (f (a_semicolon k e))
+
+-- whether the line has no newline
+pub line_open : (bs : List ℕ) (s r : Text) (k : TokenKind) → Cuts s (kind_view k) r → (kind_view k ≡ newline) ⊎ (kind_view k ≡ semicolon) → (k ≡ Semicolon → ⊥) → IsUtf8 bs → chars bs ≡ line_end s → (b : Bool) → b ≡ (length bs == 0) → HasOpenEnd s r b
+line_open bs s r k c (inr e) f u l b h = absurd (f (a_semicolon k e))
+line_open bs s r k c (inl e) f u l true h = HasOpenEnd.unended (newline_cut c e) (sym l ∙ no_chars bs (sym h))
+line_open bs s r k c (inl e) f u l false h = HasOpenEnd.ended (newline_cut c e) (λ z. some_chars bs u (sym h) (l ∙ z))
 
 -- behind `/-`
 pub dash_cut : (s t : Text) → s ≡ 47 ∷ 45 ∷ t → Cut s 2
@@ -106,8 +118,8 @@ one_item X Y s b i r node old new e f n l h = (piece node ∷ [], n, l, rw (e, f
 
 -- a dropped node
 pub node_item : (b : Text) (e : NodeEnd) → EndsAt b e → (i : Text) × Before b e.item i
-node_item b e (EndsAt.returns {i = i} p x y z) = (i, y)
-node_item b e (EndsAt.ends {w = w} p y z) = (w, y)
+node_item b e (EndsAt.returns {i = i} p x y z o) = (i, y)
+node_item b e (EndsAt.ends {w = w} p y z o) = (w, y)
 
 pub node_cut : (bs ds : List ℕ) (b x : Text) (e : NodeEnd) → IsUtf8 bs → IsUtf8 ds → chars bs ≡ 47 ∷ 45 ∷ b → EndsAt b e → ((p r : Text) → b ≡ p ++ r → bytes p ≡ e.item → (x ≡ p) × (chars ds ≡ r)) → (i : Text) × PieceOf bs ds i
 node_cut bs ds b x e u v f d h = let (i, y) = node_item b e d in (i, piece_of bs ds b i x e.item u v f y h)
@@ -115,12 +127,12 @@ node_cut bs ds b x e u v f d h = let (i, y) = node_item b e d in (i, piece_of bs
 pub node_taken : (bs ds : List ℕ) (b x y rest node z : Text) (e : NodeEnd) (old new : List Item) → IsUtf8 bs → IsUtf8 ds → chars bs ≡ 47 ∷ 45 ∷ b → EndsAt b e
     → ((p r : Text) → b ≡ p ++ r → bytes p ≡ e.item → (x ≡ p) × (chars ds ≡ r)) → ((p r : Text) → b ≡ p ++ r → bytes p ≡ e.behind → (y ≡ p) × (rest ≡ r))
     → ((p r : Text) → chars bs ≡ p ++ r → bytes p ≡ length bs - length ds → (node ≡ p) × (z ≡ r)) → new ≡ old ++ (piece node ∷ []) → Takes GapItems GapItems (chars bs) (Some rest) old new
-node_taken bs ds b x y rest node z e old new u v f (EndsAt.returns {v = w} {i = i} p d (p1, e1, n1) (p2, e2, n2)) h k l n =
+node_taken bs ds b x y rest node z e old new u v f (EndsAt.returns {v = w} {i = i} p d (p1, e1, n1) (p2, e2, n2) o) h k l n =
     let q = piece_of bs ds b i x e.item u v f (p1, e1, n1) h in
     let g : rest ≡ w = (k p2 w e2 n2).1 in
     let s = before_shorter (chars bs) b w e.behind f (p2, e2, n2) in
     rw g (one_item GapItems GapItems (chars bs) b i w node old new f (piece_between bs ds b i node z q f l) n s (node_returned p d))
-node_taken bs ds b x y rest node z e old new u v f (EndsAt.ends {w = w} p (p1, e1, n1) (p2, e2, n2)) h k l n =
+node_taken bs ds b x y rest node z e old new u v f (EndsAt.ends {w = w} p (p1, e1, n1) (p2, e2, n2) o) h k l n =
     let q = piece_of bs ds b w x e.item u v f (p1, e1, n1) h in
     let g : rest ≡ w = (k p2 w e2 n2).1 in
     let s = before_shorter (chars bs) b w e.behind f (p2, e2, n2) in

@@ -13,6 +13,7 @@ use Rattle.kdl_entry.specs.declared.items.lexer.Token.{Token as CodeToken}
 use Rattle.kdl_entry.proofs.Lexing.TokenUnique.{token_det, token_shorter, no_token}
 use Rattle.kdl_grammar.specs.Internal.Control.{fresh, spaced, later, gap, node_slashdash, type_open, type_name, type_done, in_node, property, entry_slashdash, block_slashdash, kept, kept_slashdash, in_block, in_dropped, in_later, Control, at, step, finish, held}
 use Rattle.kdl_items.specs.Items.{ItemEnd}
+use Rattle.kdl_items.specs.Internal.Lacking.{HasOpenEnd}
 use Rattle.kdl_items.specs.Internal.Passing.{moved, is_gap, NodeEnd, returned, ended, NodePasses, returns, ends, goes}
 use Rattle.kdl_items.specs.Internal.Passed.{Before, EndsAt, AnswersDroppedNode, of_spaces}
 use Rattle.kdl_items.specs.declared.dropped.NodeEnd.{NodeEnd as CodeEnd}
@@ -192,11 +193,11 @@ at_stop z f (returns {r = r} {k = k} t h) = no_token (subst (λ (a : Text). Begi
 at_stop z f (ends g h) = cc
 at_stop z f (goes {r = r} {k = k} t h g p) = no_token (subst (λ (a : Text). BeginsToken a k r) z t)
 
-pub node_stops : (t : Text) (here : Here) (c : Control) (last : ℕ) (o : Option CodeEnd) → NodeGoes here c t last → here.rest ≡ [] → MatchOption o (finish c ≡ false) (λ e. (finish c ≡ true) × (e.item ≡ last) × (e.behind ≡ last)) → AnswersDroppedNode t o
+pub node_stops : (t : Text) (here : Here) (c : Control) (last : ℕ) (o : Option CodeEnd) → NodeGoes here c t last → here.rest ≡ [] → MatchOption o (finish c ≡ false) (λ e. (finish c ≡ true) × (e.item ≡ last) × (e.behind ≡ last) × (e.is_open ≡ true)) → AnswersDroppedNode t o
 node_stops t here c last None g z f = λ e p. at_stop z f ((g.same e).0 p)
-node_stops t here c last (Some e) g z (f, i, b) =
+node_stops t here c last (Some e) g z (f, i, b, o) =
     EndsAt.ends {w = g.behind} ((g.same (ended g.behind)).1 (subst (λ (a : Text). NodePasses c g.behind a (ended g.behind)) (sym z) (ends g.between f)))
-    (subst (λ (n : ℕ). Before t n g.behind) (sym i) g.counted) (subst (λ (n : ℕ). Before t n g.behind) (sym b) g.counted)
+    (subst (λ (n : ℕ). Before t n g.behind) (sym i) g.counted) (subst (λ (n : ℕ). Before t n g.behind) (sym b) g.counted) o
 
 -- the terminator's places
 pub token_places : (t : Text) (old new : Here) (c : Control) (k : CodeToken) (last : ℕ) → NodeGoes old c t last → HandsOut old k new → Moves old new → Before t k.start.at k.start.rest × Before t k.end.at k.end.rest
@@ -206,7 +207,7 @@ pub token_ends : (old new : Here) (c d : Control) (k : CodeToken) (t : Text) (la
 token_ends old new c d k t last g f x = gap_turn c (kind_view k.kind) g.between (ap (held is_gap) f ∙ x)
 
 pub node_returns : (t : Text) (old new : Here) (c d : Control) (k : CodeToken) (last : ℕ) (e : CodeEnd) → NodeGoes old c t last → HandsOut old k new → step c (kind_view k.kind) ≡ Some d → is_gap d ≡ true
-    → (i : Text) × ItemEnd k.start.rest k.end.rest i × Before t e.item i × Before t e.behind k.end.rest → AnswersDroppedNode t (Some e)
-node_returns t old new c d k last e g h f x (i, y, a, b) =
+    → (i : Text) × ItemEnd k.start.rest k.end.rest i × Before t e.item i × Before t e.behind k.end.rest × HasOpenEnd k.start.rest k.end.rest e.is_open → AnswersDroppedNode t (Some e)
+node_returns t old new c d k last e g h f x (i, y, a, b, o) =
     let p : NodePasses (at node_slashdash []) t t (returned (kind_view k.kind) old.rest new.rest) = (g.same (returned (kind_view k.kind) old.rest new.rest)).1 (last_turn g.between h.cuts f x) in
-    EndsAt.returns {k = kind_view k.kind} {u = k.start.rest} {v = k.end.rest} {i = i} (rw (h.start_rest, h.end_rest) p) y a b
+    EndsAt.returns {k = kind_view k.kind} {u = k.start.rest} {v = k.end.rest} {i = i} (rw (h.start_rest, h.end_rest) p) y a b o

@@ -101,7 +101,7 @@ line_here (c ∷ s) r n = go (is_newline_char c) refl n (line_here s r)
     go true e n f = Line.newline n
     go false e n f = Line.other e (f n)
 
-line_to_end : (s : Text) → line_end s ≡ [] → Line s []
+pub line_to_end : (s : Text) → line_end s ≡ [] → Line s []
 line_to_end [] e = Line.ends
 line_to_end (c ∷ s) e = go (is_newline_char c) refl e (line_to_end s)
   where
@@ -132,14 +132,14 @@ no_end (c ∷ s) f = go (is_newline_char c) refl f (no_end s)
     go true e f k = let (t, n) = newline_there c s e in absurd (f t n)
     go false e f k = k f
 
-two : (a b : ℕ) (s : Text) → begins_two a b s ≡ true → (t : Text) × (s ≡ a ∷ b ∷ t)
+pub two : (a b : ℕ) (s : Text) → begins_two a b s ≡ true → (t : Text) × (s ≡ a ∷ b ∷ t)
 two a b [] e = absurd cc
 two a b (c ∷ []) e = let (x, y) = and_parts (c == a) false e in absurd cc
 two a b (c ∷ d ∷ t) e =
     let (x, y) = and_parts (c == a) (d == b) e in
     (t, rw (eqb-true c a x, eqb-true d b y) refl)
 
-slashes_end : (s : Text) → line_end (47 ∷ 47 ∷ s) ≡ line_end s
+pub slashes_end : (s : Text) → line_end (47 ∷ 47 ∷ s) ≡ line_end s
 unfolding is_newline_char
 slashes_end s = refl
 

@@ -57,7 +57,7 @@ closed_parts (Parts.other {c = c} {s = s} x y p) =
 pub closed_block : {s r : Text} → BlockComment s r → Closed BlockComment s r
 closed_block (block p) = let m = closed_parts p in record { at = also 47 (also 42 m.at); full = λ u. refl; there = λ u. block (m.there u) }
 
-closed_ws : {s r : Text} → Ws s r → Closed Ws s r
+pub closed_ws : {s r : Text} → Ws s r → Closed Ws s r
 closed_ws (Ws.space (a_space {c = c} x)) = record { at = also c stands; full = λ u. refl; there = λ u. Ws.space (a_space x) }
 closed_ws (Ws.comment b) = let m = closed_block b in record { at = m.at; full = m.full; there = λ u. Ws.comment (m.there u) }
 
@@ -66,11 +66,11 @@ closed_braces (braces ns) =
     let a = move_nodes ns in
     record { at = also 123 (joined a.at (also 125 stands)); full = λ u. refl; there = λ u. braces (a.there (125 ∷ u) refl) }
 
-record ClosedRun (s r : Text) : Type 0 where
-  at : Put s r
-  there : (u : Text) → Star Ws (at.put u) u
+pub record ClosedRun (s r : Text) : Type 0 where
+  pub at : Put s r
+  pub there : (u : Text) → Star Ws (at.put u) u
 
-closed_run : {s r : Text} → Star Ws s r → ClosedRun s r
+pub closed_run : {s r : Text} → Star Ws s r → ClosedRun s r
 closed_run none = record { at = stands; there = λ u. none }
 closed_run (more w ws) = let m = closed_ws w in let k = closed_run ws in record { at = joined m.at k.at; there = λ u. more (m.there (k.at.put u)) (k.there u) }
 

@@ -16,10 +16,10 @@ use Rattle.kdl_items.specs.Written.{tail}
 use Rattle.kdl_items.proofs.Rewriting.BeforeNewlines.{closed_block, closed_braces, newline_end}
 use Rattle.kdl_items.proofs.Rewriting.LinesAgain.{comment_part, comment_again, comment_text, comment_item}
 
-data DashedEntry : Text → Text → Type 0 where
+pub data DashedEntry : Text → Text → Type 0 where
   dashed : {s t r : Text} {e : Entry} → Slashdash s t → IsEntry true t r e → DashedEntry s r
 
-data DashedBlock : Text → Text → Type 0 where
+pub data DashedBlock : Text → Text → Type 0 where
   dashed : {s t r : Text} {xs : Nodes} → Slashdash s t → IsBlock true t r xs → DashedBlock s r
 
 -- the item in a place, and the place behind it
@@ -239,17 +239,17 @@ space_before n (before (more (dropped_e ss m i) ds) a) = before (more (dropped_e
 entry_before : {s t u r : Text} {e : Entry} → Slashdash s t → IsEntry true t u e → BeforeChildren u r → BeforeChildren s r
 entry_before m i (before ds a) = before (more (dropped_e none m i) ds) a
 
-text_space : (p : Place) (r : Text) {s t : Text} → NodeSpace s t → PlaceText p t r → PlaceText p s r
+pub text_space : (p : Place) (r : Text) {s t : Text} → NodeSpace s t → PlaceText p t r → PlaceText p s r
 text_space (before_entry b) r n d = lead_space n d
 text_space before_block r n d = space_before n d
 text_space behind_block r n d = space_behind n d
 
-text_entry : (p : Place) (r : Text) → takes_entries p ≡ true → {s t : Text} → DashedEntry s t → PlaceText p t r → PlaceText p s r
+pub text_entry : (p : Place) (r : Text) → takes_entries p ≡ true → {s t : Text} → DashedEntry s t → PlaceText p t r → PlaceText p s r
 text_entry (before_entry b) r h (DashedEntry.dashed m i) d = lead_entry m i d
 text_entry before_block r h (DashedEntry.dashed m i) d = entry_before m i d
 text_entry behind_block r h (DashedEntry.dashed m i) d = cc
 
-text_block : (p : Place) (r : Text) → takes_blocks p ≡ true → {s t : Text} → DashedBlock s t → AfterChildren t r → PlaceText p s r
+pub text_block : (p : Place) (r : Text) → takes_blocks p ≡ true → {s t : Text} → DashedBlock s t → AfterChildren t r → PlaceText p s r
 text_block (before_entry b) r h (DashedBlock.dashed m i) d = cc
 text_block before_block r h (DashedBlock.dashed m i) d = before none (braces_behind m i d)
 text_block behind_block r h (DashedBlock.dashed m i) d = braces_behind m i d
@@ -272,12 +272,12 @@ space_text (before_entry b) r = leading none (plus (a_node_space r) none)
 space_text before_block r = before none (after none (more (a_node_space r) none))
 space_text behind_block r = after none (more (a_node_space r) none)
 
-no_text : (p : Place) → takes_blocks p ≡ true → (r : Text) → PlaceText p r r
+pub no_text : (p : Place) → takes_blocks p ≡ true → (r : Text) → PlaceText p r r
 no_text (before_entry b) h r = cc
 no_text before_block h r = before none (after none none)
 no_text behind_block h r = after none none
 
-place_spaced : (b : Bool) (p : Place) (s r : Text) → PlaceText (spaced b p) s r → PlaceText p s r
+pub place_spaced : (b : Bool) (p : Place) (s r : Text) → PlaceText (spaced b p) s r → PlaceText p s r
 place_spaced b (before_entry c) s r d = d
 place_spaced b before_block s r d = d
 place_spaced b behind_block s r d = d

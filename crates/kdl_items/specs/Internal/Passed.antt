@@ -6,6 +6,7 @@ use Rattle.kdl_text.specs.Chars.{Text}
 use Rattle.kdl_text.specs.Spans.{bytes}
 use Rattle.kdl_entry.specs.Internal.Tokens.{Token, space}
 use Rattle.kdl_grammar.specs.Internal.Control.{at, node_slashdash}
+use Rattle.kdl_items.specs.Internal.Lacking.{HasOpenEnd}
 use Rattle.kdl_items.specs.Internal.Passing as passing
 use Rattle.kdl_items.specs.Internal.Passing.{NodePasses, PartPasses, returned, ended, slashdash_in}
 use Rattle.kdl_items.specs.Items.{Item, ItemEnd, Place, PlaceItems, behind_block, spaced, takes_blocks}
@@ -25,8 +26,8 @@ Before s n r = (p : Text) × (s ≡ p ++ r) × (bytes p ≡ n)
 
 -- the node behind the `/-` ends there
 pub data EndsAt (t : Text) (e : NodeEnd) : Type 0 where
-  returns : {k : Token} {u v i : Text} → NodePasses (at node_slashdash []) t t (returned k u v) → ItemEnd u v i → Before t e.item i → Before t e.behind v → EndsAt t e
-  ends : {w : Text} → NodePasses (at node_slashdash []) t t (ended w) → Before t e.item w → Before t e.behind w → EndsAt t e
+  returns : {k : Token} {u v i : Text} → NodePasses (at node_slashdash []) t t (returned k u v) → ItemEnd u v i → Before t e.item i → Before t e.behind v → HasOpenEnd u v e.is_open → EndsAt t e
+  ends : {w : Text} → NodePasses (at node_slashdash []) t t (ended w) → Before t e.item w → Before t e.behind w → e.is_open ≡ true → EndsAt t e
 
 abbrev pub AnswersDroppedNode : Text → Option NodeEnd → Type 0
 AnswersDroppedNode t (Some e) = EndsAt t e

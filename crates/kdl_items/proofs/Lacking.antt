@@ -1,0 +1,14 @@
+-- What a text around nodes lacks, so that whatever follows it is not part of it.
+
+-- What is before a rest is before more of it.
+pub mod Keeping
+-- How node-spaces and line-spaces end.
+pub mod SpaceEnds
+-- What the first piece of a gap adds to the nodes behind it.
+pub mod GapPieces
+-- What the first piece of a place takes from what follows it.
+pub mod PlacePieces
+-- A terminator and the gap behind it.
+pub mod Terminators
+-- What may be before a `}` may be alone.
+pub mod Alone

@@ -1,0 +1,85 @@
+-- How the answers of the readers of what a text lacks stand to the text.
+use Rattle.std.specs.Borrow.{Bor}
+use Rattle.std.specs.Prelude.{◌≡◌, ℕ, ◌<◌, Bool, true, false, List, [], ◌∷◌, ◌++◌, Option, Some, None, length}
+use Rattle.std.specs.Str.{chars}
+use Rattle.kdl_text.specs.Chars.{Text, begins, Newline, Star, Plus}
+use Rattle.kdl_text.specs.Trivia.{NodeSpace, Break, LineSpace, ValueEnd}
+use Rattle.kdl_grammar.specs.Data.{Nodes}
+use Rattle.kdl_grammar.specs.Grammar.{Gap, AreNodes}
+use Rattle.kdl_grammar.specs.ReadsBack.{NodesEnd, AddsNothing}
+use Rattle.kdl_items.specs.Items.{Item, Place, PlaceItems, takes_blocks, line_end}
+use Rattle.kdl_items.specs.Lacks.{newlines, InPlace}
+use Rattle.kdl_items.specs.Internal.Reading.{place_view}
+use Rattle.kdl_items.specs.declared.ends.Ending.{Ending}
+use Rattle.kdl_items.specs.declared.ends.Ending.TheVariants.{Before, InReturn, Open}
+use Rattle.kdl_items.specs.declared.item.Place as held
+use Rattle.kdl_items.specs.declared.lacks.GapPiece.{GapPiece}
+use Rattle.kdl_items.specs.declared.lacks.GapPiece.TheVariants.{Until, Last}
+use Rattle.kdl_items.specs.declared.lacks.PlacePiece.{PlacePiece}
+use Rattle.kdl_items.specs.declared.lacks.PlacePiece.TheVariants.{Onward, InEscline}
+
+-- what is left of a line from its newline on
+abbrev pub LineEnds : Text → Option Ending → Type 0
+LineEnds e (Some (Before r)) = (w : Text) → Newline (e ++ w) (chars r.now ++ w)
+LineEnds e (Some InReturn) = e ≡ 13 ∷ []
+LineEnds e (Some Open) = e ≡ []
+LineEnds e None = (e ≡ [] → ⊥) × ((r : Text) → Newline e r → ⊥)
+
+-- it ends in a CR, of which an LF behind it would be part
+pub record EndsInReturn (X : Text → Text → Type 0) (s : Text) : Type 0 where
+  pub alone : (w : Text) → begins 10 w ≡ false → X (s ++ w) w
+  pub before_lf : (w : Text) → X (s ++ (10 ∷ w)) w
+
+-- it has no newline: one ends it, and with a letter behind it nothing of the text is left
+pub record IsOpen (X : Text → Text → Type 0) (s : Text) : Type 0 where
+  pub alone : X s []
+  pub ended : (w : Text) → X (s ++ (10 ∷ w)) w
+  pub swallows : (r : Text) → LineSpace (s ++ (97 ∷ [])) r → r ≡ []
+
+-- Xs begin the text and end before a rest, whatever follows that; or one X is all the text; or none begins it
+abbrev pub EndsAs : (Text → Text → Type 0) → Text → Option Ending → Type 0
+EndsAs X s (Some (Before r)) = ((w : Text) → Plus X (s ++ w) (chars r.now ++ w)) × (length (chars r.now) < length s)
+EndsAs X s (Some InReturn) = EndsInReturn X s
+EndsAs X s (Some Open) = IsOpen X s
+EndsAs X s None = (r : Text) → X s r → ⊥
+
+-- whether the terminator that is in u before v is a line comment without a newline
+pub data HasOpenEnd : Text → Text → Bool → Type 0 where
+  semicolon : {r : Text} → HasOpenEnd (59 ∷ r) r false
+  ended : {u v : Text} → Break u v → (line_end u ≡ [] → ⊥) → HasOpenEnd u v false
+  unended : {u v : Text} → Break u v → line_end u ≡ [] → HasOpenEnd u v true
+
+-- node-spaces that are all the text end before whatever follows them, or behind a newline
+abbrev pub SpacesLack : Text → Bool → Type 0
+SpacesLack t true = (w : Text) → Star NodeSpace (t ++ (10 ∷ w)) w
+SpacesLack t false = (w : Text) → Star NodeSpace (t ++ w) w
+
+-- what of a gap is before r adds nothing to the nodes behind it, and is a gap with r alone
+pub record Through (s r : Text) : Type 0 where
+  pub on : Gap true s [] → Gap true r []
+  pub back : Gap true r [] → Gap true s []
+  pub adds : Gap true r [] → (w z : Text) (xs : Nodes) → NodesEnd z → AreNodes true (r ++ w) z xs → AreNodes true (s ++ w) z xs
+
+-- the first piece of a gap goes up to a rest; or it is all the text, and lacks so many newlines; or there is none
+abbrev pub PieceEnds : Text → Option GapPiece → Type 0
+PieceEnds s (Some (Until r)) = Through s (chars r.now) × (length (chars r.now) < length s)
+PieceEnds s (Some (Last k)) = Gap true s [] × AddsNothing (s ++ newlines k)
+PieceEnds s None = Gap true s [] → ⊥
+
+-- what of a place is before r, which is in the place q, is in the place p before what follows, and has a list of items with r alone
+pub record PlaceThrough (p : Place) (s : Text) (q : Place) (r : Text) : Type 0 where
+  pub on : (is : List Item) → PlaceItems p s is → (js : List Item) × PlaceItems q r js
+  pub back : (js : List Item) → PlaceItems q r js → (is : List Item) × PlaceItems p s is
+  pub adds : (js : List Item) → PlaceItems q r js → (w z : Text) → ValueEnd true z → InPlace q (r ++ w) z → InPlace p (s ++ w) z
+  pub blocks : takes_blocks p ≡ true → takes_blocks q ≡ true
+
+-- the first piece of a place goes up to a rest, in another place; or there is none
+abbrev pub PlaceGoes : held.Place → Text → Option (held.Place × Bor (List ℕ)) → Type 0
+PlaceGoes p s (Some (q, r)) = PlaceThrough (place_view p) s (place_view q) (chars r.now) × (length (chars r.now) < length s)
+PlaceGoes p s None = (is : List Item) → PlaceItems (place_view p) s is → ⊥
+
+-- it goes up to a rest; or it is all the text, and ends in an escline that lacks a newline; or there is none
+abbrev pub PlacePieceEnds : held.Place → Text → Option PlacePiece → Type 0
+PlacePieceEnds p s (Some (Onward q r)) = PlaceThrough (place_view p) s (place_view q) (chars r.now) × (length (chars r.now) < length s)
+PlacePieceEnds p s (Some InEscline) = ((is : List Item) × PlaceItems (place_view p) s is) × ((z : Text) → InPlace (place_view p) (s ++ (10 ∷ z)) z)
+PlacePieceEnds p s None = (is : List Item) → PlaceItems (place_view p) s is → ⊥

@@ -1,0 +1,47 @@
+-- How many newlines a text around nodes lacks, so that whatever follows it is not part of it.
+use Rattle.std.specs.Prelude.{ℕ, ◌<◌, Bool, true, false, [], ◌∷◌, ◌++◌, Option, Some, None}
+use Rattle.kdl_text.specs.Chars.{Text, times}
+use Rattle.kdl_entry.specs.Places.{EntryLeading}
+use Rattle.kdl_grammar.specs.Grammar.{Terminator, Gap}
+use Rattle.kdl_grammar.specs.Places.{BeforeChildren, AfterChildren}
+use Rattle.kdl_grammar.specs.ReadsBack.{Anything, Terminates, AddsNothing}
+use Rattle.kdl_items.specs.Items.{Place, before_entry, before_block, behind_block}
+
+-- so many newlines
+abbrev pub newlines : ℕ → Text
+newlines k = times k 10
+
+-- so many newlines make it hold of a text, and fewer do not
+abbrev pub Lacks : (Text → Type 0) → Text → ℕ → Type 0
+Lacks P t k = P (t ++ newlines k) × ((j : ℕ) → j < k → P (t ++ newlines j) → ⊥)
+
+-- a gap lacks so many newlines; or the text is no gap
+abbrev pub GapLacks : Text → Option ℕ → Type 0
+GapLacks t (Some k) = Gap true t [] × AddsNothing (t ++ newlines k)
+GapLacks t None = Gap true t [] → ⊥
+
+-- a terminator and then a gap
+abbrev pub Terminating : Text → Type 0
+Terminating t = (v : Text) × Terminator t v × Gap true v []
+
+-- a terminator and the gap behind it lack so many newlines; or the text is none
+abbrev pub TerminatorLacks : Text → Option ℕ → Type 0
+TerminatorLacks t (Some k) = Terminating t × Terminates Anything (t ++ newlines k)
+TerminatorLacks t None = Terminating t → ⊥
+
+-- a text that is in the place of a node before what follows
+abbrev pub InPlace : Place → Text → Text → Type 0
+InPlace (before_entry spaced) = EntryLeading
+InPlace before_block = BeforeChildren
+InPlace behind_block = AfterChildren
+
+-- the text may be there before each terminator
+abbrev pub BeforeEach : Place → Text → Type 0
+BeforeEach p t = (r v : Text) → Terminator r v → InPlace p (t ++ r) r
+
+-- a text in a place of a node before the terminator lacks a newline or none; or it may not be there. Before an entry nothing is said
+abbrev pub PlaceLacks : Place → Text → Option Bool → Type 0
+PlaceLacks (before_entry spaced) t o = Unit {0}
+PlaceLacks p t (Some true) = InPlace p t [] × BeforeEach p (t ++ newlines 1)
+PlaceLacks p t (Some false) = InPlace p t [] × BeforeEach p t
+PlaceLacks p t None = InPlace p t [] → ⊥

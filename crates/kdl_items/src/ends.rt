@@ -1,0 +1,115 @@
+//! How node-spaces and line-spaces end.
+
+ghost use Rattle.kdl_items.specs.Items.{line_end};
+ghost use Rattle.kdl_items.specs.Internal.Lacking.{EndsAs, LineEnds};
+ghost use Rattle.kdl_text.specs.Chars.{begins_two};
+ghost use Rattle.kdl_text.specs.Internal.Reading.{Longest};
+ghost use Rattle.kdl_text.specs.Trivia.{LineSpace, NodeSpace, Ws};
+ghost use Rattle.std.specs.Prelude.{◌≡◌, ◌∷◌, [], MatchBool, if◌then◌else◌};
+ghost use Rattle.std.specs.Str.{chars};
+
+use crate::spaces::{
+    begins_space, behind_backslash, behind_newline, behind_spaces, block, line,
+};
+use kdl_text::chars::{Cursor, Steps};
+
+/// How the spaces that begin a text end.
+#[derive(Clone, Copy)]
+pub(crate) enum Ending<'a> {
+    /// Before this text, whatever follows that.
+    Before(&'a str),
+    /// With the text, in a CR: an LF after it is part of its newline.
+    InReturn,
+    /// With the text, in an escline or a line comment without a newline.
+    Open,
+}
+
+/// Whether `//` begins the text.
+fn begins_comment(text: &str) -> bool
+    ensures { result ≡ begins_two 47 47 (chars text.now) }
+{
+    Cursor::new(text, Steps::new()).looks_two('/', '/')
+}
+
+/// Whether the text is a CR.
+fn is_return(text: &str) -> bool
+    ensures { MatchBool result (chars text.now ≡ 13 ∷ []) (chars text.now ≡ 13 ∷ [] → ⊥) }
+{
+    let mut cursor = Cursor::new(text, Steps::new());
+    cursor.eat('\r') && cursor.look().is_none()
+}
+
+/// The end of a line, of what is left of it from its newline on. None where the text begins with anything else.
+pub(crate) fn line_ending(end: &str) -> Option<Ending<'_>>
+    ensures { LineEnds (chars end.now) result }
+{
+    if end.is_empty() {
+        return Some(Ending::Open);
+    }
+    if is_return(end) {
+        return Some(Ending::InReturn);
+    }
+    match behind_newline(end) {
+        Some(rest) => Some(Ending::Before(rest)),
+        None => None,
+    }
+}
+
+/// The text, without the line comment that begins it: from the newline of the comment on.
+pub(crate) fn behind_comment(text: &str) -> &str
+    ensures { chars result.now ≡ (if begins_two 47 47 (chars text.now)
+        then line_end (chars text.now) else chars text.now) }
+{
+    if begins_comment(text) {
+        let (_, end) = line(text);
+        end
+    } else {
+        text
+    }
+}
+
+/// The text behind the spaces and block comments that begin it.
+fn behind_ws(text: &str) -> &str
+    ensures { Longest Ws (chars text.now) (chars result.now) }
+{
+    let mut rest = behind_spaces(text);
+    'comments: while let Some((_, behind)) = block(rest) {
+        rest = behind_spaces(behind);
+    }
+    rest
+}
+
+/// How the escline ends whose backslash stands before the text; none where none does.
+fn escline_ending(text: &str) -> Option<Ending<'_>>
+    ensures { EndsAs NodeSpace (92 ∷ chars text.now) result }
+{
+    line_ending(behind_comment(behind_ws(text)))
+}
+
+/// How the node-spaces that begin the text end: at least one; none where none begins it.
+pub(crate) fn node_spaces_ending(text: &str) -> Option<Ending<'_>>
+    ensures { EndsAs NodeSpace (chars text.now) result }
+{
+    if let Some(behind) = behind_backslash(text) {
+        return escline_ending(behind);
+    }
+    if let Some((_, behind)) = block(text) {
+        return Some(Ending::Before(behind));
+    }
+    if begins_space(text) {
+        Some(Ending::Before(behind_spaces(text)))
+    } else {
+        None
+    }
+}
+
+/// The same for line-spaces.
+pub(crate) fn line_spaces_ending(text: &str) -> Option<Ending<'_>>
+    requires { chars text.now ≡ [] → ⊥ }
+    ensures { EndsAs LineSpace (chars text.now) result }
+{
+    match line_ending(behind_comment(text)) {
+        Some(ending) => Some(ending),
+        None => node_spaces_ending(text),
+    }
+}
