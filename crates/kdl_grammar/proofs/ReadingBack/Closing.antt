@@ -179,13 +179,13 @@ no_lf s r (inr (t, e)) f = let g : 125 ≡ 10 = cc in no_number (subst (λ (z : 
 -- nodes behind an LF are nodes without it
 pub behind_lf : (r : Text) {s : Text} {xs : data'.Nodes} → NodesEnd s → AreNodes true (10 ∷ r) s xs → AreNodes true r s xs
 behind_lf r {s = s} z (last_gap g) = elim (lf_gap r g) [
-    | inl e ↦ absurd (no_lf s r z e)
-    | inr h ↦ last_gap h
-  ]
+  | inl e ↦ absurd (no_lf s r z e)
+  | inr h ↦ last_gap h
+]
 behind_lf r z (node_then {t = t} g x e ds) = elim (lf_gap r g) [
-    | inl f ↦ absurd (begins_here 10 t r f (node_front x).lf)
-    | inr h ↦ node_then h x e ds
-  ]
+  | inl f ↦ absurd (begins_here 10 t r f (node_front x).lf)
+  | inr h ↦ node_then h x e ds
+]
 
 -- a terminator before another node ends by itself
 pub closing_terminates : {s r : Text} (m : Closing Terminator s r) → Terminates Anything m.piece

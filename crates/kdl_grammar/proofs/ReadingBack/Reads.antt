@@ -92,7 +92,7 @@ pub node_text : (h : Head) (f : NodeFormat) (k : Children) (depth : ℕ) (r : Te
 node_text h f k depth r e =
     let front : print_head h depth ≡ f.leading ++ name_text h f = ap (λ (o : Option NodeFormat). head_text h.ty h.name o depth) e ∙ simp append_assoc in
     let back : print_tail h k depth ≡ block_text k f depth ++ (f.before_terminator ++ terminator_text f) =
-      tail_same h k depth ∙ ap (λ (o : Option NodeFormat). tail_with o h.entries k depth) e ∙ tail_text f h.entries k depth in
+    tail_same h k depth ∙ ap (λ (o : Option NodeFormat). tail_with o h.entries k depth) e ∙ tail_text f h.entries k depth in
     ap (λ (x : Text). (x ++ print_pieces h.entries ++ print_tail h k depth) ++ r) front ∙ ap (λ (x : Text). ((f.leading ++ name_text h f) ++ print_pieces h.entries ++ x) ++ r) back
     ∙ node_parts f.leading (name_text h f) (print_pieces h.entries) (block_text k f depth) f.before_terminator (terminator_text f) r
 
