@@ -8,7 +8,7 @@ use Rattle.std.specs.List.{count_by, position_or_len}
 use Rattle.kdl_parts.specs.Edits.{put_before, without}
 use Rattle.kdl_parts.specs.EntryLists.{last_place, later, nth_place, nth_step, there}
 
--- how many pass, one element and those behind it
+-- how many pass, of one element and those after it
 count-cons : {A : Type 0} (p : A → Bool) (x : A) (xs : List A) → count_by p (x ∷ xs) ≡ cond (p x) 1 0 + count_by p xs
 count-cons p x xs = sum_by-cons (λ y. cond (p y) 1 0) x xs
 
@@ -19,7 +19,7 @@ last_of p xs = there (last_place p xs) xs
 abbrev pub nth_of : {A : Type 0} → (A → Bool) → List A → ℕ → Option A
 nth_of p xs n = there (nth_place p xs n) xs
 
--- the same, where what is found behind the first element is known
+-- the same, where what is found after the first element is known
 abbrev pub or_here : {A : Type 0} → Option A → Bool → A → Option A
 or_here (Some y) b x = Some y
 or_here None true x = Some x
@@ -40,7 +40,7 @@ last_holds {A = A} p (x ∷ xs) i h = go (λ j. last_holds p xs j) (last_place p
     go ih None true e f k = let z : 0 ≡ i = cc in subst (λ (j : ℕ). (y : A) × (slice_get (x ∷ xs) j ≡ Some y) × (p y ≡ true)) z (x, refl, f)
     go ih (Some j) b e f k = let z : suc j ≡ i = cc in subst (λ (j : ℕ). (y : A) × (slice_get (x ∷ xs) j ≡ Some y) × (p y ≡ true)) z (ih j e)
 
--- one element, and those behind it
+-- of one element and those after it
 pub last_of-cons : {A : Type 0} (p : A → Bool) (x : A) (xs : List A) → last_of p (x ∷ xs) ≡ or_here (last_of p xs) (p x) x
 last_of-cons {A = A} p x xs = go (last_place p xs) (p x) refl
   where
@@ -83,7 +83,7 @@ nth_of-skip p (x ∷ xs) ys e n h = nth_of-cons p x (xs ++ (e ∷ ys)) n ∙ go 
     go ih true (suc n) = ih n
     go ih false n = ih n
 
--- the last of a list is found, and the one behind all that pass
+-- the last of a list is found, and the one after all that pass
 pub last_of-push : {A : Type 0} (p : A → Bool) (xs : List A) (e : A) → p e ≡ true → last_of p (xs ++ (e ∷ [])) ≡ Some e
 last_of-push p [] e h = last_of-cons p e [] ∙ ap (λ b. or_here None b e) h
 last_of-push p (x ∷ xs) e h = last_of-cons p x (xs ++ (e ∷ [])) ∙ ap (λ o. or_here o (p x) x) (last_of-push p xs e h)
@@ -190,14 +190,14 @@ pub nth_holds : {A : Type 0} (p : A → Bool) (xs : List A) (n i : ℕ) → nth_
 nth_holds p [] n i h = absurd (none-some _ h)
 nth_holds {A = A} p (x ∷ xs) n i h = go (λ m j. nth_holds p xs m j) (p x) n refl h
   where
-    behind : (o : Option ℕ) (j : ℕ) → ((k : ℕ) → o ≡ Some k → (y : A) × (slice_get xs k ≡ Some y) × (p y ≡ true)) → option_map suc o ≡ Some j → (y : A) × (slice_get (x ∷ xs) j ≡ Some y) × (p y ≡ true)
-    behind None j f e = absurd (none-some _ e)
-    behind (Some k) j f e = let z : suc k ≡ j = cc in subst (λ (j : ℕ). (y : A) × (slice_get (x ∷ xs) j ≡ Some y) × (p y ≡ true)) z (f k refl)
+    after : (o : Option ℕ) (j : ℕ) → ((k : ℕ) → o ≡ Some k → (y : A) × (slice_get xs k ≡ Some y) × (p y ≡ true)) → option_map suc o ≡ Some j → (y : A) × (slice_get (x ∷ xs) j ≡ Some y) × (p y ≡ true)
+    after None j f e = absurd (none-some _ e)
+    after (Some k) j f e = let z : suc k ≡ j = cc in subst (λ (j : ℕ). (y : A) × (slice_get (x ∷ xs) j ≡ Some y) × (p y ≡ true)) z (f k refl)
 
     go : ((m j : ℕ) → nth_place p xs m ≡ Some j → (y : A) × (slice_get xs j ≡ Some y) × (p y ≡ true)) → (b : Bool) (n : ℕ) → p x ≡ b → nth_step b n (nth_place p xs) ≡ Some i → (y : A) × (slice_get (x ∷ xs) i ≡ Some y) × (p y ≡ true)
     go ih true zero e k = let z : 0 ≡ i = cc in subst (λ (j : ℕ). (y : A) × (slice_get (x ∷ xs) j ≡ Some y) × (p y ≡ true)) z (x, refl, e)
-    go ih true (suc n) e k = behind (nth_place p xs n) i (ih n) k
-    go ih false n e k = behind (nth_place p xs n) i (ih n) k
+    go ih true (suc n) e k = after (nth_place p xs n) i (ih n) k
+    go ih false n e k = after (nth_place p xs n) i (ih n) k
 
 pub nth_differs : {A : Type 0} (p : A → Bool) (xs : List A) (n m i : ℕ) → (n ≡ m → ⊥) → nth_place p xs n ≡ Some i → nth_place p xs m ≡ Some i → ⊥
 nth_differs p [] n m i d h k = none-some _ h

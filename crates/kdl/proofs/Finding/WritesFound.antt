@@ -127,7 +127,7 @@ argument_written k i w n m h e =
     let (old, here, is) = nth_holds is_argument (entries_of n) k i h in
     exchanged_argument k i old (record old { value = w }) n m h (value_exchanged i old w n m here e)
 
--- what stands at a place that was found
+-- the entry at a place that was found
 place_there : (o : Option ℕ) (es : List KdlEntry) (e : KdlEntry) → Some e ≡ there o es → (i : ℕ) × (o ≡ Some i) × (slice_get es i ≡ Some e)
 place_there None es e h = absurd (none-some _ (sym h))
 place_there (Some i) es e h = (i, refl, sym h)
