@@ -29,18 +29,21 @@ pub record IsSet (s : List ℕ) (v : Value) (n m : KdlNode) : Type 0 where
   pub found : property_value s m ≡ Some v
   pub others : (r : List ℕ) → (s ≡ r → ⊥) → property_value r m ≡ property_value r n
   pub arguments : (i : ℕ) → value_at i m ≡ value_at i n
+  pub count : argument_count m ≡ argument_count n
 
 -- the argument at i has the value; the other arguments, and what names find, stay
 pub record IsArgumentSet (i : ℕ) (v : Value) (n m : KdlNode) : Type 0 where
   pub found : value_at i m ≡ Some v
   pub others : (j : ℕ) → (i ≡ j → ⊥) → value_at j m ≡ value_at j n
   pub properties : (s : List ℕ) → property_value s m ≡ property_value s n
+  pub count : argument_count m ≡ argument_count n
 
 -- an argument of that value is after the others; these, and what names find, stay
 pub record IsAdded (v : Value) (n m : KdlNode) : Type 0 where
   pub found : value_at (argument_count n) m ≡ Some v
   pub before : (i : ℕ) → i < argument_count n → value_at i m ≡ value_at i n
   pub properties : (s : List ℕ) → property_value s m ≡ property_value s n
+  pub count : argument_count m ≡ argument_count n + 1
 
 -- an argument of that value is at i; those that were at i and after it are one place later, and what names find stays
 pub record IsPutIn (i : ℕ) (v : Value) (n m : KdlNode) : Type 0 where
@@ -48,6 +51,7 @@ pub record IsPutIn (i : ℕ) (v : Value) (n m : KdlNode) : Type 0 where
   pub before : (j : ℕ) → j < i → value_at j m ≡ value_at j n
   pub later : (j : ℕ) → i ≤ j → value_at (j + 1) m ≡ value_at j n
   pub properties : (s : List ℕ) → property_value s m ≡ property_value s n
+  pub count : argument_count m ≡ argument_count n + 1
 
 -- the first property of that name is gone: where there was no other one, the name finds nothing; what other names find, and the arguments, stay
 pub record IsTakenOut (s : List ℕ) (n m : KdlNode) : Type 0 where
@@ -55,12 +59,14 @@ pub record IsTakenOut (s : List ℕ) (n m : KdlNode) : Type 0 where
   pub later : 1 < property_count s n → property_value s m ≡ property_value s n
   pub others : (r : List ℕ) → (s ≡ r → ⊥) → property_value r m ≡ property_value r n
   pub arguments : (i : ℕ) → value_at i m ≡ value_at i n
+  pub count : argument_count m ≡ argument_count n
 
 -- the argument at i is gone; those after it are one place earlier, and what names find stays
 pub record IsTakenOutAt (i : ℕ) (n m : KdlNode) : Type 0 where
   pub before : (j : ℕ) → j < i → value_at j m ≡ value_at j n
   pub later : (j : ℕ) → i ≤ j → value_at j m ≡ value_at (j + 1) n
   pub properties : (s : List ℕ) → property_value s m ≡ property_value s n
+  pub count : argument_count m + 1 ≡ argument_count n
 
 -- the first argument of the first node of that name has the value; the nodes that other names find stay
 pub record IsSetIn (s : List ℕ) (v : Value) (d e : KdlDocument) : Type 0 where

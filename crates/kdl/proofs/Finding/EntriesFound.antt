@@ -10,7 +10,7 @@ use Rattle.kdl_value.specs.Tree.{value_tree}
 use Rattle.kdl_entry.specs.Tree.{Identifier, Entry, entry_tree, identifier_tree}
 use Rattle.kdl_entry.specs.declared.entry.KdlEntry.{KdlEntry}
 use Rattle.kdl_entry.specs.declared.identifier.KdlIdentifier.{KdlIdentifier}
-use Rattle.kdl_parts.specs.Edits.{GoesUnder, HasRoomAt, IsInserted, put_before, put_for, under, removed}
+use Rattle.kdl_parts.specs.Edits.{GoesUnder, HasArgumentAt, HasRoomAt, IsInserted, put_before, put_for, under, removed}
 use Rattle.kdl_parts.specs.EntryLists.{property, argument, sought, key_name, key_index, is_argument, has_name, is_name, same_text, last_place, nth_place, there}
 use Rattle.kdl_parts.specs.declared.key.NodeKey.{NodeKey}
 use Rattle.kdl_parts.specs.declared.key.NodeKey.TheVariants.{Key, Index}
@@ -21,7 +21,7 @@ use Rattle.kdl.specs.Found.{IsSet, IsAdded, IsPutIn, IsTakenOut, IsTakenOutAt, a
 use Rattle.kdl.specs.Lookups.{entries_of}
 use Rattle.kdl.specs.declared.document.KdlDocument.TheViews.{out-KdlNode, out-roll-KdlNode}
 use Rattle.kdl.specs.declared.node.KdlNode.{KdlNode}
-use Rattle.kdl.proofs.Finding.ListLookups.{around_itself, but_first, but_nth, cut_at, cut_nth, last_holds, last_of, last_of-another, last_of-but_first, last_of-cut, last_of-only, last_of-push, last_of-put, last_of-skip, last_place-set, nth_of, nth_of-after_cut, nth_of-after_put, nth_of-another, nth_of-before_cut, nth_of-before_put, nth_of-push, nth_of-pushed, nth_of-put, nth_of-skip, put_at, put_nth, set_there}
+use Rattle.kdl.proofs.Finding.ListLookups.{around_itself, but_first, but_nth, count-another, count-cut, count-pushed, count-put, count-skip, cut_at, cut_nth, last_holds, last_of, last_of-another, last_of-but_first, last_of-cut, last_of-only, last_of-push, last_of-put, last_of-skip, last_place-set, nth_of, nth_of-after_cut, nth_of-after_put, nth_of-another, nth_of-before_cut, nth_of-before_put, nth_of-push, nth_of-pushed, nth_of-put, nth_of-skip, put_at, put_nth, set_there}
 
 -- the value of an entry that was found
 abbrev pub value_in : Option KdlEntry → Option Value
@@ -104,6 +104,15 @@ put_arguments p q e es n h d = go (last_place p es) refl
         let (old, here, passes) = last_holds p es i k in
         nth_of-skip q (take i es) (drop (i + 1) es) e n h ∙ sym (nth_of-skip q (take i es) (drop (i + 1) es) old n (d old passes)) ∙ ap (λ l. nth_of q l n) (sym (around_itself es i old here))
 
+put_count : (p q : KdlEntry → Bool) (e : KdlEntry) (es : List KdlEntry) → q e ≡ false → ((x : KdlEntry) → p x ≡ true → q x ≡ false) → count_by q (put_for (last_place p es) e es) ≡ count_by q es
+put_count p q e es h d = go (last_place p es) refl
+  where
+    go : (o : Option ℕ) → last_place p es ≡ o → count_by q (put_for o e es) ≡ count_by q es
+    go None k = count-skip q es [] e h ∙ ap (count_by q) (append-nil es)
+    go (Some i) k =
+        let (old, here, passes) = last_holds p es i k in
+        count-skip q (take i es) (drop (i + 1) es) e h ∙ sym (count-skip q (take i es) (drop (i + 1) es) old (d old passes)) ∙ ap (count_by q) (sym (around_itself es i old here))
+
 inserted_set : (k : KdlIdentifier) (e : KdlEntry) (n m : KdlNode) → GoesUnder (property (identifier_tree k)) (entry_tree e) → IsInserted (Key k) e (entries_of n) (entries_of m) → IsSet (string_bytes k.value) (entry_tree e).value n m
 inserted_set k e n m g d =
     let s = string_bytes k.value in
@@ -113,6 +122,7 @@ inserted_set k e n m g d =
       found = ap (λ l. value_in (last_of (has_name s) l)) d.items ∙ ap value_in (put_last (has_name s) d.entry es has) ∙ ap (λ (x : Entry). Some x.value) d.tree;
       others = λ r h. ap (λ l. value_in (last_of (has_name r) l)) d.items ∙ ap value_in (put_other (has_name s) (has_name r) d.entry es (other_name s r d.entry has h) (λ x p. other_name s r x p h));
       arguments = λ i. ap (λ l. value_in (nth_of is_argument l i)) d.items ∙ ap value_in (put_arguments (has_name s) is_argument d.entry es i (no_argument s d.entry has) (λ x p. no_argument s x p));
+      count = ap (count_by is_argument) d.items ∙ put_count (has_name s) is_argument d.entry es (no_argument s d.entry has) (λ x p. no_argument s x p);
     }
 
 argument_tree : (e : KdlEntry) → (entry_tree e).name ≡ None → is_argument e ≡ true
@@ -131,6 +141,7 @@ argument_added e n m h d =
       found = ap (λ l. value_in (nth_of is_argument l (count_by is_argument es))) d ∙ ap value_in (nth_of-push is_argument es e is);
       before = λ i k. ap (λ l. value_in (nth_of is_argument l i)) d ∙ ap value_in (nth_of-pushed is_argument es e i k);
       properties = λ s. ap (λ l. value_in (last_of (has_name s) l)) d ∙ ap value_in (last_of-skip (has_name s) es [] e (no_name s e is) ∙ ap (last_of (has_name s)) (append-nil es));
+      count = ap (count_by is_argument) d ∙ count-pushed is_argument es e is;
     }
 
 -- what was pushed under a name is what the name finds
@@ -141,6 +152,7 @@ pushed_set s e n m has d =
       found = ap (λ l. value_in (last_of (has_name s) l)) d ∙ ap value_in (last_of-push (has_name s) es e has);
       others = λ r h. ap (λ l. value_in (last_of (has_name r) l)) d ∙ ap value_in (last_of-skip (has_name r) es [] e (other_name s r e has h) ∙ ap (last_of (has_name r)) (append-nil es));
       arguments = λ i. ap (λ l. value_in (nth_of is_argument l i)) d ∙ ap value_in (nth_of-skip is_argument es [] e i (no_argument s e has) ∙ ap (λ l. nth_of is_argument l i) (append-nil es));
+      count = ap (count_by is_argument) d ∙ count-skip is_argument es [] e (no_argument s e has) ∙ ap (count_by is_argument) (append-nil es);
     }
 
 -- what was put in before an argument
@@ -154,17 +166,19 @@ argument_put i e n m h k d =
       before = λ j l. ap (λ l. value_in (nth_of is_argument l j)) items ∙ ap value_in (nth_of-before_put is_argument e es i j k l);
       later = λ j l. ap (λ k. value_in (nth_of is_argument (entries_of m) k)) (add-one j) ∙ ap (λ l. value_in (nth_of is_argument l (suc j))) items ∙ ap value_in (nth_of-after_put is_argument e es i j is l);
       properties = λ s. ap (λ l. value_in (last_of (has_name s) l)) d ∙ ap value_in (last_of-put (has_name s) (nth_place is_argument es i) e es (no_name s e is));
+      count = ap (count_by is_argument) d ∙ count-put is_argument (nth_place is_argument es i) e es is;
     }
 
 -- what was taken out of the arguments
-argument_taken : (i : ℕ) (n m : KdlNode) → entries_of m ≡ removed (Index i) (entries_of n) → IsTakenOutAt i n m
-argument_taken i n m d =
+argument_taken : (i : ℕ) (n m : KdlNode) → i < argument_count n → entries_of m ≡ removed (Index i) (entries_of n) → IsTakenOutAt i n m
+argument_taken i n m k d =
     let es = entries_of n in
     let items : entries_of m ≡ but_nth is_argument es i = d ∙ cut_nth is_argument es i in
     record {
       before = λ j l. ap (λ l. value_in (nth_of is_argument l j)) items ∙ ap value_in (nth_of-before_cut is_argument es i j l);
       later = λ j l. ap (λ l. value_in (nth_of is_argument l j)) items ∙ ap value_in (nth_of-after_cut is_argument es i j l) ∙ ap (λ k. value_in (nth_of is_argument es k)) (sym (add-one j));
       properties = λ s. ap (λ l. value_in (last_of (has_name s) l)) d ∙ ap value_in (last_of-cut is_argument (has_name s) es i (λ x p. no_name s x p));
+      count = ap (λ l. count_by is_argument l + 1) items ∙ count-cut is_argument es i k;
     }
 
 -- what was taken out under a name
@@ -178,6 +192,7 @@ taken_out_set k n m d =
       later = λ h. ap (λ l. value_in (last_of (has_name s) l)) items ∙ ap value_in (last_of-but_first (has_name s) es h);
       others = λ r h. ap (λ l. value_in (last_of (has_name r) l)) items ∙ ap value_in (last_of-another (has_name s) (has_name r) es (λ x p. other_name s r x p h));
       arguments = λ i. ap (λ l. value_in (nth_of is_argument l i)) items ∙ ap value_in (nth_of-another (has_name s) is_argument es i (λ x p. no_argument s x p));
+      count = ap (count_by is_argument) items ∙ count-another (has_name s) is_argument es (λ x p. no_argument s x p);
     }
 
 -- the entries of a node with other ones
@@ -226,6 +241,6 @@ pub remove_takes : (key : NodeKey) (n : KdlNode) (v : Vec KdlEntry Global) → v
 remove_takes (Key k) n v d = taken_out_set k n (with_entries n v) (entries_with n v ∙ d)
 remove_takes (Index i) n v d = tt
 
-pub remove_takes_at : (key : NodeKey) (n : KdlNode) (v : Vec KdlEntry Global) → v.items ≡ removed key (entries_of n) → IfSome (key_index key) (λ i. IsTakenOutAt i n (with_entries n v))
-remove_takes_at (Key k) n v d = tt
-remove_takes_at (Index i) n v d = argument_taken i n (with_entries n v) (entries_with n v ∙ d)
+pub remove_takes_at : (key : NodeKey) (n : KdlNode) (v : Vec KdlEntry Global) → HasArgumentAt (sought key) (entries_of n) → v.items ≡ removed key (entries_of n) → IfSome (key_index key) (λ i. IsTakenOutAt i n (with_entries n v))
+remove_takes_at (Key k) n v h d = tt
+remove_takes_at (Index i) n v h d = argument_taken i n (with_entries n v) h (entries_with n v ∙ d)

@@ -8,7 +8,7 @@ use Rattle.std.specs.List.{count_by, position_or_len}
 use Rattle.kdl_parts.specs.Edits.{put_before, without}
 use Rattle.kdl_parts.specs.EntryLists.{last_place, later, nth_place, nth_step, there}
 
--- how many pass, one element and those behind it
+-- how many pass, of one element and those after it
 count-cons : {A : Type 0} (p : A → Bool) (x : A) (xs : List A) → count_by p (x ∷ xs) ≡ cond (p x) 1 0 + count_by p xs
 count-cons p x xs = sum_by-cons (λ y. cond (p y) 1 0) x xs
 
@@ -19,7 +19,7 @@ last_of p xs = there (last_place p xs) xs
 abbrev pub nth_of : {A : Type 0} → (A → Bool) → List A → ℕ → Option A
 nth_of p xs n = there (nth_place p xs n) xs
 
--- the same, where what is found behind the first element is known
+-- the same, where what is found after the first element is known
 abbrev pub or_here : {A : Type 0} → Option A → Bool → A → Option A
 or_here (Some y) b x = Some y
 or_here None true x = Some x
@@ -40,7 +40,7 @@ last_holds {A = A} p (x ∷ xs) i h = go (λ j. last_holds p xs j) (last_place p
     go ih None true e f k = let z : 0 ≡ i = cc in subst (λ (j : ℕ). (y : A) × (slice_get (x ∷ xs) j ≡ Some y) × (p y ≡ true)) z (x, refl, f)
     go ih (Some j) b e f k = let z : suc j ≡ i = cc in subst (λ (j : ℕ). (y : A) × (slice_get (x ∷ xs) j ≡ Some y) × (p y ≡ true)) z (ih j e)
 
--- one element, and those behind it
+-- of one element and those after it
 pub last_of-cons : {A : Type 0} (p : A → Bool) (x : A) (xs : List A) → last_of p (x ∷ xs) ≡ or_here (last_of p xs) (p x) x
 last_of-cons {A = A} p x xs = go (last_place p xs) (p x) refl
   where
@@ -83,7 +83,7 @@ nth_of-skip p (x ∷ xs) ys e n h = nth_of-cons p x (xs ++ (e ∷ ys)) n ∙ go 
     go ih true (suc n) = ih n
     go ih false n = ih n
 
--- the last of a list is found, and the one behind all that pass
+-- the last of a list is found, and the one after all that pass
 pub last_of-push : {A : Type 0} (p : A → Bool) (xs : List A) (e : A) → p e ≡ true → last_of p (xs ++ (e ∷ [])) ≡ Some e
 last_of-push p [] e h = last_of-cons p e [] ∙ ap (λ b. or_here None b e) h
 last_of-push p (x ∷ xs) e h = last_of-cons p x (xs ++ (e ∷ [])) ∙ ap (λ o. or_here o (p x) x) (last_of-push p xs e h)
@@ -190,14 +190,14 @@ pub nth_holds : {A : Type 0} (p : A → Bool) (xs : List A) (n i : ℕ) → nth_
 nth_holds p [] n i h = absurd (none-some _ h)
 nth_holds {A = A} p (x ∷ xs) n i h = go (λ m j. nth_holds p xs m j) (p x) n refl h
   where
-    behind : (o : Option ℕ) (j : ℕ) → ((k : ℕ) → o ≡ Some k → (y : A) × (slice_get xs k ≡ Some y) × (p y ≡ true)) → option_map suc o ≡ Some j → (y : A) × (slice_get (x ∷ xs) j ≡ Some y) × (p y ≡ true)
-    behind None j f e = absurd (none-some _ e)
-    behind (Some k) j f e = let z : suc k ≡ j = cc in subst (λ (j : ℕ). (y : A) × (slice_get (x ∷ xs) j ≡ Some y) × (p y ≡ true)) z (f k refl)
+    after : (o : Option ℕ) (j : ℕ) → ((k : ℕ) → o ≡ Some k → (y : A) × (slice_get xs k ≡ Some y) × (p y ≡ true)) → option_map suc o ≡ Some j → (y : A) × (slice_get (x ∷ xs) j ≡ Some y) × (p y ≡ true)
+    after None j f e = absurd (none-some _ e)
+    after (Some k) j f e = let z : suc k ≡ j = cc in subst (λ (j : ℕ). (y : A) × (slice_get (x ∷ xs) j ≡ Some y) × (p y ≡ true)) z (f k refl)
 
     go : ((m j : ℕ) → nth_place p xs m ≡ Some j → (y : A) × (slice_get xs j ≡ Some y) × (p y ≡ true)) → (b : Bool) (n : ℕ) → p x ≡ b → nth_step b n (nth_place p xs) ≡ Some i → (y : A) × (slice_get (x ∷ xs) i ≡ Some y) × (p y ≡ true)
     go ih true zero e k = let z : 0 ≡ i = cc in subst (λ (j : ℕ). (y : A) × (slice_get (x ∷ xs) j ≡ Some y) × (p y ≡ true)) z (x, refl, e)
-    go ih true (suc n) e k = behind (nth_place p xs n) i (ih n) k
-    go ih false n e k = behind (nth_place p xs n) i (ih n) k
+    go ih true (suc n) e k = after (nth_place p xs n) i (ih n) k
+    go ih false n e k = after (nth_place p xs n) i (ih n) k
 
 pub nth_differs : {A : Type 0} (p : A → Bool) (xs : List A) (n m i : ℕ) → (n ≡ m → ⊥) → nth_place p xs n ≡ Some i → nth_place p xs m ≡ Some i → ⊥
 nth_differs p [] n m i d h k = none-some _ h
@@ -389,3 +389,55 @@ last_of-cut {A = A} p q xs n d = go (nth_place p xs n) refl
     go (Some i) k =
         let (old, here, passes) = nth_holds p xs n i k in
         sym (last_of-skip q (take i xs) (drop (i + 1) xs) old (d old passes)) ∙ ap (last_of q) (sym (around_itself xs i old here))
+
+-- how many pass, with one element more
+pub count-skip : {A : Type 0} (q : A → Bool) (xs ys : List A) (e : A) → q e ≡ false → count_by q (xs ++ (e ∷ ys)) ≡ count_by q (xs ++ ys)
+count-skip q [] ys e h = let none : 0 + count_by q ys ≡ count_by q ys = omega arith in count-cons q e ys ∙ ap (λ b. cond b 1 0 + count_by q ys) h ∙ none
+count-skip q (x ∷ xs) ys e h = count-cons q x (xs ++ (e ∷ ys)) ∙ ap (λ n. cond (q x) 1 0 + n) (count-skip q xs ys e h) ∙ sym (count-cons q x (xs ++ ys))
+
+pub count-more : {A : Type 0} (q : A → Bool) (xs ys : List A) (e : A) → q e ≡ true → count_by q (xs ++ (e ∷ ys)) ≡ count_by q (xs ++ ys) + 1
+count-more q [] ys e h = let one : 1 + count_by q ys ≡ count_by q ys + 1 = omega arith in count-cons q e ys ∙ ap (λ b. cond b 1 0 + count_by q ys) h ∙ one
+count-more q (x ∷ xs) ys e h =
+    let a = count-cons q x (xs ++ (e ∷ ys)) in
+    let b = count-cons q x (xs ++ ys) in
+    let c = count-more q xs ys e h in
+    omega arith
+
+pub count-pushed : {A : Type 0} (q : A → Bool) (xs : List A) (e : A) → q e ≡ true → count_by q (xs ++ (e ∷ [])) ≡ count_by q xs + 1
+count-pushed q xs e h = count-more q xs [] e h ∙ ap (λ l. count_by q l + 1) (append-nil xs)
+
+pub count-put : {A : Type 0} (q : A → Bool) (o : Option ℕ) (e : A) (xs : List A) → q e ≡ true → count_by q (put_before o e xs) ≡ count_by q xs + 1
+count-put q None e xs h = count-pushed q xs e h
+count-put q (Some i) e xs h = count-more q (take i xs) (drop i xs) e h ∙ ap (λ l. count_by q l + 1) (take-append-drop i xs)
+
+-- with one element exchanged
+pub count-set : {A : Type 0} (q : A → Bool) (xs : List A) (i : ℕ) (old new : A) → slice_get xs i ≡ Some old → q new ≡ q old → count_by q (set xs i new) ≡ count_by q xs
+count-set q [] i old new h e = absurd (none-some _ h)
+count-set q (x ∷ xs) zero old new h e = let s : x ≡ old = cc in count-cons q new xs ∙ ap (λ b. cond b 1 0 + count_by q xs) (e ∙ ap q (sym s)) ∙ sym (count-cons q x xs)
+count-set q (x ∷ xs) (suc i) old new h e = count-cons q x (set xs i new) ∙ ap (λ n. cond (q x) 1 0 + n) (count-set q xs i old new h e) ∙ sym (count-cons q x xs)
+
+-- with one element taken out
+pub count-another : {A : Type 0} (p q : A → Bool) (xs : List A) → ((x : A) → p x ≡ true → q x ≡ false) → count_by q (but_first p xs) ≡ count_by q xs
+count-another p q [] d = refl
+count-another {A = A} p q (x ∷ xs) d = go (count-another p q xs d) (p x) refl
+  where
+    go : count_by q (but_first p xs) ≡ count_by q xs → (b : Bool) → p x ≡ b → count_by q (cond b xs (x ∷ but_first p xs)) ≡ count_by q (x ∷ xs)
+    go ih true e = sym (count-skip q [] xs x (d x e))
+    go ih false e = count-cons q x (but_first p xs) ∙ ap (λ n. cond (q x) 1 0 + n) ih ∙ sym (count-cons q x xs)
+
+pub count-cut : {A : Type 0} (p : A → Bool) (xs : List A) (n : ℕ) → n < count_by p xs → count_by p (but_nth p xs n) + 1 ≡ count_by p xs
+count-cut p [] n h = absurd (omega arith)
+count-cut {A = A} p (x ∷ xs) n h = go (λ m. count-cut p xs m) (p x) refl n (let q = count-cons p x xs in omega arith)
+  where
+    go : ((m : ℕ) → m < count_by p xs → count_by p (but_nth p xs m) + 1 ≡ count_by p xs) → (b : Bool) → p x ≡ b → (n : ℕ) → n < cond b 1 0 + count_by p xs → count_by p (cut_step b n x xs (but_nth p xs)) + 1 ≡ count_by p (x ∷ xs)
+    go ih true q zero k = sym (count-more p [] xs x q)
+    go ih true q (suc n) k =
+        let a = count-cons p x (but_nth p xs n) in
+        let b = count-cons p x xs in
+        let c = ih n (omega arith) in
+        omega arith
+    go ih false q n k =
+        let a = count-cons p x (but_nth p xs n) in
+        let b = count-cons p x xs in
+        let c = ih n (omega arith) in
+        omega arith

@@ -3,6 +3,7 @@ use Rattle.std.proofs.Common.{Vec, Global, ◌≡◌, ℕ, true, false, List, se
 use Rattle.std.proofs.lemmas.Option.{none-some}
 use Rattle.std.proofs.lemmas.Slice.Eq.{bytes_eq-Decides}
 use Rattle.std.proofs.lemmas.Str.{IsUtf8-string_bytes}
+use Rattle.std.specs.List.{count_by}
 use Rattle.std.specs.Str.{IsUtf8, chars}
 use Rattle.std.specs.Vec.{with_item}
 use Rattle.kdl_value.specs.Tree.{value_tree}
@@ -21,7 +22,7 @@ use Rattle.kdl.specs.Lookups.{entries_of, found_entry, held_value, key_place, pr
 use Rattle.kdl.specs.declared.document.KdlDocument.TheViews.{out-KdlNode}
 use Rattle.kdl.specs.declared.node.KdlNode.{KdlNode}
 use Rattle.kdl.proofs.Finding.EntriesFound.{entries_with, name_is, no_argument, other_name, pushed_set, value_in}
-use Rattle.kdl.proofs.Finding.ListLookups.{last_holds, last_place-set, nth_differs, nth_holds, nth_place-set, set_there, there_elsewhere}
+use Rattle.kdl.proofs.Finding.ListLookups.{count-set, last_holds, last_place-set, nth_differs, nth_holds, nth_place-set, set_there, there_elsewhere}
 
 -- names with one tree are the same to each look-up
 name_same : (s : List ℕ) (o p : Option KdlIdentifier) → option_map identifier_tree o ≡ option_map identifier_tree p → is_name s o ≡ is_name s p
@@ -49,6 +50,9 @@ place_kept s i old new es fs x = ap (last_place (has_name s)) x.items ∙ last_p
 
 argument_kept : (j i : ℕ) (old new : KdlEntry) (es fs : List KdlEntry) → Exchanged i old new es fs → nth_place is_argument fs j ≡ nth_place is_argument es j
 argument_kept j i old new es fs x = ap (λ l. nth_place is_argument l j) x.items ∙ nth_place-set is_argument es i old new j x.here (none_same new.name old.name x.name)
+
+count_kept : (i : ℕ) (old new : KdlEntry) (es fs : List KdlEntry) → Exchanged i old new es fs → count_by is_argument fs ≡ count_by is_argument es
+count_kept i old new es fs x = ap (count_by is_argument) x.items ∙ count-set is_argument es i old new x.here (none_same new.name old.name x.name)
 
 value_here : (o p : Option ℕ) (i : ℕ) (old new : KdlEntry) (es fs : List KdlEntry) → Exchanged i old new es fs → p ≡ o → o ≡ Some i → value_in (there p fs) ≡ Some (value_tree new.value)
 value_here o p i old new es fs x e h = ap (λ q. value_in (there q fs)) (e ∙ h) ∙ ap (λ l. value_in (slice_get l i)) x.items ∙ ap value_in (set_there es i old new x.here)
@@ -84,6 +88,7 @@ exchanged_set s i old new n m h x =
       found = value_here (last_place (has_name s) es) (last_place (has_name s) fs) i old new es fs x (place_kept s i old new es fs x) h;
       others = λ r d. value_elsewhere (last_place (has_name r) es) (last_place (has_name r) fs) i old new es fs x (place_kept r i old new es fs x) (other_place s r es i h d);
       arguments = λ j. value_elsewhere (nth_place is_argument es j) (nth_place is_argument fs j) i old new es fs x (argument_kept j i old new es fs x) (no_place s es i j h);
+      count = count_kept i old new es fs x;
     }
 
 exchanged_argument : (k i : ℕ) (old new : KdlEntry) (n m : KdlNode) → key_place (Index k) n ≡ Some i → Exchanged i old new (entries_of n) (entries_of m) → IsArgumentSet k (value_tree new.value) n m
@@ -94,6 +99,7 @@ exchanged_argument k i old new n m h x =
       found = value_here (nth_place is_argument es k) (nth_place is_argument fs k) i old new es fs x (argument_kept k i old new es fs x) h;
       others = λ j d. value_elsewhere (nth_place is_argument es j) (nth_place is_argument fs j) i old new es fs x (argument_kept j i old new es fs x) (nth_differs is_argument es k j i d h);
       properties = λ r. value_elsewhere (last_place (has_name r) es) (last_place (has_name r) fs) i old new es fs x (place_kept r i old new es fs x) (λ e. no_place r es i k e h);
+      count = count_kept i old new es fs x;
     }
 
 with_value_is : (v : Vec KdlEntry Global) (i : ℕ) (w : KdlValue) (old : KdlEntry) → slice_get v.items i ≡ Some old → (set_value_at v i w).items ≡ set v.items i (record old { value = w })
@@ -121,7 +127,7 @@ argument_written k i w n m h e =
     let (old, here, is) = nth_holds is_argument (entries_of n) k i h in
     exchanged_argument k i old (record old { value = w }) n m h (value_exchanged i old w n m here e)
 
--- what stands at a place that was found
+-- the entry at a place that was found
 place_there : (o : Option ℕ) (es : List KdlEntry) (e : KdlEntry) → Some e ≡ there o es → (i : ℕ) × (o ≡ Some i) × (slice_get es i ≡ Some e)
 place_there None es e h = absurd (none-some _ (sym h))
 place_there (Some i) es e h = (i, refl, sym h)

@@ -16,8 +16,8 @@ ghost use Rattle.std.specs.Fn.{CalledAt};
 ghost use Rattle.std.specs.List.{count_by};
 ghost use Rattle.std.specs.List.Retain.{IsFiltered};
 ghost use Rattle.std.specs.List.Sorted.{IsPermutation, IsSortedByClosure, IsSortedByKeyClosure, IsStableByClosure, IsStableByKeyClosure};
-ghost use Rattle.std.specs.Str.{encode_utf8_all};
 ghost use Rattle.std.specs.Prelude.{◌≡◌, ◌==◌, [], ◌∷◌, ◌++◌, if◌then◌else◌, IfErr, IfNone, IfOk, IfSome, IsSome, IsOk, OnErr, OnOk, is_ok, length};
+ghost use Rattle.std.specs.Str.{encode_utf8_all};
 
 use crate::node::KdlNode;
 use kdl_entry::KdlEntry;

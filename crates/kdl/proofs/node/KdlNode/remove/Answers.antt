@@ -5,4 +5,4 @@ pub returns-clause-takes : goal.returns-clause-takes
 returns-clause-takes c = remove_takes c.args.key c.args.self.now c.remove.new.entries c.remove.ensures.items
 
 pub returns-clause-takes_at : goal.returns-clause-takes_at
-returns-clause-takes_at c = remove_takes_at c.args.key c.args.self.now c.remove.new.entries c.remove.ensures.items
+returns-clause-takes_at c = remove_takes_at c.args.key c.args.self.now c.remove.new.entries c.requires c.remove.ensures.items
