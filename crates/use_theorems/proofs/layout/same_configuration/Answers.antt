@@ -17,9 +17,9 @@ returns c =
     let same = same_texts without_comments.indent 0 (document_says a.a) (document_says b.b) _ _ f.reads g.reads (f.prints a.ensures.keeps_none) (g.prints b.ensures.keeps_none) in
     let strings = bytes_eq-Decides (string_bytes c.in_ok-one.one) (string_bytes c.in_ok-other.other) in (
       λ e.
-        let bytes = sym c.in_ok-one.ensures.ok ∙ strings.0 (sym c.eq.ensures ∙ e) ∙ c.in_ok-other.ensures.ok in
-        (document_says a.a, a.ensures.found, subst (λ (z : Nodes). IsDocument true (chars c.args.other.now) z) (sym (same.0 (encodes_same _ _ bytes))) b.ensures.found),
+          let bytes = sym c.in_ok-one.ensures.ok ∙ strings.0 (sym c.eq.ensures ∙ e) ∙ c.in_ok-other.ensures.ok in
+          (document_says a.a, a.ensures.found, subst (λ (z : Nodes). IsDocument true (chars c.args.other.now) z) (sym (same.0 (encodes_same _ _ bytes))) b.ensures.found),
       λ (z, d, e).
-        let texts = same.1 (sym (a.ensures.only z d) ∙ b.ensures.only z e) in
-        c.eq.ensures ∙ strings.1 (c.in_ok-one.ensures.ok ∙ ap encodes texts ∙ sym c.in_ok-other.ensures.ok),
+          let texts = same.1 (sym (a.ensures.only z d) ∙ b.ensures.only z e) in
+          c.eq.ensures ∙ strings.1 (c.in_ok-one.ensures.ok ∙ ap encodes texts ∙ sym c.in_ok-other.ensures.ok),
     )
