@@ -1,12 +1,12 @@
 -- Spans in a text cut it between characters.
 use Rattle.std.specs.Prelude.{All}
-use Rattle.std.proofs.Common.{get_or, ◌≡◌, ℕ, ◌+◌, ◌≤◌, ◌<◌, List, [], ◌∷◌, ◌++◌, length, length-append, refl, ap, ◌∙◌, sym, subst, true, append_assoc}
+use Rattle.std.proofs.Common.{◌≡◌, ℕ, ◌+◌, List, [], ◌∷◌, ◌++◌, length, length-append, refl, ap, ◌∙◌, sym, subst, true, append_assoc}
 use Rattle.std.proofs.lemmas.Bool.{and_parts}
 use Rattle.std.proofs.lemmas.Str.{IsCharBoundary-at_seam, encodes-append, encodes-chars, scalars-chars, length-encode}
 use Rattle.std.specs.Char.{len_utf8}
 use Rattle.std.specs.Str.{IsCharBoundary, IsUtf8, chars}
 use lib.Utf8.{encodes, encode, scalar, scalars}
-use Rattle.std.proofs.lemmas.List.Elements.{All-get_or, All-weaker}
+use Rattle.std.proofs.lemmas.List.Elements.{All-weaker}
 use Rattle.kdl_text.specs.Chars.{Text}
 use Rattle.kdl_text.specs.Failures.{IsToldOf, Tells}
 use Rattle.kdl_text.specs.declared.error.KdlDiagnostic.{KdlDiagnostic}
@@ -51,18 +51,3 @@ all_pieces text ds u h = All-weaker (IsToldOf text) (λ d. IsPiece text d.span) 
 
 pub told_pieces : (text : List ℕ) (e : KdlError) → IsUtf8 text → Tells text e → All (λ d. IsPiece text d.span) e.diagnostics.items
 told_pieces text e u t = all_pieces text e.diagnostics.items u t.each
-
--- each one alone
-told_piece : (text : List ℕ) (e : KdlError) (i : ℕ) (d : KdlDiagnostic) → IsUtf8 text → Tells text e → i < length e.diagnostics.items → d ≡ get_or e.diagnostics.items i d → IsPiece text d.span
-told_piece text e i d u t b h =
-    let told : IsToldOf text (get_or e.diagnostics.items i d) = All-get_or (IsToldOf text) e.diagnostics.items i d b t.each in
-    is_piece text d.span u (subst (λ (x : KdlDiagnostic). IsToldOf text x) (sym h) told).span
-
-pub told_within : {text : List ℕ} {e : KdlError} {i : ℕ} {d : KdlDiagnostic} → IsUtf8 text → Tells text e → i < length e.diagnostics.items → d ≡ get_or e.diagnostics.items i d → d.span.offset + d.span.len ≤ length text
-told_within u t b h = (told_piece _ _ _ _ u t b h).within
-
-pub told_begins : {text : List ℕ} {e : KdlError} {i : ℕ} {d : KdlDiagnostic} → IsUtf8 text → Tells text e → i < length e.diagnostics.items → d ≡ get_or e.diagnostics.items i d → IsCharBoundary text d.span.offset
-told_begins u t b h = (told_piece _ _ _ _ u t b h).begins
-
-pub told_ends : {text : List ℕ} {e : KdlError} {i : ℕ} {d : KdlDiagnostic} → IsUtf8 text → Tells text e → i < length e.diagnostics.items → d ≡ get_or e.diagnostics.items i d → IsCharBoundary text (d.span.offset + d.span.len)
-told_ends u t b h = (told_piece _ _ _ _ u t b h).ends

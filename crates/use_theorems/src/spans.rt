@@ -3,13 +3,14 @@
 ghost use Rattle.kdl.specs.Words.{Tells};
 
 use kdl::{KdlDocument, KdlError, ParseFailure};
+use kdl_laws::spans::spans_are_pieces;
 use std::alloc::{AllocError, Global};
 
 /// The piece of the text at the first fault.
-#[tactic(auto, using(kdl_laws::proofs::PiecesOfText::told_within, kdl_laws::proofs::PiecesOfText::told_begins, kdl_laws::proofs::PiecesOfText::told_ends))]
 pub fn first_piece<'a>(text: &'a str, error: &KdlError) -> &'a str
     requires { Tells text.now error.now }
 {
+    spans_are_pieces(text, error);
     let at = error.diagnostics[0].span;
     &text[at.offset..at.offset + at.len]
 }
@@ -24,10 +25,14 @@ pub fn refusal<'a>(alloc: Global, text: &'a str) -> Result<Option<&'a str>, Allo
 }
 
 /// The pieces of the text at all faults.
-#[tactic(auto, using(kdl_laws::proofs::PiecesOfText::told_within, kdl_laws::proofs::PiecesOfText::told_begins, kdl_laws::proofs::PiecesOfText::told_ends))]
-pub fn pieces<'a>(alloc: Global, text: &'a str, error: &KdlError) -> Result<Vec<&'a str>, AllocError>
+pub fn pieces<'a>(
+    alloc: Global,
+    text: &'a str,
+    error: &KdlError,
+) -> Result<Vec<&'a str>, AllocError>
     requires { Tells text.now error.now }
 {
+    spans_are_pieces(text, error);
     let mut found = Vec::new(alloc);
     for diagnostic in &error.diagnostics {
         let at = diagnostic.span;

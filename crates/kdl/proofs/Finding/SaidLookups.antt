@@ -27,7 +27,7 @@ use Rattle.kdl.specs.DocumentLookups.{argument_named, argument_value, arguments_
 use Rattle.kdl.specs.Finds.{FindsSame, GivesArgument, GivesProperty, NodeFindsSame}
 use Rattle.kdl.specs.Iterators.{child_nodes, nodes_in}
 use Rattle.kdl.specs.Lookups.{entries_of, found_entry, found_value, property_place, property_value, value_of}
-use Rattle.kdl.specs.Said.{is_argument_of, is_node_of, is_property_of, last_property, nodes_inside, nth_argument, said_child_nodes, said_arg, said_args, said_argument, said_arguments, said_children, said_dash_args, said_dashes, said_entries, said_entry, said_name, said_node, said_nodes, said_property, said_type, said_value}
+use Rattle.kdl.specs.Said.{is_argument_of, is_node_of, last_property, nodes_inside, nth_argument, said_child_nodes, said_arg, said_args, said_argument, said_arguments, said_children, said_dash_args, said_dashes, said_entries, said_entry, said_name, said_node, said_nodes, said_property, said_type, said_value}
 use Rattle.kdl.specs.Tree.{document_says, document_tree, node_says, nodes_tree}
 use Rattle.kdl.specs.declared.node.KdlNode.{KdlNode}
 use Rattle.kdl.specs.declared.document.KdlDocument.{KdlDocument}
