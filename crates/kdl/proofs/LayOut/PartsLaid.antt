@@ -6,7 +6,7 @@ use Rattle.std.proofs.lemmas.Bool.{eq-eqb, eqb-true}
 use Rattle.kdl_value.proofs.WellFormed.{text_scalars}
 use Rattle.kdl_entry.specs.Tree.{Identifier, identifier_tree, Entry, entry_tree, entry_data, unspelled, cleared}
 use Rattle.kdl_text.specs.declared.span.SourceSpan.{SourceSpan}
-use Rattle.kdl_grammar.specs.Tree.{NodeFormat, document_data, Node, node, Nodes, listed_nodes, Document, document, Children, children, children_of, node_data, nodes_data, children_data, DocumentFormat}
+use Rattle.kdl_grammar.specs.Tree.{NodeFormat, document_data, Node, node, Nodes, listed_nodes, Document, document, Children, children_of, node_data, nodes_data, children_data, DocumentFormat}
 use Rattle.kdl_fmt.specs.Config.{Settings}
 use Rattle.kdl_fmt.specs.Formatted.{or_empty, or_empty_document, newline_if_none, bare_node, bare_nodes, bare_children, bare_document}
 use Rattle.kdl_fmt.specs.Plain.{newline_if}
