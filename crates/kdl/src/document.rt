@@ -1,6 +1,7 @@
 //! Documents.
 
 ghost use Rattle.kdl_grammar.specs.Tree.{document, none};
+ghost use Rattle.kdl.specs.ReadsBack.{BlockReadsBack, DocumentReadsBack};
 ghost use Rattle.kdl.specs.Tree.{node_tree, document_of, document_tree};
 ghost use Rattle.kdl_parser.specs.Internal.Parts.{document_by};
 ghost use Rattle.kdl_parser.specs.Internal.Whole.{whole_by};
@@ -90,8 +91,12 @@ impl KdlDocument {
     /// let name = KdlIdentifier::from_text(alloc, "server")?;
     /// document.nodes_mut().push(KdlNode::new(name)?)?; // prints `server` and a newline
     /// ```
+    #[tactic(auto, using(crate::proofs::ReadingBack::new_document_reads, crate::proofs::ReadingBack::new_block_reads))]
     pub fn new(alloc: Global) -> KdlDocument
-        ensures { document_tree result ≡ document None (record { offset = 0; len = 0 }) none }
+        ensures made { document_tree result
+            ≡ document None (record { offset = 0; len = 0 }) none }
+        ensures reads { DocumentReadsBack result }
+        ensures reads_block { BlockReadsBack result }
     {
         KdlDocument {
             nodes: Vec::new(alloc),

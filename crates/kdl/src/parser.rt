@@ -1,5 +1,6 @@
 //! Documents and nodes, read from a text.
 
+ghost use Rattle.kdl.specs.ReadsBack.{DocumentReadsBack, NodeReadsBack};
 ghost use Rattle.kdl.specs.Tree.{document_prints, document_says, document_tree, node_prints, node_says, node_tree};
 ghost use Rattle.kdl_grammar.specs.Data as data';
 ghost use Rattle.kdl_grammar.specs.Data.{Nodes};
@@ -83,6 +84,8 @@ impl KdlDocument {
         ensures edited { IfOk result (λ d. (e : Document)
             → EachDocument IsEdited (document_tree d) e
             → IsDocument true (print_document e 0) (document_data e)) }
+        // Edited, it reads back from what it prints: the edits tell where.
+        ensures reads { IfOk result (λ d. DocumentReadsBack d) }
     {
         let mut steps = Steps::new();
         KdlDocument::parse_counted(alloc, text, &mut steps)
@@ -118,6 +121,7 @@ impl KdlDocument {
         ensures edited { IfOk result (λ d. (e : Document)
             → EachDocument IsEdited (document_tree d) e
             → IsDocument true (print_document e 0) (document_data e)) }
+        ensures reads { IfOk result (λ d. DocumentReadsBack d) }
         // At least a step for each character is counted, and at most 32 for each byte and 32 more; for a text that is
         // refused, and what is told of it, at most 160.
         ensures least { OnOk result (raise steps.old (length (chars text.now)) ≤ steps.new) }
@@ -148,6 +152,7 @@ impl KdlDocument {
         ensures edited { IfOk result (λ d. (e : Document)
             → EachDocument IsEdited (document_tree d) e
             → IsDocument true (print_document e 0) (document_data e)) }
+        ensures reads { IfOk result (λ d. DocumentReadsBack d) }
     {
         KdlDocument::parse(alloc, text)
     }
@@ -186,6 +191,8 @@ impl KdlNode {
             → IsSyntax result → ⊥ }
         ensures former { (x : data'.Node) → IsFormerNodeText (chars text.now) x
             → IfOk result (λ n. node_says n ≡ x) }
+        // Edited, it reads back from what it prints: the edits tell where.
+        ensures reads { IfOk result (λ n. NodeReadsBack n) }
     {
         read_node(alloc, text)
     }

@@ -6,10 +6,12 @@ ghost use Rattle.kdl.specs.Lookups.{entries_of, entry_there};
 ghost use Rattle.kdl_parts.specs.Edits.{GoesUnder, HasArgumentAt, HasRoomAt, IsInserted, removed, replaced_place, under};
 ghost use Rattle.kdl_parts.specs.EntryLists.{is_argument, removed_place, sought};
 ghost use Rattle.kdl_parts.specs.Written.{entries_row};
+ghost use Rattle.kdl.specs.ReadsBack.{EntryReadsBack, IsUnformed, ReadsAs};
 ghost use Rattle.kdl.specs.Tree.{node_tree};
 ghost use Rattle.kdl.specs.contracts.node.KdlNode.{the_row};
 ghost use Rattle.kdl.specs.declared.node.KdlNode.{out-KdlNode};
 ghost use Rattle.kdl_entry.specs.Tree.{entry_tree};
+ghost use Rattle.kdl_grammar.specs.ReadsBack.{EntryReads};
 ghost use Rattle.std.specs.Borrow.{Lends, sem};
 ghost use Rattle.std.specs.Fn.{CalledAt};
 ghost use Rattle.std.specs.List.{count_by};
@@ -92,6 +94,8 @@ impl KdlNode {
     pub fn clear(&mut self)
         ensures items { entries_of self.new ≡ [] }
         ensures rest { self.new ≡ with_entries self.old (out-KdlNode self.new).entries }
+        // It reads back wherever it did.
+        ensures reads { ReadsAs self.old self.new }
     {
         edit::clear(&mut self.entries);
     }
@@ -110,6 +114,9 @@ impl KdlNode {
         ensures rest { self.new ≡ with_entries self.old (out-KdlNode self.new).entries }
         ensures back { IfErr result (λ e. e.0 ≡ entry) }
         ensures refused { OnErr result (node_tree self.new ≡ node_tree self.old) }
+        // With an entry that reads back, or has neither format nor spelling, it reads back wherever it did.
+        ensures reads { EntryReadsBack entry → ReadsAs self.old self.new }
+        ensures reads_unformed { IsUnformed (entry_tree entry) → ReadsAs self.old self.new }
     {
         edit::push(&mut self.entries, entry)
     }
@@ -147,6 +154,11 @@ impl KdlNode {
         ensures succeeds { IsSome (replaced_place key (entries_of self.old)) → IsOk result }
         ensures back { IfErr result (λ e. entry_tree e.0 ≡ under (sought key) (entry_tree entry)) }
         ensures refused { OnErr result (node_tree self.new ≡ node_tree self.old) }
+        // With an entry that reads back, or has neither format nor spelling, it reads back wherever it did.
+        ensures reads { EntryReads (under (sought key) (entry_tree entry))
+            → ReadsAs self.old self.new }
+        ensures reads_unformed { IsUnformed (under (sought key) (entry_tree entry))
+            → ReadsAs self.old self.new }
     {
         edit::insert(&mut self.entries, key, entry)
     }
@@ -164,6 +176,8 @@ impl KdlNode {
         ensures rest { self.new ≡ with_entries self.old (out-KdlNode self.new).entries }
         ensures value { result ≡
             entry_there (removed_place key (entries_of self.old)) self.old }
+        // It reads back wherever it did.
+        ensures reads { ReadsAs self.old self.new }
     {
         edit::remove(&mut self.entries, key)
     }
@@ -180,6 +194,8 @@ impl KdlNode {
         ensures items { IsFiltered (CalledAt F.FnMut) keep
             (entries_of self.old) (entries_of self.new) }
         ensures rest { self.new ≡ with_entries self.old (out-KdlNode self.new).entries }
+        // It reads back wherever it did.
+        ensures reads { ReadsAs self.old self.new }
     {
         edit::retain(&mut self.entries, keep);
     }
@@ -201,6 +217,8 @@ impl KdlNode {
         ensures stable { IsStableByClosure F.FnMut compare
             (entries_of self.old) (entries_of self.new) }
         ensures rest { self.new ≡ with_entries self.old (out-KdlNode self.new).entries }
+        // It reads back wherever it did.
+        ensures reads { ReadsAs self.old self.new }
     {
         edit::sort_by(&mut self.entries, compare)
     }
@@ -221,6 +239,8 @@ impl KdlNode {
         ensures stable { IsStableByKeyClosure F.FnMut K.cmp f
             (entries_of self.old) (entries_of self.new) }
         ensures rest { self.new ≡ with_entries self.old (out-KdlNode self.new).entries }
+        // It reads back wherever it did.
+        ensures reads { ReadsAs self.old self.new }
     {
         edit::sort_by_key(&mut self.entries, f)
     }

@@ -1,10 +1,14 @@
 //! Look-ups of entries by the name of a property, or by the place of an argument.
 
 ghost use Rattle.kdl.specs.Lookups.{found_entry, found_value, held_value, key_place, property_place, property_value, with_found_entry, with_found_value, HasSameEntries, HasWritten};
+ghost use Rattle.kdl.specs.ReadsBack.{EntryReadsBack, IsUnformed, ReadsAs, respelled};
+ghost use Rattle.kdl_entry.specs.Tree.{entry_tree};
 ghost use Rattle.kdl_parts.specs.declared.key.NodeKey.TheVariants.{Index as at_index};
+ghost use Rattle.kdl_value.specs.Data.{Value};
 ghost use Rattle.kdl_value.specs.Tree.{or_null, value_tree};
+ghost use Rattle.kdl_value.specs.WellFormed.{IsWellFormed};
 ghost use Rattle.std.specs.Borrow.{Lends, LendsIf, LendsSoOk, sem};
-ghost use Rattle.std.specs.Prelude.{◌≡◌, IfOk, IsNone, IsOk, IsSome, OnErr, Some, is_some, option_map};
+ghost use Rattle.std.specs.Prelude.{◌≡◌, IfOk, IfSome, IsNone, IsOk, IsSome, OnErr, Some, is_some, option_map};
 
 use crate::node::KdlNode;
 use kdl_entry::{KdlEntry, KdlValue};
@@ -71,6 +75,15 @@ impl KdlNode {
         ensures* writes_back { sem 𝓛 (LendsIf the_row entry_row self.entry result
             (with_found_entry key self.old) self.old) }
         ensures value { option_map (λ e. e.now) result ≡ found_entry key self.old }
+        // With an entry in its place that reads back, or where the old one did, the node reads back wherever it did.
+        ensures reads { IfSome result (λ e. (f : KdlEntry)
+            → (EntryReadsBack e.now → EntryReadsBack f)
+            → ReadsAs self.old (with_found_entry key self.old f)) }
+        ensures reads_unformed { IfSome result (λ e. (f : KdlEntry) → IsUnformed (entry_tree f)
+            → ReadsAs self.old (with_found_entry key self.old f)) }
+        ensures reads_respelled { IfSome result (λ e. (f : KdlEntry) (v : Value) → IsWellFormed v
+            → entry_tree f ≡ respelled v (entry_tree e.now)
+            → ReadsAs self.old (with_found_entry key self.old f)) }
     {
         lookup::entry_mut(&mut self.entries, key)
     }
