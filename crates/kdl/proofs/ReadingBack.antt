@@ -67,6 +67,10 @@ exchanged n v f P x =
     let c = All-map EntryReads entry_tree v.items (f (unmapped (entries_of n) (composing.entries_read x'))) in
     subst (λ (y : Node). NodeReads P y) (sym (node_tree_roll (record (out-KdlNode n) { entries = v }))) (composing.with_entries (map entry_tree v.items) x' c)
 
+pub entries_exchanged : (n : KdlNode) (v : Vec KdlEntry Global) → (All EntryReadsBack (entries_of n) → All EntryReadsBack v.items) → ReadsAs n (with_entries n v)
+unfolding AllRead
+entries_exchanged n v f = exchanged n v f
+
 -- an entry without form
 pub unformed_reads : (e : KdlEntry) → IsUnformed (entry_tree e) → EntryReadsBack e
 unformed_reads e u = formless_reads (entry_tree e) (record { plain = u.plain; key = name_scalars e.name; ty = name_scalars e.ty; value = u.value })
@@ -247,6 +251,16 @@ unspelled_name name (Some r) e ok = absurd (cc)
 
 pub unspelled_node_ends : (n : KdlNode) (name : KdlIdentifier) → node_tree n ≡ new_node (identifier_tree name) → (identifier_tree name).repr ≡ None → NodeEnds n
 unspelled_node_ends n name e h = new_node_ends n (identifier_tree name) e (unspelled_name (identifier_tree name) (identifier_tree name).repr h (text_scalars name.value))
+
+module _ {E : Type 0} (name : KdlIdentifier) where
+  pub unspelled_new_ends : (r : Result KdlNode E) → IfOk r (λ (n : KdlNode). node_tree n ≡ new_node (identifier_tree name)) → IfOk r (λ (n : KdlNode). (identifier_tree name).repr ≡ None → NodeEnds n)
+  unspelled_new_ends (Ok n) e = λ h. unspelled_node_ends n name e h
+  unspelled_new_ends (Err x) e = tt
+
+  pub spelled_new_ends : (r : Result KdlNode E) → IfOk r (λ (n : KdlNode). node_tree n ≡ new_node (identifier_tree name))
+      → IfOk r (λ (n : KdlNode). IsIdentifierText true (print_identifier (identifier_tree name)) (identifier_tree name).value → NodeEnds n)
+  spelled_new_ends (Ok n) e = λ i. new_node_ends n (identifier_tree name) e i
+  spelled_new_ends (Err x) e = tt
 
 -- what reads back
 

@@ -91,12 +91,18 @@ impl KdlDocument {
     /// let name = KdlIdentifier::from_text(alloc, "server")?;
     /// document.nodes_mut().push(KdlNode::new(name)?)?; // prints `server` and a newline
     /// ```
-    #[tactic(auto, using(crate::proofs::ReadingBack::new_document_reads, crate::proofs::ReadingBack::new_block_reads))]
     pub fn new(alloc: Global) -> KdlDocument
         ensures made { document_tree result
             ≡ document None (record { offset = 0; len = 0 }) none }
         ensures reads { DocumentReadsBack result }
         ensures reads_block { BlockReadsBack result }
+    {
+        KdlDocument::empty(alloc)
+    }
+
+    #[inline]
+    fn empty(alloc: Global) -> KdlDocument
+        ensures { document_tree result ≡ document None (record { offset = 0; len = 0 }) none }
     {
         KdlDocument {
             nodes: Vec::new(alloc),

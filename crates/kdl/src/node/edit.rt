@@ -13,11 +13,13 @@ ghost use Rattle.kdl.specs.declared.node.KdlNode.{out-KdlNode};
 ghost use Rattle.kdl_entry.specs.Tree.{entry_tree};
 ghost use Rattle.kdl_grammar.specs.ReadsBack.{EntryReads};
 ghost use Rattle.std.specs.Borrow.{Lends, sem};
+ghost use Rattle.kdl_entry.specs.declared.entry.KdlEntry.{KdlEntry};
 ghost use Rattle.std.specs.Fn.{CalledAt};
-ghost use Rattle.std.specs.List.{count_by};
+ghost use Rattle.std.specs.declared.alloc.Global.{Global};
+ghost use Rattle.std.specs.List.{All, count_by};
 ghost use Rattle.std.specs.List.Retain.{IsFiltered};
 ghost use Rattle.std.specs.List.Sorted.{IsPermutation, IsSortedByClosure, IsSortedByKeyClosure, IsStableByClosure, IsStableByKeyClosure};
-ghost use Rattle.std.specs.Prelude.{◌≡◌, ◌==◌, [], ◌∷◌, ◌++◌, if◌then◌else◌, IfErr, IfOk, IfSome, IsSome, IsOk, OnErr, OnOk, is_ok, length};
+ghost use Rattle.std.specs.Prelude.{◌≡◌, ◌==◌, [], ◌∷◌, ◌++◌, if◌then◌else◌, IfErr, IfOk, IfSome, IsSome, IsOk, OnErr, OnOk, Vec, is_ok, length};
 
 use crate::node::KdlNode;
 use kdl_entry::KdlEntry;
@@ -81,6 +83,10 @@ impl KdlNode {
         ensures* writes_back { sem 𝓛 (Lends the_row entries_row self.entry result
             (with_entries self.old)) }
         ensures value { result.now ≡ (out-KdlNode self.old).entries }
+        // With entries that read back where the old ones did, the node reads back wherever it did.
+        ensures reads { (v : Vec KdlEntry Global)
+            → (All EntryReadsBack (entries_of self.old) → All EntryReadsBack v.items)
+            → ReadsAs self.old (with_entries self.old v) }
     {
         &mut self.entries
     }

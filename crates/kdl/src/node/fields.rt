@@ -7,6 +7,7 @@ ghost use Rattle.kdl.specs.Tree.{node_tree, document_tree};
 ghost use Rattle.kdl.specs.contracts.document.KdlDocument.{the_row as document_row};
 ghost use Rattle.kdl.specs.contracts.node.KdlNode.{the_row};
 ghost use Rattle.kdl_parts.specs.contracts.format.KdlNodeFormat.{the_row as format_row};
+ghost use Rattle.kdl.specs.declared.document.KdlDocument.{KdlDocument};
 ghost use Rattle.kdl.specs.declared.node.KdlNode.{out-KdlNode};
 ghost use Rattle.kdl_entry.specs.contracts.identifier.KdlIdentifier.{the_row as identifier_row};
 ghost use Rattle.kdl_entry.specs.Entries.{IsIdentifierText};
@@ -38,6 +39,13 @@ impl KdlNode {
         ensures ends_spelled { IfOk result (λ n.
             IsIdentifierText true (print_identifier (identifier_tree name)) (identifier_tree name).value
             → NodeEnds n) }
+    {
+        KdlNode::named(name)
+    }
+
+    #[inline]
+    fn named(name: KdlIdentifier) -> Result<KdlNode, AllocError>
+        ensures { IfOk result (λ n. node_tree n ≡ new_node (identifier_tree name)) }
     {
         let alloc = *identifier_allocator(&name);
         let format = new_format(alloc)?;

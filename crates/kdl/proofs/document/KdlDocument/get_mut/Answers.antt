@@ -10,12 +10,16 @@ returns-in-Some c =
     let found = c.in-Some.ensures.place ∙ ap (position (is_node_named c.args.name.now)) c.deref.ensures.value in
     let value = found_is (is_node_named c.args.name.now) (nodes_of c.args.self.now) c.in-Some.at _ found (slice_get_read _ (length c.deref.result.now) _ _ (ap length c.deref.ensures.value) c.in-Some.ensures.bound c.index_mut.ensures.value) in (
       ap (λ o. inl (c.index_mut.result.ghost_name, λ n. with_node_there o c.args.self.now n)) found,
-      value,
-      λ m f. (named_reads c.args.name.now c.args.self.now _ m value f).0,
-      λ m f. (named_reads c.args.name.now c.args.self.now _ m value f).1,
+      (
+        value,
+        (
+          λ m f. (named_reads c.args.name.now c.args.self.now _ m value f).0,
+          λ m f. (named_reads c.args.name.now c.args.self.now _ m value f).1,
+        ),
+      ),
     )
 
 pub returns-in-None : goal.returns-in-None
 returns-in-None c =
     let absent = c.in-None.ensures.place ∙ ap (position (is_node_named c.args.name.now)) c.deref.ensures.value in
-    (refl, sym (none_there (is_node_named c.args.name.now) (nodes_of c.args.self.now) absent), tt, tt)
+    (refl, (sym (none_there (is_node_named c.args.name.now) (nodes_of c.args.self.now) absent), (tt, tt)))

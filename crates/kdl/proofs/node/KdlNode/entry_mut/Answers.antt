@@ -1,11 +1,21 @@
+use Rattle.std.proofs.Common.{ap, MutBor}
+use Rattle.std.specs.Option.{ghost_name_of}
+use Rattle.kdl_entry.specs.declared.entry.KdlEntry.{KdlEntry}
+use Rattle.kdl.specs.Lookups.{with_found_entry}
+use Rattle.kdl.specs.declared.document.KdlDocument.TheViews.{roll-out-KdlNode}
+use Rattle.kdl.specs.declared.node.KdlNode.{KdlNode}
 use Rattle.kdl.proofs.ReadingBack.{entry_loan_reads, entry_loan_respelled, entry_loan_unformed}
 use Rattle.kdl.proofs.node.KdlNode.entry_mut.Goals as goal
+use borrow.Follows.Closed.{read_of}
 
-pub returns-clause-reads : goal.returns-clause-reads
-returns-clause-reads c = entry_loan_reads (λ e. e.now) c.args.key c.args.self.now c.entry_mut.result c.entry_mut.ensures.value
-
-pub returns-clause-reads_unformed : goal.returns-clause-reads_unformed
-returns-clause-reads_unformed c = entry_loan_unformed (λ e. e.now) c.args.key c.args.self.now c.entry_mut.result c.entry_mut.ensures.value
-
-pub returns-clause-reads_respelled : goal.returns-clause-reads_respelled
-returns-clause-reads_respelled c = entry_loan_respelled (λ e. e.now) c.args.key c.args.self.now c.entry_mut.result c.entry_mut.ensures.value
+pub returns : goal.returns
+returns c = (
+  ap (λ (n : KdlNode). read_of (ghost_name_of c.entry_mut.result) (with_found_entry c.args.key c.args.self.now) n) (roll-out-KdlNode c.args.self.now),
+  record {
+    writes_back = tt;
+    value = c.entry_mut.ensures.value;
+    reads = entry_loan_reads (λ (e : MutBor KdlEntry). e.now) c.args.key c.args.self.now c.entry_mut.result c.entry_mut.ensures.value;
+    reads_unformed = entry_loan_unformed (λ (e : MutBor KdlEntry). e.now) c.args.key c.args.self.now c.entry_mut.result c.entry_mut.ensures.value;
+    reads_respelled = entry_loan_respelled (λ (e : MutBor KdlEntry). e.now) c.args.key c.args.self.now c.entry_mut.result c.entry_mut.ensures.value;
+  },
+)
