@@ -18,6 +18,8 @@ pub mod FormKept
 pub mod LaidFormats
 -- What a document, or a node, that was read says of the grammar.
 pub mod ParseAnswers
+-- What edits make of nodes and documents that read back.
+pub mod ReadingBack
 -- A node, and a document, with another span is equal to what it was.
 pub mod SpanIsIgnored
 -- The trees of a node and of a document, by their fields.

@@ -2,6 +2,7 @@
 
 ghost use Rattle.kdl.specs.Said.{said_nodes};
 ghost use Rattle.kdl.specs.Tree.{document_of, document_says, document_tree, node_says, node_tree};
+ghost use Rattle.kdl.specs.ReadsBack.{BlockReadsBack, DocumentReadsBack};
 ghost use Rattle.kdl_parser.specs.Internal.Parts.{document_by};
 ghost use Rattle.kdl_parser.specs.Internal.Whole.{whole_by};
 ghost use Rattle.kdl_grammar.specs.Laid.{with_bom};
@@ -96,6 +97,15 @@ impl KdlDocument {
     /// document.nodes_mut().push(KdlNode::new(name)?)?; // prints `server` and a newline
     /// ```
     pub fn new(alloc: Global) -> KdlDocument
+        ensures made { document_tree result ≡ new_document }
+        ensures reads { DocumentReadsBack result }
+        ensures reads_block { BlockReadsBack result }
+    {
+        KdlDocument::empty(alloc)
+    }
+
+    #[inline]
+    fn empty(alloc: Global) -> KdlDocument
         ensures { document_tree result ≡ new_document }
     {
         KdlDocument {

@@ -1,6 +1,7 @@
 //! Documents and nodes, read from a text.
 
 ghost use Rattle.kdl.specs.Layout.{DocumentKeepsNoForm, NodeKeepsNoForm};
+ghost use Rattle.kdl.specs.ReadsBack.{DocumentReadsBack, NodeReadsBack};
 ghost use Rattle.kdl.specs.Tree.{document_prints, document_says, document_tree, node_prints, node_says, node_tree};
 ghost use Rattle.kdl_grammar.specs.Data as data';
 ghost use Rattle.kdl_grammar.specs.Data.{Nodes};
@@ -85,6 +86,8 @@ impl KdlDocument {
         ensures edited { IfOk result (λ d. (e : Document)
             → EachDocument IsEdited (document_tree d) e
             → IsDocument true (print_document e 0) (document_data e)) }
+        // Edited, it reads back from what it prints: the edits tell where.
+        ensures reads { IfOk result (λ d. DocumentReadsBack d) }
     {
         let mut steps = Steps::new();
         KdlDocument::parse_counted(alloc, text, &mut steps)
@@ -121,6 +124,7 @@ impl KdlDocument {
         ensures edited { IfOk result (λ d. (e : Document)
             → EachDocument IsEdited (document_tree d) e
             → IsDocument true (print_document e 0) (document_data e)) }
+        ensures reads { IfOk result (λ d. DocumentReadsBack d) }
         // At least a step for each character is counted, and at most 32 for each byte and 32 more; for a text that is
         // refused, and what is told of it, at most 160.
         ensures least { OnOk result (raise steps.old (length (chars text.now)) ≤ steps.new) }
@@ -152,6 +156,7 @@ impl KdlDocument {
         ensures edited { IfOk result (λ d. (e : Document)
             → EachDocument IsEdited (document_tree d) e
             → IsDocument true (print_document e 0) (document_data e)) }
+        ensures reads { IfOk result (λ d. DocumentReadsBack d) }
     {
         KdlDocument::parse(alloc, text)
     }
@@ -192,6 +197,8 @@ impl KdlNode {
             → IsSyntax result → ⊥ }
         ensures former { (x : data'.Node) → IsFormerNodeText (chars text.now) x
             → IfOk result (λ n. node_says n ≡ x) }
+        // Edited, it reads back from what it prints: the edits tell where.
+        ensures reads { IfOk result (λ n. NodeReadsBack n) }
     {
         read_node(alloc, text)
     }

@@ -13,6 +13,7 @@ pub mod layout;
 pub mod machine;
 pub mod nodes;
 pub mod spans;
+pub mod reads_back;
 pub mod values;
 
 pub use kdl_grammar::laws::{

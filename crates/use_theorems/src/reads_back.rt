@@ -1,1 +1,134 @@
 //! Edited documents: what they print reads back.
+
+ghost use Rattle.kdl.specs.ReadsBack.{DocumentReadsBack, respelled};
+ghost use Rattle.kdl.specs.Words.{IsDocument, Nodes, document_says, entry_tree, print_value, text_of, value_tree};
+ghost use Rattle.std.specs.Prelude.{◌≡◌, IfOk, IfSome, true};
+
+use kdl::{KdlDocument, KdlEntry, KdlNode, KdlValue, NodeKey, ParseFailure};
+use kdl_laws::reads_back::document_reads_back;
+use kdl_laws::values::values_are_well_formed;
+use std::alloc::{AllocError, Global};
+
+/// The text of a document that reads back is a document with its data.
+pub fn printed(alloc: Global, document: &KdlDocument) -> Result<String, AllocError>
+    requires { DocumentReadsBack document.now }
+    ensures { IfOk result (λ out. IsDocument true (text_of out) (document_says document.now)) }
+{
+    document_reads_back();
+    Ok(document.to_string(alloc)?)
+}
+
+/// An argument more in the first node of a name.
+pub fn push_argument(document: &mut KdlDocument, name: &str, value: KdlValue)
+    requires { DocumentReadsBack document.old }
+    ensures { DocumentReadsBack document.new }
+{
+    values_are_well_formed(&value);
+    if let Some(node) = document.get_mut(name) {
+        let _ = node.push(KdlEntry::new(value));
+    }
+}
+
+/// A property in the first node of a name.
+pub fn set_property(
+    alloc: Global,
+    document: &mut KdlDocument,
+    name: &str,
+    property: &str,
+    value: KdlValue,
+) -> Result<(), AllocError>
+    requires { DocumentReadsBack document.old }
+    ensures { DocumentReadsBack document.new }
+{
+    values_are_well_formed(&value);
+    let key = NodeKey::from_text(alloc, property)?;
+    if let Some(node) = document.get_mut(name) {
+        let _ = node.insert(key, KdlEntry::new(value));
+    }
+    Ok(())
+}
+
+/// No property of that name in the first node of a name, where it had one at most.
+pub fn remove_property(
+    alloc: Global,
+    document: &mut KdlDocument,
+    name: &str,
+    property: &str,
+) -> Result<(), AllocError>
+    requires { DocumentReadsBack document.old }
+    ensures { DocumentReadsBack document.new }
+{
+    let key = NodeKey::from_text(alloc, property)?;
+    if let Some(node) = document.get_mut(name) {
+        let _ = node.remove(key);
+    }
+    Ok(())
+}
+
+/// Two arguments more, in a node in the block of another.
+pub fn push_two_in_block(
+    document: &mut KdlDocument,
+    outer: &str,
+    inner: &str,
+    one: KdlValue,
+    other: KdlValue,
+)
+    requires { DocumentReadsBack document.old }
+    ensures { DocumentReadsBack document.new }
+{
+    values_are_well_formed(&one);
+    values_are_well_formed(&other);
+    if let Some(node) = document.get_mut(outer) {
+        if let Some(block) = node.children_mut() {
+            if let Some(child) = block.get_mut(inner) {
+                let _ = child.push(KdlEntry::new(one));
+                let _ = child.push(KdlEntry::new(other));
+            }
+        }
+    }
+}
+
+/// Sets the value, and its spelling where the entry keeps one.
+fn respell(entry: &mut KdlEntry, value: KdlValue, spelling: String)
+    requires { text_of spelling ≡ print_value (value_tree value) }
+    ensures { entry_tree entry.new ≡ respelled (value_tree value) (entry_tree entry.old) }
+{
+    entry.set_value(value);
+    if let Some(format) = entry.format_mut() {
+        format.value_repr = spelling;
+    }
+}
+
+/// Another value as the first argument of the first node of a name, with its spelling.
+pub fn set_argument(
+    alloc: Global,
+    document: &mut KdlDocument,
+    name: &str,
+    value: KdlValue,
+) -> Result<(), AllocError>
+    requires { DocumentReadsBack document.old }
+    ensures { DocumentReadsBack document.new }
+{
+    values_are_well_formed(&value);
+    let spelling = value.to_string(alloc)?;
+    if let Some(node) = document.get_mut(name) {
+        if let Some(entry) = node.entry_mut(NodeKey::Index(0)) {
+            respell(entry, value, spelling);
+        }
+    }
+    Ok(())
+}
+
+/// A text, with an argument more in the first node of a name, is a document.
+pub fn push_in_text(
+    alloc: Global,
+    text: &str,
+    name: &str,
+    value: KdlValue,
+) -> Result<String, ParseFailure>
+    ensures { IfOk result (λ out. (x : Nodes) × IsDocument true (text_of out) x) }
+{
+    let mut document = KdlDocument::parse(alloc, text)?;
+    push_argument(&mut document, name, value);
+    Ok(printed(alloc, &document)?)
+}

@@ -5,8 +5,10 @@ ghost use Rattle.kdl.specs.Found.{IsSetIn};
 ghost use Rattle.kdl.specs.Lookups.{held_value, value_of};
 ghost use Rattle.kdl.specs.Said.{said_arg, said_node};
 ghost use Rattle.kdl.specs.Tree.{document_says, node_says};
+ghost use Rattle.kdl.specs.ReadsBack.{BlockReadsBack, DocumentReadsBack, ReadsAs};
 ghost use Rattle.kdl.specs.contracts.document.KdlDocument.{the_row};
 ghost use Rattle.kdl.specs.contracts.node.KdlNode.{the_row as node_row};
+ghost use Rattle.kdl.specs.declared.node.KdlNode.{KdlNode};
 ghost use Rattle.kdl_value.specs.Tree.{value_tree};
 ghost use Rattle.kdl_value.specs.contracts.value.KdlValue.{the_row as value_row};
 ghost use Rattle.std.specs.Borrow.{LendsIf, sem};
@@ -87,6 +89,13 @@ impl KdlDocument {
         ensures* writes_back { sem 𝓛 (LendsIf the_row node_row self.entry result
             (with_node_named name.now self.old) self.old) }
         ensures value { option_map (λ n. n.now) result ≡ node_named name.now self.old }
+        // With a node in its place that reads back wherever it did, the document reads back where it did.
+        ensures reads { IfSome result (λ n. (m : KdlNode) → ReadsAs n.now m
+            → DocumentReadsBack self.old
+            → DocumentReadsBack (with_node_named name.now self.old m)) }
+        ensures reads_block { IfSome result (λ n. (m : KdlNode) → ReadsAs n.now m
+            → BlockReadsBack self.old
+            → BlockReadsBack (with_node_named name.now self.old m)) }
     {
         match place(&self.nodes, name) {
             Some(at) => Some(&mut self.nodes[at]),

@@ -8,15 +8,19 @@ ghost use Rattle.kdl.specs.Lookups.{entries_of, entry_there};
 ghost use Rattle.kdl_parts.specs.Edits.{GoesUnder, HasArgumentAt, HasRoomAt, IsInserted, removed, replaced_place, under};
 ghost use Rattle.kdl_parts.specs.EntryLists.{is_argument, key_index, key_name, removed_place, sought};
 ghost use Rattle.kdl_parts.specs.Written.{entries_row};
+ghost use Rattle.kdl.specs.ReadsBack.{EntryReadsBack, IsUnformed, ReadsAs};
 ghost use Rattle.kdl.specs.Tree.{node_tree};
 ghost use Rattle.kdl.specs.contracts.node.KdlNode.{the_row};
 ghost use Rattle.kdl_entry.specs.Tree.{entry_tree};
+ghost use Rattle.kdl_grammar.specs.ReadsBack.{EntryReads};
 ghost use Rattle.std.specs.Borrow.{Lends, sem};
+ghost use Rattle.kdl_entry.specs.declared.entry.KdlEntry.{KdlEntry};
 ghost use Rattle.std.specs.Fn.{CalledAt};
-ghost use Rattle.std.specs.List.{count_by};
+ghost use Rattle.std.specs.declared.alloc.Global.{Global};
+ghost use Rattle.std.specs.List.{All, count_by};
 ghost use Rattle.std.specs.List.Retain.{IsFiltered};
 ghost use Rattle.std.specs.List.Sorted.{IsPermutation, IsSortedByClosure, IsSortedByKeyClosure, IsStableByClosure, IsStableByKeyClosure};
-ghost use Rattle.std.specs.Prelude.{◌≡◌, ◌==◌, [], ◌∷◌, ◌++◌, if◌then◌else◌, IfErr, IfNone, IfOk, IfSome, IsSome, IsOk, OnErr, OnOk, is_ok, length};
+ghost use Rattle.std.specs.Prelude.{◌≡◌, ◌==◌, [], ◌∷◌, ◌++◌, if◌then◌else◌, IfErr, IfNone, IfOk, IfSome, IsSome, IsOk, OnErr, OnOk, is_ok, length, Vec};
 ghost use Rattle.std.specs.Str.{encode_utf8_all};
 
 use crate::node::KdlNode;
@@ -81,6 +85,10 @@ impl KdlNode {
         ensures* writes_back { sem 𝓛 (Lends the_row entries_row self.entry result
             (with_entries self.old)) }
         ensures value { result.now ≡ held_entries self.old }
+        // With entries that read back where the old ones did, the node reads back wherever it did.
+        ensures reads { (v : Vec KdlEntry Global)
+            → (All EntryReadsBack (entries_of self.old) → All EntryReadsBack v.items)
+            → ReadsAs self.old (with_entries self.old v) }
     {
         &mut self.entries
     }
@@ -94,6 +102,8 @@ impl KdlNode {
     pub fn clear(&mut self)
         ensures items { entries_of self.new ≡ [] }
         ensures rest { self.new ≡ with_entries self.old (held_entries self.new) }
+        // It reads back wherever it did.
+        ensures reads { ReadsAs self.old self.new }
     {
         edit::clear(&mut self.entries);
     }
@@ -116,6 +126,9 @@ impl KdlNode {
             (IsAdded (entry_tree entry).value self.old self.new)) }
         ensures sets { OnOk result (IfSome (entry_tree entry).name (λ name.
             IsSet (encode_utf8_all name.value) (entry_tree entry).value self.old self.new)) }
+        // With an entry that reads back, or has neither format nor spelling, it reads back wherever it did.
+        ensures reads { EntryReadsBack entry → ReadsAs self.old self.new }
+        ensures reads_unformed { IsUnformed (entry_tree entry) → ReadsAs self.old self.new }
     {
         edit::push(&mut self.entries, entry)
     }
@@ -157,6 +170,11 @@ impl KdlNode {
             IsSet name (entry_tree entry).value self.old self.new)) }
         ensures puts { OnOk result (IfSome (key_index key) (λ i.
             IsPutIn i (entry_tree entry).value self.old self.new)) }
+        // With an entry that reads back, or has neither format nor spelling, it reads back wherever it did.
+        ensures reads { EntryReads (under (sought key) (entry_tree entry))
+            → ReadsAs self.old self.new }
+        ensures reads_unformed { IsUnformed (under (sought key) (entry_tree entry))
+            → ReadsAs self.old self.new }
     {
         edit::insert(&mut self.entries, key, entry)
     }
@@ -176,6 +194,8 @@ impl KdlNode {
             entry_there (removed_place key (entries_of self.old)) self.old }
         ensures takes { IfSome (key_name key) (λ name. IsTakenOut name self.old self.new) }
         ensures takes_at { IfSome (key_index key) (λ i. IsTakenOutAt i self.old self.new) }
+        // It reads back wherever it did.
+        ensures reads { ReadsAs self.old self.new }
     {
         edit::remove(&mut self.entries, key)
     }
@@ -192,6 +212,8 @@ impl KdlNode {
         ensures items { IsFiltered (CalledAt F.FnMut) keep
             (entries_of self.old) (entries_of self.new) }
         ensures rest { self.new ≡ with_entries self.old (held_entries self.new) }
+        // It reads back wherever it did.
+        ensures reads { ReadsAs self.old self.new }
     {
         edit::retain(&mut self.entries, keep);
     }
@@ -213,6 +235,8 @@ impl KdlNode {
         ensures stable { IsStableByClosure F.FnMut compare
             (entries_of self.old) (entries_of self.new) }
         ensures rest { self.new ≡ with_entries self.old (held_entries self.new) }
+        // It reads back wherever it did.
+        ensures reads { ReadsAs self.old self.new }
     {
         edit::sort_by(&mut self.entries, compare)
     }
@@ -233,6 +257,8 @@ impl KdlNode {
         ensures stable { IsStableByKeyClosure F.FnMut K.cmp f
             (entries_of self.old) (entries_of self.new) }
         ensures rest { self.new ≡ with_entries self.old (held_entries self.new) }
+        // It reads back wherever it did.
+        ensures reads { ReadsAs self.old self.new }
     {
         edit::sort_by_key(&mut self.entries, f)
     }

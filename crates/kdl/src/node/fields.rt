@@ -3,14 +3,18 @@
 ghost use Rattle.kdl.specs.Change.{with_name, with_ty, with_children, with_format, ty_row, children_row};
 ghost use Rattle.kdl.specs.Cleared.{new_node, new_document};
 ghost use Rattle.kdl.specs.Fields.{block_of, name_of, node_format_of, ty_of};
+ghost use Rattle.kdl.specs.ReadsBack.{BlockReadsBack, NodeEnds, ReadsAs};
 ghost use Rattle.kdl.specs.Tree.{node_tree, document_tree};
 ghost use Rattle.kdl.specs.contracts.document.KdlDocument.{the_row as document_row};
 ghost use Rattle.kdl.specs.contracts.node.KdlNode.{the_row};
 ghost use Rattle.kdl_parts.specs.contracts.format.KdlNodeFormat.{the_row as format_row};
+ghost use Rattle.kdl.specs.declared.document.KdlDocument.{KdlDocument};
 ghost use Rattle.kdl_entry.specs.contracts.identifier.KdlIdentifier.{the_row as identifier_row};
+ghost use Rattle.kdl_entry.specs.Entries.{IsIdentifierText};
+ghost use Rattle.kdl_entry.specs.Print.{print_identifier};
 ghost use Rattle.kdl_entry.specs.Tree.{identifier_tree};
 ghost use Rattle.std.specs.Borrow.{Lends, LendsIf, sem};
-ghost use Rattle.std.specs.Prelude.{◌≡◌, IfNone, IfOk, IfSome, None, Some, option_map};
+ghost use Rattle.std.specs.Prelude.{◌≡◌, IfNone, IfOk, IfSome, None, Some, option_map, true};
 
 use crate::document::KdlDocument;
 use crate::node::KdlNode;
@@ -29,6 +33,18 @@ impl KdlNode {
     /// let node = KdlNode::new(name)?; // prints "\"two words\"\n"
     /// ```
     pub fn new(name: KdlIdentifier) -> Result<KdlNode, AllocError>
+        ensures made { IfOk result (λ n. node_tree n ≡ new_node (identifier_tree name)) }
+        // It reads back before any text, where the name has no spelling, or one that is that name.
+        ensures ends { IfOk result (λ n. (identifier_tree name).repr ≡ None → NodeEnds n) }
+        ensures ends_spelled { IfOk result (λ n.
+            IsIdentifierText true (print_identifier (identifier_tree name)) (identifier_tree name).value
+            → NodeEnds n) }
+    {
+        KdlNode::named(name)
+    }
+
+    #[inline]
+    fn named(name: KdlIdentifier) -> Result<KdlNode, AllocError>
         ensures { IfOk result (λ n. node_tree n ≡ new_node (identifier_tree name)) }
     {
         let alloc = *identifier_allocator(&name);
@@ -107,6 +123,10 @@ impl KdlNode {
         ensures* writes_back { sem 𝓛 (Lends the_row children_row self.entry result
             (with_children self.old)) }
         ensures value { result.now ≡ block_of self.old }
+        // With a block that reads back where the old one did, the node reads back wherever it did.
+        ensures reads { (d e : KdlDocument) → result.now ≡ Some d
+            → (BlockReadsBack d → BlockReadsBack e)
+            → ReadsAs self.old (with_children self.old (Some e)) }
     {
         &mut self.children
     }

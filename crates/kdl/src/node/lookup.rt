@@ -7,8 +7,12 @@ ghost use Rattle.kdl.specs.Said.{said_entry, said_property, said_value};
 ghost use Rattle.kdl.specs.Tree.{node_says};
 ghost use Rattle.kdl_entry.specs.Tree.{entry_data, entry_tree};
 ghost use Rattle.kdl_parts.specs.EntryLists.{key_index, key_name, sought};
+ghost use Rattle.kdl.specs.ReadsBack.{EntryReadsBack, IsUnformed, ReadsAs, respelled};
+ghost use Rattle.kdl_entry.specs.declared.entry.KdlEntry.{KdlEntry};
 ghost use Rattle.kdl_parts.specs.declared.key.NodeKey.TheVariants.{Index as at_index};
+ghost use Rattle.kdl_value.specs.Data.{Value};
 ghost use Rattle.kdl_value.specs.Tree.{or_null, value_tree};
+ghost use Rattle.kdl_value.specs.WellFormed.{IsWellFormed};
 ghost use Rattle.std.specs.Borrow.{Lends, LendsIf, LendsSoOk, sem};
 ghost use Rattle.std.specs.Prelude.{◌≡◌, IfOk, IfSome, IsNone, IsOk, IsSome, OnErr, Some, is_some, option_map};
 ghost use Rattle.std.specs.Str.{chars};
@@ -98,6 +102,15 @@ impl KdlNode {
         ensures sets_at { IfSome result (λ e. IfSome (key_index key) (λ i. (w : KdlEntry) →
             (entry_tree w).name ≡ (entry_tree e.now).name →
             IsArgumentSet i (entry_tree w).value self.old (with_found_entry key self.old w))) }
+        // With an entry in its place that reads back, or where the old one did, the node reads back wherever it did.
+        ensures reads { IfSome result (λ e. (f : KdlEntry)
+            → (EntryReadsBack e.now → EntryReadsBack f)
+            → ReadsAs self.old (with_found_entry key self.old f)) }
+        ensures reads_unformed { IfSome result (λ e. (f : KdlEntry) → IsUnformed (entry_tree f)
+            → ReadsAs self.old (with_found_entry key self.old f)) }
+        ensures reads_respelled { IfSome result (λ e. (f : KdlEntry) (v : Value) → IsWellFormed v
+            → entry_tree f ≡ respelled v (entry_tree e.now)
+            → ReadsAs self.old (with_found_entry key self.old f)) }
     {
         lookup::entry_mut(&mut self.entries, key)
     }

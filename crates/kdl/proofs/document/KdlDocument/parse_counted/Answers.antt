@@ -1,5 +1,6 @@
 use Rattle.std.specs.Str.{chars}
-use Rattle.kdl.proofs.ParseAnswers.{keeps_none, kept, former, edited}
+use Rattle.kdl.proofs.ParseAnswers.{keeps_none, kept, former, edited, laid}
+use Rattle.kdl.proofs.ReadingBack.{document_read}
 use Rattle.kdl.proofs.document.KdlDocument.parse_counted.Goals as goal
 
 pub returns-clause-keeps_none : goal.returns-clause-keeps_none
@@ -13,3 +14,6 @@ returns-clause-former c x i = former (chars c.args.text.now) c.parse_from.result
 
 pub returns-clause-edited : goal.returns-clause-edited
 returns-clause-edited c = edited (chars c.args.text.now) c.parse_from.result c.parse_from.ensures.answers
+
+pub returns-clause-reads : goal.returns-clause-reads
+returns-clause-reads c = document_read (chars c.args.text.now) c.parse_from.result (laid (chars c.args.text.now) c.parse_from.result c.parse_from.ensures.answers)

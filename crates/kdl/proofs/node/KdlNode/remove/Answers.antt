@@ -1,4 +1,5 @@
 use Rattle.kdl.proofs.Finding.EntriesFound.{remove_takes, remove_takes_at}
+use Rattle.kdl.proofs.ReadingBack.{remove_reads}
 use Rattle.kdl.proofs.node.KdlNode.remove.Goals as goal
 
 pub returns-clause-takes : goal.returns-clause-takes
@@ -6,3 +7,6 @@ returns-clause-takes c = remove_takes c.args.key c.args.self.now c.remove.new.en
 
 pub returns-clause-takes_at : goal.returns-clause-takes_at
 returns-clause-takes_at c = remove_takes_at c.args.key c.args.self.now c.remove.new.entries c.requires c.remove.ensures.items
+
+pub returns-clause-reads : goal.returns-clause-reads
+returns-clause-reads c = remove_reads c.args.key c.args.self.now c.remove.new.entries c.remove.ensures.items

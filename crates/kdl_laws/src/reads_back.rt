@@ -1,0 +1,62 @@
+//! What reads back: documents and nodes from the text that they print, entries in any node.
+
+ghost use Rattle.kdl.specs.DocumentLookups.{nodes_of};
+ghost use Rattle.kdl.specs.ReadsBack.{BlockReadsBack, DocumentReadsBack, EntryReadsBack, IsUnformed, NodeEnds, NodeReadsBack, respelled};
+ghost use Rattle.kdl.specs.Tree.{document_prints, document_says, node_prints, node_says};
+ghost use Rattle.kdl.specs.declared.document.KdlDocument.{KdlDocument};
+ghost use Rattle.kdl.specs.declared.node.KdlNode.{KdlNode, out-KdlNode};
+ghost use Rattle.kdl_entry.specs.Tree.{entry_tree};
+ghost use Rattle.kdl_entry.specs.declared.entry.KdlEntry.{KdlEntry};
+ghost use Rattle.kdl_grammar.specs.Data.{first, none};
+ghost use Rattle.kdl_grammar.specs.Grammar.{IsDocument};
+ghost use Rattle.kdl_value.specs.Data.{Value};
+ghost use Rattle.kdl_value.specs.WellFormed.{IsWellFormed};
+ghost use Rattle.std.specs.List.{All};
+ghost use Rattle.std.specs.Prelude.{◌≡◌, Some, true};
+
+/// A document that reads back prints a text that is a document with its data.
+#[tactic(auto, using(kdl::proofs::ReadingBack::document_derived))]
+pub fn document_reads_back()
+    ensures { (d : KdlDocument) → DocumentReadsBack d
+        → IsDocument true (document_prints d) (document_says d) }
+{}
+
+/// A node that reads back prints a text that is a document with that node alone.
+#[tactic(auto, using(kdl::proofs::ReadingBack::node_derived_alone))]
+pub fn node_reads_back()
+    ensures { (n : KdlNode) → NodeReadsBack n
+        → IsDocument true (node_prints n) (first (node_says n) none) }
+{}
+
+/// Each node of a document that reads back reads back.
+#[tactic(auto, using(kdl::proofs::ReadingBack::nodes_read_back))]
+pub fn nodes_read_back()
+    ensures { (d : KdlDocument) → DocumentReadsBack d → All NodeReadsBack (nodes_of d) }
+{}
+
+/// A node that ends by itself reads back.
+#[tactic(auto, using(kdl::proofs::ReadingBack::ended_reads))]
+pub fn ended_reads_back()
+    ensures { (n : KdlNode) → NodeEnds n → NodeReadsBack n }
+{}
+
+/// The block of a node that reads back reads back as a block.
+#[tactic(auto, using(kdl::proofs::ReadingBack::block_reads_back))]
+pub fn block_reads_back()
+    ensures { (n : KdlNode) (d : KdlDocument) → NodeReadsBack n
+        → (out-KdlNode n).children ≡ Some d → BlockReadsBack d }
+{}
+
+/// An entry with neither a format nor a spelling reads back in any node.
+#[tactic(auto, using(kdl::proofs::ReadingBack::unformed_reads))]
+pub fn unformed_reads_back()
+    ensures { (e : KdlEntry) → IsUnformed (entry_tree e) → EntryReadsBack e }
+{}
+
+/// An entry that reads back does so with another value, where its format, if it has one, has the spelling that the value
+/// prints.
+#[tactic(auto, using(kdl::proofs::ReadingBack::other_value_reads))]
+pub fn other_value_reads_back()
+    ensures { (e f : KdlEntry) (v : Value) → EntryReadsBack e → IsWellFormed v
+        → entry_tree f ≡ respelled v (entry_tree e) → EntryReadsBack f }
+{}
