@@ -1,5 +1,6 @@
 //! Look-ups of nodes by their name.
 
+ghost use Rattle.kdl.specs.Bytes.{IsExchangedInDocument, IsExchangedInNode};
 ghost use Rattle.kdl.specs.DocumentLookups.{argument_named, argument_place, first_argument, is_node_named, node_named, with_argument_named, with_node_named};
 ghost use Rattle.kdl.specs.Found.{IsSetIn};
 ghost use Rattle.kdl.specs.Lookups.{held_value, value_of};
@@ -7,6 +8,7 @@ ghost use Rattle.kdl.specs.Said.{said_arg, said_node};
 ghost use Rattle.kdl.specs.Tree.{document_says, node_says};
 ghost use Rattle.kdl.specs.contracts.document.KdlDocument.{the_row};
 ghost use Rattle.kdl.specs.contracts.node.KdlNode.{the_row as node_row};
+ghost use Rattle.kdl_text.specs.Chars.{Text};
 ghost use Rattle.kdl_value.specs.Tree.{value_tree};
 ghost use Rattle.kdl_value.specs.contracts.value.KdlValue.{the_row as value_row};
 ghost use Rattle.std.specs.Borrow.{LendsIf, sem};
@@ -75,7 +77,8 @@ impl KdlDocument {
         first_named(&self.nodes, name)
     }
 
-    /// The first node of that name, to be changed in place. All else stays as it is.
+    /// The first node of that name, to be changed in place. All else stays as it is, and each byte of the printed text
+    /// before and after what the node prints.
     ///
     /// ```
     /// let mut document = KdlDocument::parse(alloc, "host a; port 1 // kept")?;
@@ -87,6 +90,9 @@ impl KdlDocument {
         ensures* writes_back { sem 𝓛 (LendsIf the_row node_row self.entry result
             (with_node_named name.now self.old) self.old) }
         ensures value { option_map (λ n. n.now) result ≡ node_named name.now self.old }
+        ensures bytes { IfSome result (λ n. (m : KdlNode) (p q : Text) →
+            IsExchangedInNode p q n.now m →
+            IsExchangedInDocument p q self.old (with_node_named name.now self.old m)) }
     {
         match place(&self.nodes, name) {
             Some(at) => Some(&mut self.nodes[at]),

@@ -1,5 +1,6 @@
 //! The parts of a node, to be set or to be changed in place.
 
+ghost use Rattle.kdl.specs.Bytes.{IsExchangedInDocument, IsExchangedInNode};
 ghost use Rattle.kdl.specs.Change.{with_name, with_ty, with_children, with_format, ty_row, children_row};
 ghost use Rattle.kdl.specs.Cleared.{new_node, new_document};
 ghost use Rattle.kdl.specs.Fields.{block_of, name_of, node_format_of, ty_of};
@@ -9,8 +10,9 @@ ghost use Rattle.kdl.specs.contracts.node.KdlNode.{the_row};
 ghost use Rattle.kdl_parts.specs.contracts.format.KdlNodeFormat.{the_row as format_row};
 ghost use Rattle.kdl_entry.specs.contracts.identifier.KdlIdentifier.{the_row as identifier_row};
 ghost use Rattle.kdl_entry.specs.Tree.{identifier_tree};
+ghost use Rattle.kdl_text.specs.Chars.{Text};
 ghost use Rattle.std.specs.Borrow.{Lends, LendsIf, sem};
-ghost use Rattle.std.specs.Prelude.{◌≡◌, IfNone, IfOk, IfSome, None, Some, option_map};
+ghost use Rattle.std.specs.Prelude.{◌≡◌, IfNone, IfOk, IfSome, IsSome, None, Some, option_map};
 
 use crate::document::KdlDocument;
 use crate::node::KdlNode;
@@ -107,6 +109,9 @@ impl KdlNode {
         ensures* writes_back { sem 𝓛 (Lends the_row children_row self.entry result
             (with_children self.old)) }
         ensures value { result.now ≡ block_of self.old }
+        ensures bytes { IfSome result.now (λ d. (e : KdlDocument) (p q : Text) →
+            IsExchangedInDocument p q d e →
+            IsExchangedInNode p q self.old (with_children self.old (Some e))) }
     {
         &mut self.children
     }
@@ -149,6 +154,9 @@ impl KdlNode {
         ensures found { IfSome (block_of self.old) (λ d. result.now ≡ d) }
         ensures made { IfNone (block_of self.old)
             (document_tree result.now ≡ new_document) }
+        ensures bytes { IsSome (block_of self.old) → (e : KdlDocument) (p q : Text) →
+            IsExchangedInDocument p q result.now e →
+            IsExchangedInNode p q self.old (with_children self.old (Some e)) }
     {
         let alloc = *self.entries.allocator();
         self.children.get_or_insert(KdlDocument::new(alloc))

@@ -1,5 +1,6 @@
 use Rattle.kdl.proofs.EditLaws.{insert_prints}
 use Rattle.kdl.proofs.Finding.EntriesFound.{insert_puts, insert_sets}
+use Rattle.kdl.proofs.PiecesExchanged.{insert_exchanges}
 use Rattle.kdl.proofs.node.KdlNode.insert.Goals as goal
 
 pub returns-clause-prints : goal.returns-clause-prints
@@ -10,3 +11,6 @@ returns-clause-sets c = insert_sets c.insert.result c.args.key c.args.entry c.ar
 
 pub returns-clause-puts : goal.returns-clause-puts
 returns-clause-puts c = insert_puts c.insert.result c.args.key c.args.entry c.args.self.now c.insert.new.entries c.requires.fits c.requires.room c.insert.ensures.items
+
+pub returns-clause-bytes : goal.returns-clause-bytes
+returns-clause-bytes c = insert_exchanges c.insert.result c.args.key c.args.entry c.args.self.now c.insert.new.entries c.insert.ensures.items c.insert.ensures.replaced

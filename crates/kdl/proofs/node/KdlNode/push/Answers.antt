@@ -1,4 +1,5 @@
 use Rattle.kdl.proofs.Finding.EntriesFound.{push_adds, push_sets}
+use Rattle.kdl.proofs.PiecesExchanged.{push_exchanges}
 use Rattle.kdl.proofs.node.KdlNode.push.Goals as goal
 
 pub returns-clause-adds : goal.returns-clause-adds
@@ -6,3 +7,6 @@ returns-clause-adds c = push_adds c.push.result c.args.entry c.args.self.now c.p
 
 pub returns-clause-sets : goal.returns-clause-sets
 returns-clause-sets c = push_sets c.push.result c.args.entry c.args.self.now c.push.new.entries c.push.ensures.items
+
+pub returns-clause-bytes : goal.returns-clause-bytes
+returns-clause-bytes c = push_exchanges c.push.result c.args.entry c.args.self.now c.push.new.entries c.push.ensures.items
