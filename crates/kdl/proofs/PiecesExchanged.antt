@@ -50,9 +50,9 @@ entry_piece n (Some i) old new f h =
 
 -- so through the loan of the entry that a key finds
 pub loan_exchanges : {A : Type 0} (now : A → KdlEntry) (key : NodeKey) (n : KdlNode) (o : Option A) → option_map now o ≡ found_entry key n
-    → IsSome (out-KdlNode n).format → IfSome o (λ e. (w : KdlEntry) → IsExchangedInNode (print_piece (entry_tree (now e))) (print_piece (entry_tree w)) n (with_found_entry key n w))
-loan_exchanges now key n None h f = tt
-loan_exchanges now key n (Some e) h f = λ w. entry_piece n (key_place key n) (now e) w f h
+    → IfSome o (λ e. (w : KdlEntry) → IsSome (out-KdlNode n).format → IsExchangedInNode (print_piece (entry_tree (now e))) (print_piece (entry_tree w)) n (with_found_entry key n w))
+loan_exchanges now key n None h = tt
+loan_exchanges now key n (Some e) h = λ w f. entry_piece n (key_place key n) (now e) w f h
 
 -- entries of a node with a format, exchanged for others
 abbrev pieces : List KdlEntry → Text
@@ -60,10 +60,10 @@ pieces es = print_pieces (map entry_tree es)
 
 pieces_between : (a es z : List KdlEntry) → pieces (a ++ es ++ z) ≡ pieces a ++ pieces es ++ pieces z
 pieces_between a es z =
-    ap print_pieces (map-append entry_tree a (es ++ z))
-    ∙ print_pieces-append (map entry_tree a) (map entry_tree (es ++ z))
-    ∙ ap (λ t. pieces a ++ print_pieces t) (map-append entry_tree es z)
-    ∙ ap (λ t. pieces a ++ t) (print_pieces-append (map entry_tree es) (map entry_tree z))
+    ap print_pieces (map-append entry_tree (a ++ es) z)
+    ∙ print_pieces-append (map entry_tree (a ++ es)) (map entry_tree z)
+    ∙ ap (λ t. print_pieces t ++ pieces z) (map-append entry_tree a es)
+    ∙ ap (λ t. t ++ pieces z) (print_pieces-append (map entry_tree a) (map entry_tree es))
 
 prints_entries : (n : KdlNode) (depth : ℕ) → print_node (node_tree n) depth ≡ head_of (node_tree n) depth ++ pieces (entries_of n) ++ tail_of (node_tree n) depth
 prints_entries n depth =
@@ -100,20 +100,21 @@ piece_listed : (o : Option KdlEntry) → pieces (listed o) ≡ piece_of o
 piece_listed None = refl
 piece_listed (Some e) = append-nil (print_piece (entry_tree e))
 
-exchanged_one : (n : KdlNode) (v : Vec KdlEntry Global) (a z : List KdlEntry) (o r : Option KdlEntry) → IsSome (out-KdlNode n).format → entries_of n ≡ a ++ listed o ++ z → v.items ≡ a ++ listed r ++ z
+exchanged_one : (n : KdlNode) (v : Vec KdlEntry Global) (a z : List KdlEntry) (o r : Option KdlEntry) → IsSome (out-KdlNode n).format → entries_of n ≡ a ++ (listed o ++ z) → v.items ≡ a ++ (listed r ++ z)
     → IsExchangedInNode (piece_of o) (piece_of r) n (with_entries n v)
 exchanged_one n v a z o r f h k =
     subst (λ (t : Text). IsExchangedInNode t (piece_of r) n (with_entries n v)) (piece_listed o)
-    (subst (λ (t : Text). IsExchangedInNode (pieces (listed o)) t n (with_entries n v)) (piece_listed r) (spliced n v a (listed o) (listed r) z f h k))
+    (subst (λ (t : Text). IsExchangedInNode (pieces (listed o)) t n (with_entries n v)) (piece_listed r)
+      (spliced n v a (listed o) (listed r) z f (h ∙ sym (append_assoc a (listed o) z)) (k ∙ sym (append_assoc a (listed r) z))))
 
 -- the elements around a place
-split : (xs : List KdlEntry) (i : ℕ) → xs ≡ take i xs ++ listed (slice_get xs i) ++ drop (suc i) xs
+split : (xs : List KdlEntry) (i : ℕ) → xs ≡ take i xs ++ (listed (slice_get xs i) ++ drop (suc i) xs)
 split [] zero = refl
 split [] (suc i) = refl
 split (x ∷ xs) zero = refl
 split (x ∷ xs) (suc i) = ap (λ l. x ∷ l) (split xs i)
 
-parts : (xs : List KdlEntry) (i : ℕ) → xs ≡ take i xs ++ listed (slice_get xs i) ++ drop (i + 1) xs
+parts : (xs : List KdlEntry) (i : ℕ) → xs ≡ take i xs ++ (listed (slice_get xs i) ++ drop (i + 1) xs)
 parts xs i = rw add-one (split xs i)
 
 -- an entry is put in the place of one, or last
@@ -192,8 +193,8 @@ format_out : (d : KdlDocument) → format_of (document_tree d) ≡ option_map do
 format_out d = ap format_of (document_tree_out d)
 
 -- the block of a node, in which a piece is exchanged
-pub block_exchanges : (n : KdlNode) (d : KdlDocument) → (out-KdlNode n).children ≡ Some d → (e : KdlDocument) (p q : Text) → IsExchangedInDocument p q d e → IsExchangedInNode p q n (with_children n (Some e))
-block_exchanges n d h e p q x =
+pub block_exchanges : (n : KdlNode) (d e : KdlDocument) (p q : Text) → (out-KdlNode n).children ≡ Some d → IsExchangedInDocument p q d e → IsExchangedInNode p q n (with_children n (Some e))
+block_exchanges n d e p q h x =
     let y = out-KdlNode n in
     let old : node_tree n ≡ node (head y) (children (document_tree d)) = node_tree_out n ∙ ap (λ o. node (head y) (children_of (option_map document_tree o))) h in
     let new : node_tree (with_children n (Some e)) ≡ node (head y) (children (document_tree e)) = node_tree_roll (record y { children = Some e }) in
@@ -204,13 +205,8 @@ block_exchanges n d h e p q x =
     (ap (λ t. print_node t depth) new ∙ block_text (head y) (document_tree e) depth (format_of (document_tree d)) same) in
     record { prints = at }
 
--- so of a block that may be there
-pub child_exchanges : (n : KdlNode) (o : Option KdlDocument) → o ≡ (out-KdlNode n).children
-    → IfSome o (λ d. (e : KdlDocument) (p q : Text) → IsExchangedInDocument p q d e → IsExchangedInNode p q n (with_children n (Some e)))
-child_exchanges n None h = tt
-child_exchanges n (Some d) h = block_exchanges n d (sym h)
-
+-- so of a block that is made where there is none
 pub ensured_exchanges : (n : KdlNode) (o : Option KdlDocument) (r d : KdlDocument) → o ≡ (out-KdlNode n).children → r ≡ unwrap_or o d → IsSome o
     → (e : KdlDocument) (p q : Text) → IsExchangedInDocument p q r e → IsExchangedInNode p q n (with_children n (Some e))
 ensured_exchanges n None r d h k s = absurd (cc)
-ensured_exchanges n (Some b) r d h k s = λ e p q x. block_exchanges n b (sym h) e p q (subst (λ (y : KdlDocument). IsExchangedInDocument p q y e) k x)
+ensured_exchanges n (Some b) r d h k s = λ e p q x. block_exchanges n b e p q (sym h) (subst (λ (y : KdlDocument). IsExchangedInDocument p q y e) k x)

@@ -109,9 +109,9 @@ impl KdlNode {
         ensures* writes_back { sem 𝓛 (Lends the_row children_row self.entry result
             (with_children self.old)) }
         ensures value { result.now ≡ block_of self.old }
-        ensures bytes { IfSome result.now (λ d. (e : KdlDocument) (p q : Text) →
+        ensures bytes { (d e : KdlDocument) (p q : Text) → result.now ≡ Some d →
             IsExchangedInDocument p q d e →
-            IsExchangedInNode p q self.old (with_children self.old (Some e))) }
+            IsExchangedInNode p q self.old (with_children self.old (Some e)) }
     {
         &mut self.children
     }

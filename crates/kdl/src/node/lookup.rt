@@ -96,7 +96,7 @@ impl KdlNode {
         ensures* writes_back { sem 𝓛 (LendsIf the_row entry_row self.entry result
             (with_found_entry key self.old) self.old) }
         ensures value { option_map (λ e. e.now) result ≡ found_entry key self.old }
-        ensures bytes { IsSome (node_format_of self.old) → IfSome result (λ e. (w : KdlEntry) →
+        ensures bytes { IfSome result (λ e. (w : KdlEntry) → IsSome (node_format_of self.old) →
             IsExchangedInNode (print_piece (entry_tree e.now)) (print_piece (entry_tree w))
             self.old (with_found_entry key self.old w)) }
         ensures sets { IfSome result (λ e. IfSome (key_name key) (λ name. (w : KdlEntry) →

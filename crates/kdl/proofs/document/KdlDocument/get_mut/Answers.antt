@@ -11,20 +11,10 @@ returns-in-Some c =
     let value : Some c.index_mut.result.now ≡ node_named c.args.name.now c.args.self.now =
     found_is (is_node_named c.args.name.now) (nodes_of c.args.self.now) c.in-Some.at _ found (slice_get_read _ (length c.deref.result.now) _ _ (ap length c.deref.ensures.value) c.in-Some.ensures.bound c.index_mut.ensures.value) in (
       ap (λ o. inl (c.index_mut.result.ghost_name, λ n. with_node_there o c.args.self.now n)) found,
-      record {
-        writes_back = tt;
-        value = value;
-        bytes = named_exchanges c.args.name.now c.args.self.now c.index_mut.result.now value;
-      },
+      (value, named_exchanges c.args.name.now c.args.self.now c.index_mut.result.now value),
     )
 
 pub returns-in-None : goal.returns-in-None
 returns-in-None c =
-    let absent = c.in-None.ensures.place ∙ ap (position (is_node_named c.args.name.now)) c.deref.ensures.value in (
-      refl,
-      record {
-        writes_back = tt;
-        value = sym (none_there (is_node_named c.args.name.now) (nodes_of c.args.self.now) absent);
-        bytes = tt;
-      },
-    )
+    let absent = c.in-None.ensures.place ∙ ap (position (is_node_named c.args.name.now)) c.deref.ensures.value in
+    (refl, (sym (none_there (is_node_named c.args.name.now) (nodes_of c.args.self.now) absent), tt))

@@ -1,7 +1,6 @@
-use Rattle.std.proofs.Common.{refl}
-use Rattle.kdl.specs.Fields.{block_of}
-use Rattle.kdl.proofs.PiecesExchanged.{child_exchanges}
+use Rattle.std.proofs.Common.{rules, refl}
+use Rattle.kdl.proofs.PiecesExchanged.{block_exchanges}
 use Rattle.kdl.proofs.node.KdlNode.children_mut.Goals as goal
 
-pub returns-clause-bytes : goal.returns-clause-bytes
-returns-clause-bytes c = child_exchanges c.args.self.now (block_of c.args.self.now) refl
+pub returns : goal.returns
+returns c = (search rules, record { writes_back = tt; value = refl; bytes = block_exchanges c.args.self.now })

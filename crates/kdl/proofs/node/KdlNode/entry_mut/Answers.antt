@@ -1,14 +1,22 @@
-use Rattle.std.proofs.Common.{MutBor}
+use Rattle.std.proofs.Common.{ap, MutBor}
+use Rattle.std.specs.Option.{ghost_name_of}
 use Rattle.kdl_entry.specs.declared.entry.KdlEntry.{KdlEntry}
+use Rattle.kdl.specs.Lookups.{with_found_entry}
+use Rattle.kdl.specs.declared.document.KdlDocument.TheViews.{roll-out-KdlNode}
+use Rattle.kdl.specs.declared.node.KdlNode.{KdlNode}
 use Rattle.kdl.proofs.Finding.WritesFound.{entry_sets, entry_sets_at}
 use Rattle.kdl.proofs.PiecesExchanged.{loan_exchanges}
 use Rattle.kdl.proofs.node.KdlNode.entry_mut.Goals as goal
+use borrow.Follows.Closed.{read_of}
 
-pub returns-clause-sets : goal.returns-clause-sets
-returns-clause-sets c = entry_sets (λ (e : MutBor KdlEntry). e.now) c.args.key c.args.self.now c.entry_mut.result c.entry_mut.ensures.value
-
-pub returns-clause-sets_at : goal.returns-clause-sets_at
-returns-clause-sets_at c = entry_sets_at (λ (e : MutBor KdlEntry). e.now) c.args.key c.args.self.now c.entry_mut.result c.entry_mut.ensures.value
-
-pub returns-clause-bytes : goal.returns-clause-bytes
-returns-clause-bytes c = loan_exchanges (λ (e : MutBor KdlEntry). e.now) c.args.key c.args.self.now c.entry_mut.result c.entry_mut.ensures.value
+pub returns : goal.returns
+returns c = (
+  ap (λ (n : KdlNode). read_of (ghost_name_of c.entry_mut.result) (with_found_entry c.args.key c.args.self.now) n) (roll-out-KdlNode c.args.self.now),
+  record {
+    writes_back = tt;
+    value = c.entry_mut.ensures.value;
+    bytes = loan_exchanges (λ (e : MutBor KdlEntry). e.now) c.args.key c.args.self.now c.entry_mut.result c.entry_mut.ensures.value;
+    sets = entry_sets (λ (e : MutBor KdlEntry). e.now) c.args.key c.args.self.now c.entry_mut.result c.entry_mut.ensures.value;
+    sets_at = entry_sets_at (λ (e : MutBor KdlEntry). e.now) c.args.key c.args.self.now c.entry_mut.result c.entry_mut.ensures.value;
+  },
+)
