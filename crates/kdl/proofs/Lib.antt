@@ -12,6 +12,8 @@ pub mod CopyingLoop
 pub mod NodeCounts
 -- What is printed where entries or nodes are exchanged, and what edits leave.
 pub mod EditLaws
+-- Where one entry is exchanged, put in or taken out, its piece of the printed text is, and no other character.
+pub mod PiecesExchanged
 -- What is laid in a text keeps no form.
 pub mod FormKept
 -- Each node and each entry that is laid in a text has a format.

@@ -2,6 +2,8 @@
 pub mod Change
 -- What a node and a document print when their entries or nodes are exchanged.
 pub mod EditLaw
+-- Texts, nodes and documents in which one piece of what is printed is exchanged.
+pub mod Bytes
 -- Nodes as they are made, and nodes and documents without their formats, or wherever they stood.
 pub mod Cleared
 -- What look-ups in a document give, and what a document is once what they lent was written.

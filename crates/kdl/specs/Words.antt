@@ -97,3 +97,5 @@ pub use Rattle.kdl.specs.Found.{IsAdded, IsArgumentSet, IsPutIn, IsSet, IsSetIn,
 pub use Rattle.kdl.specs.Said.{said_arg, said_argument, said_argument_in, said_arguments, said_args, said_child_nodes, said_children, said_dash_args, said_dashes, said_entries, said_entry, said_name, said_node, said_nodes, said_property, said_property_in, said_type, said_value}
 -- Documents, and nodes, in which look-ups find the same.
 pub use Rattle.kdl.specs.Finds.{FindsSame, GivesArgument, GivesProperty, NodeFindsSame}
+-- Where one piece of what is printed is exchanged, and no other character.
+pub use Rattle.kdl.specs.Bytes.{IsExchanged, IsExchangedInDocument, IsExchangedInNode, piece_of}

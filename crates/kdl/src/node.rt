@@ -13,7 +13,7 @@ ghost use Rattle.kdl.specs.Lookups.{entries_of};
 ghost use Rattle.kdl.specs.Same.{same_node};
 ghost use Rattle.kdl.specs.declared.node.KdlNode.{out-KdlNode};
 ghost use Rattle.kdl_entry.specs.Tree.{entry_data, entry_tree, identifier_tree};
-ghost use Rattle.std.specs.Prelude.{◌≡◌, IfOk, None, Some, map, option_map, true};
+ghost use Rattle.std.specs.Prelude.{◌≡◌, IfOk, None, Some, map, is_some, option_map, true};
 ghost use Rattle.std.specs.Str.{encode_utf8_all};
 
 mod children;
@@ -166,7 +166,8 @@ impl KdlNode {
     /// }
     /// ```
     pub fn format(&self) -> Option<&KdlNodeFormat>
-        ensures { option_map (λ f. f.now) result ≡ node_format_of self.now }
+        ensures value { option_map (λ f. f.now) result ≡ node_format_of self.now }
+        ensures has { is_some result ≡ is_some (node_format_of self.now) }
     {
         self.format.as_ref()
     }

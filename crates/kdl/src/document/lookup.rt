@@ -1,5 +1,6 @@
 //! Look-ups of nodes by their name.
 
+ghost use Rattle.kdl.specs.Bytes.{IsExchangedInDocument, IsExchangedInNode};
 ghost use Rattle.kdl.specs.DocumentLookups.{argument_named, argument_place, first_argument, is_node_named, node_named, with_argument_named, with_node_named};
 ghost use Rattle.kdl.specs.Found.{IsSetIn};
 ghost use Rattle.kdl.specs.Lookups.{held_value, value_of};
@@ -9,6 +10,7 @@ ghost use Rattle.kdl.specs.ReadsBack.{BlockReadsBack, DocumentReadsBack, ReadsAs
 ghost use Rattle.kdl.specs.contracts.document.KdlDocument.{the_row};
 ghost use Rattle.kdl.specs.contracts.node.KdlNode.{the_row as node_row};
 ghost use Rattle.kdl.specs.declared.node.KdlNode.{KdlNode};
+ghost use Rattle.kdl_text.specs.Chars.{Text};
 ghost use Rattle.kdl_value.specs.Tree.{value_tree};
 ghost use Rattle.kdl_value.specs.contracts.value.KdlValue.{the_row as value_row};
 ghost use Rattle.std.specs.Borrow.{LendsIf, sem};
@@ -77,7 +79,8 @@ impl KdlDocument {
         first_named(&self.nodes, name)
     }
 
-    /// The first node of that name, to be changed in place. All else stays as it is.
+    /// The first node of that name, to be changed in place. All else stays as it is, and each byte of the printed text
+    /// before and after what the node prints.
     ///
     /// ```
     /// let mut document = KdlDocument::parse(alloc, "host a; port 1 // kept")?;
@@ -96,6 +99,9 @@ impl KdlDocument {
         ensures reads_block { IfSome result (λ n. (m : KdlNode) → ReadsAs n.now m
             → BlockReadsBack self.old
             → BlockReadsBack (with_node_named name.now self.old m)) }
+        ensures bytes { IfSome result (λ n. (m : KdlNode) (p q : Text) →
+            IsExchangedInNode p q n.now m →
+            IsExchangedInDocument p q self.old (with_node_named name.now self.old m)) }
     {
         match place(&self.nodes, name) {
             Some(at) => Some(&mut self.nodes[at]),

@@ -1,5 +1,6 @@
 //! Edits of a node's entries.
 
+ghost use Rattle.kdl.specs.Bytes.{IsExchangedInNode, piece_of};
 ghost use Rattle.kdl.specs.Change.{with_entries};
 ghost use Rattle.kdl.specs.EditLaw.{PrintsAtPlace};
 ghost use Rattle.kdl.specs.Fields.{held_entries, node_format_of};
@@ -13,6 +14,7 @@ ghost use Rattle.kdl.specs.Tree.{node_tree};
 ghost use Rattle.kdl.specs.contracts.node.KdlNode.{the_row};
 ghost use Rattle.kdl_entry.specs.Tree.{entry_tree};
 ghost use Rattle.kdl_grammar.specs.ReadsBack.{EntryReads};
+ghost use Rattle.kdl_grammar.specs.Print.{print_piece};
 ghost use Rattle.std.specs.Borrow.{Lends, sem};
 ghost use Rattle.kdl_entry.specs.declared.entry.KdlEntry.{KdlEntry};
 ghost use Rattle.std.specs.Fn.{CalledAt};
@@ -122,6 +124,8 @@ impl KdlNode {
         ensures rest { self.new ≡ with_entries self.old (held_entries self.new) }
         ensures back { IfErr result (λ e. e.0 ≡ entry) }
         ensures refused { OnErr result (node_tree self.new ≡ node_tree self.old) }
+        ensures bytes { OnOk result (IsSome (node_format_of self.old) →
+            IsExchangedInNode [] (print_piece (entry_tree entry)) self.old self.new) }
         ensures adds { OnOk result (IfNone (entry_tree entry).name
             (IsAdded (entry_tree entry).value self.old self.new)) }
         ensures sets { OnOk result (IfSome (entry_tree entry).name (λ name.
@@ -166,6 +170,9 @@ impl KdlNode {
         ensures succeeds { IsSome (replaced_place key (entries_of self.old)) → IsOk result }
         ensures back { IfErr result (λ e. entry_tree e.0 ≡ under (sought key) (entry_tree entry)) }
         ensures refused { OnErr result (node_tree self.new ≡ node_tree self.old) }
+        ensures bytes { IfOk result (λ o. IsSome (node_format_of self.old) →
+            IsExchangedInNode (piece_of o) (print_piece (under (sought key) (entry_tree entry)))
+            self.old self.new) }
         ensures sets { OnOk result (IfSome (key_name key) (λ name.
             IsSet name (entry_tree entry).value self.old self.new)) }
         ensures puts { OnOk result (IfSome (key_index key) (λ i.
@@ -192,6 +199,8 @@ impl KdlNode {
         ensures rest { self.new ≡ with_entries self.old (held_entries self.new) }
         ensures value { result ≡
             entry_there (removed_place key (entries_of self.old)) self.old }
+        ensures bytes { IsSome (node_format_of self.old) →
+            IsExchangedInNode (piece_of result) [] self.old self.new }
         ensures takes { IfSome (key_name key) (λ name. IsTakenOut name self.old self.new) }
         ensures takes_at { IfSome (key_index key) (λ i. IsTakenOutAt i self.old self.new) }
         // It reads back wherever it did.

@@ -1,5 +1,6 @@
 //! The parts of a node, to be set or to be changed in place.
 
+ghost use Rattle.kdl.specs.Bytes.{IsExchangedInDocument, IsExchangedInNode};
 ghost use Rattle.kdl.specs.Change.{with_name, with_ty, with_children, with_format, ty_row, children_row};
 ghost use Rattle.kdl.specs.Cleared.{new_node, new_document};
 ghost use Rattle.kdl.specs.Fields.{block_of, name_of, node_format_of, ty_of};
@@ -13,8 +14,9 @@ ghost use Rattle.kdl_entry.specs.contracts.identifier.KdlIdentifier.{the_row as 
 ghost use Rattle.kdl_entry.specs.Entries.{IsIdentifierText};
 ghost use Rattle.kdl_entry.specs.Print.{print_identifier};
 ghost use Rattle.kdl_entry.specs.Tree.{identifier_tree};
+ghost use Rattle.kdl_text.specs.Chars.{Text};
 ghost use Rattle.std.specs.Borrow.{Lends, LendsIf, sem};
-ghost use Rattle.std.specs.Prelude.{◌≡◌, IfNone, IfOk, IfSome, None, Some, option_map, true};
+ghost use Rattle.std.specs.Prelude.{◌≡◌, IfNone, IfOk, IfSome, None, Some, option_map, true, IsSome};
 
 use crate::document::KdlDocument;
 use crate::node::KdlNode;
@@ -127,6 +129,9 @@ impl KdlNode {
         ensures reads { (d e : KdlDocument) → result.now ≡ Some d
             → (BlockReadsBack d → BlockReadsBack e)
             → ReadsAs self.old (with_children self.old (Some e)) }
+        ensures bytes { (d e : KdlDocument) (p q : Text) → result.now ≡ Some d →
+            IsExchangedInDocument p q d e →
+            IsExchangedInNode p q self.old (with_children self.old (Some e)) }
     {
         &mut self.children
     }
@@ -169,6 +174,9 @@ impl KdlNode {
         ensures found { IfSome (block_of self.old) (λ d. result.now ≡ d) }
         ensures made { IfNone (block_of self.old)
             (document_tree result.now ≡ new_document) }
+        ensures bytes { IsSome (block_of self.old) → (e : KdlDocument) (p q : Text) →
+            IsExchangedInDocument p q result.now e →
+            IsExchangedInNode p q self.old (with_children self.old (Some e)) }
     {
         let alloc = *self.entries.allocator();
         self.children.get_or_insert(KdlDocument::new(alloc))

@@ -1,11 +1,14 @@
 //! Look-ups of entries by the name of a property, or by the place of an argument.
 
+ghost use Rattle.kdl.specs.Bytes.{IsExchangedInNode};
+ghost use Rattle.kdl.specs.Fields.{node_format_of};
 ghost use Rattle.kdl.specs.Finds.{GivesArgument, GivesProperty};
 ghost use Rattle.kdl.specs.Found.{IsArgumentSet, IsSet, value_at};
 ghost use Rattle.kdl.specs.Lookups.{entry_there, found_entry, found_value, held_value, key_place, property_place, property_value, with_found_entry, with_found_value, HasSameEntries, HasWritten};
 ghost use Rattle.kdl.specs.Said.{said_entry, said_property, said_value};
 ghost use Rattle.kdl.specs.Tree.{node_says};
 ghost use Rattle.kdl_entry.specs.Tree.{entry_data, entry_tree};
+ghost use Rattle.kdl_grammar.specs.Print.{print_piece};
 ghost use Rattle.kdl_parts.specs.EntryLists.{key_index, key_name, sought};
 ghost use Rattle.kdl.specs.ReadsBack.{EntryReadsBack, IsUnformed, ReadsAs, respelled};
 ghost use Rattle.kdl_entry.specs.declared.entry.KdlEntry.{KdlEntry};
@@ -84,7 +87,8 @@ impl KdlNode {
     ghost use Rattle.kdl_entry.specs.contracts.entry.KdlEntry.{the_row as entry_row};
     ghost use Rattle.kdl_value.specs.contracts.value.KdlValue.{the_row as value_row};
 
-    /// The entry that `entry` gives, to be changed in place. All else stays as it is.
+    /// The entry that `entry` gives, to be changed in place. All else stays as it is: of a node with a format, each byte
+    /// of the printed text before and after what the entry prints too.
     ///
     /// ```
     /// let mut node = KdlNode::parse(alloc, "a 0x10")?;
@@ -96,6 +100,9 @@ impl KdlNode {
         ensures* writes_back { sem 𝓛 (LendsIf the_row entry_row self.entry result
             (with_found_entry key self.old) self.old) }
         ensures value { option_map (λ e. e.now) result ≡ found_entry key self.old }
+        ensures bytes { IfSome result (λ e. (w : KdlEntry) → IsSome (node_format_of self.old) →
+            IsExchangedInNode (print_piece (entry_tree e.now)) (print_piece (entry_tree w))
+            self.old (with_found_entry key self.old w)) }
         ensures sets { IfSome result (λ e. IfSome (key_name key) (λ name. (w : KdlEntry) →
             (entry_tree w).name ≡ (entry_tree e.now).name →
             IsSet name (entry_tree w).value self.old (with_found_entry key self.old w))) }

@@ -6,6 +6,7 @@ use Rattle.kdl.specs.declared.document.KdlDocument.TheViews.{roll-out-KdlNode}
 use Rattle.kdl.specs.declared.node.KdlNode.{KdlNode}
 use Rattle.kdl.proofs.Finding.WritesFound.{entry_sets, entry_sets_at}
 use Rattle.kdl.proofs.ReadingBack.{entry_loan_reads, entry_loan_respelled, entry_loan_unformed}
+use Rattle.kdl.proofs.PiecesExchanged.{loan_exchanges}
 use Rattle.kdl.proofs.node.KdlNode.entry_mut.Goals as goal
 use borrow.Follows.Closed.{read_of}
 
@@ -15,6 +16,7 @@ returns c = (
   record {
     writes_back = tt;
     value = c.entry_mut.ensures.value;
+    bytes = loan_exchanges (λ (e : MutBor KdlEntry). e.now) c.args.key c.args.self.now c.entry_mut.result c.entry_mut.ensures.value;
     sets = entry_sets (λ (e : MutBor KdlEntry). e.now) c.args.key c.args.self.now c.entry_mut.result c.entry_mut.ensures.value;
     sets_at = entry_sets_at (λ (e : MutBor KdlEntry). e.now) c.args.key c.args.self.now c.entry_mut.result c.entry_mut.ensures.value;
     reads = entry_loan_reads (λ (e : MutBor KdlEntry). e.now) c.args.key c.args.self.now c.entry_mut.result c.entry_mut.ensures.value;

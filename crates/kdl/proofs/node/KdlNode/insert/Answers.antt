@@ -1,6 +1,7 @@
 use Rattle.kdl.proofs.EditLaws.{insert_prints}
 use Rattle.kdl.proofs.Finding.EntriesFound.{insert_puts, insert_sets}
 use Rattle.kdl.proofs.ReadingBack.{insert_reads, under_reads}
+use Rattle.kdl.proofs.PiecesExchanged.{insert_exchanges}
 use Rattle.kdl.proofs.node.KdlNode.insert.Goals as goal
 
 pub returns-clause-prints : goal.returns-clause-prints
@@ -18,3 +19,6 @@ returns-clause-reads c = insert_reads c.insert.result c.args.key c.args.entry c.
 pub returns-clause-reads_unformed : goal.returns-clause-reads_unformed
 returns-clause-reads_unformed c u =
     insert_reads c.insert.result c.args.key c.args.entry c.args.self.now c.insert.new.entries c.insert.ensures.items c.insert.ensures.refused (under_reads c.args.key c.args.entry u)
+
+pub returns-clause-bytes : goal.returns-clause-bytes
+returns-clause-bytes c = insert_exchanges c.insert.result c.args.key c.args.entry c.args.self.now c.insert.new.entries c.insert.ensures.items c.insert.ensures.replaced
