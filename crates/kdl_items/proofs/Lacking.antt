@@ -4,6 +4,8 @@
 pub mod Keeping
 -- How node-spaces and line-spaces end.
 pub mod SpaceEnds
+-- Fewer newlines do not do.
+pub mod Fewest
 -- What the first piece of a gap adds to the nodes behind it.
 pub mod GapPieces
 -- What the first piece of a place takes from what follows it.

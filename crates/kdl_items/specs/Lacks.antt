@@ -17,7 +17,7 @@ Lacks P t k = P (t ++ newlines k) × ((j : ℕ) → j < k → P (t ++ newlines j
 
 -- a gap lacks so many newlines; or the text is no gap
 abbrev pub GapLacks : Text → Option ℕ → Type 0
-GapLacks t (Some k) = Gap true t [] × AddsNothing (t ++ newlines k)
+GapLacks t (Some k) = Gap true t [] × Lacks AddsNothing t k
 GapLacks t None = Gap true t [] → ⊥
 
 -- a terminator and then a gap
@@ -26,7 +26,7 @@ Terminating t = (v : Text) × Terminator t v × Gap true v []
 
 -- a terminator and the gap behind it lack so many newlines; or the text is none
 abbrev pub TerminatorLacks : Text → Option ℕ → Type 0
-TerminatorLacks t (Some k) = Terminating t × Terminates Anything (t ++ newlines k)
+TerminatorLacks t (Some k) = Terminating t × Lacks (Terminates Anything) t k
 TerminatorLacks t None = Terminating t → ⊥
 
 -- a text that is in the place of a node before what follows

@@ -1,6 +1,6 @@
 //! How many newlines a text around nodes lacks, so that whatever follows it is not part of it.
 
-ghost use Rattle.kdl_items.specs.Internal.Lacking.{PieceEnds, PlaceGoes, PlacePieceEnds, SpacesLack};
+ghost use Rattle.kdl_items.specs.Internal.Lacking.{GapAnswer, PieceEnds, PlaceGoes, PlacePieceEnds, SpacesLack};
 ghost use Rattle.kdl_items.specs.Internal.Reading.{place_view};
 ghost use Rattle.kdl_items.specs.Lacks.{GapLacks, PlaceLacks, TerminatorLacks};
 ghost use Rattle.kdl_text.specs.Chars.{Star, Text, begins_two};
@@ -105,6 +105,13 @@ fn gap_piece<'a>(alloc: Global, text: &'a str) -> Result<Option<GapPiece<'a>>, A
 pub fn gap_lacks(alloc: Global, text: &str) -> Result<Option<usize>, AllocError>
     ensures { IfOk result (λ o. GapLacks (chars text.now) o) }
 {
+    gap_newlines(alloc, text)
+}
+
+/// The same, for what is behind a terminator too.
+fn gap_newlines(alloc: Global, text: &str) -> Result<Option<usize>, AllocError>
+    ensures { IfOk result (λ o. GapAnswer (chars text.now) o) }
+{
     let mut rest = text;
     'pieces: while !rest.is_empty() {
         match gap_piece(alloc, rest)? {
@@ -130,10 +137,10 @@ pub fn terminator_lacks(alloc: Global, text: &str) -> Result<Option<usize>, Allo
     ensures { IfOk result (λ o. TerminatorLacks (chars text.now) o) }
 {
     if let Some(gap) = behind_semicolon(text) {
-        return gap_lacks(alloc, gap);
+        return gap_newlines(alloc, gap);
     }
     match line_ending(behind_comment(text)) {
-        Some(Ending::Before(gap)) => gap_lacks(alloc, gap),
+        Some(Ending::Before(gap)) => gap_newlines(alloc, gap),
         Some(Ending::InReturn) => Ok(Some(0)),
         Some(Ending::Open) => Ok(Some(1)),
         None => Ok(None),
