@@ -6,11 +6,11 @@ pub mod Keeping
 pub mod SpaceEnds
 -- Fewer newlines do not do.
 pub mod Fewest
--- What the first piece of a gap adds to the nodes behind it.
+-- What the first piece of a gap adds to the nodes after it.
 pub mod GapPieces
 -- What the first piece of a place takes from what follows it.
 pub mod PlacePieces
--- A terminator and the gap behind it.
+-- A terminator and the gap after it.
 pub mod Terminators
 -- What may be before a `}` may be alone.
 pub mod Alone

@@ -24,7 +24,7 @@ GapLacks t None = Gap true t [] → ⊥
 abbrev pub Terminating : Text → Type 0
 Terminating t = (v : Text) × Terminator t v × Gap true v []
 
--- a terminator and the gap behind it lack so many newlines; or the text is none
+-- a terminator and the gap after it lack so many newlines; or the text is none
 abbrev pub TerminatorLacks : Text → Option ℕ → Type 0
 TerminatorLacks t (Some k) = Terminating t × Lacks (Terminates Anything) t k
 TerminatorLacks t None = Terminating t → ⊥

@@ -43,10 +43,7 @@ fn spaces_lack(text: &str) -> bool
 }
 
 /// The dropped node that begins the text.
-fn dropped_piece<'a>(
-    alloc: Global,
-    text: &'a str,
-) -> Result<Option<GapPiece<'a>>, AllocError>
+fn dropped_piece<'a>(alloc: Global, text: &'a str) -> Result<Option<GapPiece<'a>>, AllocError>
     requires { (t : Text) × (chars text.now ≡ 47 ∷ 45 ∷ t) }
     ensures { IfOk result (λ o. PieceEnds (chars text.now) o) }
 {
@@ -108,7 +105,7 @@ pub fn gap_lacks(alloc: Global, text: &str) -> Result<Option<usize>, AllocError>
     gap_newlines(alloc, text)
 }
 
-/// The same, for what is behind a terminator too.
+/// The same, for what is after a terminator too.
 fn gap_newlines(alloc: Global, text: &str) -> Result<Option<usize>, AllocError>
     ensures { IfOk result (λ o. GapAnswer (chars text.now) o) }
 {
@@ -123,9 +120,9 @@ fn gap_newlines(alloc: Global, text: &str) -> Result<Option<usize>, AllocError>
     Ok(Some(0))
 }
 
-/// How many newlines a terminator lacks, with the gap behind it, so that it ends the node before it and adds nothing to
+/// How many newlines a terminator lacks, with the gap after it, so that it ends the node before it and adds nothing to
 /// the nodes that follow, whatever they are. Without a terminator it lacks one. None where the text is no terminator
-/// with a gap behind it.
+/// with a gap after it.
 ///
 /// Fails where memory runs out.
 ///
@@ -156,7 +153,7 @@ enum PlacePiece<'a> {
     InEscline,
 }
 
-/// The text behind the entry or block that is dropped at its start, and the place there. None where none may be.
+/// The text after the entry or block that is dropped at its start, and the place there. None where none may be.
 fn dropped_place<'a>(
     alloc: Global,
     place: Place,
@@ -190,7 +187,7 @@ fn spaces_place(place: Place, text: &str) -> Option<PlacePiece<'_>>
     }
 }
 
-/// The first piece of the text in a place; none where the text can't stand in the place.
+/// The first piece of the text in a place; none where the text can't be in the place.
 fn place_piece<'a>(
     alloc: Global,
     place: Place,
@@ -209,10 +206,9 @@ fn place_piece<'a>(
     }
 }
 
-/// Whether the text before a node's terminator lacks the newline of an escline at its end, so that it may stand there
-/// whatever the terminator is: before the block or without one, or behind it. A CR at its end is no such newline, since
-/// an LF behind it would be part of it. None where the text can't stand there. Nothing is said of a place before an
-/// entry.
+/// Whether the text before a node's terminator, before its block or after it, ends in an escline that lacks a newline:
+/// with an LF after it, it may be before each terminator. A CR at its end is no such newline, since an LF after it is
+/// part of it. None where the text can't be in that place. Of a place before an entry nothing is said.
 ///
 /// Fails where memory runs out.
 ///

@@ -142,7 +142,7 @@ put_front t r p = same_piece t p refl [] ∙ append-nil t
 pub gap_before_close : (t u : Text) → Gap true (t ++ (125 ∷ u)) (125 ∷ u) → Gap true t []
 gap_before_close t u g = let k = gap_alone g brace in subst (λ (y : Text). Gap true y []) (put_front t (125 ∷ u) k.at) k.alone
 
--- the places before and behind a block
+-- the places before and after a block
 one_block : {s t r : Text} → DroppedBlock s t → AfterChildren t r → AfterChildren s r
 one_block d (after ds ss) = after (more d ds) ss
 
@@ -181,7 +181,7 @@ after_before_close t u (after ds ss) = let m = lf_blocks ds ss (λ e. cc) in sub
 pub before_before_close : (t u : Text) → BeforeChildren (t ++ (125 ∷ u)) (125 ∷ u) → BeforeChildren t []
 before_before_close t u (before ds a) = let k = entries_alone ds a brace in subst (λ (y : Text). BeforeChildren y []) (put_front t (125 ∷ u) k.at) k.alone
 
--- a terminator with a gap behind it
+-- a terminator with a gap after it
 record EndAlone (s r : Text) : Type 0 where
   at : Put s r
   alone : Terminating (at.put [])

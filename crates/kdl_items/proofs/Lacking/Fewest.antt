@@ -133,7 +133,7 @@ nodes_off_node {b} {v = v} {xs = xs} m x i ds = go (dash_nodes ds)
             subst (λ (c : Text). AreNodes true c [] xs) a es
         by_end (inr k) = let d = passes_det (passes_last ls (subst (λ (c : Text). IsNode true t' c y) k z) no_star).3 (passes_node (dash_lines m) x i).1 in absurd cc
 
--- a letter behind a dropped node is part of it: the machine returns to no gap
+-- a letter after a dropped node is part of it: the machine returns to no gap
 abbrev NoReturn : Control → Text → Text → Type 0
 NoReturn c last s = (k : Token) (u v : Text) → NodePasses c last s (returned k u v) → ⊥
 

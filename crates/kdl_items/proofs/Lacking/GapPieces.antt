@@ -1,4 +1,4 @@
--- What the first piece of a gap adds to the nodes behind it.
+-- What the first piece of a gap adds to the nodes after it.
 use Rattle.std.proofs.Common.{◌≡◌, ◌⊎◌, inl, inr, ℕ, ◌<◌, Bool, true, false, ◌&&◌, ◌==◌, if◌then◌else◌, length-append, List, [], ◌∷◌, ◌++◌, length, Option, Some, None, Bor, refl, sym, ap, subst, ◌∙◌, arith, append_assoc, append-nil}
 use Rattle.std.proofs.lemmas.Bool.{and_parts, eqb-true}
 use Rattle.std.specs.Str.{chars}
@@ -79,7 +79,7 @@ pub behind_lf : {r z : Text} {xs : Nodes} → NodesEnd z → AreNodes true (10 �
 behind_lf e (last_gap g) = last_gap (gap_behind_lf e g)
 behind_lf e (node_then g x t ds) = node_then (node_behind_lf g x) x t ds
 
--- one piece behind another
+-- one piece after another
 pub through_start : (s : Text) → Through s s
 through_start s = record { on = λ g. g; back = λ g. g; adds = λ g w z xs e ds. ds; off = λ g w xs ds. ds }
 
@@ -150,8 +150,7 @@ no_piece s f h k = λ g. go g f h k
 node_more : {s t u : Text} {x : Node} → Slashdash s t → (n : IsNode true t u x) → (w q : Text) → Star NodeSpace ((cut_node n).rest ++ w) q → ValueEnd true q → Slashdash (s ++ w) (t ++ w) × IsNode true (t ++ w) q x
 node_more {t = t} {x = x} m n w q ss e =
     let c = cut_node n in let o = move_slashdash m in
-    let h : c.at.put (c.rest ++ w) ≡ t ++ w = put_more c.at w in
-    (
+    let h : c.at.put (c.rest ++ w) ≡ t ++ w = put_more c.at w in (
       subst (λ (y : Text). Slashdash y (t ++ w)) (put_more o.at w) (o.there (t ++ w) (ap first (sym h) ∙ c.full (c.rest ++ w))),
       subst (λ (y : Text). IsNode true y q x) h (c.there (c.rest ++ w) q (spaces_end ss e) ss),
     )
@@ -286,12 +285,12 @@ no_line_newline : (u : Text) → line_end u ≡ [] → starts is_newline_char u 
 no_line_newline [] e h = cc
 no_line_newline (c ∷ s) e h = let x = rw h at e in cc
 
--- the line comment behind it has no newline
+-- the line comment after it has no newline
 comment_lf : {u v : Text} → Break u v → line_end u ≡ [] → (w : Text) → LineComment (u ++ (10 ∷ w)) w
 comment_lf {u = u} (Break.comment l) e w = comment_line u (10 ∷ w) w (line_comment_begins l) (subst (λ (z : Text). Newline (z ++ (10 ∷ w)) w) (sym e) (lf w))
 comment_lf {u = u} (Break.newline n) e w = absurd (no_line_newline u e (newline_begins n))
 
--- behind a line comment without a newline nothing is left
+-- after a line comment without a newline nothing is left
 line_all : {s r : Text} → Line s r → line_end s ≡ [] → r ≡ []
 line_all Line.ends e = refl
 line_all (Line.newline n) e = absurd (go n e)
@@ -312,7 +311,7 @@ comment_letter {u = u} (unended (Break.newline n) e) = absurd (no_line_newline u
 open_lf : {u v : Text} → HasOpenEnd u v true → (w : Text) → LineComment (u ++ (10 ∷ w)) w
 open_lf (unended b e) w = comment_lf b e w
 
--- newlines behind a text
+-- newlines after a text
 one_newline : (s : Text) → ((r z : Text) (xs : Nodes) → NodesEnd z → AreNodes true r z xs → AreNodes true (s ++ (10 ∷ r)) z xs) → AddsNothing (s ++ newlines 1)
 one_newline s f r z xs e ds = subst (λ (y : Text). AreNodes true y z xs) (sym (append_assoc s (10 ∷ []) r)) (f r z xs e ds)
 
@@ -333,7 +332,7 @@ module _ {b u v e : Text} {k : Token} (p : NodePasses (at node_slashdash []) b b
       let n = node_before d.dash d.is (some_end o) (10 ∷ r) (terminator_end m) in
       in_front (dropped_node n.0 n.1 m no_gap) ds)
 
--- and with a letter behind it no node is left
+-- and with a letter after it no node is left
 module _ {b u v e : Text} {k : Token} (p : NodePasses (at node_slashdash []) b b (returned k u v)) (i : ItemEnd u v e) (o : HasOpenEnd u v true) where
   open_letter : (xs : Nodes) → AreNodes true ((47 ∷ 45 ∷ b) ++ letter) [] xs → xs ≡ nodes'.none
   open_letter xs ds =
@@ -345,7 +344,7 @@ module _ {b u v e : Text} {k : Token} (p : NodePasses (at node_slashdash []) b b
   open_fewest : Fewest (47 ∷ 45 ∷ b) 1
   open_fewest = fewest_at (47 ∷ 45 ∷ b) 1 0 refl (λ xs ds. open_letter xs (subst (λ (y : Text). AreNodes true (y ++ letter) [] xs) (append-nil (47 ∷ 45 ∷ b)) ds))
 
--- where the node ends with the text, node-spaces are behind it
+-- where the node ends with the text, node-spaces are after it
 moved_spaces : {last s r : Text} {k : Token} → BeginsToken s k r → Star NodeSpace last s → Star NodeSpace (moved k last r) r
 moved_spaces (t_space n) ss = snoc ss n
 moved_spaces (t_newline n) ss = none
@@ -416,7 +415,7 @@ module _ {b u : Text} (p : NodePasses (at node_slashdash []) b b (passing.ended 
   last_two : SpacesLack u true → AddsNothing ((47 ∷ 45 ∷ b) ++ newlines 2)
   last_two k = two_newlines (47 ∷ 45 ∷ b) (λ r z xs f ds. in_front (last_lf (10 ∷ 10 ∷ r) r (k (10 ∷ r))) ds)
 
--- with a letter behind the node and its spaces no node is left
+-- with a letter after the node and its spaces no node is left
 module _ {b u : Text} (p : NodePasses (at node_slashdash []) b b (passing.ended u)) where
   last_letter : (w : Text) → Star NodeSpace (u ++ w) letter → (xs : Nodes) → AreNodes true ((47 ∷ 45 ∷ b) ++ w) [] xs → xs ≡ nodes'.none
   last_letter w ss xs ds = let n = last_more p w letter ss letter_end in letter_dropped n.2 n.3 ds

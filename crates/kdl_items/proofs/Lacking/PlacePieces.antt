@@ -48,7 +48,7 @@ spaced_back b (before_entry c) s z d = d
 spaced_back b before_block s z d = d
 spaced_back b behind_block s z d = d
 
--- one piece behind another
+-- one piece after another
 pub place_start : (p : Place) (s : Text) → PlaceThrough p s p s
 place_start p s = record { on = λ is d. (is, d); back = λ is d. (is, d); adds = λ js d w z e x. x; blocks = λ h. h }
 
@@ -253,8 +253,7 @@ text_has behind_block h {s} x = (after_block_items s).0 x
 
 done : (p q : Place) (s t : Text) → PlaceThrough p s q t → t ≡ [] → takes_blocks p ≡ true → InPlace p s [] × BeforeEach p s
 done p q s t k e h =
-    let i : Has q t = subst (λ (y : Text). Has q y) (sym e) ([], ends (no_blocks_end q (k.blocks h))) in
-    (
+    let i : Has q t = subst (λ (y : Text). Has q y) (sym e) ([], ends (no_blocks_end q (k.blocks h))) in (
       has_text p h (k.back i.0 i.1),
       λ r v m. k.adds i.0 i.1 r r (terminator_end m) (subst (λ (y : Text). InPlace q (y ++ r) r) (sym e) (no_text q (k.blocks h) r)),
     )

@@ -103,7 +103,7 @@ line_ends_as X s e (Some Open) short p q f k n = record {
   swallows = f n;
 }
 
--- behind the `\` and spaces of an escline
+-- after the `\` and spaces of an escline
 abbrev pub Rest : Bool → Text → Text
 Rest true t = line_end t
 Rest false t = t
@@ -177,7 +177,7 @@ esc_ends b s t e (Some y) l h x n =
 pub escline_ends : (s t e : Text) (o : Option Ending) → Longest Ws s t → e ≡ (if begins_two 47 47 t then line_end t else t) → LineEnds e o → EndsAs NodeSpace (92 ∷ s) o
 escline_ends s t e o l x n = esc_ends (begins_two 47 47 t) s t e o l refl (rest_is t e x) n
 
--- the run behind the `\`
+-- the run after the `\`
 pub ws_start : {s t : Text} → Longest Space s t → Star Ws s t × ((v : Text) → Space t v → ⊥)
 ws_start (ps, stuck) = (star_map (λ u v p. Ws.space p) ps, stuck)
 

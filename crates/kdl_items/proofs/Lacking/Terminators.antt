@@ -1,4 +1,4 @@
--- A terminator and the gap behind it.
+-- A terminator and the gap after it.
 use Rattle.std.proofs.Common.{◌≡◌, inl, ℕ, suc, ◌<◌, arith, Bool, true, false, [], ◌∷◌, ◌++◌, Option, Some, None, List, Bor, refl, sym, ap, subst, ◌∙◌, append_assoc, append-nil, if◌then◌else◌}
 use Rattle.std.specs.Str.{chars}
 use Rattle.kdl_text.specs.Chars.{Text, is_newline_char, begins, begins_two, starts, Newline, crlf}
@@ -26,7 +26,7 @@ brace_no_newline : is_newline_char 125 ≡ false
 unfolding is_newline_char
 brace_no_newline = refl
 
--- behind a semicolon
+-- after a semicolon
 behind : {r v : Text} → Terminator (59 ∷ r) v → v ≡ r
 behind Terminator.semicolon = refl
 behind (Terminator.newline n) = let x = newline_begins n in let y = semicolon_no_newline in absurd cc
@@ -49,7 +49,7 @@ semicolon_lacks r (Some k) (g, f, few) = (
 pub semicolon_gap : (t r : Text) (o : Option ℕ) → t ≡ 59 ∷ r → GapAnswer r o → TerminatorLacks t o
 semicolon_gap t r o e g = subst (λ (y : Text). TerminatorLacks y o) (sym e) (semicolon_lacks r o g)
 
--- behind a break
+-- after a break
 break_terminator : {s r : Text} → Break s r → Terminator s r
 break_terminator (Break.newline n) = Terminator.newline n
 break_terminator (Break.comment l) = Terminator.comment l
@@ -96,8 +96,7 @@ pub return_alone : (t e : Text) → e ≡ (if begins_two 47 47 t then line_end t
 return_alone t e x n =
     let at = break_at (begins_two 47 47 t) t e refl (rest_is t e x) in
     let at_cr = λ (w : Text) (h : begins 10 w ≡ false). at w w (subst (λ (y : Text). Newline (y ++ w) w) (sym n) (cr w h)) in
-    let at_crlf = λ (w : Text). at (10 ∷ w) w (subst (λ (y : Text). Newline (y ++ (10 ∷ w)) w) (sym n) crlf) in
-    (
+    let at_crlf = λ (w : Text). at (10 ∷ w) w (subst (λ (y : Text). Newline (y ++ (10 ∷ w)) w) (sym n) crlf) in (
       ([], break_terminator (subst (λ (y : Text). Break y []) (append-nil t) (at_cr [] refl)), no_gap),
       (λ w z xs i e ds. go w z xs e ds at_cr at_crlf (begins 10 w) refl, λ j h. absurd (omega (arith, h))),
     )
@@ -105,8 +104,7 @@ return_alone t e x n =
     go : (w z : Text) (xs : Nodes) → NodesEnd z → AreNodes true w z xs → ((w : Text) → begins 10 w ≡ false → Break (t ++ w) w) → ((w : Text) → Break (t ++ (10 ∷ w)) w) → (b : Bool) → begins 10 w ≡ b
         → (v : Text) × Terminator ((t ++ newlines 0) ++ w) v × AreNodes true v z xs
     go w z xs e ds f g true h =
-        let (u, i) = begins_lf w h in
-        (
+        let (u, i) = begins_lf w h in (
           u,
           subst (λ (y : Text). Terminator ((t ++ newlines 0) ++ y) u) (sym i) (subst (λ (y : Text). Terminator (y ++ (10 ∷ u)) u) (sym (append-nil t)) (break_terminator (g u))),
           behind_lf e (subst (λ (y : Text). AreNodes true y z xs) i ds),

@@ -26,16 +26,16 @@ LineEnds e (Some InReturn) = e ≡ 13 ∷ []
 LineEnds e (Some Open) = e ≡ []
 LineEnds e None = (e ≡ [] → ⊥) × ((r : Text) → Newline e r → ⊥)
 
--- it ends in a CR, of which an LF behind it would be part
+-- it ends in a CR, of which an LF after it would be part
 pub record EndsInReturn (X : Text → Text → Type 0) (s : Text) : Type 0 where
   pub alone : (w : Text) → begins 10 w ≡ false → X (s ++ w) w
   pub before_lf : (w : Text) → X (s ++ (10 ∷ w)) w
 
--- a node that is one letter, behind a space
+-- a node that is one letter, after a space
 abbrev pub letter : Text
 letter = 32 ∷ 97 ∷ []
 
--- it has no newline: one ends it, and with a letter behind it nothing of the text is left
+-- it has no newline: one ends it, and with a letter after it nothing of the text is left
 pub record IsOpen (X : Text → Text → Type 0) (s : Text) : Type 0 where
   pub alone : X s []
   pub ended : (w : Text) → X (s ++ (10 ∷ w)) w
@@ -54,19 +54,19 @@ pub data HasOpenEnd : Text → Text → Bool → Type 0 where
   ended : {u v : Text} → Break u v → (line_end u ≡ [] → ⊥) → HasOpenEnd u v false
   unended : {u v : Text} → Break u v → line_end u ≡ [] → HasOpenEnd u v true
 
--- node-spaces that are all the text end before whatever follows them, or behind a newline
+-- node-spaces that are all the text end before whatever follows them, or after a newline
 abbrev pub SpacesLack : Text → Bool → Type 0
 SpacesLack t true = (w : Text) → Star NodeSpace (t ++ (10 ∷ w)) w
 SpacesLack t false = (w : Text) → Star NodeSpace (t ++ w) w
 
--- what of a gap is before r adds nothing to the nodes behind it, and is a gap with r alone
+-- what of a gap is before r adds nothing to the nodes after it, and is a gap with r alone
 pub record Through (s r : Text) : Type 0 where
   pub on : Gap true s [] → Gap true r []
   pub back : Gap true r [] → Gap true s []
   pub adds : Gap true r [] → (w z : Text) (xs : Nodes) → NodesEnd z → AreNodes true (r ++ w) z xs → AreNodes true (s ++ w) z xs
   pub off : Gap true r [] → (w : Text) (xs : Nodes) → AreNodes true (s ++ w) [] xs → AreNodes true (r ++ w) [] xs
 
--- one newline less, and a letter behind it is no node
+-- one newline less, and a letter after it is no node
 abbrev pub Fewest : Text → ℕ → Type 0
 Fewest s k = (j : ℕ) → suc j ≡ k → (xs : Nodes) → AreNodes true ((s ++ newlines j) ++ letter) [] xs → xs ≡ none
 
