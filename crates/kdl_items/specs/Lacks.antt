@@ -1,5 +1,5 @@
 -- How many newlines a text around nodes lacks, so that whatever follows it is not part of it.
-use Rattle.std.specs.Prelude.{ℕ, ◌<◌, Bool, true, false, [], ◌∷◌, ◌++◌, Option, Some, None}
+use Rattle.std.specs.Prelude.{ℕ, ◌<◌, Bool, true, false, [], ◌++◌, Option, Some, None}
 use Rattle.kdl_text.specs.Chars.{Text, times}
 use Rattle.kdl_entry.specs.Places.{EntryLeading}
 use Rattle.kdl_grammar.specs.Grammar.{Terminator, Gap}

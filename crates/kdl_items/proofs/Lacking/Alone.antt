@@ -1,11 +1,11 @@
 -- What may be before a `}` may be alone.
-use Rattle.std.proofs.Common.{◌≡◌, ℕ, Bool, true, false, ◌&&◌, ◌==◌, [], ◌∷◌, ◌++◌, length, refl, sym, ap, subst, ◌∙◌, arith, append-nil, length-append}
+use Rattle.std.proofs.Common.{◌≡◌, Bool, true, false, ◌&&◌, ◌==◌, [], ◌∷◌, ◌++◌, length, refl, sym, ap, subst, ◌∙◌, arith, append-nil, length-append}
 use Rattle.kdl_text.specs.Chars.{Text, begins, Newline, crlf, one, Star, none, more}
 use Rattle.kdl_text.specs.Internal.Here.{first}
-use Rattle.kdl_text.specs.Trivia.{Line, LineComment, line as a_line, Ws, EscEnd, escline, NodeSpace, Break, LineSpace, Slashdash, ValueEnd}
+use Rattle.kdl_text.specs.Trivia.{Line, LineComment, line as a_line, EscEnd, escline, NodeSpace, Break, LineSpace, Slashdash, ValueEnd}
 use Rattle.kdl_entry.specs.Places.{DroppedEntry, dropped as dropped_e}
 use Rattle.kdl_entry.proofs.Moving.EntryMoves.{move_spaces, move_slashdash, move_entry, spaces_end}
-use Rattle.kdl_entry.proofs.Moving.Puts.{Put, stands, also, joined, same, same_piece, begins_first}
+use Rattle.kdl_entry.proofs.Moving.Puts.{Put, stands, also, joined, same, same_piece}
 use Rattle.kdl_grammar.specs.Data as data'
 use Rattle.kdl_grammar.specs.Grammar.{Terminator, IsNode, Gap, no_gap, line_space, dropped_node, AreNodes, last_gap}
 use Rattle.kdl_grammar.specs.Places.{DroppedBlock, dropped, AfterChildren, after, BeforeChildren, before}

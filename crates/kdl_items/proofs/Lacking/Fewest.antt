@@ -1,5 +1,5 @@
 -- Fewer newlines do not do.
-use Rattle.std.proofs.Common.{◌≡◌, ◌⊎◌, inl, inr, ℕ, zero, suc, ◌+◌, ◌-◌, ◌<◌, Bool, true, false, List, [], ◌∷◌, ◌++◌, length, Option, Some, None, refl, sym, ap, subst, ◌∙◌, arith, append_assoc}
+use Rattle.std.proofs.Common.{◌≡◌, ◌⊎◌, inl, inr, ℕ, zero, suc, ◌+◌, ◌-◌, ◌<◌, true, false, [], ◌∷◌, ◌++◌, length, Option, Some, None, refl, sym, ap, subst, ◌∙◌, arith, append_assoc}
 use Rattle.kdl_text.specs.Bare.{is_bare}
 use Rattle.kdl_text.specs.Bare.BareString.{bare as a_bare}
 use Rattle.kdl_text.specs.Chars.{Text, is_identifier_char, is_space, is_newline_char, is_banned, is_punctuation, Star, none as no_star, more}
@@ -13,14 +13,14 @@ use Rattle.kdl_entry.proofs.Lexing.TokenUnique.{token_det, no_token}
 use Rattle.kdl_grammar.specs.Data.{Node, node, no_children, Nodes, none, first}
 use Rattle.kdl_grammar.specs.Grammar.{Terminator, IsNode, named, AfterName, Blocks, Gap, no_gap, line_space, dropped_node, AreNodes, last_gap, node_then}
 use Rattle.kdl_grammar.specs.Internal.Control.{Control, at, gap, node_slashdash, step, held}
-use Rattle.kdl_grammar.specs.ReadsBack.{NodesEnd, AddsNothing, Anything, Terminates}
+use Rattle.kdl_grammar.specs.ReadsBack.{AddsNothing, Anything, Terminates}
 use Rattle.kdl_items.specs.Items.{ItemEnd}
-use Rattle.kdl_items.specs.Lacks.{newlines, Lacks, GapLacks}
+use Rattle.kdl_items.specs.Lacks.{newlines, GapLacks}
 use Rattle.kdl_items.specs.Internal.Lacking.{letter, Fewest, GapAnswer}
 use Rattle.kdl_items.specs.Internal.Passing.{moved, is_gap, returned, NodePasses, returns, goes}
 use Rattle.kdl_items.proofs.Dropping.DroppedNodes.{passes_det, passes_last, passes_node, item_end, no_dash_space, no_dash_node, tail_gap}
 use Rattle.kdl_items.proofs.Dropping.NodeLoop.{gap_turn, turn_back}
-use Rattle.kdl_items.proofs.Dropping.Paths.{Tail, Back, Here, Halt, at_end, halts, no_node, drop_node}
+use Rattle.kdl_items.proofs.Dropping.Paths.{Back, Here, Halt, at_end, halts, no_node, drop_node}
 use Rattle.kdl_items.proofs.Lacking.SpaceEnds.{lf, a_space}
 use Rattle.kdl_items.proofs.Listing.SpaceItems.{dash_no_line}
 

@@ -1,6 +1,6 @@
 -- What is before a rest is before more of it.
-use Rattle.std.proofs.Common.{◌≡◌, ℕ, [], ◌∷◌, ◌++◌, refl, sym, ap, subst, ◌∙◌, append_assoc, append-nil}
-use Rattle.kdl_text.specs.Chars.{Text, Star, none, more, Plus, plus, Space, space as a_space}
+use Rattle.std.proofs.Common.{◌≡◌, [], ◌∷◌, ◌++◌, refl, sym, ap, subst, ◌∙◌, append_assoc, append-nil}
+use Rattle.kdl_text.specs.Chars.{Text, Star, none, more, Space, space as a_space}
 use Rattle.kdl_text.specs.Internal.Here.{first}
 use Rattle.kdl_text.specs.Trivia.{BlockComment, Ws}
 use Rattle.kdl_entry.proofs.Moving.Puts.{Put, Move}

@@ -1,25 +1,24 @@
 -- What the first piece of a place takes from what follows it.
 use Rattle.std.proofs.Common.{◌≡◌, ℕ, ◌<◌, Bool, true, false, List, [], ◌∷◌, ◌++◌, length, Option, Some, None, option_map, Bor, refl, sym, ap, subst, ◌∙◌, arith, append_assoc, append-nil, length-append}
 use Rattle.std.specs.Str.{chars}
-use Rattle.kdl_text.specs.Chars.{Text, begins, begins_two, Star, none, more, Plus, plus}
+use Rattle.kdl_text.specs.Chars.{Text, begins_two, Star, none, more, Plus, plus}
 use Rattle.kdl_text.specs.Internal.Here.{first}
 use Rattle.kdl_text.specs.Spans.{bytes}
-use Rattle.kdl_text.specs.Trivia.{NodeSpace, LineSpace, Slashdash, slashdash, ValueEnd}
+use Rattle.kdl_text.specs.Trivia.{NodeSpace, Slashdash, slashdash, ValueEnd}
 use Rattle.kdl_entry.specs.Data.{Entry}
 use Rattle.kdl_entry.specs.Entries.{IsEntry}
 use Rattle.kdl_entry.specs.Internal.Tokens.{BeginsToken, t_slashdash}
 use Rattle.kdl_entry.specs.Internal.Tokens as token'
-use Rattle.kdl_entry.specs.Places.{EntryLeading, leading}
+use Rattle.kdl_entry.specs.Places.{leading}
 use Rattle.kdl_entry.proofs.Moving.EntryMoves.{move_slashdash, move_entry, leading_end}
-use Rattle.kdl_entry.proofs.Moving.Puts.{Put}
 use Rattle.kdl_grammar.specs.Data.{Nodes}
-use Rattle.kdl_grammar.specs.Grammar.{Terminator, IsBlock}
+use Rattle.kdl_grammar.specs.Grammar.{IsBlock}
 use Rattle.kdl_grammar.specs.Internal.Control.{at}
-use Rattle.kdl_grammar.specs.Places.{AfterChildren, after, BeforeChildren, before}
+use Rattle.kdl_grammar.specs.Places.{after, before}
 use Rattle.kdl_grammar.proofs.Moving.Moves.{before_end, terminator_end}
 use Rattle.kdl_items.specs.Items.{Item, Place, before_entry, before_block, behind_block, may_end, takes_entries, takes_blocks, spaced, PlaceItems, ends, dropped_entry, dropped_block}
 use Rattle.kdl_items.specs.Lacks.{newlines, InPlace, BeforeEach, PlaceLacks}
-use Rattle.kdl_items.specs.Internal.Lacking.{EndsInReturn, IsOpen, EndsAs, PlaceThrough, PlaceGoes, PlacePieceEnds}
+use Rattle.kdl_items.specs.Internal.Lacking.{EndsAs, PlaceThrough, PlaceGoes, PlacePieceEnds}
 use Rattle.kdl_items.specs.Internal.Passed.{Before, AnswersDroppedPart, BehindPart}
 use Rattle.kdl_items.specs.Internal.Passing.{PartPasses, slashdash_phase, slashdash_in}
 use Rattle.kdl_items.specs.Internal.Reading.{place_view}
@@ -27,7 +26,6 @@ use Rattle.kdl_items.specs.declared.dropped.PartEnd.{PartEnd}
 use Rattle.kdl_items.specs.declared.ends.Ending.{Ending}
 use Rattle.kdl_items.specs.declared.ends.Ending.TheVariants.{Before as EndsBefore, InReturn, Open}
 use Rattle.kdl_items.specs.declared.item.Place as held
-use Rattle.kdl_items.specs.declared.lacks.PlacePiece.{PlacePiece}
 use Rattle.kdl_items.specs.declared.lacks.PlacePiece.TheVariants.{Onward, InEscline}
 use Rattle.kdl_items.proofs.Dropping.DroppedParts.{entry_passes, block_passes, part_entry, part_block, part_no_block, part_refused, dash_space, dash_lines}
 use Rattle.kdl_items.proofs.Dropping.NoEquals.{passes_det, place_quiet}
@@ -35,7 +33,7 @@ use Rattle.kdl_items.proofs.Lacking.Keeping.{put_more, alone}
 use Rattle.kdl_items.proofs.Listing.PlaceTexts.{Has, before_block_items, after_block_items}
 use Rattle.kdl_items.proofs.Listing.SpaceItems.{space_of, space_items, place_space}
 use Rattle.kdl_items.proofs.Rewriting.BeforeNewlines.{closed_braces}
-use Rattle.kdl_items.proofs.Rewriting.PlacesAgain.{DashedEntry, DashedBlock, spaced_again, blocks_spaced, text_space, text_entry, text_block, place_spaced, no_text}
+use Rattle.kdl_items.proofs.Rewriting.PlacesAgain.{DashedEntry, DashedBlock, spaced_again, blocks_spaced, text_space, text_entry, text_block, no_text}
 
 -- what is in a place before a value end is one
 text_end : (p : Place) {s z : Text} → InPlace p s z → ValueEnd true z → ValueEnd true s

@@ -1,19 +1,18 @@
 -- How node-spaces and line-spaces end.
-use Rattle.std.proofs.Common.{◌≡◌, ◌⊎◌, inl, inr, ℕ, ◌<◌, ◌≤◌, Bool, true, false, ◌&&◌, ◌==◌, [], ◌∷◌, ◌++◌, length, Option, Some, None, MatchOption, Bor, List, refl, sym, ap, subst, ◌∙◌, arith, length-append, append-nil, if◌then◌else◌}
+use Rattle.std.proofs.Common.{◌≡◌, ◌⊎◌, inl, inr, ℕ, ◌<◌, Bool, true, false, ◌&&◌, ◌==◌, [], ◌∷◌, ◌++◌, length, Option, Some, None, Bor, List, refl, sym, ap, subst, ◌∙◌, arith, append-nil, if◌then◌else◌}
 use Rattle.std.proofs.lemmas.Bool.{eqb-true}
 use Rattle.std.specs.Str.{chars}
-use Rattle.kdl_text.specs.Chars.{Text, is_space, is_newline_char, begins, begins_two, starts, Newline, crlf, one, Star, none, more, Plus, plus, Space}
-use Rattle.kdl_text.specs.Internal.Here.{Here, Ate, first}
+use Rattle.kdl_text.specs.Chars.{Text, is_space, is_newline_char, begins, begins_two, starts, Newline, crlf, one, Star, none, Plus, plus, Space}
 use Rattle.kdl_text.specs.Internal.Reading.{Longest}
-use Rattle.kdl_text.specs.Trivia.{BlockComment, Line, LineComment, line as a_line, Ws, EscEnd, Escline, escline, NodeSpace, Break, LineSpace}
-use Rattle.kdl_text.proofs.Looking.Stars.{meets, join, star_map, snoc}
+use Rattle.kdl_text.specs.Trivia.{BlockComment, Line, LineComment, line as a_line, Ws, EscEnd, escline, NodeSpace, Break, LineSpace}
+use Rattle.kdl_text.proofs.Looking.Stars.{join, star_map, snoc}
 use Rattle.kdl_text.proofs.Spacing.NewlineUnique.{newline_there}
-use Rattle.kdl_text.proofs.Spacing.SpacePieces.{star_end, end_length, space_end, space_shorter, block_shorter, newline_shorter, node_space_shorter, line_space_shorter}
-use Rattle.kdl_text.proofs.Spacing.SpaceUnique.{newline_begins, slash_no_space, slash_no_newline, backslash_no_space, space_det, block_det, line_comment_det, ws_det, esc_end_ws, esc_end_det, no_line_comment, backslash_no_newline, escline_ends_at, node_space_det, line_space_det, spaces_plus}
+use Rattle.kdl_text.proofs.Spacing.SpacePieces.{star_end, end_length, space_end, space_shorter, block_shorter, node_space_shorter, line_space_shorter}
+use Rattle.kdl_text.proofs.Spacing.SpaceUnique.{newline_begins, backslash_no_space, no_line_comment, escline_ends_at, spaces_plus}
 use Rattle.kdl_entry.specs.Internal.Tokens.{Token, BeginsToken, space, newline, t_space, t_newline}
 use Rattle.kdl_entry.proofs.Lexing.TokenUnique.{token_det, no_backslash}
 use Rattle.kdl_items.specs.Items.{line_end}
-use Rattle.kdl_items.specs.Internal.Lacking.{letter, LineEnds, EndsInReturn, IsOpen, EndsAs}
+use Rattle.kdl_items.specs.Internal.Lacking.{letter, LineEnds, EndsAs}
 use Rattle.kdl_items.specs.declared.ends.Ending.{Ending}
 use Rattle.kdl_items.specs.declared.ends.Ending.TheVariants.{Before, InReturn, Open}
 use Rattle.kdl_items.proofs.Lacking.Keeping.{space_more, spaces_more, block_more, run_more}

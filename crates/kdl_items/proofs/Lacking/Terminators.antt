@@ -1,16 +1,15 @@
 -- A terminator and the gap after it.
-use Rattle.std.proofs.Common.{◌≡◌, inl, ℕ, suc, ◌<◌, arith, Bool, true, false, [], ◌∷◌, ◌++◌, Option, Some, None, List, Bor, refl, sym, ap, subst, ◌∙◌, append_assoc, append-nil, if◌then◌else◌}
+use Rattle.std.proofs.Common.{◌≡◌, inl, ℕ, suc, ◌<◌, arith, Bool, true, false, [], ◌∷◌, ◌++◌, Option, Some, None, List, Bor, refl, sym, subst, ◌∙◌, append_assoc, append-nil, if◌then◌else◌}
 use Rattle.std.specs.Str.{chars}
-use Rattle.kdl_text.specs.Chars.{Text, is_newline_char, begins, begins_two, starts, Newline, crlf}
-use Rattle.kdl_text.specs.Trivia.{Line, LineComment, line as a_line, Break}
+use Rattle.kdl_text.specs.Chars.{Text, is_newline_char, begins, begins_two, Newline, crlf}
+use Rattle.kdl_text.specs.Trivia.{Line, LineComment, Break}
 use Rattle.kdl_text.proofs.Spacing.SpaceUnique.{newline_begins, no_line_comment, break_det}
 use Rattle.kdl_grammar.specs.Data.{Nodes, none, first}
 use Rattle.kdl_grammar.specs.Grammar.{Terminator, Gap, no_gap, AreNodes}
 use Rattle.kdl_grammar.specs.ReadsBack.{NodesEnd, Anything, Terminates}
 use Rattle.kdl_items.specs.Items.{line_end}
-use Rattle.kdl_items.specs.Lacks.{newlines, Terminating, TerminatorLacks}
+use Rattle.kdl_items.specs.Lacks.{newlines, TerminatorLacks}
 use Rattle.kdl_items.specs.Internal.Lacking.{letter, GapAnswer, LineEnds}
-use Rattle.kdl_items.specs.declared.ends.Ending.{Ending}
 use Rattle.kdl_items.specs.declared.ends.Ending.TheVariants.{Before, InReturn, Open}
 use Rattle.kdl_items.proofs.Dropping.Paths.{at_brace, halts}
 use Rattle.kdl_items.proofs.Lacking.Fewest.{a, letter_node, some_nodes, no_nodes, fewer_not, ends_more}

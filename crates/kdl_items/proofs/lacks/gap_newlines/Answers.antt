@@ -1,6 +1,6 @@
 use Rattle.std.proofs.Common.{sym, ◌∙◌}
 use Rattle.std.specs.Str.{chars}
-use Rattle.kdl_items.proofs.Lacking.GapPieces.{through_start, gap_end, gap_last, gap_turn, gap_none}
+use Rattle.kdl_items.proofs.Lacking.GapPieces.{through_start, gap_end, gap_last}
 use Rattle.kdl_items.proofs.Listing.SpaceReads.{no_chars, some_chars}
 use Rattle.kdl_items.proofs.lacks.gap_newlines.Goals as goal
 
