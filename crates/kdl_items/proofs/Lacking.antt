@@ -8,6 +8,8 @@ pub mod SpaceEnds
 pub mod Fewest
 -- What the first piece of a gap adds to the nodes after it.
 pub mod GapPieces
+-- Before each terminator, fewer newlines do not do.
+pub mod PlaceFewest
 -- What the first piece of a place takes from what follows it.
 pub mod PlacePieces
 -- A terminator and the gap after it.

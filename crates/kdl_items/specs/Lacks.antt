@@ -42,6 +42,6 @@ BeforeEach p t = (r v : Text) → Terminator r v → InPlace p (t ++ r) r
 -- a text in a place of a node before the terminator lacks a newline or none; or it may not be there. Before an entry nothing is said
 abbrev pub PlaceLacks : Place → Text → Option Bool → Type 0
 PlaceLacks (before_entry spaced) t o = Unit {0}
-PlaceLacks p t (Some true) = InPlace p t [] × BeforeEach p (t ++ newlines 1)
+PlaceLacks p t (Some true) = InPlace p t [] × Lacks (BeforeEach p) t 1
 PlaceLacks p t (Some false) = InPlace p t [] × BeforeEach p t
 PlaceLacks p t None = InPlace p t [] → ⊥

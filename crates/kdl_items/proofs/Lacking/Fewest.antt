@@ -25,7 +25,7 @@ use Rattle.kdl_items.proofs.Lacking.SpaceEnds.{lf, a_space}
 use Rattle.kdl_items.proofs.Listing.SpaceItems.{dash_no_line}
 
 -- the node that is one letter
-a_piece : is_bare (97 ∷ []) ≡ true
+pub a_piece : is_bare (97 ∷ []) ≡ true
 unfolding is_bare is_identifier_char is_space is_newline_char is_banned is_punctuation
 a_piece = refl
 

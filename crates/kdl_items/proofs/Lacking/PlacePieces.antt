@@ -17,8 +17,8 @@ use Rattle.kdl_grammar.specs.Internal.Control.{at}
 use Rattle.kdl_grammar.specs.Places.{after, before}
 use Rattle.kdl_grammar.proofs.Moving.Moves.{before_end, terminator_end}
 use Rattle.kdl_items.specs.Items.{Item, Place, before_entry, before_block, behind_block, may_end, takes_entries, takes_blocks, spaced, PlaceItems, ends, dropped_entry, dropped_block}
-use Rattle.kdl_items.specs.Lacks.{newlines, InPlace, BeforeEach, PlaceLacks}
-use Rattle.kdl_items.specs.Internal.Lacking.{EndsAs, PlaceThrough, PlaceGoes, PlacePieceEnds}
+use Rattle.kdl_items.specs.Lacks.{newlines, Lacks, InPlace, BeforeEach, PlaceLacks}
+use Rattle.kdl_items.specs.Internal.Lacking.{letter, EndsAs, PlaceThrough, PlaceGoes, PlacePieceEnds}
 use Rattle.kdl_items.specs.Internal.Passed.{Before, AnswersDroppedPart, BehindPart}
 use Rattle.kdl_items.specs.Internal.Passing.{PartPasses, slashdash_phase, slashdash_in}
 use Rattle.kdl_items.specs.Internal.Reading.{place_view}
@@ -29,7 +29,9 @@ use Rattle.kdl_items.specs.declared.item.Place as held
 use Rattle.kdl_items.specs.declared.lacks.PlacePiece.TheVariants.{Onward, InEscline}
 use Rattle.kdl_items.proofs.Dropping.DroppedParts.{entry_passes, block_passes, part_entry, part_block, part_no_block, part_refused, dash_space, dash_lines}
 use Rattle.kdl_items.proofs.Dropping.NoEquals.{passes_det, place_quiet}
+use Rattle.kdl_items.proofs.Lacking.Fewest.{letter_end}
 use Rattle.kdl_items.proofs.Lacking.Keeping.{put_more, alone}
+use Rattle.kdl_items.proofs.Lacking.PlaceFewest.{not_each}
 use Rattle.kdl_items.proofs.Listing.PlaceTexts.{Has, before_block_items, after_block_items}
 use Rattle.kdl_items.proofs.Listing.SpaceItems.{space_of, space_items, place_space}
 use Rattle.kdl_items.proofs.Rewriting.BeforeNewlines.{closed_braces}
@@ -256,10 +258,16 @@ done p q s t k e h =
       λ r v m. k.adds i.0 i.1 r r (terminator_end m) (subst (λ (y : Text). InPlace q (y ++ r) r) (sym e) (no_text q (k.blocks h) r)),
     )
 
-lacking : (p q : Place) (s t : Text) → PlaceThrough p s q t → Has q t → ((z : Text) → InPlace q (t ++ (10 ∷ z)) z) → takes_blocks p ≡ true → InPlace p s [] × BeforeEach p (s ++ newlines 1)
+lacking : (p q : Place) (s t : Text) → PlaceThrough p s q t → Has q t → ((z : Text) → InPlace q (t ++ (10 ∷ z)) z) → takes_blocks p ≡ true → InPlace p s [] × Lacks (BeforeEach p) s 1
 lacking p q s t k i f h = (
   has_text p h (k.back i.0 i.1),
-  λ r v m. subst (λ (y : Text). InPlace p y r) (sym (append_assoc s (10 ∷ []) r)) (k.adds i.0 i.1 (10 ∷ r) r (terminator_end m) (f r)),
+  (
+    λ r v m. subst (λ (y : Text). InPlace p y r) (sym (append_assoc s (10 ∷ []) r)) (k.adds i.0 i.1 (10 ∷ r) r (terminator_end m) (f r)),
+    λ j l b.
+        let e : j ≡ 0 = omega (arith, l) in
+        not_each p h s (λ u z d g. text_end p d g) (k.adds i.0 i.1 (10 ∷ letter) letter letter_end (f letter))
+        (subst (λ (y : Text). BeforeEach p y) (append-nil s) (subst (λ (n : ℕ). BeforeEach p (s ++ newlines n)) e b)),
+  ),
 )
 
 pub place_done : (p q : Place) (s t : Text) → PlaceThrough p s q t → t ≡ [] → PlaceLacks p s (Some false)
