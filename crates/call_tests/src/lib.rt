@@ -21,6 +21,8 @@ mod errors;
 #[cfg(test)]
 mod fields;
 #[cfg(test)]
+mod lacks;
+#[cfg(test)]
 mod layout;
 #[cfg(test)]
 mod lookups;

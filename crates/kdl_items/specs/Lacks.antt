@@ -1,5 +1,5 @@
 -- How many newlines a text around nodes lacks, so that whatever follows it is not part of it.
-use Rattle.std.specs.Prelude.{ℕ, ◌<◌, Bool, true, false, [], ◌∷◌, ◌++◌, Option, Some, None}
+use Rattle.std.specs.Prelude.{ℕ, ◌<◌, Bool, true, false, [], ◌++◌, Option, Some, None}
 use Rattle.kdl_text.specs.Chars.{Text, times}
 use Rattle.kdl_entry.specs.Places.{EntryLeading}
 use Rattle.kdl_grammar.specs.Grammar.{Terminator, Gap}
@@ -17,16 +17,16 @@ Lacks P t k = P (t ++ newlines k) × ((j : ℕ) → j < k → P (t ++ newlines j
 
 -- a gap lacks so many newlines; or the text is no gap
 abbrev pub GapLacks : Text → Option ℕ → Type 0
-GapLacks t (Some k) = Gap true t [] × AddsNothing (t ++ newlines k)
+GapLacks t (Some k) = Gap true t [] × Lacks AddsNothing t k
 GapLacks t None = Gap true t [] → ⊥
 
 -- a terminator and then a gap
 abbrev pub Terminating : Text → Type 0
 Terminating t = (v : Text) × Terminator t v × Gap true v []
 
--- a terminator and the gap behind it lack so many newlines; or the text is none
+-- a terminator and the gap after it lack so many newlines; or the text is none
 abbrev pub TerminatorLacks : Text → Option ℕ → Type 0
-TerminatorLacks t (Some k) = Terminating t × Terminates Anything (t ++ newlines k)
+TerminatorLacks t (Some k) = Terminating t × Lacks (Terminates Anything) t k
 TerminatorLacks t None = Terminating t → ⊥
 
 -- a text that is in the place of a node before what follows
@@ -42,6 +42,6 @@ BeforeEach p t = (r v : Text) → Terminator r v → InPlace p (t ++ r) r
 -- a text in a place of a node before the terminator lacks a newline or none; or it may not be there. Before an entry nothing is said
 abbrev pub PlaceLacks : Place → Text → Option Bool → Type 0
 PlaceLacks (before_entry spaced) t o = Unit {0}
-PlaceLacks p t (Some true) = InPlace p t [] × BeforeEach p (t ++ newlines 1)
+PlaceLacks p t (Some true) = InPlace p t [] × Lacks (BeforeEach p) t 1
 PlaceLacks p t (Some false) = InPlace p t [] × BeforeEach p t
 PlaceLacks p t None = InPlace p t [] → ⊥

@@ -197,7 +197,11 @@ pub(crate) fn behind_part(place: Place, is_block: bool) -> Option<Place>
 }
 
 /// Where the entry or block ends that a `/-` before the text drops in the place; none where none does.
-pub(crate) fn pass_part(alloc: Global, place: Place, text: &str) -> Result<Option<PartEnd>, AllocError>
+pub(crate) fn pass_part(
+    alloc: Global,
+    place: Place,
+    text: &str,
+) -> Result<Option<PartEnd>, AllocError>
     ensures { IfOk result (λ o. AnswersDroppedPart (place_view place) (chars text.now) o) }
 {
     let mut lexer = Lexer::new(text, Steps::new());

@@ -8,9 +8,7 @@ ghost use Rattle.kdl_text.specs.Trivia.{LineSpace, NodeSpace, Ws};
 ghost use Rattle.std.specs.Prelude.{◌≡◌, ◌∷◌, [], MatchBool, if◌then◌else◌};
 ghost use Rattle.std.specs.Str.{chars};
 
-use crate::spaces::{
-    begins_space, behind_backslash, behind_newline, behind_spaces, block, line,
-};
+use crate::spaces::{begins_space, behind_backslash, behind_newline, behind_spaces, block, line};
 use kdl_text::chars::{Cursor, Steps};
 
 /// How the spaces that begin a text end.
@@ -68,7 +66,7 @@ pub(crate) fn behind_comment(text: &str) -> &str
     }
 }
 
-/// The text behind the spaces and block comments that begin it.
+/// The text after the spaces and block comments that begin it.
 fn behind_ws(text: &str) -> &str
     ensures { Longest Ws (chars text.now) (chars result.now) }
 {
@@ -79,7 +77,7 @@ fn behind_ws(text: &str) -> &str
     rest
 }
 
-/// How the escline ends whose backslash stands before the text; none where none does.
+/// How the escline ends whose backslash is before the text; none where none does.
 fn escline_ending(text: &str) -> Option<Ending<'_>>
     ensures { EndsAs NodeSpace (92 ∷ chars text.now) result }
 {

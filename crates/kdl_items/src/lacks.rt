@@ -1,6 +1,6 @@
 //! How many newlines a text around nodes lacks, so that whatever follows it is not part of it.
 
-ghost use Rattle.kdl_items.specs.Internal.Lacking.{PieceEnds, PlaceGoes, PlacePieceEnds, SpacesLack};
+ghost use Rattle.kdl_items.specs.Internal.Lacking.{GapAnswer, PieceEnds, PlaceGoes, PlacePieceEnds, SpacesLack};
 ghost use Rattle.kdl_items.specs.Internal.Reading.{place_view};
 ghost use Rattle.kdl_items.specs.Lacks.{GapLacks, PlaceLacks, TerminatorLacks};
 ghost use Rattle.kdl_text.specs.Chars.{Star, Text, begins_two};
@@ -43,10 +43,7 @@ fn spaces_lack(text: &str) -> bool
 }
 
 /// The dropped node that begins the text.
-fn dropped_piece<'a>(
-    alloc: Global,
-    text: &'a str,
-) -> Result<Option<GapPiece<'a>>, AllocError>
+fn dropped_piece<'a>(alloc: Global, text: &'a str) -> Result<Option<GapPiece<'a>>, AllocError>
     requires { (t : Text) × (chars text.now ≡ 47 ∷ 45 ∷ t) }
     ensures { IfOk result (λ o. PieceEnds (chars text.now) o) }
 {
@@ -105,6 +102,13 @@ fn gap_piece<'a>(alloc: Global, text: &'a str) -> Result<Option<GapPiece<'a>>, A
 pub fn gap_lacks(alloc: Global, text: &str) -> Result<Option<usize>, AllocError>
     ensures { IfOk result (λ o. GapLacks (chars text.now) o) }
 {
+    gap_newlines(alloc, text)
+}
+
+/// The same, for what is after a terminator too.
+fn gap_newlines(alloc: Global, text: &str) -> Result<Option<usize>, AllocError>
+    ensures { IfOk result (λ o. GapAnswer (chars text.now) o) }
+{
     let mut rest = text;
     'pieces: while !rest.is_empty() {
         match gap_piece(alloc, rest)? {
@@ -116,9 +120,9 @@ pub fn gap_lacks(alloc: Global, text: &str) -> Result<Option<usize>, AllocError>
     Ok(Some(0))
 }
 
-/// How many newlines a terminator lacks, with the gap behind it, so that it ends the node before it and adds nothing to
+/// How many newlines a terminator lacks, with the gap after it, so that it ends the node before it and adds nothing to
 /// the nodes that follow, whatever they are. Without a terminator it lacks one. None where the text is no terminator
-/// with a gap behind it.
+/// with a gap after it.
 ///
 /// Fails where memory runs out.
 ///
@@ -130,10 +134,10 @@ pub fn terminator_lacks(alloc: Global, text: &str) -> Result<Option<usize>, Allo
     ensures { IfOk result (λ o. TerminatorLacks (chars text.now) o) }
 {
     if let Some(gap) = behind_semicolon(text) {
-        return gap_lacks(alloc, gap);
+        return gap_newlines(alloc, gap);
     }
     match line_ending(behind_comment(text)) {
-        Some(Ending::Before(gap)) => gap_lacks(alloc, gap),
+        Some(Ending::Before(gap)) => gap_newlines(alloc, gap),
         Some(Ending::InReturn) => Ok(Some(0)),
         Some(Ending::Open) => Ok(Some(1)),
         None => Ok(None),
@@ -149,7 +153,7 @@ enum PlacePiece<'a> {
     InEscline,
 }
 
-/// The text behind the entry or block that is dropped at its start, and the place there. None where none may be.
+/// The text after the entry or block that is dropped at its start, and the place there. None where none may be.
 fn dropped_place<'a>(
     alloc: Global,
     place: Place,
@@ -183,7 +187,7 @@ fn spaces_place(place: Place, text: &str) -> Option<PlacePiece<'_>>
     }
 }
 
-/// The first piece of the text in a place; none where the text can't stand in the place.
+/// The first piece of the text in a place; none where the text can't be in the place.
 fn place_piece<'a>(
     alloc: Global,
     place: Place,
@@ -202,10 +206,9 @@ fn place_piece<'a>(
     }
 }
 
-/// Whether the text before a node's terminator lacks the newline of an escline at its end, so that it may stand there
-/// whatever the terminator is: before the block or without one, or behind it. A CR at its end is no such newline, since
-/// an LF behind it would be part of it. None where the text can't stand there. Nothing is said of a place before an
-/// entry.
+/// Whether the text before a node's terminator, before its block or after it, ends in an escline that lacks a newline:
+/// with an LF after it, it may be before each terminator. A CR at its end is no such newline, since an LF after it is
+/// part of it. None where the text can't be in that place. Of a place before an entry nothing is said.
 ///
 /// Fails where memory runs out.
 ///

@@ -104,7 +104,7 @@ pub(crate) fn behind_backslash(text: &str) -> Option<&str>
     }
 }
 
-/// The text behind its first character, where that is a semicolon.
+/// The text after its first character, where that is a semicolon.
 pub(crate) fn behind_semicolon(text: &str) -> Option<&str>
     ensures { MatchOption result ((s : Text) → chars text.now ≡ 59 ∷ s → ⊥)
         (λ rest. chars text.now ≡ 59 ∷ chars rest.now) }

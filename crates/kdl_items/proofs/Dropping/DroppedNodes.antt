@@ -42,7 +42,7 @@ tail_newline : {c : Control} → Tail [] c → step c newline ≡ Some (at gap [
 tail_newline before_block = refl
 tail_newline behind_block = refl
 
-tail_gap : {c : Control} → Tail [] c → is_gap c ≡ false
+pub tail_gap : {c : Control} → Tail [] c → is_gap c ≡ false
 tail_gap before_block = refl
 tail_gap behind_block = refl
 
@@ -139,11 +139,11 @@ pub data DroppedItems (t : Text) : List Item → Type 0 where
   with_end : {t' u v e : Text} {x : Node} {is : List Item} → Star LineSpace t t' → IsNode true t' u x → ItemEnd u v e → GapItems v is → DroppedItems t (piece (between (47 ∷ 45 ∷ t) e) ∷ is)
   at_last : {t' u : Text} {x : Node} {is : List Item} → Star LineSpace t t' → IsNode true t' u x → EndsTight t' u → Star NodeSpace u [] → GapItems u is → DroppedItems t (piece (between (47 ∷ 45 ∷ t) u) ∷ is)
 
-no_dash_space : {t r : Text} → LineSpace (47 ∷ 45 ∷ t) r → ⊥
+pub no_dash_space : {t r : Text} → LineSpace (47 ∷ 45 ∷ t) r → ⊥
 no_dash_space (LineSpace.space n) = let e = (token_det (t_space n) t_slashdash).1 in cc
 no_dash_space (LineSpace.«break» n) = let e = (token_det (t_newline n) t_slashdash).1 in cc
 
-no_dash_node : {t r : Text} {x : Node} → IsNode true (47 ∷ 45 ∷ t) r x → ⊥
+pub no_dash_node : {t r : Text} {x : Node} → IsNode true (47 ∷ 45 ∷ t) r x → ⊥
 no_dash_node (named untyped (a_string' p e) d) = let e = (token_det (t_string p) t_slashdash).1 in cc
 no_dash_node (named (typed y ss) z d) = elim y [ ]
 
@@ -164,7 +164,7 @@ dash_nodes (node_then (line_space n g) x e ds) = absurd (no_dash_space n)
 dash_nodes (node_then (dropped_node (slashdash ls) y e' g) x e ds) = dropped_then ls y e' (node_then g x e ds)
 
 -- the dropped node has an item's end, or ends with the text
-item_end : {u v : Text} {xs : Nodes} → Terminator u v → AreNodes true v [] xs → ((e : Text) × ItemEnd u v e) ⊎ (u ≡ [])
+pub item_end : {u v : Text} {xs : Nodes} → Terminator u v → AreNodes true v [] xs → ((e : Text) × ItemEnd u v e) ⊎ (u ≡ [])
 item_end (Terminator.semicolon {r = r}) ds = inl (r, ItemEnd.semicolon)
 item_end (Terminator.newline n) ds = inl (_, ItemEnd.line (Break.newline n))
 item_end (Terminator.comment n) ds = inl (_, ItemEnd.line (Break.comment n))

@@ -43,7 +43,7 @@ space_turn (at kept fs) g = (refl, refl)
 space_turn (at kept_slashdash fs) g = (refl, refl)
 
 -- only a terminator leads between the nodes again
-gap_turn : (c : Control) (k : Token) → is_gap c ≡ false → held is_gap (step c k) ≡ true → (k ≡ newline) ⊎ (k ≡ semicolon)
+pub gap_turn : (c : Control) (k : Token) → is_gap c ≡ false → held is_gap (step c k) ≡ true → (k ≡ newline) ⊎ (k ≡ semicolon)
 gap_turn c newline g e = inl refl
 gap_turn c semicolon g e = inr refl
 gap_turn (at gap fs) space g e = absurd cc
@@ -88,7 +88,7 @@ gap_is (at gap []) e = refl
 gap_is _ e = absurd cc
 
 -- over one token, and over a run of spaces
-turn_back : {c d : Control} {last s r : Text} {k : Token} {e : NodeEnd} → BeginsToken s k r → step c k ≡ Some d → is_gap d ≡ false → NodePasses c last s e → NodePasses d (moved k last r) r e
+pub turn_back : {c d : Control} {last s r : Text} {k : Token} {e : NodeEnd} → BeginsToken s k r → step c k ≡ Some d → is_gap d ≡ false → NodePasses c last s e → NodePasses d (moved k last r) r e
 turn_back {d = d} t f g (returns u h) =
     let x = token_det t u in
     let same : d ≡ at gap [] = cc in

@@ -1,11 +1,11 @@
 -- What may be before a `}` may be alone.
-use Rattle.std.proofs.Common.{◌≡◌, ℕ, Bool, true, false, ◌&&◌, ◌==◌, [], ◌∷◌, ◌++◌, length, refl, sym, ap, subst, ◌∙◌, arith, append-nil, length-append}
+use Rattle.std.proofs.Common.{◌≡◌, Bool, true, false, ◌&&◌, ◌==◌, [], ◌∷◌, ◌++◌, length, refl, sym, ap, subst, ◌∙◌, arith, append-nil, length-append}
 use Rattle.kdl_text.specs.Chars.{Text, begins, Newline, crlf, one, Star, none, more}
 use Rattle.kdl_text.specs.Internal.Here.{first}
-use Rattle.kdl_text.specs.Trivia.{Line, LineComment, line as a_line, Ws, EscEnd, escline, NodeSpace, Break, LineSpace, Slashdash, ValueEnd}
+use Rattle.kdl_text.specs.Trivia.{Line, LineComment, line as a_line, EscEnd, escline, NodeSpace, Break, LineSpace, Slashdash, ValueEnd}
 use Rattle.kdl_entry.specs.Places.{DroppedEntry, dropped as dropped_e}
 use Rattle.kdl_entry.proofs.Moving.EntryMoves.{move_spaces, move_slashdash, move_entry, spaces_end}
-use Rattle.kdl_entry.proofs.Moving.Puts.{Put, stands, also, joined, same, same_piece, begins_first}
+use Rattle.kdl_entry.proofs.Moving.Puts.{Put, stands, also, joined, same, same_piece}
 use Rattle.kdl_grammar.specs.Data as data'
 use Rattle.kdl_grammar.specs.Grammar.{Terminator, IsNode, Gap, no_gap, line_space, dropped_node, AreNodes, last_gap}
 use Rattle.kdl_grammar.specs.Places.{DroppedBlock, dropped, AfterChildren, after, BeforeChildren, before}
@@ -142,7 +142,7 @@ put_front t r p = same_piece t p refl [] ∙ append-nil t
 pub gap_before_close : (t u : Text) → Gap true (t ++ (125 ∷ u)) (125 ∷ u) → Gap true t []
 gap_before_close t u g = let k = gap_alone g brace in subst (λ (y : Text). Gap true y []) (put_front t (125 ∷ u) k.at) k.alone
 
--- the places before and behind a block
+-- the places before and after a block
 one_block : {s t r : Text} → DroppedBlock s t → AfterChildren t r → AfterChildren s r
 one_block d (after ds ss) = after (more d ds) ss
 
@@ -181,7 +181,7 @@ after_before_close t u (after ds ss) = let m = lf_blocks ds ss (λ e. cc) in sub
 pub before_before_close : (t u : Text) → BeforeChildren (t ++ (125 ∷ u)) (125 ∷ u) → BeforeChildren t []
 before_before_close t u (before ds a) = let k = entries_alone ds a brace in subst (λ (y : Text). BeforeChildren y []) (put_front t (125 ∷ u) k.at) k.alone
 
--- a terminator with a gap behind it
+-- a terminator with a gap after it
 record EndAlone (s r : Text) : Type 0 where
   at : Put s r
   alone : Terminating (at.put [])

@@ -1,5 +1,5 @@
--- What the first piece of a gap adds to the nodes behind it.
-use Rattle.std.proofs.Common.{◌≡◌, ◌⊎◌, inl, inr, ℕ, ◌<◌, Bool, true, false, ◌&&◌, ◌==◌, if◌then◌else◌, length-append, List, [], ◌∷◌, ◌++◌, length, Option, Some, None, Bor, refl, sym, ap, subst, ◌∙◌, arith, append_assoc, append-nil}
+-- What the first piece of a gap adds to the nodes after it.
+use Rattle.std.proofs.Common.{◌≡◌, inl, inr, ℕ, ◌<◌, Bool, true, false, ◌&&◌, ◌==◌, if◌then◌else◌, length-append, List, [], ◌∷◌, ◌++◌, length, Some, None, Bor, refl, sym, ap, subst, ◌∙◌, arith, append_assoc, append-nil}
 use Rattle.std.proofs.lemmas.Bool.{and_parts, eqb-true}
 use Rattle.std.specs.Str.{chars}
 use Rattle.kdl_text.specs.Chars.{Text, is_newline_char, begins, begins_two, starts, Newline, crlf, one, Star, none, more, Plus, plus}
@@ -7,32 +7,32 @@ use Rattle.kdl_text.specs.Internal.Here.{first}
 use Rattle.kdl_text.specs.Spans.{bytes}
 use Rattle.kdl_text.specs.Trivia.{Line, LineComment, line as a_line, NodeSpace, Break, LineSpace, Slashdash, slashdash, ValueEnd}
 use Rattle.kdl_text.proofs.Looking.Stars.{snoc, meets}
-use Rattle.kdl_text.proofs.Spacing.NewlineUnique.{newline_det}
 use Rattle.kdl_text.proofs.Spacing.SpacePieces.{node_space_shorter, line_space_shorter}
-use Rattle.kdl_text.proofs.Spacing.SpaceUnique.{newline_begins, line_comment_begins, line_comment_det, node_space_dets, line_space_det, space_or_break}
+use Rattle.kdl_text.proofs.Spacing.SpaceUnique.{newline_begins, line_comment_begins, node_space_dets, line_space_det, space_or_break}
 use Rattle.kdl_entry.specs.Entries.{string as a_string', untyped, typed}
 use Rattle.kdl_entry.specs.Internal.Tokens.{Token, BeginsToken, t_space, t_newline, t_slashdash, t_string, t_value, t_left, t_right, t_opening, t_closing, t_equals, t_semicolon, t_bom}
 use Rattle.kdl_entry.proofs.Lexing.TokenUnique.{token_det}
-use Rattle.kdl_entry.proofs.Moving.EntryMoves.{move_spaces, move_slashdash, spaces_end, punctuation_end}
+use Rattle.kdl_entry.proofs.Moving.EntryMoves.{move_spaces, move_slashdash, spaces_end}
+use Rattle.kdl_grammar.specs.Data as nodes'
 use Rattle.kdl_grammar.specs.Data.{Node, Nodes}
 use Rattle.kdl_grammar.specs.Grammar.{Terminator, IsNode, named, Gap, no_gap, line_space, dropped_node, AreNodes, last_gap, node_then}
 use Rattle.kdl_grammar.specs.Internal.Control.{Control, at, node_slashdash}
 use Rattle.kdl_grammar.specs.ReadsBack.{NodesEnd, AddsNothing}
 use Rattle.kdl_grammar.proofs.Moving.Moves.{terminator_end}
-use Rattle.kdl_items.specs.Items.{Item, line_end, ItemEnd, EndsTight, GapItems}
+use Rattle.kdl_items.specs.Items.{Item, line_end, ItemEnd, EndsTight}
 use Rattle.kdl_items.specs.Lacks.{newlines}
-use Rattle.kdl_items.specs.Internal.Lacking.{EndsInReturn, IsOpen, EndsAs, HasOpenEnd, semicolon, ended, unended, SpacesLack, Through, PieceEnds}
+use Rattle.kdl_items.specs.Internal.Lacking.{letter, Fewest, GapEnds, EndsInReturn, EndsAs, HasOpenEnd, semicolon, ended, unended, SpacesLack, Through, PieceEnds}
 use Rattle.kdl_items.specs.Internal.Passed.{Before, EndsAt, AnswersDroppedNode}
 use Rattle.kdl_items.specs.Internal.Passing.{moved, returned, NodePasses, ends, goes}
 use Rattle.kdl_items.specs.Internal.Passing as passing
 use Rattle.kdl_items.specs.declared.dropped.NodeEnd.{NodeEnd}
 use Rattle.kdl_items.specs.declared.ends.Ending.{Ending}
 use Rattle.kdl_items.specs.declared.ends.Ending.TheVariants.{Before as EndsBefore, InReturn, Open}
-use Rattle.kdl_items.specs.declared.lacks.GapPiece.{GapPiece}
 use Rattle.kdl_items.specs.declared.lacks.GapPiece.TheVariants.{Until, Last}
 use Rattle.kdl_items.proofs.Dropping.DroppedNodes.{passes_det, passes_last, passes_node, DroppedItems, with_end, at_last, dash_items, node_returned, node_ended, node_refused}
 use Rattle.kdl_items.proofs.Lacking.Keeping.{put_more, moved_more, alone}
-use Rattle.kdl_items.proofs.Lacking.SpaceEnds.{lf, comment_line}
+use Rattle.kdl_items.proofs.Lacking.Fewest.{letter_end, no_nodes, swallowed, nodes_off, nodes_off_node, letter_dropped, fewest_at, fewest_none}
+use Rattle.kdl_items.proofs.Lacking.SpaceEnds.{lf, comment_line, comment_open, letter_line}
 use Rattle.kdl_items.proofs.Listing.PlaceTexts.{HasGap, gap_has, gap_of, spaces_only}
 use Rattle.kdl_items.proofs.Listing.SpaceItems.{dash_no_line}
 use Rattle.kdl_items.proofs.Rewriting.BeforeNewlines.{cut_node}
@@ -77,15 +77,16 @@ pub behind_lf : {r z : Text} {xs : Nodes} → NodesEnd z → AreNodes true (10 �
 behind_lf e (last_gap g) = last_gap (gap_behind_lf e g)
 behind_lf e (node_then g x t ds) = node_then (node_behind_lf g x) x t ds
 
--- one piece behind another
+-- one piece after another
 pub through_start : (s : Text) → Through s s
-through_start s = record { on = λ g. g; back = λ g. g; adds = λ g w z xs e ds. ds }
+through_start s = record { on = λ g. g; back = λ g. g; adds = λ g w z xs e ds. ds; off = λ g w xs ds. ds }
 
 pub through_then : {s t r : Text} → Through s t → Through t r → Through s r
 through_then a b = record {
   on = λ g. b.on (a.on g);
   back = λ g. a.back (b.back g);
   adds = λ g w z xs e ds. a.adds (b.back g) w z xs e (b.adds g w z xs e ds);
+  off = λ g w xs ds. b.off g w xs (a.off (b.back g) w xs ds);
 }
 
 -- line-spaces
@@ -104,7 +105,7 @@ some_lines (plus n ns) = more n ns
 pub spaces_until : (s : Text) (r : Bor (List ℕ)) → EndsAs LineSpace s (Some (EndsBefore r)) → PieceEnds s (Some (Until r))
 spaces_until s r (k, l) =
     let ns : Star LineSpace s (chars r.now) = some_lines (alone (Plus LineSpace) s (chars r.now) (k [])) in
-    (record { on = λ g. off_lines ns g; back = λ g. join_gap (lines_gap ns) g; adds = λ g w z xs e ds. in_front (lines_gap (some_lines (k w))) ds }, l)
+    (record { on = λ g. off_lines ns g; back = λ g. join_gap (lines_gap ns) g; adds = λ g w z xs e ds. in_front (lines_gap (some_lines (k w))) ds; off = λ g w xs ds. nodes_off (some_lines (k w)) ds }, l)
 
 one_line : {s r : Text} → LineSpace s r → Gap true s r
 one_line n = line_space n no_gap
@@ -126,10 +127,14 @@ with_none : (s : Text) → AddsNothing s → AddsNothing (s ++ newlines 0)
 with_none s f r z xs e ds = subst (λ (y : Text). AreNodes true (y ++ r) z xs) (sym (append-nil s)) (f r z xs e ds)
 
 pub spaces_in_return : (s : Text) → EndsAs LineSpace s (Some InReturn) → PieceEnds s (Some (Last 0))
-spaces_in_return s k = (one_line (subst (λ (y : Text). LineSpace y []) (append-nil s) (k.alone [] refl)), with_none s (return_adds k))
+spaces_in_return s k = (one_line (subst (λ (y : Text). LineSpace y []) (append-nil s) (k.alone [] refl)), with_none s (return_adds k), fewest_none s)
 
 pub spaces_open : (s : Text) → EndsAs LineSpace s (Some Open) → PieceEnds s (Some (Last 1))
-spaces_open s k = (one_line k.alone, λ r z xs e ds. subst (λ (y : Text). AreNodes true y z xs) (sym (append_assoc s (10 ∷ []) r)) (in_front (one_line (k.ended r)) ds))
+spaces_open s k = (
+  one_line k.alone,
+  λ r z xs e ds. subst (λ (y : Text). AreNodes true y z xs) (sym (append_assoc s (10 ∷ []) r)) (in_front (one_line (k.ended r)) ds),
+  fewest_at s 1 0 refl (λ xs ds. swallowed k.swallows (subst (λ (y : Text). AreNodes true (y ++ letter) [] xs) (append-nil s) ds)),
+)
 
 pub no_piece : (s : Text) → (s ≡ [] → ⊥) → begins_two 47 45 s ≡ false → EndsAs LineSpace s None → PieceEnds s None
 no_piece s f h k = λ g. go g f h k
@@ -143,8 +148,7 @@ no_piece s f h k = λ g. go g f h k
 node_more : {s t u : Text} {x : Node} → Slashdash s t → (n : IsNode true t u x) → (w q : Text) → Star NodeSpace ((cut_node n).rest ++ w) q → ValueEnd true q → Slashdash (s ++ w) (t ++ w) × IsNode true (t ++ w) q x
 node_more {t = t} {x = x} m n w q ss e =
     let c = cut_node n in let o = move_slashdash m in
-    let h : c.at.put (c.rest ++ w) ≡ t ++ w = put_more c.at w in
-    (
+    let h : c.at.put (c.rest ++ w) ≡ t ++ w = put_more c.at w in (
       subst (λ (y : Text). Slashdash y (t ++ w)) (put_more o.at w) (o.there (t ++ w) (ap first (sym h) ∙ c.full (c.rest ++ w))),
       subst (λ (y : Text). IsNode true y q x) h (c.there (c.rest ++ w) q (spaces_end ss e) ss),
     )
@@ -188,6 +192,49 @@ some_end (ended (Break.comment (a_line l)) f) e = cc
 some_end (unended (Break.newline n) f) e = let x = newline_begins n in let y = rw e at x in cc
 some_end (unended (Break.comment (a_line l)) f) e = cc
 
+-- the terminator before more of the rest, and what that leaves of it
+record EndOff (u v w : Text) : Type 0 where
+  rest : Text
+  piece : Text
+  item : ItemEnd (u ++ w) rest piece
+  is : Terminator (u ++ w) rest
+  off : (xs : Nodes) → AreNodes true rest [] xs → AreNodes true (v ++ w) [] xs
+
+record NewlineOff (u v w : Text) : Type 0 where
+  rest : Text
+  is : Newline (u ++ w) rest
+  off : (xs : Nodes) → AreNodes true rest [] xs → AreNodes true (v ++ w) [] xs
+
+newline_off : {u v : Text} → Newline u v → (w : Text) → NewlineOff u v w
+newline_off (crlf {r = r}) w = record { rest = r ++ w; is = crlf; off = λ xs ds. ds }
+newline_off (one {c = c} {r = d ∷ r} x y) w = record { rest = d ∷ (r ++ w); is = one x y; off = λ xs ds. ds }
+newline_off (one {c = c} {r = []} x y) [] = record { rest = []; is = one x y; off = λ xs ds. ds }
+newline_off (one {c = c} {r = []} x y) (d ∷ w) = go ((c == 13) && (d == 10)) refl
+  where
+    go : (b : Bool) → ((c == 13) && (d == 10)) ≡ b → NewlineOff (c ∷ []) [] (d ∷ w)
+    go true h =
+        let (i, j) = and_parts (c == 13) (d == 10) h in
+        let k : c ≡ 13 = eqb-true c 13 i in let l : d ≡ 10 = eqb-true d 10 j in
+        record { rest = w; is = rw (k, l) crlf; off = λ xs ds. subst (λ (y : ℕ). AreNodes true (y ∷ w) [] xs) (sym l) (in_front (line_space (lf_space w) no_gap) ds) }
+    go false h = record { rest = d ∷ w; is = one x h; off = λ xs ds. ds }
+
+record LineOff (u v w : Text) : Type 0 where
+  rest : Text
+  is : Line (u ++ w) rest
+  off : (xs : Nodes) → AreNodes true rest [] xs → AreNodes true (v ++ w) [] xs
+
+line_off : {u v : Text} → Line u v → (line_end u ≡ [] → ⊥) → (w : Text) → LineOff u v w
+line_off Line.ends f w = absurd (f refl)
+line_off (Line.newline n) f w = let k = newline_off n w in record { rest = k.rest; is = Line.newline k.is; off = k.off }
+line_off (Line.other {c = c} x l) f w = let k = line_off l (λ h. f (rw x h)) w in record { rest = k.rest; is = Line.other x k.is; off = k.off }
+
+end_off : {u v : Text} → HasOpenEnd u v false → (w : Text) → EndOff u v w
+end_off (semicolon {r = r}) w = record { rest = r ++ w; piece = r ++ w; item = ItemEnd.semicolon; is = Terminator.semicolon; off = λ xs ds. ds }
+end_off {u} (ended (Break.newline n) f) w = let k = newline_off n w in record { rest = k.rest; piece = line_end (u ++ w); item = ItemEnd.line (Break.newline k.is); is = Terminator.newline k.is; off = k.off }
+end_off {u} (ended (Break.comment (a_line {s = s} l)) f) w =
+    let k = line_off l (λ h. f (slashes_end s ∙ h)) w in
+    record { rest = k.rest; piece = line_end (u ++ w); item = ItemEnd.line (Break.comment (a_line k.is)); is = Terminator.comment (a_line k.is); off = k.off }
+
 -- a dropped node with its terminator
 record Dropped (b u : Text) : Type 0 where
   start : Text
@@ -222,19 +269,26 @@ module _ {b u v e : Text} {k : Token} (p : NodePasses (at node_slashdash []) b b
       let n = node_before d.dash d.is (some_end o) w (terminator_end m) in
       in_front (dropped_node n.0 n.1 m no_gap) es
 
-  node_through : HasOpenEnd u v false → Through (47 ∷ 45 ∷ b) v
-  node_through o = record { on = node_on; back = node_back; adds = node_adds o }
+  node_off : HasOpenEnd u v false → Gap true v [] → (w : Text) (xs : Nodes) → AreNodes true ((47 ∷ 45 ∷ b) ++ w) [] xs → AreNodes true (v ++ w) [] xs
+  node_off o g w xs ds =
+      let d = the_node (gap_has g) in
+      let k = end_off o w in
+      let n = node_before d.dash d.is (some_end o) w (terminator_end k.is) in
+      k.off xs (nodes_off_node n.0 n.1 k.item ds)
 
--- the line comment behind it has no newline
+  node_through : HasOpenEnd u v false → Through (47 ∷ 45 ∷ b) v
+  node_through o = record { on = node_on; back = node_back; adds = node_adds o; off = node_off o }
+
+no_line_newline : (u : Text) → line_end u ≡ [] → starts is_newline_char u ≡ true → ⊥
+no_line_newline [] e h = cc
+no_line_newline (c ∷ s) e h = let x = rw h at e in cc
+
+-- the line comment after it has no newline
 comment_lf : {u v : Text} → Break u v → line_end u ≡ [] → (w : Text) → LineComment (u ++ (10 ∷ w)) w
 comment_lf {u = u} (Break.comment l) e w = comment_line u (10 ∷ w) w (line_comment_begins l) (subst (λ (z : Text). Newline (z ++ (10 ∷ w)) w) (sym e) (lf w))
-comment_lf {u = u} (Break.newline n) e w = absurd (no_newline u e (newline_begins n))
-  where
-    no_newline : (u : Text) → line_end u ≡ [] → starts is_newline_char u ≡ true → ⊥
-    no_newline [] e h = cc
-    no_newline (c ∷ s) e h = let x = rw h at e in cc
+comment_lf {u = u} (Break.newline n) e w = absurd (no_line_newline u e (newline_begins n))
 
--- behind a line comment without a newline nothing is left
+-- after a line comment without a newline nothing is left
 line_all : {s r : Text} → Line s r → line_end s ≡ [] → r ≡ []
 line_all Line.ends e = refl
 line_all (Line.newline n) e = absurd (go n e)
@@ -248,10 +302,14 @@ open_all : {u v : Text} → HasOpenEnd u v true → v ≡ []
 open_all (unended (Break.newline n) e) = line_all (Line.newline n) e
 open_all (unended (Break.comment (a_line {s = s} l)) e) = line_all l (sym (slashes_end s) ∙ e)
 
+comment_letter : {u v : Text} → HasOpenEnd u v true → LineComment (u ++ letter) []
+comment_letter {u = u} (unended (Break.comment l) e) = comment_open u letter (line_comment_begins l) e letter_line
+comment_letter {u = u} (unended (Break.newline n) e) = absurd (no_line_newline u e (newline_begins n))
+
 open_lf : {u v : Text} → HasOpenEnd u v true → (w : Text) → LineComment (u ++ (10 ∷ w)) w
 open_lf (unended b e) w = comment_lf b e w
 
--- newlines behind a text
+-- newlines after a text
 one_newline : (s : Text) → ((r z : Text) (xs : Nodes) → NodesEnd z → AreNodes true r z xs → AreNodes true (s ++ (10 ∷ r)) z xs) → AddsNothing (s ++ newlines 1)
 one_newline s f r z xs e ds = subst (λ (y : Text). AreNodes true y z xs) (sym (append_assoc s (10 ∷ []) r)) (f r z xs e ds)
 
@@ -272,7 +330,19 @@ module _ {b u v e : Text} {k : Token} (p : NodePasses (at node_slashdash []) b b
       let n = node_before d.dash d.is (some_end o) (10 ∷ r) (terminator_end m) in
       in_front (dropped_node n.0 n.1 m no_gap) ds)
 
--- where the node ends with the text, node-spaces are behind it
+-- and with a letter after it no node is left
+module _ {b u v e : Text} {k : Token} (p : NodePasses (at node_slashdash []) b b (returned k u v)) (i : ItemEnd u v e) (o : HasOpenEnd u v true) where
+  open_letter : (xs : Nodes) → AreNodes true ((47 ∷ 45 ∷ b) ++ letter) [] xs → xs ≡ nodes'.none
+  open_letter xs ds =
+      let d = the_node p i (gap_has (nothing_behind p i o)) in
+      let l = comment_letter o in
+      let n = node_before d.dash d.is (some_end o) letter (terminator_end (Terminator.comment l)) in
+      no_nodes (nodes_off_node n.0 n.1 (ItemEnd.line (Break.comment l)) ds)
+
+  open_fewest : Fewest (47 ∷ 45 ∷ b) 1
+  open_fewest = fewest_at (47 ∷ 45 ∷ b) 1 0 refl (λ xs ds. open_letter xs (subst (λ (y : Text). AreNodes true (y ++ letter) [] xs) (append-nil (47 ∷ 45 ∷ b)) ds))
+
+-- where the node ends with the text, node-spaces are after it
 moved_spaces : {last s r : Text} {k : Token} → BeginsToken s k r → Star NodeSpace last s → Star NodeSpace (moved k last r) r
 moved_spaces (t_space n) ss = snoc ss n
 moved_spaces (t_newline n) ss = none
@@ -342,6 +412,18 @@ module _ {b u : Text} (p : NodePasses (at node_slashdash []) b b (passing.ended 
 
   last_two : SpacesLack u true → AddsNothing ((47 ∷ 45 ∷ b) ++ newlines 2)
   last_two k = two_newlines (47 ∷ 45 ∷ b) (λ r z xs f ds. in_front (last_lf (10 ∷ 10 ∷ r) r (k (10 ∷ r))) ds)
+
+-- with a letter after the node and its spaces no node is left
+module _ {b u : Text} (p : NodePasses (at node_slashdash []) b b (passing.ended u)) where
+  last_letter : (w : Text) → Star NodeSpace (u ++ w) letter → (xs : Nodes) → AreNodes true ((47 ∷ 45 ∷ b) ++ w) [] xs → xs ≡ nodes'.none
+  last_letter w ss xs ds = let n = last_more p w letter ss letter_end in letter_dropped n.2 n.3 ds
+
+  one_fewest : SpacesLack u false → Fewest (47 ∷ 45 ∷ b) 1
+  one_fewest k = fewest_at (47 ∷ 45 ∷ b) 1 0 refl (λ xs ds. last_letter letter (k letter) xs (subst (λ (y : Text). AreNodes true (y ++ letter) [] xs) (append-nil (47 ∷ 45 ∷ b)) ds))
+
+  two_fewest : SpacesLack u true → Fewest (47 ∷ 45 ∷ b) 2
+  two_fewest k =
+      fewest_at (47 ∷ 45 ∷ b) 2 1 refl (λ xs ds. last_letter (10 ∷ letter) (k letter) xs (subst (λ (y : Text). AreNodes true y [] xs) (append_assoc (47 ∷ 45 ∷ b) (10 ∷ []) letter) ds))
 
 -- node-spaces alone
 no_lf_spaces : (w : Text) → Star NodeSpace (10 ∷ w) w → ⊥
@@ -420,28 +502,30 @@ node_open s b y rest e true f (EndsAt.returns {u = u} {v = v} p i x z o) k h l =
     absurd (no_lf_spaces [] (subst (λ (c : Text). Star NodeSpace (c ++ (10 ∷ [])) []) g (l [])))
 node_open s b y rest e false f (EndsAt.returns {u = u} {v = v} p i x z o) k h l =
     let q = subst (λ (c : Bool). HasOpenEnd u v c) h o in
-    subst (λ (c : Text). PieceEnds c (Some (Last 1))) (sym f) (open_gap p i q, open_adds p i q)
+    subst (λ (c : Text). PieceEnds c (Some (Last 1))) (sym f) (open_gap p i q, open_adds p i q, open_fewest p i q)
 node_open s b y rest e true f (EndsAt.ends {w = w} p x z o) k h l =
     let g : rest ≡ w = (k z.0 w z.1 z.2).1 in
-    subst (λ (c : Text). PieceEnds c (Some (Last 2))) (sym f) (last_gap_all p, last_two p (subst (λ (c : Text). SpacesLack c true) g l))
+    subst (λ (c : Text). PieceEnds c (Some (Last 2))) (sym f) (last_gap_all p, last_two p (subst (λ (c : Text). SpacesLack c true) g l), two_fewest p (subst (λ (c : Text). SpacesLack c true) g l))
 node_open s b y rest e false f (EndsAt.ends {w = w} p x z o) k h l =
     let g : rest ≡ w = (k z.0 w z.1 z.2).1 in
-    subst (λ (c : Text). PieceEnds c (Some (Last 1))) (sym f) (last_gap_all p, last_one p (subst (λ (c : Text). SpacesLack c false) g l))
+    subst (λ (c : Text). PieceEnds c (Some (Last 1))) (sym f) (last_gap_all p, last_one p (subst (λ (c : Text). SpacesLack c false) g l), one_fewest p (subst (λ (c : Text). SpacesLack c false) g l))
 
 pub node_none : (s b : Text) → s ≡ 47 ∷ 45 ∷ b → AnswersDroppedNode b None → PieceEnds s None
 node_none s b f k = λ g. let h = gap_has (subst (λ (y : Text). Gap true y []) f g) in node_refused k h.0 h.1
 
 -- the gap so far
-pub gap_end : (s t : Text) → Through s t → t ≡ [] → Gap true s [] × AddsNothing (s ++ newlines 0)
+pub gap_end : (s t : Text) → Through s t → t ≡ [] → GapEnds s 0
 gap_end s t k e =
     let g : Gap true t [] = subst (λ (y : Text). Gap true y []) (sym e) no_gap in
-    (k.back g, with_none s (λ r z xs f ds. k.adds g r z xs f (subst (λ (y : Text). AreNodes true (y ++ r) z xs) (sym e) ds)))
+    (k.back g, with_none s (λ r z xs f ds. k.adds g r z xs f (subst (λ (y : Text). AreNodes true (y ++ r) z xs) (sym e) ds)), fewest_none s)
 
-pub gap_last : (s t : Text) (k : ℕ) → Through s t → Gap true t [] × AddsNothing (t ++ newlines k) → Gap true s [] × AddsNothing (s ++ newlines k)
-gap_last s t k q (g, f) = (
+pub gap_last : (s t : Text) (k : ℕ) → Through s t → GapEnds t k → GapEnds s k
+gap_last s t k q (g, f, few) = (
   q.back g,
   λ r z xs e ds.
       subst (λ (y : Text). AreNodes true y z xs) (sym (append_assoc s (newlines k) r)) (q.adds g (newlines k ++ r) z xs e (subst (λ (y : Text). AreNodes true y z xs) (append_assoc t (newlines k) r) (f r z xs e ds))),
+  λ j e xs ds.
+      few j e xs (subst (λ (y : Text). AreNodes true y [] xs) (sym (append_assoc t (newlines j) letter)) (q.off g (newlines j ++ letter) xs (subst (λ (y : Text). AreNodes true y [] xs) (append_assoc s (newlines j) letter) ds))),
 )
 
 pub gap_turn : (s t u : Text) (r : Bor (List ℕ)) → Through s t → PieceEnds t (Some (Until r)) → u ≡ chars r.now → Through s u

@@ -1,6 +1,6 @@
 -- What is before a rest is before more of it.
-use Rattle.std.proofs.Common.{◌≡◌, ℕ, [], ◌∷◌, ◌++◌, refl, sym, ap, subst, ◌∙◌, append_assoc, append-nil}
-use Rattle.kdl_text.specs.Chars.{Text, Star, none, more, Plus, plus, Space, space as a_space}
+use Rattle.std.proofs.Common.{◌≡◌, [], ◌∷◌, ◌++◌, refl, sym, ap, subst, ◌∙◌, append_assoc, append-nil}
+use Rattle.kdl_text.specs.Chars.{Text, Star, none, more, Space, space as a_space}
 use Rattle.kdl_text.specs.Internal.Here.{first}
 use Rattle.kdl_text.specs.Trivia.{BlockComment, Ws}
 use Rattle.kdl_entry.proofs.Moving.Puts.{Put, Move}
@@ -31,6 +31,6 @@ block_more {r = r} b w = let m = closed_block b in subst (λ (z : Text). BlockCo
 pub run_more : {s r : Text} → Star Ws s r → (w : Text) → Star Ws (s ++ w) (r ++ w)
 run_more {r = r} ws w = let m = closed_run ws in subst (λ (z : Text). Star Ws z (r ++ w)) (put_more m.at w) (m.there (r ++ w))
 
--- with nothing behind it
+-- with nothing after it
 pub alone : (R : Text → Text → Type 0) (s r : Text) → R (s ++ []) (r ++ []) → R s r
 alone R s r x = subst (λ (z : Text). R z r) (append-nil s) (subst (λ (z : Text). R (s ++ []) z) (append-nil r) x)

@@ -1,25 +1,24 @@
 -- What the first piece of a place takes from what follows it.
 use Rattle.std.proofs.Common.{◌≡◌, ℕ, ◌<◌, Bool, true, false, List, [], ◌∷◌, ◌++◌, length, Option, Some, None, option_map, Bor, refl, sym, ap, subst, ◌∙◌, arith, append_assoc, append-nil, length-append}
 use Rattle.std.specs.Str.{chars}
-use Rattle.kdl_text.specs.Chars.{Text, begins, begins_two, Star, none, more, Plus, plus}
+use Rattle.kdl_text.specs.Chars.{Text, begins_two, Star, none, more, Plus, plus}
 use Rattle.kdl_text.specs.Internal.Here.{first}
 use Rattle.kdl_text.specs.Spans.{bytes}
-use Rattle.kdl_text.specs.Trivia.{NodeSpace, LineSpace, Slashdash, slashdash, ValueEnd}
+use Rattle.kdl_text.specs.Trivia.{NodeSpace, Slashdash, slashdash, ValueEnd}
 use Rattle.kdl_entry.specs.Data.{Entry}
 use Rattle.kdl_entry.specs.Entries.{IsEntry}
 use Rattle.kdl_entry.specs.Internal.Tokens.{BeginsToken, t_slashdash}
 use Rattle.kdl_entry.specs.Internal.Tokens as token'
-use Rattle.kdl_entry.specs.Places.{EntryLeading, leading}
+use Rattle.kdl_entry.specs.Places.{leading}
 use Rattle.kdl_entry.proofs.Moving.EntryMoves.{move_slashdash, move_entry, leading_end}
-use Rattle.kdl_entry.proofs.Moving.Puts.{Put}
 use Rattle.kdl_grammar.specs.Data.{Nodes}
-use Rattle.kdl_grammar.specs.Grammar.{Terminator, IsBlock}
+use Rattle.kdl_grammar.specs.Grammar.{IsBlock}
 use Rattle.kdl_grammar.specs.Internal.Control.{at}
-use Rattle.kdl_grammar.specs.Places.{AfterChildren, after, BeforeChildren, before}
+use Rattle.kdl_grammar.specs.Places.{after, before}
 use Rattle.kdl_grammar.proofs.Moving.Moves.{before_end, terminator_end}
 use Rattle.kdl_items.specs.Items.{Item, Place, before_entry, before_block, behind_block, may_end, takes_entries, takes_blocks, spaced, PlaceItems, ends, dropped_entry, dropped_block}
-use Rattle.kdl_items.specs.Lacks.{newlines, InPlace, BeforeEach, PlaceLacks}
-use Rattle.kdl_items.specs.Internal.Lacking.{EndsInReturn, IsOpen, EndsAs, PlaceThrough, PlaceGoes, PlacePieceEnds}
+use Rattle.kdl_items.specs.Lacks.{newlines, Lacks, InPlace, BeforeEach, PlaceLacks}
+use Rattle.kdl_items.specs.Internal.Lacking.{letter, EndsAs, PlaceThrough, PlaceGoes, PlacePieceEnds}
 use Rattle.kdl_items.specs.Internal.Passed.{Before, AnswersDroppedPart, BehindPart}
 use Rattle.kdl_items.specs.Internal.Passing.{PartPasses, slashdash_phase, slashdash_in}
 use Rattle.kdl_items.specs.Internal.Reading.{place_view}
@@ -27,15 +26,16 @@ use Rattle.kdl_items.specs.declared.dropped.PartEnd.{PartEnd}
 use Rattle.kdl_items.specs.declared.ends.Ending.{Ending}
 use Rattle.kdl_items.specs.declared.ends.Ending.TheVariants.{Before as EndsBefore, InReturn, Open}
 use Rattle.kdl_items.specs.declared.item.Place as held
-use Rattle.kdl_items.specs.declared.lacks.PlacePiece.{PlacePiece}
 use Rattle.kdl_items.specs.declared.lacks.PlacePiece.TheVariants.{Onward, InEscline}
 use Rattle.kdl_items.proofs.Dropping.DroppedParts.{entry_passes, block_passes, part_entry, part_block, part_no_block, part_refused, dash_space, dash_lines}
 use Rattle.kdl_items.proofs.Dropping.NoEquals.{passes_det, place_quiet}
+use Rattle.kdl_items.proofs.Lacking.Fewest.{letter_end}
 use Rattle.kdl_items.proofs.Lacking.Keeping.{put_more, alone}
+use Rattle.kdl_items.proofs.Lacking.PlaceFewest.{not_each}
 use Rattle.kdl_items.proofs.Listing.PlaceTexts.{Has, before_block_items, after_block_items}
 use Rattle.kdl_items.proofs.Listing.SpaceItems.{space_of, space_items, place_space}
 use Rattle.kdl_items.proofs.Rewriting.BeforeNewlines.{closed_braces}
-use Rattle.kdl_items.proofs.Rewriting.PlacesAgain.{DashedEntry, DashedBlock, spaced_again, blocks_spaced, text_space, text_entry, text_block, place_spaced, no_text}
+use Rattle.kdl_items.proofs.Rewriting.PlacesAgain.{DashedEntry, DashedBlock, spaced_again, blocks_spaced, text_space, text_entry, text_block, no_text}
 
 -- what is in a place before a value end is one
 text_end : (p : Place) {s z : Text} → InPlace p s z → ValueEnd true z → ValueEnd true s
@@ -48,7 +48,7 @@ spaced_back b (before_entry c) s z d = d
 spaced_back b before_block s z d = d
 spaced_back b behind_block s z d = d
 
--- one piece behind another
+-- one piece after another
 pub place_start : (p : Place) (s : Text) → PlaceThrough p s p s
 place_start p s = record { on = λ is d. (is, d); back = λ is d. (is, d); adds = λ js d w z e x. x; blocks = λ h. h }
 
@@ -253,16 +253,21 @@ text_has behind_block h {s} x = (after_block_items s).0 x
 
 done : (p q : Place) (s t : Text) → PlaceThrough p s q t → t ≡ [] → takes_blocks p ≡ true → InPlace p s [] × BeforeEach p s
 done p q s t k e h =
-    let i : Has q t = subst (λ (y : Text). Has q y) (sym e) ([], ends (no_blocks_end q (k.blocks h))) in
-    (
+    let i : Has q t = subst (λ (y : Text). Has q y) (sym e) ([], ends (no_blocks_end q (k.blocks h))) in (
       has_text p h (k.back i.0 i.1),
       λ r v m. k.adds i.0 i.1 r r (terminator_end m) (subst (λ (y : Text). InPlace q (y ++ r) r) (sym e) (no_text q (k.blocks h) r)),
     )
 
-lacking : (p q : Place) (s t : Text) → PlaceThrough p s q t → Has q t → ((z : Text) → InPlace q (t ++ (10 ∷ z)) z) → takes_blocks p ≡ true → InPlace p s [] × BeforeEach p (s ++ newlines 1)
+lacking : (p q : Place) (s t : Text) → PlaceThrough p s q t → Has q t → ((z : Text) → InPlace q (t ++ (10 ∷ z)) z) → takes_blocks p ≡ true → InPlace p s [] × Lacks (BeforeEach p) s 1
 lacking p q s t k i f h = (
   has_text p h (k.back i.0 i.1),
-  λ r v m. subst (λ (y : Text). InPlace p y r) (sym (append_assoc s (10 ∷ []) r)) (k.adds i.0 i.1 (10 ∷ r) r (terminator_end m) (f r)),
+  (
+    λ r v m. subst (λ (y : Text). InPlace p y r) (sym (append_assoc s (10 ∷ []) r)) (k.adds i.0 i.1 (10 ∷ r) r (terminator_end m) (f r)),
+    λ j l b.
+        let e : j ≡ 0 = omega (arith, l) in
+        not_each p h s (λ u z d g. text_end p d g) (k.adds i.0 i.1 (10 ∷ letter) letter letter_end (f letter))
+        (subst (λ (y : Text). BeforeEach p y) (append-nil s) (subst (λ (n : ℕ). BeforeEach p (s ++ newlines n)) e b)),
+  ),
 )
 
 pub place_done : (p q : Place) (s t : Text) → PlaceThrough p s q t → t ≡ [] → PlaceLacks p s (Some false)

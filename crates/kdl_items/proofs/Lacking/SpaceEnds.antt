@@ -1,17 +1,18 @@
 -- How node-spaces and line-spaces end.
-use Rattle.std.proofs.Common.{◌≡◌, ℕ, ◌<◌, ◌≤◌, Bool, true, false, ◌&&◌, ◌==◌, [], ◌∷◌, ◌++◌, length, Option, Some, None, MatchOption, Bor, List, refl, sym, ap, subst, ◌∙◌, arith, length-append, append-nil, if◌then◌else◌}
+use Rattle.std.proofs.Common.{◌≡◌, ◌⊎◌, inl, inr, ℕ, ◌<◌, Bool, true, false, ◌&&◌, ◌==◌, [], ◌∷◌, ◌++◌, length, Option, Some, None, Bor, List, refl, sym, ap, subst, ◌∙◌, arith, append-nil, if◌then◌else◌}
 use Rattle.std.proofs.lemmas.Bool.{eqb-true}
 use Rattle.std.specs.Str.{chars}
-use Rattle.kdl_text.specs.Chars.{Text, is_space, is_newline_char, begins, begins_two, starts, Newline, crlf, one, Star, none, more, Plus, plus, Space}
-use Rattle.kdl_text.specs.Internal.Here.{Here, Ate, first}
+use Rattle.kdl_text.specs.Chars.{Text, is_space, is_newline_char, begins, begins_two, starts, Newline, crlf, one, Star, none, Plus, plus, Space}
 use Rattle.kdl_text.specs.Internal.Reading.{Longest}
-use Rattle.kdl_text.specs.Trivia.{BlockComment, Line, LineComment, line as a_line, Ws, EscEnd, Escline, escline, NodeSpace, Break, LineSpace}
-use Rattle.kdl_text.proofs.Looking.Stars.{meets, join, star_map, snoc}
+use Rattle.kdl_text.specs.Trivia.{BlockComment, Line, LineComment, line as a_line, Ws, EscEnd, escline, NodeSpace, Break, LineSpace}
+use Rattle.kdl_text.proofs.Looking.Stars.{join, star_map, snoc}
 use Rattle.kdl_text.proofs.Spacing.NewlineUnique.{newline_there}
-use Rattle.kdl_text.proofs.Spacing.SpacePieces.{star_end, end_length, space_end, space_shorter, block_shorter, newline_shorter, node_space_shorter, line_space_shorter}
-use Rattle.kdl_text.proofs.Spacing.SpaceUnique.{newline_begins, slash_no_space, slash_no_newline, backslash_no_space, space_det, block_det, line_comment_det, ws_det, esc_end_ws, esc_end_det, no_line_comment, backslash_no_newline, escline_ends_at, node_space_det, line_space_det, spaces_plus}
+use Rattle.kdl_text.proofs.Spacing.SpacePieces.{star_end, end_length, space_end, space_shorter, block_shorter, node_space_shorter, line_space_shorter}
+use Rattle.kdl_text.proofs.Spacing.SpaceUnique.{newline_begins, backslash_no_space, no_line_comment, escline_ends_at, spaces_plus}
+use Rattle.kdl_entry.specs.Internal.Tokens.{Token, BeginsToken, space, newline, t_space, t_newline}
+use Rattle.kdl_entry.proofs.Lexing.TokenUnique.{token_det, no_backslash}
 use Rattle.kdl_items.specs.Items.{line_end}
-use Rattle.kdl_items.specs.Internal.Lacking.{LineEnds, EndsInReturn, IsOpen, EndsAs}
+use Rattle.kdl_items.specs.Internal.Lacking.{letter, LineEnds, EndsAs}
 use Rattle.kdl_items.specs.declared.ends.Ending.{Ending}
 use Rattle.kdl_items.specs.declared.ends.Ending.TheVariants.{Before, InReturn, Open}
 use Rattle.kdl_items.proofs.Lacking.Keeping.{space_more, spaces_more, block_more, run_more}
@@ -65,8 +66,16 @@ line_open (c ∷ s) w h l = go (is_newline_char c) refl h (line_open s w)
     go true e h f = absurd cc
     go false e h f = Line.other e (f h l)
 
-letter_line : Line (97 ∷ []) []
-letter_line = Line.other letter_no_newline Line.ends
+pub space_no_newline : is_newline_char 32 ≡ false
+unfolding is_newline_char
+space_no_newline = refl
+
+pub a_space : Space (32 ∷ 97 ∷ []) (97 ∷ [])
+unfolding is_space
+a_space = Space.space refl
+
+pub letter_line : Line letter []
+letter_line = Line.other space_no_newline (Line.other letter_no_newline Line.ends)
 
 -- each line has an end: nothing, or a newline
 pub no_line_end : (s : Text) → (line_end s ≡ [] → ⊥) → ((r : Text) → Newline (line_end s) r → ⊥) → ⊥
@@ -79,7 +88,7 @@ no_line_end (c ∷ s) f g = go (is_newline_char c) refl f g (no_line_end s)
 
 -- what ends where a line does
 pub line_ends_as : (X : Text → Text → Type 0) (s e : Text) (o : Option Ending) → ((u v : Text) → X u v → length v < length u) → ((w z : Text) → Newline (e ++ w) z → X (s ++ w) z) → (e ≡ [] → X s [])
-    → (e ≡ [] → (r : Text) → LineSpace (s ++ (97 ∷ [])) r → r ≡ []) → (o ≡ None → ⊥) → LineEnds e o → EndsAs X s o
+    → (e ≡ [] → (r : Text) (k : Token) → BeginsToken (s ++ letter) k r → ((k ≡ space) ⊎ (k ≡ newline)) × (r ≡ [])) → (o ≡ None → ⊥) → LineEnds e o → EndsAs X s o
 line_ends_as X s e None short p q f k n = absurd (k refl)
 line_ends_as X s e (Some (Before r)) short p q f k n =
     (λ w. plus (p w (chars r.now ++ w) (n w)) none, omega (arith, short (s ++ []) (chars r.now ++ []) (p [] (chars r.now ++ []) (n [])), ap length (append-nil s), ap length (append-nil (chars r.now))))
@@ -93,7 +102,7 @@ line_ends_as X s e (Some Open) short p q f k n = record {
   swallows = f n;
 }
 
--- behind the `\` and spaces of an escline
+-- after the `\` and spaces of an escline
 abbrev pub Rest : Bool → Text → Text
 Rest true t = line_end t
 Rest false t = t
@@ -135,22 +144,18 @@ back_ws : {s r : Text} → Ws (92 ∷ s) r → ⊥
 back_ws (Ws.space (Space.space x)) = let y = backslash_no_space in cc
 back_ws (Ws.comment b) = elim b [ ]
 
-back_break : {s r : Text} → Break (92 ∷ s) r → ⊥
-back_break (Break.newline n) = let x = newline_begins n in let y = backslash_no_newline in cc
-back_break (Break.comment l) = elim l [ ]
+swallowed_space : {s : Text} → BeginsToken s space [] → (r : Text) (k : Token) → BeginsToken s k r → ((k ≡ space) ⊎ (k ≡ newline)) × (r ≡ [])
+swallowed_space a r k t = let d = token_det t a in (inl d.1, d.0)
 
-esc_swallows : (b : Bool) (s t e r : Text) → Star Ws s t → begins_two 47 47 t ≡ b → e ≡ Rest b t → e ≡ [] → Escline (92 ∷ (s ++ (97 ∷ []))) r → r ≡ []
-esc_swallows true s t e r ws h x y p =
-    let k = EscEnd.comment (comment_open t (97 ∷ []) h (sym x ∙ y) letter_line) in
-    esc_end_det (escline_ends_at (run_more ws (97 ∷ [])) (λ v. esc_end_ws k) p) k
-esc_swallows false s t e r ws h x y p =
-    let n : t ≡ [] = sym x ∙ y in
-    absurd (letter_end (escline_ends_at (subst (λ (z : Text). Star Ws (s ++ (97 ∷ [])) (z ++ (97 ∷ []))) n (run_more ws (97 ∷ []))) (λ v. letter_ws) p))
+swallowed_newline : {s : Text} → BeginsToken s newline [] → (r : Text) (k : Token) → BeginsToken s k r → ((k ≡ space) ⊎ (k ≡ newline)) × (r ≡ [])
+swallowed_newline a r k t = let d = token_det t a in (inr d.1, d.0)
 
-back_swallows : (b : Bool) (s t e : Text) → Star Ws s t → begins_two 47 47 t ≡ b → e ≡ Rest b t → e ≡ [] → (r : Text) → LineSpace (92 ∷ (s ++ (97 ∷ []))) r → r ≡ []
-back_swallows b s t e ws h x y r (LineSpace.space (NodeSpace.ws w)) = absurd (back_ws w)
-back_swallows b s t e ws h x y r (LineSpace.space (NodeSpace.escline p)) = esc_swallows b s t e r ws h x y p
-back_swallows b s t e ws h x y r (LineSpace.«break» k) = absurd (back_break k)
+letter_run : (s t : Text) → Star Ws s t → t ≡ [] → Star Ws (s ++ letter) (97 ∷ [])
+letter_run s t ws n = snoc (subst (λ (z : Text). Star Ws (s ++ letter) (z ++ letter)) n (run_more ws letter)) (Ws.space a_space)
+
+back_swallows : (b : Bool) (s t e : Text) → Star Ws s t → begins_two 47 47 t ≡ b → e ≡ Rest b t → e ≡ [] → (r : Text) (k : Token) → BeginsToken (92 ∷ (s ++ letter)) k r → ((k ≡ space) ⊎ (k ≡ newline)) × (r ≡ [])
+back_swallows true s t e ws h x y = swallowed_space (t_space (NodeSpace.escline (escline (run_more ws letter) (EscEnd.comment (comment_open t letter h (sym x ∙ y) letter_line)))))
+back_swallows false s t e ws h x y = λ r k n. absurd (no_backslash (s ++ letter) (λ u p. letter_end (escline_ends_at (letter_run s t ws (sym x ∙ y)) (λ v. letter_ws) p)) r k n)
 
 no_esc_end : (b : Bool) (t e r : Text) → begins_two 47 47 t ≡ b → e ≡ Rest b t → (e ≡ [] → ⊥) → ((u : Text) → Newline e u → ⊥) → EscEnd t r → ⊥
 no_esc_end true t e r h x f g k = no_line_end t (λ y. f (x ∙ y)) (λ u n. g u (subst (λ (z : Text). Newline z u) (sym x) n))
@@ -171,7 +176,7 @@ esc_ends b s t e (Some y) l h x n =
 pub escline_ends : (s t e : Text) (o : Option Ending) → Longest Ws s t → e ≡ (if begins_two 47 47 t then line_end t else t) → LineEnds e o → EndsAs NodeSpace (92 ∷ s) o
 escline_ends s t e o l x n = esc_ends (begins_two 47 47 t) s t e o l refl (rest_is t e x) n
 
--- the run behind the `\`
+-- the run after the `\`
 pub ws_start : {s t : Text} → Longest Space s t → Star Ws s t × ((v : Text) → Space t v → ⊥)
 ws_start (ps, stuck) = (star_map (λ u v p. Ws.space p) ps, stuck)
 
@@ -226,13 +231,13 @@ break_at false s e h x w z n = Break.newline (subst (λ (y : Text). Newline (y +
 break_more : (b : Bool) (s e : Text) → begins_two 47 47 s ≡ b → e ≡ Rest b s → (w z : Text) → Newline (e ++ w) z → LineSpace (s ++ w) z
 break_more b s e h x w z n = LineSpace.«break» (break_at b s e h x w z n)
 
-break_open : (b : Bool) (s e : Text) → (s ≡ [] → ⊥) → begins_two 47 47 s ≡ b → e ≡ Rest b s → e ≡ [] → (w : Text) → Line w [] → LineSpace (s ++ w) []
-break_open true s e f h x y w l = LineSpace.«break» (Break.comment (comment_open s w h (sym x ∙ y) l))
+break_open : (b : Bool) (s e : Text) → (s ≡ [] → ⊥) → begins_two 47 47 s ≡ b → e ≡ Rest b s → e ≡ [] → (w : Text) → Line w [] → Break (s ++ w) []
+break_open true s e f h x y w l = Break.comment (comment_open s w h (sym x ∙ y) l)
 break_open false s e f h x y w l = absurd (f (sym x ∙ y))
 
 pub breaks_end : (s e : Text) (y : Ending) → (s ≡ [] → ⊥) → e ≡ (if begins_two 47 47 s then line_end s else s) → LineEnds e (Some y) → EndsAs LineSpace s (Some y)
 breaks_end s e y f x n =
     let b = begins_two 47 47 s in
     let h = rest_is s e x in
-    line_ends_as LineSpace s e (Some y) (λ u v. line_space_shorter) (break_more b s e refl h) (λ k. subst (λ (z : Text). LineSpace z []) (append-nil s) (break_open b s e f refl h k [] Line.ends))
-    (λ k r m. line_space_det m (break_open b s e f refl h k (97 ∷ []) letter_line)) (λ k. absurd cc) n
+    line_ends_as LineSpace s e (Some y) (λ u v. line_space_shorter) (break_more b s e refl h) (λ k. LineSpace.«break» (subst (λ (z : Text). Break z []) (append-nil s) (break_open b s e f refl h k [] Line.ends)))
+    (λ k. swallowed_newline (t_newline (break_open b s e f refl h k letter letter_line))) (λ k. absurd cc) n

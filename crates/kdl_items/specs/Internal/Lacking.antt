@@ -1,10 +1,11 @@
 -- How the answers of the readers of what a text lacks stand to the text.
 use Rattle.std.specs.Borrow.{Bor}
-use Rattle.std.specs.Prelude.{◌≡◌, ℕ, ◌<◌, Bool, true, false, List, [], ◌∷◌, ◌++◌, Option, Some, None, length}
+use Rattle.std.specs.Prelude.{◌≡◌, ◌⊎◌, ℕ, suc, ◌<◌, Bool, true, false, List, [], ◌∷◌, ◌++◌, Option, Some, None, length}
 use Rattle.std.specs.Str.{chars}
 use Rattle.kdl_text.specs.Chars.{Text, begins, Newline, Star, Plus}
-use Rattle.kdl_text.specs.Trivia.{NodeSpace, Break, LineSpace, ValueEnd}
-use Rattle.kdl_grammar.specs.Data.{Nodes}
+use Rattle.kdl_text.specs.Trivia.{NodeSpace, Break, ValueEnd}
+use Rattle.kdl_entry.specs.Internal.Tokens.{Token, BeginsToken, space, newline}
+use Rattle.kdl_grammar.specs.Data.{Nodes, none}
 use Rattle.kdl_grammar.specs.Grammar.{Gap, AreNodes}
 use Rattle.kdl_grammar.specs.ReadsBack.{NodesEnd, AddsNothing}
 use Rattle.kdl_items.specs.Items.{Item, Place, PlaceItems, takes_blocks, line_end}
@@ -25,16 +26,20 @@ LineEnds e (Some InReturn) = e ≡ 13 ∷ []
 LineEnds e (Some Open) = e ≡ []
 LineEnds e None = (e ≡ [] → ⊥) × ((r : Text) → Newline e r → ⊥)
 
--- it ends in a CR, of which an LF behind it would be part
+-- it ends in a CR, of which an LF after it would be part
 pub record EndsInReturn (X : Text → Text → Type 0) (s : Text) : Type 0 where
   pub alone : (w : Text) → begins 10 w ≡ false → X (s ++ w) w
   pub before_lf : (w : Text) → X (s ++ (10 ∷ w)) w
 
--- it has no newline: one ends it, and with a letter behind it nothing of the text is left
+-- a node that is one letter, after a space
+abbrev pub letter : Text
+letter = 32 ∷ 97 ∷ []
+
+-- it has no newline: one ends it, and with a letter after it nothing of the text is left
 pub record IsOpen (X : Text → Text → Type 0) (s : Text) : Type 0 where
   pub alone : X s []
   pub ended : (w : Text) → X (s ++ (10 ∷ w)) w
-  pub swallows : (r : Text) → LineSpace (s ++ (97 ∷ [])) r → r ≡ []
+  pub swallows : (r : Text) (k : Token) → BeginsToken (s ++ letter) k r → ((k ≡ space) ⊎ (k ≡ newline)) × (r ≡ [])
 
 -- Xs begin the text and end before a rest, whatever follows that; or one X is all the text; or none begins it
 abbrev pub EndsAs : (Text → Text → Type 0) → Text → Option Ending → Type 0
@@ -49,21 +54,35 @@ pub data HasOpenEnd : Text → Text → Bool → Type 0 where
   ended : {u v : Text} → Break u v → (line_end u ≡ [] → ⊥) → HasOpenEnd u v false
   unended : {u v : Text} → Break u v → line_end u ≡ [] → HasOpenEnd u v true
 
--- node-spaces that are all the text end before whatever follows them, or behind a newline
+-- node-spaces that are all the text end before whatever follows them, or after a newline
 abbrev pub SpacesLack : Text → Bool → Type 0
 SpacesLack t true = (w : Text) → Star NodeSpace (t ++ (10 ∷ w)) w
 SpacesLack t false = (w : Text) → Star NodeSpace (t ++ w) w
 
--- what of a gap is before r adds nothing to the nodes behind it, and is a gap with r alone
+-- what of a gap is before r adds nothing to the nodes after it, and is a gap with r alone
 pub record Through (s r : Text) : Type 0 where
   pub on : Gap true s [] → Gap true r []
   pub back : Gap true r [] → Gap true s []
   pub adds : Gap true r [] → (w z : Text) (xs : Nodes) → NodesEnd z → AreNodes true (r ++ w) z xs → AreNodes true (s ++ w) z xs
+  pub off : Gap true r [] → (w : Text) (xs : Nodes) → AreNodes true (s ++ w) [] xs → AreNodes true (r ++ w) [] xs
+
+-- one newline less, and a letter after it is no node
+abbrev pub Fewest : Text → ℕ → Type 0
+Fewest s k = (j : ℕ) → suc j ≡ k → (xs : Nodes) → AreNodes true ((s ++ newlines j) ++ letter) [] xs → xs ≡ none
+
+-- a gap lacks so many newlines
+abbrev pub GapEnds : Text → ℕ → Type 0
+GapEnds s k = Gap true s [] × AddsNothing (s ++ newlines k) × Fewest s k
+
+-- it does; or the text is none
+abbrev pub GapAnswer : Text → Option ℕ → Type 0
+GapAnswer s (Some k) = GapEnds s k
+GapAnswer s None = Gap true s [] → ⊥
 
 -- the first piece of a gap goes up to a rest; or it is all the text, and lacks so many newlines; or there is none
 abbrev pub PieceEnds : Text → Option GapPiece → Type 0
 PieceEnds s (Some (Until r)) = Through s (chars r.now) × (length (chars r.now) < length s)
-PieceEnds s (Some (Last k)) = Gap true s [] × AddsNothing (s ++ newlines k)
+PieceEnds s (Some (Last k)) = GapEnds s k
 PieceEnds s None = Gap true s [] → ⊥
 
 -- what of a place is before r, which is in the place q, is in the place p before what follows, and has a list of items with r alone

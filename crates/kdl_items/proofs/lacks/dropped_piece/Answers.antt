@@ -1,4 +1,4 @@
-use Rattle.std.proofs.Common.{sym, subst, ◌∙◌, Bool, true, false}
+use Rattle.std.proofs.Common.{subst, Bool, true, false}
 use Rattle.std.specs.Str.{chars}
 use Rattle.kdl_items.specs.Internal.Lacking.{SpacesLack}
 use Rattle.kdl_items.proofs.Dropping.DroppedPieces.{dash_cut, behind_dash}

@@ -1,14 +1,7 @@
-use Rattle.std.proofs.Common.{sym, ◌∙◌}
+use Rattle.std.proofs.lemmas.Result.{IfOk-weaker}
 use Rattle.std.specs.Str.{chars}
-use Rattle.kdl_items.proofs.Lacking.GapPieces.{through_start, gap_end, gap_last, gap_turn, gap_none}
-use Rattle.kdl_items.proofs.Listing.SpaceReads.{no_chars, some_chars}
+use Rattle.kdl_items.proofs.Lacking.Fewest.{gap_answer}
 use Rattle.kdl_items.proofs.lacks.gap_lacks.Goals as goal
 
-pub pieces-init : goal.pieces-init
-pieces-init c = (c.utf8.text, through_start (chars c.args.text.now))
-
-pub gap_piece-requires : goal.gap_piece-requires
-gap_piece-requires c = some_chars c.pieces.rest.now c.pieces.invariant.0 (sym c.is_empty.ensures ∙ c.pieces-test.true)
-
 pub returns : goal.returns
-returns c = gap_end (chars c.args.text.now) (chars c.pieces.rest.now) c.pieces.invariant.1 (no_chars c.pieces.rest.now (sym c.is_empty.ensures ∙ c.pieces-test.false))
+returns c = IfOk-weaker c.gap_newlines.result _ _ (λ o. gap_answer (chars c.args.text.now) o) c.gap_newlines.ensures

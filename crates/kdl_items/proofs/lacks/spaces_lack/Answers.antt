@@ -1,4 +1,4 @@
-use Rattle.std.proofs.Common.{sym, ◌∙◌, Some, None}
+use Rattle.std.proofs.Common.{sym, ◌∙◌}
 use Rattle.std.specs.Str.{chars}
 use Rattle.kdl_items.specs.declared.ends.Ending.TheVariants.{InReturn, Open}
 use Rattle.kdl_items.proofs.Lacking.GapPieces.{spaces_start, spaces_turn, spaces_shorter, spaces_lacking, no_spaces, spaces_done}

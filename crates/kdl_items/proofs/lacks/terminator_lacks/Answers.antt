@@ -4,12 +4,12 @@ use Rattle.kdl_items.proofs.Lacking.Terminators.{semicolon_gap, line_gap, return
 use Rattle.kdl_items.proofs.lacks.terminator_lacks.Goals as goal
 
 pub returns-in-Some : goal.returns-in-Some
-returns-in-Some c = IfOk-weaker c.gap_lacks.result _ _ (λ o. semicolon_gap (chars c.args.text.now) (chars c.in-Some.gap.now) o c.in-Some.ensures) c.gap_lacks.ensures
+returns-in-Some c = IfOk-weaker c.gap_newlines.result _ _ (λ o. semicolon_gap (chars c.args.text.now) (chars c.in-Some.gap.now) o c.in-Some.ensures) c.gap_newlines.ensures
 
 pub returns-in-Some-Before : goal.returns-in-Some-Before
 returns-in-Some-Before c =
-    IfOk-weaker c.gap_lacks-in-Some-Before.result _ _
-    (λ o. line_gap (chars c.args.text.now) (chars c.behind_comment.result.now) c.in-Some-Before.gap o c.behind_comment.ensures (rw c.in-Some-Before.field-0-is at c.in-Some-Before.ensures)) c.gap_lacks-in-Some-Before.ensures
+    IfOk-weaker c.gap_newlines-in-Some-Before.result _ _
+    (λ o. line_gap (chars c.args.text.now) (chars c.behind_comment.result.now) c.in-Some-Before.gap o c.behind_comment.ensures (rw c.in-Some-Before.field-0-is at c.in-Some-Before.ensures)) c.gap_newlines-in-Some-Before.ensures
 
 pub returns-in-Some-InReturn : goal.returns-in-Some-InReturn
 returns-in-Some-InReturn c = return_alone (chars c.args.text.now) (chars c.behind_comment.result.now) c.behind_comment.ensures (rw c.in-Some-InReturn.field-0-is at c.in-Some-InReturn.ensures)

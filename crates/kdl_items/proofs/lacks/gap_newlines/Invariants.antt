@@ -3,7 +3,7 @@ use denote.Text.{Utf8}
 use denote.Shadow.{shadow}
 use Rattle.std.specs.Str.{chars}
 use Rattle.kdl_items.specs.Internal.Lacking.{Through}
-use Rattle.kdl_items.proofs.lacks.gap_lacks.Given as goal
+use Rattle.kdl_items.proofs.lacks.gap_newlines.Given as goal
 
 abbrev pub invariant-pieces : goal.invariant-pieces
 invariant-pieces l = shadow (Utf8 l.rest) × Through (chars l.fn.text) (chars l.rest)
