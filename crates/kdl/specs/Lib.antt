@@ -12,6 +12,8 @@ pub mod Iterators
 pub mod Layout
 -- What look-ups in a node give, and what a node is once what they lent was written.
 pub mod Lookups
+-- Nodes put among others, and what they lack there.
+pub mod Nodes
 -- Which nodes, and which documents, `==` takes for one.
 pub mod Same
 -- The trees of nodes and documents in memory.
@@ -20,5 +22,5 @@ pub mod Tree
 pub mod Words
 -- What only proofs and contracts inside the crates need.
 pub mod Internal
--- Entries, nodes and documents that read back.
-pub mod ReadsBack
+
+
