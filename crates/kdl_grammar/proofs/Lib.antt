@@ -8,3 +8,5 @@ pub mod Moving
 pub mod Examples
 -- The laws, put together.
 pub mod LawProofs
+-- What reads back wherever it may be: derived, composed, found where a tree is laid.
+pub mod ReadingBack

@@ -1,5 +1,5 @@
 -- Parts of a document that read back wherever they may be: what each prints is derived with its data, before each rest that may follow it.
-use Rattle.std.specs.Prelude.{◌≡◌, ◌⊎◌, ℕ, true, List, [], ◌∷◌, ◌++◌, map, replicate, Option, Some, None, option_map}
+use Rattle.std.specs.Prelude.{◌≡◌, ◌⊎◌, ℕ, true, List, [], ◌∷◌, ◌++◌, Option, Some, None, option_map}
 use Rattle.std.specs.List.{All}
 use Rattle.kdl_text.specs.Chars.{Text}
 use Rattle.kdl_text.specs.Trivia.{ValueEnd}
@@ -16,17 +16,21 @@ use Rattle.kdl_grammar.specs.Places.{BeforeChildren, AfterChildren}
 use Rattle.kdl_grammar.specs.Print.{leading_text, trailing_text, spaces}
 use Rattle.kdl_grammar.specs.Tree.{NodeFormat, DocumentFormat, Head, Node, node, Children, no_children, children, Document, document, Nodes, none, first}
 
--- the rests that may follow a piece: any text; none, since the text ends
-abbrev pub Anything : Text → Type 0
-Anything r = Unit {0}
+-- the texts that may follow a piece
+pub data Rests : Type 0 where
+  -- any text
+  Anything : Rests
+  -- none, since the text ends
+  TextEnd : Rests
+  -- the `}` of a block with this format, after the indentation that a block without a format prints
+  BlockEnd : Option DocumentFormat → Rests
 
-abbrev pub TextEnd : Text → Type 0
-TextEnd r = r ≡ []
-
--- the `}` of a block, after the indentation that a block without a format prints
-abbrev pub BlockEnd : Option DocumentFormat → Text → Type 0
-BlockEnd None r = (n : ℕ) × (t : Text) × (r ≡ spaces n ++ (125 ∷ t))
-BlockEnd (Some f) r = (t : Text) × (r ≡ 125 ∷ t)
+-- the text r is one of them
+abbrev pub MayFollow : Rests → Text → Type 0
+MayFollow Anything r = Unit {0}
+MayFollow TextEnd r = r ≡ []
+MayFollow (BlockEnd None) r = (n : ℕ) × (t : Text) × (r ≡ spaces n ++ (125 ∷ t))
+MayFollow (BlockEnd (Some f)) r = (t : Text) × (r ≡ 125 ∷ t)
 
 -- what an entry in a node prints before its value, and its value
 abbrev pub front_text : Entry → Option EntryFormat → Text
@@ -60,7 +64,7 @@ name_text h f = print_type h.ty f.before_ty_name f.after_ty_name ++ f.after_ty +
 
 -- a node up to its last entry: a gap, its type and name, its entries
 pub record HeadReads (h : Head) (f : NodeFormat) : Type 0 where
-  pub leading : (r : Text) → Gap true (f.leading ++ name_text h f ++ r) (name_text h f ++ r)
+  pub leading : (r : Text) → Gap true (f.leading ++ (name_text h f ++ r)) (name_text h f ++ r)
   pub name : {r t : Text} {es : List data'.Entry} {k : nodes'.Children} → ValueEnd true r → AfterName true r t es k
       → IsNode true (name_text h f ++ r) t (nodes'.node (option_map (λ i. i.value) h.ty) h.name.value es k)
   pub entries : All EntryReads h.entries
@@ -69,17 +73,21 @@ pub record HeadReads (h : Head) (f : NodeFormat) : Type 0 where
 abbrev pub terminator_text : NodeFormat → Text
 terminator_text f = f.terminator ++ f.trailing
 
+-- where nodes end: at the end of the text, or before a `}`
+abbrev pub NodesEnd : Text → Type 0
+NodesEnd s = (s ≡ []) ⊎ ((t : Text) × (s ≡ 125 ∷ t))
+
 -- before the rests P a text is a terminator, and adds nothing to the nodes that follow
-abbrev pub Terminates : (Text → Type 0) → Text → Type 0
-Terminates P t = {r s : Text} {xs : nodes'.Nodes} → P r → AreNodes true r s xs → (v : Text) × Terminator (t ++ r) v × AreNodes true v s xs
+abbrev pub Terminates : Rests → Text → Type 0
+Terminates P t = (r s : Text) (xs : nodes'.Nodes) → MayFollow P r → NodesEnd s → AreNodes true r s xs → (v : Text) × Terminator (t ++ r) v × AreNodes true v s xs
 
 -- before whatever follows, a text adds nothing to the nodes there
 abbrev pub AddsNothing : Text → Type 0
-AddsNothing t = {r s : Text} {xs : nodes'.Nodes} → AreNodes true r s xs → AreNodes true (t ++ r) s xs
+AddsNothing t = (r s : Text) (xs : nodes'.Nodes) → NodesEnd s → AreNodes true r s xs → AreNodes true (t ++ r) s xs
 
 -- before the rests P a text is a gap
-abbrev pub IsGapBefore : (Text → Type 0) → Text → Type 0
-IsGapBefore P t = {r : Text} → P r → Gap true (t ++ r) r
+abbrev pub IsGapBefore : Rests → Text → Type 0
+IsGapBefore P t = (r : Text) → MayFollow P r → Gap true (t ++ r) r
 
 -- what may be before the terminator: of a node without a block, and after a block
 abbrev pub BeforeTerminator : Children → Text → Text → Type 0
@@ -87,34 +95,36 @@ BeforeTerminator no_children = BeforeChildren
 BeforeTerminator (children d) = AfterChildren
 
 -- the end of a node, before the rests P
-pub record EndReads (P : Text → Type 0) (k : Children) (f : NodeFormat) : Type 0 where
-  pub place : {r v : Text} → P r → Terminator (terminator_text f ++ r) v → BeforeTerminator k (f.before_terminator ++ terminator_text f ++ r) (terminator_text f ++ r)
+pub record EndReads (P : Rests) (k : Children) (f : NodeFormat) : Type 0 where
+  pub place : (r : Text) {v : Text} → MayFollow P r → Terminator (terminator_text f ++ r) v → BeforeTerminator k (f.before_terminator ++ (terminator_text f ++ r)) (terminator_text f ++ r)
   pub terminator : Terminates P (terminator_text f)
 
--- what follows the last node of a document: its trailing text and a rest
-abbrev pub Trailed : Text → (Text → Type 0) → Text → Type 0
-Trailed trailing P r = (u : Text) × P u × (r ≡ trailing ++ u)
+-- what may follow the last node of a document, before the rests P: before a trailing text it ends by itself
+abbrev pub last_rests : Text → Rests → Rests
+last_rests [] P = P
+last_rests (c ∷ t) P = Anything
 
 mutual
   -- a node with a format, before the rests P
-  pub data NodeReads (P : Text → Type 0) : Node → Type 0 where
-    reads : {h : Head} {f : NodeFormat} {k : Children} → h.format ≡ Some f → HeadReads h f → ChildrenRead f k → EndReads P k f → NodeReads P (node h k)
+  pub data NodeReads : Rests → Node → Type 0 where
+    reads : {P : Rests} {h : Head} {f : NodeFormat} {k : Children} → h.format ≡ Some f → HeadReads h f → ChildrenRead f k → EndReads P k f → NodeReads P (node h k)
 
-  pub data ChildrenRead (f : NodeFormat) : Children → Type 0 where
-    no_block : ChildrenRead f no_children
-    a_block : {d : Document} → ((t : Text) → BeforeChildren (f.before_children ++ (123 ∷ t)) (123 ∷ t)) → BlockReads d → ChildrenRead f (children d)
+  -- its block, where it has one
+  pub data ChildrenRead : NodeFormat → Children → Type 0 where
+    no_block : {f : NodeFormat} → ChildrenRead f no_children
+    a_block : {f : NodeFormat} {d : Document} → ((t : Text) → BeforeChildren (f.before_children ++ (123 ∷ t)) (123 ∷ t)) → BlockReads d → ChildrenRead f (children d)
 
   -- nodes, of which each but the last ends by itself, and the last before the rests P
-  pub data NodesRead (P : Text → Type 0) : Nodes → Type 0 where
-    no_node : NodesRead P none
-    last_node : {n : Node} → NodeReads P n → NodesRead P (first n none)
-    next_node : {n m : Node} {ns : Nodes} → NodeReads Anything n → NodesRead P (first m ns) → NodesRead P (first n (first m ns))
+  pub data NodesRead : Rests → Nodes → Type 0 where
+    no_node : {P : Rests} → NodesRead P none
+    last_node : {P : Rests} {n : Node} → NodeReads P n → NodesRead P (first n none)
+    next_node : {P : Rests} {n m : Node} {ns : Nodes} → NodeReads Anything n → NodesRead P (first m ns) → NodesRead P (first n (first m ns))
 
-  -- nodes with the texts around them, before the rests P; without nodes one text alone may stand before the end
-  pub data ContentReads (P : Text → Type 0) : Text → Text → Nodes → Type 0 where
-    one_text : {leading : Text} → IsGapBefore P leading → ContentReads P leading [] none
-    two_texts : {leading trailing : Text} → AddsNothing leading → IsGapBefore P trailing → ContentReads P leading trailing none
-    with_nodes : {leading trailing : Text} {n : Node} {ns : Nodes} → AddsNothing leading → NodesRead (Trailed trailing P) (first n ns) → IsGapBefore P trailing
+  -- nodes with the texts around them, before the rests P; without nodes one text alone may be before the end
+  pub data ContentReads : Rests → Text → Text → Nodes → Type 0 where
+    one_text : {P : Rests} {leading : Text} → IsGapBefore P leading → ContentReads P leading [] none
+    two_texts : {P : Rests} {leading trailing : Text} → AddsNothing leading → IsGapBefore P trailing → ContentReads P leading trailing none
+    with_nodes : {P : Rests} {leading trailing : Text} {n : Node} {ns : Nodes} → AddsNothing leading → NodesRead (last_rests trailing P) (first n ns) → IsGapBefore P trailing
         → ContentReads P leading trailing (first n ns)
 
   -- a document that is the block of a node

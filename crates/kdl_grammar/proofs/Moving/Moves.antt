@@ -172,7 +172,7 @@ mutual
       record { at = also 123 (joined a.at (also 125 stands)); full = λ u. refl; there = λ u. braces (a.there (125 ∷ u) refl) }
 
 -- the places before and behind a block
-after_end : {s r : Text} → AfterChildren s r → ValueEnd true r → ValueEnd true s
+pub after_end : {s r : Text} → AfterChildren s r → ValueEnd true r → ValueEnd true s
 after_end (after none ss) e = spaces_end ss e
 after_end (after (more (dropped us m b) ds) ss) e = spaces_dash us m
 

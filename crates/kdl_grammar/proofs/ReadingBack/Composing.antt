@@ -1,0 +1,98 @@
+-- What reads back, put together and taken apart.
+use Rattle.std.proofs.Common.{◌≡◌, ℕ, zero, suc, ◌+◌, ◌<◌, List, [], ◌∷◌, ◌++◌, length, take, drop, refl, arith}
+use Rattle.std.proofs.lemmas.List.Elements.{All-cons, All-nil}
+use Rattle.std.specs.Prelude.{slice_index_or}
+use Rattle.std.specs.List.{All}
+use Rattle.kdl_text.specs.Chars.{Text}
+use Rattle.kdl_entry.specs.Tree.{Entry}
+use Rattle.kdl_grammar.specs.Grammar.{Terminator}
+use Rattle.kdl_grammar.specs.ReadsBack.{Rests, Anything, TextEnd, BlockEnd, MayFollow, EntryReads, terminator_text, BeforeTerminator, EndReads, last_rests, NodeReads, reads, ChildrenRead, no_block, a_block, NodesRead, no_node, last_node, next_node, ContentReads, one_text, two_texts, with_nodes, BlockReads, block, DocumentReads}
+use Rattle.kdl_grammar.specs.Tree.{NodeFormat, Head, Node, node, Children, children, Document, document, Nodes, none, first, listed_nodes}
+
+-- before fewer rests
+pub weaker : {P Q : Rests} {n : Node} → NodeReads P n → ((r : Text) → MayFollow Q r → MayFollow P r) → NodeReads Q n
+weaker (reads e head kids end) w = reads e head kids (record { place = λ r p t. end.place r (w r p) t; terminator = λ r s xs p z d. end.terminator r s xs (w r p) z d })
+
+-- a node that ends by itself, before any rests
+pub ends_before : (P : Rests) {n : Node} → NodeReads Anything n → NodeReads P n
+ends_before P x = weaker x (λ r p. tt)
+
+-- a node with other entries
+pub with_entries : {P : Rests} {h : Head} {k : Children} (es : List Entry) → NodeReads P (node h k) → All EntryReads es → NodeReads P (node (record h { entries = es }) k)
+with_entries es (reads e head kids end) c = reads e (record { leading = head.leading; name = λ v d. head.name v d; entries = c }) kids end
+
+-- the entries of a node
+pub entries_read : {P : Rests} {h : Head} {k : Children} → NodeReads P (node h k) → All EntryReads h.entries
+entries_read (reads e head kids end) = head.entries
+
+-- a node with another block
+pub with_block : {P : Rests} {h : Head} {d : Document} (x : Document) → NodeReads P (node h (children d)) → BlockReads x → NodeReads P (node h (children x))
+with_block x (reads e head (a_block c b) end) y = reads e head (a_block c y) (record { place = λ r p t. end.place r p t; terminator = end.terminator })
+
+-- the block of a node
+pub block_reads : {P : Rests} {h : Head} {d : Document} → NodeReads P (node h (children d)) → BlockReads d
+block_reads (reads e head (a_block c b) end) = b
+
+-- lists of nodes
+
+-- nodes that end by themselves, before any rests
+pub all_end_before : (P : Rests) {ns : Nodes} → NodesRead Anything ns → NodesRead P ns
+all_end_before P no_node = no_node
+all_end_before P (last_node x) = last_node (ends_before P x)
+all_end_before P (next_node x xs) = next_node x (all_end_before P xs)
+
+-- a node before nodes
+pub node_before : {P : Rests} {n : Node} {ns : Nodes} → NodeReads Anything n → NodesRead P ns → NodesRead P (first n ns)
+node_before {P = P} x no_node = last_node (ends_before P x)
+node_before x (last_node y) = next_node x (last_node y)
+node_before x (next_node y ys) = next_node x (next_node y ys)
+
+-- the nodes behind the first one
+pub nodes_behind : {P : Rests} {n : Node} {ns : Nodes} → NodesRead P (first n ns) → NodesRead P ns
+nodes_behind (last_node x) = no_node
+nodes_behind (next_node x xs) = xs
+
+-- nodes that end by themselves, and nodes
+pub nodes_append : {P : Rests} (ns ms : List Node) → NodesRead Anything (listed_nodes ns) → NodesRead P (listed_nodes ms) → NodesRead P (listed_nodes (ns ++ ms))
+nodes_append [] ms x y = y
+nodes_append (n ∷ []) ms (last_node x) y = node_before x y
+nodes_append (n ∷ m ∷ ns) ms (next_node x xs) y = next_node x (nodes_append (m ∷ ns) ms xs y)
+
+-- the last nodes
+pub nodes_drop : {P : Rests} (k : ℕ) (ns : List Node) → NodesRead P (listed_nodes ns) → NodesRead P (listed_nodes (drop k ns))
+nodes_drop zero ns x = x
+nodes_drop (suc k) [] x = x
+nodes_drop (suc k) (n ∷ ns) x = nodes_drop k ns (nodes_behind x)
+
+-- the first nodes, before another
+pub nodes_take : {P : Rests} (k : ℕ) (ns : List Node) → k < length ns → NodesRead P (listed_nodes ns) → NodesRead Anything (listed_nodes (take k ns))
+nodes_take zero ns h x = no_node
+nodes_take (suc k) [] h x = no_node
+nodes_take (suc k) (n ∷ []) h x = absurd (omega arith)
+nodes_take (suc k) (n ∷ m ∷ ns) h (next_node x xs) = node_before x (nodes_take k (m ∷ ns) (omega arith) xs)
+
+-- the first nodes, before the same rests
+pub nodes_first : {P : Rests} (k : ℕ) (ns : List Node) → NodesRead P (listed_nodes ns) → NodesRead P (listed_nodes (take k ns))
+nodes_first zero ns x = no_node
+nodes_first (suc k) [] x = no_node
+nodes_first (suc zero) (n ∷ []) x = x
+nodes_first (suc (suc k)) (n ∷ []) x = x
+nodes_first (suc k) (n ∷ m ∷ ns) (next_node x xs) = node_before x (nodes_first k (m ∷ ns) xs)
+
+-- each node, before the rests of the last one
+pub each_reads : {P : Rests} (ns : List Node) → NodesRead P (listed_nodes ns) → All (NodeReads P) ns
+each_reads [] x = λ k d h. absurd (omega arith)
+each_reads {P = P} (n ∷ []) (last_node x) = All-cons (NodeReads P) n [] x (All-nil (NodeReads P))
+each_reads {P = P} (n ∷ m ∷ ns) (next_node x xs) = All-cons (NodeReads P) n (m ∷ ns) (ends_before P x) (each_reads (m ∷ ns) xs)
+
+-- each node before another ends by itself
+pub each_ends : {P : Rests} (ns : List Node) → NodesRead P (listed_nodes ns) → (k : ℕ) (d : Node) → k + 1 < length ns → NodeReads Anything (slice_index_or ns k d)
+each_ends [] x k d h = absurd (omega arith)
+each_ends (n ∷ []) x k d h = absurd (omega arith)
+each_ends (n ∷ m ∷ ns) (next_node x xs) zero d h = x
+each_ends (n ∷ m ∷ ns) (next_node x xs) (suc k) d h = each_ends (m ∷ ns) xs k d (omega arith)
+
+-- nodes, each of which ends by itself
+pub all_end : (ns : List Node) → All (NodeReads Anything) ns → NodesRead Anything (listed_nodes ns)
+all_end [] c = no_node
+all_end (n ∷ ns) c = node_before (c zero n (omega arith)) (all_end ns (λ k d h. c (suc k) d (omega arith)))
