@@ -22,5 +22,5 @@ pub mod Tree
 pub mod Words
 -- What only proofs and contracts inside the crates need.
 pub mod Internal
-
-
+-- Entries, nodes and documents that read back.
+pub mod ReadsBack
