@@ -2,3 +2,5 @@
 pub mod NodeEnds
 -- Nodes put among others: the trees, what is printed, and what is said.
 pub mod Puts
+-- Documents that read back, with a node put in or taken out.
+pub mod PutReads

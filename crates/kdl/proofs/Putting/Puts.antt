@@ -108,7 +108,7 @@ insert_trees xs i y =
     ∙ ap (λ z. z ++ (node_tree y ∷ map node_tree (drop i xs))) (sym (take-map node_tree i xs))
     ∙ ap (λ z. take i (map node_tree xs) ++ (node_tree y ∷ z)) (sym (drop-map node_tree i xs))
 
-remove_trees : (xs : List KdlNode) (i : ℕ) → map node_tree (remove xs i) ≡ remove (map node_tree xs) i
+pub remove_trees : (xs : List KdlNode) (i : ℕ) → map node_tree (remove xs i) ≡ remove (map node_tree xs) i
 remove_trees xs i =
     map-append node_tree (take i xs) (drop (suc i) xs)
     ∙ ap (λ z. z ++ map node_tree (drop (suc i) xs)) (sym (take-map node_tree i xs))
@@ -124,10 +124,10 @@ with_nodes_own d v = ap (with_nodes d) (sym (ap (λ x. x.nodes) (out-roll-KdlDoc
 with_nodes_twice : (d : KdlDocument) (u v : Vec KdlNode Global) → with_nodes (with_nodes d u) v ≡ with_nodes d v
 with_nodes_twice d u v = ap (λ x. roll-KdlDocument (record x { nodes = v })) (out-roll-KdlDocument (record (out-KdlDocument d) { nodes = u }))
 
-texts_kept : (d e : KdlDocument) → e ≡ with_nodes d (out-KdlDocument e).nodes → texts_around e ≡ texts_around d
+pub texts_kept : (d e : KdlDocument) → e ≡ with_nodes d (out-KdlDocument e).nodes → texts_around e ≡ texts_around d
 texts_kept d e r = ap texts_around r ∙ ap (λ x. option_map document_format_tree x.format) (out-roll-KdlDocument (record (out-KdlDocument d) { nodes = (out-KdlDocument e).nodes }))
 
-span_kept : (d e : KdlDocument) → e ≡ with_nodes d (out-KdlDocument e).nodes → (out-KdlDocument e).span ≡ (out-KdlDocument d).span
+pub span_kept : (d e : KdlDocument) → e ≡ with_nodes d (out-KdlDocument e).nodes → (out-KdlDocument e).span ≡ (out-KdlDocument d).span
 span_kept d e r = ap (λ (z : KdlDocument). (out-KdlDocument z).span) r ∙ ap (λ x. x.span) (out-roll-KdlDocument (record (out-KdlDocument d) { nodes = (out-KdlDocument e).nodes }))
 
 -- a node put behind another one, and before all others

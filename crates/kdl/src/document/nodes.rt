@@ -4,6 +4,7 @@ ghost use Rattle.kdl.specs.DocumentLookups.{nodes_of};
 ghost use Rattle.kdl.specs.Change.{with_nodes};
 ghost use Rattle.kdl.specs.Internal.Ends.{LeadingEnded, PutBehind, PutFirst, end_with, lead_with};
 ghost use Rattle.kdl.specs.Nodes.{IsPut, PrintsPut, PrintsWithout, said_with, said_without, texts_around};
+ghost use Rattle.kdl.specs.ReadsBack.{DocumentReadsBack, NodeReadsBack};
 ghost use Rattle.kdl.specs.Tree.{document_says, document_tree, node_says, node_tree};
 ghost use Rattle.kdl.specs.declared.document.KdlDocument.{out-KdlDocument};
 ghost use Rattle.kdl_value.specs.Tree.{text_of};
@@ -89,6 +90,8 @@ impl KdlDocument {
         ensures value { slice_get (nodes_of self.old) index ≡ Some result }
         ensures prints { PrintsWithout index result self.old self.new }
         ensures says { document_says self.new ≡ said_without index (document_says self.old) }
+        ensures reads { DocumentReadsBack self.old
+            → DocumentReadsBack self.new × NodeReadsBack result }
     {
         self.nodes.remove(index)
     }
