@@ -4,6 +4,8 @@ pub mod LayOut
 pub mod Clearing
 -- Printing over a stack of blocks.
 pub mod Printing
+-- Nodes put among others.
+pub mod Putting
 -- Look-ups in nodes and documents.
 pub mod Finding
 -- What is left to copy, turn by turn.

@@ -4,6 +4,8 @@
 pub mod Count
 -- Nodes that are due to be cleared, and what clearing does to one of them.
 pub mod Due
+-- What nodes lack at their ends.
+pub mod Ends
 -- How far layout has come, where some blocks are open.
 pub mod Laid
 -- What is left to print where some of the nodes and blocks are printed.

@@ -22,6 +22,8 @@ pub mod Finds
 pub mod Said
 -- What look-ups find after an edit.
 pub mod Found
+-- Nodes put among others, and what they lack there.
+pub mod Nodes
 -- Which nodes, and which documents, `==` takes for one.
 pub mod Same
 -- The trees of nodes and documents in memory.

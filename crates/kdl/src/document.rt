@@ -94,7 +94,7 @@ impl KdlDocument {
     /// ```
     /// let mut document = KdlDocument::new(alloc);
     /// let name = KdlIdentifier::from_text(alloc, "server")?;
-    /// document.nodes_mut().push(KdlNode::new(name)?)?; // prints `server` and a newline
+    /// let pushed = document.push_node(KdlNode::new(name)?); // prints `server` and a newline
     /// ```
     pub fn new(alloc: Global) -> KdlDocument
         ensures made { document_tree result ≡ new_document }

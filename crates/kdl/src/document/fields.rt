@@ -23,6 +23,9 @@ use std::vec::IntoIter;
 impl KdlDocument {
     /// The nodes, to be changed in place.
     ///
+    /// No newline is added between them: a node put after one without a terminator joins it. To add and remove nodes use
+    /// `push_node`, `insert_node` and `remove_node`.
+    ///
     /// ```
     /// let mut document = KdlDocument::parse(alloc, "a\nb\nc\n")?;
     /// let b = document.nodes_mut().remove(1); // what is left prints "a\nc\n"

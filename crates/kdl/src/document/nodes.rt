@@ -1,5 +1,16 @@
 //! Nodes put into a document, and taken out of it.
 
+ghost use Rattle.kdl.specs.DocumentLookups.{nodes_of};
+ghost use Rattle.kdl.specs.Change.{with_nodes};
+ghost use Rattle.kdl.specs.Internal.Ends.{LeadingEnded, PutBehind, PutFirst, end_with, lead_with};
+ghost use Rattle.kdl.specs.Nodes.{IsPut, PrintsPut, PrintsWithout, said_with, said_without, texts_around};
+ghost use Rattle.kdl.specs.ReadsBack.{DocumentReadsBack, NodeReadsBack};
+ghost use Rattle.kdl.specs.Tree.{document_says, document_tree, node_says, node_tree};
+ghost use Rattle.kdl.specs.declared.document.KdlDocument.{out-KdlDocument};
+ghost use Rattle.kdl_value.specs.Tree.{text_of};
+ghost use Rattle.std.specs.List.{insert, remove};
+ghost use Rattle.std.specs.Prelude.{◌≡◌, ◌<◌, ◌≤◌, IfErr, IfOk, OnErr, OnOk, Some, if◌then◌else◌, is_ok, length, option_map, slice_get};
+
 use crate::document::KdlDocument;
 use crate::ends::{Rest, gap_newlines, push_newlines};
 use crate::node::KdlNode;
@@ -7,34 +18,97 @@ use kdl_parts::KdlNodeFormat;
 use std::alloc::AllocError;
 
 impl KdlDocument {
-    /// Puts the node behind the others.
-    pub fn push_node(&mut self, node: KdlNode) -> Result<(), (KdlNode, AllocError)> {
+    /// Puts the node after the others.
+    ///
+    /// What is printed before it, the last node or the document's leading text, gets the newlines that it lacks: one
+    /// that ends an open line comment or escline, and one that ends the node. So does the node itself before a trailing
+    /// text; where nothing follows, it keeps its text. What has all it needs, as a node that ends in `;`, stays as it
+    /// is, and so does all other text. A node without a format takes one where it lacks a newline: the texts that it
+    /// prints at depth 0.
+    ///
+    /// In a block use `KdlNode::push_child`, since a `}` follows there.
+    ///
+    /// Fails where memory runs out: then the node comes back, and the document is as it was.
+    ///
+    /// ```
+    /// let mut document = KdlDocument::parse(alloc, "a // one")?;
+    /// let pushed = document.push_node(KdlNode::parse(alloc, "b 2")?); // prints "a // one\nb 2"
+    /// ```
+    pub fn push_node(&mut self, node: KdlNode) -> Result<(), (KdlNode, AllocError)>
+        ensures nodes { OnOk result
+            (IsPut (length (nodes_of self.old)) (node_tree node) self.old self.new) }
+        ensures prints { OnOk result
+            (PrintsPut (length (nodes_of self.old)) node self.old self.new) }
+        ensures says { OnOk result (document_says self.new ≡
+            said_with (length (nodes_of self.old)) (node_says node) (document_says self.old)) }
+        ensures back { IfErr result (λ e. e.0 ≡ node) }
+        ensures refused { OnErr result (document_tree self.new ≡ document_tree self.old) }
+    {
         let index = self.nodes.len();
-        self.put(index, node, false)
+        self.insert_node(index, node)
     }
 
-    /// Puts the node before the one at the index, or behind the last one.
+    /// Puts the node before the one at the index, or after the last one. The index is at most the number of nodes. At
+    /// index 0 it goes before the comments at the head of the document, which belong to the first node, and after
+    /// U+FEFF.
+    ///
+    /// What is before the node, and the node itself where anything follows it, get what they lack, as in `push_node`.
+    ///
+    /// Fails where memory runs out: then the node comes back, and the document is as it was.
+    ///
+    /// ```
+    /// let mut document = KdlDocument::parse(alloc, "// one\na")?;
+    /// let inserted = document.insert_node(0, KdlNode::parse(alloc, "b")?); // prints "b\n// one\na"
+    /// ```
     pub fn insert_node(
         &mut self,
         index: usize,
         node: KdlNode,
-    ) -> Result<(), (KdlNode, AllocError)> {
+    ) -> Result<(), (KdlNode, AllocError)>
+        requires { index ≤ length (nodes_of self.old) }
+        ensures nodes { OnOk result (IsPut index (node_tree node) self.old self.new) }
+        ensures prints { OnOk result (PrintsPut index node self.old self.new) }
+        ensures says { OnOk result (document_says self.new ≡
+            said_with index (node_says node) (document_says self.old)) }
+        ensures back { IfErr result (λ e. e.0 ≡ node) }
+        ensures refused { OnErr result (document_tree self.new ≡ document_tree self.old) }
+    {
         self.put(index, node, false)
     }
 
-    /// Takes out and hands back the node at the index.
-    pub fn remove_node(&mut self, index: usize) -> KdlNode {
+    /// Takes out and hands back the node at the index, which has to be there. What the node prints goes with it, the
+    /// comments before it too, and no other text.
+    ///
+    /// ```
+    /// let mut document = KdlDocument::parse(alloc, "a // one\n// two\nb\nc")?;
+    /// let b = document.remove_node(1); // prints "// two\nb\n", and what is left prints "a // one\nc"
+    /// ```
+    pub fn remove_node(&mut self, index: usize) -> KdlNode
+        requires { index < length (nodes_of self.old) }
+        ensures nodes { nodes_of self.new ≡ remove (nodes_of self.old) index }
+        ensures rest { self.new ≡ with_nodes self.old (out-KdlDocument self.new).nodes }
+        ensures value { slice_get (nodes_of self.old) index ≡ Some result }
+        ensures prints { PrintsWithout index result self.old self.new }
+        ensures says { document_says self.new ≡ said_without index (document_says self.old) }
+        ensures reads { DocumentReadsBack self.old
+            → DocumentReadsBack self.new × NodeReadsBack result }
+    {
         self.nodes.remove(index)
     }
 
-    /// Puts the node before the one at the index, or behind the last one, in a block of a node or in a document that
-    /// is a text.
+    /// Puts the node before the one at the index, or after the last one, in a document that is a text or the block of
+    /// a node.
     pub(crate) fn put(
         &mut self,
         index: usize,
         node: KdlNode,
         in_block: bool,
-    ) -> Result<(), (KdlNode, AllocError)> {
+    ) -> Result<(), (KdlNode, AllocError)>
+        requires { index ≤ length (nodes_of self.old) }
+        ensures nodes { OnOk result (IsPut index (node_tree node) self.old self.new) }
+        ensures back { IfErr result (λ e. e.0 ≡ node) }
+        ensures refused { OnErr result (document_tree self.new ≡ document_tree self.old) }
+    {
         let own = match node.ended(self.rest_at(index, in_block)) {
             Ok(own) => own,
             Err(error) => return Err((node, error)),
@@ -61,13 +135,18 @@ impl KdlDocument {
         }
     }
 
-    /// Puts the node behind the one at `last`, which gets what it lacks.
+    /// Puts the node with its new format after the one at `last`, which gets what it lacks.
     fn put_behind(
         &mut self,
         last: usize,
         node: KdlNode,
         own: Option<KdlNodeFormat>,
-    ) -> Result<(), (KdlNode, AllocError)> {
+    ) -> Result<(), (KdlNode, AllocError)>
+        requires { last < length (nodes_of self.old) }
+        ensures put { OnOk result (PutBehind last (end_with own node) self.old self.new) }
+        ensures back { IfErr result (λ e. e.0 ≡ node) }
+        ensures refused { OnErr result (document_tree self.new ≡ document_tree self.old) }
+    {
         let before = match self.nodes[last].ended(Rest::Text) {
             Ok(before) => before,
             Err(error) => return Err((node, error)),
@@ -77,25 +156,31 @@ impl KdlDocument {
         Ok(())
     }
 
-    /// Puts the node before the others, behind the leading text, which gets what it lacks.
+    /// Puts the node with its new format before the others, after the leading text, which gets what it lacks.
     fn put_first(
         &mut self,
         node: KdlNode,
         own: Option<KdlNodeFormat>,
-    ) -> Result<(), (KdlNode, AllocError)> {
+    ) -> Result<(), (KdlNode, AllocError)>
+        ensures put { OnOk result (PutFirst (end_with own node) self.old self.new) }
+        ensures back { IfErr result (λ e. e.0 ≡ node) }
+        ensures refused { OnErr result (document_tree self.new ≡ document_tree self.old) }
+    {
         let leading = match self.ended_leading() {
             Ok(leading) => leading,
             Err(error) => return Err((node, error)),
         };
         self.put_at(0, node, own)?;
-        if let (Some(format), Some(leading)) = (&mut self.format, leading) {
-            format.leading = leading;
+        if let Some(leading) = leading {
+            self.lead_with(leading);
         }
         Ok(())
     }
 
     /// The leading text with what it lacks; none where it lacks nothing.
-    fn ended_leading(&self) -> Result<Option<String>, AllocError> {
+    fn ended_leading(&self) -> Result<Option<String>, AllocError>
+        ensures { IfOk result (λ o. LeadingEnded (texts_around self.now) (option_map text_of o)) }
+    {
         let Some(format) = &self.format else {
             return Ok(None);
         };
@@ -108,13 +193,31 @@ impl KdlDocument {
         Ok(Some(leading))
     }
 
+    /// Sets the leading text, where the document has a format.
+    fn lead_with(&mut self, leading: String)
+        ensures nodes { (out-KdlDocument self.new).nodes ≡ (out-KdlDocument self.old).nodes }
+        ensures texts { texts_around self.new ≡
+            option_map (lead_with (text_of leading)) (texts_around self.old) }
+        ensures span { (out-KdlDocument self.new).span ≡ (out-KdlDocument self.old).span }
+    {
+        if let Some(format) = &mut self.format {
+            format.leading = leading;
+        }
+    }
+
     /// Puts the node in at the index, with that format where there is one.
     fn put_at(
         &mut self,
         index: usize,
         node: KdlNode,
         own: Option<KdlNodeFormat>,
-    ) -> Result<(), (KdlNode, AllocError)> {
+    ) -> Result<(), (KdlNode, AllocError)>
+        requires { index ≤ length (nodes_of self.old) }
+        ensures nodes { nodes_of self.new ≡ (if is_ok result
+            then insert (nodes_of self.old) index (end_with own node) else nodes_of self.old) }
+        ensures rest { self.new ≡ with_nodes self.old (out-KdlDocument self.new).nodes }
+        ensures back { IfErr result (λ e. e.0 ≡ node) }
+    {
         match self.nodes.insert(index, node) {
             Ok(()) => {
                 self.nodes[index].end(own);

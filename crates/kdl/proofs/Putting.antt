@@ -1,0 +1,6 @@
+-- Newlines at the ends of nodes.
+pub mod NodeEnds
+-- Nodes put among others: the trees, what is printed, and what is said.
+pub mod Puts
+-- Documents that read back, with a node put in or taken out.
+pub mod PutReads

@@ -1,0 +1,167 @@
+-- Newlines at the ends of nodes.
+use Rattle.std.proofs.Common.{◌≡◌, ◌⊎◌, inl, inr, ℕ, zero, suc, ◌+◌, ◌-◌, ◌<◌, ◌≤◌, Bool, true, false, List, [], ◌∷◌, ◌++◌, ap, ◌∙◌, sym, refl, subst, append_assoc, arith, zero-add, replicate, Option, Some, None, option_map, unwrap_or, String, Global}
+use Rattle.std.proofs.lemmas.List.{append-nil, replicate-append-replicate}
+use Rattle.std.proofs.lemmas.Str.{chars-nil}
+use Rattle.std.specs.Prelude.{string_bytes}
+use Rattle.std.specs.Str.{chars}
+use Rattle.kdl_text.specs.Chars.{Text}
+use Rattle.kdl_value.specs.Tree.{text_of}
+use Rattle.kdl_fmt.proofs.Texts.{newline_text, space_text}
+use Rattle.kdl_grammar.specs.Print.{end_text, print_head, print_pieces, print_tail, print_node, before_block, after_brace, before_brace, format_of, print_document, space_unless}
+use Rattle.kdl_grammar.specs.Tree.{DocumentFormat, Head, NodeFormat, Node, node, Children, no_children, children, children_of, node_data}
+use Rattle.kdl_entry.specs.Print.{print_identifier, print_type}
+use Rattle.kdl_entry.specs.Tree.{Entry}
+use Rattle.kdl_parts.specs.Formats.{empty_node_format, node_format_tree, node_texts}
+use Rattle.kdl_parts.specs.declared.format.KdlNodeFormat.{KdlNodeFormat}
+use Rattle.kdl.specs.Change.{with_children}
+use Rattle.kdl.specs.Cleared.{new_document}
+use Rattle.kdl.specs.Internal.Ends.{BeforeNewBlock, BlockBegins, IsEnded, Lacks, LeadingEnded, block_format, end_newlines, end_with, with_newlines}
+use Rattle.kdl.specs.Nodes.{BlockBegun, ChildPut, ChildPutIn, EndsWith, IsPut, WithNewlines, format_or_printed, newlines, printed_format}
+use Rattle.kdl.specs.Tree.{document_tree, head_tree, node_tree}
+use Rattle.kdl.specs.declared.document.KdlDocument.{KdlDocument}
+use Rattle.kdl.specs.declared.document.KdlDocument.TheViews.{out-KdlNode}
+use Rattle.kdl.specs.declared.node.KdlNode.{KdlNode}
+use Rattle.kdl.proofs.Trees.{node_tree_out, node_tree_roll}
+
+-- texts that are pushed
+pub more_newlines : (now was start : Text) (n : ℕ) → now ≡ was ++ chars (10 ∷ []) → was ≡ start ++ newlines n → now ≡ start ++ newlines (n + 1)
+more_newlines now was start n e h =
+    e ∙ rw (h, newline_text) (append_assoc start (newlines n) (10 ∷ [])) ∙ ap (λ (z : Text). start ++ z) (replicate-append-replicate {A = ℕ} n 1 10)
+
+pub empty_string : (s : String Global) → string_bytes s ≡ [] → text_of s ≡ []
+empty_string s h = ap chars h ∙ chars-nil
+
+pub newline_put : (now was : Text) → was ≡ [] → now ≡ was ++ chars (10 ∷ []) → now ≡ 10 ∷ []
+newline_put now was h e = e ∙ rw (h, newline_text) refl
+
+pub space_put : (now was : Text) (b : Bool) → b ≡ false → was ≡ [] → now ≡ was ++ chars (32 ∷ []) → now ≡ space_unless b
+space_put now was b k h e = e ∙ rw (h, k, space_text) refl
+
+pub no_space_put : (was : Text) (b : Bool) → b ≡ true → was ≡ [] → was ≡ space_unless b
+no_space_put was b k h = rw (h, k) refl
+
+pub formless_made : (f : KdlNodeFormat) (b t : String Global) (es : List Entry) → node_format_tree f ≡ empty_node_format → text_of b ≡ before_block None es → text_of t ≡ 10 ∷ []
+    → node_format_tree (record f { before_children = b; terminator = t }) ≡ record (printed_format es) { terminator = 10 ∷ [] }
+formless_made f b t es k x y =
+    ap (λ (g : NodeFormat). record g { before_children = text_of b; terminator = text_of t }) k
+    ∙ rw (x, y) refl
+
+-- newlines at the end of texts, before the last two or behind them
+behind_terminator : (b t n : Text) → (b ++ (t ++ n)) ++ [] ≡ ((b ++ t) ++ []) ++ n
+behind_terminator b t n = simp (append_assoc, append-nil)
+
+behind_trailing : (b t u n : Text) → (b ++ t) ++ (u ++ n) ≡ ((b ++ t) ++ u) ++ n
+behind_trailing b t u n = simp append_assoc
+
+before_terminator : (b n m : Text) → ((b ++ n) ++ m) ++ [] ≡ ((b ++ []) ++ []) ++ (n ++ m)
+before_terminator b n m = simp (append_assoc, append-nil)
+
+-- the texts at the end of a format, with newlines
+texts_end : (f : NodeFormat) (t : Text) (b e : ℕ) → (b ≡ 0) ⊎ ((f.terminator ≡ []) × (t ≡ []))
+    → end_text (Some (end_newlines t e (record f { before_terminator = f.before_terminator ++ newlines b; trailing = t }))) ≡ end_text (Some (record f { trailing = t })) ++ newlines (b + e)
+texts_end f [] b e (inl h) =
+    rw (h, append-nil f.before_terminator, zero-add e) (behind_terminator f.before_terminator f.terminator (newlines e))
+texts_end f [] b e (inr (h, k)) =
+    rw (h, ← replicate-append-replicate {A = ℕ} b e 10) (before_terminator f.before_terminator (newlines b) (newlines e))
+texts_end f (c ∷ s) b e (inl h) =
+    rw (h, append-nil f.before_terminator, zero-add e) (behind_trailing f.before_terminator f.terminator (c ∷ s) (newlines e))
+texts_end f (c ∷ s) b e (inr (h, k)) = absurd (cc)
+
+rest_stays : (f : NodeFormat) (t : Text) (e : ℕ) → let g = end_newlines t e f in g ≡ record f { before_terminator = g.before_terminator; terminator = g.terminator; trailing = g.trailing }
+rest_stays f [] e = refl
+rest_stays f (c ∷ s) e = refl
+
+pub ends_with : (f : NodeFormat) (b e : ℕ) → Lacks f b e → EndsWith (b + e) f (with_newlines f b e)
+ends_with f b e l = record {
+  texts = texts_end f f.trailing b e l.joins;
+  rest = rest_stays (record f { before_terminator = f.before_terminator ++ newlines b }) f.trailing e;
+}
+
+-- where there is a newline
+pub is_ended : (f g : NodeFormat) (b e : ℕ) → Lacks f b e → 0 < b + e → g ≡ with_newlines f b e → IsEnded f (Some g)
+is_ended f g b e l h k =
+    let P : ℕ → Type 0 = λ n. EndsWith n f g in
+    let q : EndsWith (b + e) f g = subst (EndsWith (b + e) f) (sym k) (ends_with f b e l) in
+    let few = l.few in
+    (b + e - 1, omega arith, subst P (omega arith) q)
+
+pub formless_ended : (es : List Entry) (g : NodeFormat) → g ≡ record (printed_format es) { terminator = 10 ∷ [] } → IsEnded (printed_format es) (Some g)
+formless_ended es g k =
+    (0, omega arith, record { texts = ap (λ (f : NodeFormat). end_text (Some f)) k; rest = k ∙ ap (λ (f : NodeFormat). record (printed_format es) { before_terminator = f.before_terminator; terminator = f.terminator; trailing = f.trailing }) (sym k) })
+
+-- a node with another format
+formatted : (n : KdlNode) (f : KdlNodeFormat) → node_tree (end_with (Some f) n) ≡ node (record (head_tree (out-KdlNode n)) { format = Some (node_format_tree f) }) (children_of (option_map document_tree (out-KdlNode n).children))
+formatted n f = node_tree_roll (record (out-KdlNode n) { format = Some f })
+
+-- a node with what it lacked
+pub node_ended : (n : KdlNode) (o : Option KdlNodeFormat) → IsEnded (format_or_printed (head_tree (out-KdlNode n))) (node_texts o)
+    → (k : ℕ) × (k ≤ 2) × WithNewlines k (node_tree n) (node_tree (end_with o n))
+node_ended n None h = (0, omega arith, refl)
+node_ended n (Some f) (k, l, h) =
+    let P : Node → Type 0 = λ x. WithNewlines (suc k) x (node_tree (end_with (Some f) n)) in
+    (suc k, omega arith, subst P (sym (node_tree_out n)) (node_format_tree f, formatted n f, h))
+
+-- what is printed of a node with newlines at its end: what it printed, and these
+end_printed : (h : Head) (c : Children) (g : NodeFormat) (t : Text) → end_text (Some g) ≡ end_text h.format ++ t → before_block (Some g) h.entries ≡ before_block h.format h.entries
+    → print_head (record h { format = Some g }) 0 ≡ print_head h 0 → print_node (node (record h { format = Some g }) c) 0 ≡ print_node (node h c) 0 ++ t
+end_printed h no_children g t e b p =
+    rw (e, p) (sym (append_assoc (print_head h 0 ++ print_pieces h.entries) (end_text h.format) t))
+end_printed h (children d) g t e b p =
+    let front = print_head h 0 ++ print_pieces h.entries in
+    let block = (before_block h.format h.entries ++ (123 ∷ after_brace (format_of d)) ++ print_document d (0 + 1) ++ before_brace (format_of d) 0) in
+    rw (e, p, b) (inside front block (end_text h.format) t)
+  where
+    inside : (f b u v : Text) → f ++ (b ++ (125 ∷ (u ++ v))) ≡ (f ++ (b ++ (125 ∷ u))) ++ v
+    inside f b u v = simp append_assoc
+
+ended_prints : (h : Head) (o : Option NodeFormat) (c : Children) (g : NodeFormat) (k : ℕ) → EndsWith k (unwrap_or o (printed_format h.entries)) g
+    → print_node (node (record h { format = Some g }) c) 0 ≡ print_node (node (record h { format = o }) c) 0 ++ newlines k
+ended_prints h None c g k w =
+    end_printed (record h { format = None }) c g (newlines k) w.texts (ap (λ (f : NodeFormat). f.before_children) w.rest)
+    (ap (λ (f : NodeFormat). print_head (record h { format = Some f }) 0) w.rest ∙ ap (λ (z : Text). z ++ print_identifier h.name) (append-nil (print_type h.ty [] [])))
+ended_prints h (Some f) c g k w =
+    end_printed (record h { format = Some f }) c g (newlines k) w.texts (ap (λ (f : NodeFormat). f.before_children) w.rest) (ap (λ (f : NodeFormat). print_head (record h { format = Some f }) 0) w.rest)
+
+pub newlines_printed : (k : ℕ) (n m : Node) → WithNewlines k n m → print_node m 0 ≡ print_node n 0 ++ newlines k
+newlines_printed zero n m w = ap (λ x. print_node x 0) w ∙ sym (append-nil (print_node n 0))
+newlines_printed (suc k) (node h c) m (g, e, w) = ap (λ x. print_node x 0) e ∙ ended_prints h h.format c g (suc k) w
+
+-- what it says stays
+pub newlines_said : (k : ℕ) (n m : Node) → WithNewlines k n m → node_data m ≡ node_data n
+newlines_said zero n m w = ap node_data w
+newlines_said (suc k) (node h c) m (g, e, w) = ap node_data e
+
+-- a copy with newlines
+pub copy_put : (now : Text) (copy old : String Global) (k : ℕ) → string_bytes copy ≡ string_bytes old → now ≡ text_of copy ++ newlines k → now ≡ text_of old ++ newlines k
+copy_put now copy old k h e = e ∙ ap (λ (z : List ℕ). chars z ++ newlines k) h
+
+pub leading_ended : (o : Option DocumentFormat) (f : DocumentFormat) (t : Text) (k : ℕ) → o ≡ Some f → 0 < k → k ≤ 2 → t ≡ f.leading ++ newlines k → LeadingEnded o (Some t)
+leading_ended o f t k h l m e = let q : k ≡ suc (k - 1) = omega arith in (f, k - 1, omega arith, h, e ∙ ap (λ (n : ℕ). f.leading ++ newlines n) q)
+
+pub before_begun : (o : Option NodeFormat) (f : NodeFormat) (t : Text) (k : ℕ) → o ≡ Some f → 0 < k → k ≤ 1 → t ≡ f.before_terminator ++ newlines k → BeforeNewBlock o (Some t)
+before_begun o f t k h l m e = let q : k ≡ 1 = omega arith in (f, h, e ∙ ap (λ (n : ℕ). f.before_terminator ++ newlines n) q)
+
+-- a text before a block
+chosen : (o : Option (String Global)) (p b : String Global) → b ≡ unwrap_or o p → text_of b ≡ unwrap_or (option_map text_of o) (text_of p)
+chosen None p b h = ap text_of h
+chosen (Some s) p b h = ap text_of h
+
+pub block_begun : (f : KdlNodeFormat) (o : Option (String Global)) (p b z : String Global) → b ≡ unwrap_or o p → p ≡ f.before_terminator → text_of z ≡ []
+    → node_format_tree (record f { before_children = b; before_terminator = z }) ≡ block_format (option_map text_of o) (node_format_tree f)
+block_begun f o p b z h k e =
+    let c : text_of b ≡ unwrap_or (option_map text_of o) (text_of f.before_terminator) = chosen o p b h ∙ ap (λ (s : String Global). unwrap_or (option_map text_of o) (text_of s)) k in
+    rw (c, e) refl
+
+begun : (f : Option NodeFormat) (o : Option Text) (g : Option NodeFormat) → BeforeNewBlock f o → g ≡ option_map (block_format o) f → BlockBegun f g
+begun None o g h e = e
+begun (Some f) None g h e = (0, omega arith, e ∙ ap (λ (z : Text). Some (record f { before_children = z; before_terminator = [] })) (sym (append-nil f.before_terminator)))
+begun (Some f) (Some t) g (x, a, b) e =
+    let c : x ≡ f = cc in
+    (1, omega arith, e ∙ ap (λ (z : Text). Some (record f { before_children = z; before_terminator = [] })) (b ∙ ap (λ (y : NodeFormat). y.before_terminator ++ newlines 1) c))
+
+-- a node in a new block
+pub new_block : (i : ℕ) (n m m' x : KdlNode) (d e : KdlDocument) (o : Option Text) → (out-KdlNode m).children ≡ None → document_tree d ≡ new_document → IsPut 0 (node_tree n) d e
+    → BeforeNewBlock (node_texts (out-KdlNode m).format) o → BlockBegins o m x → m' ≡ with_children x (Some e) → ChildPut i n m m'
+new_block i n m m' x d e o h k p b (g, s, t) r =
+    let P : Option KdlDocument → Type 0 = λ z. ChildPutIn z i n m m' in
+    subst P (sym h) (d, e, g, k, p, begun (node_texts (out-KdlNode m).format) o (node_texts g) b t, r ∙ ap (λ (z : KdlNode). with_children z (Some e)) s)

@@ -1,0 +1,17 @@
+use Rattle.std.proofs.Common.{◌≡◌, ℕ, suc, arith, subst, sym}
+use Rattle.kdl.specs.Nodes.{IsPut}
+use Rattle.kdl.specs.Tree.{node_tree}
+use Rattle.kdl.proofs.Putting.Puts.{on_ok, put_behind, put_first}
+use Rattle.kdl.proofs.document.KdlDocument.put.Goals as goal
+
+pub returns-in-Some-clause-nodes : goal.returns-in-Some-clause-nodes
+returns-in-Some-clause-nodes c =
+    let e : suc c.in-Some.last ≡ c.args.index = omega (arith, c.in-Some.ensures) in
+    let P : ℕ → Type 0 = λ i. IsPut i (node_tree c.args.node) c.args.self.now c.put_behind.new.self in
+    on_ok c.put_behind.result (λ p. subst P e (put_behind c.in-Some.last c.args.node c.in-Ok.own c.args.self.now c.put_behind.new.self c.in-Ok.ensures p)) c.put_behind.ensures.put
+
+pub returns-in-None-clause-nodes : goal.returns-in-None-clause-nodes
+returns-in-None-clause-nodes c =
+    let e : 0 ≡ c.args.index = omega (arith, c.in-None.ensures) in
+    let P : ℕ → Type 0 = λ i. IsPut i (node_tree c.args.node) c.args.self.now c.put_first.new.self in
+    on_ok c.put_first.result (λ p. subst P e (put_first c.args.node c.in-Ok.own c.args.self.now c.put_first.new.self c.in-Ok.ensures p)) c.put_first.ensures.put

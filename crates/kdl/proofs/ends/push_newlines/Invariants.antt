@@ -1,0 +1,7 @@
+use Rattle.std.proofs.Common.{◌≡◌, ◌++◌}
+use Rattle.kdl_value.specs.Tree.{text_of}
+use Rattle.kdl.specs.Nodes.{newlines}
+use Rattle.kdl.proofs.ends.push_newlines.Given as goal
+
+abbrev pub invariant-loop-newline : goal.invariant-loop-newline
+invariant-loop-newline l = text_of l.text ≡ text_of l.initial.text ++ newlines l._newline
