@@ -3,7 +3,7 @@
 ghost use Rattle.kdl.specs.Words.{argument_count, IsAdded, IsPutIn, IsSet, IsTakenOut, IsTakenOutAt, value_tree};
 ghost use Rattle.std.specs.Prelude.{◌≡◌, ◌<◌, IfOk, IfSome, IsSome, Some, option_map, string_bytes, true};
 
-use kdl::{KdlEntry, KdlNode, KdlValue, NodeKey};
+use kdl::{KdlEntry, KdlIdentifier, KdlNode, KdlValue, NodeKey};
 use std::alloc::{AllocError, Global};
 
 /// Sets a property: the name finds the value, and all other look-ups find what they found before.
@@ -103,4 +103,19 @@ pub fn remove_argument(node: &mut KdlNode, index: usize) -> Option<KdlEntry>
     ensures { IsTakenOutAt index node.old node.new }
 {
     node.remove(NodeKey::from(index))
+}
+
+/// Pushes a property: the name finds the value.
+#[tactic(auto, using(crate::proofs::Bytes::text_bytes))]
+pub fn push_property(
+    alloc: Global,
+    node: &mut KdlNode,
+    name: &str,
+    value: KdlValue,
+) -> Result<bool, AllocError>
+    ensures { IfOk result (λ done.
+        done ≡ true → IsSet name.now (value_tree value) node.old node.new) }
+{
+    let key = KdlIdentifier::from_text(alloc, name)?;
+    Ok(node.push(KdlEntry::new_prop(key, value)).is_ok())
 }

@@ -1,0 +1,2 @@
+-- The bytes of a text.
+pub mod Bytes
