@@ -12,7 +12,5 @@ returns-clause-takes_at c = remove_takes_at c.args.key c.args.self.now c.remove.
 pub returns-clause-reads : goal.returns-clause-reads
 returns-clause-reads c = remove_reads c.args.key c.args.self.now c.remove.new.entries c.remove.ensures.items
 
-returns-clause-takes_at c = remove_takes_at c.args.key c.args.self.now c.remove.new.entries c.remove.ensures.items
-
 pub returns-clause-bytes : goal.returns-clause-bytes
 returns-clause-bytes c = remove_exchanges c.args.key c.args.self.now c.remove.new.entries c.remove.result c.remove.ensures.items c.remove.ensures.value
