@@ -1,5 +1,5 @@
 -- Before each terminator, fewer newlines do not do.
-use Rattle.std.proofs.Common.{◌≡◌, ℕ, zero, suc, ◌<◌, Bool, true, false, [], ◌∷◌, ◌++◌, None, Some, refl, sym, subst, ◌∙◌, arith, append-nil}
+use Rattle.std.proofs.Common.{◌≡◌, Bool, true, false, [], ◌∷◌, ◌++◌, None, refl}
 use Rattle.kdl_text.specs.Bare.BareString.{bare as a_bare}
 use Rattle.kdl_text.specs.Chars.{Text, Star, none, more}
 use Rattle.kdl_text.specs.Trivia.{NodeSpace, slashdash, ValueEnd}
@@ -9,12 +9,12 @@ use Rattle.kdl_entry.specs.Places.{DroppedEntry, dropped as dropped_e}
 use Rattle.kdl_entry.proofs.Moving.EntryMoves.{punctuation_end}
 use Rattle.kdl_grammar.specs.Data as nodes'
 use Rattle.kdl_grammar.specs.Data.{Node, Nodes, node, no_children, children}
-use Rattle.kdl_grammar.specs.Grammar.{Terminator, IsNode, named, AfterName, Blocks, AfterBlock, dropped_later, no_more, no_gap, dropped_node, AreNodes, last_gap, braces}
-use Rattle.kdl_grammar.specs.Places.{DroppedBlock, dropped as dropped_b, AfterChildren, after, BeforeChildren, before}
+use Rattle.kdl_grammar.specs.Grammar.{Terminator, IsNode, named, AfterName, Blocks, AfterBlock, dropped_later, no_more, no_gap, dropped_node, last_gap, braces}
+use Rattle.kdl_grammar.specs.Places.{DroppedBlock, dropped as dropped_b, AfterChildren, after, before}
 use Rattle.kdl_items.specs.Items.{Place, before_entry, before_block, behind_block, takes_blocks}
-use Rattle.kdl_items.specs.Lacks.{newlines, InPlace, BeforeEach}
+use Rattle.kdl_items.specs.Lacks.{InPlace, BeforeEach}
 use Rattle.kdl_items.specs.Internal.Lacking.{letter}
-use Rattle.kdl_items.proofs.Lacking.Fewest.{a, a_piece, letter_node, letter_end, some_nodes, letter_dropped}
+use Rattle.kdl_items.proofs.Lacking.Fewest.{a_piece, letter_node, letter_end, some_nodes, letter_dropped}
 use Rattle.kdl_items.proofs.Lacking.GapPieces.{in_front}
 use Rattle.kdl_items.proofs.Lacking.SpaceEnds.{lf}
 
