@@ -34,26 +34,26 @@ said_nodes (first n x) = n ∷ said_nodes x
 abbrev pub said_child_nodes : Node → List Node
 said_child_nodes n = unwrap_or (option_map said_nodes (said_children n)) []
 
--- the entry is a property of that name, or an argument
-abbrev pub is_property_of : Text → Entry → Bool
-is_property_of s e = option_map_or (λ k. same_text k s) e.key false
+-- the entry is a property of that name; it is an argument
+abbrev pub has_key : Text → Entry → Bool
+has_key s e = option_map_or (λ k. same_text k s) e.key false
 
-abbrev pub is_argument_of : Entry → Bool
-is_argument_of e = is_none e.key
+abbrev pub has_no_key : Entry → Bool
+has_no_key e = is_none e.key
 
--- the last property of that name, and the argument at that place among the arguments, from 0
+-- the last property of that name, and the argument at that place, counted from 0 over the arguments alone
 abbrev pub last_property : Text → Node → Option Entry
-last_property s n = last_or None (filter (is_property_of s) (said_entries n))
+last_property s n = last_or None (filter (has_key s) (said_entries n))
 
 abbrev pub nth_argument : ℕ → Node → Option Entry
-nth_argument i n = slice_get (filter is_argument_of (said_entries n)) i
+nth_argument i n = slice_get (filter has_no_key (said_entries n)) i
 
 -- the entry that a key looks for
 abbrev pub said_entry : Sought → Node → Option Entry
 said_entry (property k) n = last_property k.value n
 said_entry (argument i) n = nth_argument i n
 
--- the values of these three
+-- the value of that property, of that argument, and of the entry that a key looks for
 abbrev pub said_property : Text → Node → Option Value
 said_property s n = option_map (λ e. e.value) (last_property s n)
 
@@ -65,14 +65,14 @@ said_value k n = option_map (λ e. e.value) (said_entry k n)
 
 -- the values of all arguments, in order
 abbrev pub said_arguments : Node → List Value
-said_arguments n = map (λ e. e.value) (filter is_argument_of (said_entries n))
+said_arguments n = map (λ e. e.value) (filter has_no_key (said_entries n))
 
--- the first node of that name
-abbrev pub is_node_of : Text → Node → Bool
-is_node_of s n = same_text (said_name n) s
+-- the node has that name, and the first node that has it
+abbrev pub is_called : Text → Node → Bool
+is_called s n = same_text (said_name n) s
 
 abbrev pub said_node : Text → Nodes → Option Node
-said_node s x = find (is_node_of s) (said_nodes x)
+said_node s x = find (is_called s) (said_nodes x)
 
 -- the value of its first argument, the values of all its arguments
 abbrev pub said_arg : Text → Nodes → Option Value
@@ -83,7 +83,7 @@ said_args s x = unwrap_or (option_map said_arguments (said_node s x)) []
 
 -- the value of the first argument of each node named `-` in its block that has one
 abbrev pub said_dashes : Node → List Value
-said_dashes n = filter_map (said_argument 0) (filter (is_node_of (codes "-")) (said_child_nodes n))
+said_dashes n = filter_map (said_argument 0) (filter (is_called (codes "-")) (said_child_nodes n))
 
 abbrev pub said_dash_args : Text → Nodes → List Value
 said_dash_args s x = unwrap_or (option_map said_dashes (said_node s x)) []

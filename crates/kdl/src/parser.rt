@@ -73,6 +73,7 @@ impl KdlDocument {
         // The document lies in the text, each place in its class and each span that of its piece, and prints it.
         ensures laid { IfOk result (λ d. LaidDocument true (document_tree d) (chars text.now)) }
         ensures prints { IfOk result (λ d. document_prints d ≡ chars text.now) }
+        // No entry is flagged to keep its form.
         ensures keeps_none { IfOk result (λ d. DocumentKeepsNoForm d) }
         // What is refused is not derived, and an error tells where.
         ensures refused { IsSyntax result → (x : Nodes) → IsDocument true (chars text.now) x → ⊥ }
@@ -186,7 +187,7 @@ impl KdlNode {
         // The node lies in the text, each place in its class and each span that of its piece, and prints it.
         ensures laid { IfOk result (λ n. LaidNodeText true (chars text.now) (node_tree n)) }
         ensures prints { IfOk result (λ n. node_prints n ≡ chars text.now) }
-        // No entry of it is flagged to keep its form.
+        // No entry is flagged to keep its form.
         ensures keeps_none { IfOk result (λ n. NodeKeepsNoForm n) }
         // What is refused is not derived, and an error tells where.
         ensures refused { IsSyntax result → (x : data'.Node)

@@ -27,7 +27,7 @@ use Rattle.kdl.specs.DocumentLookups.{argument_named, argument_value, arguments_
 use Rattle.kdl.specs.Finds.{FindsSame, GivesArgument, GivesProperty, NodeFindsSame}
 use Rattle.kdl.specs.Iterators.{child_nodes, nodes_in}
 use Rattle.kdl.specs.Lookups.{entries_of, found_entry, found_value, property_place, property_value, value_of}
-use Rattle.kdl.specs.Said.{is_argument_of, is_node_of, last_property, nodes_inside, nth_argument, said_child_nodes, said_arg, said_args, said_argument, said_arguments, said_children, said_dash_args, said_dashes, said_entries, said_entry, said_name, said_node, said_nodes, said_property, said_type, said_value}
+use Rattle.kdl.specs.Said.{has_no_key, is_called, last_property, nodes_inside, nth_argument, said_child_nodes, said_arg, said_args, said_argument, said_arguments, said_children, said_dash_args, said_dashes, said_entries, said_entry, said_name, said_node, said_nodes, said_property, said_type, said_value}
 use Rattle.kdl.specs.Tree.{document_says, document_tree, node_says, nodes_tree}
 use Rattle.kdl.specs.declared.node.KdlNode.{KdlNode}
 use Rattle.kdl.specs.declared.document.KdlDocument.{KdlDocument}
@@ -157,7 +157,7 @@ has_tested_name s q t e = go e.name
     go None = refl
     go (Some i) = t.same (string_bytes i.value) (IsUtf8-string_bytes i.value)
 
-has_said_none : (e : KdlEntry) → is_argument e ≡ is_argument_of (entry_says e)
+has_said_none : (e : KdlEntry) → is_argument e ≡ has_no_key (entry_says e)
 has_said_none e = go e.name
   where
     go : (o : Option KdlIdentifier) → is_none o ≡ is_none (option_map (λ (i : Identifier). i.value) (option_map identifier_tree o))
@@ -196,7 +196,7 @@ pub nth_argument_said : (i : ℕ) (n : KdlNode) → option_map entry_says (there
 nth_argument_said i n =
     ap (option_map entry_says) (nth_found is_argument (entries_of n) i)
     ∙ sym (slice_get-map entry_says (filter is_argument (entries_of n)) i)
-    ∙ ap (λ es. slice_get es i) (filter_mapped entry_says is_argument is_argument_of has_said_none (entries_of n) ∙ ap (filter is_argument_of) (entries_said n))
+    ∙ ap (λ es. slice_get es i) (filter_mapped entry_says is_argument has_no_key has_said_none (entries_of n) ∙ ap (filter has_no_key) (entries_said n))
 
 -- what a key finds in a node
 pub entry_said : (key : NodeKey) (n : KdlNode) → option_map entry_says (found_entry key n) ≡ said_entry (sought key) (node_says n)
@@ -235,7 +235,7 @@ has_said s n u =
 pub arguments_said : (n : KdlNode) → arguments (entries_of n) ≡ said_arguments (node_says n)
 arguments_said n =
     map_twice entry_says value_in (filter is_argument (entries_of n))
-    ∙ ap (map value_in) (filter_mapped entry_says is_argument is_argument_of has_said_none (entries_of n) ∙ ap (filter is_argument_of) (entries_said n))
+    ∙ ap (map value_in) (filter_mapped entry_says is_argument has_no_key has_said_none (entries_of n) ∙ ap (filter has_no_key) (entries_said n))
 
 -- the nodes of a document, and in a node's block
 listed : (ns : List KdlNode) → map node_says ns ≡ said_nodes (nodes_data (nodes_tree ns))
@@ -291,7 +291,7 @@ pub dashes_said : (n : KdlNode) → dash_arguments (child_nodes n) ≡ said_dash
 dashes_said n =
     given_mapped node_says argument_value (said_argument 0) argument_value_said (filter (is_node_named (codes "-")) (child_nodes n))
     ∙ ap (filter_map (said_argument 0))
-    (filter_mapped node_says (is_node_named (codes "-")) (is_node_of (codes "-")) (named_tested (codes "-") (λ t. same_text t (codes "-")) dash) (child_nodes n) ∙ ap (filter (is_node_of (codes "-"))) (child_nodes_said n))
+    (filter_mapped node_says (is_node_named (codes "-")) (is_called (codes "-")) (named_tested (codes "-") (λ t. same_text t (codes "-")) dash) (child_nodes n) ∙ ap (filter (is_called (codes "-"))) (child_nodes_said n))
 
 abbrev dashes_all : Option nodes'.Node → List Value
 dashes_all o = unwrap_or (option_map said_dashes o) []
