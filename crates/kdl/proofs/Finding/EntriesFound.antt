@@ -11,7 +11,7 @@ use Rattle.kdl_entry.specs.Tree.{Identifier, Entry, entry_tree, identifier_tree}
 use Rattle.kdl_entry.specs.declared.entry.KdlEntry.{KdlEntry}
 use Rattle.kdl_entry.specs.declared.identifier.KdlIdentifier.{KdlIdentifier}
 use Rattle.kdl_parts.specs.Edits.{GoesUnder, HasArgumentAt, HasRoomAt, IsInserted, put_before, put_for, under, removed}
-use Rattle.kdl_parts.specs.EntryLists.{property, argument, sought, key_name, key_index, is_argument, has_name, is_name, same_text, last_place, nth_place, there}
+use Rattle.kdl_parts.specs.EntryLists.{property, sought, key_name, key_index, is_argument, has_name, is_name, same_text, last_place, nth_place, there}
 use Rattle.kdl_parts.specs.declared.key.NodeKey.{NodeKey}
 use Rattle.kdl_parts.specs.declared.key.NodeKey.TheVariants.{Key, Index}
 use Rattle.kdl_parts.proofs.EntryLookups.{same_bytes}
@@ -28,7 +28,7 @@ abbrev pub value_in : Option KdlEntry → Option Value
 value_in o = option_map (λ e. value_tree e.value) o
 
 -- an entry of that name
-pub name_is : (s : List ℕ) (e : KdlEntry) (i : KdlIdentifier) → e.name ≡ Some i → string_bytes i.value ≡ s → has_name s e ≡ true
+name_is : (s : List ℕ) (e : KdlEntry) (i : KdlIdentifier) → e.name ≡ Some i → string_bytes i.value ≡ s → has_name s e ≡ true
 name_is s e i h k = ap (is_name s) h ∙ (bytes_eq-Decides (string_bytes i.value) s).1 k
 
 -- has no other name, and is no argument

@@ -12,7 +12,7 @@ use Rattle.kdl_entry.specs.Tree.{Identifier, Entry, entry_tree, identifier_tree,
 use Rattle.kdl_entry.specs.declared.entry.KdlEntry.{KdlEntry}
 use Rattle.kdl_entry.specs.declared.identifier.KdlIdentifier.{KdlIdentifier}
 use Rattle.kdl_parts.specs.EntryLists.{key_name, key_index, is_argument, has_name, is_name, same_text, last_place, nth_place, there}
-use Rattle.kdl_parts.specs.Written.{set_value_at, IsPushed}
+use Rattle.kdl_parts.specs.Written.{set_value_at}
 use Rattle.kdl_parts.specs.declared.key.NodeKey.{NodeKey}
 use Rattle.kdl_parts.specs.declared.key.NodeKey.TheVariants.{Key, Index}
 use Rattle.kdl_parts.proofs.EntryLookups.{same_bytes}
@@ -21,7 +21,7 @@ use Rattle.kdl.specs.Found.{IsSet, IsArgumentSet}
 use Rattle.kdl.specs.Lookups.{entries_of, found_entry, held_value, key_place, property_place, with_entry_there, with_found_entry, with_found_value, with_value_there, HasWritten}
 use Rattle.kdl.specs.declared.document.KdlDocument.TheViews.{out-KdlNode}
 use Rattle.kdl.specs.declared.node.KdlNode.{KdlNode}
-use Rattle.kdl.proofs.Finding.EntriesFound.{entries_with, name_is, no_argument, other_name, pushed_set, value_in}
+use Rattle.kdl.proofs.Finding.EntriesFound.{entries_with, no_argument, other_name, pushed_set, value_in}
 use Rattle.kdl.proofs.Finding.ListLookups.{count-set, last_holds, last_place-set, nth_differs, nth_holds, nth_place-set, set_there, there_elsewhere}
 
 -- names with one tree are the same to each look-up
