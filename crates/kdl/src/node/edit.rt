@@ -120,7 +120,7 @@ impl KdlNode {
         ensures rest { self.new ≡ with_entries self.old (out-KdlNode self.new).entries }
         ensures back { IfErr result (λ e. e.0 ≡ entry) }
         ensures refused { OnErr result (node_tree self.new ≡ node_tree self.old) }
-        // With an entry that reads back, or has neither format nor spelling, it reads back wherever it did.
+        // With an entry that reads back, or is without format and spelling, it reads back as before.
         ensures reads { EntryReadsBack entry → ReadsAs self.old self.new }
         ensures reads_unformed { IsUnformed (entry_tree entry) → ReadsAs self.old self.new }
     {
@@ -160,7 +160,7 @@ impl KdlNode {
         ensures succeeds { IsSome (replaced_place key (entries_of self.old)) → IsOk result }
         ensures back { IfErr result (λ e. entry_tree e.0 ≡ under (sought key) (entry_tree entry)) }
         ensures refused { OnErr result (node_tree self.new ≡ node_tree self.old) }
-        // With an entry that reads back, or has neither format nor spelling, it reads back wherever it did.
+        // With an entry that reads back, or is without format and spelling, it reads back as before.
         ensures reads { EntryReads (under (sought key) (entry_tree entry))
             → ReadsAs self.old self.new }
         ensures reads_unformed { IsUnformed (under (sought key) (entry_tree entry))

@@ -76,7 +76,7 @@ impl KdlNode {
         ensures* writes_back { sem 𝓛 (LendsIf the_row entry_row self.entry result
             (with_found_entry key self.old) self.old) }
         ensures value { option_map (λ e. e.now) result ≡ found_entry key self.old }
-        // With an entry in its place that reads back, or where the old one did, the node reads back wherever it did.
+        // With an entry in its place that reads back where the old one did, the node reads back as before.
         ensures reads { IfSome result (λ e. (f : KdlEntry)
             → (EntryReadsBack e.now → EntryReadsBack f)
             → ReadsAs self.old (with_found_entry key self.old f)) }
