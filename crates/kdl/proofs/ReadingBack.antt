@@ -15,7 +15,7 @@ use Rattle.kdl_value.proofs.WellFormed.{text_scalars}
 use Rattle.kdl_entry.specs.Entries.{IsIdentifierText}
 use Rattle.kdl_entry.specs.Formless.{IsFormless}
 use Rattle.kdl_entry.specs.Print.{print_identifier}
-use Rattle.kdl_entry.specs.Tree.{Entry, Identifier, entry_tree, identifier_tree, no_span, plain_entry, plain_identifier}
+use Rattle.kdl_entry.specs.Tree.{Entry, Identifier, entry_tree, identifier_tree, no_span}
 use Rattle.kdl_entry.specs.declared.entry.KdlEntry.{KdlEntry}
 use Rattle.kdl_entry.specs.declared.identifier.KdlIdentifier.{KdlIdentifier}
 use Rattle.kdl_entry.proofs.Laying.FormlessLaid.{formless_reads_back}
@@ -32,7 +32,7 @@ use Rattle.kdl_grammar.proofs.ReadingBack.Entries.{formless_reads, new_reads, va
 use Rattle.kdl_grammar.proofs.ReadingBack.LaidReads.{laid_reads, laid_node_reads}
 use Rattle.kdl_grammar.proofs.ReadingBack.Reads.{node_derived, reads_derived}
 use Rattle.kdl_parts.specs.Edits.{IsInserted, inserted, put_before, put_for, removed, under, without}
-use Rattle.kdl_parts.specs.EntryLists.{Sought, property, place_of, removed_place, sought}
+use Rattle.kdl_parts.specs.EntryLists.{place_of, removed_place, sought}
 use Rattle.kdl_parts.specs.Formats.{document_format_tree}
 use Rattle.kdl_parts.specs.Written.{set_entry_there}
 use Rattle.kdl_parts.specs.declared.key.NodeKey.{NodeKey}
@@ -74,14 +74,6 @@ entries_exchanged n v f = exchanged n v f
 -- an entry without form
 pub unformed_reads : (e : KdlEntry) → IsUnformed (entry_tree e) → EntryReadsBack e
 unformed_reads e u = formless_reads (entry_tree e) (record { plain = u.plain; key = name_scalars e.name; ty = name_scalars e.ty; value = u.value })
-
--- a new entry, and one that takes a name
-pub plain_unformed : (e : Entry) (v : Value) → e ≡ plain_entry None v → IsWellFormed v → IsUnformed e
-plain_unformed e v h ok = subst IsUnformed (sym h) (record { plain = refl; value = ok })
-
-pub plain_under : (q : Sought) (e : Entry) (s : Text) (v : Value) → q ≡ property (plain_identifier s) → e ≡ plain_entry None v → IsWellFormed v → IsUnformed (under q e)
-plain_under q e s v a h ok =
-    subst (λ (q : Sought). IsUnformed (under q e)) (sym a) (subst (λ (e : Entry). IsUnformed (under (property (plain_identifier s)) e)) (sym h) (record { plain = refl; value = ok }))
 
 either : (b : Bool) (xs ys zs : List KdlEntry) → zs ≡ (if b then xs else ys) → AllRead xs → AllRead ys → AllRead zs
 either true xs ys zs e c d = subst AllRead (sym e) c

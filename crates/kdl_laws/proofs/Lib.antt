@@ -10,6 +10,8 @@ pub mod ItemLists
 pub mod KeyEquality
 -- Each document and each node has a list of items.
 pub mod ListExists
+-- New entries have neither a format nor a spelling.
+pub mod NewEntries
 -- A text has a list of items exactly where it may be in its place.
 pub mod PlaceItems
 -- What two layouts make.

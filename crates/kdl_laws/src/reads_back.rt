@@ -57,7 +57,7 @@ pub fn unformed_reads_back()
 {}
 
 /// A new entry has neither a format nor a spelling, nor has it under a name without a spelling.
-#[tactic(auto, using(kdl::proofs::ReadingBack::plain_unformed, kdl::proofs::ReadingBack::plain_under))]
+#[tactic(auto, using(crate::proofs::NewEntries::plain_unformed, crate::proofs::NewEntries::plain_under))]
 pub fn new_entries_are_unformed()
     ensures alone { (e : Entry) (v : Value) → e ≡ plain_entry None v → IsWellFormed v
         → IsUnformed e }
