@@ -14,6 +14,8 @@ pub mod KeyEquality
 pub mod ListExists
 -- Spans in a text cut it between characters.
 pub mod PiecesOfText
+-- New entries have neither a format nor a spelling.
+pub mod NewEntries
 -- A text has a list of items exactly where it may be in its place.
 pub mod PlaceItems
 -- Spans are not printed, and say nothing.

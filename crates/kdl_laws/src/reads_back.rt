@@ -5,14 +5,17 @@ ghost use Rattle.kdl.specs.ReadsBack.{BlockReadsBack, DocumentReadsBack, EntryRe
 ghost use Rattle.kdl.specs.Tree.{document_prints, document_says, node_prints, node_says};
 ghost use Rattle.kdl.specs.declared.document.KdlDocument.{KdlDocument};
 ghost use Rattle.kdl.specs.declared.node.KdlNode.{KdlNode, out-KdlNode};
-ghost use Rattle.kdl_entry.specs.Tree.{entry_tree};
+ghost use Rattle.kdl_entry.specs.Tree.{Entry, entry_tree, plain_entry, plain_identifier};
 ghost use Rattle.kdl_entry.specs.declared.entry.KdlEntry.{KdlEntry};
 ghost use Rattle.kdl_grammar.specs.Data.{first, none};
 ghost use Rattle.kdl_grammar.specs.Grammar.{IsDocument};
+ghost use Rattle.kdl_parts.specs.Edits.{under};
+ghost use Rattle.kdl_parts.specs.EntryLists.{Sought, property};
+ghost use Rattle.kdl_text.specs.Chars.{Text};
 ghost use Rattle.kdl_value.specs.Data.{Value};
 ghost use Rattle.kdl_value.specs.WellFormed.{IsWellFormed};
 ghost use Rattle.std.specs.List.{All};
-ghost use Rattle.std.specs.Prelude.{◌≡◌, Some, true};
+ghost use Rattle.std.specs.Prelude.{◌≡◌, None, Some, true};
 
 /// A document that reads back prints a text that is a document with its data.
 #[tactic(auto, using(kdl::proofs::ReadingBack::document_derived))]
@@ -51,6 +54,16 @@ pub fn block_reads_back()
 #[tactic(auto, using(kdl::proofs::ReadingBack::unformed_reads))]
 pub fn unformed_reads_back()
     ensures { (e : KdlEntry) → IsUnformed (entry_tree e) → EntryReadsBack e }
+{}
+
+/// A new entry has neither a format nor a spelling, nor has it under a name without a spelling.
+#[tactic(auto, using(crate::proofs::NewEntries::plain_unformed, crate::proofs::NewEntries::plain_under))]
+pub fn new_entries_are_unformed()
+    ensures alone { (e : Entry) (v : Value) → e ≡ plain_entry None v → IsWellFormed v
+        → IsUnformed e }
+    ensures named { (q : Sought) (e : Entry) (s : Text) (v : Value)
+        → q ≡ property (plain_identifier s) → e ≡ plain_entry None v → IsWellFormed v
+        → IsUnformed (under q e) }
 {}
 
 /// An entry that reads back does so with another value, where its format, if it has one, has the spelling that the value

@@ -4,6 +4,7 @@ ghost use Rattle.kdl.specs.ReadsBack.{NodeEnds};
 ghost use Rattle.std.specs.Prelude.{IfOk};
 
 use kdl::{KdlEntry, KdlIdentifier, KdlNode, KdlValue, NodeKey};
+use kdl_laws::reads_back::new_entries_are_unformed;
 use kdl_laws::values::values_are_well_formed;
 use std::alloc::{AllocError, Global};
 
@@ -19,9 +20,14 @@ pub fn one_node(
 {
     values_are_well_formed(&one);
     values_are_well_formed(&other);
+    new_entries_are_unformed();
     let key = NodeKey::from_text(alloc, property)?;
     let mut node = KdlNode::new(KdlIdentifier::from_text(alloc, name)?)?;
-    let _ = node.push(KdlEntry::new(one));
-    let _ = node.insert(key, KdlEntry::new(other));
+    let Ok(_) = node.push(KdlEntry::new(one)) else {
+        return Err(AllocError);
+    };
+    let Ok(_) = node.insert(key, KdlEntry::new(other)) else {
+        return Err(AllocError);
+    };
     Ok(node)
 }

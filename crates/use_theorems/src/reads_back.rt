@@ -2,10 +2,10 @@
 
 ghost use Rattle.kdl.specs.ReadsBack.{DocumentReadsBack, respelled};
 ghost use Rattle.kdl.specs.Words.{IsDocument, Nodes, document_says, entry_tree, print_value, text_of, value_tree};
-ghost use Rattle.std.specs.Prelude.{◌≡◌, IfOk, IfSome, true};
+ghost use Rattle.std.specs.Prelude.{◌≡◌, IfOk, true};
 
-use kdl::{KdlDocument, KdlEntry, KdlNode, KdlValue, NodeKey, ParseFailure};
-use kdl_laws::reads_back::document_reads_back;
+use kdl::{KdlDocument, KdlEntry, KdlValue, NodeKey, ParseFailure};
+use kdl_laws::reads_back::{document_reads_back, new_entries_are_unformed};
 use kdl_laws::values::values_are_well_formed;
 use std::alloc::{AllocError, Global};
 
@@ -19,14 +19,23 @@ pub fn printed(alloc: Global, document: &KdlDocument) -> Result<String, AllocErr
 }
 
 /// An argument more in the first node of a name.
-pub fn push_argument(document: &mut KdlDocument, name: &str, value: KdlValue)
+pub fn push_argument(
+    document: &mut KdlDocument,
+    name: &str,
+    value: KdlValue,
+) -> Result<(), AllocError>
     requires { DocumentReadsBack document.old }
     ensures { DocumentReadsBack document.new }
 {
     values_are_well_formed(&value);
-    if let Some(node) = document.get_mut(name) {
-        let _ = node.push(KdlEntry::new(value));
-    }
+    new_entries_are_unformed();
+    let Some(node) = document.get_mut(name) else {
+        return Ok(());
+    };
+    let Ok(_) = node.push(KdlEntry::new(value)) else {
+        return Err(AllocError);
+    };
+    Ok(())
 }
 
 /// A property in the first node of a name.
@@ -41,14 +50,18 @@ pub fn set_property(
     ensures { DocumentReadsBack document.new }
 {
     values_are_well_formed(&value);
+    new_entries_are_unformed();
     let key = NodeKey::from_text(alloc, property)?;
-    if let Some(node) = document.get_mut(name) {
-        let _ = node.insert(key, KdlEntry::new(value));
-    }
+    let Some(node) = document.get_mut(name) else {
+        return Ok(());
+    };
+    let Ok(_) = node.insert(key, KdlEntry::new(value)) else {
+        return Err(AllocError);
+    };
     Ok(())
 }
 
-/// No property of that name in the first node of a name, where it had one at most.
+/// The first property of that name taken out of the first node of a name.
 pub fn remove_property(
     alloc: Global,
     document: &mut KdlDocument,
@@ -59,9 +72,10 @@ pub fn remove_property(
     ensures { DocumentReadsBack document.new }
 {
     let key = NodeKey::from_text(alloc, property)?;
-    if let Some(node) = document.get_mut(name) {
-        let _ = node.remove(key);
-    }
+    let Some(node) = document.get_mut(name) else {
+        return Ok(());
+    };
+    node.remove(key);
     Ok(())
 }
 
@@ -72,20 +86,29 @@ pub fn push_two_in_block(
     inner: &str,
     one: KdlValue,
     other: KdlValue,
-)
+) -> Result<(), AllocError>
     requires { DocumentReadsBack document.old }
     ensures { DocumentReadsBack document.new }
 {
     values_are_well_formed(&one);
     values_are_well_formed(&other);
-    if let Some(node) = document.get_mut(outer) {
-        if let Some(block) = node.children_mut() {
-            if let Some(child) = block.get_mut(inner) {
-                let _ = child.push(KdlEntry::new(one));
-                let _ = child.push(KdlEntry::new(other));
-            }
-        }
-    }
+    new_entries_are_unformed();
+    let Some(node) = document.get_mut(outer) else {
+        return Ok(());
+    };
+    let Some(block) = node.children_mut() else {
+        return Ok(());
+    };
+    let Some(child) = block.get_mut(inner) else {
+        return Ok(());
+    };
+    let Ok(_) = child.push(KdlEntry::new(one)) else {
+        return Err(AllocError);
+    };
+    let Ok(_) = child.push(KdlEntry::new(other)) else {
+        return Err(AllocError);
+    };
+    Ok(())
 }
 
 /// Sets the value, and its spelling where the entry keeps one.
@@ -111,11 +134,13 @@ pub fn set_argument(
 {
     values_are_well_formed(&value);
     let spelling = value.to_string(alloc)?;
-    if let Some(node) = document.get_mut(name) {
-        if let Some(entry) = node.entry_mut(NodeKey::Index(0)) {
-            respell(entry, value, spelling);
-        }
-    }
+    let Some(node) = document.get_mut(name) else {
+        return Ok(());
+    };
+    let Some(entry) = node.entry_mut(NodeKey::Index(0)) else {
+        return Ok(());
+    };
+    respell(entry, value, spelling);
     Ok(())
 }
 
@@ -129,6 +154,6 @@ pub fn push_in_text(
     ensures { IfOk result (λ out. (x : Nodes) × IsDocument true (text_of out) x) }
 {
     let mut document = KdlDocument::parse(alloc, text)?;
-    push_argument(&mut document, name, value);
+    push_argument(&mut document, name, value)?;
     Ok(printed(alloc, &document)?)
 }

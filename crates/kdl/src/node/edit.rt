@@ -130,7 +130,7 @@ impl KdlNode {
             (IsAdded (entry_tree entry).value self.old self.new)) }
         ensures sets { OnOk result (IfSome (entry_tree entry).name (λ name.
             IsSet (encode_utf8_all name.value) (entry_tree entry).value self.old self.new)) }
-        // With an entry that reads back, or has neither format nor spelling, it reads back wherever it did.
+        // With an entry that reads back, or is without format and spelling, it reads back as before.
         ensures reads { EntryReadsBack entry → ReadsAs self.old self.new }
         ensures reads_unformed { IsUnformed (entry_tree entry) → ReadsAs self.old self.new }
     {
@@ -177,7 +177,7 @@ impl KdlNode {
             IsSet name (entry_tree entry).value self.old self.new)) }
         ensures puts { OnOk result (IfSome (key_index key) (λ i.
             IsPutIn i (entry_tree entry).value self.old self.new)) }
-        // With an entry that reads back, or has neither format nor spelling, it reads back wherever it did.
+        // With an entry that reads back, or is without format and spelling, it reads back as before.
         ensures reads { EntryReads (under (sought key) (entry_tree entry))
             → ReadsAs self.old self.new }
         ensures reads_unformed { IsUnformed (under (sought key) (entry_tree entry))

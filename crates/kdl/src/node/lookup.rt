@@ -109,7 +109,7 @@ impl KdlNode {
         ensures sets_at { IfSome result (λ e. IfSome (key_index key) (λ i. (w : KdlEntry) →
             (entry_tree w).name ≡ (entry_tree e.now).name →
             IsArgumentSet i (entry_tree w).value self.old (with_found_entry key self.old w))) }
-        // With an entry in its place that reads back, or where the old one did, the node reads back wherever it did.
+        // With an entry in its place that reads back where the old one did, the node reads back as before.
         ensures reads { IfSome result (λ e. (f : KdlEntry)
             → (EntryReadsBack e.now → EntryReadsBack f)
             → ReadsAs self.old (with_found_entry key self.old f)) }
