@@ -105,7 +105,7 @@ exchanged_one : (n : KdlNode) (v : Vec KdlEntry Global) (a z : List KdlEntry) (o
 exchanged_one n v a z o r f h k =
     subst (λ (t : Text). IsExchangedInNode t (piece_of r) n (with_entries n v)) (piece_listed o)
     (subst (λ (t : Text). IsExchangedInNode (pieces (listed o)) t n (with_entries n v)) (piece_listed r)
-      (spliced n v a (listed o) (listed r) z f (h ∙ sym (append_assoc a (listed o) z)) (k ∙ sym (append_assoc a (listed r) z))))
+    (spliced n v a (listed o) (listed r) z f (h ∙ sym (append_assoc a (listed o) z)) (k ∙ sym (append_assoc a (listed r) z))))
 
 -- the elements around a place
 split : (xs : List KdlEntry) (i : ℕ) → xs ≡ take i xs ++ (listed (slice_get xs i) ++ drop (suc i) xs)

@@ -12,8 +12,8 @@ pub mod keys;
 pub mod layout;
 pub mod machine;
 pub mod nodes;
-pub mod spans;
 pub mod reads_back;
+pub mod spans;
 pub mod values;
 
 pub use kdl_grammar::laws::{

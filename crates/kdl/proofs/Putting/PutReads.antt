@@ -63,9 +63,9 @@ taken_reads i n d e h k r s x =
     let there : slice_get (trees d) i ≡ Some (node_tree n) = slice_get-map node_tree (nodes_of d) i ∙ ap (option_map node_tree) h in
     let old : DocumentReads (document (texts_around d) (out-KdlDocument d).span (listed_nodes (trees d))) = subst DocumentReads (document_tree_out d) x in
     let new : document_tree e ≡ document (texts_around d) (out-KdlDocument d).span (listed_nodes (remove (trees d) i)) =
-        document_tree_out e ∙ ap (λ (o : Option DocumentFormat). document o (out-KdlDocument e).span (listed_nodes (trees e))) (texts_kept d e r)
-        ∙ ap (λ (z : SourceSpan). document (texts_around d) z (listed_nodes (trees e))) s
-        ∙ ap (λ (z : List Node). document (texts_around d) (out-KdlDocument d).span (listed_nodes z)) (ap (λ (z : List KdlNode). map node_tree z) k ∙ remove_trees (nodes_of d) i) in (
+    document_tree_out e ∙ ap (λ (o : Option DocumentFormat). document o (out-KdlDocument e).span (listed_nodes (trees e))) (texts_kept d e r)
+    ∙ ap (λ (z : SourceSpan). document (texts_around d) z (listed_nodes (trees e))) s
+    ∙ ap (λ (z : List Node). document (texts_around d) (out-KdlDocument d).span (listed_nodes z)) (ap (λ (z : List KdlNode). map node_tree z) k ∙ remove_trees (nodes_of d) i) in (
       subst DocumentReads (sym new) (document_taken (texts_around d) (out-KdlDocument d).span (trees d) i (slice_get_within (trees d) i (node_tree n) there) old),
       document_each (texts_around d) (out-KdlDocument d).span (trees d) i (node_tree n) there old,
     )

@@ -80,11 +80,13 @@ printed (suc i) k j n put o p ns ms (e, x) w =
 
 pub put_prints : (i : ℕ) (n : KdlNode) (d e : KdlDocument) → IsPut i (node_tree n) d e → PrintsPut i n d e
 put_prints i n d e p =
-    let few = p.few in
-    (
-      p.k, p.j, few.0, few.1,
+    let few = p.few in (
+      p.k,
+      p.j,
+      few.0,
+      few.1,
       document_printed e 0 ∙ ap (λ z. leading_text (texts_around e) ++ text z ++ trailing_text (texts_around e)) p.nodes
-      ∙ printed i p.k p.j (node_tree n) p.put (texts_around d) (texts_around e) (trees d) p.ended p.before p.ends,
+          ∙ printed i p.k p.j (node_tree n) p.put (texts_around d) (texts_around e) (trees d) p.ended p.before p.ends,
     )
 
 said : (i k j : ℕ) (n put : Node) (o p : Option DocumentFormat) (ns ms : List Node) → EndedBefore i k o ns p ms → WithNewlines j n put
@@ -208,8 +210,8 @@ taken_prints i n d e h k r depth =
     rw (add-one i) (
       document_printed d depth ∙ ap (λ (z : Text). l ++ z ++ t) (taken_printed i (trees d) (node_tree n) depth there) ∙ around l before (print_node (node_tree n) depth) behind t,
       document_printed e depth ∙ ap (λ (o : Option DocumentFormat). leading_text o ++ print_nodes (nodes_tree (nodes_of e)) depth ++ trailing_text o) (texts_kept d e r)
-      ∙ ap (λ (z : List Node). l ++ print_nodes (listed_nodes z) depth ++ t) (ap (map node_tree) k ∙ remove_trees (nodes_of d) i)
-      ∙ ap (λ (z : Text). l ++ z ++ t) (left_printed (take i (trees d)) (drop (suc i) (trees d)) depth) ∙ without l before behind t,
+          ∙ ap (λ (z : List Node). l ++ print_nodes (listed_nodes z) depth ++ t) (ap (map node_tree) k ∙ remove_trees (nodes_of d) i)
+          ∙ ap (λ (z : Text). l ++ z ++ t) (left_printed (take i (trees d)) (drop (suc i) (trees d)) depth) ∙ without l before behind t,
     )
 
 taken_said : (i : ℕ) (ns : List Node) → nodes_data (listed_nodes (remove ns i)) ≡ said_without i (nodes_data (listed_nodes ns))

@@ -60,11 +60,7 @@ impl KdlDocument {
     /// let mut document = KdlDocument::parse(alloc, "// one\na")?;
     /// let inserted = document.insert_node(0, KdlNode::parse(alloc, "b")?); // prints "b\n// one\na"
     /// ```
-    pub fn insert_node(
-        &mut self,
-        index: usize,
-        node: KdlNode,
-    ) -> Result<(), (KdlNode, AllocError)>
+    pub fn insert_node(&mut self, index: usize, node: KdlNode) -> Result<(), (KdlNode, AllocError)>
         requires { index ≤ length (nodes_of self.old) }
         ensures nodes { OnOk result (IsPut index (node_tree node) self.old self.new) }
         ensures prints { OnOk result (PrintsPut index node self.old self.new) }

@@ -57,11 +57,7 @@ impl KdlNode {
     /// let mut node = KdlNode::parse(alloc, "a { b; c }")?;
     /// let inserted = node.insert_child(1, KdlNode::parse(alloc, "d")?); // prints "a { b;d\n c }"
     /// ```
-    pub fn insert_child(
-        &mut self,
-        index: usize,
-        node: KdlNode,
-    ) -> Result<(), (KdlNode, AllocError)>
+    pub fn insert_child(&mut self, index: usize, node: KdlNode) -> Result<(), (KdlNode, AllocError)>
         requires { index ≤ length (child_nodes self.old) }
         ensures nodes { OnOk result (ChildPut index node self.old self.new) }
         ensures back { IfErr result (λ e. e.0 ≡ node) }
