@@ -99,3 +99,8 @@ pub use Rattle.kdl.specs.Said.{said_arg, said_argument, said_argument_in, said_a
 pub use Rattle.kdl.specs.Finds.{FindsSame, GivesArgument, GivesProperty, NodeFindsSame}
 -- Where one piece of what is printed is exchanged, and no other character.
 pub use Rattle.kdl.specs.Bytes.{IsExchanged, IsExchangedInDocument, IsExchangedInNode, piece_of}
+-- What reads back: entries, nodes and documents, and what stays so.
+pub use Rattle.kdl_grammar.specs.ReadsBack.{EntryReads}
+pub use Rattle.kdl.specs.ReadsBack.{BlockReadsBack, DocumentReadsBack, EntryReadsBack, IsUnformed, NodeEnds, NodeReadsBack, ReadsAs, respelled}
+-- Nodes put in and taken out.
+pub use Rattle.kdl.specs.Nodes.{ChildPut, IsPut, PrintsPut, PrintsWithout, said_with, said_without}

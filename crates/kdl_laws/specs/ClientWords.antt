@@ -23,3 +23,5 @@ pub use Rattle.kdl_items.specs.Written.{lines, on_line, tail}
 -- Keys, errors and their parts, on which `==` goes.
 pub use Rattle.kdl_laws.specs.Keys.{sought_anywhere}
 pub use Rattle.kdl_laws.specs.Errors.{Diagnostic, Failure, Refusal, diagnostic_tree, error_tree, failure_tree, memory, syntax'}
+-- Pieces of a text.
+pub use Rattle.kdl_laws.specs.Pieces.{IsPiece}
