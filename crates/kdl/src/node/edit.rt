@@ -77,7 +77,7 @@ impl KdlNode {
     }
 
     /// The entries, to be changed in place. All else stays as it is: of a node with a format, what is printed before
-    /// the entries and behind them too.
+    /// the entries and after them too.
     ///
     /// ```
     /// let mut node = KdlNode::parse(alloc, "a 1 2 3 // kept")?;
@@ -110,7 +110,7 @@ impl KdlNode {
         edit::clear(&mut self.entries);
     }
 
-    /// Puts the entry behind the others. Fails where memory runs out: then the entry comes back, and the node is as
+    /// Puts the entry after the others. Fails where memory runs out: then the entry comes back, and the node is as
     /// it was.
     ///
     /// ```
@@ -138,7 +138,7 @@ impl KdlNode {
     }
 
     /// Puts the entry in under the key. Under a name, an entry without a name takes it; the last property whose name
-    /// has that value is replaced in place and handed back, and where there is none the entry goes last. Under an index
+    /// has that value is replaced in place and returned, and where there is none the entry goes last. Under an index
     /// it goes directly before the argument at that place among the arguments, or last where there are as many
     /// arguments.
     ///
@@ -186,7 +186,7 @@ impl KdlNode {
         edit::insert(&mut self.entries, key, entry)
     }
 
-    /// Takes out and hands back the first property whose name has the key's value, or the argument at the key's place
+    /// Removes and returns the first property whose name has the key's value, or the argument at the key's place
     /// among the arguments, which has to be there. All else stays as it is.
     ///
     /// ```
@@ -209,7 +209,7 @@ impl KdlNode {
         edit::remove(&mut self.entries, key)
     }
 
-    /// Keeps, in order, the entries for which `keep` answers true. It is asked once for each entry, in order. All else
+    /// Keeps, in order, the entries for which `keep` returns true. It is asked once for each entry, in order. All else
     /// stays as it is.
     ///
     /// ```
