@@ -13,6 +13,7 @@ pub mod kept;
 pub mod layout;
 pub mod lines;
 pub mod lookups;
+pub mod nodes;
 pub mod parsing;
 pub mod printing;
 pub mod read;

@@ -18,6 +18,9 @@ pub enum Call {
     CloneDocument,
     Length,
     IsEmpty,
+    PushNode,
+    InsertNode,
+    PushChild,
     Push,
     InsertNamed,
     InsertFirst,
@@ -30,7 +33,7 @@ pub enum Call {
 }
 
 /// All of them.
-pub static CALLS: [Call; 18] = [
+pub static CALLS: [Call; 21] = [
     Call::ParseDocument,
     Call::ParseCounted,
     Call::ParseNode,
@@ -40,6 +43,9 @@ pub static CALLS: [Call; 18] = [
     Call::CloneDocument,
     Call::Length,
     Call::IsEmpty,
+    Call::PushNode,
+    Call::InsertNode,
+    Call::PushChild,
     Call::Push,
     Call::InsertNamed,
     Call::InsertFirst,
@@ -76,6 +82,8 @@ fn on_document(
         Call::CloneDocument => cloned(alloc, document),
         Call::Length => length(alloc, document),
         Call::IsEmpty => emptiness(alloc, document),
+        Call::PushNode => node_put(alloc, document, false),
+        Call::InsertNode => node_put(alloc, document, true),
         Call::Autoformat => laid_out(alloc, document),
         Call::AutoformatNoComments => stripped(alloc, document),
         _ => on_first(alloc, document, call),
@@ -114,6 +122,7 @@ fn changes(
     call: &Call,
 ) -> Result<bool, AllocError> {
     match call {
+        Call::PushChild => child_pushed(alloc, node, before),
         Call::Push => Ok(pushed(node, before)),
         Call::InsertNamed => inserted(alloc, node, before),
         Call::InsertFirst => Ok(inserted_first(node, before)),
@@ -195,6 +204,68 @@ fn length(alloc: Global, document: &KdlDocument) -> Result<String, AllocError> {
 fn emptiness(alloc: Global, document: &KdlDocument) -> Result<String, AllocError> {
     let is_empty = document.is_empty(alloc)?;
     format!(in alloc; "empty: {is_empty}")
+}
+
+/// A new node, which ends in a comment.
+fn new_node(alloc: Global) -> Result<KdlNode, AllocError> {
+    match KdlNode::parse(alloc, "new // last") {
+        Ok(node) => Ok(node),
+        Err(_) => Err(AllocError),
+    }
+}
+
+/// A node put first or last. Where memory is refused the node comes back, and the document is what it was.
+fn node_put(alloc: Global, document: &mut KdlDocument, first: bool) -> Result<String, AllocError> {
+    let before = document.clone()?;
+    let is_kept = match put_node(document, new_node(alloc)?, first) {
+        Ok(()) => true,
+        Err((node, _)) => node_put_again(document, &before, node, first),
+    };
+    if is_kept {
+        document.to_string(alloc)
+    } else {
+        String::from_str(alloc, "the document changed")
+    }
+}
+
+/// Puts the node before the others, or behind them.
+fn put_node(
+    document: &mut KdlDocument,
+    node: KdlNode,
+    first: bool,
+) -> Result<(), (KdlNode, AllocError)> {
+    if first {
+        document.insert_node(0, node)
+    } else {
+        document.push_node(node)
+    }
+}
+
+/// The node that came back put in, and whether the document was what it was before.
+fn node_put_again(
+    document: &mut KdlDocument,
+    before: &KdlDocument,
+    node: KdlNode,
+    first: bool,
+) -> bool {
+    let is_kept = *document == *before;
+    is_done(put_node(document, node, first));
+    is_kept
+}
+
+/// A child pushed. Where memory is refused the child comes back.
+fn child_pushed(alloc: Global, node: &mut KdlNode, before: &KdlNode) -> Result<bool, AllocError> {
+    match node.push_child(new_node(alloc)?) {
+        Ok(()) => Ok(true),
+        Err((child, _)) => Ok(child_pushed_again(node, before, child)),
+    }
+}
+
+/// The child that came back pushed, and whether the node was what it was before.
+fn child_pushed_again(node: &mut KdlNode, before: &KdlNode, child: KdlNode) -> bool {
+    let is_kept = *node == *before;
+    is_done(node.push_child(child));
+    is_kept
 }
 
 /// An entry pushed. Where memory is refused the entry comes back.

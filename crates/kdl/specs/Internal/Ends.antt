@@ -36,7 +36,7 @@ abbrev pub end_with : Option KdlNodeFormat → KdlNode → KdlNode
 end_with None n = n
 end_with (Some f) n = with_format n (Some f)
 
--- e is d with the node n behind the one at i, which has what it lacked
+-- e is d with the node n after the one at i, which has what it lacked
 pub record PutBehind (i : ℕ) (n : KdlNode) (d e : KdlDocument) : Type 0 where
   pub last : KdlNode
   pub format : Option KdlNodeFormat

@@ -39,7 +39,7 @@ impl KdlDocument {
             (IsPut (length (nodes_of self.old)) (node_tree node) self.old self.new) }
         ensures prints { OnOk result
             (PrintsPut (length (nodes_of self.old)) node self.old self.new) }
-        ensures says { OnOk result (document_says self.new ≡
+        ensures data { OnOk result (document_says self.new ≡
             said_with (length (nodes_of self.old)) (node_says node) (document_says self.old)) }
         ensures back { IfErr result (λ e. e.0 ≡ node) }
         ensures refused { OnErr result (document_tree self.new ≡ document_tree self.old) }
@@ -64,7 +64,7 @@ impl KdlDocument {
         requires { index ≤ length (nodes_of self.old) }
         ensures nodes { OnOk result (IsPut index (node_tree node) self.old self.new) }
         ensures prints { OnOk result (PrintsPut index node self.old self.new) }
-        ensures says { OnOk result (document_says self.new ≡
+        ensures data { OnOk result (document_says self.new ≡
             said_with index (node_says node) (document_says self.old)) }
         ensures back { IfErr result (λ e. e.0 ≡ node) }
         ensures refused { OnErr result (document_tree self.new ≡ document_tree self.old) }
@@ -85,7 +85,7 @@ impl KdlDocument {
         ensures rest { self.new ≡ with_nodes self.old (out-KdlDocument self.new).nodes }
         ensures value { slice_get (nodes_of self.old) index ≡ Some result }
         ensures prints { PrintsWithout index result self.old self.new }
-        ensures says { document_says self.new ≡ said_without index (document_says self.old) }
+        ensures data { document_says self.new ≡ said_without index (document_says self.old) }
         ensures reads { DocumentReadsBack self.old
             → DocumentReadsBack self.new × NodeReadsBack result }
     {

@@ -160,7 +160,8 @@ impl KdlNode {
     }
 
     /// The children, to be changed in place; where the node has no child block it gets an empty new one. It takes no
-    /// memory.
+    /// memory. The text before the node's terminator stays there, so a comment or an escline in it comes after the new
+    /// block; `push_child` puts it before.
     ///
     /// ```
     /// let mut node = KdlNode::parse(alloc, "a")?;

@@ -13,8 +13,8 @@ returns-clause-prints c =
     taken_prints c.args.index c.remove.result d (with_nodes d v) (slice_get-get_or (nodes_of d) c.args.index c.remove.result c.requires ∙ ap Some (sym c.remove.ensures.value))
     (nodes_with d v ∙ c.remove.ensures.items) (with_nodes_own d v)
 
-pub returns-clause-says : goal.returns-clause-says
-returns-clause-says c =
+pub returns-clause-data : goal.returns-clause-data
+returns-clause-data c =
     let d = c.args.self.now in
     let v = c.remove.new.self in
     taken_says c.args.index d (with_nodes d v) (nodes_with d v ∙ c.remove.ensures.items)

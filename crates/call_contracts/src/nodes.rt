@@ -1,0 +1,44 @@
+//! Nodes put among others and taken out.
+
+ghost use Rattle.kdl.specs.Change.{with_nodes};
+ghost use Rattle.kdl.specs.DocumentLookups.{nodes_of};
+ghost use Rattle.kdl.specs.Iterators.{child_nodes};
+ghost use Rattle.kdl.specs.Nodes.{ChildPut, IsPut, PrintsPut, PrintsWithout};
+ghost use Rattle.kdl.specs.Tree.{node_tree};
+ghost use Rattle.kdl.specs.declared.document.KdlDocument.{out-KdlDocument};
+ghost use Rattle.std.specs.List.{remove};
+ghost use Rattle.std.specs.Prelude.{◌≡◌, ◌<◌, ◌≤◌, OnOk, Some, length, slice_get};
+
+use kdl::{KdlDocument, KdlNode};
+use std::alloc::AllocError;
+
+/// `KdlDocument::insert_node`: the nodes afterwards, and what is printed.
+pub fn insert_node(
+    document: &mut KdlDocument,
+    index: usize,
+    node: KdlNode,
+) -> Result<(), (KdlNode, AllocError)>
+    requires { index ≤ length (nodes_of document.old) }
+    ensures nodes { OnOk result (IsPut index (node_tree node) document.old document.new) }
+    ensures prints { OnOk result (PrintsPut index node document.old document.new) }
+{
+    document.insert_node(index, node)
+}
+
+/// `KdlDocument::remove_node`: the nodes afterwards, the one that comes back, and what is printed.
+pub fn remove_node(document: &mut KdlDocument, index: usize) -> KdlNode
+    requires { index < length (nodes_of document.old) }
+    ensures nodes { nodes_of document.new ≡ remove (nodes_of document.old) index }
+    ensures rest { document.new ≡ with_nodes document.old (out-KdlDocument document.new).nodes }
+    ensures value { slice_get (nodes_of document.old) index ≡ Some result }
+    ensures prints { PrintsWithout index result document.old document.new }
+{
+    document.remove_node(index)
+}
+
+/// `KdlNode::push_child`: the children afterwards.
+pub fn push_child(node: &mut KdlNode, child: KdlNode) -> Result<(), (KdlNode, AllocError)>
+    ensures { OnOk result (ChildPut (length (child_nodes node.old)) child node.old node.new) }
+{
+    node.push_child(child)
+}
