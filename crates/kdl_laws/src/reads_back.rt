@@ -1,10 +1,11 @@
 //! What reads back: documents and nodes from the text that they print, entries in any node.
 
 ghost use Rattle.kdl.specs.DocumentLookups.{nodes_of};
+ghost use Rattle.kdl.specs.Fields.{block_of};
 ghost use Rattle.kdl.specs.ReadsBack.{BlockReadsBack, DocumentReadsBack, EntryReadsBack, IsUnformed, NodeEnds, NodeReadsBack, respelled};
 ghost use Rattle.kdl.specs.Tree.{document_prints, document_says, node_prints, node_says};
 ghost use Rattle.kdl.specs.declared.document.KdlDocument.{KdlDocument};
-ghost use Rattle.kdl.specs.declared.node.KdlNode.{KdlNode, out-KdlNode};
+ghost use Rattle.kdl.specs.declared.node.KdlNode.{KdlNode};
 ghost use Rattle.kdl_entry.specs.Tree.{Entry, entry_tree, plain_entry, plain_identifier};
 ghost use Rattle.kdl_entry.specs.declared.entry.KdlEntry.{KdlEntry};
 ghost use Rattle.kdl_grammar.specs.Data.{first, none};
@@ -47,7 +48,7 @@ pub fn ended_reads_back()
 #[tactic(auto, using(kdl::proofs::ReadingBack::block_reads_back))]
 pub fn block_reads_back()
     ensures { (n : KdlNode) (d : KdlDocument) → NodeReadsBack n
-        → (out-KdlNode n).children ≡ Some d → BlockReadsBack d }
+        → block_of n ≡ Some d → BlockReadsBack d }
 {}
 
 /// An entry with neither a format nor a spelling reads back in any node.
