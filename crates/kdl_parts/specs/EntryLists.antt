@@ -23,7 +23,7 @@ sought (Index n) = argument n
 
 -- the bytes of the name that a key looks for, none where it looks for an argument
 abbrev pub key_name : NodeKey → Option (List ℕ)
-key_name (Key k) = Some (string_bytes k.value)
+key_name (Key k) = Some (string_bytes (string_of k))
 key_name (Index n) = None
 
 -- the place of the argument that is sought, none where a property is
