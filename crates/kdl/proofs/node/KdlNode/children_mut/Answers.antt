@@ -1,6 +1,7 @@
 use Rattle.std.proofs.Common.{rules, refl}
-use Rattle.kdl.proofs.PiecesExchanged.{block_exchanges}
+use Rattle.kdl.specs.Fields.{block_of}
+use Rattle.kdl.proofs.PiecesExchanged.{block_exchanges, some_exchanges}
 use Rattle.kdl.proofs.node.KdlNode.children_mut.Goals as goal
 
 pub returns : goal.returns
-returns c = (search rules, record { writes_back = tt; value = refl; bytes = block_exchanges c.args.self.now })
+returns c = (search rules, record { writes_back = tt; value = refl; bytes = block_exchanges c.args.self.now; bytes_there = some_exchanges c.args.self.now (block_of c.args.self.now) refl })
