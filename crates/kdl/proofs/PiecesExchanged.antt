@@ -210,3 +210,8 @@ pub ensured_exchanges : (n : KdlNode) (o : Option KdlDocument) (r d : KdlDocumen
     → (e : KdlDocument) (p q : Text) → IsExchangedInDocument p q r e → IsExchangedInNode p q n (with_children n (Some e))
 ensured_exchanges n None r d h k s = absurd (cc)
 ensured_exchanges n (Some b) r d h k s = λ e p q x. block_exchanges n b e p q (sym h) (subst (λ (y : KdlDocument). IsExchangedInDocument p q y e) k x)
+
+-- so of the block that is there
+pub some_exchanges : (n : KdlNode) (o : Option KdlDocument) → o ≡ (out-KdlNode n).children → (e : KdlDocument) (p q : Text) → IsSome o → IfSome o (λ d. IsExchangedInDocument p q d e) → IsExchangedInNode p q n (with_children n (Some e))
+some_exchanges n None h e p q s x = absurd (cc)
+some_exchanges n (Some d) h e p q s x = block_exchanges n d e p q (sym h) x

@@ -1,13 +1,60 @@
 //! An edit in a nested block: all bytes of the text outside that piece stay.
 
-ghost use Rattle.kdl.specs.Words.{IsExchanged, document_prints, entry_tree, print_piece};
+ghost use Rattle.kdl.specs.Words.{IsExchanged, IsExchangedInDocument, IsExchangedInNode, document_prints, entry_tree, print_piece};
 ghost use Rattle.std.specs.Prelude.{IfSome};
 
-use kdl::{KdlDocument, KdlEntry, NodeKey};
+use kdl::{KdlDocument, KdlEntry, KdlNode, NodeKey};
 use std::mem::replace;
 
-/// Exchanges an entry of a child, the first node of a name in the block of the first node of a name, and gives the old
-/// one, or none where it is not there. The whole text differs in the piece of that entry alone.
+/// Exchanges an argument of a node with a format, and returns the old one, or none where there is none.
+pub fn exchange_entry(node: &mut KdlNode, index: usize, entry: KdlEntry) -> Option<KdlEntry>
+    ensures { IfSome result (λ old. IsExchangedInNode
+        (print_piece (entry_tree old)) (print_piece (entry_tree entry)) node.old node.new) }
+{
+    if node.format().is_none() {
+        return None;
+    }
+    let Some(place) = node.entry_mut(NodeKey::Index(index)) else {
+        return None;
+    };
+    Some(replace(place, entry))
+}
+
+/// The same in the first node of a name.
+pub fn exchange_in_document(
+    document: &mut KdlDocument,
+    name: &str,
+    index: usize,
+    entry: KdlEntry,
+) -> Option<KdlEntry>
+    ensures { IfSome result (λ old. IsExchangedInDocument
+        (print_piece (entry_tree old)) (print_piece (entry_tree entry)) document.old document.new) }
+{
+    let Some(node) = document.get_mut(name) else {
+        return None;
+    };
+    exchange_entry(node, index, entry)
+}
+
+/// The same in the first child of a name.
+#[tactic(auto, using(kdl::proofs::PiecesExchanged::block_exchanges))]
+pub fn exchange_in_block(
+    node: &mut KdlNode,
+    name: &str,
+    index: usize,
+    entry: KdlEntry,
+) -> Option<KdlEntry>
+    ensures { IfSome result (λ old. IsExchangedInNode
+        (print_piece (entry_tree old)) (print_piece (entry_tree entry)) node.old node.new) }
+{
+    let Some(block) = node.children_mut() else {
+        return None;
+    };
+    exchange_in_document(block, name, index, entry)
+}
+
+/// The same in the first child of a name, in the block of the first node of a name. The whole text differs in the piece
+/// of that argument alone.
 pub fn exchange_nested(
     document: &mut KdlDocument,
     outer: &str,
@@ -22,17 +69,5 @@ pub fn exchange_nested(
     let Some(node) = document.get_mut(outer) else {
         return None;
     };
-    let Some(block) = node.children_mut() else {
-        return None;
-    };
-    let Some(child) = block.get_mut(inner) else {
-        return None;
-    };
-    if child.format().is_none() {
-        return None;
-    }
-    let Some(place) = child.entry_mut(NodeKey::Index(index)) else {
-        return None;
-    };
-    Some(replace(place, entry))
+    exchange_in_block(node, inner, index, entry)
 }

@@ -131,6 +131,9 @@ impl KdlNode {
         ensures bytes { (d e : KdlDocument) (p q : Text) → result.now ≡ Some d →
             IsExchangedInDocument p q d e →
             IsExchangedInNode p q self.old (with_children self.old (Some e)) }
+        ensures bytes_there { (e : KdlDocument) (p q : Text) → IsSome result.now →
+            IfSome result.now (λ d. IsExchangedInDocument p q d e) →
+            IsExchangedInNode p q self.old (with_children self.old (Some e)) }
     {
         &mut self.children
     }
