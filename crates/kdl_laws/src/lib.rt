@@ -11,7 +11,7 @@ pub mod keys;
 pub mod layout;
 pub mod machine;
 pub mod nodes;
-pub mod reads_back;
+pub mod reading_back;
 pub mod values;
 
 pub use kdl_grammar::laws::{
