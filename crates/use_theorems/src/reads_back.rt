@@ -5,7 +5,7 @@ ghost use Rattle.kdl.specs.Words.{IsDocument, Nodes, document_says, entry_tree, 
 ghost use Rattle.std.specs.Prelude.{◌≡◌, IfOk, true};
 
 use kdl::{KdlDocument, KdlEntry, KdlValue, NodeKey, ParseFailure};
-use kdl_laws::reads_back::{document_reads_back, new_entries_are_unformed};
+use kdl_laws::reading_back::{document_reads_back, new_entries_are_unformed};
 use kdl_laws::values::values_are_well_formed;
 use std::alloc::{AllocError, Global};
 
