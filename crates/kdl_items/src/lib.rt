@@ -4,7 +4,6 @@
 
 mod dropped;
 mod item;
-mod lacks;
 mod machine;
 mod places;
 mod slices;
@@ -13,7 +12,6 @@ mod terminator;
 mod written;
 
 pub use item::{Item, Place};
-pub use lacks::{gap_lacks, place_lacks, terminator_lacks};
 pub use places::{gap_items, place_items};
 pub use terminator::line_comment;
 pub use written::{push_lines, push_tail, push_text};
