@@ -14,15 +14,25 @@ ghost use Rattle.kdl_parts.specs.Edits.{under};
 ghost use Rattle.kdl_parts.specs.EntryLists.{Sought, property};
 ghost use Rattle.kdl_text.specs.Chars.{Text};
 ghost use Rattle.kdl_value.specs.Data.{Value};
+ghost use Rattle.kdl_value.specs.Tree.{text_of};
 ghost use Rattle.kdl_value.specs.WellFormed.{IsWellFormed};
 ghost use Rattle.std.specs.List.{All};
-ghost use Rattle.std.specs.Prelude.{◌≡◌, None, Some, true};
+ghost use Rattle.std.specs.Prelude.{◌≡◌, None, Some, String, string_bytes, true};
+ghost use Rattle.std.specs.Str.{encode_utf8_all};
+ghost use Rattle.std.specs.declared.alloc.Global.{Global};
 
 /// A document that reads back prints a text that is a document with its data.
 #[tactic(auto, using(kdl::proofs::ReadingBack::document_derived))]
 pub fn document_reads_back()
     ensures { (d : KdlDocument) → DocumentReadsBack d
         → IsDocument true (document_prints d) (document_says d) }
+{}
+
+/// The text in memory that a document prints, where it reads back, is a document with its data.
+pub fn printed_reads_back()
+    ensures { (d : KdlDocument) (s : String Global)
+        → string_bytes s ≡ encode_utf8_all (document_prints d) → DocumentReadsBack d
+        → IsDocument true (text_of s) (document_says d) }
 {}
 
 /// A node that reads back prints a text that is a document with that node alone.
