@@ -2,10 +2,10 @@
 
 ghost use Rattle.kdl.specs.Change.{with_nodes};
 ghost use Rattle.kdl.specs.DocumentLookups.{nodes_of};
+ghost use Rattle.kdl.specs.Fields.{held_nodes};
 ghost use Rattle.kdl.specs.Iterators.{child_nodes};
 ghost use Rattle.kdl.specs.Nodes.{ChildPut, IsPut, PrintsPut, PrintsWithout};
 ghost use Rattle.kdl.specs.Tree.{node_tree};
-ghost use Rattle.kdl.specs.declared.document.KdlDocument.{out-KdlDocument};
 ghost use Rattle.std.specs.List.{remove};
 ghost use Rattle.std.specs.Prelude.{◌≡◌, ◌<◌, ◌≤◌, OnOk, Some, length, slice_get};
 
@@ -29,7 +29,7 @@ pub fn insert_node(
 pub fn remove_node(document: &mut KdlDocument, index: usize) -> KdlNode
     requires { index < length (nodes_of document.old) }
     ensures nodes { nodes_of document.new ≡ remove (nodes_of document.old) index }
-    ensures rest { document.new ≡ with_nodes document.old (out-KdlDocument document.new).nodes }
+    ensures rest { document.new ≡ with_nodes document.old (held_nodes document.new) }
     ensures value { slice_get (nodes_of document.old) index ≡ Some result }
     ensures prints { PrintsWithout index result document.old document.new }
 {

@@ -2,6 +2,7 @@
 
 ghost use Rattle.kdl.specs.DocumentLookups.{nodes_of};
 ghost use Rattle.kdl.specs.Change.{with_nodes};
+ghost use Rattle.kdl.specs.Fields.{held_nodes};
 ghost use Rattle.kdl.specs.Internal.Ends.{LeadingEnded, PutBehind, PutFirst, end_with, lead_with};
 ghost use Rattle.kdl.specs.Nodes.{IsPut, PrintsPut, PrintsWithout, said_with, said_without, texts_around};
 ghost use Rattle.kdl.specs.ReadsBack.{DocumentReadsBack, NodeReadsBack};
@@ -82,7 +83,7 @@ impl KdlDocument {
     pub fn remove_node(&mut self, index: usize) -> KdlNode
         requires { index < length (nodes_of self.old) }
         ensures nodes { nodes_of self.new ≡ remove (nodes_of self.old) index }
-        ensures rest { self.new ≡ with_nodes self.old (out-KdlDocument self.new).nodes }
+        ensures rest { self.new ≡ with_nodes self.old (held_nodes self.new) }
         ensures value { slice_get (nodes_of self.old) index ≡ Some result }
         ensures prints { PrintsWithout index result self.old self.new }
         ensures data { document_says self.new ≡ said_without index (document_says self.old) }
