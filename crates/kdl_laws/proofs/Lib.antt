@@ -22,3 +22,5 @@ pub mod PlaceItems
 pub mod SpansPrintNothing
 -- What two layouts make.
 pub mod TwoLayouts
+-- What a document prints is one document at most.
+pub mod PrintedOnce

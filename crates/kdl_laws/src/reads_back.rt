@@ -8,7 +8,7 @@ ghost use Rattle.kdl.specs.declared.document.KdlDocument.{KdlDocument};
 ghost use Rattle.kdl.specs.declared.node.KdlNode.{KdlNode};
 ghost use Rattle.kdl_entry.specs.Tree.{Entry, entry_tree, plain_entry, plain_identifier};
 ghost use Rattle.kdl_entry.specs.declared.entry.KdlEntry.{KdlEntry};
-ghost use Rattle.kdl_grammar.specs.Data.{first, none};
+ghost use Rattle.kdl_grammar.specs.Data.{Nodes, first, none};
 ghost use Rattle.kdl_grammar.specs.Grammar.{IsDocument};
 ghost use Rattle.kdl_parts.specs.Edits.{under};
 ghost use Rattle.kdl_parts.specs.EntryLists.{Sought, property};
@@ -23,6 +23,13 @@ ghost use Rattle.std.specs.Prelude.{◌≡◌, None, Some, true};
 pub fn document_reads_back()
     ensures { (d : KdlDocument) → DocumentReadsBack d
         → IsDocument true (document_prints d) (document_says d) }
+{}
+
+/// The text that a document prints is no other document: what it says is what that one says.
+#[tactic(auto, using(crate::proofs::PrintedOnce::printed_once))]
+pub fn document_reads_once()
+    ensures { (d : KdlDocument) (t : Text) (y : Nodes) → DocumentReadsBack d
+        → t ≡ document_prints d → IsDocument true t y → y ≡ document_says d }
 {}
 
 /// A node that reads back prints a text that is a document with that node alone.
