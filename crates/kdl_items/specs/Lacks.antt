@@ -1,5 +1,5 @@
 -- How many newlines a text around nodes lacks, so that whatever follows it is not part of it.
-use Rattle.std.specs.Prelude.{ℕ, ◌<◌, Bool, true, false, [], ◌++◌, Option, Some, None}
+use Rattle.std.specs.Prelude.{ℕ, ◌<◌, ◌≤◌, Bool, true, false, [], ◌++◌, Option, Some, None}
 use Rattle.kdl_text.specs.Chars.{Text, times}
 use Rattle.kdl_entry.specs.Places.{EntryLeading}
 use Rattle.kdl_grammar.specs.Grammar.{Terminator, Gap}
@@ -15,18 +15,18 @@ newlines k = times k 10
 abbrev pub Lacks : (Text → Type 0) → Text → ℕ → Type 0
 Lacks P t k = P (t ++ newlines k) × ((j : ℕ) → j < k → P (t ++ newlines j) → ⊥)
 
--- a gap lacks so many newlines; or the text is no gap
+-- a gap lacks so many newlines, at most two; or the text is no gap
 abbrev pub GapLacks : Text → Option ℕ → Type 0
-GapLacks t (Some k) = Gap true t [] × Lacks AddsNothing t k
+GapLacks t (Some k) = (k ≤ 2) × Gap true t [] × Lacks AddsNothing t k
 GapLacks t None = Gap true t [] → ⊥
 
 -- a terminator and then a gap
 abbrev pub Terminating : Text → Type 0
 Terminating t = (v : Text) × Terminator t v × Gap true v []
 
--- a terminator and the gap after it lack so many newlines; or the text is none
+-- a terminator and the gap after it lack so many newlines, at most two; or the text is none
 abbrev pub TerminatorLacks : Text → Option ℕ → Type 0
-TerminatorLacks t (Some k) = Terminating t × Lacks (Terminates Anything) t k
+TerminatorLacks t (Some k) = (k ≤ 2) × Terminating t × Lacks (Terminates Anything) t k
 TerminatorLacks t None = Terminating t → ⊥
 
 -- a text that is in the place of a node before what follows

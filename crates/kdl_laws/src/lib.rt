@@ -12,7 +12,7 @@ pub mod keys;
 pub mod layout;
 pub mod machine;
 pub mod nodes;
-pub mod reads_back;
+pub mod reading_back;
 pub mod said;
 pub mod spans;
 pub mod values;

@@ -4,7 +4,7 @@ ghost use Rattle.kdl.specs.ReadsBack.{NodeEnds};
 ghost use Rattle.std.specs.Prelude.{IfOk};
 
 use kdl::{KdlEntry, KdlIdentifier, KdlNode, KdlValue, NodeKey};
-use kdl_laws::reads_back::new_entries_are_unformed;
+use kdl_laws::reading_back::new_entries_are_unformed;
 use kdl_laws::values::values_are_well_formed;
 use std::alloc::{AllocError, Global};
 

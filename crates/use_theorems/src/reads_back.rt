@@ -1,22 +1,13 @@
 //! Edited documents: what they print reads back.
 
 ghost use Rattle.kdl.specs.ReadsBack.{DocumentReadsBack, respelled};
-ghost use Rattle.kdl.specs.Words.{IsDocument, Nodes, document_says, entry_tree, print_value, text_of, value_tree};
-ghost use Rattle.std.specs.Prelude.{◌≡◌, IfOk, true};
+ghost use Rattle.kdl.specs.Words.{entry_tree, print_value, text_of, value_tree};
+ghost use Rattle.std.specs.Prelude.{◌≡◌};
 
-use kdl::{KdlDocument, KdlEntry, KdlValue, NodeKey, ParseFailure};
-use kdl_laws::reads_back::{document_reads_back, new_entries_are_unformed};
+use kdl::{KdlDocument, KdlEntry, KdlValue, NodeKey};
+use kdl_laws::reading_back::new_entries_are_unformed;
 use kdl_laws::values::values_are_well_formed;
 use std::alloc::{AllocError, Global};
-
-/// The text of a document that reads back is a document with its data.
-pub fn printed(alloc: Global, document: &KdlDocument) -> Result<String, AllocError>
-    requires { DocumentReadsBack document.now }
-    ensures { IfOk result (λ out. IsDocument true (text_of out) (document_says document.now)) }
-{
-    document_reads_back();
-    Ok(document.to_string(alloc)?)
-}
 
 /// An argument more in the first node of a name.
 pub fn push_argument(
@@ -79,19 +70,17 @@ pub fn remove_property(
     Ok(())
 }
 
-/// Two arguments more, in a node in the block of another.
-pub fn push_two_in_block(
+/// An argument more, in a node in the block of another.
+pub fn push_in_block(
     document: &mut KdlDocument,
     outer: &str,
     inner: &str,
-    one: KdlValue,
-    other: KdlValue,
+    value: KdlValue,
 ) -> Result<(), AllocError>
     requires { DocumentReadsBack document.old }
     ensures { DocumentReadsBack document.new }
 {
-    values_are_well_formed(&one);
-    values_are_well_formed(&other);
+    values_are_well_formed(&value);
     new_entries_are_unformed();
     let Some(node) = document.get_mut(outer) else {
         return Ok(());
@@ -102,10 +91,7 @@ pub fn push_two_in_block(
     let Some(child) = block.get_mut(inner) else {
         return Ok(());
     };
-    let Ok(_) = child.push(KdlEntry::new(one)) else {
-        return Err(AllocError);
-    };
-    let Ok(_) = child.push(KdlEntry::new(other)) else {
+    let Ok(_) = child.push(KdlEntry::new(value)) else {
         return Err(AllocError);
     };
     Ok(())
@@ -123,37 +109,17 @@ fn respell(entry: &mut KdlEntry, value: KdlValue, spelling: String)
 }
 
 /// Another value as the first argument of the first node of a name, with its spelling.
-pub fn set_argument(
-    alloc: Global,
-    document: &mut KdlDocument,
-    name: &str,
-    value: KdlValue,
-) -> Result<(), AllocError>
-    requires { DocumentReadsBack document.old }
+pub fn set_argument(document: &mut KdlDocument, name: &str, value: KdlValue, spelling: String)
+    requires reads { DocumentReadsBack document.old }
+    requires spells { text_of spelling ≡ print_value (value_tree value) }
     ensures { DocumentReadsBack document.new }
 {
     values_are_well_formed(&value);
-    let spelling = value.to_string(alloc)?;
     let Some(node) = document.get_mut(name) else {
-        return Ok(());
+        return;
     };
     let Some(entry) = node.entry_mut(NodeKey::Index(0)) else {
-        return Ok(());
+        return;
     };
     respell(entry, value, spelling);
-    Ok(())
-}
-
-/// A text, with an argument more in the first node of a name, is a document.
-pub fn push_in_text(
-    alloc: Global,
-    text: &str,
-    name: &str,
-    value: KdlValue,
-) -> Result<String, ParseFailure>
-    ensures { IfOk result (λ out. (x : Nodes) × IsDocument true (text_of out) x) }
-{
-    let mut document = KdlDocument::parse(alloc, text)?;
-    push_argument(&mut document, name, value)?;
-    Ok(printed(alloc, &document)?)
 }

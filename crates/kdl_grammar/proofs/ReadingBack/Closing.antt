@@ -1,15 +1,15 @@
 -- What ends a line or a node, before any rest: it takes an LF that follows, or nothing of the rest.
-use Rattle.std.proofs.Common.{◌≡◌, ℕ, ◌<◌, Bool, true, false, ◌&&◌, ◌==◌, List, [], ◌∷◌, ◌++◌, length, Option, Some, refl, sym, ap, subst, ◌∙◌, ◌⊎◌, inl, inr, arith, append_assoc}
+use Rattle.std.proofs.Common.{◌≡◌, ℕ, Bool, true, false, ◌&&◌, ◌==◌, [], ◌∷◌, ◌++◌, refl, sym, ap, subst, ◌∙◌, ◌⊎◌, inl, inr, arith, append_assoc}
 use Rattle.std.proofs.lemmas.Bool.{eqb-true}
 use Rattle.std.proofs.lemmas.Bool.Decides.{nat_tests}
-use Rattle.kdl_text.specs.Chars.{Text, begins, starts, is_space, is_newline_char, is_banned, is_punctuation, is_identifier_char, Newline, crlf, one, Star, none, more, Plus, plus, space as a_space}
+use Rattle.kdl_text.specs.Chars.{Text, begins, starts, is_space, is_newline_char, is_banned, is_punctuation, is_identifier_char, Newline, crlf, one, Star, none, more, plus, space as a_space}
 use Rattle.kdl_text.specs.Internal.Here.{first}
-use Rattle.kdl_text.specs.Trivia.{Line, LineComment, line, Ws, block, EscEnd, Escline, escline, NodeSpace, Break, LineSpace, Slashdash, slashdash, ValueEnd}
+use Rattle.kdl_text.specs.Trivia.{Line, LineComment, line, Ws, block, EscEnd, escline, NodeSpace, Break, LineSpace, Slashdash, slashdash, ValueEnd}
 use Rattle.kdl_text.proofs.Looking.Ends.{then, end_star}
 use Rattle.kdl_value.specs.Data.{Value}
-use Rattle.kdl_entry.specs.Entries.{IsString, string, IsPlainValue, a_string, a_plain, IsType, parens, MaybeType, untyped, typed}
+use Rattle.kdl_entry.specs.Entries.{string, IsPlainValue, a_string, a_plain, parens, untyped, typed}
 use Rattle.kdl_entry.specs.Internal.Tokens.{Token, BeginsToken, t_space, t_newline, t_closing}
-use Rattle.kdl_entry.specs.Places.{DroppedEntry, dropped, EntryLeading, leading}
+use Rattle.kdl_entry.specs.Places.{dropped, EntryLeading, leading}
 use Rattle.kdl_entry.proofs.Lexing.StringUnique.{begins_piece, string_begins, plain_begins}
 use Rattle.kdl_entry.proofs.Lexing.TokenUnique.{token_det, no_token}
 use Rattle.kdl_entry.proofs.Moving.EntryEnds.{end_lines, end_spaces, end_some, end_slashdash, end_entry, end_dropped}

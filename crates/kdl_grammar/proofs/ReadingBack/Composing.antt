@@ -1,13 +1,12 @@
 -- What reads back, put together and taken apart.
-use Rattle.std.proofs.Common.{◌≡◌, ℕ, zero, suc, ◌+◌, ◌<◌, List, [], ◌∷◌, ◌++◌, length, take, drop, refl, arith}
+use Rattle.std.proofs.Common.{ℕ, zero, suc, ◌+◌, ◌<◌, List, [], ◌∷◌, ◌++◌, length, take, drop, arith}
 use Rattle.std.proofs.lemmas.List.Elements.{All-cons, All-nil}
 use Rattle.std.specs.Prelude.{slice_index_or}
 use Rattle.std.specs.List.{All}
 use Rattle.kdl_text.specs.Chars.{Text}
 use Rattle.kdl_entry.specs.Tree.{Entry}
-use Rattle.kdl_grammar.specs.Grammar.{Terminator}
-use Rattle.kdl_grammar.specs.ReadsBack.{Rests, Anything, TextEnd, BlockEnd, MayFollow, EntryReads, terminator_text, BeforeTerminator, EndReads, last_rests, NodeReads, reads, ChildrenRead, no_block, a_block, NodesRead, no_node, last_node, next_node, ContentReads, one_text, two_texts, with_nodes, BlockReads, block, DocumentReads}
-use Rattle.kdl_grammar.specs.Tree.{NodeFormat, Head, Node, node, Children, children, Document, document, Nodes, none, first, listed_nodes}
+use Rattle.kdl_grammar.specs.ReadsBack.{Rests, Anything, MayFollow, EntryReads, NodeReads, reads, a_block, NodesRead, no_node, last_node, next_node, BlockReads}
+use Rattle.kdl_grammar.specs.Tree.{Head, Node, node, Children, children, Document, Nodes, first, listed_nodes}
 
 -- before fewer rests
 pub weaker : {P Q : Rests} {n : Node} → NodeReads P n → ((r : Text) → MayFollow Q r → MayFollow P r) → NodeReads Q n

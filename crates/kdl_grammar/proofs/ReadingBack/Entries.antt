@@ -1,8 +1,7 @@
 -- Entries without format and spelling, entries with another value, and nodes made of a name read back.
-use Rattle.std.proofs.Common.{◌≡◌, true, false, ◌&&◌, ◌==◌, List, [], ◌∷◌, ◌++◌, Option, Some, None, option_map, refl, sym, ap, subst, ◌∙◌, append_assoc, append-nil}
+use Rattle.std.proofs.Common.{◌≡◌, true, List, [], ◌∷◌, ◌++◌, Option, Some, None, option_map, refl, sym, ap, subst, append-nil}
 use Rattle.std.proofs.lemmas.List.Elements.{All-nil}
-use Rattle.std.specs.List.{list_all}
-use Rattle.kdl_text.specs.Chars.{Text, Star, is_newline_char, is_scalar, Newline}
+use Rattle.kdl_text.specs.Chars.{Text, Star, is_newline_char, Newline}
 use Rattle.kdl_text.specs.Trivia.{ValueEnd}
 use Rattle.kdl_text.specs.declared.span.SourceSpan.{SourceSpan}
 use Rattle.kdl_value.specs.Data.{Value}
@@ -10,18 +9,18 @@ use Rattle.kdl_value.specs.Print.{print_value}
 use Rattle.kdl_value.specs.WellFormed.{IsWellFormed}
 use Rattle.kdl_entry.specs.Data as entry_data'
 use Rattle.kdl_entry.specs.Entries.{IsString, IsPlainValue, untyped, IsIdentifierText}
-use Rattle.kdl_entry.specs.Formless.{IsFormless, formed_identifier, formed}
+use Rattle.kdl_entry.specs.Formless.{IsFormless, formed}
 use Rattle.kdl_entry.specs.Print.{print_identifier, print_type, print_key}
-use Rattle.kdl_entry.specs.Tree.{Identifier, EntryFormat, Entry, cleared, unspelled, unspelled_names}
+use Rattle.kdl_entry.specs.Tree.{Identifier, EntryFormat, Entry, unspelled}
 use Rattle.kdl_entry.proofs.Laying.FormlessLaid.{formless_stands}
-use Rattle.kdl_entry.proofs.Laying.ValueReadsBack.{printed_string, printed_value}
+use Rattle.kdl_entry.proofs.Laying.ValueReadsBack.{printed_value}
 use Rattle.kdl_entry.proofs.Moving.EntryMoves.{move_string}
 use Rattle.kdl_entry.proofs.Moving.Puts.{same_piece}
 use Rattle.kdl_grammar.specs.Data as data'
-use Rattle.kdl_grammar.specs.Grammar.{Terminator, named, AfterName, Gap, no_gap}
-use Rattle.kdl_grammar.specs.Places.{AfterChildren, after, BeforeChildren, before}
-use Rattle.kdl_grammar.specs.ReadsBack.{Anything, front_text, value_text, entry_trailing, entry_with, EntryReads, HeadReads, Terminates, EndReads, NodeReads, reads, no_block}
-use Rattle.kdl_grammar.specs.Tree.{NodeFormat, Head, Node, node, no_children}
+use Rattle.kdl_grammar.specs.Grammar.{Terminator, named, AfterName, no_gap}
+use Rattle.kdl_grammar.specs.Places.{after, before}
+use Rattle.kdl_grammar.specs.ReadsBack.{Anything, front_text, value_text, entry_trailing, entry_with, EntryReads, Terminates, NodeReads, reads, no_block}
+use Rattle.kdl_grammar.specs.Tree.{NodeFormat, node, no_children}
 use Rattle.kdl_grammar.proofs.ReadingBack.LaidReads.{entry_reads}
 
 -- an entry with the same front and value

@@ -1,9 +1,9 @@
 -- What is laid in a text reads back wherever it may be.
-use Rattle.std.proofs.Common.{◌≡◌, ℕ, ◌+◌, ◌<◌, Bool, true, false, List, [], ◌∷◌, ◌++◌, length, Option, Some, option_map, refl, sym, ap, subst, ◌∙◌, append_assoc, append-nil, length-append, arith}
+use Rattle.std.proofs.Common.{◌≡◌, ℕ, Bool, true, false, List, [], ◌∷◌, ◌++◌, length, Option, Some, option_map, refl, sym, ap, subst, ◌∙◌, append_assoc, append-nil, length-append, arith}
 use Rattle.std.proofs.lemmas.List.Elements.{All-cons, All-nil}
 use Rattle.std.proofs.lemmas.List.{append_cancel_right}
 use Rattle.std.specs.List.{All}
-use Rattle.kdl_text.specs.Chars.{Text, Star, begins}
+use Rattle.kdl_text.specs.Chars.{Text, Star}
 use Rattle.kdl_text.specs.Internal.Here.{first as first_char}
 use Rattle.kdl_text.specs.Trivia.{LineSpace, ValueEnd}
 use Rattle.kdl_text.specs.declared.span.SourceSpan.{SourceSpan}
@@ -19,19 +19,19 @@ use Rattle.kdl_entry.proofs.Laying.LaidPrints.{identifier_printed, type_printed,
 use Rattle.kdl_entry.proofs.Laying.Respanned.{free_identifier, free_type, free_entry}
 use Rattle.kdl_entry.proofs.Moving.EntryEnds.{end_plain}
 use Rattle.kdl_entry.proofs.Moving.EntryMoves.{move_identifier, move_laid_type, move_plain, is_move_value, punctuation_end}
-use Rattle.kdl_entry.proofs.Moving.Puts.{Put, same, same_piece, first_piece, is_move}
+use Rattle.kdl_entry.proofs.Moving.Puts.{same, same_piece, first_piece, is_move}
 use Rattle.kdl_grammar.specs.Data as data'
-use Rattle.kdl_grammar.specs.Grammar.{Terminator, IsNode, named, AfterName, Gap, no_gap, AreNodes}
+use Rattle.kdl_grammar.specs.Grammar.{Terminator, IsNode, named, AfterName, Gap, AreNodes}
 use Rattle.kdl_grammar.specs.Laid.{node_format, LaidEntries, no_entry, an_entry, LaidNode, laid_node, LaidChildren, no_block as laid_no_block, a_block as laid_a_block, LaidNodes, no_node as no_laid, a_node, LaidContent, without_nodes, with_nodes as laid_nodes, LaidDocument, with_bom, LaidNodeText, laid_node_text}
-use Rattle.kdl_grammar.specs.Places.{BeforeChildren, AfterChildren}
-use Rattle.kdl_grammar.specs.ReadsBack.{Rests, Anything, TextEnd, BlockEnd, MayFollow, EntryReads, name_text, HeadReads, terminator_text, NodesEnd, Terminates, BeforeTerminator, EndReads, last_rests, NodeReads, reads, ChildrenRead, no_block, a_block, NodesRead, no_node, last_node, next_node, ContentReads, one_text, with_nodes, BlockReads, block, DocumentReads}
-use Rattle.kdl_grammar.specs.Tree.{NodeFormat, Head, Node, node, Children, no_children, children, Document, document, Nodes, none, first}
+use Rattle.kdl_grammar.specs.Places.{BeforeChildren}
+use Rattle.kdl_grammar.specs.ReadsBack.{Rests, Anything, TextEnd, BlockEnd, MayFollow, EntryReads, name_text, HeadReads, terminator_text, Terminates, BeforeTerminator, EndReads, last_rests, NodeReads, reads, ChildrenRead, no_block, a_block, NodesRead, last_node, next_node, ContentReads, one_text, with_nodes, BlockReads, block, DocumentReads}
+use Rattle.kdl_grammar.specs.Tree.{NodeFormat, Head, Node, Children, Document, Nodes, none, first}
 use Rattle.kdl_grammar.proofs.Laying.LaidIsDerived.{first_entry, node_of}
-use Rattle.kdl_grammar.proofs.Moving.Moves.{MoveEnd, move_before, move_after, move_gap, move_terminator, terminator_end}
+use Rattle.kdl_grammar.proofs.Moving.Moves.{move_before, move_after, move_gap, move_terminator, terminator_end}
 use Rattle.kdl_grammar.proofs.Reading.Complete.{lines_gap}
 use Rattle.kdl_grammar.proofs.ReadingBack.Reads.{gap_nodes}
 use Rattle.kdl_grammar.proofs.ReadingBack.Following.{Follows, put_follows, shift_leading, shift_type, shift_key, is_shift}
-use Rattle.kdl_grammar.proofs.ReadingBack.Closing.{Closing, terminator_closes, closing_terminates, begins_here, Front, value_front, node_front, close_gap, end_gap, leading_ends}
+use Rattle.kdl_grammar.proofs.ReadingBack.Closing.{terminator_closes, closing_terminates, begins_here, Front, value_front, node_front, close_gap, end_gap, leading_ends}
 
 -- what is in its own text
 here : {R : Text → Text → Type 0} {p s r : Text} → Is R p s r → R (p ++ r) r

@@ -3,17 +3,15 @@ use Rattle.std.proofs.Common.{◌≡◌, ℕ, zero, suc, ◌+◌, ◌*◌, true,
 use Rattle.std.specs.List.{All}
 use Rattle.kdl_text.specs.Chars.{Text, is_space, is_newline_char, Newline, space as a_space}
 use Rattle.kdl_text.specs.Trivia.{LineSpace, NodeSpace, Ws, Break, ValueEnd}
-use Rattle.kdl_entry.specs.Data as entry_data'
-use Rattle.kdl_entry.specs.Print.{print_type, print_key, print_formatted}
+use Rattle.kdl_entry.specs.Print.{print_formatted}
 use Rattle.kdl_entry.specs.Tree.{Entry, EntryFormat, entry_data}
 use Rattle.kdl_grammar.specs.Data as data'
 use Rattle.kdl_grammar.specs.Grammar.{AfterName, Gap, no_gap, line_space, dropped_node, AreNodes, last_gap, node_then, IsBlock, braces, IsDocument}
-use Rattle.kdl_grammar.specs.Places.{AfterChildren}
 use Rattle.kdl_grammar.specs.Print.{leading_text, trailing_text, spaces, spaced, print_piece, print_pieces, head_text, print_head, before_block, end_text, after_brace, before_brace, format_of, print_tail, print_node, print_nodes, print_document, print_block}
 use Rattle.kdl_grammar.specs.ReadsBack.{Rests, TextEnd, MayFollow, front_text, value_text, entry_trailing, EntryReads, name_text, terminator_text, NodesEnd, BeforeTerminator, NodeReads, reads, ChildrenRead, no_block, a_block, NodesRead, no_node, last_node, next_node, ContentReads, one_text, two_texts, with_nodes, BlockReads, block, DocumentReads}
-use Rattle.kdl_grammar.specs.Tree.{NodeFormat, DocumentFormat, Head, Node, node, Children, no_children, children, Document, document, Nodes, none, first, node_data, children_data, document_data, nodes_data}
+use Rattle.kdl_grammar.specs.Tree.{NodeFormat, Head, Node, node, Children, no_children, children, Document, document, Nodes, first, node_data, children_data, document_data, nodes_data}
 use Rattle.kdl_grammar.proofs.Laying.LaidIsDerived.{plain_of, braced_of, later_of}
-use Rattle.kdl_grammar.proofs.Moving.Moves.{before_end, after_end, terminator_end}
+use Rattle.kdl_grammar.proofs.Moving.Moves.{before_end, terminator_end}
 use Rattle.kdl_entry.proofs.Moving.EntryMoves.{punctuation_end}
 
 -- gaps in a row

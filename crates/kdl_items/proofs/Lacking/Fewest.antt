@@ -231,4 +231,4 @@ fewer_not P t (suc k) m f j h p = f k refl (climb (k - j) j (omega (arith, h)) p
 
 pub gap_answer : (t : Text) (o : Option ℕ) → GapAnswer t o → GapLacks t o
 gap_answer t None f = f
-gap_answer t (Some k) (g, f, few) = (g, (f, fewer_not AddsNothing t k (adds_more t) (λ j e p. some_nodes (few j e (first a none) (p letter [] (first a none) (inl refl) letter_node)))))
+gap_answer t (Some k) (b, g, f, few) = (b, g, (f, fewer_not AddsNothing t k (adds_more t) (λ j e p. some_nodes (few j e (first a none) (p letter [] (first a none) (inl refl) letter_node)))))

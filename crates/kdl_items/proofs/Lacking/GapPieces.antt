@@ -127,10 +127,11 @@ with_none : (s : Text) → AddsNothing s → AddsNothing (s ++ newlines 0)
 with_none s f r z xs e ds = subst (λ (y : Text). AreNodes true (y ++ r) z xs) (sym (append-nil s)) (f r z xs e ds)
 
 pub spaces_in_return : (s : Text) → EndsAs LineSpace s (Some InReturn) → PieceEnds s (Some (Last 0))
-spaces_in_return s k = (one_line (subst (λ (y : Text). LineSpace y []) (append-nil s) (k.alone [] refl)), with_none s (return_adds k), fewest_none s)
+spaces_in_return s k = (omega arith, one_line (subst (λ (y : Text). LineSpace y []) (append-nil s) (k.alone [] refl)), with_none s (return_adds k), fewest_none s)
 
 pub spaces_open : (s : Text) → EndsAs LineSpace s (Some Open) → PieceEnds s (Some (Last 1))
 spaces_open s k = (
+  omega arith,
   one_line k.alone,
   λ r z xs e ds. subst (λ (y : Text). AreNodes true y z xs) (sym (append_assoc s (10 ∷ []) r)) (in_front (one_line (k.ended r)) ds),
   fewest_at s 1 0 refl (λ xs ds. swallowed k.swallows (subst (λ (y : Text). AreNodes true (y ++ letter) [] xs) (append-nil s) ds)),
@@ -502,13 +503,13 @@ node_open s b y rest e true f (EndsAt.returns {u = u} {v = v} p i x z o) k h l =
     absurd (no_lf_spaces [] (subst (λ (c : Text). Star NodeSpace (c ++ (10 ∷ [])) []) g (l [])))
 node_open s b y rest e false f (EndsAt.returns {u = u} {v = v} p i x z o) k h l =
     let q = subst (λ (c : Bool). HasOpenEnd u v c) h o in
-    subst (λ (c : Text). PieceEnds c (Some (Last 1))) (sym f) (open_gap p i q, open_adds p i q, open_fewest p i q)
+    subst (λ (c : Text). PieceEnds c (Some (Last 1))) (sym f) (omega arith, open_gap p i q, open_adds p i q, open_fewest p i q)
 node_open s b y rest e true f (EndsAt.ends {w = w} p x z o) k h l =
     let g : rest ≡ w = (k z.0 w z.1 z.2).1 in
-    subst (λ (c : Text). PieceEnds c (Some (Last 2))) (sym f) (last_gap_all p, last_two p (subst (λ (c : Text). SpacesLack c true) g l), two_fewest p (subst (λ (c : Text). SpacesLack c true) g l))
+    subst (λ (c : Text). PieceEnds c (Some (Last 2))) (sym f) (omega arith, last_gap_all p, last_two p (subst (λ (c : Text). SpacesLack c true) g l), two_fewest p (subst (λ (c : Text). SpacesLack c true) g l))
 node_open s b y rest e false f (EndsAt.ends {w = w} p x z o) k h l =
     let g : rest ≡ w = (k z.0 w z.1 z.2).1 in
-    subst (λ (c : Text). PieceEnds c (Some (Last 1))) (sym f) (last_gap_all p, last_one p (subst (λ (c : Text). SpacesLack c false) g l), one_fewest p (subst (λ (c : Text). SpacesLack c false) g l))
+    subst (λ (c : Text). PieceEnds c (Some (Last 1))) (sym f) (omega arith, last_gap_all p, last_one p (subst (λ (c : Text). SpacesLack c false) g l), one_fewest p (subst (λ (c : Text). SpacesLack c false) g l))
 
 pub node_none : (s b : Text) → s ≡ 47 ∷ 45 ∷ b → AnswersDroppedNode b None → PieceEnds s None
 node_none s b f k = λ g. let h = gap_has (subst (λ (y : Text). Gap true y []) f g) in node_refused k h.0 h.1
@@ -517,10 +518,11 @@ node_none s b f k = λ g. let h = gap_has (subst (λ (y : Text). Gap true y []) 
 pub gap_end : (s t : Text) → Through s t → t ≡ [] → GapEnds s 0
 gap_end s t k e =
     let g : Gap true t [] = subst (λ (y : Text). Gap true y []) (sym e) no_gap in
-    (k.back g, with_none s (λ r z xs f ds. k.adds g r z xs f (subst (λ (y : Text). AreNodes true (y ++ r) z xs) (sym e) ds)), fewest_none s)
+    (omega arith, k.back g, with_none s (λ r z xs f ds. k.adds g r z xs f (subst (λ (y : Text). AreNodes true (y ++ r) z xs) (sym e) ds)), fewest_none s)
 
 pub gap_last : (s t : Text) (k : ℕ) → Through s t → GapEnds t k → GapEnds s k
-gap_last s t k q (g, f, few) = (
+gap_last s t k q (b, g, f, few) = (
+  b,
   q.back g,
   λ r z xs e ds.
       subst (λ (y : Text). AreNodes true y z xs) (sym (append_assoc s (newlines k) r)) (q.adds g (newlines k ++ r) z xs e (subst (λ (y : Text). AreNodes true y z xs) (append_assoc t (newlines k) r) (f r z xs e ds))),

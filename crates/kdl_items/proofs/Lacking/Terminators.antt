@@ -37,7 +37,8 @@ fewer t k f = fewer_not (Terminates Anything) t k (ends_more t) (λ j e p. let (
 
 semicolon_lacks : (r : Text) (o : Option ℕ) → GapAnswer r o → TerminatorLacks (59 ∷ r) o
 semicolon_lacks r None f = λ (v, t, g). f (subst (λ (y : Text). Gap true y []) (behind t) g)
-semicolon_lacks r (Some k) (g, f, few) = (
+semicolon_lacks r (Some k) (b, g, f, few) = (
+  b,
   (r, Terminator.semicolon, g),
   (
     λ w z xs x e ds. ((r ++ newlines k) ++ w, Terminator.semicolon, f w z xs e ds),
@@ -74,7 +75,8 @@ break_only b Terminator.at_close = absurd (brace_break b)
 
 break_lacks : (t r : Text) (o : Option ℕ) → ((w : Text) → Break (t ++ w) (r ++ w)) → GapAnswer r o → TerminatorLacks t o
 break_lacks t r None b f = λ (v, m, g). f (subst (λ (y : Text). Gap true y []) (break_only (alone Break t r (b [])) m) g)
-break_lacks t r (Some k) b (g, f, few) = (
+break_lacks t r (Some k) b (bound, g, f, few) = (
+  bound,
   (r, break_terminator (alone Break t r (b [])), g),
   (
     λ w z xs i e ds. (
@@ -96,6 +98,7 @@ return_alone t e x n =
     let at = break_at (begins_two 47 47 t) t e refl (rest_is t e x) in
     let at_cr = λ (w : Text) (h : begins 10 w ≡ false). at w w (subst (λ (y : Text). Newline (y ++ w) w) (sym n) (cr w h)) in
     let at_crlf = λ (w : Text). at (10 ∷ w) w (subst (λ (y : Text). Newline (y ++ (10 ∷ w)) w) (sym n) crlf) in (
+      omega arith,
       ([], break_terminator (subst (λ (y : Text). Break y []) (append-nil t) (at_cr [] refl)), no_gap),
       (λ w z xs i e ds. go w z xs e ds at_cr at_crlf (begins 10 w) refl, λ j h. absurd (omega (arith, h))),
     )
@@ -129,6 +132,7 @@ open_letter false t e h x y {v} m ds = absurd (letter_terminator (subst (λ (z :
 pub open_alone : (t e : Text) → e ≡ (if begins_two 47 47 t then line_end t else t) → LineEnds e (Some Open) → TerminatorLacks t (Some 1)
 open_alone t e x n =
     let b = begins_two 47 47 t in let h = rest_is t e x in (
+      omega arith,
       ([], open_terminator b t e refl h n, no_gap),
       (
         λ w z xs i f ds. (

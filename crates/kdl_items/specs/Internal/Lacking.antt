@@ -1,6 +1,6 @@
 -- How the answers of the readers of what a text lacks stand to the text.
 use Rattle.std.specs.Borrow.{Bor}
-use Rattle.std.specs.Prelude.{◌≡◌, ◌⊎◌, ℕ, suc, ◌<◌, Bool, true, false, List, [], ◌∷◌, ◌++◌, Option, Some, None, length}
+use Rattle.std.specs.Prelude.{◌≡◌, ◌⊎◌, ℕ, suc, ◌<◌, ◌≤◌, Bool, true, false, List, [], ◌∷◌, ◌++◌, Option, Some, None, length}
 use Rattle.std.specs.Str.{chars}
 use Rattle.kdl_text.specs.Chars.{Text, begins, Newline, Star, Plus}
 use Rattle.kdl_text.specs.Trivia.{NodeSpace, Break, ValueEnd}
@@ -70,9 +70,9 @@ pub record Through (s r : Text) : Type 0 where
 abbrev pub Fewest : Text → ℕ → Type 0
 Fewest s k = (j : ℕ) → suc j ≡ k → (xs : Nodes) → AreNodes true ((s ++ newlines j) ++ letter) [] xs → xs ≡ none
 
--- a gap lacks so many newlines
+-- a gap lacks so many newlines, at most two
 abbrev pub GapEnds : Text → ℕ → Type 0
-GapEnds s k = Gap true s [] × AddsNothing (s ++ newlines k) × Fewest s k
+GapEnds s k = (k ≤ 2) × Gap true s [] × AddsNothing (s ++ newlines k) × Fewest s k
 
 -- it does; or the text is none
 abbrev pub GapAnswer : Text → Option ℕ → Type 0

@@ -20,7 +20,7 @@ returns c = (
   record {
     writes_back = tt;
     found = found (block_of c.args.self.now) _ _ c.get_or_insert.ensures.value;
-    made = made (block_of c.args.self.now) _ _ c.get_or_insert.ensures.value c.new.ensures;
+    made = made (block_of c.args.self.now) _ _ c.get_or_insert.ensures.value c.new.ensures.made;
     bytes = ensured_exchanges c.args.self.now (block_of c.args.self.now) _ _ refl c.get_or_insert.ensures.value;
   },
 )
