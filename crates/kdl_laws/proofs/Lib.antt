@@ -24,3 +24,7 @@ pub mod SpansPrintNothing
 pub mod TwoLayouts
 -- What a document prints is one document at most.
 pub mod PrintedOnce
+-- What a document says once a property of one of its nodes is set.
+pub mod SetInData
+-- The nodes of a document that reads back have formats.
+pub mod NodesHaveFormats

@@ -1,7 +1,7 @@
 //! What reads back: documents and nodes from the text that they print, entries in any node.
 
-ghost use Rattle.kdl.specs.DocumentLookups.{nodes_of};
-ghost use Rattle.kdl.specs.Fields.{block_of};
+ghost use Rattle.kdl.specs.DocumentLookups.{node_named, nodes_of};
+ghost use Rattle.kdl.specs.Fields.{block_of, node_format_of};
 ghost use Rattle.kdl.specs.ReadsBack.{BlockReadsBack, DocumentReadsBack, EntryReadsBack, IsUnformed, NodeEnds, NodeReadsBack, respelled};
 ghost use Rattle.kdl.specs.Tree.{document_prints, document_says, node_prints, node_says};
 ghost use Rattle.kdl.specs.declared.document.KdlDocument.{KdlDocument};
@@ -16,7 +16,7 @@ ghost use Rattle.kdl_text.specs.Chars.{Text};
 ghost use Rattle.kdl_value.specs.Data.{Value};
 ghost use Rattle.kdl_value.specs.WellFormed.{IsWellFormed};
 ghost use Rattle.std.specs.List.{All};
-ghost use Rattle.std.specs.Prelude.{◌≡◌, None, Some, true};
+ghost use Rattle.std.specs.Prelude.{◌≡◌, IsSome, List, None, Some, true, ℕ};
 
 /// A document that reads back prints a text that is a document with its data.
 #[tactic(auto, using(kdl::proofs::ReadingBack::document_derived))]
@@ -43,6 +43,13 @@ pub fn node_reads_back()
 #[tactic(auto, using(kdl::proofs::ReadingBack::nodes_read_back))]
 pub fn nodes_read_back()
     ensures { (d : KdlDocument) → DocumentReadsBack d → All NodeReadsBack (nodes_of d) }
+{}
+
+/// A node that is found in a document that reads back has a format.
+#[tactic(auto, using(crate::proofs::NodesHaveFormats::named_formed))]
+pub fn found_node_has_format()
+    ensures { (s : List ℕ) (d : KdlDocument) (n : KdlNode) → DocumentReadsBack d
+        → Some n ≡ node_named s d → IsSome (node_format_of n) }
 {}
 
 /// A node that ends by itself reads back.

@@ -4,7 +4,7 @@ ghost use Rattle.kdl.specs.Words.{IsDocument, IsExchanged, IsSetInData, IsSyntax
 ghost use Rattle.std.specs.Prelude.{◌≡◌, [], IfOk, IsSome, List, None, codes, chars, true, ℕ};
 
 use kdl::{KdlDocument, KdlEntry, KdlValue, NodeKey, ParseFailure};
-use kdl_laws::reads_back::{document_reads_back, document_reads_once, new_entries_are_unformed};
+use kdl_laws::reading_back::{document_reads_back, document_reads_once, new_entries_are_unformed};
 use kdl_laws::said::property_set_is_said;
 use std::alloc::Global;
 
