@@ -14,9 +14,12 @@ ghost use Rattle.kdl_parts.specs.Edits.{under};
 ghost use Rattle.kdl_parts.specs.EntryLists.{Sought, property};
 ghost use Rattle.kdl_text.specs.Chars.{Text};
 ghost use Rattle.kdl_value.specs.Data.{Value};
+ghost use Rattle.kdl_value.specs.Tree.{text_of};
 ghost use Rattle.kdl_value.specs.WellFormed.{IsWellFormed};
 ghost use Rattle.std.specs.List.{All};
-ghost use Rattle.std.specs.Prelude.{◌≡◌, IsSome, List, None, Some, true, ℕ};
+ghost use Rattle.std.specs.Prelude.{◌≡◌, IsSome, List, None, Some, String, string_bytes, true, ℕ};
+ghost use Rattle.std.specs.Str.{encode_utf8_all};
+ghost use Rattle.std.specs.declared.alloc.Global.{Global};
 
 /// A document that reads back prints a text that is a document with its data.
 #[tactic(auto, using(kdl::proofs::ReadingBack::document_derived))]
@@ -25,11 +28,21 @@ pub fn document_reads_back()
         → IsDocument true (document_prints d) (document_says d) }
 {}
 
-/// The text that a document prints is no other document: what it says is what that one says.
-#[tactic(auto, using(crate::proofs::PrintedOnce::printed_once))]
-pub fn document_reads_once()
-    ensures { (d : KdlDocument) (t : Text) (y : Nodes) → DocumentReadsBack d
-        → t ≡ document_prints d → IsDocument true t y → y ≡ document_says d }
+/// The text in memory that a document prints, where it reads back, is a document with its data.
+pub fn printed_reads_back()
+    ensures { (d : KdlDocument) (s : String Global)
+        → string_bytes s ≡ encode_utf8_all (document_prints d) → DocumentReadsBack d
+        → IsDocument true (text_of s) (document_says d) }
+{}
+
+/// The text in memory that a document prints: its characters, and that it is a document with other data nowhere.
+#[tactic(auto, using(crate::proofs::PrintedOnce::printed, crate::proofs::PrintedOnce::printed_once))]
+pub fn printed_reads_once()
+    ensures text { (d : KdlDocument) (s : String Global)
+        → string_bytes s ≡ encode_utf8_all (document_prints d) → text_of s ≡ document_prints d }
+    ensures once { (d : KdlDocument) (s : String Global) (y : Nodes)
+        → string_bytes s ≡ encode_utf8_all (document_prints d) → DocumentReadsBack d
+        → IsDocument true (text_of s) y → y ≡ document_says d }
 {}
 
 /// A node that reads back prints a text that is a document with that node alone.

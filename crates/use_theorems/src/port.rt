@@ -4,7 +4,9 @@ ghost use Rattle.kdl.specs.Words.{IsDocument, IsExchanged, IsSetInData, IsSyntax
 ghost use Rattle.std.specs.Prelude.{◌≡◌, [], IfOk, IsSome, List, None, codes, chars, true, ℕ};
 
 use kdl::{KdlDocument, KdlEntry, KdlValue, NodeKey, ParseFailure};
-use kdl_laws::reading_back::{document_reads_back, document_reads_once, found_node_has_format, new_entries_are_unformed};
+use kdl_laws::reading_back::{
+    found_node_has_format, new_entries_are_unformed, printed_reads_back, printed_reads_once,
+};
 use kdl_laws::said::property_set_is_said;
 use std::alloc::Global;
 
@@ -29,8 +31,8 @@ pub fn set_port(alloc: Global, text: &str) -> Result<String, ParseFailure>
 {
     new_entries_are_unformed();
     property_set_is_said();
-    document_reads_back();
-    document_reads_once();
+    printed_reads_back();
+    printed_reads_once();
     found_node_has_format();
     let mut document = KdlDocument::parse(alloc, text)?;
     if let Some(server) = document.get_mut("server") {

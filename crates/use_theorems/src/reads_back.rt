@@ -1,13 +1,22 @@
 //! Edited documents: what they print reads back.
 
 ghost use Rattle.kdl.specs.ReadsBack.{DocumentReadsBack, respelled};
-ghost use Rattle.kdl.specs.Words.{entry_tree, print_value, text_of, value_tree};
-ghost use Rattle.std.specs.Prelude.{◌≡◌};
+ghost use Rattle.kdl.specs.Words.{IsDocument, Nodes, document_says, entry_tree, print_value, text_of, value_tree};
+ghost use Rattle.std.specs.Prelude.{◌≡◌, IfOk, true};
 
-use kdl::{KdlDocument, KdlEntry, KdlValue, NodeKey};
-use kdl_laws::reading_back::new_entries_are_unformed;
+use kdl::{KdlDocument, KdlEntry, KdlValue, NodeKey, ParseFailure};
+use kdl_laws::reading_back::{new_entries_are_unformed, printed_reads_back};
 use kdl_laws::values::values_are_well_formed;
 use std::alloc::{AllocError, Global};
+
+/// The text of a document that reads back is a document with its data.
+pub fn printed(alloc: Global, document: &KdlDocument) -> Result<String, AllocError>
+    requires { DocumentReadsBack document.now }
+    ensures { IfOk result (λ out. IsDocument true (text_of out) (document_says document.now)) }
+{
+    printed_reads_back();
+    Ok(document.to_string(alloc)?)
+}
 
 /// An argument more in the first node of a name.
 pub fn push_argument(
@@ -122,4 +131,18 @@ pub fn set_argument(document: &mut KdlDocument, name: &str, value: KdlValue, spe
         return;
     };
     respell(entry, value, spelling);
+}
+
+/// A text, with an argument more in the first node of a name, is a document.
+pub fn push_in_text(
+    alloc: Global,
+    text: &str,
+    name: &str,
+    value: KdlValue,
+) -> Result<String, ParseFailure>
+    ensures { IfOk result (λ out. (x : Nodes) × IsDocument true (text_of out) x) }
+{
+    let mut document = KdlDocument::parse(alloc, text)?;
+    push_argument(&mut document, name, value)?;
+    Ok(printed(alloc, &document)?)
 }
