@@ -35,7 +35,7 @@ pub fn printed_reads_back()
         → IsDocument true (text_of s) (document_says d) }
 {}
 
-/// The text in memory that a document prints: its characters, and that it is a document with other data nowhere.
+/// The text in memory that a document prints: it has those characters, and is no document with other data.
 #[tactic(auto, using(crate::proofs::PrintedOnce::printed, crate::proofs::PrintedOnce::printed_once))]
 pub fn printed_reads_once()
     ensures text { (d : KdlDocument) (s : String Global)
