@@ -1,5 +1,5 @@
 -- The nodes of a document that reads back have formats.
-use Rattle.std.proofs.Common.{◌≡◌, ℕ, zero, suc, Bool, true, false, cond, List, [], ◌∷◌, Option, Some, None, IsSome, option_map, refl, ap, ◌∙◌, sym, subst}
+use Rattle.std.proofs.Common.{◌≡◌, ℕ, Bool, true, false, cond, List, [], ◌∷◌, Option, Some, None, IsSome, option_map, refl, ap, ◌∙◌, sym, subst}
 use Rattle.std.proofs.lemmas.List.Elements.{All-head, All-tail}
 use Rattle.std.proofs.lemmas.Option.{none-some}
 use Rattle.std.specs.List.{All, find}
@@ -19,11 +19,11 @@ use Rattle.kdl.proofs.Trees.{node_tree_out}
 -- what holds of each holds of the one that is found
 find_all : {A : Type 0} (P : A → Type 0) (p : A → Bool) (xs : List A) (x : A) → All P xs → find p xs ≡ Some x → P x
 find_all P p [] x a h = absurd (none-some _ h)
-find_all {A = A} P p (y ∷ ys) x a h = go (p y) h
+find_all {A = A} P p (y ∷ ys) x a h = go (p y) h (find_all P p ys x (All-tail P y ys a))
   where
-    go : (b : Bool) → cond b (Some y) (find p ys) ≡ Some x → P x
-    go true k = let same : y ≡ x = cc in subst P same (All-head P y ys a)
-    go false k = find_all P p ys x (All-tail P y ys a) k
+    go : (b : Bool) → cond b (Some y) (find p ys) ≡ Some x → (find p ys ≡ Some x → P x) → P x
+    go true k later = let same : y ≡ x = cc in subst P same (All-head P y ys a)
+    go false k later = later k
 
 tree_format : Node → Option NodeFormat
 tree_format (node h k) = h.format
