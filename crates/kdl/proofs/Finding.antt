@@ -14,3 +14,5 @@ pub mod EntriesFound
 pub mod WritesFound
 -- What a document's look-ups find once an argument is written.
 pub mod NodesFound
+-- What a document says once a property of one of its nodes is set.
+pub mod SaidEdits

@@ -1,7 +1,7 @@
 -- What look-ups find in data: in what a document or a node says, whatever its form.
 use Rattle.std.specs.List.{filter, filter_map, find, last_or}
 use Rattle.std.specs.Option.{option_map_or}
-use Rattle.std.specs.Prelude.{ℕ, Bool, false, List, [], ◌∷◌, Option, Some, None, codes, is_none, map, option_and_then, option_map, slice_get, unwrap_or}
+use Rattle.std.specs.Prelude.{◌≡◌, ℕ, Bool, false, List, [], ◌∷◌, Option, Some, None, codes, is_none, map, option_and_then, option_map, slice_get, unwrap_or}
 use Rattle.kdl_text.specs.Chars.{Text}
 use Rattle.kdl_value.specs.Data.{Value}
 use Rattle.kdl_entry.specs.Data.{Entry}
@@ -94,3 +94,12 @@ said_property_in s r x = option_and_then (said_property r) (said_node s x)
 
 abbrev pub said_argument_in : Text → ℕ → Nodes → Option Value
 said_argument_in s i x = option_and_then (said_argument i) (said_node s x)
+
+-- y says what x says, but for the property r of the first node s, which has the value v
+pub record IsSetInData (s r : Text) (v : Value) (x y : Nodes) : Type 0 where
+  pub found : said_property_in s r y ≡ Some v
+  pub others : (q : Text) → (r ≡ q → ⊥) → said_property_in s q y ≡ said_property_in s q x
+  pub arguments : (i : ℕ) → said_argument_in s i y ≡ said_argument_in s i x
+  pub ty : option_and_then said_type (said_node s y) ≡ option_and_then said_type (said_node s x)
+  pub children : option_and_then said_children (said_node s y) ≡ option_and_then said_children (said_node s x)
+  pub nodes : (q : Text) → (s ≡ q → ⊥) → said_node q y ≡ said_node q x

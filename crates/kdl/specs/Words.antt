@@ -94,7 +94,7 @@ pub use Rattle.kdl_fmt.specs.Canonical.{Canonical, CanonicalNode, canonical, can
 pub use Rattle.kdl_parts.specs.EntryLists.{key_index, key_name}
 pub use Rattle.kdl.specs.Found.{IsAdded, IsArgumentSet, IsPutIn, IsSet, IsSetIn, IsTakenOut, IsTakenOutAt, argument_count, property_count, value_at, value_named}
 -- What look-ups find in what a document or a node says.
-pub use Rattle.kdl.specs.Said.{said_arg, said_argument, said_argument_in, said_arguments, said_args, said_child_nodes, said_children, said_dash_args, said_dashes, said_entries, said_entry, said_name, said_node, said_nodes, said_property, said_property_in, said_type, said_value}
+pub use Rattle.kdl.specs.Said.{IsSetInData, said_arg, said_argument, said_argument_in, said_arguments, said_args, said_child_nodes, said_children, said_dash_args, said_dashes, said_entries, said_entry, said_name, said_node, said_nodes, said_property, said_property_in, said_type, said_value}
 -- Documents, and nodes, in which look-ups find the same.
 pub use Rattle.kdl.specs.Finds.{FindsSame, GivesArgument, GivesProperty, NodeFindsSame}
 -- Where one piece of what is printed is exchanged, and no other character.

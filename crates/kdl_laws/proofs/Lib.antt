@@ -22,3 +22,9 @@ pub mod PlaceItems
 pub mod SpansPrintNothing
 -- What two layouts make.
 pub mod TwoLayouts
+-- What a document prints is one document at most.
+pub mod PrintedOnce
+-- What a document says once a property of one of its nodes is set.
+pub mod SetInData
+-- The nodes of a document that reads back have formats.
+pub mod NodesHaveFormats

@@ -13,6 +13,7 @@ pub mod layout;
 pub mod machine;
 pub mod nodes;
 pub mod reading_back;
+pub mod said;
 pub mod spans;
 pub mod values;
 

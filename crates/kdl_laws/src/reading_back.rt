@@ -1,14 +1,14 @@
 //! What reads back: documents and nodes from the text that they print, entries in any node.
 
-ghost use Rattle.kdl.specs.DocumentLookups.{nodes_of};
-ghost use Rattle.kdl.specs.Fields.{block_of};
+ghost use Rattle.kdl.specs.DocumentLookups.{node_named, nodes_of};
+ghost use Rattle.kdl.specs.Fields.{block_of, node_format_of};
 ghost use Rattle.kdl.specs.ReadsBack.{BlockReadsBack, DocumentReadsBack, EntryReadsBack, IsUnformed, NodeEnds, NodeReadsBack, respelled};
 ghost use Rattle.kdl.specs.Tree.{document_prints, document_says, node_prints, node_says};
 ghost use Rattle.kdl.specs.declared.document.KdlDocument.{KdlDocument};
 ghost use Rattle.kdl.specs.declared.node.KdlNode.{KdlNode};
 ghost use Rattle.kdl_entry.specs.Tree.{Entry, entry_tree, plain_entry, plain_identifier};
 ghost use Rattle.kdl_entry.specs.declared.entry.KdlEntry.{KdlEntry};
-ghost use Rattle.kdl_grammar.specs.Data.{first, none};
+ghost use Rattle.kdl_grammar.specs.Data.{Nodes, first, none};
 ghost use Rattle.kdl_grammar.specs.Grammar.{IsDocument};
 ghost use Rattle.kdl_parts.specs.Edits.{under};
 ghost use Rattle.kdl_parts.specs.EntryLists.{Sought, property};
@@ -17,7 +17,7 @@ ghost use Rattle.kdl_value.specs.Data.{Value};
 ghost use Rattle.kdl_value.specs.Tree.{text_of};
 ghost use Rattle.kdl_value.specs.WellFormed.{IsWellFormed};
 ghost use Rattle.std.specs.List.{All};
-ghost use Rattle.std.specs.Prelude.{◌≡◌, None, Some, String, string_bytes, true};
+ghost use Rattle.std.specs.Prelude.{◌≡◌, IsSome, List, None, Some, String, string_bytes, true, ℕ};
 ghost use Rattle.std.specs.Str.{encode_utf8_all};
 ghost use Rattle.std.specs.declared.alloc.Global.{Global};
 
@@ -35,6 +35,16 @@ pub fn printed_reads_back()
         → IsDocument true (text_of s) (document_says d) }
 {}
 
+/// The text in memory that a document prints: it has those characters, and is no document with other data.
+#[tactic(auto, using(crate::proofs::PrintedOnce::printed, crate::proofs::PrintedOnce::printed_once))]
+pub fn printed_reads_once()
+    ensures text { (d : KdlDocument) (s : String Global)
+        → string_bytes s ≡ encode_utf8_all (document_prints d) → text_of s ≡ document_prints d }
+    ensures once { (d : KdlDocument) (s : String Global) (y : Nodes)
+        → string_bytes s ≡ encode_utf8_all (document_prints d) → DocumentReadsBack d
+        → IsDocument true (text_of s) y → y ≡ document_says d }
+{}
+
 /// A node that reads back prints a text that is a document with that node alone.
 #[tactic(auto, using(kdl::proofs::ReadingBack::node_derived_alone))]
 pub fn node_reads_back()
@@ -46,6 +56,13 @@ pub fn node_reads_back()
 #[tactic(auto, using(kdl::proofs::ReadingBack::nodes_read_back))]
 pub fn nodes_read_back()
     ensures { (d : KdlDocument) → DocumentReadsBack d → All NodeReadsBack (nodes_of d) }
+{}
+
+/// A node that is found in a document that reads back has a format.
+#[tactic(auto, using(crate::proofs::NodesHaveFormats::named_formed))]
+pub fn found_node_has_format()
+    ensures { (s : List ℕ) (d : KdlDocument) (n : KdlNode) → DocumentReadsBack d
+        → Some n ≡ node_named s d → IsSome (node_format_of n) }
 {}
 
 /// A node that ends by itself reads back.

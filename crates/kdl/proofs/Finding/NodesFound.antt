@@ -73,12 +73,12 @@ other_node s r n h d = differ (string_bytes (out-KdlNode n).name.value) (is_node
     differ b false k q = refl
 
 -- the first node of that name, exchanged for one with the name that it had
-node_found : (s : List ℕ) (x n : KdlNode) (d : KdlDocument) → node_named s d ≡ Some x → (out-KdlNode n).name ≡ (out-KdlNode x).name → node_named s (with_node_named s d n) ≡ Some n
+pub node_found : (s : List ℕ) (x n : KdlNode) (d : KdlDocument) → node_named s d ≡ Some x → (out-KdlNode n).name ≡ (out-KdlNode x).name → node_named s (with_node_named s d n) ≡ Some n
 node_found s x n d h k =
     let is : is_node_named s n ≡ true = ap (λ i. same_text (string_bytes i.value) s) k ∙ find_holds (is_node_named s) (nodes_of d) x h in
     ap (find (is_node_named s)) (nodes_with s d x n (sym h)) ∙ exchange_found (is_node_named s) (nodes_of d) x n h is
 
-node_others : (s r : List ℕ) (x n : KdlNode) (d : KdlDocument) → node_named s d ≡ Some x → (out-KdlNode n).name ≡ (out-KdlNode x).name → (s ≡ r → ⊥) → node_named r (with_node_named s d n) ≡ node_named r d
+pub node_others : (s r : List ℕ) (x n : KdlNode) (d : KdlDocument) → node_named s d ≡ Some x → (out-KdlNode n).name ≡ (out-KdlNode x).name → (s ≡ r → ⊥) → node_named r (with_node_named s d n) ≡ node_named r d
 node_others s r x n d h k q =
     let is : is_node_named s n ≡ true = ap (λ i. same_text (string_bytes i.value) s) k ∙ find_holds (is_node_named s) (nodes_of d) x h in
     ap (find (is_node_named r)) (nodes_with s d x n (sym h)) ∙ exchange_other (is_node_named s) (is_node_named r) (nodes_of d) n (other_node s r n is q) (λ y t. other_node s r y t q)

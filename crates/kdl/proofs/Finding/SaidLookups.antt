@@ -144,10 +144,10 @@ same_encoded s = record { same = λ b u. ap (λ t. same_text t s) (sym (encodes-
 abbrev pub entry_says : KdlEntry → data'.Entry
 entry_says e = entry_data (entry_tree e)
 
-abbrev value_in : data'.Entry → Value
+abbrev pub value_in : data'.Entry → Value
 value_in e = e.value
 
-abbrev is_tested : (Text → Bool) → data'.Entry → Bool
+abbrev pub is_tested : (Text → Bool) → data'.Entry → Bool
 is_tested q e = option_map_or q e.key false
 
 has_tested_name : (s : List ℕ) (q : Text → Bool) → Tests s q → (e : KdlEntry) → has_name s e ≡ is_tested q (entry_says e)
@@ -183,7 +183,7 @@ children_said n = go (out-KdlNode n).children ∙ ap (λ t. said_children (node_
     go (Some d) = refl
 
 -- the last property that the test finds, and the argument at a place
-property_tested : (s : List ℕ) (q : Text → Bool) → Tests s q → (n : KdlNode) → option_map entry_says (there (property_place s n) (entries_of n)) ≡ last_or None (filter (is_tested q) (said_entries (node_says n)))
+pub property_tested : (s : List ℕ) (q : Text → Bool) → Tests s q → (n : KdlNode) → option_map entry_says (there (property_place s n) (entries_of n)) ≡ last_or None (filter (is_tested q) (said_entries (node_says n)))
 property_tested s q t n =
     ap (option_map entry_says) (last_found (has_name s) (entries_of n))
     ∙ last_mapped entry_says (filter (has_name s) (entries_of n)) None
@@ -203,7 +203,7 @@ pub entry_said : (key : NodeKey) (n : KdlNode) → option_map entry_says (found_
 entry_said (Key k) n = last_property_said (string_bytes k.value) n (IsUtf8-string_bytes k.value)
 entry_said (Index i) n = nth_argument_said i n
 
-value_of_says : (o : Option KdlEntry) → value_of o ≡ option_map value_in (option_map entry_says o)
+pub value_of_says : (o : Option KdlEntry) → value_of o ≡ option_map value_in (option_map entry_says o)
 value_of_says o = value_mapped entry_says value_in o
 
 pub value_said : (key : NodeKey) (n : KdlNode) → found_value key n ≡ said_value (sought key) (node_says n)
@@ -259,7 +259,7 @@ named_tested : (s : List ℕ) (q : Text → Bool) → Tests s q → (n : KdlNode
 named_tested s q t n = t.same (string_bytes (out-KdlNode n).name.value) (IsUtf8-string_bytes (out-KdlNode n).name.value) ∙ ap q (name_said n)
 
 -- the first node that the test finds
-node_tested : (s : List ℕ) (q : Text → Bool) → Tests s q → (d : KdlDocument) → option_map node_says (node_named s d) ≡ find (λ n. q (said_name n)) (said_nodes (document_says d))
+pub node_tested : (s : List ℕ) (q : Text → Bool) → Tests s q → (d : KdlDocument) → option_map node_says (node_named s d) ≡ find (λ n. q (said_name n)) (said_nodes (document_says d))
 node_tested s q t d = find_mapped node_says (is_node_named s) (λ n. q (said_name n)) (named_tested s q t) (nodes_of d) ∙ ap (find (λ n. q (said_name n))) (nodes_said d)
 
 pub node_said : (s : List ℕ) (d : KdlDocument) → IsUtf8 s → option_map node_says (node_named s d) ≡ said_node (chars s) (document_says d)

@@ -92,6 +92,8 @@ impl KdlDocument {
         ensures* writes_back { sem 𝓛 (LendsIf the_row node_row self.entry result
             (with_node_named name.now self.old) self.old) }
         ensures value { option_map (λ n. n.now) result ≡ node_named name.now self.old }
+        ensures said { option_map (λ n. node_says n.now) result ≡
+            said_node (chars name.now) (document_says self.old) }
         // With a node in its place that reads back wherever it did, the document reads back where it did.
         ensures reads { IfSome result (λ n. (m : KdlNode) → ReadsAs n.now m
             → DocumentReadsBack self.old

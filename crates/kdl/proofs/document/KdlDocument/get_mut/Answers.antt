@@ -1,7 +1,9 @@
-use Rattle.std.proofs.Common.{◌≡◌, Some, ap, inl, length, position, refl, sym, ◌∙◌}
+use Rattle.std.proofs.Common.{◌≡◌, Some, ap, inl, length, option_map, position, refl, sym, ◌∙◌}
 use Rattle.std.proofs.lemmas.Option.{slice_get_read}
 use Rattle.kdl.specs.DocumentLookups.{is_node_named, node_named, nodes_of, with_node_there}
+use Rattle.kdl.specs.Tree.{node_says}
 use Rattle.kdl.proofs.Finding.DocumentLookups.{found_is, none_there}
+use Rattle.kdl.proofs.Finding.SaidLookups.{node_said}
 use Rattle.kdl.proofs.PiecesExchanged.{named_exchanges}
 use Rattle.kdl.proofs.ReadingBack.{named_reads}
 use Rattle.kdl.proofs.document.KdlDocument.get_mut.Goals as goal
@@ -15,10 +17,13 @@ returns-in-Some c =
       (
         value,
         (
-          λ m f. (named_reads c.args.name.now c.args.self.now _ m value f).0,
+          ap (option_map node_says) value ∙ node_said c.args.name.now c.args.self.now c.utf8.name,
           (
-            λ m f. (named_reads c.args.name.now c.args.self.now _ m value f).1,
-            named_exchanges c.args.name.now c.args.self.now c.index_mut.result.now value,
+            λ m f. (named_reads c.args.name.now c.args.self.now _ m value f).0,
+            (
+              λ m f. (named_reads c.args.name.now c.args.self.now _ m value f).1,
+              named_exchanges c.args.name.now c.args.self.now c.index_mut.result.now value,
+            ),
           ),
         ),
       ),
@@ -27,4 +32,5 @@ returns-in-Some c =
 pub returns-in-None : goal.returns-in-None
 returns-in-None c =
     let absent = c.in-None.ensures.place ∙ ap (position (is_node_named c.args.name.now)) c.deref.ensures.value in
-    (refl, (sym (none_there (is_node_named c.args.name.now) (nodes_of c.args.self.now) absent), (tt, (tt, tt))))
+    let value = sym (none_there (is_node_named c.args.name.now) (nodes_of c.args.self.now) absent) in
+    (refl, (value, (ap (option_map node_says) value ∙ node_said c.args.name.now c.args.self.now c.utf8.name, (tt, (tt, tt)))))

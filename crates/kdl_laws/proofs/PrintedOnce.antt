@@ -1,0 +1,19 @@
+-- What a document prints is one document at most.
+use Rattle.std.proofs.Common.{◌≡◌, Global, Ok, String, string_bytes, subst, true}
+use Rattle.std.specs.Str.{encode_utf8_all}
+use Rattle.kdl_text.specs.Chars.{Text}
+use Rattle.kdl_value.specs.Tree.{text_of}
+use Rattle.kdl_grammar.specs.Data.{Nodes}
+use Rattle.kdl_grammar.specs.Grammar.{IsDocument}
+use Rattle.kdl_grammar.proofs.LawProofs.{one_document}
+use Rattle.kdl_fmt.proofs.Texts.{printed_text}
+use Rattle.kdl.specs.ReadsBack.{DocumentReadsBack}
+use Rattle.kdl.specs.Tree.{document_prints, document_says}
+use Rattle.kdl.specs.declared.document.KdlDocument.{KdlDocument}
+use Rattle.kdl.proofs.ReadingBack.{document_derived}
+
+pub printed : (d : KdlDocument) (s : String Global) → string_bytes s ≡ encode_utf8_all (document_prints d) → text_of s ≡ document_prints d
+printed d s h = printed_text {E = Unit {0}} (Ok s) (document_prints d) h
+
+pub printed_once : (d : KdlDocument) (s : String Global) (y : Nodes) → string_bytes s ≡ encode_utf8_all (document_prints d) → DocumentReadsBack d → IsDocument true (text_of s) y → y ≡ document_says d
+printed_once d s y h reads derived = one_document true (document_prints d) y (document_says d) (subst (λ (t : Text). IsDocument true t y) (printed d s h) derived) (document_derived d reads)

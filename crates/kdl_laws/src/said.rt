@@ -1,0 +1,22 @@
+//! What a document says after an edit: look-ups find it in the data.
+
+ghost use Rattle.kdl.specs.Change.{with_entries};
+ghost use Rattle.kdl.specs.DocumentLookups.{node_named, with_node_named};
+ghost use Rattle.kdl.specs.Fields.{held_entries};
+ghost use Rattle.kdl.specs.Found.{IsSet};
+ghost use Rattle.kdl.specs.Said.{IsSetInData};
+ghost use Rattle.kdl.specs.Tree.{document_says};
+ghost use Rattle.kdl.specs.declared.document.KdlDocument.{KdlDocument};
+ghost use Rattle.kdl.specs.declared.node.KdlNode.{KdlNode};
+ghost use Rattle.kdl_grammar.specs.Data.{Nodes};
+ghost use Rattle.kdl_value.specs.Data.{Value};
+ghost use Rattle.std.specs.Prelude.{◌≡◌, List, Some, ℕ, chars};
+ghost use Rattle.std.specs.Str.{IsUtf8};
+
+/// A property that is set in the first node of a name is set in what the document says: x before, and y after it.
+pub fn property_set_is_said()
+    ensures { (s r : List ℕ) (v : Value) (d : KdlDocument) (n m : KdlNode) (x y : Nodes)
+        → IsUtf8 s → IsUtf8 r → Some n ≡ node_named s d
+        → m ≡ with_entries n (held_entries m) → IsSet r v n m → x ≡ document_says d
+        → y ≡ document_says (with_node_named s d m) → IsSetInData (chars s) (chars r) v x y }
+{}
