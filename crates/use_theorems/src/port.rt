@@ -37,7 +37,10 @@ pub fn set_port(alloc: Global, text: &str) -> Result<String, ParseFailure>
     let mut document = KdlDocument::parse(alloc, text)?;
     if let Some(server) = document.get_mut("server") {
         let key = NodeKey::from_text(alloc, "port")?;
-        if server.insert(key, KdlEntry::new(KdlValue::from(8080))).is_err() {
+        if server
+            .insert(key, KdlEntry::new(KdlValue::from(8080)))
+            .is_err()
+        {
             return Err(ParseFailure::Memory);
         }
     }
