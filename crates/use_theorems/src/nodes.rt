@@ -1,1 +1,32 @@
 //! Nodes that are added and removed.
+
+ghost use Rattle.kdl.specs.Words.{DocumentReadsBack, NodeReadsBack, document_says, node_says, nodes_of, said_with, said_without};
+ghost use Rattle.std.specs.Prelude.{◌≡◌, IfOk, IfSome, length};
+
+use kdl::{KdlDocument, KdlNode};
+use std::alloc::AllocError;
+
+/// Removes the first node, where there is one: what is left reads back, and so does the node.
+pub fn remove_first(document: &mut KdlDocument) -> Option<KdlNode>
+    requires { DocumentReadsBack document.old }
+    ensures document { DocumentReadsBack document.new }
+    ensures node { IfSome result NodeReadsBack }
+    ensures says { IfSome result (λ _.
+        document_says document.new ≡ said_without 0 (document_says document.old)) }
+{
+    if document.nodes().is_empty() {
+        return None;
+    }
+    Some(document.remove_node(0))
+}
+
+/// Adds a node after the others: the document says one node more.
+pub fn add(document: &mut KdlDocument, node: KdlNode) -> Result<(), AllocError>
+    ensures { IfOk result (λ _. document_says document.new ≡
+        said_with (length (nodes_of document.old)) (node_says node) (document_says document.old)) }
+{
+    match document.push_node(node) {
+        Ok(()) => Ok(()),
+        Err((_, error)) => Err(error),
+    }
+}
