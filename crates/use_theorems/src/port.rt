@@ -1,14 +1,49 @@
 //! A program that sets a port in a text.
 
-ghost use Rattle.kdl.specs.Words.{IsDocument, IsExchanged, IsSetInData, IsSyntax, Nodes, integer, said_node, said_property_in, text_of};
-ghost use Rattle.std.specs.Prelude.{◌≡◌, [], IfOk, IsSome, List, None, codes, chars, true, ℕ};
+ghost use Rattle.kdl.specs.Words.{DocumentReadsBack, IsDocument, IsExchanged, IsSetInData, IsSyntax, Nodes, Text, document_prints, document_says, integer, plain_entry, plain_identifier, print_piece, said_node, text_of, value_tree};
+ghost use Rattle.std.specs.Prelude.{◌≡◌, IfOk, IsSome, None, Some, chars, codes, pos, true};
 
 use kdl::{KdlDocument, KdlEntry, KdlValue, NodeKey, ParseFailure};
 use kdl_laws::reading_back::{
     found_node_has_format, new_entries_are_unformed, printed_reads_back, printed_reads_once,
 };
 use kdl_laws::said::property_set_is_said;
-use std::alloc::Global;
+use kdl_laws::values::values_are_well_formed;
+use std::alloc::{AllocError, Global};
+
+/// Sets a property of the first node of a name, where there is one, to a new entry of that value.
+pub fn set_in(
+    alloc: Global,
+    document: &mut KdlDocument,
+    node: &str,
+    name: &str,
+    value: KdlValue,
+) -> Result<(), AllocError>
+    requires { DocumentReadsBack document.old }
+    ensures reads { IfOk result (λ _. DocumentReadsBack document.new) }
+    ensures sets { IfOk result (λ _. IsSome (said_node (chars node.now) (document_says document.old))
+        → IsSetInData (chars node.now) (chars name.now) (value_tree value)
+        (document_says document.old) (document_says document.new)) }
+    ensures bytes { IfOk result (λ _. IsSome (said_node (chars node.now) (document_says document.old))
+        → (p : Text) × IsExchanged p
+        (print_piece (plain_entry (Some (plain_identifier (chars name.now))) (value_tree value)))
+        (document_prints document.old) (document_prints document.new)) }
+    ensures stays { IfOk result (λ _. said_node (chars node.now) (document_says document.old) ≡ None
+        → document_prints document.new ≡ document_prints document.old) }
+{
+    values_are_well_formed(&value);
+    new_entries_are_unformed();
+    property_set_is_said();
+    found_node_has_format();
+    let key = NodeKey::from_text(alloc, name)?;
+    let Some(found) = document.get_mut(node) else {
+        return Ok(());
+    };
+    let Ok(_) = found.insert(key, KdlEntry::new(value)) else {
+        return Err(AllocError);
+    };
+    Ok(())
+}
 
 /// The text with a new entry, of 8080, in place of the port of its server: all else stays.
 pub fn set_port(alloc: Global, text: &str) -> Result<String, ParseFailure>
@@ -17,32 +52,22 @@ pub fn set_port(alloc: Global, text: &str) -> Result<String, ParseFailure>
     // It says that the port of the server is 8080, and all else that the text says.
     ensures sets { IfOk result (λ out. (x y : Nodes)
         → IsDocument true (chars text.now) x → IsDocument true (text_of out) y
-        → IsSome (said_node (codes "server") x)
-        → IsSetInData (codes "server") (codes "port") (integer 8080) x y) }
-    // The text has another piece there, and no other character is another one.
+        → IsSome (said_node (chars (codes "server")) x)
+        → IsSetInData (chars (codes "server")) (chars (codes "port")) (integer (pos 8080)) x y) }
+    // Its text is the one that was read, but for the piece of that entry.
     ensures bytes { IfOk result (λ out. (x : Nodes) → IsDocument true (chars text.now) x
-        → IsSome (said_node (codes "server") x)
-        → (p : List ℕ) × IsExchanged p (codes " port=8080") (chars text.now) (text_of out)) }
+        → IsSome (said_node (chars (codes "server")) x) → (p : Text) × IsExchanged p
+        (print_piece (plain_entry (Some (plain_identifier (chars (codes "port")))) (integer (pos 8080))))
+        (chars text.now) (text_of out)) }
     // Without a server, the output is the text.
     ensures stays { IfOk result (λ out. (x : Nodes) → IsDocument true (chars text.now) x
-        → said_node (codes "server") x ≡ None → text_of out ≡ chars text.now) }
+        → said_node (chars (codes "server")) x ≡ None → text_of out ≡ chars text.now) }
     // A text that is refused is no document.
     ensures refused { IsSyntax result → (x : Nodes) → IsDocument true (chars text.now) x → ⊥ }
 {
-    new_entries_are_unformed();
-    property_set_is_said();
     printed_reads_back();
     printed_reads_once();
-    found_node_has_format();
     let mut document = KdlDocument::parse(alloc, text)?;
-    if let Some(server) = document.get_mut("server") {
-        let key = NodeKey::from_text(alloc, "port")?;
-        if server
-            .insert(key, KdlEntry::new(KdlValue::from(8080)))
-            .is_err()
-        {
-            return Err(ParseFailure::Memory);
-        }
-    }
+    set_in(alloc, &mut document, "server", "port", KdlValue::from(8080))?;
     Ok(document.to_string(alloc)?)
 }
