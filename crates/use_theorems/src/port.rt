@@ -21,14 +21,17 @@ pub fn set_in(
 ) -> Result<(), AllocError>
     requires { DocumentReadsBack document.old }
     ensures reads { IfOk result (λ _. DocumentReadsBack document.new) }
-    ensures sets { IfOk result (λ _. IsSome (said_node (chars node.now) (document_says document.old))
+    ensures sets { IfOk result (λ _.
+        IsSome (said_node (chars node.now) (document_says document.old))
         → IsSetInData (chars node.now) (chars name.now) (value_tree value)
         (document_says document.old) (document_says document.new)) }
-    ensures bytes { IfOk result (λ _. IsSome (said_node (chars node.now) (document_says document.old))
-        → (p : Text) × IsExchanged p
-        (print_piece (plain_entry (Some (plain_identifier (chars name.now))) (value_tree value)))
+    ensures bytes { IfOk result (λ _.
+        IsSome (said_node (chars node.now) (document_says document.old))
+        → (p : Text) × IsExchanged p (print_piece
+        (plain_entry (Some (plain_identifier (chars name.now))) (value_tree value)))
         (document_prints document.old) (document_prints document.new)) }
-    ensures stays { IfOk result (λ _. said_node (chars node.now) (document_says document.old) ≡ None
+    ensures stays { IfOk result (λ _.
+        said_node (chars node.now) (document_says document.old) ≡ None
         → document_prints document.new ≡ document_prints document.old) }
 {
     values_are_well_formed(&value);
@@ -53,11 +56,13 @@ pub fn set_port(alloc: Global, text: &str) -> Result<String, ParseFailure>
     ensures sets { IfOk result (λ out. (x y : Nodes)
         → IsDocument true (chars text.now) x → IsDocument true (text_of out) y
         → IsSome (said_node (chars (codes "server")) x)
-        → IsSetInData (chars (codes "server")) (chars (codes "port")) (integer (pos 8080)) x y) }
+        → IsSetInData (chars (codes "server")) (chars (codes "port"))
+        (integer (pos 8080)) x y) }
     // Its text is the one that was read, but for the piece of that entry.
     ensures bytes { IfOk result (λ out. (x : Nodes) → IsDocument true (chars text.now) x
-        → IsSome (said_node (chars (codes "server")) x) → (p : Text) × IsExchanged p
-        (print_piece (plain_entry (Some (plain_identifier (chars (codes "port")))) (integer (pos 8080))))
+        → IsSome (said_node (chars (codes "server")) x)
+        → (p : Text) × IsExchanged p (print_piece
+        (plain_entry (Some (plain_identifier (chars (codes "port")))) (integer (pos 8080))))
         (chars text.now) (text_of out)) }
     // Without a server, the output is the text.
     ensures stays { IfOk result (λ out. (x : Nodes) → IsDocument true (chars text.now) x
