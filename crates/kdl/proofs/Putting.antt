@@ -4,3 +4,5 @@ pub mod NodeEnds
 pub mod Puts
 -- Documents that read back, with a node put in or taken out.
 pub mod PutReads
+-- Documents and blocks that read back, with a node put in.
+pub mod DocumentReads

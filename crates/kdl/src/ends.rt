@@ -1,13 +1,15 @@
 //! What nodes, and the texts between them, lack at their ends before others may follow.
 
-ghost use Rattle.kdl.specs.Internal.Ends.{IsEnded, Lacks, with_newlines};
+ghost use Rattle.kdl.specs.Internal.Ends.{EndSays, EndsReadAs, GapSays, IsEnded, Lacks, PlaceSays, block_if, newline_count, with_newlines};
 ghost use Rattle.kdl.specs.Nodes.{newlines, printed_format};
 ghost use Rattle.kdl_entry.specs.Tree.{entry_tree};
 ghost use Rattle.kdl_fmt.specs.Kept.{without_bom};
 ghost use Rattle.kdl_grammar.specs.Print.{before_block, last_has_format};
+ghost use Rattle.kdl_grammar.specs.ReadsBack.{terminator_text};
+ghost use Rattle.kdl_grammar.specs.Tree.{NodeFormat};
 ghost use Rattle.kdl_parts.specs.Formats.{node_format_tree, node_texts};
 ghost use Rattle.kdl_value.specs.Tree.{text_of};
-ghost use Rattle.std.specs.Prelude.{◌≡◌, ◌≢◌, ◌≤◌, ◌++◌, ◌∷◌, [], IfOk, MatchBool, None, OnOk, map, unwrap_or};
+ghost use Rattle.std.specs.Prelude.{◌≡◌, ◌≢◌, ◌≤◌, ◌++◌, ◌∷◌, [], IfOk, MatchBool, None, OnOk, Some, map, unwrap_or};
 ghost use Rattle.std.specs.Str.{chars};
 
 use kdl_entry::KdlEntry;
@@ -48,12 +50,20 @@ fn without_bom(text: &str) -> &str
 
 /// How many newlines a text between nodes lacks. None where it is no such text.
 pub(crate) fn gap_newlines(alloc: Global, text: &str) -> Result<usize, AllocError>
-    ensures { IfOk result (λ n. n ≤ 2) }
+    ensures few { IfOk result (λ n. n ≤ 2) }
+    ensures says { IfOk result (λ n. GapSays (without_bom (chars text.now)) n) }
 {
     match gap_lacks(alloc, without_bom(text))? {
         Some(lacks) => Ok(lacks),
         None => Ok(0),
     }
+}
+
+/// One newline, or none.
+fn newline_count(lacks: bool) -> usize
+    ensures { result ≡ newline_count lacks }
+{
+    if lacks { 1 } else { 0 }
 }
 
 /// How many newlines the text before a terminator lacks: that of an open escline.
@@ -62,7 +72,8 @@ pub(crate) fn place_newlines(
     has_block: bool,
     text: &str,
 ) -> Result<usize, AllocError>
-    ensures { IfOk result (λ n. n ≤ 1) }
+    ensures few { IfOk result (λ n. n ≤ 1) }
+    ensures says { IfOk result (λ n. PlaceSays (block_if has_block) (chars text.now) n) }
 {
     let place = if has_block {
         Place::BehindBlock
@@ -70,14 +81,15 @@ pub(crate) fn place_newlines(
         Place::BeforeBlock
     };
     match place_lacks(alloc, place, text)? {
-        Some(true) => Ok(1),
-        _ => Ok(0),
+        Some(lacks) => Ok(newline_count(lacks)),
+        None => Ok(0),
     }
 }
 
 /// How many newlines a terminator lacks, with the text after it.
 fn end_newlines(alloc: Global, terminator: &str, trailing: &str) -> Result<usize, AllocError>
-    ensures { IfOk result (λ n. n ≤ 2) }
+    ensures few { IfOk result (λ n. n ≤ 2) }
+    ensures says { IfOk result (λ n. EndSays (chars terminator.now ++ chars trailing.now) n) }
 {
     let mut end = String::new(alloc);
     push_text(&mut end, terminator)?;
@@ -89,10 +101,21 @@ fn end_newlines(alloc: Global, terminator: &str, trailing: &str) -> Result<usize
 }
 
 /// Whether the text has no characters.
-fn is_empty(text: &str) -> bool
+pub(crate) fn is_empty(text: &str) -> bool
     ensures { MatchBool result (chars text.now ≡ []) (chars text.now ≢ []) }
 {
     text.is_empty()
+}
+
+/// Whether a node has a terminator, or text after it.
+fn has_end(format: &KdlNodeFormat) -> bool
+    ensures { MatchBool result (terminator_text (node_format_tree format.now) ≡ [] → ⊥)
+        (terminator_text (node_format_tree format.now) ≡ []) }
+{
+    if is_empty(&format.terminator) {
+        return !is_empty(&format.trailing);
+    }
+    true
 }
 
 /// How many newlines a node lacks: before its terminator, and at its end.
@@ -102,9 +125,11 @@ fn newlines(
     has_block: bool,
     rest: Rest,
 ) -> Result<(usize, usize), AllocError>
-    ensures { IfOk result (λ (b, e). Lacks (node_format_tree format.now) b e) }
+    ensures lacks { IfOk result (λ (b, e). Lacks (node_format_tree format.now) b e) }
+    ensures reads { IfOk result (λ (b, e). EndsReadAs rest (block_if has_block)
+        (node_format_tree format.now) (with_newlines (node_format_tree format.now) b e)) }
 {
-    if !is_empty(&format.terminator) || !is_empty(&format.trailing) {
+    if has_end(format) {
         let end = end_newlines(alloc, &format.terminator, &format.trailing)?;
         return Ok((0, end));
     }
@@ -141,8 +166,10 @@ fn ended(
     has_block: bool,
     rest: Rest,
 ) -> Result<Option<KdlNodeFormat>, AllocError>
-    ensures { IfOk result (λ o.
+    ensures is_ended { IfOk result (λ o.
         IsEnded (node_format_tree format.now) (node_texts o)) }
+    ensures reads { IfOk result (λ o. EndsReadAs rest (block_if has_block)
+        (node_format_tree format.now) (unwrap_or (node_texts o) (node_format_tree format.now))) }
 {
     let (before, end) = newlines(alloc, format, has_block, rest)?;
     if before == 0 && end == 0 {
@@ -194,9 +221,12 @@ pub(crate) fn ended_format(
     has_block: bool,
     rest: Rest,
 ) -> Result<Option<KdlNodeFormat>, AllocError>
-    ensures { IfOk result (λ o. IsEnded
+    ensures is_ended { IfOk result (λ o. IsEnded
         (unwrap_or (node_texts format.now) (printed_format (map entry_tree entries.now)))
         (node_texts o)) }
+    ensures reads { IfOk result (λ o. (f : NodeFormat) → node_texts format.now ≡ Some f
+        → EndsReadAs rest (block_if has_block) f (unwrap_or (node_texts o) f)) }
+    ensures last { rest ≡ Rest.End → IfOk result (λ o. o ≡ None) }
 {
     if let Rest::End = rest {
         return Ok(None);

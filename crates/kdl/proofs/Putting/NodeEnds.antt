@@ -6,6 +6,7 @@ use Rattle.std.specs.Prelude.{string_bytes}
 use Rattle.std.specs.Str.{chars}
 use Rattle.kdl_text.specs.Chars.{Text}
 use Rattle.kdl_value.specs.Tree.{text_of}
+use Rattle.kdl_fmt.specs.Kept.{without_bom}
 use Rattle.kdl_fmt.proofs.Texts.{newline_text, space_text}
 use Rattle.kdl_grammar.specs.Print.{end_text, print_head, print_pieces, print_tail, print_node, before_block, after_brace, before_brace, format_of, print_document, space_unless}
 use Rattle.kdl_grammar.specs.Tree.{DocumentFormat, Head, NodeFormat, Node, node, Children, no_children, children, children_of, node_data}
@@ -15,7 +16,7 @@ use Rattle.kdl_parts.specs.Formats.{empty_node_format, node_format_tree, node_te
 use Rattle.kdl_parts.specs.declared.format.KdlNodeFormat.{KdlNodeFormat}
 use Rattle.kdl.specs.Change.{with_children}
 use Rattle.kdl.specs.Cleared.{new_document}
-use Rattle.kdl.specs.Internal.Ends.{BeforeNewBlock, BlockBegins, IsEnded, Lacks, LeadingEnded, block_format, end_newlines, end_with, with_newlines}
+use Rattle.kdl.specs.Internal.Ends.{BeforeNewBlock, BlockBegins, GapSays, IsEnded, Lacks, LeadingEnded, block_format, end_newlines, end_with, with_newlines}
 use Rattle.kdl.specs.Nodes.{BlockBegun, ChildPut, ChildPutIn, EndsWith, IsPut, WithNewlines, format_or_printed, newlines, printed_format}
 use Rattle.kdl.specs.Tree.{document_tree, head_tree, node_tree}
 use Rattle.kdl.specs.declared.document.KdlDocument.{KdlDocument}
@@ -135,8 +136,14 @@ newlines_said (suc k) (node h c) m (g, e, w) = ap node_data e
 pub copy_put : (now : Text) (copy old : String Global) (k : ℕ) → string_bytes copy ≡ string_bytes old → now ≡ text_of copy ++ newlines k → now ≡ text_of old ++ newlines k
 copy_put now copy old k h e = e ∙ ap (λ (z : List ℕ). chars z ++ newlines k) h
 
-pub leading_ended : (o : Option DocumentFormat) (f : DocumentFormat) (t : Text) (k : ℕ) → o ≡ Some f → 0 < k → k ≤ 2 → t ≡ f.leading ++ newlines k → LeadingEnded o (Some t)
-leading_ended o f t k h l m e = let q : k ≡ suc (k - 1) = omega arith in (f, k - 1, omega arith, h, e ∙ ap (λ (n : ℕ). f.leading ++ newlines n) q)
+pub leading_ended : (o : Option DocumentFormat) (f : DocumentFormat) (t : Text) (k : ℕ) → o ≡ Some f → 0 < k → k ≤ 2 → t ≡ f.leading ++ newlines k → GapSays (without_bom f.leading) k → LeadingEnded o (Some t)
+leading_ended o f t k h l m e x = let q : k ≡ suc (k - 1) = omega arith in (f, k - 1, omega arith, h, e ∙ ap (λ (n : ℕ). f.leading ++ newlines n) q, subst (GapSays (without_bom f.leading)) q x)
+
+pub leading_ends : (o : Option DocumentFormat) (f : DocumentFormat) (k : ℕ) → o ≡ Some f → k ≡ 0 → GapSays (without_bom f.leading) k → LeadingEnded o None
+leading_ends o f k h z x = subst (λ (y : Option DocumentFormat). LeadingEnded y None) (sym h) (subst (GapSays (without_bom f.leading)) z x)
+
+pub no_leading : (o : Option DocumentFormat) → o ≡ None → LeadingEnded o None
+no_leading o h = subst (λ (y : Option DocumentFormat). LeadingEnded y None) (sym h) (λ g r s xs p d. d)
 
 pub before_begun : (o : Option NodeFormat) (f : NodeFormat) (t : Text) (k : ℕ) → o ≡ Some f → 0 < k → k ≤ 1 → t ≡ f.before_terminator ++ newlines k → BeforeNewBlock o (Some t)
 before_begun o f t k h l m e = let q : k ≡ 1 = omega arith in (f, h, e ∙ ap (λ (n : ℕ). f.before_terminator ++ newlines n) q)

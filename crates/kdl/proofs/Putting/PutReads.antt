@@ -1,9 +1,9 @@
 -- Documents that read back, with a node put in or taken out.
-use Rattle.std.proofs.Common.{◌≡◌, ◌⊎◌, inl, inr, ℕ, zero, suc, ◌+◌, ◌<◌, true, List, [], ◌∷◌, ◌++◌, length, map, take, drop, set, ap, ◌∙◌, sym, refl, subst, append_assoc, arith, Option, Some, None, option_map, slice_get}
+use Rattle.std.proofs.Common.{◌≡◌, ◌⊎◌, inl, inr, ℕ, zero, suc, ◌+◌, ◌<◌, true, List, [], ◌∷◌, ◌++◌, length, map, take, drop, set, ap, ◌∙◌, sym, refl, subst, append_assoc, arith, Bool, false, is_some, unwrap_or, Option, Some, None, option_map, slice_get, Result, Ok, Err, IfOk}
 use Rattle.std.proofs.lemmas.List.{append-nil}
 use Rattle.std.proofs.lemmas.Option.{get_or_from_slice_get, slice_get_within, slice_get-map}
 use Rattle.std.specs.List.{insert, remove}
-use Rattle.kdl_text.specs.Chars.{Text}
+use Rattle.kdl_text.specs.Chars.{Text, times}
 use Rattle.kdl_text.specs.Internal.Here.{first as first_char}
 use Rattle.kdl_text.specs.Trivia.{ValueEnd}
 use Rattle.kdl_text.specs.declared.span.SourceSpan.{SourceSpan}
@@ -12,22 +12,30 @@ use Rattle.kdl_grammar.specs.Data as data'
 use Rattle.kdl_grammar.specs.Grammar.{Terminator, Gap, no_gap, AreNodes, last_gap}
 use Rattle.kdl_grammar.specs.Places.{BeforeChildren, AfterChildren}
 use Rattle.kdl_grammar.specs.Print.{leading_text, trailing_text}
-use Rattle.kdl_grammar.specs.ReadsBack.{Rests, Anything, TextEnd, MayFollow, HeadReads, terminator_text, NodesEnd, Terminates, AddsNothing, IsGapBefore, BeforeTerminator, EndReads, last_rests, NodeReads, reads, ChildrenRead, no_block, a_block, NodesRead, no_node, last_node, next_node, ContentReads, one_text, two_texts, with_nodes, DocumentReads}
-use Rattle.kdl_grammar.specs.Tree.{DocumentFormat, NodeFormat, Head, Node, node, Children, no_children, children, Document, document, listed_nodes}
+use Rattle.kdl_grammar.specs.ReadsBack.{Rests, Anything, TextEnd, BlockEnd, MayFollow, HeadReads, terminator_text, NodesEnd, Terminates, AddsNothing, IsGapBefore, BeforeTerminator, EndReads, last_rests, NodeReads, reads, ChildrenRead, no_block, a_block, NodesRead, no_node, last_node, next_node, ContentReads, one_text, two_texts, with_nodes, DocumentReads}
+use Rattle.kdl_grammar.specs.Tree.{DocumentFormat, NodeFormat, Head, Node, node, Children, no_children, children, children_of, Document, document, listed_nodes}
 use Rattle.kdl_grammar.proofs.Moving.Moves.{move_after, move_before, terminator_end}
 use Rattle.kdl_grammar.proofs.ReadingBack.Composing.{ends_before, node_before, nodes_append, nodes_drop, nodes_take, each_reads}
+use Rattle.kdl_items.specs.Items.{Place, before_block, behind_block}
+use Rattle.kdl_items.specs.Lacks.{GapLacks, PlaceLacks, TerminatorLacks, Terminating}
+use Rattle.kdl_items.proofs.Lacking.Alone.{after_before_close, before_before_close, gap_before_close, terminator_before_close}
 use Rattle.kdl_items.proofs.Rewriting.BeforeNewlines.{a_newline}
 use Rattle.kdl.specs.DocumentLookups.{nodes_of}
-use Rattle.kdl.specs.Internal.Ends.{end_newlines, with_newlines}
-use Rattle.kdl.specs.Nodes.{newlines, texts_around, trees}
+use Rattle.kdl.specs.Internal.Ends.{EndSays, EndsAs, EndsReadAs, GapSays, IsEnded, PlaceSays, block_if, end_newlines, end_with, newline_count, with_newlines}
+use Rattle.kdl_parts.specs.Formats.{node_format_tree, node_texts}
+use Rattle.kdl_parts.specs.declared.format.KdlNodeFormat.{KdlNodeFormat}
+use Rattle.kdl.specs.Nodes.{format_or_printed, newlines, printed_format, texts_around, trees}
 use Rattle.kdl.specs.ReadsBack.{DocumentReadsBack, NodeReadsBack}
-use Rattle.kdl.specs.Tree.{document_tree, node_tree}
+use Rattle.kdl.specs.Tree.{document_tree, head_tree, node_tree}
 use Rattle.kdl.specs.Change as change
+use Rattle.kdl.specs.Cleared.{new_document}
+use Rattle.kdl.specs.declared.ends.Rest.{Rest}
+use Rattle.kdl.specs.declared.ends.Rest.TheVariants as Rest
 use Rattle.kdl.specs.declared.document.KdlDocument.{KdlDocument}
-use Rattle.kdl.specs.declared.document.KdlDocument.TheViews.{out-KdlDocument}
+use Rattle.kdl.specs.declared.document.KdlDocument.TheViews.{out-KdlDocument, out-KdlNode}
 use Rattle.kdl.specs.declared.node.KdlNode.{KdlNode}
 use Rattle.kdl.proofs.Putting.Puts.{remove_trees, texts_kept}
-use Rattle.kdl.proofs.Trees.{document_tree_out}
+use Rattle.kdl.proofs.Trees.{document_tree_out, node_tree_out, node_tree_roll}
 
 -- nodes after their leading text
 content_of : (P : Rests) (l t : Text) (ms : List Node) → AddsNothing l → NodesRead (last_rests t P) (listed_nodes ms) → IsGapBefore P t → ContentReads P l t (listed_nodes ms)
@@ -70,21 +78,14 @@ taken_reads i n d e h k r s x =
       document_each (texts_around d) (out-KdlDocument d).span (trees d) i (node_tree n) there old,
     )
 
--- what the readers of ends say: with so many newlines a place is one before each terminator, and a text ends the node before it
-abbrev pub PlaceSays : Children → Text → ℕ → Type 0
-PlaceSays k t b = BeforeTerminator k t [] → (r v : Text) → Terminator r v → BeforeTerminator k ((t ++ newlines b) ++ r) r
-
-abbrev pub EndSays : Text → ℕ → Type 0
-EndSays t e = (v : Text) → Terminator t v → Gap true v [] → Terminates Anything (t ++ newlines e)
-
 -- the end of a node, by its texts
-end_read : (k : Children) (g : NodeFormat) (bt z : Text) → g.before_terminator ≡ bt → terminator_text g ≡ z
-    → ((r v : Text) → Terminator (z ++ r) v → BeforeTerminator k (bt ++ (z ++ r)) (z ++ r)) → Terminates Anything z → EndReads Anything k g
-end_read k g bt z h e place x = record { place = λ r p t. at r t; terminator = subst (Terminates Anything) (sym e) x }
+end_read : (P : Rests) (k : Children) (g : NodeFormat) (bt z : Text) → g.before_terminator ≡ bt → terminator_text g ≡ z
+    → ((r v : Text) → MayFollow P r → Terminator (z ++ r) v → BeforeTerminator k (bt ++ (z ++ r)) (z ++ r)) → Terminates P z → EndReads P k g
+end_read P k g bt z h e place x = record { place = λ r p t. at r p t; terminator = subst (Terminates P) (sym e) x }
   where
-    at : (r : Text) {v : Text} → Terminator (terminator_text g ++ r) v → BeforeTerminator k (g.before_terminator ++ (terminator_text g ++ r)) (terminator_text g ++ r)
-    at r {v} t =
-        let here = place r v (subst (λ (u : Text). Terminator (u ++ r) v) e t) in
+    at : (r : Text) {v : Text} → MayFollow P r → Terminator (terminator_text g ++ r) v → BeforeTerminator k (g.before_terminator ++ (terminator_text g ++ r)) (terminator_text g ++ r)
+    at r {v} p t =
+        let here = place r v p (subst (λ (u : Text). Terminator (u ++ r) v) e t) in
         subst (λ (b : Text). BeforeTerminator k (b ++ (terminator_text g ++ r)) (terminator_text g ++ r)) (sym h)
         (subst (λ (u : Text). BeforeTerminator k (bt ++ (u ++ r)) (u ++ r)) (sym e) here)
 
@@ -107,28 +108,79 @@ place_moves (children d) bt u x c h e = let m = move_after c in subst (λ (y : T
 gap_of : {v : Text} → AreNodes true v [] data'.none → Gap true v []
 gap_of (last_gap g) = g
 
--- a node without a terminator gets one
-pub open_ends : (P : Rests) (k : Children) (f : NodeFormat) (b : ℕ) → MayFollow P [] → terminator_text f ≡ [] → PlaceSays k f.before_terminator b → EndReads P k f → EndReads Anything k (with_newlines f b 1)
-open_ends P k f b m z says end =
-    let empty : Terminator (terminator_text f ++ []) [] = subst (λ (u : Text). Terminator (u ++ []) []) (sym z) Terminator.at_end in
-    let here : BeforeTerminator k (f.before_terminator ++ []) [] = subst (λ (u : Text). BeforeTerminator k (f.before_terminator ++ (u ++ [])) (u ++ [])) z (end.place [] m empty) in
-    let place = says (subst (λ (u : Text). BeforeTerminator k u []) (append-nil f.before_terminator) here) in
-    end_read k (with_newlines f b 1) (f.before_terminator ++ newlines b) (10 ∷ []) (texts_before f f.trailing b 1) (texts_behind f f.trailing b 1 ∙ ap (λ (u : Text). u ++ newlines 1) z)
-    (λ r v t. place (10 ∷ r) v t) lf_ends
+-- the end of the text, or a `}`, is among the rests
+may_end : (P : Rests) → MayFollow P [] ⊎ MayFollow P (125 ∷ [])
+may_end Anything = inl tt
+may_end TextEnd = inl refl
+may_end (BlockEnd None) = inr (0, [], refl)
+may_end (BlockEnd (Some f)) = inr ([], refl)
 
-like : (z : Text) (c : ℕ) (s n r : Text) → z ≡ c ∷ s → first_char ((z ++ n) ++ r) ≡ first_char (z ++ [])
-like z c s n r e = rw e refl
+before_close : (k : Children) (t u : Text) → BeforeTerminator k (t ++ (125 ∷ u)) (125 ∷ u) → BeforeTerminator k t []
+before_close no_children t u c = before_before_close t u c
+before_close (children d) t u c = after_before_close t u c
+
+-- without a terminator, the place before the end of the text
+place_alone : (P : Rests) (k : Children) (f : NodeFormat) → terminator_text f ≡ [] → EndReads P k f → BeforeTerminator k f.before_terminator []
+place_alone P k f z end = elim (may_end P) [ inl m ↦ at_end m | inr m ↦ at_brace m ]
+  where
+    here : (q v : Text) → MayFollow P q → Terminator q v → BeforeTerminator k (f.before_terminator ++ q) q
+    here q v m t =
+        subst (λ (u : Text). BeforeTerminator k (f.before_terminator ++ (u ++ q)) (u ++ q)) z
+        (end.place q m (subst (λ (u : Text). Terminator (u ++ q) v) (sym z) t))
+
+    at_end : MayFollow P [] → BeforeTerminator k f.before_terminator []
+    at_end m = subst (λ (u : Text). BeforeTerminator k u []) (append-nil f.before_terminator) (here [] [] m Terminator.at_end)
+
+    at_brace : MayFollow P (125 ∷ []) → BeforeTerminator k f.before_terminator []
+    at_brace m = before_close k f.before_terminator [] (here (125 ∷ []) (125 ∷ []) m Terminator.at_close)
+
+-- a node without a terminator gets one
+open_ends : (P : Rests) (k : Children) (f : NodeFormat) (b : ℕ) → terminator_text f ≡ [] → PlaceSays k f.before_terminator b → EndReads P k f → EndReads Anything k (with_newlines f b 1)
+open_ends P k f b z says end =
+    let place = says (place_alone P k f z end) in
+    end_read Anything k (with_newlines f b 1) (f.before_terminator ++ newlines b) (10 ∷ []) (texts_before f f.trailing b 1) (texts_behind f f.trailing b 1 ∙ ap (λ (u : Text). u ++ newlines 1) z)
+    (λ r v p t. place (10 ∷ r) v t) lf_ends
+
+-- before a `}` it needs none
+brace_ends : (d : DocumentFormat) → Terminates (BlockEnd (Some d)) []
+brace_ends d r s xs (t, e) z a = (r, subst (λ (u : Text). Terminator u u) (sym e) Terminator.at_close, a)
+
+open_before_brace : (P : Rests) (d : DocumentFormat) (k : Children) (f : NodeFormat) (b : ℕ) → terminator_text f ≡ [] → PlaceSays k f.before_terminator b → EndReads P k f
+    → EndReads (BlockEnd (Some d)) k (with_newlines f b 0)
+open_before_brace P d k f b z says end =
+    let place = says (place_alone P k f z end) in
+    end_read (BlockEnd (Some d)) k (with_newlines f b 0) (f.before_terminator ++ newlines b) [] (texts_before f f.trailing b 0) (texts_behind f f.trailing b 0 ∙ ap (λ (u : Text). u ++ newlines 0) z)
+    (λ r v p t. place r v t) (brace_ends d)
+
+like : (z : Text) (c : ℕ) (s n r q : Text) → z ≡ c ∷ s → first_char ((z ++ n) ++ r) ≡ first_char (z ++ q)
+like z c s n r q e = rw e refl
+
+some_char : (z : Text) (c : ℕ) (s : Text) → z ≡ c ∷ s → z ≡ [] → ⊥
+some_char z c s e h = cc
 
 -- a terminator gets what it lacks
-pub closed_ends : (P : Rests) (k : Children) (f : NodeFormat) (e : ℕ) (c : ℕ) (s : Text) → MayFollow P [] → terminator_text f ≡ c ∷ s → EndSays (terminator_text f) e → EndReads P k f
-    → EndReads Anything k (with_newlines f 0 e)
-closed_ends P k f e c s m z says end =
-    let t = end.terminator [] [] data'.none m (inl refl) (last_gap no_gap) in
-    let ends = subst (λ (u : Text). Terminator u t.0) (append-nil (terminator_text f)) t.1 in
-    let place : BeforeTerminator k (f.before_terminator ++ (terminator_text f ++ [])) (terminator_text f ++ []) = end.place [] m t.1 in
-    end_read k (with_newlines f 0 e) f.before_terminator (terminator_text f ++ newlines e) (texts_before f f.trailing 0 e ∙ append-nil f.before_terminator) (texts_behind f f.trailing 0 e)
-    (λ r v u. place_moves k f.before_terminator (terminator_text f ++ []) ((terminator_text f ++ newlines e) ++ r) place (like (terminator_text f) c s (newlines e) r z) (terminator_end u))
-    (says t.0 ends (gap_of t.2))
+closed_at : (P : Rests) (k : Children) (f : NodeFormat) (e c : ℕ) (s q v : Text) → MayFollow P q → terminator_text f ≡ c ∷ s → Terminator (terminator_text f ++ q) v → Terminating (terminator_text f)
+    → EndSays (terminator_text f) e → EndReads P k f → EndReads Anything k (with_newlines f 0 e)
+closed_at P k f e c s q v m z t alone says end =
+    let place : BeforeTerminator k (f.before_terminator ++ (terminator_text f ++ q)) (terminator_text f ++ q) = end.place q m t in
+    end_read Anything k (with_newlines f 0 e) f.before_terminator (terminator_text f ++ newlines e) (texts_before f f.trailing 0 e ∙ append-nil f.before_terminator) (texts_behind f f.trailing 0 e)
+    (λ r w p u. place_moves k f.before_terminator (terminator_text f ++ q) ((terminator_text f ++ newlines e) ++ r) place (like (terminator_text f) c s (newlines e) r q z) (terminator_end u))
+    (says alone.0 alone.1 alone.2)
+
+closed_ends : (P : Rests) (k : Children) (f : NodeFormat) (e c : ℕ) (s : Text) → terminator_text f ≡ c ∷ s → EndSays (terminator_text f) e → EndReads P k f → EndReads Anything k (with_newlines f 0 e)
+closed_ends P k f e c s z says end = elim (may_end P) [ inl m ↦ at_end m | inr m ↦ at_brace m ]
+  where
+    at_end : MayFollow P [] → EndReads Anything k (with_newlines f 0 e)
+    at_end m =
+        let t = end.terminator [] [] data'.none m (inl refl) (last_gap no_gap) in
+        let alone : Terminating (terminator_text f) = (t.0, subst (λ (u : Text). Terminator u t.0) (append-nil (terminator_text f)) t.1, gap_of t.2) in
+        closed_at P k f e c s [] t.0 m z t.1 alone says end
+
+    at_brace : MayFollow P (125 ∷ []) → EndReads Anything k (with_newlines f 0 e)
+    at_brace m =
+        let b : Text = 125 ∷ [] in
+        let t = end.terminator b b data'.none m (inr ([], refl)) (last_gap no_gap) in
+        closed_at P k f e c s b t.0 m z t.1 (terminator_before_close (terminator_text f) [] t.0 (some_char (terminator_text f) c s z) t.1 t.2) says end
 
 -- a node with another end
 block_kept : {c : Children} {f g : NodeFormat} → g.before_children ≡ f.before_children → ChildrenRead f c → ChildrenRead g c
@@ -138,46 +190,188 @@ block_kept e (a_block b d) = a_block (λ t. subst (λ (u : Text). BeforeChildren
 same_some : {A : Type 0} (x y : A) (o : Option A) → o ≡ Some x → o ≡ Some y → x ≡ y
 same_some x y o h k = let e : Some x ≡ Some y = sym h ∙ k in cc
 
-pub end_exchanged : (P : Rests) (h : Head) (c : Children) (f : NodeFormat) (b t u : Text) → h.format ≡ Some f
-    → (EndReads P c f → EndReads Anything c (record f { before_terminator = b; terminator = t; trailing = u }))
-    → NodeReads P (node h c) → NodeReads Anything (node (record h { format = Some (record f { before_terminator = b; terminator = t; trailing = u }) }) c)
-end_exchanged P h c f b t u k x (reads {f = g} e head kids end) =
+end_exchanged : (P Q : Rests) (h : Head) (c : Children) (f : NodeFormat) (b t u : Text) → h.format ≡ Some f
+    → (EndReads P c f → EndReads Q c (record f { before_terminator = b; terminator = t; trailing = u }))
+    → NodeReads P (node h c) → NodeReads Q (node (record h { format = Some (record f { before_terminator = b; terminator = t; trailing = u }) }) c)
+end_exchanged P Q h c f b t u k x (reads {f = g} e head kids end) =
     let same : g ≡ f = same_some g f h.format e k in
     let head' : HeadReads h f = subst (HeadReads h) same head in
     let kids' : ChildrenRead f c = subst (λ (z : NodeFormat). ChildrenRead z c) same kids in
     reads refl (record { leading = head'.leading; name = λ v d. head'.name v d; entries = head'.entries }) (block_kept refl kids') (x (subst (EndReads P c) same end))
 
 -- a node put behind the one at i, which ends by itself then
-pub nodes_put : (P : Rests) (i : ℕ) (ns : List Node) (old new put : Node) → MayFollow P [] → slice_get ns i ≡ Some old → ((Q : Rests) → MayFollow Q [] → NodeReads Q old → NodeReads Anything new)
+nodes_put : (P : Rests) (i : ℕ) (ns : List Node) (old new put : Node) → slice_get ns i ≡ Some old → ((Q : Rests) → NodeReads Q old → NodeReads Anything new)
     → (suc i < length ns → NodeReads Anything put) → NodeReads P put → NodesRead P (listed_nodes ns) → NodesRead P (listed_nodes (insert (set ns i new) (suc i) put))
-nodes_put P i [] old new put m h f a p x = absurd (cc)
-nodes_put P zero (n ∷ []) old new put m h f a p (last_node x) = let e : n ≡ old = cc in next_node (f P m (subst (NodeReads P) e x)) (last_node p)
-nodes_put P zero (n ∷ k ∷ ks) old new put m h f a p (next_node x xs) = let e : n ≡ old = cc in next_node (f Anything tt (subst (NodeReads Anything) e x)) (next_node (a (omega arith)) xs)
-nodes_put P (suc i) (n ∷ []) old new put m h f a p x = absurd (cc)
-nodes_put P (suc i) (n ∷ k ∷ ks) old new put m h f a p (next_node x xs) = node_before x (nodes_put P i (k ∷ ks) old new put m h f (λ l. a (omega arith)) p xs)
+nodes_put P i [] old new put h f a p x = absurd (cc)
+nodes_put P zero (n ∷ []) old new put h f a p (last_node x) = let e : n ≡ old = cc in next_node (f P (subst (NodeReads P) e x)) (last_node p)
+nodes_put P zero (n ∷ k ∷ ks) old new put h f a p (next_node x xs) = let e : n ≡ old = cc in next_node (f Anything (subst (NodeReads Anything) e x)) (next_node (a (omega arith)) xs)
+nodes_put P (suc i) (n ∷ []) old new put h f a p x = absurd (cc)
+nodes_put P (suc i) (n ∷ k ∷ ks) old new put h f a p (next_node x xs) = node_before x (nodes_put P i (k ∷ ks) old new put h f (λ l. a (omega arith)) p xs)
 
 -- a node put before all others
-pub nodes_put_first : (P : Rests) (ns : List Node) (put : Node) → (0 < length ns → NodeReads Anything put) → NodeReads P put → NodesRead P (listed_nodes ns) → NodesRead P (listed_nodes (put ∷ ns))
+nodes_put_first : (P : Rests) (ns : List Node) (put : Node) → (0 < length ns → NodeReads Anything put) → NodeReads P put → NodesRead P (listed_nodes ns) → NodesRead P (listed_nodes (put ∷ ns))
 nodes_put_first P [] put a p x = last_node p
 nodes_put_first P (n ∷ ns) put a p x = next_node (a (omega arith)) x
 
 -- a document with a node behind another one, and before all others, where the leading text got what it lacked
-pub content_put : (i : ℕ) (l t : Text) (ns : List Node) (old new put : Node) → slice_get ns i ≡ Some old → ((Q : Rests) → MayFollow Q [] → NodeReads Q old → NodeReads Anything new)
-    → (suc i < length ns → NodeReads Anything put) → NodeReads (last_rests t TextEnd) put → ContentReads TextEnd l t (listed_nodes ns) → ContentReads TextEnd l t (listed_nodes (insert (set ns i new) (suc i) put))
-content_put i l t [] old new put h f a p c = absurd (cc)
-content_put i l t (n ∷ ns) old new put h f a p (with_nodes b x g) =
-    content_of TextEnd l t (insert (set (n ∷ ns) i new) (suc i) put) b (nodes_put (last_rests t TextEnd) i (n ∷ ns) old new put (may_end t) h f a p x) g
-  where
-    may_end : (t : Text) → MayFollow (last_rests t TextEnd) []
-    may_end [] = refl
-    may_end (c ∷ t) = tt
+pub content_put : (P : Rests) (i : ℕ) (l t : Text) (ns : List Node) (old new put : Node) → slice_get ns i ≡ Some old → ((Q : Rests) → NodeReads Q old → NodeReads Anything new)
+    → (suc i < length ns → NodeReads Anything put) → NodeReads (last_rests t P) put → ContentReads P l t (listed_nodes ns) → ContentReads P l t (listed_nodes (insert (set ns i new) (suc i) put))
+content_put P i l t [] old new put h f a p c = absurd (cc)
+content_put P i l t (n ∷ ns) old new put h f a p (with_nodes b x g) =
+    content_of P l t (insert (set (n ∷ ns) i new) (suc i) put) b (nodes_put (last_rests t P) i (n ∷ ns) old new put h f a p x) g
 
-pub content_put_first : (l m t : Text) (ns : List Node) (put : Node) → (Gap true l [] → AddsNothing m) → (0 < length ns → NodeReads Anything put) → NodeReads (last_rests t TextEnd) put
-    → ContentReads TextEnd l t (listed_nodes ns) → ContentReads TextEnd m t (listed_nodes (put ∷ ns))
-content_put_first l m t [] put e a p (one_text g) = with_nodes (e (subst (λ (u : Text). Gap true u []) (append-nil l) (g [] refl))) (last_node p) (λ r q. no_gap)
-content_put_first l m t [] put e a p (two_texts b g) = with_nodes (e (gap_before b)) (last_node p) g
+alone_gap : (P : Rests) (l : Text) → IsGapBefore P l → Gap true l []
+alone_gap P l g = elim (may_end P) [ inl m ↦ subst (λ (u : Text). Gap true u []) (append-nil l) (g [] m) | inr m ↦ gap_before_close l [] (g (125 ∷ []) m) ]
+
+adding_gap : (l : Text) → AddsNothing l → Gap true l []
+adding_gap l b = subst (λ (u : Text). Gap true u []) (append-nil l) (gap_of (b [] [] data'.none (inl refl) (last_gap no_gap)))
+
+pub content_put_first : (P : Rests) (l m t : Text) (ns : List Node) (put : Node) → (Gap true l [] → AddsNothing m) → (0 < length ns → NodeReads Anything put) → NodeReads (last_rests t P) put
+    → ContentReads P l t (listed_nodes ns) → ContentReads P m t (listed_nodes (put ∷ ns))
+content_put_first P l m t [] put e a p (one_text g) = with_nodes (e (alone_gap P l g)) (last_node p) (λ r q. no_gap)
+content_put_first P l m t [] put e a p (two_texts b g) = with_nodes (e (adding_gap l b)) (last_node p) g
+content_put_first P l m t (n ∷ ns) put e a p (with_nodes b x g) = with_nodes (e (adding_gap l b)) (nodes_put_first (last_rests t P) (n ∷ ns) put a p x) g
+
+-- the place before the terminator, and one newline or none
+abbrev pub place_of : Bool → Place
+place_of true = behind_block
+place_of false = before_block
+
+-- what the readers say
+times_same : (n : ℕ) → times n 10 ≡ newlines n
+times_same zero = refl
+times_same (suc n) = ap (λ (t : Text). 10 ∷ t) (times_same n)
+
+pub gap_found : (t u : Text) (n : ℕ) → u ≡ t → GapLacks u (Some n) → GapSays t n
+gap_found t u n e (l, g, (a, less)) h = subst (λ (x : Text). AddsNothing (x ++ newlines n)) e (subst (λ (x : Text). AddsNothing (u ++ x)) (times_same n) a)
+
+pub gap_missing : (t u : Text) → u ≡ t → GapLacks u None → GapSays t 0
+gap_missing t u e f h = absurd (f (subst (λ (x : Text). Gap true x []) (sym e) h))
+
+pub end_found : (t u : Text) (n : ℕ) → u ≡ t → TerminatorLacks u (Some n) → EndSays t n
+end_found t u n e (l, g, (a, less)) v x y = subst (λ (z : Text). Terminates Anything (z ++ newlines n)) e (subst (λ (z : Text). Terminates Anything (u ++ z)) (times_same n) a)
+
+pub end_missing : (t u : Text) → u ≡ t → TerminatorLacks u None → EndSays t 0
+end_missing t u e f v x y = absurd (f (v, subst (λ (z : Text). Terminator z v) (sym e) x, y))
+
+pub place_found : (b : Bool) (p : Place) (t : Text) (o : Bool) → p ≡ place_of b → PlaceLacks p t (Some o) → PlaceSays (block_if b) t (newline_count o)
+place_found true p t true e x = let y : PlaceLacks behind_block t (Some true) = subst (λ z. PlaceLacks z t (Some true)) e x in λ h r v q. y.1.0 r v q
+place_found true p t false e x = let y : PlaceLacks behind_block t (Some false) = subst (λ z. PlaceLacks z t (Some false)) e x in λ h r v q. subst (λ (z : Text). AfterChildren (z ++ r) r) (sym (append-nil t)) (y.1 r v q)
+place_found false p t true e x = let y : PlaceLacks before_block t (Some true) = subst (λ z. PlaceLacks z t (Some true)) e x in λ h r v q. y.1.0 r v q
+place_found false p t false e x = let y : PlaceLacks before_block t (Some false) = subst (λ z. PlaceLacks z t (Some false)) e x in λ h r v q. subst (λ (z : Text). BeforeChildren (z ++ r) r) (sym (append-nil t)) (y.1 r v q)
+
+pub place_missing : (b : Bool) (p : Place) (t : Text) → p ≡ place_of b → PlaceLacks p t None → PlaceSays (block_if b) t 0
+place_missing true p t e x = let y : PlaceLacks behind_block t None = subst (λ z. PlaceLacks z t None) e x in λ h. absurd (y h)
+place_missing false p t e x = let y : PlaceLacks before_block t None = subst (λ z. PlaceLacks z t None) e x in λ h. absurd (y h)
+
+-- a node that ends as its format does
+moved : (P : Rests) (d e : Document) (f : NodeFormat) → EndReads P (children d) f → EndReads P (children e) f
+moved P d e f x = record { place = λ r p t. x.place r p t; terminator = x.terminator }
+
+kept_end : (rest : Rest) (o : Option Document) (c : Children) (f g : NodeFormat) → c ≡ children_of o → EndsReadAs rest (block_if (is_some o)) f g → EndsReadAs rest c f g
+kept_end rest None c f g e x = subst (λ (z : Children). EndsReadAs rest z f g) (sym e) x
+kept_end Rest.End (Some d) c f g e x = tt
+kept_end Rest.Brace (Some d) c f g e x = subst (λ (z : Children). EndsReadAs Rest.Brace z f g) (sym e) (λ P b y. moved (BlockEnd (Some b)) new_document d g (x P b (moved P d new_document f y)))
+kept_end Rest.Text (Some d) c f g e x = subst (λ (z : Children). EndsReadAs Rest.Text z f g) (sym e) (λ P y. moved Anything new_document d g (x P (moved P d new_document f y)))
+
+format_exchanged : (P Q : Rests) (h : Head) (c : Children) (f g : NodeFormat) → h.format ≡ Some f → g ≡ record f { before_terminator = g.before_terminator; terminator = g.terminator; trailing = g.trailing }
+    → (EndReads P c f → EndReads Q c g) → NodeReads P (node h c) → NodeReads Q (node (record h { format = Some g }) c)
+format_exchanged P Q h c f g k s x r =
+    subst (λ (z : NodeFormat). NodeReads Q (node (record h { format = Some z }) c)) (sym s)
+    (end_exchanged P Q h c f g.before_terminator g.terminator g.trailing k (λ y. subst (EndReads Q c) s (x y)) r)
+
+own_format : (P Q : Rests) (h : Head) (c : Children) → ((f : NodeFormat) → h.format ≡ Some f → EndReads P c f → EndReads Q c f) → NodeReads P (node h c) → NodeReads Q (node h c)
+own_format P Q h c x (reads {f = f} e head kids end) = reads e head kids (x f e end)
+
+has_format : (P : Rests) (h : Head) (c : Children) → NodeReads P (node h c) → (f : NodeFormat) × (h.format ≡ Some f)
+has_format P h c (reads {f = f} e head kids end) = (f, e)
+
+-- its block, as a tree
+abbrev block_of : KdlNode → Option Document
+block_of n = option_map document_tree (out-KdlNode n).children
+
+node_changed : (P Q : Rests) (n : KdlNode) (o : Option KdlNodeFormat) → IsEnded (format_or_printed (head_tree (out-KdlNode n))) (node_texts o)
+    → ((f : NodeFormat) → node_texts (out-KdlNode n).format ≡ Some f → EndReads P (children_of (block_of n)) f → EndReads Q (children_of (block_of n)) (unwrap_or (node_texts o) f))
+    → NodeReads P (node_tree n) → NodeReads Q (node_tree (end_with o n))
+node_changed P Q n None w x r = subst (NodeReads Q) (sym (node_tree_out n)) (own_format P Q (head_tree (out-KdlNode n)) (children_of (block_of n)) x (subst (NodeReads P) (node_tree_out n) r))
+node_changed P Q n (Some g) w x r =
+    let h = head_tree (out-KdlNode n) in
+    let c = children_of (block_of n) in
+    let old : NodeReads P (node h c) = subst (NodeReads P) (node_tree_out n) r in
+    let (f, e) = has_format P h c old in
+    let same : format_or_printed h ≡ f = ap (λ (z : Option NodeFormat). unwrap_or z (printed_format h.entries)) e in
+    let t = node_format_tree g in
+    let rest = w.2.rest ∙ ap (λ (z : NodeFormat). record z { before_terminator = t.before_terminator; terminator = t.terminator; trailing = t.trailing }) same in
+    subst (NodeReads Q) (sym (node_tree_roll (record (out-KdlNode n) { format = Some g }))) (format_exchanged P Q h c f t e rest (x f e) old)
+
+is_some_mapped : (o : Option KdlDocument) → is_some o ≡ is_some (option_map document_tree o)
+is_some_mapped None = refl
+is_some_mapped (Some d) = refl
+
+pub node_ends : (rest : Rest) (n : KdlNode) (b : Bool) (o : Option KdlNodeFormat) → b ≡ is_some (out-KdlNode n).children → IsEnded (format_or_printed (head_tree (out-KdlNode n))) (node_texts o)
+    → ((f : NodeFormat) → node_texts (out-KdlNode n).format ≡ Some f → EndsReadAs rest (block_if b) f (unwrap_or (node_texts o) f)) → (rest ≡ Rest.End → o ≡ None) → EndsAs rest n (end_with o n)
+node_ends rest n b o k w x last = go rest x last
   where
-    gap_before : AddsNothing l → Gap true l []
-    gap_before b = subst (λ (u : Text). Gap true u []) (append-nil l) (gap_of (b [] [] data'.none (inl refl) (last_gap no_gap)))
-content_put_first l m t (n ∷ ns) put e a p (with_nodes b x g) =
-    with_nodes (e (subst (λ (u : Text). Gap true u []) (append-nil l) (gap_of (b [] [] data'.none (inl refl) (last_gap no_gap))))) (nodes_put_first (last_rests t TextEnd) (n ∷ ns) put a p x) g
+    at : (rest : Rest) (f : NodeFormat) → EndsReadAs rest (block_if b) f (unwrap_or (node_texts o) f) → EndsReadAs rest (children_of (block_of n)) f (unwrap_or (node_texts o) f)
+    at rest f y =
+        kept_end rest (block_of n) (children_of (block_of n)) f (unwrap_or (node_texts o) f) refl
+        (subst (λ (z : Bool). EndsReadAs rest (block_if z) f (unwrap_or (node_texts o) f)) (k ∙ is_some_mapped (out-KdlNode n).children) y)
+
+    go : (rest : Rest) → ((f : NodeFormat) → node_texts (out-KdlNode n).format ≡ Some f → EndsReadAs rest (block_if b) f (unwrap_or (node_texts o) f)) → (rest ≡ Rest.End → o ≡ None) → EndsAs rest n (end_with o n)
+    go Rest.End x last = ap (λ (z : Option KdlNodeFormat). end_with z n) (last refl)
+    go Rest.Brace x last = λ P d r. node_changed P (BlockEnd (Some d)) n o w (λ f e. at Rest.Brace f (x f e) P d) r
+    go Rest.Text x last = λ P r. node_changed P Anything n o w (λ f e. at Rest.Text f (x f e) P) r
+
+-- what the format of a node lacks
+pub newlines_read : (k : Children) (f : NodeFormat) (b e : ℕ) → PlaceSays k f.before_terminator b → terminator_text f ≡ [] → e ≡ 1 → EndsReadAs Rest.Text k f (with_newlines f b e)
+newlines_read k f b e says z one P end = subst (λ (n : ℕ). EndReads Anything k (with_newlines f b n)) (sym one) (open_ends P k f b z says end)
+
+pub newlines_else : (rest : Rest) (k : Children) (f : NodeFormat) (b : ℕ) → (rest ≡ Rest.Text → ⊥) → PlaceSays k f.before_terminator b → terminator_text f ≡ [] → EndsReadAs rest k f (with_newlines f b 0)
+newlines_else Rest.End k f b n says z = tt
+newlines_else Rest.Brace k f b n says z = λ P d end. open_before_brace P d k f b z says end
+newlines_else Rest.Text k f b n says z = absurd (n refl)
+
+any_end : (P : Rests) (k : Children) (f : NodeFormat) → EndReads Anything k f → EndReads P k f
+any_end P k f x = record { place = λ r p t. x.place r tt t; terminator = λ r s xs p z d. x.terminator r s xs tt z d }
+
+pub terminator_read : (rest : Rest) (k : Children) (f : NodeFormat) (e : ℕ) → (terminator_text f ≡ [] → ⊥) → EndSays (terminator_text f) e → EndsReadAs rest k f (with_newlines f 0 e)
+terminator_read rest k f e some says = to rest
+  where
+    go : (P : Rests) (z : Text) → terminator_text f ≡ z → EndReads P k f → EndReads Anything k (with_newlines f 0 e)
+    go P [] q end = absurd (some q)
+    go P (c ∷ s) q end = closed_ends P k f e c s q says end
+
+    to : (rest : Rest) → EndsReadAs rest k f (with_newlines f 0 e)
+    to Rest.End = tt
+    to Rest.Brace = λ P d end. any_end (BlockEnd (Some d)) k (with_newlines f 0 e) (go P (terminator_text f) refl end)
+    to Rest.Text = λ P end. go P (terminator_text f) refl end
+
+pub nothing_added : (rest : Rest) (k : Children) (f : NodeFormat) (b e : ℕ) → b ≡ 0 → e ≡ 0 → EndsReadAs rest k f (with_newlines f b e) → EndsReadAs rest k f f
+nothing_added rest k f b e h q x = subst (EndsReadAs rest k f) (ap (λ (n : ℕ). with_newlines f n e) h ∙ ap (with_newlines f 0) q ∙ none_more f f.trailing) x
+  where
+    none_more : (f : NodeFormat) (t : Text) → end_newlines t 0 (record f { before_terminator = f.before_terminator ++ newlines 0; trailing = t }) ≡ record f { trailing = t }
+    none_more f [] = rw (append-nil f.before_terminator, append-nil f.terminator) refl
+    none_more f (c ∷ s) = rw (append-nil f.before_terminator, append-nil (c ∷ s)) refl
+
+pub says_as : (a b t u : Text) (n : ℕ) → a ≡ t → b ≡ u → EndSays (a ++ b) n → EndSays (t ++ u) n
+says_as a b t u n e f x = subst (λ (z : Text). EndSays (t ++ z) n) f (subst (λ (z : Text). EndSays (z ++ b) n) e x)
+
+pub both_empty : (t u : Text) → t ++ u ≡ [] → (t ≡ []) × (u ≡ [])
+both_empty [] u e = (refl, e)
+both_empty (c ∷ t) u e = absurd (cc)
+
+pub some_text : (t u : Text) → ((t ≡ []) → ⊥) → t ++ u ≡ [] → ⊥
+some_text t u f e = f (both_empty t u e).0
+
+-- where a call succeeds
+pub format_ok : {E : Type 0} (r : Result (Option KdlNodeFormat) E) (fmt : KdlNodeFormat) (p : Option KdlNodeFormat) (rest : Rest) (k : Children) → p ≡ Some fmt
+    → IfOk r (λ o. EndsReadAs rest k (node_format_tree fmt) (unwrap_or (node_texts o) (node_format_tree fmt))) → IfOk r (λ o. (f : NodeFormat) → node_texts p ≡ Some f → EndsReadAs rest k f (unwrap_or (node_texts o) f))
+format_ok (Ok o) fmt p rest k i x = λ f e. subst (λ (f : NodeFormat). EndsReadAs rest k f (unwrap_or (node_texts o) f)) (same_some (node_format_tree fmt) f (node_texts p) (ap node_texts i) e) x
+format_ok (Err e) fmt p rest k i x = tt
+
+pub node_ends_ok : {E : Type 0} (r : Result (Option KdlNodeFormat) E) (rest : Rest) (n : KdlNode) (b : Bool) → b ≡ is_some (out-KdlNode n).children
+    → IfOk r (λ o. IsEnded (format_or_printed (head_tree (out-KdlNode n))) (node_texts o))
+    → IfOk r (λ o. (f : NodeFormat) → node_texts (out-KdlNode n).format ≡ Some f → EndsReadAs rest (block_if b) f (unwrap_or (node_texts o) f))
+    → (rest ≡ Rest.End → IfOk r (λ o. o ≡ None)) → IfOk r (λ o. EndsAs rest n (end_with o n))
+node_ends_ok (Ok o) rest n b k w x l = node_ends rest n b o k w x l
+node_ends_ok (Err e) rest n b k w x l = tt

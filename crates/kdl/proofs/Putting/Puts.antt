@@ -13,11 +13,12 @@ use Rattle.kdl_parts.specs.Formats.{document_format_tree, node_texts}
 use Rattle.kdl_parts.specs.declared.format.KdlNodeFormat.{KdlNodeFormat}
 use Rattle.kdl.specs.Change.{with_nodes}
 use Rattle.kdl.specs.DocumentLookups.{nodes_of}
-use Rattle.kdl.specs.Internal.Ends.{IsEnded, LeadingEnded, PutBehind, PutFirst, end_with, lead_with, led_with}
+use Rattle.kdl.specs.Internal.Ends.{EndsAs, IsEnded, LeadingEnded, PutBehind, PutFirst, end_with, lead_with, led_with}
 use Rattle.kdl.specs.Nodes.{EndedAt, EndedBefore, IsPut, LeadsWith, PrintsPut, PrintsWithout, WithNewlines, format_or_printed, newlines, said_with, said_without, text_from, text_up_to, texts_around, trees}
 use Rattle.kdl.specs.Tree.{document_says, document_tree, head_tree, node_says, node_tree, nodes_tree}
 use Rattle.kdl.specs.declared.document.KdlDocument.{KdlDocument}
 use Rattle.kdl.specs.declared.document.KdlDocument.TheViews.{out-KdlDocument, out-KdlNode, out-roll-KdlDocument, roll-KdlDocument}
+use Rattle.kdl.specs.declared.ends.Rest.TheVariants as Rest
 use Rattle.kdl.specs.declared.node.KdlNode.{KdlNode}
 use Rattle.kdl.proofs.Putting.NodeEnds.{newlines_printed, newlines_said, node_ended}
 use Rattle.kdl.proofs.Printing.PrintedParts.{document_printed, print_nodes-join}
@@ -104,7 +105,7 @@ put_says i n d e p =
     ∙ ap (said_with i (node_says n)) (sym (says_of d))
 
 -- lists in memory and their trees
-insert_trees : (xs : List KdlNode) (i : ℕ) (y : KdlNode) → map node_tree (insert xs i y) ≡ insert (map node_tree xs) i (node_tree y)
+pub insert_trees : (xs : List KdlNode) (i : ℕ) (y : KdlNode) → map node_tree (insert xs i y) ≡ insert (map node_tree xs) i (node_tree y)
 insert_trees xs i y =
     map-append node_tree (take i xs) (y ∷ drop i xs)
     ∙ ap (λ z. z ++ (node_tree y ∷ map node_tree (drop i xs))) (sym (take-map node_tree i xs))
@@ -155,7 +156,7 @@ put_behind i n own d e h p =
 
 leading_put : (o p : Option DocumentFormat) (l : Option Text) → LeadingEnded o l → p ≡ led_with l o → (k : ℕ) × (k ≤ 2) × LeadsWith k o p
 leading_put o p None h e = (0, omega arith, e)
-leading_put o p (Some t) (f, k, l, a, b) e =
+leading_put o p (Some t) (f, k, l, a, b, g) e =
     (suc k, omega arith, (f, a, e ∙ ap (option_map (lead_with t)) a ∙ ap (λ (z : Text). Some (record f { leading = z })) b))
 
 pub put_first : (n : KdlNode) (own : Option KdlNodeFormat) (d e : KdlDocument) → IsEnded (format_or_printed (head_tree (out-KdlNode n))) (node_texts own)
@@ -251,9 +252,9 @@ put_at d v i n m e own h z g w =
 
 -- the node before it, with its format
 pub behind_put : (d p : KdlDocument) (i : ℕ) (n b m x : KdlNode) (o : Option KdlNodeFormat) → i < length (nodes_of d) → get_or (nodes_of d) i b ≡ b
-    → IsEnded (format_or_printed (head_tree (out-KdlNode b))) (node_texts o) → nodes_of p ≡ insert (nodes_of d) (i + 1) n → p ≡ with_nodes d (out-KdlDocument p).nodes
+    → IsEnded (format_or_printed (head_tree (out-KdlNode b))) (node_texts o) → EndsAs Rest.Text b (end_with o b) → nodes_of p ≡ insert (nodes_of d) (i + 1) n → p ≡ with_nodes d (out-KdlDocument p).nodes
     → get_or (nodes_of p) i m ≡ m → x ≡ end_with o m → PutBehind i n d (with_nodes p (with_item (out-KdlDocument p).nodes i x))
-behind_put d p i n b m x o h at c q r g w =
+behind_put d p i n b m x o h at c ends q r g w =
     let xs = nodes_of d in
     let there : slice_get xs i ≡ Some b = slice_get-get_or xs i b h ∙ ap Some at in
     let same : m ≡ b = sym g ∙ ap (λ (l : List KdlNode). get_or l i m) q ∙ get_or-insert_below xs (i + 1) n m i (omega arith) (omega arith) ∙ get_or_from_slice_get xs i b m there in
@@ -262,6 +263,7 @@ behind_put d p i n b m x o h at c q r g w =
       format = o;
       there = there;
       ended = c;
+      reads = ends;
       nodes = nodes_with p (with_item (out-KdlDocument p).nodes i x) ∙ ap (λ (l : List KdlNode). set l i x) (q ∙ ap (λ (k : ℕ). insert xs k n) (add-one i)) ∙ set_below xs i n x h
           ∙ ap (λ (y : KdlNode). insert (set xs i y) (suc i) n) (w ∙ ap (end_with o) same) ∙ ap (λ (k : ℕ). insert (set xs i (end_with o b)) k n) (sym (add-one i));
       rest = let v = with_item (out-KdlDocument p).nodes i x in

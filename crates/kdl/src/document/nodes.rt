@@ -3,17 +3,18 @@
 ghost use Rattle.kdl.specs.DocumentLookups.{nodes_of};
 ghost use Rattle.kdl.specs.Change.{with_nodes};
 ghost use Rattle.kdl.specs.Fields.{held_nodes};
-ghost use Rattle.kdl.specs.Internal.Ends.{LeadingEnded, PutBehind, PutFirst, end_with, lead_with};
+ghost use Rattle.kdl.specs.Internal.Ends.{LeadingEnded, PutBehind, PutFirst, end_with, lead_with, IsRestAt, ReadsIn};
 ghost use Rattle.kdl.specs.Nodes.{IsPut, PrintsPut, PrintsWithout, said_with, said_without, texts_around};
 ghost use Rattle.kdl.specs.ReadsBack.{DocumentReadsBack, NodeReadsBack};
 ghost use Rattle.kdl.specs.Tree.{document_says, document_tree, node_says, node_tree};
 ghost use Rattle.kdl.specs.declared.document.KdlDocument.{out-KdlDocument};
+ghost use Rattle.kdl_grammar.specs.Print.{trailing_text};
 ghost use Rattle.kdl_value.specs.Tree.{text_of};
 ghost use Rattle.std.specs.List.{insert, remove};
-ghost use Rattle.std.specs.Prelude.{◌≡◌, ◌<◌, ◌≤◌, IfErr, IfOk, OnErr, OnOk, Some, if◌then◌else◌, is_ok, length, option_map, slice_get};
+ghost use Rattle.std.specs.Prelude.{◌≡◌, ◌≢◌, ◌<◌, ◌≤◌, [], IfErr, IfOk, MatchBool, OnErr, OnOk, Some, if◌then◌else◌, is_ok, length, option_map, slice_get};
 
 use crate::document::KdlDocument;
-use crate::ends::{Rest, gap_newlines, push_newlines};
+use crate::ends::{Rest, gap_newlines, is_empty, push_newlines};
 use crate::node::KdlNode;
 use kdl_parts::KdlNodeFormat;
 use std::alloc::AllocError;
@@ -42,6 +43,8 @@ impl KdlDocument {
             (PrintsPut (length (nodes_of self.old)) node self.old self.new) }
         ensures data { OnOk result (document_says self.new ≡
             said_with (length (nodes_of self.old)) (node_says node) (document_says self.old)) }
+        ensures reads { OnOk result (DocumentReadsBack self.old → NodeReadsBack node
+            → DocumentReadsBack self.new) }
         ensures back { IfErr result (λ e. e.0 ≡ node) }
         ensures refused { OnErr result (document_tree self.new ≡ document_tree self.old) }
     {
@@ -67,6 +70,8 @@ impl KdlDocument {
         ensures prints { OnOk result (PrintsPut index node self.old self.new) }
         ensures data { OnOk result (document_says self.new ≡
             said_with index (node_says node) (document_says self.old)) }
+        ensures reads { OnOk result (DocumentReadsBack self.old → NodeReadsBack node
+            → DocumentReadsBack self.new) }
         ensures back { IfErr result (λ e. e.0 ≡ node) }
         ensures refused { OnErr result (document_tree self.new ≡ document_tree self.old) }
     {
@@ -103,6 +108,8 @@ impl KdlDocument {
     ) -> Result<(), (KdlNode, AllocError)>
         requires { index ≤ length (nodes_of self.old) }
         ensures nodes { OnOk result (IsPut index (node_tree node) self.old self.new) }
+        ensures reads { OnOk result (ReadsIn in_block self.old → NodeReadsBack node
+            → ReadsIn in_block self.new) }
         ensures back { IfErr result (λ e. e.0 ≡ node) }
         ensures refused { OnErr result (document_tree self.new ≡ document_tree self.old) }
     {
@@ -116,19 +123,30 @@ impl KdlDocument {
         }
     }
 
+    /// Whether text is after the nodes.
+    fn has_trailing(&self) -> bool
+        ensures { MatchBool result (trailing_text (texts_around self.now) ≢ [])
+            (trailing_text (texts_around self.now) ≡ []) }
+    {
+        match &self.format {
+            Some(format) => !is_empty(&format.trailing),
+            None => false,
+        }
+    }
+
     /// What follows a node that is put in at the index.
-    fn rest_at(&self, index: usize, in_block: bool) -> Rest {
-        let (has_format, has_trailing) = match &self.format {
-            Some(format) => (true, !format.trailing.is_empty()),
-            None => (false, false),
-        };
-        if index < self.nodes.len() || has_trailing {
+    fn rest_at(&self, index: usize, in_block: bool) -> Rest
+        ensures { IsRestAt in_block index self.now result }
+    {
+        if index < self.nodes.len() || self.has_trailing() {
             return Rest::Text;
         }
-        match (in_block, has_format) {
-            (false, _) => Rest::End,
-            (true, true) => Rest::Brace,
-            (true, false) => Rest::Text,
+        if !in_block {
+            return Rest::End;
+        }
+        match &self.format {
+            Some(_) => Rest::Brace,
+            None => Rest::Text,
         }
     }
 

@@ -1,6 +1,6 @@
 //! Children put into the block of a node.
 
-ghost use Rattle.kdl.specs.Internal.Ends.{BeforeNewBlock, BlockBegins, IsEnded, end_with};
+ghost use Rattle.kdl.specs.Internal.Ends.{BeforeNewBlock, BlockBegins, EndsAs, IsEnded, end_with};
 ghost use Rattle.kdl.specs.Iterators.{child_nodes};
 ghost use Rattle.kdl.specs.Nodes.{ChildPut, format_or_printed};
 ghost use Rattle.kdl.specs.Tree.{head_tree, node_tree};
@@ -118,8 +118,9 @@ impl KdlNode {
 
     /// The format that the node takes before the rest; none where it lacks nothing.
     pub(crate) fn ended(&self, rest: Rest) -> Result<Option<KdlNodeFormat>, AllocError>
-        ensures { IfOk result (λ o. IsEnded
+        ensures is_ended { IfOk result (λ o. IsEnded
             (format_or_printed (head_tree (out-KdlNode self.now))) (node_texts o)) }
+        ensures reads { IfOk result (λ o. EndsAs rest self.now (end_with o self.now)) }
     {
         ended_format(
             *self.entries.allocator(),

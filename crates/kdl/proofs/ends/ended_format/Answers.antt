@@ -1,4 +1,9 @@
+use Rattle.kdl.specs.Internal.Ends.{block_if}
+use Rattle.kdl.proofs.Putting.PutReads.{format_ok}
 use Rattle.kdl.proofs.ends.ended_format.Goals as goal
 
-pub returns-in-Some : goal.returns-in-Some
-returns-in-Some c = rw c.in-Some.is c.ended.ensures
+pub returns-in-Some-clause-is_ended : goal.returns-in-Some-clause-is_ended
+returns-in-Some-clause-is_ended c = rw c.in-Some.is c.ended.ensures.is_ended
+
+pub returns-in-Some-clause-reads : goal.returns-in-Some-clause-reads
+returns-in-Some-clause-reads c = format_ok c.ended.result c.in-Some.format c.args.format.now c.args.rest (block_if c.args.has_block) c.in-Some.is c.ended.ensures.reads

@@ -1,6 +1,7 @@
 use Rattle.std.proofs.Common.{◌≡◌, ℕ, suc, arith, subst, sym}
 use Rattle.kdl.specs.Nodes.{IsPut}
 use Rattle.kdl.specs.Tree.{node_tree}
+use Rattle.kdl.proofs.Putting.DocumentReads.{put_behind_reads, put_first_reads}
 use Rattle.kdl.proofs.Putting.Puts.{on_ok, put_behind, put_first}
 use Rattle.kdl.proofs.document.KdlDocument.put.Goals as goal
 
@@ -8,10 +9,22 @@ pub returns-in-Some-clause-nodes : goal.returns-in-Some-clause-nodes
 returns-in-Some-clause-nodes c =
     let e : suc c.in-Some.last ≡ c.args.index = omega (arith, c.in-Some.ensures) in
     let P : ℕ → Type 0 = λ i. IsPut i (node_tree c.args.node) c.args.self.now c.put_behind.new.self in
-    on_ok c.put_behind.result (λ p. subst P e (put_behind c.in-Some.last c.args.node c.in-Ok.own c.args.self.now c.put_behind.new.self c.in-Ok.ensures p)) c.put_behind.ensures.put
+    on_ok c.put_behind.result (λ p. subst P e (put_behind c.in-Some.last c.args.node c.in-Ok.own c.args.self.now c.put_behind.new.self c.in-Ok.ensures.is_ended p)) c.put_behind.ensures.put
 
 pub returns-in-None-clause-nodes : goal.returns-in-None-clause-nodes
 returns-in-None-clause-nodes c =
     let e : 0 ≡ c.args.index = omega (arith, c.in-None.ensures) in
     let P : ℕ → Type 0 = λ i. IsPut i (node_tree c.args.node) c.args.self.now c.put_first.new.self in
-    on_ok c.put_first.result (λ p. subst P e (put_first c.args.node c.in-Ok.own c.args.self.now c.put_first.new.self c.in-Ok.ensures p)) c.put_first.ensures.put
+    on_ok c.put_first.result (λ p. subst P e (put_first c.args.node c.in-Ok.own c.args.self.now c.put_first.new.self c.in-Ok.ensures.is_ended p)) c.put_first.ensures.put
+
+pub returns-in-Some-clause-reads : goal.returns-in-Some-clause-reads
+returns-in-Some-clause-reads c =
+    on_ok c.put_behind.result
+    (put_behind_reads c.args.in_block c.in-Some.last c.args.index c.args.self.now c.put_behind.new.self c.rest_at.result c.args.node c.in-Ok.own (omega (arith, c.in-Some.ensures)) c.rest_at.ensures c.in-Ok.ensures.reads)
+    c.put_behind.ensures.put
+
+pub returns-in-None-clause-reads : goal.returns-in-None-clause-reads
+returns-in-None-clause-reads c =
+    on_ok c.put_first.result
+    (put_first_reads c.args.in_block c.args.index c.args.self.now c.put_first.new.self c.rest_at.result c.args.node c.in-Ok.own (omega (arith, c.in-None.ensures)) c.rest_at.ensures c.in-Ok.ensures.reads)
+    c.put_first.ensures.put

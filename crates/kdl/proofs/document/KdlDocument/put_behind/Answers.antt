@@ -6,4 +6,4 @@ use Rattle.kdl.proofs.document.KdlDocument.put_behind.Goals as goal
 pub returns-clause-put : goal.returns-clause-put
 returns-clause-put c =
     behind_put c.args.self.now c.put_at.new.self c.args.last (end_with c.args.own c.args.node) c.index.result.now c.index_mut.result.now c.end.new.self c.in-Ok.before c.requires (sym c.index.ensures)
-    c.in-Ok.ensures c.in_ok-put_at.ensures.nodes c.in_ok-put_at.ensures.rest (sym c.index_mut.ensures.value) c.end.ensures
+    c.in-Ok.ensures.is_ended c.in-Ok.ensures.reads c.in_ok-put_at.ensures.nodes c.in_ok-put_at.ensures.rest (sym c.index_mut.ensures.value) c.end.ensures

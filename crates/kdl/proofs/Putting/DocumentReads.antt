@@ -1,0 +1,206 @@
+-- Documents and blocks that read back, with a node put in.
+use Rattle.std.proofs.Common.{◌≡◌, ◌⊎◌, inl, inr, ℕ, zero, suc, ◌+◌, ◌<◌, ◌≤◌, Bool, true, false, List, [], ◌∷◌, ◌++◌, length, map, take, drop, set, ap, ◌∙◌, sym, refl, subst, arith, Option, Some, None, option_map, slice_get, if◌then◌else◌, ◌==◌, add-one}
+use Rattle.std.proofs.lemmas.Bool.Decides.{nat_tests}
+use Rattle.std.proofs.lemmas.List.{append-nil, length-map, map-set}
+use Rattle.std.proofs.lemmas.Option.{slice_get-map}
+use Rattle.std.specs.List.{insert}
+use Rattle.kdl_text.specs.Chars.{Text}
+use Rattle.kdl_text.specs.Trivia.{Break, LineSpace, Slashdash, slashdash}
+use Rattle.kdl_text.specs.declared.span.SourceSpan.{SourceSpan}
+use Rattle.kdl_entry.specs.Internal.Tokens.{t_space, t_newline, t_bom}
+use Rattle.kdl_entry.proofs.Lexing.TokenUnique.{token_det}
+use Rattle.kdl_fmt.specs.Kept.{without_bom}
+use Rattle.kdl_grammar.specs.Grammar.{Gap, no_gap, line_space, dropped_node}
+use Rattle.kdl_grammar.specs.Print.{leading_text, trailing_text}
+use Rattle.kdl_grammar.specs.ReadsBack.{Rests, Anything, TextEnd, BlockEnd, MayFollow, AddsNothing, IsGapBefore, last_rests, NodeReads, NodesRead, no_node, last_node, next_node, ContentReads, one_text, two_texts, with_nodes, BlockReads, block, DocumentReads}
+use Rattle.kdl_grammar.specs.Tree.{DocumentFormat, Node, Nodes, none, first, document, listed_nodes}
+use Rattle.kdl_grammar.proofs.ReadingBack.Composing.{ends_before, weaker}
+use Rattle.kdl_parts.specs.declared.format.KdlNodeFormat.{KdlNodeFormat}
+use Rattle.kdl.specs.DocumentLookups.{nodes_of}
+use Rattle.kdl.specs.Internal.Ends.{EndsAs, GapSays, IsLast, IsRestAt, LeadingEnded, PutBehind, PutFirst, ReadsIn, end_with, lead_with, led_with, rests_after}
+use Rattle.kdl.specs.Nodes.{newlines, texts_around, trees}
+use Rattle.kdl.specs.ReadsBack.{NodeReadsBack}
+use Rattle.kdl.specs.Tree.{document_tree, node_tree}
+use Rattle.kdl.specs.declared.document.KdlDocument.{KdlDocument}
+use Rattle.kdl.specs.declared.document.KdlDocument.TheViews.{out-KdlDocument}
+use Rattle.kdl.specs.declared.ends.Rest.{Rest}
+use Rattle.kdl.specs.declared.ends.Rest.TheVariants as Rest
+use Rattle.kdl.specs.declared.node.KdlNode.{KdlNode}
+use Rattle.kdl.proofs.Putting.PutReads.{content_put, content_put_first}
+use Rattle.kdl.proofs.Putting.Puts.{insert_trees, span_kept, texts_kept}
+use Rattle.kdl.proofs.Trees.{document_tree_out}
+
+-- before fewer rests
+last_weaker : (P Q : Rests) (t : Text) {n : Node} → ((r : Text) → MayFollow Q r → MayFollow P r) → NodeReads (last_rests t P) n → NodeReads (last_rests t Q) n
+last_weaker P Q [] w x = weaker x w
+last_weaker P Q (c ∷ t) w x = x
+
+nodes_weaker : (P Q : Rests) {ns : Nodes} → ((r : Text) → MayFollow Q r → MayFollow P r) → NodesRead P ns → NodesRead Q ns
+nodes_weaker P Q w no_node = no_node
+nodes_weaker P Q w (last_node x) = last_node (weaker x w)
+nodes_weaker P Q w (next_node x xs) = next_node x (nodes_weaker P Q w xs)
+
+all_weaker : (P Q : Rests) (t : Text) {ns : Nodes} → ((r : Text) → MayFollow Q r → MayFollow P r) → NodesRead (last_rests t P) ns → NodesRead (last_rests t Q) ns
+all_weaker P Q [] w x = nodes_weaker P Q w x
+all_weaker P Q (c ∷ t) w x = x
+
+content_weaker : (P Q : Rests) (l t : Text) (ns : Nodes) → ((r : Text) → MayFollow Q r → MayFollow P r) → ContentReads P l t ns → ContentReads Q l t ns
+content_weaker P Q l t ns w (one_text g) = one_text (λ r q. g r (w r q))
+content_weaker P Q l t ns w (two_texts a g) = two_texts a (λ r q. g r (w r q))
+content_weaker P Q l t ns w (with_nodes a x g) = with_nodes a (all_weaker P Q t w x) (λ r q. g r (w r q))
+
+-- U+FEFF begins no gap
+bom_line : (s : Text) {r : Text} → LineSpace (0xFEFF ∷ s) r → ⊥
+bom_line s (LineSpace.space n) = let e = (token_det (t_space n) t_bom).1 in cc
+bom_line s (LineSpace.«break» n) = let e = (token_det (t_newline n) t_bom).1 in cc
+
+slashdash_text : {s t : Text} → Slashdash s t → (u : Text) × (s ≡ 47 ∷ u)
+slashdash_text (slashdash {s = s} l) = (45 ∷ s, refl)
+
+bom_gap : (s : Text) {t r : Text} → t ≡ 0xFEFF ∷ s → r ≡ [] → Gap true t r → ⊥
+bom_gap s e h no_gap = cc
+bom_gap s e h (line_space {t = u} n g) = bom_line s (subst (λ (z : Text). LineSpace z u) e n)
+bom_gap s e h (dropped_node m x t g) = let k = slashdash_text m in bom_first (sym k.1 ∙ e)
+  where
+    bom_first : {u s : Text} → ◌≡◌ {A = Text} (47 ∷ u) (0xFEFF ∷ s) → ⊥
+    bom_first e = cc
+
+gap_alone : (t : Text) → Gap true t [] → without_bom t ≡ t
+gap_alone [] g = refl
+gap_alone (c ∷ s) g = go (c == 0xFEFF) refl
+  where
+    go : (b : Bool) → (c == 0xFEFF) ≡ b → (if b then s else c ∷ s) ≡ c ∷ s
+    go false e = refl
+    go true e = let h : c ≡ 0xFEFF = grind (arith, nat_tests) in absurd (bom_gap s (ap (λ (d : ℕ). d ∷ s) h) refl g)
+
+plain_says : (t : Text) (k : ℕ) → GapSays (without_bom t) k → Gap true t [] → AddsNothing (t ++ newlines k)
+plain_says t k says g = subst (λ (z : Text). GapSays z k) (gap_alone t g) says g
+
+-- the leading text, with what it lacked
+leading_led : (o : Option DocumentFormat) (l : Option Text) → LeadingEnded o l
+    → (k : ℕ) × GapSays (without_bom (leading_text o)) k × (leading_text (led_with l o) ≡ leading_text o ++ newlines k) × (trailing_text (led_with l o) ≡ trailing_text o)
+leading_led o None g = (0, g, sym (append-nil (leading_text o)), refl)
+leading_led o (Some t) (f, k, l, a, b, g) = (
+  suc k,
+  subst (λ (z : Option DocumentFormat). GapSays (without_bom (leading_text z)) (suc k)) (sym a) g,
+  ap (λ (z : Option DocumentFormat). leading_text (option_map (lead_with t) z)) a ∙ b ∙ ap (λ (z : Option DocumentFormat). leading_text z ++ newlines (suc k)) (sym a),
+  ap (λ (z : Option DocumentFormat). trailing_text (option_map (lead_with t) z)) a ∙ ap trailing_text (sym a),
+)
+
+-- a block that gets another leading text is before the same rests
+same_rests : (o : Option DocumentFormat) (l : Option Text) (r : Text) → MayFollow (BlockEnd (led_with l o)) r → MayFollow (BlockEnd o) r
+same_rests o None r m = m
+same_rests None (Some t) r m = m
+same_rests (Some f) (Some t) r m = m
+
+-- what the node that is put in reads before
+put_ends : (b : Bool) (i : ℕ) (d : KdlDocument) (rest : Rest) (n m : KdlNode) → IsRestAt b i d rest → EndsAs rest n m → NodeReadsBack n
+    → (i < length (trees d) → NodeReads Anything (node_tree m)) × NodeReads (last_rests (trailing_text (texts_around d)) (rests_after b (texts_around d))) (node_tree m)
+put_ends b i d Rest.End n m (e, (l, t)) s r =
+    let x : NodeReads TextEnd (node_tree m) = subst (λ (z : KdlNode). NodeReads TextEnd (node_tree z)) (sym s) r in (
+      λ h. absurd (omega (arith, length-map (nodes_of d) node_tree)),
+      subst (λ (z : Text). NodeReads (last_rests z (rests_after b (texts_around d))) (node_tree m)) (sym t)
+          (subst (λ (z : Bool). NodeReads (rests_after z (texts_around d)) (node_tree m)) (sym e) x),
+    )
+put_ends b i d Rest.Brace n m (e, f, k, (l, t)) s r = (
+  λ h. absurd (omega (arith, length-map (nodes_of d) node_tree)),
+  subst (λ (z : Text). NodeReads (last_rests z (rests_after b (texts_around d))) (node_tree m)) (sym t)
+      (subst (λ (z : Bool). NodeReads (rests_after z (texts_around d)) (node_tree m)) (sym e)
+      (subst (λ (z : Option DocumentFormat). NodeReads (BlockEnd z) (node_tree m)) (sym k) (s TextEnd f r))),
+)
+put_ends b i d Rest.Text n m w s r = let x = s TextEnd r in (λ h. x, ends_before (last_rests (trailing_text (texts_around d)) (rests_after b (texts_around d))) x)
+
+-- a text or a block whose content changes
+module _ (o p : Option DocumentFormat) (at to : SourceSpan) (ns ms : List Node) where
+  document_changed : leading_text p ≡ leading_text o → trailing_text p ≡ trailing_text o
+      → ((l : Text) → ContentReads TextEnd l (trailing_text o) (listed_nodes ns) → ContentReads TextEnd l (trailing_text o) (listed_nodes ms))
+      → DocumentReads (document o at (listed_nodes ns)) → DocumentReads (document p to (listed_nodes ms))
+  document_changed l t w (DocumentReads.no_bom c) =
+      DocumentReads.no_bom (subst (λ (z : Text). ContentReads TextEnd (leading_text p) z (listed_nodes ms)) (sym t)
+      (subst (λ (z : Text). ContentReads TextEnd z (trailing_text o) (listed_nodes ms)) (sym l) (w (leading_text o) c)))
+  document_changed l t w (DocumentReads.behind_bom {leading = x} e c) =
+      DocumentReads.behind_bom (l ∙ e) (subst (λ (z : Text). ContentReads TextEnd x z (listed_nodes ms)) (sym t) (w x c))
+
+-- the content of a document with a node put before all others
+document_first : (o : Option DocumentFormat) (l : Option Text) (at to : SourceSpan) (ns : List Node) (put : Node) → LeadingEnded o l → (0 < length ns → NodeReads Anything put)
+    → NodeReads (last_rests (trailing_text o) TextEnd) put → DocumentReads (document o at (listed_nodes ns)) → DocumentReads (document (led_with l o) to (listed_nodes (put ∷ ns)))
+document_first o l at to ns put e a x (DocumentReads.no_bom c) =
+    let k = leading_led o l e in
+    DocumentReads.no_bom (subst (λ (z : Text). ContentReads TextEnd (leading_text (led_with l o)) z (listed_nodes (put ∷ ns))) (sym k.3)
+    (subst (λ (z : Text). ContentReads TextEnd z (trailing_text o) (listed_nodes (put ∷ ns))) (sym k.2)
+    (content_put_first TextEnd (leading_text o) (leading_text o ++ newlines k.0) (trailing_text o) ns put (plain_says (leading_text o) k.0 k.1) a x c)))
+document_first o l at to ns put e a x (DocumentReads.behind_bom {leading = m} h c) =
+    let k = leading_led o l e in
+    let says : GapSays m k.0 = subst (λ (z : Text). GapSays (without_bom z) k.0) h k.1 in
+    DocumentReads.behind_bom (k.2 ∙ ap (λ (z : Text). z ++ newlines k.0) h) (subst (λ (z : Text). ContentReads TextEnd (m ++ newlines k.0) z (listed_nodes (put ∷ ns))) (sym k.3)
+    (content_put_first TextEnd m (m ++ newlines k.0) (trailing_text o) ns put says a x c))
+
+block_first : (o : Option DocumentFormat) (l : Option Text) (at to : SourceSpan) (ns : List Node) (put : Node) → LeadingEnded o l → (0 < length ns → NodeReads Anything put)
+    → NodeReads (last_rests (trailing_text o) (BlockEnd o)) put → BlockReads (document o at (listed_nodes ns)) → BlockReads (document (led_with l o) to (listed_nodes (put ∷ ns)))
+block_first o l at to ns put e a x (block c) =
+    let k = leading_led o l e in
+    block (subst (λ (z : Text). ContentReads (BlockEnd (led_with l o)) (leading_text (led_with l o)) z (listed_nodes (put ∷ ns))) (sym k.3)
+    (subst (λ (z : Text). ContentReads (BlockEnd (led_with l o)) z (trailing_text o) (listed_nodes (put ∷ ns))) (sym k.2)
+    (content_weaker (BlockEnd o) (BlockEnd (led_with l o)) (leading_text o ++ newlines k.0) (trailing_text o) (listed_nodes (put ∷ ns)) (same_rests o l)
+    (content_put_first (BlockEnd o) (leading_text o) (leading_text o ++ newlines k.0) (trailing_text o) ns put (plain_says (leading_text o) k.0 k.1) a x c))))
+
+-- its tree
+tree_as : (d : KdlDocument) (o : Option DocumentFormat) (ns : List Node) → texts_around d ≡ o → trees d ≡ ns → document_tree d ≡ document o (out-KdlDocument d).span (listed_nodes ns)
+tree_as d o ns e h =
+    document_tree_out d ∙ ap (λ (z : Option DocumentFormat). document z (out-KdlDocument d).span (listed_nodes (trees d))) e
+    ∙ ap (λ (z : List Node). document o (out-KdlDocument d).span (listed_nodes z)) h
+
+first_tree : (n : KdlNode) (d e : KdlDocument) (p : PutFirst n d e) → document_tree e ≡ document (led_with p.leading (texts_around d)) (out-KdlDocument e).span (listed_nodes (node_tree n ∷ trees d))
+first_tree n d e p = tree_as e (led_with p.leading (texts_around d)) (node_tree n ∷ trees d) p.texts (ap (map node_tree) p.nodes ∙ insert_trees (nodes_of d) 0 n)
+
+-- what a node that is put in has to read before: the others, and what follows the document
+abbrev PutEnds : Bool → ℕ → KdlDocument → Node → Type 0
+PutEnds b i d x = (i < length (trees d) → NodeReads Anything x) × NodeReads (last_rests (trailing_text (texts_around d)) (rests_after b (texts_around d))) x
+
+first_reads : (b : Bool) (n : KdlNode) (d e : KdlDocument) → PutFirst n d e → PutEnds b 0 d (node_tree n) → ReadsIn b d → ReadsIn b e
+first_reads false n d e p (a, x) r =
+    subst DocumentReads (sym (first_tree n d e p))
+    (document_first (texts_around d) p.leading (out-KdlDocument d).span (out-KdlDocument e).span (trees d) (node_tree n) p.ended a x (subst DocumentReads (document_tree_out d) r))
+first_reads true n d e p (a, x) r =
+    subst BlockReads (sym (first_tree n d e p))
+    (block_first (texts_around d) p.leading (out-KdlDocument d).span (out-KdlDocument e).span (trees d) (node_tree n) p.ended a x (subst BlockReads (document_tree_out d) r))
+
+abbrev with_behind : ℕ → KdlNode → KdlNode → KdlDocument → List Node
+with_behind i m n d = insert (set (trees d) i (node_tree m)) (suc i) (node_tree n)
+
+behind_tree : (i : ℕ) (n : KdlNode) (d e : KdlDocument) (p : PutBehind i n d e)
+    → document_tree e ≡ document (texts_around d) (out-KdlDocument e).span (listed_nodes (with_behind i (end_with p.format p.last) n d))
+behind_tree i n d e p =
+    let m = end_with p.format p.last in
+    tree_as e (texts_around d) (with_behind i m n d) (texts_kept d e p.rest)
+    (ap (map node_tree) (p.nodes ∙ ap (λ (z : ℕ). insert (set (nodes_of d) i m) z n) (add-one i)) ∙ insert_trees (set (nodes_of d) i m) (suc i) n
+    ∙ ap (λ (z : List Node). insert z (suc i) (node_tree n)) (map-set node_tree (nodes_of d) i m))
+
+behind_content : (P : Rests) (i : ℕ) (n : KdlNode) (d e : KdlDocument) (p : PutBehind i n d e) (l : Text) → (suc i < length (trees d) → NodeReads Anything (node_tree n))
+    → NodeReads (last_rests (trailing_text (texts_around d)) P) (node_tree n) → ContentReads P l (trailing_text (texts_around d)) (listed_nodes (trees d))
+    → ContentReads P l (trailing_text (texts_around d)) (listed_nodes (with_behind i (end_with p.format p.last) n d))
+behind_content P i n d e p l a x c =
+    content_put P i l (trailing_text (texts_around d)) (trees d) (node_tree p.last) (node_tree (end_with p.format p.last)) (node_tree n)
+    (slice_get-map node_tree (nodes_of d) i ∙ ap (option_map node_tree) p.there) p.reads a x c
+
+block_of : {o : Option DocumentFormat} {at : SourceSpan} {ns : Nodes} → BlockReads (document o at ns) → ContentReads (BlockEnd o) (leading_text o) (trailing_text o) ns
+block_of (block c) = c
+
+behind_reads : (b : Bool) (i : ℕ) (n : KdlNode) (d e : KdlDocument) → PutBehind i n d e → PutEnds b (suc i) d (node_tree n) → ReadsIn b d → ReadsIn b e
+behind_reads false i n d e p (a, x) r =
+    subst DocumentReads (sym (behind_tree i n d e p))
+    (document_changed (texts_around d) (texts_around d) (out-KdlDocument d).span (out-KdlDocument e).span (trees d) (with_behind i (end_with p.format p.last) n d) refl refl
+    (λ l c. behind_content TextEnd i n d e p l a x c) (subst DocumentReads (document_tree_out d) r))
+behind_reads true i n d e p (a, x) r =
+    subst BlockReads (sym (behind_tree i n d e p)) (block (behind_content (BlockEnd (texts_around d)) i n d e p (leading_text (texts_around d)) a x (block_of (subst BlockReads (document_tree_out d) r))))
+
+-- a node put in at the index j
+pub put_behind_reads : (b : Bool) (i j : ℕ) (d e : KdlDocument) (rest : Rest) (n : KdlNode) (own : Option KdlNodeFormat) → suc i ≡ j → IsRestAt b j d rest → EndsAs rest n (end_with own n)
+    → PutBehind i (end_with own n) d e → ReadsIn b d → NodeReadsBack n → ReadsIn b e
+put_behind_reads b i j d e rest n own h at w p r x =
+    behind_reads b i (end_with own n) d e p (put_ends b (suc i) d rest n (end_with own n) (subst (λ (k : ℕ). IsRestAt b k d rest) (sym h) at) w x) r
+
+pub put_first_reads : (b : Bool) (j : ℕ) (d e : KdlDocument) (rest : Rest) (n : KdlNode) (own : Option KdlNodeFormat) → 0 ≡ j → IsRestAt b j d rest → EndsAs rest n (end_with own n)
+    → PutFirst (end_with own n) d e → ReadsIn b d → NodeReadsBack n → ReadsIn b e
+put_first_reads b j d e rest n own h at w p r x =
+    first_reads b (end_with own n) d e p (put_ends b 0 d rest n (end_with own n) (subst (λ (k : ℕ). IsRestAt b k d rest) (sym h) at) w x) r
