@@ -36,7 +36,7 @@ pub fn row(rt: &HostRuntime, name: &str, text: &str) -> io::Result<()> {
     end_row(rt, text, memory)
 }
 
-/// Writes the columns behind those of the speeds: look-ups, and the memory.
+/// Writes the columns after those of the speeds: look-ups, and the memory.
 fn end_row(rt: &HostRuntime, text: &str, memory: u64) -> io::Result<()> {
     let node = least_time(rt, Call::Node, text, turns(text))?.as_nanos();
     let property = least_time(rt, Call::Property, text, turns(text))?.as_nanos();

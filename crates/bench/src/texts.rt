@@ -5,9 +5,10 @@ ghost use Rattle.std.specs.Prelude.{◌<◌};
 use std::alloc::{AllocError, Global};
 use std::fmt::Write;
 
-/// A kind of text: pieces behind one another.
+/// A kind of text: pieces one after another.
 ///
-/// In a piece `◊` stands for a word, `□` for a number below 1000, both as if by chance, and `№` for the number of the piece.
+/// In a piece `◊` is replaced by a word, `□` by a number below 1000, both as if by chance, and `№` by the number of the
+/// piece.
 #[derive(Clone, Copy)]
 pub struct Kind {
     pub name: &'static str,
@@ -74,7 +75,7 @@ impl Kind {
     }
 }
 
-/// Puts the piece of this number behind the text.
+/// Adds the piece of this number to the text.
 fn push_piece(
     text: &mut String,
     piece: &str,

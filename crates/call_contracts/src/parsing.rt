@@ -17,7 +17,8 @@ ghost use Rattle.std.specs.Str.{chars};
 use kdl::{KdlDocument, KdlEntry, KdlIdentifier, KdlNode, ParseFailure, Steps};
 use std::alloc::Global;
 
-/// `KdlDocument::parse`: what it answers is derived and lies in the text, what it refuses is not derived and is told.
+/// `KdlDocument::parse`: what it returns is derived and lies in the text; what it refuses is not derived, and the error
+/// has its faults.
 pub fn parse(alloc: Global, text: &str) -> Result<KdlDocument, ParseFailure>
     ensures found { IfOk result (λ d. IsDocument true (chars text.now) (document_says d)) }
     ensures laid { IfOk result (λ d. LaidDocument true (document_tree d) (chars text.now)) }
@@ -41,7 +42,7 @@ pub fn parse_counted(
     KdlDocument::parse_counted(alloc, text, steps)
 }
 
-/// `KdlNode::parse`: what it answers is derived, what it refuses is not and is told.
+/// `KdlNode::parse`: what it returns is derived; what it refuses is not, and the error has its faults.
 pub fn parse_node(alloc: Global, text: &str) -> Result<KdlNode, ParseFailure>
     ensures found { IfOk result (λ n. IsNodeText true (chars text.now) (node_says n)) }
     ensures refused { IsSyntax result → (x : data'.Node)

@@ -14,7 +14,7 @@ ghost use Rattle.std.specs.Str.{chars};
 use kdl::{KdlDocument, ParseFailure};
 use std::alloc::Global;
 
-/// `KdlDocument::parse`: its answer is the only one, prints the text, is that of the former language where there is
+/// `KdlDocument::parse`: its document is the only one, prints the text, is that of the former language where there is
 /// one, and reads back once its entries are edited.
 pub fn parse(alloc: Global, text: &str) -> Result<KdlDocument, ParseFailure>
     ensures only { IfOk result (λ d. (x : Nodes) → IsDocument true (chars text.now) x

@@ -40,7 +40,7 @@ fn deep_blocks(rt: HostRuntime) {
     prints(&rt, alloc, &node, &text);
 }
 
-/// Goes down so many blocks, of one node each and without formats, and answers the nodes below them.
+/// Goes down so many blocks, of one node each and without formats, and returns the nodes below them.
 fn below<'a>(rt: &impl Abort, document: &'a KdlDocument, depth: usize) -> &'a [KdlNode] {
     let mut nodes = document.nodes();
     for _ in 0..depth {

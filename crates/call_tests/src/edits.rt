@@ -48,7 +48,7 @@ pub fn takes(rt: &impl Abort, alloc: Global, node: &mut KdlNode, name: &str, tex
     drop(old);
 }
 
-/// Puts an argument behind the other entries.
+/// Puts an argument after the other entries.
 pub fn add(rt: &impl Abort, node: &mut KdlNode, value: KdlValue) {
     match node.push(KdlEntry::new(value)) {
         Ok(()) => (),
@@ -56,7 +56,7 @@ pub fn add(rt: &impl Abort, node: &mut KdlNode, value: KdlValue) {
     }
 }
 
-/// Puts a property behind the other entries.
+/// Puts a property after the other entries.
 pub fn add_property(
     rt: &impl Abort,
     alloc: Global,

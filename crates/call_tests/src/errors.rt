@@ -48,7 +48,7 @@ fn printed(rt: &HostRuntime, text: &str) -> Result<Option<String>, Fail> {
     }
 }
 
-/// Here alone running out of memory is no fault: run with one allocation refused, the answer is that or the text.
+/// Here alone running out of memory is no fault: with one allocation refused, the result is that error or the text.
 #[test]
 fn want_of_memory_or_the_text(rt: HostRuntime) -> Result<(), Fail> {
     let text =

@@ -44,7 +44,7 @@ pub fn document_with(rt: &impl Abort, alloc: Global, node: KdlNode) -> KdlDocume
     document_of(alloc, vec![in alloc; node].expect(rt, "memory"))
 }
 
-/// Puts the node behind the others of the document.
+/// Puts the node after the others of the document.
 pub fn push(rt: &impl Abort, document: &mut KdlDocument, node: KdlNode) {
     document.nodes_mut().push(node).expect(rt, "memory");
 }
@@ -313,7 +313,7 @@ fn move_elsewhere(document: &mut KdlDocument) {
     }
 }
 
-/// A copy of the document equals it, and stands elsewhere, as do the names of its nodes.
+/// A copy of the document equals it. Its span, and those of the names of its nodes, are other ones.
 fn is_copied(rt: &impl Abort, document: &KdlDocument) {
     let copy = document.clone().expect(rt, "memory");
     equal(rt, &copy, document);

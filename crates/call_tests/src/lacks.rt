@@ -1,11 +1,11 @@
-//! How many newlines a text around nodes lacks, so that what follows is no part of it.
+//! How many newlines a text around nodes lacks, so that what is written after it is no part of it.
 
 use crate::reading::equal;
 use kdl_items::{Place, gap_lacks, place_lacks, terminator_lacks};
 use std::alloc::Global;
 use std::process::Abort;
 
-/// As a gap the text lacks so many newlines, or it is none.
+/// The text lacks so many newlines as a gap; `None`: it is no gap.
 fn gap(rt: &impl Abort, alloc: Global, text: &str, lacks: Option<usize>) {
     match gap_lacks(alloc, text) {
         Ok(found) => equal(rt, &found, &lacks),
@@ -13,7 +13,7 @@ fn gap(rt: &impl Abort, alloc: Global, text: &str, lacks: Option<usize>) {
     }
 }
 
-/// The same of a terminator with a gap behind it.
+/// The text lacks so many newlines as a terminator and a gap; `None`: it is no such text.
 fn terminator(rt: &impl Abort, alloc: Global, text: &str, lacks: Option<usize>) {
     match terminator_lacks(alloc, text) {
         Ok(found) => equal(rt, &found, &lacks),
@@ -21,7 +21,7 @@ fn terminator(rt: &impl Abort, alloc: Global, text: &str, lacks: Option<usize>) 
     }
 }
 
-/// Before a terminator the text lacks a newline or none, or it can't stand there.
+/// The text lacks a newline, or lacks none, as the one before a terminator; `None`: it can't be there.
 fn place(rt: &impl Abort, alloc: Global, place: Place, text: &str, lacks: Option<bool>) {
     match place_lacks(alloc, place, text) {
         Ok(found) => equal(rt, &found, &lacks),

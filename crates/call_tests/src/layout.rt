@@ -383,7 +383,8 @@ fn laid_out(rt: &HostRuntime, text: &str) -> Result<Option<(String, String)>, Fa
     }
 }
 
-/// Here alone running out of memory is no fault: run with one allocation refused, the answer is that or one of the two texts.
+/// Here alone running out of memory is no fault: with one allocation refused, the result is that error or one of the two
+/// texts.
 #[test]
 fn want_of_memory_or_the_texts(rt: HostRuntime) -> Result<(), Fail> {
     let text =

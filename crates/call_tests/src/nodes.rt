@@ -1,15 +1,15 @@
-//! Nodes put in among others and taken out: what is printed then, and that it reads back.
+//! Nodes are added and removed: what is printed then, and that it reads back.
 
 use crate::reading::{equal, identifier, node_text, prints, read, says, text};
 use kdl::{KdlDocument, KdlNode};
 use std::alloc::Global;
 use std::process::Abort;
 
-/// A text, and what it becomes.
+/// The text of a document or node, and the text that is printed after the edit.
 #[derive(Clone, Copy)]
 struct Row<'a>(&'a str, &'a str);
 
-/// The names of the nodes, each with a space behind it.
+/// The names of the nodes, each with a space after it.
 fn names(rt: &impl Abort, alloc: Global, nodes: &[KdlNode]) -> String {
     let mut all = text(rt, alloc, "");
     for node in nodes {
@@ -177,7 +177,7 @@ fn a_node_between_others(rt: HostRuntime) {
     puts_each(&rt, rt.alloc(), 1, &rows);
 }
 
-/// What is printed where a node of each text goes behind `a`, and before it.
+/// A new node of each form, put after `a` and before it: the second text of a row is what it prints before `a`.
 #[test]
 fn new_nodes_of_each_form(rt: HostRuntime) {
     let alloc = rt.alloc();

@@ -128,7 +128,7 @@ node_exchanged d i old new depth h =
       nodes_exchanged d (with_item (out-KdlDocument d).nodes i new) depth ∙ node_at d (set ns i new) i new depth (around ns i old new h),
     )
 
--- what is printed once an entry stands in the place of another
+-- what is printed with one entry in place of another
 put_prints : (o : Option ℕ) (e : KdlEntry) (t : Entry) (n : KdlNode) (v : Vec KdlEntry Global) → entry_tree e ≡ t → v.items ≡ put_for o e (out-KdlNode n).entries.items → IsSome (out-KdlNode n).format
     → IfSome o (λ i. PrintsAtPlace (node_tree n) i t (node_tree (with_entries n v)))
 put_prints None e t n v k h s = tt

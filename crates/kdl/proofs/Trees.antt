@@ -46,7 +46,7 @@ node_tree_out x = fold_out-KdlNode Document Node document_step node_step x ∙ s
 pub node_tree_roll : (x : NodeFields) → node_tree (roll-KdlNode x) ≡ node_of x
 node_tree_roll x = fold-roll-KdlNode Document Node document_step node_step x ∙ step_mapped x
 
--- nodes with more nodes behind them
+-- nodes with more nodes after them
 pub nodes_of-append : (xs ys : List Node) → listed_nodes (xs ++ ys) ≡ join (listed_nodes xs) (listed_nodes ys)
 nodes_of-append [] ys = refl
 nodes_of-append (x ∷ xs) ys = ap (first x) (nodes_of-append xs ys)

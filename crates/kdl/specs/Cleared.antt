@@ -1,4 +1,4 @@
--- Nodes as they are made, and nodes and documents without their formats, or wherever they stood.
+-- New nodes and documents, and nodes and documents without their formats, or without their spans.
 use Rattle.std.specs.Prelude.{[], map, Some, None, option_map}
 use Rattle.kdl_entry.specs.Tree as entry'
 use Rattle.kdl_entry.specs.Tree.{Identifier, no_span, unspelled, cleared, without_span}
@@ -33,7 +33,7 @@ abbrev mutual
   cleared_nodes none = none
   cleared_nodes (first n ns) = first (cleared_node n) (cleared_nodes ns)
 
--- a node's own part, wherever it and its identifiers and entries stood
+-- a node's own part without the spans: its own, and those of its identifiers and entries
 abbrev pub head_without_spans : Head → Head
 head_without_spans h = record h { ty = option_map without_span h.ty; name = without_span h.name; entries = map entry'.without_spans h.entries; span = no_span }
 

@@ -14,7 +14,7 @@ use Rattle.kdl.specs.declared.document.KdlDocument.{KdlDocument}
 use Rattle.kdl.specs.declared.document.KdlDocument.TheViews.{out-KdlDocument, out-KdlNode}
 use Rattle.kdl.specs.declared.node.KdlNode.{KdlNode}
 
--- what a node prints before its entries, and what behind them; its entries
+-- what a node prints before its entries, and after them; its entries
 abbrev pub head_of : Node → ℕ → Text
 head_of (node h k) depth = print_head h depth
 
@@ -28,7 +28,7 @@ tree_entries (node h k) = h.entries
 abbrev pub PrintsInstead : Node → List Entry → Node → Type 0
 PrintsInstead n es m = (depth : ℕ) → print_node m depth ≡ head_of n depth ++ print_pieces es ++ tail_of n depth
 
--- what a node prints before its entry at i, and behind it
+-- what a node prints before its entry at i, and after it
 abbrev pub text_before : Node → ℕ → ℕ → Text
 text_before n i depth = head_of n depth ++ print_pieces (take i (tree_entries n))
 
@@ -52,7 +52,7 @@ EntryExchanged = (n : KdlNode) (i : ℕ) (old new : KdlEntry) → IsSome (out-Kd
 abbrev pub FormedPiece : Type 0
 FormedPiece = (e : Entry) → IsSome e.format → print_piece e ≡ print_entry e
 
--- what a document prints before its node at i, and behind it
+-- what a document prints before its node at i, and after it
 abbrev pub document_before : KdlDocument → ℕ → ℕ → Text
 document_before d i depth = leading_text (option_map document_format_tree (out-KdlDocument d).format) ++ print_nodes (nodes_tree (take i (out-KdlDocument d).nodes.items)) depth
 

@@ -25,7 +25,7 @@ block_of n = (out-KdlNode n).children
 abbrev pub node_format_of : KdlNode → Option KdlNodeFormat
 node_format_of n = (out-KdlNode n).format
 
--- where a node stood
+-- the span of a node
 abbrev pub node_span_of : KdlNode → SourceSpan
 node_span_of n = (out-KdlNode n).span
 
@@ -33,7 +33,7 @@ node_span_of n = (out-KdlNode n).span
 abbrev pub document_format_of : KdlDocument → Option KdlDocumentFormat
 document_format_of d = (out-KdlDocument d).format
 
--- where a document stood
+-- the span of a document
 abbrev pub document_span_of : KdlDocument → SourceSpan
 document_span_of d = (out-KdlDocument d).span
 

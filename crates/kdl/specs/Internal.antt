@@ -4,7 +4,7 @@
 pub mod Count
 -- Nodes that are due to be cleared, and what clearing does to one of them.
 pub mod Due
--- What nodes lack at their ends.
+-- The newlines that nodes lack at their ends.
 pub mod Ends
 -- How far layout has come, where some blocks are open.
 pub mod Laid

@@ -4,7 +4,7 @@ pub mod Change
 pub mod EditLaw
 -- Texts, nodes and documents in which one piece of what is printed is exchanged.
 pub mod Bytes
--- Nodes as they are made, and nodes and documents without their formats, or wherever they stood.
+-- New nodes and documents, and nodes and documents without their formats, or without their spans.
 pub mod Cleared
 -- What look-ups in a document give, and what a document is once what they lent was written.
 pub mod DocumentLookups
@@ -22,7 +22,7 @@ pub mod Finds
 pub mod Said
 -- What look-ups find after an edit.
 pub mod Found
--- Nodes put among others, and what they lack there.
+-- Nodes put among others, and the newlines that are added there.
 pub mod Nodes
 -- Which nodes, and which documents, `==` takes for one.
 pub mod Same

@@ -59,7 +59,7 @@ with_found_entry k n e = with_entry_there (key_place k n) n e
 abbrev pub with_found_value : NodeKey → KdlNode → KdlValue → KdlNode
 with_found_value k n w = with_value_there (key_place k n) n w
 
--- m is n with a property of that name and value behind its entries, and all else as it was
+-- m is n with a property of that name and value after its entries, and all else as it was
 pub record HasPushed (s : List ℕ) (w : Value) (n m : KdlNode) : Type 0 where
   pub entries : IsPushed s w (entries_of n) (entries_of m)
   pub rest : m ≡ with_entries n (held_entries m)

@@ -1,4 +1,4 @@
--- Nodes put among others, and what they lack there: newlines at the end of a node, or of the text before the first one.
+-- Nodes put among others, and the newlines that are added there: at the end of a node, or of the text before the first one.
 use Rattle.std.specs.List.{insert, remove}
 use Rattle.std.specs.Prelude.{◌≡◌, ℕ, zero, suc, ◌+◌, ◌≤◌, List, [], ◌∷◌, ◌++◌, map, replicate, take, drop, Option, Some, None, option_map, unwrap_or, slice_get, slice_set}
 use Rattle.kdl_text.specs.Chars.{Text}
@@ -50,7 +50,7 @@ pub record EndedAt (i k : ℕ) (ns ms : List Node) : Type 0 where
   pub ends : WithNewlines k old new
   pub nodes : ms ≡ slice_set ns i new
 
--- before the place i there are k newlines more, at the end of the node there or of the text before the first one
+-- before the place i there are k newlines more: at the end of the node before it, or of the text before the first node
 abbrev pub EndedBefore : ℕ → ℕ → Option DocumentFormat → List Node → Option DocumentFormat → List Node → Type 0
 EndedBefore zero k o ns p ms = (ms ≡ ns) × LeadsWith k o p
 EndedBefore (suc i) k o ns p ms = (p ≡ o) × EndedAt i k ns ms
@@ -69,7 +69,7 @@ text_up_to i d depth = leading_text (texts_around d) ++ print_nodes (listed_node
 abbrev pub text_from : ℕ → KdlDocument → ℕ → Text
 text_from i d depth = print_nodes (listed_nodes (drop i (trees d))) depth ++ trailing_text (texts_around d)
 
--- e is d with the node n at the place i: k newlines end what is before it, and j newlines the node
+-- e is d with the node n at the place i, k newlines added before it and j newlines at its end
 pub record IsPut (i : ℕ) (n : Node) (d e : KdlDocument) : Type 0 where
   pub k : ℕ
   pub j : ℕ
@@ -81,7 +81,7 @@ pub record IsPut (i : ℕ) (n : Node) (d e : KdlDocument) : Type 0 where
   pub nodes : trees e ≡ insert ended i put
   pub span : (out-KdlDocument e).span ≡ (out-KdlDocument d).span
 
--- e prints what d prints, and at the place i the node n, with few newlines before it and at its end
+-- e prints what d prints, and at the place i the node n, with at most two newlines added before it and two at its end
 abbrev pub PrintsPut : ℕ → KdlNode → KdlDocument → KdlDocument → Type 0
 PrintsPut i n d e = (k : ℕ) × (j : ℕ) × (k ≤ 2) × (j ≤ 2)
     × (document_prints e ≡ text_up_to i d 0 ++ newlines k ++ node_prints n ++ newlines j ++ text_from i d 0)
@@ -103,17 +103,17 @@ abbrev pub PrintsWithout : ℕ → KdlNode → KdlDocument → KdlDocument → T
 PrintsWithout i n d e = (depth : ℕ) → (print_document (document_tree d) depth ≡ text_up_to i d depth ++ print_node (node_tree n) depth ++ text_from (i + 1) d depth)
     × (print_document (document_tree e) depth ≡ text_up_to i d depth ++ text_from (i + 1) d depth)
 
--- what is before a new block: the text before the terminator, and the newline of an open escline
+-- the text before a new block: what was before the terminator, with a newline where an escline is open
 abbrev pub BlockBegun : Option NodeFormat → Option NodeFormat → Type 0
 BlockBegun None g = g ≡ None
 BlockBegun (Some f) g = (k : ℕ) × (k ≤ 1) × (g ≡ Some (record f { before_children = f.before_terminator ++ newlines k; before_terminator = [] }))
 
--- m' is m with the node n at the place i of its block, which is the one given, or else a new one
+-- m' is m with the node n at the place i of its block: the block is the given one, or a new one where none is given
 abbrev pub ChildPutIn : Option KdlDocument → ℕ → KdlNode → KdlNode → KdlNode → Type 0
 ChildPutIn None i n m m' = (d : KdlDocument) × (e : KdlDocument) × (g : Option KdlNodeFormat) × (document_tree d ≡ new_document) × IsPut 0 (node_tree n) d e
     × BlockBegun (node_texts (out-KdlNode m).format) (node_texts g) × (m' ≡ with_children (with_format m g) (Some e))
 ChildPutIn (Some d) i n m m' = (e : KdlDocument) × IsPut i (node_tree n) d e × (m' ≡ with_children m (Some e))
 
--- the same of its own block
+-- m' is m with the node n at the place i of its own block, or of a new one where it has none
 abbrev pub ChildPut : ℕ → KdlNode → KdlNode → KdlNode → Type 0
 ChildPut i n m m' = ChildPutIn (out-KdlNode m).children i n m m'

@@ -3,7 +3,7 @@
 -- Texts: characters, bytes, pieces of a text.
 pub use Rattle.kdl_text.specs.Chars.{Text, is_space}
 pub use Rattle.kdl_text.specs.Spans.{InText, bytes}
--- A refused text, and what is told of it.
+-- A refused text, and its errors.
 pub use Rattle.kdl_text.specs.Failures.{IsSyntax, IsToldOf, Tells, TellsOnSyntax}
 -- A count of steps.
 pub use Rattle.kdl_text.specs.Spans.{raise}
@@ -32,7 +32,7 @@ pub use Rattle.kdl_entry.specs.Tree.{spelling_of}
 pub use Rattle.kdl_grammar.specs.Tree.{Document, Node}
 pub use Rattle.kdl.specs.Tree.{document_tree, node_tree, nodes_tree}
 pub use Rattle.kdl_parts.specs.Formats.{document_format_tree, empty_node_format, node_format_tree}
--- What was made of a tree: a new one, one without its form, one wherever it stood.
+-- What was made of a tree: a new one, one without its form, one without its spans.
 pub use Rattle.kdl.specs.Cleared.{cleared_document, cleared_node, document_without_spans, new_document, new_node, node_without_spans}
 -- What they say: lists of nodes, and each node.
 pub use Rattle.kdl_grammar.specs.Data.{Node as NodeData, Nodes, first, none}
@@ -102,5 +102,5 @@ pub use Rattle.kdl.specs.Bytes.{IsExchanged, IsExchangedInDocument, IsExchangedI
 -- What reads back: entries, nodes and documents, and what stays so.
 pub use Rattle.kdl_grammar.specs.ReadsBack.{EntryReads}
 pub use Rattle.kdl.specs.ReadsBack.{BlockReadsBack, DocumentReadsBack, EntryReadsBack, IsUnformed, NodeEnds, NodeReadsBack, ReadsAs, respelled}
--- Nodes put in and taken out.
+-- Nodes added and removed.
 pub use Rattle.kdl.specs.Nodes.{ChildPut, IsPut, PrintsPut, PrintsWithout, said_with, said_without}

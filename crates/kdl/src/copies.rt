@@ -9,7 +9,7 @@ use crate::node::KdlNode;
 use std::alloc::{AllocError, Global};
 use std::mem;
 
-/// A block that is being copied: its node, its document, the nodes behind that node, and the copies of those before it.
+/// A block that is being copied: its node, its document, the nodes after that node, and the copies of those before it.
 #[derive(Drop)]
 struct Open<'a> {
     node: &'a KdlNode,
@@ -34,7 +34,7 @@ fn close(opened: Open<'_>, nodes: Vec<KdlNode>) -> Result<Vec<KdlNode>, AllocErr
     Ok(before)
 }
 
-/// Copies of the nodes, in order. The blocks that are open stand in memory.
+/// Copies of the nodes, in order. The blocks that are open are kept in memory.
 pub(crate) fn copy_nodes(alloc: Global, nodes: &[KdlNode]) -> Result<Vec<KdlNode>, AllocError>
     ensures { IfOk result (λ v. map node_tree v.items ≡ map node_tree nodes.now) }
 {

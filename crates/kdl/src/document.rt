@@ -40,7 +40,7 @@ use std::fmt;
 /// A document: nodes, and the texts around them (KDL 2.0.0, Document).
 ///
 /// ```kdl
-/// // a leading text where there are no nodes, else nodes one behind another
+/// // the leading text of the first node, or of the document where it has no nodes
 /// first 1; second 2
 /// // a trailing text
 /// ```
@@ -144,7 +144,7 @@ impl KdlDocument {
         Ok(document)
     }
 
-    /// The document behind a U+FEFF, with which its leading text begins then.
+    /// The document with U+FEFF at the beginning of its leading text.
     fn with_bom(mut self, alloc: Global) -> Result<KdlDocument, AllocError>
         ensures { IfOk result (λ d. document_tree d ≡ with_bom (document_tree self)) }
     {
@@ -180,7 +180,7 @@ impl KdlDocument {
         self.format.as_ref()
     }
 
-    /// Where the document stood in the text that it was read from, in bytes: from its first node to the end of its last one.
+    /// Where the document was in the text that it was read from, in bytes: from its first node to the end of its last.
     ///
     /// ```
     /// let document = KdlDocument::parse(alloc, "\n\ta 1\n")?;
@@ -217,8 +217,8 @@ impl KdlDocument {
         write_leading(&self.format, f)
     }
 
-    /// Writes what stands behind its last node, up to the `}` of the block that the document is, in a node at the given
-    /// depth.
+    /// Writes what follows its last node, up to the `}` of the block that the document is. The node of that block is at
+    /// the given depth.
     #[tactic(auto, using(kdl_parts::proofs::Utf8Parts::writes))]
     pub(crate) fn write_end<W: fmt::Write>(
         &self,
@@ -232,7 +232,7 @@ impl KdlDocument {
     }
 }
 
-/// The nodes one behind another, with the texts around them.
+/// Prints the nodes one after another, with the texts around them.
 ///
 /// ```
 /// let document = KdlDocument::parse(alloc, "a  0x1\n\nb // last")?;

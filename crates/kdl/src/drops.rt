@@ -7,7 +7,7 @@ use crate::document::KdlDocument;
 use crate::node::KdlNode;
 use std::mem;
 
-/// Puts other children into the last node, and answers those that it had.
+/// Puts other children into the last node, and returns those that it had.
 fn exchange_last(nodes: &mut Vec<KdlNode>, children: Option<KdlDocument>) -> Option<KdlDocument>
     requires { 0 < vec_len nodes.old }
     ensures kept { count_nodes nodes.new.items + count_option result ≡
@@ -18,7 +18,8 @@ fn exchange_last(nodes: &mut Vec<KdlNode>, children: Option<KdlDocument>) -> Opt
     nodes[last].exchange_children(children)
 }
 
-/// Drops nodes, one at a time: while the children of a node go, it holds what stands above it in their place.
+/// Drops nodes, one at a time. While the children of a node are dropped, the node holds the nodes above it in their
+/// place.
 pub(crate) fn dismantle(mut nodes: Vec<KdlNode>) {
     let mut up: Option<KdlDocument> = None;
     loop {

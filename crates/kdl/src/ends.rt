@@ -1,4 +1,4 @@
-//! What nodes, and the texts between them, lack at their ends before others may follow.
+//! The newlines that nodes, and the texts between them, lack at their ends before others may follow.
 
 ghost use Rattle.kdl.specs.Internal.Ends.{EndSays, EndsReadAs, GapSays, IsEnded, Lacks, PlaceSays, block_if, newline_count, with_newlines};
 ghost use Rattle.kdl.specs.Nodes.{newlines, printed_format};
@@ -48,7 +48,7 @@ fn without_bom(text: &str) -> &str
     }
 }
 
-/// How many newlines a text between nodes lacks. None where it is no such text.
+/// How many newlines a text between nodes lacks: 0 where it is no such text.
 pub(crate) fn gap_newlines(alloc: Global, text: &str) -> Result<usize, AllocError>
     ensures few { IfOk result (λ n. n ≤ 2) }
     ensures says { IfOk result (λ n. GapSays (without_bom (chars text.now)) n) }
@@ -159,7 +159,7 @@ fn with_newlines(
     Ok(format)
 }
 
-/// The format of a node with what it lacks before the rest; none where it lacks nothing.
+/// The format of a node with the newlines that it lacks before the rest, or none where it lacks none.
 fn ended(
     alloc: Global,
     format: &KdlNodeFormat,
@@ -188,7 +188,7 @@ fn ends_formatted(entries: &[KdlEntry]) -> bool
     }
 }
 
-/// What a node of these entries prints before its block without a format.
+/// What a node of these entries prints before its block where it has no format.
 fn space_before_block(alloc: Global, entries: &[KdlEntry]) -> Result<String, AllocError>
     ensures { IfOk result (λ s. text_of s ≡ before_block None (map entry_tree entries.now)) }
 {
@@ -199,7 +199,7 @@ fn space_before_block(alloc: Global, entries: &[KdlEntry]) -> Result<String, All
     Ok(before)
 }
 
-/// The texts that a node of these entries prints without a format, and a newline.
+/// The texts that a node of these entries prints where it has no format, and a newline at its end.
 fn ended_formless(alloc: Global, entries: &[KdlEntry]) -> Result<KdlNodeFormat, AllocError>
     ensures { IfOk result (λ f. node_format_tree f ≡
         record (printed_format (map entry_tree entries.now)) { terminator = 10 ∷ [] }) }
@@ -213,7 +213,7 @@ fn ended_formless(alloc: Global, entries: &[KdlEntry]) -> Result<KdlNodeFormat, 
     Ok(format)
 }
 
-/// The format that a node takes before the rest; none where it lacks nothing.
+/// The format that a node needs before the rest, or none where it keeps its own.
 pub(crate) fn ended_format(
     alloc: Global,
     format: &Option<KdlNodeFormat>,

@@ -49,7 +49,7 @@ impl Blocks {
         Ok((level, before))
     }
 
-    /// Lays out the next node, but for the nodes in its block, and goes on with those, or else behind it.
+    /// Lays out the next node, but not the nodes in its block. These are next, or else what follows the node.
     fn lay_out_next(&mut self, config: &FormatConfig) -> Result<(), AllocError>
         requires { self.old.inner.at < vec_len self.old.inner.nodes }
         ensures kept { map bare_node (whole self.new.above.items self.new.inner) ≡
@@ -84,7 +84,7 @@ impl Blocks {
         Ok(())
     }
 
-    /// Puts the nodes of the innermost block back into the node that it belongs to, and goes on behind that.
+    /// Puts the nodes of the innermost block back into the node that it belongs to. What follows that node is next.
     fn leave(&mut self, outer: Block)
         ensures whole { whole self.new.above.items self.new.inner ≡
             whole (self.old.above.items ++ outer ∷ []) self.old.inner }

@@ -36,18 +36,18 @@
 //! }
 //! ```
 //!
-//! A text that is no document is refused, and each fault in it is told, with its place and words for it:
+//! A text that is no document is refused. The error has a diagnostic for each fault, with its place and a message:
 //!
 //! ```
 //! if let Err(ParseFailure::Syntax(error)) = KdlDocument::parse(alloc, "a }\nb #treu\n") {
-//!     let first = error.diagnostics[0].span; // offset 2 and length 1: where the `}` stands
+//!     let first = error.diagnostics[0].span; // offset 2 and length 1: the place of the `}`
 //!     for diagnostic in &error.diagnostics {
-//!         let told = diagnostic.to_string(alloc)?; // "Expected end of document", then "Expected keyword"
+//!         let message = diagnostic.to_string(alloc)?; // "Expected end of document", then "Expected keyword"
 //!     }
 //! }
 //! ```
 //!
-//! A call that takes memory is given where from, and answers where that runs out: by an `AllocError`, or by
+//! A call that takes memory is given an allocator. Where memory runs out it returns an `AllocError`, or
 //! `ParseFailure::Memory`.
 //!
 //! Spans are in bytes of the text that was read: of an entry from its type, key or value to the end of its value, of a node

@@ -72,7 +72,7 @@ impl KdlNode {
         children
     }
 
-    /// Puts other children in the place of the node's, and answers those.
+    /// Puts other children in place of the node's, and returns the former ones.
     pub(crate) fn exchange_children(&mut self, children: Option<KdlDocument>) -> Option<KdlDocument>
         ensures had { result ≡ (out-KdlNode self.old).children }
         ensures has { out-KdlNode self.new ≡ record (out-KdlNode self.old) { children = children } }
@@ -82,7 +82,7 @@ impl KdlNode {
 }
 
 impl KdlNode {
-    /// The node as it stands in a text of its own: with the text behind its terminator, and the span.
+    /// The node of a text of its own: with the text after its terminator, and the span.
     pub(crate) fn from_text(text: NodeText<KdlNode>) -> KdlNode
         ensures { node_tree result ≡ text_by node_tree text }
     {
@@ -172,8 +172,8 @@ impl KdlNode {
         self.format.as_ref()
     }
 
-    /// Where the node stood in the text that it was read from, in bytes: from its type or name up to its terminator, or all
-    /// of a text that `KdlNode::parse` read.
+    /// Where the node was in the text that it was read from, in bytes: from its type or name up to its terminator, or the
+    /// whole text that `KdlNode::parse` read.
     ///
     /// ```
     /// let document = KdlDocument::parse(alloc, "é 1\nb")?;
@@ -214,14 +214,14 @@ impl KdlNode {
         write_pieces(&self.entries, f)
     }
 
-    /// Writes what stands before the `{` of its block.
+    /// Writes the text before the `{` of its block.
     pub(crate) fn write_before_block<W: fmt::Write>(&self, f: &mut fmt::Formatter<W>) -> fmt::Result
         ensures { Prints W.write_str_gives f.old result (node_before_block self.now) f.new }
     {
         write_before_block(&self.format, &self.entries, f)
     }
 
-    /// Writes what stands behind its last entry, or behind its block.
+    /// Writes the text after its last entry, or after its block.
     pub(crate) fn write_end<W: fmt::Write>(&self, f: &mut fmt::Formatter<W>) -> fmt::Result
         ensures { Prints W.write_str_gives f.old result (node_end self.now) f.new }
     {
@@ -229,8 +229,8 @@ impl KdlNode {
     }
 }
 
-/// The node with the texts around its parts. Without a format it gets no terminator, four spaces for each depth in front
-/// of it, and one space before its `{` where the last entry has no format; an entry without a format stands after one
+/// Prints the node with the texts around its parts. Without a format, four spaces for each depth go before it, one space
+/// before its `{` where the last entry has no format, and it has no terminator. An entry without a format goes after one
 /// space.
 ///
 /// ```

@@ -20,7 +20,7 @@ use kdl_text::chars::Steps;
 use kdl_text::error::ParseFailure;
 use std::alloc::Global;
 
-/// The document that the machine answers on the text, which raises the count.
+/// The document that the machine makes of the text. Raises the count by the steps taken.
 fn parse_from(alloc: Global, text: &str, steps: &mut Steps) -> Result<KdlDocument, ParseFailure>
     ensures answers { IfOk result (λ d. AnswersDocument (chars text.now) (document_tree d)) }
     ensures refused { IsSyntax result → (x : Nodes) → IsDocument true (chars text.now) x → ⊥ }
@@ -36,7 +36,7 @@ fn parse_from(alloc: Global, text: &str, steps: &mut Steps) -> Result<KdlDocumen
     }
 }
 
-/// The node that is laid in the text, which it is.
+/// The node that the whole text is.
 fn read_node(alloc: Global, text: &str) -> Result<KdlNode, ParseFailure>
     ensures laid { IfOk result (λ n. LaidNodeText true (chars text.now) (node_tree n)) }
     ensures refused { IsSyntax result → (x : data'.Node) → IsNodeText true (chars text.now) x → ⊥ }
@@ -55,9 +55,10 @@ impl KdlDocument {
     ghost use Rattle.kdl_grammar.specs.Print.{print_document};
     ghost use Rattle.kdl_grammar.specs.Tree.{Document, document_data};
 
-    /// The document of a text, with every byte of its form (KDL 2.0.0, Document). `Syntax`: the text is none.
-    /// Its error has a diagnostic for each fault that is found, in the order of reading, and one at least; reading goes
-    /// on behind a fault. `Memory`: a request for memory was refused. Nothing is made then.
+    /// The document of a text, with every byte of its form (KDL 2.0.0, Document).
+    ///
+    /// Fails with `Syntax` where the text is no document. The error has a diagnostic for each fault that is found, in
+    /// the order of reading, and one at least; reading goes on after a fault. Fails with `Memory` where memory runs out.
     ///
     /// ```
     /// let text = "host localhost // here\nport 0x1F90\n";
@@ -65,7 +66,7 @@ impl KdlDocument {
     /// let same = document.to_string(alloc)?; // the text, byte for byte
     /// ```
     pub fn parse(alloc: Global, text: &str) -> Result<KdlDocument, ParseFailure>
-        // What is answered is what the grammar derives,
+        // What the document says is what the grammar derives,
         ensures found { IfOk result (λ d. IsDocument true (chars text.now) (document_says d)) }
         // and it derives nothing else.
         ensures only { IfOk result (λ d. (x : Nodes) → IsDocument true (chars text.now) x
@@ -75,19 +76,19 @@ impl KdlDocument {
         ensures prints { IfOk result (λ d. document_prints d ≡ chars text.now) }
         // No entry is flagged to keep its form.
         ensures keeps_none { IfOk result (λ d. DocumentKeepsNoForm d) }
-        // What is refused is not derived, and an error tells where.
+        // What is refused is not derived, and the error has the places of its faults.
         ensures refused { IsSyntax result → (x : Nodes) → IsDocument true (chars text.now) x → ⊥ }
         ensures told { TellsOnSyntax text.now result }
         // What the former language derives is not refused, and is read as before.
         ensures kept { (x : Nodes) → IsFormerDocument (chars text.now) x → IsSyntax result → ⊥ }
         ensures former { (x : Nodes) → IsFormerDocument (chars text.now) x
             → IfOk result (λ d. document_says d ≡ x) }
-        // A document that differs from the answer in its nodes' entries alone, at each node some of its own, flagged
-        // or not, and entries without form, prints a text that is derived with its data.
+        // A document that differs in the entries of its nodes alone prints a text that is derived with its data, where
+        // each node has some of its own entries, flagged or not, and entries without form.
         ensures edited { IfOk result (λ d. (e : Document)
             → EachDocument IsEdited (document_tree d) e
             → IsDocument true (print_document e 0) (document_data e)) }
-        // Edited, it reads back from what it prints: the edits tell where.
+        // It reads back, and so it does after the edits that say so.
         ensures reads { IfOk result (λ d. DocumentReadsBack d) }
     {
         let mut steps = Steps::new();
@@ -97,8 +98,8 @@ impl KdlDocument {
     /// The document of a text, as by `parse`, which raises the count by the steps that it takes, up to the greatest
     /// `u64`. A step is one look at a character or at a token, or one byte of a slice of the text.
     ///
-    /// A document of n bytes takes at least a step for each character and at most 32 (n + 1) steps. What is refused
-    /// takes at least one, and where an error tells of it at most 160 (n + 1).
+    /// A document of n bytes takes at least a step for each character and at most 32 (n + 1) steps. A text that is
+    /// refused takes at least one, and at most 160 (n + 1).
     ///
     /// ```
     /// let mut steps = Steps::new();
@@ -126,8 +127,8 @@ impl KdlDocument {
             → EachDocument IsEdited (document_tree d) e
             → IsDocument true (print_document e 0) (document_data e)) }
         ensures reads { IfOk result (λ d. DocumentReadsBack d) }
-        // At least a step for each character is counted, and at most 32 for each byte and 32 more; for a text that is
-        // refused, and what is told of it, at most 160.
+        // At least a step for each character is counted, and at most 32 for each byte and 32 more. For a text that is
+        // refused, with its diagnostics, it is at most 160.
         ensures least { OnOk result (raise steps.old (length (chars text.now)) ≤ steps.new) }
         ensures most { OnOk result (steps.new ≤ steps.old + 32 * (length text.now + 1)) }
         ensures told_most { IsSyntax result → steps.new ≤ steps.old + 160 * (length text.now + 1) }
@@ -166,12 +167,13 @@ impl KdlDocument {
 impl KdlNode {
     ghost use Rattle.kdl_grammar.specs.Former.{IsFormerNodeText};
 
-    /// The node that the text is, with every byte of its form: line-spaces and nodes that are slashdashed before
-    /// it, and behind its terminator line-spaces alone (KDL 2.0.0, Node). What stands before it is its leading text,
-    /// what stands behind its terminator its trailing one, and its span is the whole text, in bytes. `Syntax`: the text
-    /// is none. Its error has a diagnostic for each fault that is found, and one at least: one is at a second node, where
-    /// reading ends, or at the end of a text that has none. `Memory`: a request for memory was refused. Nothing is made
-    /// then.
+    /// The node that the text is, with every byte of its form (KDL 2.0.0, Node). Before it the text may have line-spaces
+    /// and slashdashed nodes, which are its leading text. After its terminator it may have line-spaces alone, which are
+    /// its trailing text. The span is the whole text, in bytes.
+    ///
+    /// Fails with `Syntax` where the text is no node. The error has a diagnostic for each fault that is found, and one
+    /// at least: at a second node, where reading ends, or at the end of a text that has no node. Fails with `Memory`
+    /// where memory runs out.
     ///
     /// ```
     /// let node = KdlNode::parse(alloc, "// the port\nport 8080\n")?;
@@ -179,7 +181,7 @@ impl KdlNode {
     /// ```
     #[tactic(auto, using(crate::proofs::ParseAnswers::node_found, crate::proofs::ParseAnswers::node_only, crate::proofs::ParseAnswers::node_prints))]
     pub fn parse(alloc: Global, text: &str) -> Result<KdlNode, ParseFailure>
-        // What is answered is what the grammar derives,
+        // What the node says is what the grammar derives,
         ensures found { IfOk result (λ n. IsNodeText true (chars text.now) (node_says n)) }
         // and it derives nothing else.
         ensures only { IfOk result (λ n. (x : data'.Node) → IsNodeText true (chars text.now) x
@@ -189,7 +191,7 @@ impl KdlNode {
         ensures prints { IfOk result (λ n. node_prints n ≡ chars text.now) }
         // No entry is flagged to keep its form.
         ensures keeps_none { IfOk result (λ n. NodeKeepsNoForm n) }
-        // What is refused is not derived, and an error tells where.
+        // What is refused is not derived, and the error has the places of its faults.
         ensures refused { IsSyntax result → (x : data'.Node)
             → IsNodeText true (chars text.now) x → ⊥ }
         ensures told { TellsOnSyntax text.now result }
@@ -198,7 +200,7 @@ impl KdlNode {
             → IsSyntax result → ⊥ }
         ensures former { (x : data'.Node) → IsFormerNodeText (chars text.now) x
             → IfOk result (λ n. node_says n ≡ x) }
-        // Edited, it reads back from what it prints: the edits tell where.
+        // It reads back, and so it does after the edits that say so.
         ensures reads { IfOk result (λ n. NodeReadsBack n) }
     {
         read_node(alloc, text)

@@ -9,7 +9,7 @@ use crate::node::KdlNode;
 use std::alloc::Global;
 use std::fmt;
 
-/// A block that is open: its node, its document, and the nodes behind that node.
+/// A block that is open: its node, its document, and the nodes after that node.
 #[derive(Clone, Copy)]
 struct Open<'a> {
     node: &'a KdlNode,
@@ -41,7 +41,8 @@ fn write_opening<W: fmt::Write>(
     block.write_front(f)
 }
 
-/// Writes what stands behind the last node in a block, whose node is at the given depth.
+/// Writes what follows the last node in a block: the rest of the block, and the end of its node, which is at the given
+/// depth.
 #[tactic(auto, using(kdl_parts::proofs::Utf8Parts::writes))]
 fn write_closing<W: fmt::Write>(
     node: &KdlNode,
@@ -55,7 +56,7 @@ fn write_closing<W: fmt::Write>(
     node.write_end(f)
 }
 
-/// Writes nodes one behind another, at depth 0. The blocks that are open stand in memory; where that runs out,
+/// Writes nodes one after another, at depth 0. The blocks that are open are kept in memory. Where that runs out,
 /// writing fails.
 pub(crate) fn write_nodes<W: fmt::Write>(
     alloc: Global,

@@ -27,7 +27,7 @@ use Rattle.kdl.specs.declared.node.KdlNode.{KdlNode}
 use Rattle.kdl_parts.proofs.Equality.{node_format_decides, document_format_decides}
 use Rattle.kdl.proofs.Trees.{NodeFields, DocumentFields, node_of, document_of, node_tree_out, node_tree_roll, document_tree_out, document_tree_roll}
 
--- an identifier's tree, wherever it stood
+-- an identifier's tree, without its span
 abbrev spanless : KdlIdentifier → Identifier
 spanless i = without_span (identifier_tree i)
 

@@ -9,7 +9,7 @@ use Rattle.kdl_parts.specs.declared.key.NodeKey.{NodeKey}
 use Rattle.kdl_parts.specs.declared.key.NodeKey.TheVariants.{Key, Index}
 use Rattle.kdl_laws.specs.Keys.{sought_anywhere}
 
--- keys are equal exactly where they look for the same, wherever their names stood
+-- keys are equal exactly where they look for the same, whatever the spans of their names
 pub key_decides : (k l : NodeKey) → Decides (key_impl.ghosts.eq k l) (sought_anywhere (sought k) ≡ sought_anywhere (sought l))
 key_decides (Key i) (Key j) = Decides-like _ (λ e. cc) (λ e. cc) (identifier_decides i j)
 key_decides (Index m) (Index n) = Decides-like _ (λ e. cc) (λ e. cc) (Decides-eqb m n)

@@ -11,7 +11,7 @@ pub use Rattle.kdl_entry.specs.Formless.{FormlessReadsBack}
 -- Items: the lists of a place, of a node and of a document.
 pub use Rattle.kdl_items.specs.Items.{GapItems, Item, Place, PlaceItems, before_block, before_entry, behind_block}
 pub use Rattle.kdl_fmt.specs.Comments.{DocumentItems, EndItems, NodeItems}
--- The texts that may stand in a place.
+-- The texts that may be in a place.
 pub use Rattle.kdl_text.specs.Trivia.{LineComment}
 pub use Rattle.kdl_entry.specs.Places.{EntryLeading}
 pub use Rattle.kdl_grammar.specs.Grammar.{Gap}

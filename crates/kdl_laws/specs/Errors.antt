@@ -8,7 +8,7 @@ use Rattle.kdl_text.specs.declared.error.ParseFailure.TheVariants.{Syntax, Memor
 use Rattle.kdl_text.specs.declared.span.Severity.{Severity}
 use Rattle.kdl_text.specs.declared.span.SourceSpan.{SourceSpan}
 
--- a fault: the text that was read, where the fault is, and what is told of it
+-- a fault: the text that was read, where the fault is, and its words
 pub record Diagnostic : Type 0 where
   pub input : List ℕ
   pub span : SourceSpan

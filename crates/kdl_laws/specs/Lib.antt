@@ -2,7 +2,7 @@
 pub mod ClientWords
 -- Errors with every text as its bytes, every span, and nothing of how memory holds them.
 pub mod Errors
--- What keys look for, wherever their names stood.
+-- What keys look for, whatever the spans of their names.
 pub mod Keys
 -- The pieces of a text.
 pub mod Pieces

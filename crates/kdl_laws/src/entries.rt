@@ -32,7 +32,7 @@ pub fn equal_formats(a: &KdlEntryFormat, b: &KdlEntryFormat) -> bool
     a == b
 }
 
-/// Two identifiers are equal exactly where their strings and their spellings are, wherever they stood.
+/// Two identifiers are equal exactly where their strings and their spellings are, whatever their spans.
 pub fn equal_identifiers(a: &KdlIdentifier, b: &KdlIdentifier) -> bool
     ensures { IsTrue result
         ↔ (without_span (identifier_tree a.now) ≡ without_span (identifier_tree b.now)) }
@@ -40,7 +40,7 @@ pub fn equal_identifiers(a: &KdlIdentifier, b: &KdlIdentifier) -> bool
     a == b
 }
 
-/// Two entries are equal exactly where all their parts are, wherever they stood.
+/// Two entries are equal exactly where all their parts are, but for their spans.
 pub fn equal_entries(a: &KdlEntry, b: &KdlEntry) -> bool
     ensures { IsTrue result
         ↔ (without_spans (entry_tree a.now) ≡ without_spans (entry_tree b.now)) }
@@ -60,7 +60,7 @@ pub fn unambiguous_entry()
     ensures { OneEntry }
 {}
 
-/// Equal formats leave equal hashers equal: into both goes what the hash of the first writes.
+/// Equal formats leave equal hashers equal: the hash of the first writes the same bytes to both.
 pub fn hash_formats<H: Hasher>(a: &KdlEntryFormat, b: &KdlEntryFormat, one: &mut H, other: &mut H)
     requires { entry_format_tree a.now ≡ entry_format_tree b.now }
     ensures first { one.new ≡ fold H.write one.old (⟦<KdlEntryFormat as Hash>⟧.hash_input a.now) }
@@ -72,7 +72,7 @@ pub fn hash_formats<H: Hasher>(a: &KdlEntryFormat, b: &KdlEntryFormat, one: &mut
     b.hash(other);
 }
 
-/// Equal identifiers, wherever they stood, leave equal hashers equal: into both goes what the hash of the first writes.
+/// Equal identifiers, of any spans, leave equal hashers equal: the hash of the first writes the same bytes to both.
 pub fn hash_identifiers<H: Hasher>(a: &KdlIdentifier, b: &KdlIdentifier, one: &mut H, other: &mut H)
     requires { without_span (identifier_tree a.now) ≡ without_span (identifier_tree b.now) }
     ensures first { one.new ≡ fold H.write one.old (⟦<KdlIdentifier as Hash>⟧.hash_input a.now) }
@@ -84,7 +84,7 @@ pub fn hash_identifiers<H: Hasher>(a: &KdlIdentifier, b: &KdlIdentifier, one: &m
     b.hash(other);
 }
 
-/// Equal entries, wherever they stood, leave equal hashers equal: into both goes what the hash of the first writes.
+/// Equal entries, of any spans, leave equal hashers equal: the hash of the first writes the same bytes to both.
 pub fn hash_entries<H: Hasher>(a: &KdlEntry, b: &KdlEntry, one: &mut H, other: &mut H)
     requires { without_spans (entry_tree a.now) ≡ without_spans (entry_tree b.now) }
     ensures first { one.new ≡ fold H.write one.old (⟦<KdlEntry as Hash>⟧.hash_input a.now) }

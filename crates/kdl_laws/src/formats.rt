@@ -1,4 +1,4 @@
-//! What `==` of formats regards, and that equal ones leave equal hashes.
+//! When `==` of formats is true, and that equal ones have equal hashes.
 
 ghost use Rattle.kdl_parts.specs.Formats.{document_format_tree, node_format_tree};
 ghost use Rattle.std.specs.Prelude.{◌≡◌, ◌↔◌, IsTrue, fold};
@@ -20,7 +20,7 @@ pub fn equal_document_formats(a: &KdlDocumentFormat, b: &KdlDocumentFormat) -> b
     a == b
 }
 
-/// Equal formats leave equal hashers equal: into both goes what the hash of the first writes.
+/// Equal formats leave equal hashers equal: the hash of the first writes the same bytes to both.
 pub fn hash_node_formats<H: Hasher>(
     a: &KdlNodeFormat,
     b: &KdlNodeFormat,
@@ -37,7 +37,7 @@ pub fn hash_node_formats<H: Hasher>(
     b.hash(other);
 }
 
-/// Equal formats leave equal hashers equal: into both goes what the hash of the first writes.
+/// Equal formats leave equal hashers equal: the hash of the first writes the same bytes to both.
 pub fn hash_document_formats<H: Hasher>(
     a: &KdlDocumentFormat,
     b: &KdlDocumentFormat,

@@ -61,7 +61,7 @@ pub fn one_list()
         → is ≡ js }
 {}
 
-/// The items of a gap, on lines of their own, are the items of a gap: each as it stands on its line.
+/// The items of a gap, written on lines of their own, make a gap of the same items, each as it is on its line.
 #[tactic(auto, using(crate::proofs::ItemLists::lines_hold_items))]
 pub fn lines_hold_items()
     ensures { (before after s : Text) (is : List Item) → list_all is_space before ≡ true
@@ -69,7 +69,7 @@ pub fn lines_hold_items()
         → GapItems (lines before is ++ after) (map on_line is) }
 {}
 
-/// The items of a text in a place of a node, each behind a space, and a space behind them, are the items of a text in
+/// The items of a text in a place of a node, each after a space, and a space after them, are the items of a text in
 /// that place.
 #[tactic(auto, using(crate::proofs::ItemLists::tail_holds_items))]
 pub fn tail_holds_items()

@@ -26,8 +26,7 @@ pub fn same_text_same_data(a: &mut KdlDocument, b: &mut KdlDocument) -> Result<(
     b.autoformat_no_comments()
 }
 
-/// A document that is laid out twice is what it is once it is laid out: the second time changes nothing, with or without
-/// comments.
+/// A second layout of a document changes nothing, with or without comments.
 pub fn laid_out_twice(document: &mut KdlDocument, config: &FormatConfig) -> Result<(), AllocError>
     requires indent { list_all is_space (settings config.now).indent ≡ true }
     requires keeps_none_after { config.now.entry_autoformate_keep ≡ false }

@@ -1,4 +1,4 @@
-//! What `==` of nodes and documents regards, that equal ones leave equal hashes, and that items of one tree, as an item
+//! When `==` of nodes and documents is true, that equal ones have equal hashes, and that items of one tree, as an item
 //! and its clone, are equal.
 
 ghost use Rattle.kdl.specs.Cleared.{node_without_spans, document_without_spans};
@@ -9,7 +9,7 @@ ghost use Rattle.std.specs.Prelude.{◌≡◌, ◌↔◌, IsTrue, fold, true};
 use kdl::{KdlDocument, KdlNode};
 use std::hash::{Hash, Hasher};
 
-/// Two nodes are equal exactly where all their parts are, at each depth, wherever they stood.
+/// Two nodes are equal exactly where all their parts are, at each depth, but for their spans.
 pub fn equal_nodes(a: &KdlNode, b: &KdlNode) -> bool
     ensures { IsTrue result
         ↔ (node_without_spans (node_tree a.now) ≡ node_without_spans (node_tree b.now)) }
@@ -17,7 +17,7 @@ pub fn equal_nodes(a: &KdlNode, b: &KdlNode) -> bool
     a == b
 }
 
-/// Two documents are equal exactly where all their parts are, at each depth, wherever they stood.
+/// Two documents are equal exactly where all their parts are, at each depth, but for their spans.
 pub fn equal_documents(a: &KdlDocument, b: &KdlDocument) -> bool
     ensures { IsTrue result
         ↔ (document_without_spans (document_tree a.now)
@@ -26,7 +26,7 @@ pub fn equal_documents(a: &KdlDocument, b: &KdlDocument) -> bool
     a == b
 }
 
-/// Equal nodes, wherever they stood, leave equal hashers equal: into both goes what the hash of the first writes.
+/// Equal nodes, of any spans, leave equal hashers equal: the hash of the first writes the same bytes to both.
 pub fn hash_nodes<H: Hasher>(a: &KdlNode, b: &KdlNode, one: &mut H, other: &mut H)
     requires { node_without_spans (node_tree a.now) ≡ node_without_spans (node_tree b.now) }
     ensures first { one.new ≡ fold H.write one.old (⟦<KdlNode as Hash>⟧.hash_input a.now) }
@@ -37,7 +37,7 @@ pub fn hash_nodes<H: Hasher>(a: &KdlNode, b: &KdlNode, one: &mut H, other: &mut 
     b.hash(other);
 }
 
-/// Equal documents, wherever they stood, leave equal hashers equal: into both goes what the hash of the first writes.
+/// Equal documents, of any spans, leave equal hashers equal: the hash of the first writes the same bytes to both.
 pub fn hash_documents<H: Hasher>(a: &KdlDocument, b: &KdlDocument, one: &mut H, other: &mut H)
     requires { document_without_spans (document_tree a.now)
         ≡ document_without_spans (document_tree b.now) }

@@ -13,8 +13,8 @@ use kdl_value::{KdlFloat, KdlValue};
 use std::cmp::Ordering;
 use std::hash::{Hash, Hasher};
 
-/// Every printed string is one string, bare or between quotes, that stands for what was printed: alone, and before any
-/// text that no identifier character begins.
+/// Every printed string is one string, bare or between quotes, whose value is the string that was printed: alone, and
+/// before any text that does not begin with an identifier character.
 pub fn spelled_reads_back()
     ensures alone { SpelledReadsBack }
     ensures before { SpelledReadsBackBefore }
@@ -63,7 +63,7 @@ pub fn values_are_ordered()
     ensures { IsTotalOrder ⟦<KdlValue as Ord>⟧.cmp }
 {}
 
-/// Equal floats leave equal hashers equal: into both goes what the hash of the first writes.
+/// Equal floats leave equal hashers equal: the hash of the first writes the same bytes to both.
 pub fn hash_floats<H: Hasher>(a: &KdlFloat, b: &KdlFloat, one: &mut H, other: &mut H)
     requires { float_text_of a.now ≡ float_text_of b.now }
     ensures first { one.new ≡ fold H.write one.old (⟦<KdlFloat as Hash>⟧.hash_input a.now) }
@@ -74,7 +74,7 @@ pub fn hash_floats<H: Hasher>(a: &KdlFloat, b: &KdlFloat, one: &mut H, other: &m
     b.hash(other);
 }
 
-/// Equal values leave equal hashers equal: into both goes what the hash of the first writes.
+/// Equal values leave equal hashers equal: the hash of the first writes the same bytes to both.
 pub fn hash_values<H: Hasher>(a: &KdlValue, b: &KdlValue, one: &mut H, other: &mut H)
     requires { value_tree a.now ≡ value_tree b.now }
     ensures first { one.new ≡ fold H.write one.old (⟦<KdlValue as Hash>⟧.hash_input a.now) }
@@ -85,7 +85,7 @@ pub fn hash_values<H: Hasher>(a: &KdlValue, b: &KdlValue, one: &mut H, other: &m
     b.hash(other);
 }
 
-/// What a decimal in a text stands for is a float's text.
+/// The value of a decimal in a text is a float's text.
 pub fn decimals_are_floats()
     ensures { DecimalsAreFloats }
 {}

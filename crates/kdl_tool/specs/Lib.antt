@@ -1,8 +1,8 @@
 -- What the tool's words ask for, and what is written for them.
 pub mod Commands
--- The exit status of each outcome, and what is told of it on standard error.
+-- The exit status of each outcome, and what is written of it to standard error.
 pub mod Reports
--- What a run of the tool reads, writes and answers.
+-- What a run of the tool reads, writes and returns.
 pub mod Runs
--- What is written, and what is answered of it.
+-- What a writing function writes, by what it returns.
 pub mod Writing

@@ -1,4 +1,4 @@
--- What is written, and what is answered of it.
+-- What a writing function writes, by what it returns.
 use Rattle.std.specs.Prelude.{◌≡◌, ℕ, ◌<◌, Bool, true, false, List, length, take, Option}
 use Rattle.std.specs.Io.KnownBytes.{Appends}
 use Rattle.watched.specs.declared.Watched.{Watched}

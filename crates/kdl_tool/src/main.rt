@@ -1,5 +1,5 @@
-//! `kdl-tool`: reads a KDL document from standard input, and writes it, as it stands or laid out with
-//! or without its comments, or one of its values to standard output.
+//! `kdl-tool`: reads a KDL document from standard input, and writes it, as it is or laid out with or
+//! without its comments, or one of its values to standard output.
 #![tactic(auto)]
 
 #[cfg(test)]
@@ -15,8 +15,8 @@ use std::{env, io};
 use tool::{Outcome, run};
 use watched::Watched;
 
-/// Runs the tool on the arguments, standard input and standard output, and tells on standard
-/// error why it stopped.
+/// Runs the tool on the arguments, standard input and standard output, and writes to standard error
+/// why it stopped.
 fn main(rt: HostRuntime) -> ExitCode {
     let outcome = match arguments(&rt) {
         Ok(words) => {

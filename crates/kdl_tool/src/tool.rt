@@ -32,9 +32,9 @@ pub enum Outcome {
     NoValue,
     /// The words are none of the tool's.
     Usage,
-    /// A `read` answered an error.
+    /// A `read` failed.
     ReadFailed,
-    /// A `write` answered an error, or took no byte.
+    /// A `write` failed, or took no byte.
     WriteFailed,
     /// A request for memory was refused.
     Memory,
@@ -43,7 +43,7 @@ pub enum Outcome {
 /// What the words ask for.
 #[derive(Clone, Copy)]
 enum Command<'a> {
-    /// The document as it stands.
+    /// The document as it is.
     Cat,
     /// The document laid out, with its comments.
     Fmt,
@@ -62,7 +62,7 @@ enum Unread {
 
 /// Runs the tool on its words:
 ///
-/// - `cat` writes the document that it reads as it stands;
+/// - `cat` writes the document that it reads as it is;
 /// - `fmt` writes it laid out, in one layout for all documents: comments, and what a slashdash drops,
 ///   stay where `KdlDocument::autoformat` keeps them; the spellings of names and values go;
 /// - `strip` writes it laid out, without comments and without what a slashdash drops;
@@ -220,7 +220,7 @@ fn value_line(
     Ok(Some(line))
 }
 
-/// Writes the bytes, and answers whether all were written. It stops at the first error, and at
+/// Writes the bytes, and returns whether all were written. It stops at the first error, and at
 /// the first write that takes no byte.
 #[tactic(auto, using(crate::proofs::LoopSteps::written_more))]
 fn write_whole<W: Write>(bytes: &[u8], writer: &mut Watched<W>) -> bool
@@ -236,7 +236,7 @@ fn write_whole<W: Write>(bytes: &[u8], writer: &mut Watched<W>) -> bool
     true
 }
 
-/// Writes the pieces one behind another, and answers whether all were written.
+/// Writes the pieces one after another, and returns whether all were written.
 fn write_pieces<W: Write>(pieces: &[&[u8]], writer: &mut Watched<W>) -> bool
     ensures { Writes W.contents writer.old writer.new (flat_map (λ p. p.now) pieces.now) result }
 {
@@ -248,7 +248,7 @@ fn write_pieces<W: Write>(pieces: &[&[u8]], writer: &mut Watched<W>) -> bool
     true
 }
 
-/// Puts the decimal digits of the number at the front of the buffer, and answers how many they are.
+/// Puts the decimal digits of the number at the front of the buffer, and returns how many they are.
 fn put_decimal(number: usize, buffer: &mut [u8]) -> usize
     requires { length (decimal number) ≤ length buffer.old }
     ensures count { result ≡ length (decimal number) }
@@ -277,9 +277,9 @@ impl Outcome {
         }
     }
 
-    /// Writes what there is to tell, a line for each fault, and answers whether all was written:
-    /// where it was not, a write failed. It stops at the first error, an interrupted one too, and
-    /// at the first write that takes no byte.
+    /// Writes a line for each fault, and returns whether all lines were written: where they were not,
+    /// a write failed. It stops at the first error, an interrupted one too, and at the first write
+    /// that takes no byte.
     ///
     /// A line of a refused input is `offset..end message`, in bytes of the input.
     pub fn report<W: Write>(&self, writer: &mut Watched<W>) -> bool
@@ -299,14 +299,14 @@ impl Outcome {
     }
 }
 
-/// Writes a line, and answers whether all of it was written.
+/// Writes a line, and returns whether all of it was written.
 fn report_line<W: Write>(text: &str, writer: &mut Watched<W>) -> bool
     ensures { Writes W.contents writer.old writer.new (line text.now) result }
 {
     write_pieces(&[text.as_bytes(), b"\n"], writer)
 }
 
-/// Writes a line for each diagnostic, and answers whether all were written.
+/// Writes a line for each diagnostic, and returns whether all were written.
 fn report_error<W: Write>(error: &KdlError, writer: &mut Watched<W>) -> bool
     ensures { Writes W.contents writer.old writer.new (lines_of error.now) result }
 {
@@ -318,7 +318,7 @@ fn report_error<W: Write>(error: &KdlError, writer: &mut Watched<W>) -> bool
     true
 }
 
-/// Writes the line of a diagnostic, and answers whether all of it was written.
+/// Writes the line of a diagnostic, and returns whether all of it was written.
 fn report_diagnostic<W: Write>(diagnostic: &KdlDiagnostic, writer: &mut Watched<W>) -> bool
     ensures { Writes W.contents writer.old writer.new (diagnostic_line diagnostic.now) result }
 {

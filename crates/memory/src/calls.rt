@@ -57,7 +57,7 @@ pub static CALLS: [Call; 21] = [
     Call::Float,
 ];
 
-/// What the call answers on the text, or on an item of it.
+/// What the call on the text, or on an item of it, returns.
 pub fn answer(alloc: Global, text: &str, call: &Call) -> Result<String, AllocError> {
     match call {
         Call::ParseDocument => printed(alloc, KdlDocument::parse(alloc, text)),
@@ -72,7 +72,7 @@ pub fn answer(alloc: Global, text: &str, call: &Call) -> Result<String, AllocErr
     }
 }
 
-/// What the call answers on a document, or on its first node.
+/// What the call on a document, or on its first node, returns.
 fn on_document(
     alloc: Global,
     document: &mut KdlDocument,
@@ -90,7 +90,7 @@ fn on_document(
     }
 }
 
-/// What the call answers on the first node of a document.
+/// What the call on the first node of a document returns.
 fn on_first(alloc: Global, document: &mut KdlDocument, call: &Call) -> Result<String, AllocError> {
     let before = document.clone()?;
     match (document.nodes_mut().first_mut(), before.nodes().first()) {
@@ -99,7 +99,7 @@ fn on_first(alloc: Global, document: &mut KdlDocument, call: &Call) -> Result<St
     }
 }
 
-/// What the call answers on a node. Where memory is refused the node is what it was before.
+/// What the call on a node returns. Where memory is refused the node is what it was before.
 fn on_node(
     alloc: Global,
     node: &mut KdlNode,
@@ -136,7 +136,7 @@ fn is_done<T: Drop, E: Drop>(given: Result<T, E>) -> bool {
     given.is_ok()
 }
 
-/// The document of the text; an empty one of a text that is none.
+/// The document of the text; an empty one where the text is no document.
 fn read(alloc: Global, text: &str) -> Result<KdlDocument, AllocError> {
     match KdlDocument::parse(alloc, text) {
         Ok(document) => Ok(document),
@@ -172,7 +172,7 @@ fn numbered(alloc: Global, count: u64, what: &str) -> Result<String, AllocError>
     format!(in alloc; "{count} {what}")
 }
 
-/// How many faults are told of a text with three.
+/// How many faults are found in a text with three.
 fn refused(alloc: Global) -> Result<String, AllocError> {
     match KdlDocument::parse(alloc, "a #treu\nb 0x\nc {\n") {
         Ok(_) => String::from_str(alloc, "a document"),
@@ -228,7 +228,7 @@ fn node_put(alloc: Global, document: &mut KdlDocument, first: bool) -> Result<St
     }
 }
 
-/// Puts the node before the others, or behind them.
+/// Puts the node before the others, or after them.
 fn put_node(
     document: &mut KdlDocument,
     node: KdlNode,
@@ -293,7 +293,7 @@ fn inserted(alloc: Global, node: &mut KdlNode, before: &KdlNode) -> Result<bool,
     Ok(is_kept)
 }
 
-/// Inserts a property, and answers whether there was memory for that.
+/// Inserts a property, and returns whether there was memory for that.
 fn insert_named(alloc: Global, node: &mut KdlNode) -> Result<bool, AllocError> {
     let key = NodeKey::from_text(alloc, "new key")?;
     Ok(is_done(node.insert(key, KdlEntry::new(KdlValue::Null))))
@@ -309,7 +309,7 @@ fn inserted_first(node: &mut KdlNode, before: &KdlNode) -> bool {
     is_kept
 }
 
-/// Inserts an argument before all others, and answers whether there was memory for that.
+/// Inserts an argument before all others, and returns whether there was memory for that.
 fn insert_first(node: &mut KdlNode) -> bool {
     let entry = KdlEntry::new(KdlValue::from(true));
     is_done(node.insert(NodeKey::Index(0), entry))

@@ -64,7 +64,7 @@ fn is_there<T: Drop>(taken: Option<T>) -> bool {
     taken.is_some()
 }
 
-/// Whether each test of a value's kind answers what its look-up does, and one of them that it is of that kind.
+/// Whether each test of a value's kind agrees with its look-up, and one of them is true.
 fn has_kind(value: &KdlValue) -> bool {
     let mut all = value.as_bool().is_some() == value.is_bool();
     all &= value.as_integer().is_some() == value.is_integer();
@@ -168,7 +168,7 @@ fn node_is_changed(alloc: Global, node: &mut KdlNode, names: &mut Vec<String>) -
     all & node.children_mut().is_some()
 }
 
-/// Makes each call, and answers whether each answered what it should.
+/// Makes each call, and returns whether each returned what it should.
 pub fn calls(alloc: Global, subjects: &mut Subjects) -> bool {
     let Subjects {
         document,

@@ -1,4 +1,4 @@
-//! Makes each call that takes memory on two texts, and prints what it answers and what the item is afterwards.
+//! Makes each call that takes memory on two texts, and prints what it returns and what the item is afterwards.
 //!
 //! A call that is refused memory is made once more, where the item is then what it was before. So a run in which one request
 //! for memory is refused, whichever it is, prints the same as one in which none is. Where all that was made for a line was
@@ -28,7 +28,7 @@ fn take_none(rt: &HostRuntime, with_calls: bool) -> io::Result<()> {
     println!(rt; "{answer}")
 }
 
-/// Makes the call on the text, and once more where it was refused memory, and prints what it answers.
+/// Makes the call on the text, and once more where it was refused memory, and prints what it returns.
 fn print_answer(rt: &HostRuntime, text: &str, call: &Call) -> io::Result<()> {
     match answer(rt.alloc(), text, call) {
         Ok(line) => rt.println(line),

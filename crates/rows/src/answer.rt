@@ -1,4 +1,5 @@
-//! What is answered of a text, and what holds of every text: what is accepted prints it, and what is refused tells where.
+//! The lines that come of a text, and what holds of every text: what is accepted prints it, and the error of what is
+//! refused has places in it.
 
 use crate::checks::Case;
 use crate::dump::Dump;
@@ -8,7 +9,7 @@ use kdl::{KdlDiagnostic, KdlDocument, KdlError, ParseFailure, Steps};
 use kdl_faults::{Whole, faults};
 use std::alloc::AllocError;
 
-/// Whether the text is accepted. Adds what is answered of it.
+/// Whether the text is accepted. Adds the lines that come of it.
 pub fn answer(case: &Case<'_>, whole: Whole, dump: &mut Dump) -> Result<bool, Fault> {
     match Item::parse(case.alloc(), whole, case.text) {
         Ok(item) => is_accepted(case, whole, &item, dump),
@@ -25,7 +26,7 @@ fn is_accepted(case: &Case<'_>, whole: Whole, item: &Item, dump: &mut Dump) -> R
     Ok(true)
 }
 
-/// The error tells where in the text a fault is, and there is one. Adds what it tells.
+/// The error has a fault, with its place in the text. Adds its diagnostics.
 fn is_refused(
     case: &Case<'_>,
     whole: Whole,

@@ -1,4 +1,4 @@
-//! One text, tried: what is answered of it, and whether that is what is expected.
+//! One text, tried: the lines that come of it, and whether they are those that are expected.
 
 use crate::answer::{answer, prints, takes};
 use crate::dump::Dump;
@@ -85,7 +85,7 @@ fn check_float(case: &Case<'_>) -> Result<(), Fault> {
     }
 }
 
-/// Only this is answered of the text.
+/// The only line that comes of the text is this one.
 fn check_flag(case: &Case<'_>, flag: &str) -> Result<(), Fault> {
     let mut dump = Dump::new(case.alloc(), false);
     dump.text(flag, case.text);
@@ -155,7 +155,7 @@ fn compare_layout(case: &Case<'_>, wanted: &str, came: &str) -> Result<(), Fault
     }
 }
 
-/// Each line of the answer with a text is expected.
+/// Each line that came with a text is expected.
 fn is_whole(case: &Case<'_>, dump: &Dump) -> Result<(), Fault> {
     for came in dump.lines() {
         let line = Line::of(came);

@@ -1,4 +1,4 @@
-//! What is answered of a text, in lines as those of a row.
+//! What a text is read as, in lines as those of a row.
 
 use crate::line::Line;
 use kdl::{
@@ -7,7 +7,7 @@ use kdl::{
 };
 use std::alloc::{AllocError, Global};
 
-/// The lines of an answer: all of them, or those of data alone, which say what a text stands for and not how it is
+/// The lines that come of a text: all of them, or those of data alone, which say what the text means and not how it is
 /// written.
 #[derive(Drop)]
 pub struct Dump {
@@ -18,7 +18,7 @@ pub struct Dump {
     is_short: bool,
 }
 
-/// A document whose lines are still to come, and what stands before their labels.
+/// A document whose lines are still to come, and the text before their labels.
 #[derive(Drop)]
 struct Waiting<'a> {
     prefix: String,

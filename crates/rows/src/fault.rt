@@ -1,4 +1,4 @@
-//! Why a row fails, and how that is told.
+//! Why a row fails, and how that is written.
 
 use std::alloc::{AllocError, AllocFailed, Global};
 use std::io::ErrorKind;
@@ -24,7 +24,7 @@ impl From<AllocError> for Fault {
     }
 }
 
-/// Where a row stands, and whether it has to fail.
+/// The place of a row, and whether it has to fail.
 #[derive(Clone, Copy)]
 pub struct Teller<'a> {
     pub rt: &'a HostRuntime,

@@ -12,7 +12,7 @@ pub struct Counts {
     pub failed: usize,
 }
 
-/// The block that is read, where it stands, and the section whose lines it shares.
+/// The block that is read, the place of its lines in the file, and the section whose lines it shares.
 #[derive(Drop)]
 struct Reader<'a> {
     tell: Teller<'a>,

@@ -49,7 +49,7 @@ fn is_accepted(case: &Case<'_>, whole: Whole) -> Result<bool, Fault> {
     answer(case, whole, &mut dump)
 }
 
-/// What an expected line says of one of many texts: that it is answered, or laid out where it is a document.
+/// What an expected line says of one of many texts: that it is read, or laid out where it is a document.
 fn check_many(case: &Case<'_>, line: &str, is_document: bool) -> Result<(), Fault> {
     match line {
         "answered" => Ok(()),
@@ -95,7 +95,7 @@ pub fn check_replaced(case: &Case<'_>) -> Result<(), Fault> {
     Ok(())
 }
 
-/// Tries each text in which the character there is another, stands twice, or is taken away.
+/// Tries each text in which the character there is replaced, doubled or removed.
 fn check_replaced_at(case: &Case<'_>, at: usize, old: char, by: &str) -> Result<(), Fault> {
     let behind = at.saturating_add(old.len_utf8());
     for new in by.chars() {
@@ -105,21 +105,21 @@ fn check_replaced_at(case: &Case<'_>, at: usize, old: char, by: &str) -> Result<
     check_without(case, at, behind)
 }
 
-/// Tries the text with that character in the place of what stands between.
+/// Tries the text with that character in place of what is between the two places.
 fn check_with(case: &Case<'_>, at: usize, new: char, behind: usize) -> Result<(), Fault> {
     let (front, back) = around(case.text, at, behind);
     let text = format!(in case.alloc(); "{front}{new}{back}")?;
     check_new(case, &text)
 }
 
-/// Tries the text without what stands between.
+/// Tries the text without what is between the two places.
 fn check_without(case: &Case<'_>, at: usize, behind: usize) -> Result<(), Fault> {
     let (front, back) = around(case.text, at, behind);
     let text = format!(in case.alloc(); "{front}{back}")?;
     check_new(case, &text)
 }
 
-/// What stands before the one place and behind the other.
+/// The text before the one place, and after the other.
 fn around(text: &str, at: usize, behind: usize) -> (&str, &str) {
     match (text.get(..at), text.get(behind..)) {
         (Some(front), Some(back)) => (front, back),

@@ -115,8 +115,8 @@ fn level(case: &Case<'_>) -> Result<Option<usize>, Fault> {
     }
 }
 
-/// What is printed is read back. A node with texts set in its places prints a document of that one node: behind it may
-/// stand a dropped node, which no text of a node has there.
+/// What is printed is read back. A node with texts set in its places prints a document of that one node: a dropped node
+/// may come after it, which a node's own text can't have there.
 fn is_read_back(
     case: &Case<'_>,
     asked: Asked<'_>,

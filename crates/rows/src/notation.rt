@@ -5,7 +5,7 @@ use crate::fault::{Fault, Teller};
 use crate::line::Line;
 use std::alloc::AllocError;
 
-/// What stands in the place of `◊` and of `□`, and where it is told that nothing does.
+/// The texts in place of `◊` and of `□`, and who is told where there is none.
 #[derive(Clone, Copy)]
 pub struct Fills<'a> {
     pub tell: &'a Teller<'a>,
@@ -14,7 +14,7 @@ pub struct Fills<'a> {
 }
 
 impl Fills<'_> {
-    /// The text that the notation stands for.
+    /// The text that the notation means.
     pub fn decoded(&self, notation: &str) -> Result<String, Fault> {
         let mut text = String::new(self.tell.alloc());
         self.push(&mut text, notation)?;
@@ -28,7 +28,7 @@ impl Fills<'_> {
         Ok(line)
     }
 
-    /// Puts the parts of a line behind the text.
+    /// Adds the parts of a line to the text.
     fn push_line(&self, text: &mut String, line: Line<'_>) -> Result<(), Fault> {
         self.push(text, line.label)?;
         if let Some(words) = line.text {
@@ -38,7 +38,7 @@ impl Fills<'_> {
         Ok(())
     }
 
-    /// Puts what the notation stands for behind the text.
+    /// Adds what the notation means to the text.
     fn push(&self, text: &mut String, notation: &str) -> Result<(), Fault> {
         let mut decoder = Decoder {
             fills: *self,
@@ -74,7 +74,7 @@ struct Decoder<'a> {
     fills: Fills<'a>,
     notation: &'a str,
     part: Part,
-    /// Where the repeated piece begins in the text, and how often it is to stand there: 0 where there is none.
+    /// Where the repeated piece begins in the text, and how often it is to be there: 0 where there is none.
     start: usize,
     count: u32,
 }
@@ -118,7 +118,7 @@ impl Decoder<'_> {
         Ok(())
     }
 
-    /// Takes the count of a repeated piece, which begins behind it.
+    /// Takes the count of a repeated piece, which begins after it.
     fn take_count(&mut self, text: &String, start: usize, end: usize) -> Result<(), Fault> {
         match self.between(start, end).parse::<u32>() {
             Ok(count) if count > 0 => {
@@ -152,7 +152,7 @@ impl Decoder<'_> {
         Ok(())
     }
 
-    /// Puts what fills a place behind the text.
+    /// Adds what fills a place to the text.
     fn fill(&self, text: &mut String, fill: Option<&str>) -> Result<(), Fault> {
         let Some(fill) = fill else {
             return Err(self.wrong("a place that nothing fills in "));
@@ -170,7 +170,7 @@ fn character(code: &str) -> Option<char> {
     }
 }
 
-/// The character that a mark, or another character, stands for.
+/// The character that a mark, or another character, means.
 fn plain(c: char) -> char {
     match c {
         '⏎' => '\n',
@@ -181,7 +181,7 @@ fn plain(c: char) -> char {
     }
 }
 
-/// Puts words, and behind them the notation of the text, behind a message: of its front, where it is long.
+/// Adds words, and after them the notation of the text, to a message: of its front, where it is long.
 pub fn encode(message: &mut String, words: &str, text: &str) -> Result<(), AllocError> {
     message.push_str(words)?;
     for c in text.chars().take(400) {
@@ -190,7 +190,7 @@ pub fn encode(message: &mut String, words: &str, text: &str) -> Result<(), Alloc
     Ok(())
 }
 
-/// Puts the notation of a character behind a message.
+/// Adds the notation of a character to a message.
 fn push_mark(message: &mut String, c: char) -> Result<(), AllocError> {
     match mark(c) {
         Some(mark) => message.push(mark),
@@ -198,7 +198,7 @@ fn push_mark(message: &mut String, c: char) -> Result<(), AllocError> {
     }
 }
 
-/// The one character of the notation that stands for the character.
+/// The mark of the notation for the character, where it has one.
 fn mark(c: char) -> Option<char> {
     match c {
         '\n' => Some('⏎'),

@@ -7,7 +7,7 @@ use crate::members::members;
 use crate::notation::Fills;
 use crate::places::PLACES;
 
-/// The lines of a row, and where it stands.
+/// The lines of a row, and its place.
 #[derive(Clone, Copy)]
 pub struct Row<'a> {
     pub tell: &'a Teller<'a>,

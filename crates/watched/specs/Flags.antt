@@ -6,7 +6,7 @@ abbrev pub gave_none : {E : Type 0} → Result ℕ E → Bool
 gave_none (Ok n) = n == 0
 gave_none (Err e) = false
 
--- the write of some bytes answered an error, or took none though there were some
+-- the write of some bytes failed, or took none though there were some
 abbrev pub is_refused : {E : Type 0} → Result ℕ E → ℕ → Bool
 is_refused (Ok n) bytes = (n == 0) && not (bytes == 0)
 is_refused (Err e) bytes = true

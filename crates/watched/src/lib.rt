@@ -33,8 +33,8 @@ impl<T> Watched<T> {
         }
     }
 
-    /// Whether some `read` or `write` so far answered an error, an interrupted one too, or some
-    /// `write` took no byte of some.
+    /// Whether some `read` or `write` so far failed, an interrupted one too, or some `write` was given
+    /// bytes and took none.
     pub fn failed(&self) -> bool
         ensures { result ≡ self.now.failed }
     {

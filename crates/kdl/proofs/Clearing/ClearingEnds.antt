@@ -33,7 +33,7 @@ abbrev goes_on : Nodes → Bool
 goes_on none = false
 goes_on (first n ns) = not (is_some (tree_format n))
 
--- how many are left behind the nodes whose blocks are gone over, with one for each of these
+-- how many are left after the nodes whose blocks are being cleared, with one for each of these
 abbrev mutual
   pub left_above : Children → ℕ
   left_above no_children = 0
@@ -60,7 +60,7 @@ due_sizes (node h k ∷ ns) = ap (λ i. size_node (node h k) + i) (due_sizes ns)
 becoming_sizes : (old new : KdlDocument) → BecomesDue old new → size_nodes (nodes_tree (out-KdlDocument new).nodes.items) ≡ size_nodes (nodes_tree (out-KdlDocument old).nodes.items)
 becoming_sizes old new m = ap (λ z. size_nodes (listed_nodes z)) m.nodes ∙ due_sizes (map node_tree (out-KdlDocument old).nodes.items)
 
--- behind the open node
+-- after the open node
 ends_there : (left : List KdlNode) → All IsDue left → goes_on (nodes_tree left) ≡ false
 ends_there [] h = refl
 ends_there (m ∷ left) h = ap not (format_is m ∙ All-head IsDue m left h)
@@ -88,7 +88,7 @@ left_open (m ∷ (k ∷ done)) n left o d f e h =
 size_positive : (n : Node) → 1 ≤ size_node n
 size_positive (node h k) = omega arith
 
--- the node at a place, and those behind it
+-- the node at a place, and those after it
 size_at : (here new : KdlDocument) (at : ℕ) (R : KdlNode → KdlNode → Type 0) → at < length (out-KdlDocument here).nodes.items → (x : ExchangedAt here new at R)
     → size_nodes (nodes_tree (drop at (out-KdlDocument here).nodes.items)) ≡ size_node (node_tree x.was) + size_nodes (nodes_tree (drop (at + 1) (out-KdlDocument here).nodes.items))
 size_at here new at R h x =
@@ -105,7 +105,7 @@ pub leaf_counted : (here new : KdlDocument) (above : Option KdlDocument) (at : �
     → left_of new above (at + 1) < left_of here above at
 leaf_counted here new above at R h x = omega (arith, size_at here new at R h x, size_behind here new at R x, size_positive (node_tree x.was))
 
--- what stands above an open node
+-- what is above an open node
 above_open : (above : KdlDocument) (done : List KdlNode) (n : KdlNode) (left : List KdlNode) (o : Option KdlDocument) → IsOpen above done n left → (out-KdlNode n).children ≡ o
     → left_above (children (document_tree above)) ≡ 1 + (size_nodes (nodes_tree left) + left_above (children_of (option_map document_tree o)))
 above_open above done n left o k e =

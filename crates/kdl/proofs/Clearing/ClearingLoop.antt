@@ -34,7 +34,7 @@ pub record Spot (here : KdlDocument) (done left : List KdlNode) : Type 0 where
 abbrev pub become : KdlDocument → List KdlNode → List KdlNode → Document
 become here done left = document None (out-KdlDocument here).span (listed_nodes (map node_tree done ++ map cleared_node (map node_tree left)))
 
--- a document above: the block of one node is gone over, those before are cleared, and those behind are due
+-- a document above: the block of one node is being cleared, the nodes before are cleared, and those after are due
 pub record IsOpen (above : KdlDocument) (done : List KdlNode) (n : KdlNode) (left : List KdlNode) : Type 0 where
   pub nodes : (out-KdlDocument above).nodes.items ≡ done ++ n ∷ left
   pub format : (out-KdlDocument above).format ≡ None
@@ -221,7 +221,7 @@ leaf_cleared here new above at w k x =
       whole = subst (λ t. Whole above t w) becomes k.whole;
     }
 
--- the block of a node is entered: the node holds what stands above
+-- the block of a node is entered: the node holds the document above
 pub record Entered (two : KdlDocument) (above : Option KdlDocument) (block : KdlDocument) (done : List KdlNode) (n is : KdlNode) (left : List KdlNode) : Type 0 where
   pub is_open : IsOpen two done is left
   pub head : head_tree (out-KdlNode is) ≡ cleared_head (head_tree (out-KdlNode n))
@@ -305,7 +305,7 @@ pub record Opened (above : KdlDocument) (t w : Document) : Type 0 where
 pub opened : (above : KdlDocument) (t w : Document) → Whole (Some above) t w → Opened above t w
 opened above t w (inside p done left n s v o k) = record { done = done; n = n; left = left; is_open = o; whole = k }
 
--- the way up: the block is cleared, and the node that holds it stands before this place
+-- the way up: the block is cleared, and the node that holds it is before this place
 pub record Climb (here above : KdlDocument) (at : ℕ) (w : Document) : Type 0 where
   pub cleared : cleared_document (document_tree here) ≡ document_tree here
   pub opened : Opened above (document_tree here) w
@@ -330,7 +330,7 @@ climb_bound here above at w k = (
   omega (arith, k.place, ap length k.opened.is_open.nodes, length-append k.opened.done (k.opened.n ∷ k.opened.left)),
 )
 
--- a block is left: it stands in its node again
+-- a block is left: it is in its node again
 pub block_left : (here above new : KdlDocument) (other : Option KdlDocument) (at : ℕ) (w : Document) → Climb here above at w → ExchangedAt above new (at - 1) (HasInstead (Some here) other) → Walk new other at w
 block_left here above new other at w k y =
     let o = k.opened in

@@ -27,7 +27,7 @@ at_place : {A : Type 0} (xs : List A) (k : ℕ) (b : Bool) → ltb k (length xs)
 at_place xs k true e = refl
 at_place xs k false e = slice_get_past xs k (ltb-false k (length xs) e)
 
--- what is found stands at its place
+-- what is found is at its place
 pub found_there : {A : Type 0} (p : A → Bool) (xs : List A) → find p xs ≡ option_and_then (λ i. slice_get xs i) (position p xs)
 found_there p xs = find_at p xs ∙ at_place xs (position_or_len p xs) (ltb (position_or_len p xs) (length xs)) refl
 
@@ -35,7 +35,7 @@ found_there p xs = find_at p xs ∙ at_place xs (position_or_len p xs) (ltb (pos
 pub none_there : {A : Type 0} (p : A → Bool) (xs : List A) → None ≡ position p xs → find p xs ≡ None
 none_there p xs e = found_there p xs ∙ ap (λ o. option_and_then (λ i. slice_get xs i) o) (sym e)
 
--- what stands at the place is found
+-- what is at the place is found
 pub found_is : {A : Type 0} (p : A → Bool) (xs : List A) (i : ℕ) (x : A) → Some i ≡ position p xs → slice_get xs i ≡ Some x → Some x ≡ find p xs
 found_is p xs i x e h = found_at xs (position p xs) i x e h ∙ sym (found_there p xs)
 

@@ -34,7 +34,7 @@ use Rattle.kdl.specs.declared.document.KdlDocument.{KdlDocument}
 use Rattle.kdl.specs.declared.document.KdlDocument.TheViews.{out-KdlNode}
 use Rattle.kdl.proofs.Trees.{document_tree_out, node_tree_out}
 
--- what stands at the last place is the last of those that pass
+-- what is at the last place is the last of those that pass
 there_none : {A : Type 0} (p : A → Bool) (xs : List A) → there (last_place p xs) xs ≡ None → last_place p xs ≡ None
 there_none p [] h = refl
 there_none {A = A} p (x ∷ xs) h = go (p x) (last_place p xs) (there_none p xs) h
@@ -65,7 +65,7 @@ or_none (Some x) = refl
 last_found : {A : Type 0} (p : A → Bool) (xs : List A) → there (last_place p xs) xs ≡ last_or None (filter p xs)
 last_found p xs = sym (or_none (there (last_place p xs) xs)) ∙ sym (last_is p xs None)
 
--- and what stands at the n-th place is the n-th of them
+-- and what is at the n-th place is the n-th of them
 there_behind : {A : Type 0} (x : A) (xs : List A) (o : Option ℕ) → there (option_map suc o) (x ∷ xs) ≡ there o xs
 there_behind x xs None = refl
 there_behind x xs (Some i) = refl

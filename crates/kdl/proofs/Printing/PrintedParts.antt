@@ -10,7 +10,7 @@ use Rattle.kdl.specs.declared.document.KdlDocument.{KdlDocument}
 use Rattle.kdl.specs.declared.document.KdlDocument.TheViews.{out-KdlDocument, out-KdlNode}
 use Rattle.kdl.proofs.Trees.{document_tree_out, node_tree_out}
 
--- one text behind another
+-- one text after another
 pub print_nodes-join : (ns ms : Nodes) (depth : ℕ) → print_nodes (join ns ms) depth ≡ print_nodes ns depth ++ print_nodes ms depth
 print_nodes-join none ms depth = refl
 print_nodes-join (first n ns) ms depth = ap (λ t. print_node n depth ++ t) (print_nodes-join ns ms depth) ∙ sym (append_assoc (print_node n depth) (print_nodes ns depth) (print_nodes ms depth))

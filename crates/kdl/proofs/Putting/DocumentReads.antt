@@ -1,4 +1,4 @@
--- Documents and blocks that read back, with a node put in.
+-- Documents and blocks that read back, with a node added.
 use Rattle.std.proofs.Common.{◌≡◌, ◌⊎◌, inl, inr, ℕ, zero, suc, ◌+◌, ◌<◌, ◌≤◌, Bool, true, false, List, [], ◌∷◌, ◌++◌, length, map, take, drop, set, ap, ◌∙◌, sym, refl, subst, arith, Option, Some, None, option_map, slice_get, if◌then◌else◌, ◌==◌, add-one}
 use Rattle.std.proofs.lemmas.Bool.Decides.{nat_tests}
 use Rattle.std.proofs.lemmas.List.{append-nil, length-map, map-set}
@@ -76,7 +76,7 @@ gap_alone (c ∷ s) g = go (c == 0xFEFF) refl
 plain_says : (t : Text) (k : ℕ) → GapSays (without_bom t) k → Gap true t [] → AddsNothing (t ++ newlines k)
 plain_says t k says g = subst (λ (z : Text). GapSays z k) (gap_alone t g) says g
 
--- the leading text, with what it lacked
+-- the leading text, with the newlines that it lacked
 leading_led : (o : Option DocumentFormat) (l : Option Text) → LeadingEnded o l
     → (k : ℕ) × GapSays (without_bom (leading_text o)) k × (leading_text (led_with l o) ≡ leading_text o ++ newlines k) × (trailing_text (led_with l o) ≡ trailing_text o)
 leading_led o None g = (0, g, sym (append-nil (leading_text o)), refl)
@@ -93,7 +93,7 @@ same_rests o None r m = m
 same_rests None (Some t) r m = m
 same_rests (Some f) (Some t) r m = m
 
--- what the node that is put in reads before
+-- what may follow the node that is put in
 put_ends : (b : Bool) (i : ℕ) (d : KdlDocument) (rest : Rest) (n m : KdlNode) → IsRestAt b i d rest → EndsAs rest n m → NodeReadsBack n
     → (i < length (trees d) → NodeReads Anything (node_tree m)) × NodeReads (last_rests (trailing_text (texts_around d)) (rests_after b (texts_around d))) (node_tree m)
 put_ends b i d Rest.End n m (e, (l, t)) s r =
@@ -153,7 +153,7 @@ tree_as d o ns e h =
 first_tree : (n : KdlNode) (d e : KdlDocument) (p : PutFirst n d e) → document_tree e ≡ document (led_with p.leading (texts_around d)) (out-KdlDocument e).span (listed_nodes (node_tree n ∷ trees d))
 first_tree n d e p = tree_as e (led_with p.leading (texts_around d)) (node_tree n ∷ trees d) p.texts (ap (map node_tree) p.nodes ∙ insert_trees (nodes_of d) 0 n)
 
--- what a node that is put in has to read before: the others, and what follows the document
+-- what has to be allowed after a node that is put in: the nodes after it, and what follows the document
 abbrev PutEnds : Bool → ℕ → KdlDocument → Node → Type 0
 PutEnds b i d x = (i < length (trees d) → NodeReads Anything x) × NodeReads (last_rests (trailing_text (texts_around d)) (rests_after b (texts_around d))) x
 

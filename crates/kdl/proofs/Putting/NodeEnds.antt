@@ -24,7 +24,7 @@ use Rattle.kdl.specs.declared.document.KdlDocument.TheViews.{out-KdlNode}
 use Rattle.kdl.specs.declared.node.KdlNode.{KdlNode}
 use Rattle.kdl.proofs.Trees.{node_tree_out, node_tree_roll}
 
--- texts that are pushed
+-- a text with characters after it
 pub more_newlines : (now was start : Text) (n : ℕ) → now ≡ was ++ chars (10 ∷ []) → was ≡ start ++ newlines n → now ≡ start ++ newlines (n + 1)
 more_newlines now was start n e h =
     e ∙ rw (h, newline_text) (append_assoc start (newlines n) (10 ∷ [])) ∙ ap (λ (z : Text). start ++ z) (replicate-append-replicate {A = ℕ} n 1 10)
@@ -47,7 +47,7 @@ formless_made f b t es k x y =
     ap (λ (g : NodeFormat). record g { before_children = text_of b; terminator = text_of t }) k
     ∙ rw (x, y) refl
 
--- newlines at the end of texts, before the last two or behind them
+-- newlines at the end of texts, before the last two or after them
 behind_terminator : (b t n : Text) → (b ++ (t ++ n)) ++ [] ≡ ((b ++ t) ++ []) ++ n
 behind_terminator b t n = simp (append_assoc, append-nil)
 
@@ -78,7 +78,7 @@ ends_with f b e l = record {
   rest = rest_stays (record f { before_terminator = f.before_terminator ++ newlines b }) f.trailing e;
 }
 
--- where there is a newline
+-- newlines, of which there is one at least
 pub is_ended : (f g : NodeFormat) (b e : ℕ) → Lacks f b e → 0 < b + e → g ≡ with_newlines f b e → IsEnded f (Some g)
 is_ended f g b e l h k =
     let P : ℕ → Type 0 = λ n. EndsWith n f g in
@@ -94,7 +94,7 @@ formless_ended es g k =
 formatted : (n : KdlNode) (f : KdlNodeFormat) → node_tree (end_with (Some f) n) ≡ node (record (head_tree (out-KdlNode n)) { format = Some (node_format_tree f) }) (children_of (option_map document_tree (out-KdlNode n).children))
 formatted n f = node_tree_roll (record (out-KdlNode n) { format = Some f })
 
--- a node with what it lacked
+-- a node with the newlines that it lacked
 pub node_ended : (n : KdlNode) (o : Option KdlNodeFormat) → IsEnded (format_or_printed (head_tree (out-KdlNode n))) (node_texts o)
     → (k : ℕ) × (k ≤ 2) × WithNewlines k (node_tree n) (node_tree (end_with o n))
 node_ended n None h = (0, omega arith, refl)
@@ -102,7 +102,7 @@ node_ended n (Some f) (k, l, h) =
     let P : Node → Type 0 = λ x. WithNewlines (suc k) x (node_tree (end_with (Some f) n)) in
     (suc k, omega arith, subst P (sym (node_tree_out n)) (node_format_tree f, formatted n f, h))
 
--- what is printed of a node with newlines at its end: what it printed, and these
+-- a node with newlines at its end prints what it printed, and these
 end_printed : (h : Head) (c : Children) (g : NodeFormat) (t : Text) → end_text (Some g) ≡ end_text h.format ++ t → before_block (Some g) h.entries ≡ before_block h.format h.entries
     → print_head (record h { format = Some g }) 0 ≡ print_head h 0 → print_node (node (record h { format = Some g }) c) 0 ≡ print_node (node h c) 0 ++ t
 end_printed h no_children g t e b p =

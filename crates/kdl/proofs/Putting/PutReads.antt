@@ -1,4 +1,4 @@
--- Documents that read back, with a node put in or taken out.
+-- Documents that read back, with a node added or removed.
 use Rattle.std.proofs.Common.{◌≡◌, ◌⊎◌, inl, inr, ℕ, zero, suc, ◌+◌, ◌<◌, true, List, [], ◌∷◌, ◌++◌, length, map, take, drop, set, ap, ◌∙◌, sym, refl, subst, append_assoc, arith, Bool, false, is_some, unwrap_or, Option, Some, None, option_map, slice_get, Result, Ok, Err, IfOk}
 use Rattle.std.proofs.lemmas.List.{append-nil}
 use Rattle.std.proofs.lemmas.Option.{get_or_from_slice_get, slice_get_within, slice_get-map}
@@ -42,7 +42,7 @@ content_of : (P : Rests) (l t : Text) (ms : List Node) → AddsNothing l → Nod
 content_of P l t [] a x g = two_texts a g
 content_of P l t (m ∷ ms) a x g = with_nodes a x g
 
--- a node taken out
+-- a node removed
 content_taken : (P : Rests) (l t : Text) (ns : List Node) (i : ℕ) → i < length ns → ContentReads P l t (listed_nodes ns) → ContentReads P l t (listed_nodes (remove ns i))
 content_taken P l t [] i h c = absurd (omega arith)
 content_taken P l t (n ∷ ns) i h (with_nodes a x g) =
@@ -158,7 +158,7 @@ like z c s n r q e = rw e refl
 some_char : (z : Text) (c : ℕ) (s : Text) → z ≡ c ∷ s → z ≡ [] → ⊥
 some_char z c s e h = cc
 
--- a terminator gets what it lacks
+-- a terminator gets the newlines that it lacks
 closed_at : (P : Rests) (k : Children) (f : NodeFormat) (e c : ℕ) (s q v : Text) → MayFollow P q → terminator_text f ≡ c ∷ s → Terminator (terminator_text f ++ q) v → Terminating (terminator_text f)
     → EndSays (terminator_text f) e → EndReads P k f → EndReads Anything k (with_newlines f 0 e)
 closed_at P k f e c s q v m z t alone says end =
@@ -199,7 +199,7 @@ end_exchanged P Q h c f b t u k x (reads {f = g} e head kids end) =
     let kids' : ChildrenRead f c = subst (λ (z : NodeFormat). ChildrenRead z c) same kids in
     reads refl (record { leading = head'.leading; name = λ v d. head'.name v d; entries = head'.entries }) (block_kept refl kids') (x (subst (EndReads P c) same end))
 
--- a node put behind the one at i, which ends by itself then
+-- a node put after the one at i, which ends by itself then
 nodes_put : (P : Rests) (i : ℕ) (ns : List Node) (old new put : Node) → slice_get ns i ≡ Some old → ((Q : Rests) → NodeReads Q old → NodeReads Anything new)
     → (suc i < length ns → NodeReads Anything put) → NodeReads P put → NodesRead P (listed_nodes ns) → NodesRead P (listed_nodes (insert (set ns i new) (suc i) put))
 nodes_put P i [] old new put h f a p x = absurd (cc)
@@ -213,7 +213,7 @@ nodes_put_first : (P : Rests) (ns : List Node) (put : Node) → (0 < length ns �
 nodes_put_first P [] put a p x = last_node p
 nodes_put_first P (n ∷ ns) put a p x = next_node (a (omega arith)) x
 
--- a document with a node behind another one, and before all others, where the leading text got what it lacked
+-- a document with a node put after another one; and before all others, where the leading text got the newlines that it lacked
 pub content_put : (P : Rests) (i : ℕ) (l t : Text) (ns : List Node) (old new put : Node) → slice_get ns i ≡ Some old → ((Q : Rests) → NodeReads Q old → NodeReads Anything new)
     → (suc i < length ns → NodeReads Anything put) → NodeReads (last_rests t P) put → ContentReads P l t (listed_nodes ns) → ContentReads P l t (listed_nodes (insert (set ns i new) (suc i) put))
 content_put P i l t [] old new put h f a p c = absurd (cc)

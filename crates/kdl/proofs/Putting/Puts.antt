@@ -1,4 +1,4 @@
--- Nodes put among others: the trees, what is printed, and what is said.
+-- Nodes added to others: their trees, what is printed, and what is said.
 use Rattle.std.proofs.Common.{◌≡◌, ℕ, zero, suc, ◌+◌, ◌<◌, ◌≤◌, List, [], ◌∷◌, ◌++◌, length, map, take, drop, set, ap, ◌∙◌, sym, refl, subst, append_assoc, arith, Option, Some, None, option_map, slice_get, get_or, add-one, Result, Ok, Err, OnOk, Vec, Global}
 use Rattle.std.proofs.lemmas.List.{append-nil, map-append, take-map, drop-map, map-set}
 use Rattle.std.proofs.lemmas.List.Edits.{get_or-insert_at, get_or-insert_below}
@@ -34,7 +34,7 @@ seam_first l n p j r t = simp (append_assoc, append-nil)
 seam_behind : (l u n p j r t : Text) → l ++ ((u ++ n) ++ ((p ++ j) ++ r)) ++ t ≡ ((((l ++ u) ++ n) ++ p) ++ j) ++ (r ++ t)
 seam_behind l u n p j r t = simp append_assoc
 
--- a node put behind the one at i
+-- a node put after the one at i
 put_printed : (i : ℕ) (ns : List Node) (old new put : Node) (n t : Text) → slice_get ns i ≡ Some old → print_node new 0 ≡ print_node old 0 ++ n → print_node put 0 ≡ t
     → text (insert (set ns i new) (suc i) put) ≡ (text (take (suc i) ns) ++ n) ++ (t ++ text (drop (suc i) ns))
 put_printed i [] old new put n t h p q = absurd (cc)
@@ -133,7 +133,7 @@ texts_kept d e r = ap texts_around r ∙ ap (λ x. option_map document_format_tr
 pub span_kept : (d e : KdlDocument) → e ≡ with_nodes d (out-KdlDocument e).nodes → (out-KdlDocument e).span ≡ (out-KdlDocument d).span
 span_kept d e r = ap (λ (z : KdlDocument). (out-KdlDocument z).span) r ∙ ap (λ x. x.span) (out-roll-KdlDocument (record (out-KdlDocument d) { nodes = (out-KdlDocument e).nodes }))
 
--- a node put behind another one, and before all others
+-- a node put after another one, and before all others
 pub put_behind : (i : ℕ) (n : KdlNode) (own : Option KdlNodeFormat) (d e : KdlDocument) → IsEnded (format_or_printed (head_tree (out-KdlNode n))) (node_texts own)
     → PutBehind i (end_with own n) d e → IsPut (suc i) (node_tree n) d e
 put_behind i n own d e h p =

@@ -46,7 +46,7 @@ pub record HasInstead (block other : Option KdlDocument) (n m : KdlNode) : Type 
   pub has : out-KdlNode m ≡ record (out-KdlNode n) { children = block }
   pub had : other ≡ (out-KdlNode n).children
 
--- at the place stood a node and stands another, between which R holds, and nothing else changed
+-- the node at the place is exchanged for another one, R holds between the two, and nothing else changed
 pub record ExchangedAt (old new : KdlDocument) (at : ℕ) (R : KdlNode → KdlNode → Type 0) : Type 0 where
   pub was : KdlNode
   pub is : KdlNode

@@ -1,4 +1,4 @@
--- What nodes lack at their ends.
+-- The newlines that nodes lack at their ends.
 use Rattle.std.specs.List.{insert}
 use Rattle.std.specs.Prelude.{◌≡◌, ◌⊎◌, ℕ, suc, Bool, true, false, ◌+◌, ◌<◌, ◌≤◌, List, [], ◌∷◌, ◌++◌, length, Option, Some, None, option_map, slice_get, slice_set, unwrap_or}
 use Rattle.kdl_text.specs.Chars.{Text}
@@ -29,51 +29,51 @@ end_newlines (c ∷ s) e f = record f { trailing = f.trailing ++ newlines e }
 abbrev pub with_newlines : NodeFormat → ℕ → ℕ → NodeFormat
 with_newlines f b e = end_newlines f.trailing e (record f { before_terminator = f.before_terminator ++ newlines b })
 
--- so many newlines may be there: those before the terminator only where nothing is after them
+-- b newlines before the terminator and e at the end: at most two, and those before the terminator only where no text follows them
 pub record Lacks (f : NodeFormat) (b e : ℕ) : Type 0 where
   pub few : b + e ≤ 2
   pub joins : (b ≡ 0) ⊎ ((f.terminator ≡ []) × (f.trailing ≡ []))
 
--- the format in place of f, where there is one
+-- a format in place of f, where one is given: f with one or two newlines more at its end
 abbrev pub IsEnded : NodeFormat → Option NodeFormat → Type 0
 IsEnded f None = Unit {0}
 IsEnded f (Some g) = (k : ℕ) × (k < 2) × EndsWith (suc k) f g
 
--- whether a node has a block
+-- the children of a node with a block, or without one
 abbrev pub block_if : Bool → Children
 block_if true = children new_document
 block_if false = no_children
 
--- with so many newlines a text before a terminator is one before each
+-- t is a text before an empty terminator; with b newlines more it is one before every terminator
 abbrev pub PlaceSays : Children → Text → ℕ → Type 0
 PlaceSays k t b = BeforeTerminator k t [] → (r v : Text) → Terminator r v → BeforeTerminator k ((t ++ newlines b) ++ r) r
 
--- with so many newlines a terminator and the gap after it end the node before whatever follows
+-- t is a terminator and a gap; with e newlines more it ends the node before whatever follows
 abbrev pub EndSays : Text → ℕ → Type 0
 EndSays t e = (v : Text) → Terminator t v → Gap true v [] → Terminates Anything (t ++ newlines e)
 
--- with so many newlines a text between nodes adds nothing to them
+-- t is a text between nodes; with n newlines more it stays one before whatever follows
 abbrev pub GapSays : Text → ℕ → Type 0
 GapSays t n = Gap true t [] → AddsNothing (t ++ newlines n)
 
--- where a node ends as f does before some rests, it ends as g does before what follows; of the end of the text nothing is said
+-- where the end of a node by the format f reads back before some rests, that by g does before what follows; nothing is said of the end of the text
 abbrev pub EndsReadAs : Rest → Children → NodeFormat → NodeFormat → Type 0
 EndsReadAs Rest.End k f g = Unit {0}
 EndsReadAs Rest.Brace k f g = (P : Rests) (b : DocumentFormat) → EndReads P k f → EndReads (BlockEnd (Some b)) k g
 EndsReadAs Rest.Text k f g = (P : Rests) → EndReads P k f → EndReads Anything k g
 
--- where a node reads back before some rests, the other one does before what follows; at the end of the text it is the same one
+-- where n reads back before some rests, m does before what follows; at the end of the text it is n itself
 abbrev pub EndsAs : Rest → KdlNode → KdlNode → Type 0
 EndsAs Rest.End n m = m ≡ n
 EndsAs Rest.Brace n m = (P : Rests) (b : DocumentFormat) → NodeReads P (node_tree n) → NodeReads (BlockEnd (Some b)) (node_tree m)
 EndsAs Rest.Text n m = (P : Rests) → NodeReads P (node_tree n) → NodeReads Anything (node_tree m)
 
--- the node with the format, where there is one
+-- the node with the format, where one is given
 abbrev pub end_with : Option KdlNodeFormat → KdlNode → KdlNode
 end_with None n = n
 end_with (Some f) n = with_format n (Some f)
 
--- e is d with the node n after the one at i, which has what it lacked
+-- e is d with the node n after the one at i, which got the newlines that it lacked
 pub record PutBehind (i : ℕ) (n : KdlNode) (d e : KdlDocument) : Type 0 where
   pub last : KdlNode
   pub format : Option KdlNodeFormat
@@ -83,12 +83,12 @@ pub record PutBehind (i : ℕ) (n : KdlNode) (d e : KdlDocument) : Type 0 where
   pub rest : e ≡ with_nodes d (out-KdlDocument e).nodes
   pub reads : EndsAs Rest.Text last (end_with format last)
 
--- the leading text in place of that of a document, where there is one
+-- a leading text in place of the old one, where one is given: it got the newlines that it lacked
 abbrev pub LeadingEnded : Option DocumentFormat → Option Text → Type 0
 LeadingEnded o None = GapSays (without_bom (leading_text o)) 0
 LeadingEnded o (Some t) = (f : DocumentFormat) × (k : ℕ) × (k < 2) × (o ≡ Some f) × (t ≡ f.leading ++ newlines (suc k)) × GapSays (without_bom f.leading) (suc k)
 
--- a format with another leading text, where there is one
+-- a format with another leading text
 abbrev pub lead_with : Text → DocumentFormat → DocumentFormat
 lead_with t f = record f { leading = t }
 
@@ -96,7 +96,7 @@ abbrev pub led_with : Option Text → Option DocumentFormat → Option DocumentF
 led_with None o = o
 led_with (Some t) o = option_map (lead_with t) o
 
--- e is d with the node n before the others, and before it the leading text with what it lacked
+-- e is d with the node n before the others, after the leading text, which got the newlines that it lacked
 pub record PutFirst (n : KdlNode) (d e : KdlDocument) : Type 0 where
   pub leading : Option Text
   pub ended : LeadingEnded (texts_around d) leading
@@ -104,34 +104,34 @@ pub record PutFirst (n : KdlNode) (d e : KdlDocument) : Type 0 where
   pub nodes : nodes_of e ≡ insert (nodes_of d) 0 n
   pub span : (out-KdlDocument e).span ≡ (out-KdlDocument d).span
 
--- what is before a new block, where that is not what is before the terminator: the same, with the newline of an open escline
+-- the text before a new block, where it differs from the text before the terminator: that text with a newline
 abbrev pub BeforeNewBlock : Option NodeFormat → Option Text → Type 0
 BeforeNewBlock o None = Unit {0}
 BeforeNewBlock o (Some t) = (f : NodeFormat) × (o ≡ Some f) × (t ≡ f.before_terminator ++ newlines 1)
 
--- what is before the terminator of f, or else t, put before the block
+-- f with the given text before the block, or with its own text before the terminator where none is given
 abbrev pub block_format : Option Text → NodeFormat → NodeFormat
 block_format o f = record f { before_children = unwrap_or o f.before_terminator; before_terminator = [] }
 
--- m' is m with that in its format, and all else as it was
+-- m' is m with such a format, and all else as it was
 abbrev pub BlockBegins : Option Text → KdlNode → KdlNode → Type 0
 BlockBegins o m m' = (g : Option KdlNodeFormat) × (m' ≡ with_format m g) × (node_texts g ≡ option_map (block_format o) (node_texts (out-KdlNode m).format))
 
--- what may follow a document that is a text, or a block
+-- what may follow the content of a document that is a whole text, or a block
 abbrev pub rests_after : Bool → Option DocumentFormat → Rests
 rests_after false o = TextEnd
 rests_after true o = BlockEnd o
 
--- it reads back, as a text or a block
+-- the document reads back, as a whole text or as a block
 abbrev pub ReadsIn : Bool → KdlDocument → Type 0
 ReadsIn false d = DocumentReadsBack d
 ReadsIn true d = BlockReadsBack d
 
--- the place i is behind all nodes and texts of the document
+-- the place i is after all nodes, and the document has no trailing text
 abbrev pub IsLast : ℕ → KdlDocument → Type 0
 IsLast i d = (length (nodes_of d) ≤ i) × (trailing_text (texts_around d) ≡ [])
 
--- what follows a node that is put in there, in a text or a block
+-- what follows a node that is put at the place i, in a whole text or in a block
 abbrev pub IsRestAt : Bool → ℕ → KdlDocument → Rest → Type 0
 IsRestAt b i d Rest.End = (b ≡ false) × IsLast i d
 IsRestAt b i d Rest.Brace = (b ≡ true) × (f : DocumentFormat) × (texts_around d ≡ Some f) × IsLast i d

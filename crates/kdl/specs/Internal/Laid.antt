@@ -61,7 +61,7 @@ LaidBut s level o olds n = (ms : List Node) → AllZip (Laid s (level + 1)) olds
 abbrev pub IsAtLevel : Settings → ℕ → Block → Type 0
 IsAtLevel s level b = (b.level ≡ level) × (text_of b.before ≡ indentation s level)
 
--- of the nodes at a level, those are laid out that stand before where the open blocks are
+-- of the nodes at a level, those before the open blocks are laid out
 abbrev pub IsUnderWay : Settings → ℕ → List Node → List Block → Block → Type 0
 IsUnderWay s level olds [] inner = IsAtLevel s level inner × Partly s level olds inner.nodes.items inner.at
 IsUnderWay s level olds (b ∷ above) inner =

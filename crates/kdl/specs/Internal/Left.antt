@@ -15,11 +15,11 @@ use Rattle.kdl.specs.declared.prints.Open.{Open}
 abbrev pub front : KdlNode → ℕ → Text
 front n depth = print_head (head_tree (out-KdlNode n)) depth ++ print_pieces (map entry_tree (out-KdlNode n).entries.items)
 
--- its terminator, and what stands around it
+-- its terminator, with the texts around it
 abbrev pub node_end : KdlNode → Text
 node_end n = end_text (option_map node_format_tree (out-KdlNode n).format)
 
--- what stands before its block
+-- the text before its block
 abbrev pub node_before_block : KdlNode → Text
 node_before_block n = before_block (option_map node_format_tree (out-KdlNode n).format) (map entry_tree (out-KdlNode n).entries.items)
 
@@ -29,7 +29,7 @@ block_front d =
     let format = option_map document_format_tree (out-KdlDocument d).format in
     (123 ∷ after_brace format) ++ leading_text format
 
--- behind the last node of a block, up to its `}`; the node that it belongs to is at the depth
+-- a block from its last node to its `}`; the node that it belongs to is at the depth
 abbrev pub block_end : KdlDocument → ℕ → Text
 block_end d depth =
     let format = option_map document_format_tree (out-KdlDocument d).format in
@@ -43,11 +43,11 @@ line n depth = front n depth ++ node_end n
 abbrev pub opening : KdlNode → KdlDocument → ℕ → Text
 opening n d depth = front n depth ++ node_before_block n ++ block_front d
 
--- a node behind the last node in its block
+-- a node from the last node in its block to its own end
 abbrev pub closing : KdlNode → KdlDocument → ℕ → Text
 closing n d depth = block_end d depth ++ node_end n
 
--- the blocks that are open, the outermost first, and the nodes behind each
+-- the blocks that are open, the outermost first, and the nodes after each
 abbrev pub print_above : List Open → ℕ → Text
 print_above [] depth = []
 print_above (o ∷ os) depth = print_above os (depth + 1) ++ closing o.node.now o.block.now depth ++ print_nodes (nodes_tree o.behind.now) depth

@@ -25,7 +25,7 @@ impl KdlDocument {
         self.nodes[at].clear_alone()
     }
 
-    /// Puts another block into the node at the place, and answers the one that it had.
+    /// Puts another block into the node at the place, and returns the one that it had.
     pub(crate) fn exchange_block(
         &mut self,
         at: usize,
@@ -37,7 +37,7 @@ impl KdlDocument {
         self.nodes[at].exchange_children(block)
     }
 
-    /// The place of the first node that is due, where all nodes behind it are due and none before it.
+    /// The place of the first node that is due, where all nodes after it are due and none before it.
     pub(crate) fn due_from(&self) -> usize
         ensures { AreDueFrom self.now result }
     {

@@ -23,10 +23,11 @@ use std::alloc::AllocError;
 
 impl KdlDocument {
     /// Lays out the document: each node on a line of its own, four spaces for each level, one space between the parts
-    /// of a node; a document without nodes prints one newline. Comments stay, and what a slashdash drops, where they
-    /// stand between nodes, behind a node on its line, between entries, or before a block; those inside a type or
-    /// behind it, around `=` and behind an entry's value go. Spellings go; an entry that is flagged to keep its form
-    /// keeps the spelling of its value and the text before it. What the document says stays, and so do the spans.
+    /// of a node. A document without nodes prints one newline. What the document says stays, and so do the spans.
+    ///
+    /// Comments, and what a slashdash drops, stay between nodes, after a node on its line, between entries, and before a
+    /// block. They are removed inside a type or after it, around `=` and after an entry's value. Spellings are removed
+    /// too, but an entry that is flagged to keep its form keeps the spelling of its value and the text before it.
     ///
     /// Where no entry is flagged, the printed text is a document that says the same, and a second call changes nothing.
     ///
@@ -86,7 +87,7 @@ impl KdlDocument {
     /// ```
     /// let config = FormatConfig::builder().indent("\t").build();
     /// let mut document = KdlDocument::parse(alloc, "a { b }")?;
-    /// document.autoformat_config(&config)?; // prints `a {`, `b` behind a tabulator, and `}`
+    /// document.autoformat_config(&config)?; // prints `a {`, `b` after a tab, and `}`
     /// ```
     pub fn autoformat_config(&mut self, config: &FormatConfig) -> Result<(), AllocError>
         ensures data { document_says self.new ≡ document_says self.old }

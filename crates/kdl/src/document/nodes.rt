@@ -1,4 +1,4 @@
-//! Nodes put into a document, and taken out of it.
+//! Nodes added to a document, and removed from it.
 
 ghost use Rattle.kdl.specs.DocumentLookups.{nodes_of};
 ghost use Rattle.kdl.specs.Change.{with_nodes};
@@ -22,11 +22,10 @@ use std::alloc::AllocError;
 impl KdlDocument {
     /// Puts the node after the others.
     ///
-    /// What is printed before it, the last node or the document's leading text, gets the newlines that it lacks: one
-    /// that ends an open line comment or escline, and one that ends the node. So does the node itself before a trailing
-    /// text; where nothing follows, it keeps its text. What has all it needs, as a node that ends in `;`, stays as it
-    /// is, and so does all other text. A node without a format takes one where it lacks a newline: the texts that it
-    /// prints at depth 0.
+    /// A newline is added where the printed text would not read back without it: after an open line comment or escline,
+    /// and at the end of a node without a terminator. The text before the new node gets it, which is the last node or
+    /// the document's leading text. The new node itself gets it only where the document has a trailing text. No other
+    /// text changes. A node without a format that needs a newline gets a format, of the texts that it prints at depth 0.
     ///
     /// In a block use `KdlNode::push_child`, since a `}` follows there.
     ///
@@ -56,7 +55,8 @@ impl KdlDocument {
     /// index 0 it goes before the comments at the head of the document, which belong to the first node, and after
     /// U+FEFF.
     ///
-    /// What is before the node, and the node itself where anything follows it, get what they lack, as in `push_node`.
+    /// Newlines are added as by `push_node`: at the end of what is before the node, and of the node itself where anything
+    /// follows it.
     ///
     /// Fails where memory runs out: then the node comes back, and the document is as it was.
     ///
@@ -78,8 +78,8 @@ impl KdlDocument {
         self.put(index, node, false)
     }
 
-    /// Takes out and hands back the node at the index, which has to be there. What the node prints goes with it, the
-    /// comments before it too, and no other text.
+    /// Removes and returns the node at the index, which has to be there. All that the node prints is removed, with the
+    /// comments before it, and no other text.
     ///
     /// ```
     /// let mut document = KdlDocument::parse(alloc, "a // one\n// two\nb\nc")?;
@@ -98,8 +98,8 @@ impl KdlDocument {
         self.nodes.remove(index)
     }
 
-    /// Puts the node before the one at the index, or after the last one, in a document that is a text or the block of
-    /// a node.
+    /// Puts the node before the one at the index, or after the last one. The document is a whole text, or the block of a
+    /// node.
     pub(crate) fn put(
         &mut self,
         index: usize,
@@ -123,7 +123,7 @@ impl KdlDocument {
         }
     }
 
-    /// Whether text is after the nodes.
+    /// Whether the document has a text after its nodes.
     fn has_trailing(&self) -> bool
         ensures { MatchBool result (trailing_text (texts_around self.now) ≢ [])
             (trailing_text (texts_around self.now) ≡ []) }
@@ -150,7 +150,7 @@ impl KdlDocument {
         }
     }
 
-    /// Puts the node with its new format after the one at `last`, which gets what it lacks.
+    /// Puts the node, with its new format, after the one at `last`, which gets the newlines that it lacks.
     fn put_behind(
         &mut self,
         last: usize,
@@ -171,7 +171,7 @@ impl KdlDocument {
         Ok(())
     }
 
-    /// Puts the node with its new format before the others, after the leading text, which gets what it lacks.
+    /// Puts the node, with its new format, before the others. The leading text before it gets the newlines that it lacks.
     fn put_first(
         &mut self,
         node: KdlNode,
@@ -192,7 +192,7 @@ impl KdlDocument {
         Ok(())
     }
 
-    /// The leading text with what it lacks; none where it lacks nothing.
+    /// The leading text with the newlines that it lacks, or none where it lacks none.
     fn ended_leading(&self) -> Result<Option<String>, AllocError>
         ensures { IfOk result (λ o. LeadingEnded (texts_around self.now) (option_map text_of o)) }
     {
@@ -220,7 +220,7 @@ impl KdlDocument {
         }
     }
 
-    /// Puts the node in at the index, with that format where there is one.
+    /// Puts the node at the index, with that format where one is given.
     fn put_at(
         &mut self,
         index: usize,

@@ -1,4 +1,4 @@
-//! Children put into the block of a node.
+//! Children added to the block of a node.
 
 ghost use Rattle.kdl.specs.Internal.Ends.{BeforeNewBlock, BlockBegins, EndsAs, IsEnded, end_with};
 ghost use Rattle.kdl.specs.Iterators.{child_nodes};
@@ -19,13 +19,14 @@ use std::mem;
 impl KdlNode {
     /// Puts the node after the other children, into a new block where there is none.
     ///
-    /// What is printed before it, the last child or the leading text of the block, gets the newlines that it lacks: one
-    /// that ends an open line comment or escline, and one that ends the child. So does the new child before a trailing
-    /// text or an indented `}`, as the one of a block without a format is; directly before a `}` it gets the first one
-    /// alone. All other text stays. A child without a format takes one where it lacks a newline: the texts that it prints
-    /// at depth 0.
+    /// A newline is added where the printed text would not read back without it: after an open line comment or escline,
+    /// and at the end of a child without a terminator. The text before the new child gets it, which is the last child or
+    /// the leading text of the block. The new child gets it before a trailing text, and before an indented `}` (a block
+    /// without a format has one). Directly before a `}` the new child gets a newline only after an open line comment or
+    /// escline. No other text changes. A child without a format that needs a newline gets a format, of the texts that it
+    /// prints at depth 0.
     ///
-    /// What is before the node's terminator goes before a new block, and an open escline there gets its newline.
+    /// The text before the node's terminator goes before a new block, with a newline after an open escline.
     ///
     /// Fails where memory runs out: then the child comes back, and the node is as it was.
     ///
@@ -87,7 +88,7 @@ impl KdlNode {
         Ok(())
     }
 
-    /// What is to be before a new block, where that is not the text before the terminator.
+    /// The text before a new block, or none where it is the text before the terminator.
     fn before_new_block(&self) -> Result<Option<String>, AllocError>
         ensures { IfOk result (λ o. BeforeNewBlock
             (node_texts (out-KdlNode self.now).format) (option_map text_of o)) }
@@ -105,7 +106,7 @@ impl KdlNode {
         Ok(Some(before))
     }
 
-    /// Puts the text before the terminator before the block, or another one in its place.
+    /// Moves the text before the terminator to before the block, or puts the given one there in its place.
     fn begin_block(&mut self, before: Option<String>)
         ensures { BlockBegins (option_map text_of before) self.old self.new }
     {
@@ -116,7 +117,7 @@ impl KdlNode {
         }
     }
 
-    /// The format that the node takes before the rest; none where it lacks nothing.
+    /// The format that the node needs before the rest, or none where it keeps its own.
     pub(crate) fn ended(&self, rest: Rest) -> Result<Option<KdlNodeFormat>, AllocError>
         ensures is_ended { IfOk result (λ o. IsEnded
             (format_or_printed (head_tree (out-KdlNode self.now))) (node_texts o)) }
@@ -131,7 +132,7 @@ impl KdlNode {
         )
     }
 
-    /// Sets the format, where there is one.
+    /// Sets the format, where one is given.
     pub(crate) fn end(&mut self, format: Option<KdlNodeFormat>)
         ensures { self.new ≡ end_with format self.old }
     {

@@ -30,10 +30,12 @@ use std::mem;
 
 impl KdlNode {
     /// Lays out the node and all below it: the node on a line of its own at level 0, four spaces for each level below
-    /// it, one space between the parts of a node. Comments stay, and what a slashdash drops, where they stand before or
-    /// behind the node or one below it, between entries, or before a block or a terminator; those inside a type or
-    /// behind it, around `=` and behind an entry's value go. Spellings go; an entry that is flagged to keep its form
-    /// keeps the spelling of its value and the text before it. What the node says stays.
+    /// it, one space between the parts of a node. What the node says stays.
+    ///
+    /// Comments, and what a slashdash drops, stay before or after the node or one below it, between entries, and before
+    /// a block or a terminator. They are removed inside a type or after it, around `=` and after an entry's value.
+    /// Spellings are removed too, but an entry that is flagged to keep its form keeps the spelling of its value and the
+    /// text before it.
     ///
     /// Where no entry is flagged, the node prints a document of that one node, and a second call changes nothing.
     ///
@@ -93,7 +95,7 @@ impl KdlNode {
     /// ```
     /// let config = FormatConfig::builder().indent("\t").indent_level(1).build();
     /// let mut node = KdlNode::parse(alloc, "a {b}")?;
-    /// node.autoformat_config(&config)?; // prints `a {` behind one tabulator, `b` behind two, `}` behind one
+    /// node.autoformat_config(&config)?; // prints `a {` after one tab, `b` after two, `}` after one
     /// ```
     pub fn autoformat_config(&mut self, config: &FormatConfig) -> Result<(), AllocError>
         ensures data { node_says self.new ≡ node_says self.old }
@@ -126,7 +128,7 @@ impl KdlNode {
         self.lay_out(config, level, indentation.as_str())
     }
 
-    /// Lays out the node at a level, behind the indentation of that level, and all below it.
+    /// Lays out the node at a level, after the indentation of that level, and all below it.
     fn lay_out(
         &mut self,
         config: &FormatConfig,
@@ -143,7 +145,7 @@ impl KdlNode {
         lay_out_below(&mut self.children, config, level)
     }
 
-    /// Lays out the node at a level, behind the indentation of that level, but for the nodes in its block.
+    /// Lays out the node at a level, after the indentation of that level, but not the nodes in its block.
     pub(crate) fn lay_out_own(
         &mut self,
         config: &FormatConfig,
@@ -165,7 +167,7 @@ impl KdlNode {
         lay_out_block(&mut self.children, config, level, before)
     }
 
-    /// Puts other nodes into the node's block, where it has one, and answers those that it had; else it answers them.
+    /// Puts other nodes into the node's block and returns those that it had. Without a block, it returns the given nodes.
     pub(crate) fn exchange_nodes(&mut self, nodes: Vec<KdlNode>) -> Vec<KdlNode>
         ensures had { MatchOption (out-KdlNode self.old).children (result ≡ nodes)
             (λ d. result ≡ (out-KdlDocument d).nodes) }

@@ -11,7 +11,7 @@ use Rattle.kdl.proofs.NodeCounts.{line_counted, block_counted, end_counted}
 use Rattle.kdl.proofs.Printing.PrintingLoop.{none_left_is}
 use Rattle.kdl.proofs.copies.copy_nodes.Goals as goal
 
--- the nodes behind that of an open block
+-- the nodes after that of an open block
 abbrev behind : Open → List KdlNode
 behind o = o.behind.now
 

@@ -13,7 +13,7 @@ use Rattle.kdl.proofs.Printing.PrintingLoop.{line_left, block_left, end_left, wr
 use Rattle.kdl.proofs.NodeCounts.{line_counted, block_counted, end_counted}
 use Rattle.kdl.proofs.prints.write_nodes.Goals as goal
 
--- the nodes behind that of an open block
+-- the nodes after that of an open block
 abbrev behind : Open → List KdlNode
 behind o = o.behind.now
 
