@@ -14,5 +14,5 @@ pub mod PlaceFewest
 pub mod PlacePieces
 -- A terminator and the gap after it.
 pub mod Terminators
--- What may be before a `}` may be alone.
+-- What may come before a `}` may be alone.
 pub mod Alone

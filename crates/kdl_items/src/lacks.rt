@@ -207,7 +207,7 @@ fn place_piece<'a>(
 }
 
 /// Whether the text before a node's terminator, before its block or after it, ends in an escline that lacks a newline:
-/// with an LF after it, it may be before each terminator. A CR at its end is no such newline, since an LF after it is
+/// with an LF after it, it may come before each terminator. A CR at its end is no such newline, since an LF after it is
 /// part of it. None where the text can't be in that place. Of a place before an entry nothing is said.
 ///
 /// Fails where memory runs out.

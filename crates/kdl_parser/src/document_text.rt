@@ -22,13 +22,13 @@ use std::mem;
 /// A document that is a whole text.
 #[derive(Drop)]
 pub struct DocumentText<N> {
-    /// What stands in it, behind the U+FEFF.
+    /// What is in it, after the U+FEFF.
     pub parts: DocumentParts<N>,
     /// Whether the text begins with U+FEFF.
     pub has_bom: bool,
 }
 
-/// The machine's answer on the text that the lexer is at the start of.
+/// The machine's result on the text that the lexer is at the start of.
 #[tactic(auto, using(crate::proofs::Answering::LeadingBom::bom_ends, crate::proofs::Answering::LeadingBom::bom_at, crate::proofs::Answering::LeadingBom::whole_answer))]
 fn read_all<'a, N: ParsedNode>(
     alloc: Global,
@@ -47,7 +47,7 @@ fn read_all<'a, N: ParsedNode>(
     }
 }
 
-/// The machine's answer on the text, which raises the count.
+/// The machine's result on the text, which raises the count.
 fn read_counted<N: ParsedNode>(
     alloc: Global,
     text: &str,
@@ -74,13 +74,13 @@ pub fn read_document<N: ParsedNode>(
     text: &str,
     steps: &mut Steps,
 ) -> Result<DocumentText<N>, ParseFailure>
-    // What is answered is what the machine answers on the text.
+    // What is returned is what the machine returns on the text.
     ensures found { IfOk result (λ d. AnswersDocument (chars text.now) (whole_by N.tree d)) }
     // What is refused is not derived, and an error tells where.
     ensures refused { IsSyntax result → (x : Nodes) → IsDocument true (chars text.now) x → ⊥ }
     ensures told { TellsOnSyntax text.now result }
     // At least a step for each character is counted, and at most 32 for each byte and 32 more; for a text that is
-    // refused, and what is told of it, at most 160.
+    // refused, and what is reported of it, at most 160.
     ensures least { OnOk result (raise steps.old (length (chars text.now)) ≤ steps.new) }
     ensures most { OnOk result (steps.new ≤ steps.old + 32 * (length text.now + 1)) }
     ensures told_most { IsSyntax result → steps.new ≤ steps.old + 160 * (length text.now + 1) }

@@ -45,7 +45,7 @@ with_found_value key v w = set_value_there (place_of key v.items) v w
 abbrev pub with_argument_value : ℕ → Vec KdlEntry Global → KdlValue → Vec KdlEntry Global
 with_argument_value n v w = set_value_there (nth_place is_argument v.items n) v w
 
--- fs are the entries es with a property of that name and value behind them
+-- fs are the entries es with a property of that name and value after them
 pub record IsPushed (s : List ℕ) (w : Value) (es fs : List KdlEntry) : Type 0 where
   pub entry : KdlEntry
   pub tree : entry_tree entry ≡ plain_entry (Some (plain_identifier (chars s))) w

@@ -15,7 +15,7 @@ use std::alloc::AllocError;
 use std::cmp::Ordering;
 use std::mem;
 
-/// Puts the entry behind the others. Fails where memory runs out: then the entry comes back, and the entries are as
+/// Puts the entry after the others. Fails where memory runs out: then the entry comes back, and the entries are as
 /// they were.
 ///
 /// ```
@@ -92,7 +92,7 @@ pub fn clear(entries: &mut Vec<KdlEntry>)
     entries.clear();
 }
 
-/// Keeps, in order, the entries for which `keep` answers true. It is asked once for each entry, in order.
+/// Keeps, in order, the entries for which `keep` returns true. It is asked once for each entry, in order.
 ///
 /// ```
 /// retain(&mut entries, |entry| entry.name().is_none()); // of `1 a=2 3` are left `1 3`

@@ -111,7 +111,7 @@ one_look (Ok x) a b e s v p = let q = ap bytes s.rest in record { fewer = omega 
 one_look (Err (Faulty f)) a b e s v p = let q = ap bytes s.rest in record { most = omega (arith, s.steps, q, p.most, fewer_bytes v); least = omega (arith, s.steps, ap length s.rest, p.least) }
 one_look (Err Memory) a b e s v p = tt
 
--- behind a look
+-- after a look
 pub no_token_costs : (r : Result (Option Token) LexFailure) (f : LexFailure) (a b e : Here) → IsErrAnd r (λ g. g ≡ f) → b ≡ looked a → Moves b e → KindCosts {A = TokenKind} 22 (Err f) b e → LexCosts r a e
 no_token_costs (Ok o) f a b e h x v p = absurd h
 no_token_costs (Err g) f a b e h x v p = subst (λ (z : LexFailure). LexCosts (Err z) a e) (sym h) (costs f p)

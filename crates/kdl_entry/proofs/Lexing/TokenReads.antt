@@ -1,4 +1,4 @@
--- From what the readers answer to the tokens of the whole language.
+-- From what the readers return to the tokens of the whole language.
 use Rattle.std.proofs.Common.{◌≡◌, ℕ, zero, suc, ◌+◌, ◌-◌, ◌*◌, ◌≤◌, ◌<◌, Bool, true, false, [], ◌∷◌, ◌++◌, length, refl, sym, subst, ap, ◌∙◌, ◌==◌, ◌||◌, arith, length-append, ℤ, of_z, to_z, lit<, inl, inr}
 use Rattle.std.proofs.Math.Nat.{add-mul, mul-le-mul_left}
 use Rattle.std.proofs.lemmas.Bool.{and_parts, eqb-true}
@@ -138,7 +138,7 @@ no_quoted_here s r place (StringFaulty f) Memory h n x = tt
 no_quoted_here s r place StringMemory (Faulty e) h n x = absurd x
 no_quoted_here s r place StringMemory Memory h n x = tt
 
--- raw strings and keywords, by the character behind the number sign
+-- raw strings and keywords, by the character after the number sign
 abbrev pub looks_raw : Text → Bool
 looks_raw s = starts (λ c. c == 34 || c == 35) (tail s)
 

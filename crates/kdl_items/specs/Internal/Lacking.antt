@@ -1,4 +1,4 @@
--- How the answers of the readers of what a text lacks stand to the text.
+-- How the results of the readers of what a text lacks relate to the text.
 use Rattle.std.specs.Borrow.{Bor}
 use Rattle.std.specs.Prelude.{◌≡◌, ◌⊎◌, ℕ, suc, ◌<◌, ◌≤◌, Bool, true, false, List, [], ◌∷◌, ◌++◌, Option, Some, None, length}
 use Rattle.std.specs.Str.{chars}
