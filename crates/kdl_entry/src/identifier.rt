@@ -12,7 +12,7 @@ ghost use Rattle.std.specs.Str.{chars, encode_utf8_all};
 ghost use Rattle.std.specs.String.{string_vec};
 ghost use Rattle.std.specs.Vec.{vec_allocator};
 
-use kdl_text::chars::Piece;
+use kdl_text::cursor::Piece;
 use kdl_text::span::SourceSpan;
 use kdl_value::{write_spelled, write_text};
 use std::alloc::{AllocError, Global};

@@ -6,7 +6,7 @@ pub mod KeptReads
 pub mod KeptAgain
 -- What is kept in a place holds the items of its text.
 pub mod KeptItems
--- What is kept may be where it is written.
+-- What is kept may occur where it is written.
 pub mod KeptPlaces
 -- A document has one list of items at most.
 pub mod ListUnique

@@ -23,7 +23,7 @@ pub fn is_kdl_space(text: &str) -> bool
 pub struct FormatConfig<'a> {
     /// The level of the outermost nodes.
     pub indent_level: usize,
-    /// What comes before a node, once for each level. What is promised of the printed text asks for KDL spaces alone.
+    /// What comes before a node, once for each level. The contracts on the printed text are for KDL spaces alone.
     pub indent: &'a str,
     /// Whether comments, and what a slashdash drops, are left out.
     pub no_comments: bool,

@@ -32,7 +32,7 @@ fn number_fits(number: i128)
     ensures { FitsSigned w128 number }
 {}
 
-/// What each value in memory is, for the proofs: at run time it does nothing.
+/// Shows that each value in memory is well formed. It does nothing at run time.
 pub fn well_formed(value: &KdlValue)
     ensures { IsWellFormed (value_tree value.now) }
 {
@@ -63,7 +63,7 @@ fn replaced(alloc: Global, mut text: String, by: &str) -> Result<String, AllocEr
     Ok(text)
 }
 
-/// The text so many times.
+/// The text, repeated `times` times.
 fn repeated(alloc: Global, text: &str, times: usize) -> Result<String, AllocError>
     ensures { IfOk result (λ s. text_of s ≡ repeat times (chars text.now)) }
 {
@@ -268,7 +268,7 @@ fn line_end(
     Ok((last, end))
 }
 
-/// The texts around the parts of a node on a line of its own. Memory of the texts that was there serves again.
+/// The texts around the parts of a node on a line of its own. Memory of the texts that were there serves again.
 fn line_format(
     old: KdlNodeFormat,
     alloc: Global,

@@ -9,7 +9,7 @@ use Rattle.kdl_grammar.specs.Tree.{NodeFormat, DocumentFormat, Head, Node, node,
 abbrev pub spaces : ℕ → Text
 spaces depth = replicate (4 * depth) 32
 
--- an entry in a node: one without a format is after one space
+-- an entry in a node: one without a format comes after one space
 abbrev pub spaced : Option EntryFormat → Text
 spaced None = 32 ∷ []
 spaced (Some f) = []

@@ -1,6 +1,6 @@
 //! Items, and the places in a node where they may be.
 
-/// A comment or a dropped piece in the text around nodes or entries, as it is there.
+/// A comment or a dropped piece in the text around nodes or entries, as it is written.
 #[derive(Clone, Copy)]
 pub enum Item<'a> {
     /// A line comment, without the newline that ends it.

@@ -10,7 +10,7 @@ ghost use Rattle.std.specs.Str.{chars};
 use crate::dropped::{dropped_node, dropped_part};
 use crate::item::{Item, Place};
 use crate::spaces::{line_spaces, node_spaces};
-use kdl_text::chars::{Cursor, Steps};
+use kdl_text::cursor::{Cursor, Steps};
 use std::alloc::{AllocError, Global};
 
 /// Whether `/-` begins the text.
@@ -28,8 +28,8 @@ pub(crate) fn same(text: &str) -> &str
     text
 }
 
-/// Adds the items of the line-spaces or of the dropped node that begin the text of a gap. The text after them; none
-/// where the text is no gap.
+/// Adds the items of the line-spaces or of the dropped node that begin the text of a gap. Returns the text
+/// after them, or none where the text is no gap.
 fn gap_piece<'a>(
     alloc: Global,
     text: &'a str,
@@ -85,8 +85,8 @@ pub(crate) fn may_end(place: Place) -> bool
     }
 }
 
-/// Adds the items of the node-spaces, or of the entry or block that is dropped, that begin the text in a place. The
-/// text after them and the place there; none where the text can't be in the place.
+/// Adds the items of the node-spaces, or of the entry or block that is dropped, that begin the text in a place.
+/// Returns the text after them and the place there, or none where the text can't be in the place.
 fn place_piece<'a>(
     alloc: Global,
     place: Place,

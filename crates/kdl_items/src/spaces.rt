@@ -10,7 +10,8 @@ ghost use Rattle.std.specs.Str.{IsUtf8, chars};
 
 use crate::item::Item;
 use crate::slices::cut;
-use kdl_text::chars::{Class, Cursor, Steps, is_space, newline};
+use kdl_text::chars::{Class, is_space};
+use kdl_text::cursor::{Cursor, Steps, newline};
 use kdl_text::trivia::block_comment;
 use std::alloc::AllocError;
 
@@ -118,7 +119,7 @@ pub(crate) fn behind_semicolon(text: &str) -> Option<&str>
     }
 }
 
-/// The text after an escline whose backslash comes before it; none where none does. Its comments are added.
+/// The text after an escline whose backslash comes before it; none where there is no escline. Its comments are added.
 fn escline<'a>(text: &'a str, items: &mut Vec<Item<'a>>) -> Result<Option<&'a str>, AllocError>
     ensures { IfOk result (λ o.
         AddsHeld SpaceItems (92 ∷ chars text.now) o items.old.items items.new.items) }
@@ -138,7 +139,7 @@ fn escline<'a>(text: &'a str, items: &mut Vec<Item<'a>>) -> Result<Option<&'a st
     Ok(behind_newline(rest))
 }
 
-/// The text after the node-spaces that begin it, at least one; none where none does. Their comments are added.
+/// The text after the node-spaces that begin it, at least one; none where there is none. Their comments are added.
 pub(crate) fn node_spaces<'a>(
     text: &'a str,
     items: &mut Vec<Item<'a>>,

@@ -1,6 +1,6 @@
 -- What only proofs and contracts inside the crates need: no contract of a public call of `kdl` speaks of it.
 
--- What is returned on what the lexer has before it, by the tree of a node.
+-- What is returned for what the lexer has before it, by the tree of a node.
 pub mod Answered
 -- The states to which the builder's methods bring it, as the machine has them, and what is not sliced there yet.
 pub mod States

@@ -19,7 +19,7 @@ use crate::node_parts::{DocumentParts, ParsedNode};
 use kdl_entry::items::item::{Item, TypeParts, text_between};
 use kdl_entry::items::{LexFailure, Lexer, Token, TokenKind, fault_at};
 use kdl_entry::{KdlEntry, KdlIdentifier};
-use kdl_text::chars::{Checkpoint, Piece};
+use kdl_text::cursor::{Checkpoint, Piece};
 use std::alloc::Global;
 
 /// Where in the grammar the builder is.

@@ -14,7 +14,7 @@ use crate::node_parts::{DocumentParts, ParsedNode};
 use crate::token_loop::build;
 use kdl_entry::items::{LexFailure, Lexer};
 use kdl_faults::{Whole, failure};
-use kdl_text::chars::Steps;
+use kdl_text::cursor::Steps;
 use kdl_text::error::ParseFailure;
 use std::alloc::Global;
 use std::mem;
@@ -74,7 +74,7 @@ pub fn read_document<N: ParsedNode>(
     text: &str,
     steps: &mut Steps,
 ) -> Result<DocumentText<N>, ParseFailure>
-    // What is returned is what the machine returns on the text.
+    // The result is the machine's on the text.
     ensures found { IfOk result (λ d. AnswersDocument (chars text.now) (whole_by N.tree d)) }
     // What is refused is not derived, and an error tells where.
     ensures refused { IsSyntax result → (x : Nodes) → IsDocument true (chars text.now) x → ⊥ }

@@ -15,7 +15,7 @@ use crate::node_parts::{DocumentParts, ParsedNode};
 use crate::token_loop::build;
 use kdl_entry::items::{LexFailure, Lexer};
 use kdl_faults::{Whole, failure};
-use kdl_text::chars::Steps;
+use kdl_text::cursor::Steps;
 use kdl_text::error::ParseFailure;
 use kdl_text::span::SourceSpan;
 use std::alloc::Global;

@@ -10,7 +10,7 @@ ghost use Rattle.std.specs.Prelude.{◌≡◌, ◌+◌, ◌≤◌};
 use crate::builder::Builder;
 use crate::node_parts::{DocumentParts, ParsedNode};
 use kdl_entry::items::{LexFailure, Lexer};
-use kdl_text::chars::Checkpoint;
+use kdl_text::cursor::Checkpoint;
 use std::alloc::Global;
 
 /// The machine's result on what the lexer has before it, by a builder that has seen no token yet.

@@ -36,7 +36,7 @@ impl KdlNodeFormat {
     /// A format whose texts are empty. It takes no memory.
     ///
     /// ```
-    /// let mut format = KdlNodeFormat::new(alloc); // nothing ends the node: the next one would are on the same line
+    /// let mut format = KdlNodeFormat::new(alloc); // nothing ends the node: the next one would be on the same line
     /// format.terminator = String::from_str(alloc, "\n")?;
     /// ```
     #[tactic(auto, using(crate::proofs::Utf8Parts::writes))]

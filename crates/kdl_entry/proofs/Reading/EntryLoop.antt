@@ -32,7 +32,7 @@ module _ (whole : Text) where
   item_space it closed s r = refl
   item_space it keyed s r = refl
 
-  -- where a space is is all one
+  -- the place of a space does not matter
   anywhere : (st : State) (s r t q : Text) → step whole st space s r ≡ step whole st space t q
   anywhere ahead s r t q = refl
   anywhere entry_slashdash s r t q = refl

@@ -17,7 +17,7 @@ use super::lexer::{LexFailure, Lexer, Token, TokenKind, fault_at};
 use crate::entry::KdlEntry;
 use crate::identifier::{KdlIdentifier, sliced_identifier};
 use kdl_faults::{Whole, failure};
-use kdl_text::chars::{Checkpoint, Piece, Steps};
+use kdl_text::cursor::{Checkpoint, Piece, Steps};
 use kdl_text::error::ParseFailure;
 use kdl_text::span::SourceSpan;
 use kdl_value::KdlValue;
@@ -471,7 +471,7 @@ impl KdlEntry {
     /// ```
     #[tactic(auto, using(crate::proofs::Reading::EntryAnswers::found, crate::proofs::Reading::EntryAnswers::only, crate::proofs::Reading::EntryAnswers::laid, crate::proofs::Reading::EntryAnswers::prints, crate::proofs::Reading::EntryAnswers::refused))]
     pub fn parse(alloc: Global, text: &str) -> Result<KdlEntry, ParseFailure>
-        // What is returned is what the grammar derives,
+        // The result is what the grammar derives,
         ensures found { IfOk result
             (λ e. IsEntryText true (chars text.now) (entry_data (entry_tree e))) }
         // and it derives nothing else.

@@ -8,7 +8,7 @@ use super::item::identifier_between;
 use super::lexer::{LexFailure, Lexer, Token, TokenKind, fault_at};
 use crate::identifier::KdlIdentifier;
 use kdl_faults::{Whole, failure};
-use kdl_text::chars::{Checkpoint, Steps};
+use kdl_text::cursor::{Checkpoint, Steps};
 use kdl_text::error::ParseFailure;
 use std::alloc::Global;
 
@@ -74,7 +74,7 @@ impl KdlIdentifier {
     /// ```
     #[tactic(auto, using(crate::proofs::Reading::IdentifierAnswers::found, crate::proofs::Reading::IdentifierAnswers::only, crate::proofs::Reading::IdentifierAnswers::prints))]
     pub fn parse(alloc: Global, text: &str) -> Result<KdlIdentifier, ParseFailure>
-        // What is returned is what the grammar derives,
+        // The result is what the grammar derives,
         ensures found { IfOk result
             (λ i. IsIdentifierText true (chars text.now) (identifier_tree i).value) }
         // and it derives nothing else.

@@ -1,6 +1,6 @@
 //! Items under way: the type and value of an entry, or the type and name of a node, token by token.
 //!
-//! The rules of types, keys and values are here once, for entries alone and for those of a document.
+//! The rules of types, keys and values, for entries alone and for those of a document.
 
 ghost use Rattle.kdl_entry.specs.Internal.Building.{key_view, type_view, item_view, Did, Holds, Stays};
 ghost use Rattle.kdl_entry.specs.Internal.Counted.{Sliced, ItemSliced};
@@ -17,7 +17,7 @@ ghost use Rattle.std.specs.Prelude.{◌≡◌, if◌then◌else◌, [], Some, No
 use super::lexer::{LexFailure, Lexer, TokenKind, fault_at};
 use crate::entry::{KdlEntry, KdlEntryFormat};
 use crate::identifier::{KdlIdentifier, sliced_identifier};
-use kdl_text::chars::{Checkpoint, Piece};
+use kdl_text::cursor::{Checkpoint, Piece};
 use kdl_text::span::SourceSpan;
 use kdl_value::KdlValue;
 use std::alloc::{AllocError, Global};

@@ -15,10 +15,8 @@ ghost use Rattle.kdl_text.specs.Internal.Reading.{Moves};
 ghost use Rattle.std.specs.Prelude.{◌≡◌, ◌++◌, ◌==◌, ◌||◌, true, false, Some, None, IfOk};
 ghost use Rattle.std.specs.Str.{chars};
 
-use kdl_text::chars::{
-    Checkpoint, Class, Cursor, Piece, Steps, is_digit, is_identifier_char, is_newline_char,
-    is_sign, is_space, newline,
-};
+use kdl_text::chars::{Class, is_digit, is_identifier_char, is_newline_char, is_sign, is_space};
+use kdl_text::cursor::{Checkpoint, Cursor, Piece, Steps, newline};
 use kdl_text::numbers::{Keyword, Number, NumberFailure, begins_number, read_keyword, read_number};
 use kdl_text::span::SourceSpan;
 use kdl_text::strings::{StringFailure, bare_string, quoted_string, raw_string};

@@ -92,7 +92,7 @@ end_follows true p h t space comment k = subst (Follows p) (sym k.0) (nothing_fo
 end_follows false p h t space comment (WrittenEnd.comment l) = space_follows p
 end_follows false p h t space comment (WrittenEnd.other f) = nothing_follows p h
 
--- before an entry that has no text before it nothing is
+-- before an entry that has no text before it there is nothing
 no_space : {r : Text} {is : List Item} → SpaceItems [] r is → ⊥
 no_space (SpaceItems.space n) = elim n [ ]
 no_space (SpaceItems.block b) = elim b [ ]

@@ -278,7 +278,7 @@ part_dropped b (dropped_entry no_star m i d) e = an_entry (dash_lines b m) i (na
 part_dropped b (dropped_entry (more n ss) m i d) e = absurd (dash_space b n)
 part_dropped b (blocks d) e = some_block (blocks_dropped b d e)
 
--- before `/-` a name may be
+-- before `/-` there may be a name
 slash_char : (s : Text) → starts is_identifier_char (47 ∷ s) ≡ false
 unfolding is_identifier_char is_space is_newline_char is_banned is_punctuation
 slash_char s = refl

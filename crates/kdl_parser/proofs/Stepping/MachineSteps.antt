@@ -35,7 +35,7 @@ module _ (whole : Text) (d : Document) where
   again (at (in_node u later) l fs from) s r t q = refl
   again _ s r t q = refl
 
-  -- and where it is is all one
+  -- and its place does not matter
   anywhere : (st : State) (s r t q : Text) → step whole st space s r ≡ step whole st space t q
   anywhere (at gap l fs from) s r t q = refl
   anywhere (at (in_node u p) l fs from) s r t q = refl

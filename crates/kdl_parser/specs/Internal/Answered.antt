@@ -1,4 +1,4 @@
--- What is returned on what the lexer has before it, by the tree of a node.
+-- What is returned for what the lexer has before it, by the tree of a node.
 use Rattle.std.specs.Prelude.{◌≡◌, Option, Some, None, Result, Ok, Err}
 use Rattle.kdl_text.specs.Chars.{Text}
 use Rattle.kdl_text.specs.Internal.Here.{Spot}

@@ -56,7 +56,7 @@ abbrev pub stacked : {N : Type 0} → (N → Node) → List machine.Frame → Li
 stacked tree acc [] = acc
 stacked tree acc (f ∷ fs) = stacked tree (frame_view tree f ∷ acc) fs
 
--- a string that waits is an argument, unless `=` follows; it comes before where the place under way began
+-- a string that waits is an argument, unless `=` follows; it comes before the place where what is under way began
 abbrev pub word_name : Text → Text → WaitingWord → Identifier
 word_name whole from w = record { value = text_of w.value; repr = Some w.repr; span = span_of whole w.start.rest from }
 

@@ -23,7 +23,7 @@ use crate::node_parts::{DocumentParts, NodeParts, ParsedNode};
 use kdl_entry::items::Lexer;
 use kdl_entry::items::item::{Given, Item, Stage, empty, entry_from, span_at, text_between};
 use kdl_entry::{KdlEntry, KdlValue};
-use kdl_text::chars::Checkpoint;
+use kdl_text::cursor::Checkpoint;
 use kdl_text::span::SourceSpan;
 use std::alloc::{AllocError, Global};
 use std::mem;

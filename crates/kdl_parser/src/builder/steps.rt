@@ -23,7 +23,7 @@ use kdl_entry::items::item::{
 };
 use kdl_entry::items::{LexFailure, Lexer, TokenKind, fault_at};
 use kdl_entry::{KdlIdentifier, KdlValue, sliced_identifier};
-use kdl_text::chars::Checkpoint;
+use kdl_text::cursor::Checkpoint;
 use std::alloc::{AllocError, Global};
 use std::mem;
 

@@ -102,7 +102,7 @@ no_base_part {c = c} {d = d} {k = k} {q = q} h (integer x i) p = no_more (base_l
 pub no_ten : (c d : ℕ) (s : Text) → base_prefix (c ∷ d ∷ s) ≡ Some 10 → ⊥
 no_ten c d s h = grind (arith, nat_tests)
 
--- at a decimal no prefix of another base is
+-- a decimal has no prefix of another base
 pub base_is_ten : {s u v r x : Text} {k : ℕ} → Integer 10 s u v → DecimalPart u r → BasePrefix s x k → (x ≡ s) × (k ≡ 10)
 base_is_ten i p (ten h) = (refl, refl)
 base_is_ten i p (other h) = absurd (no_base_part h i p)

@@ -122,7 +122,7 @@ pub record Digits (f a : Here) (value count : ℕ) : Type 0 where
   pub moves : Moves f a
   pub costs : Costs 1 0 f a
 
--- where no number is
+-- where there is no number
 pub record NoHex (f b : Here) : Type 0 where
   pub none : (r : Text) (c : ℕ) → HexNumber f.rest r c → ⊥
   pub moves : Moves f b

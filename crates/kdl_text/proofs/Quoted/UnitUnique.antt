@@ -112,7 +112,7 @@ body_empty (body (more u us) e) = elim u [ ]
 pub body_unit : {t r v : Text} → QuotedBody (92 ∷ t) r v → (m : Text) × (u : StringUnit) × IsUnit (92 ∷ t) m u
 body_unit (body (more u us) e) = (_, _, u)
 
--- where neither a quote nor a unit is
+-- where there is neither a quote nor a unit
 pub body_none : {c : ℕ} {t r v : Text} → (c ≡ 34 → ⊥) → ((m : Text) (u : StringUnit) → IsUnit (c ∷ t) m u → ⊥) → QuotedBody (c ∷ t) r v → ⊥
 body_none h k (body none e) = h refl
 body_none h k (body (more u us) e) = k _ _ u

@@ -29,7 +29,7 @@ no_first : (m : ℕ) (d x : Text) → 0 < m → d ≡ times m 35 ++ x → begins
 no_first zero d x some e h = omega arith
 no_first (suc m) d x some e h = true≢false (sym (ap (begins 35) e) ∙ h)
 
--- where no number signs are
+-- where there are no number signs
 pub unsigned : (j : ℕ) (s d r w : Text) → s ≡ times j 35 ++ d → begins 35 d ≡ false → j ≡ 0 → IsRaw s r w → ⊥
 unsigned j s d r w e h z (on_one_line q) = no_first q.signs d _ q.some (sym (e ∙ ap (λ i. times i 35 ++ d) z) ∙ q.text) h
 unsigned j s d r w e h z (on_many_lines q) = no_first q.signs d _ q.some (sym (e ∙ ap (λ i. times i 35 ++ d) z) ∙ q.text) h
