@@ -107,7 +107,7 @@ abbrev pub EntriesKeepNone : List Entry → Type 0
 EntriesKeepNone [] = Unit {0}
 EntriesKeepNone (e ∷ es) = (is_kept_format e.format ≡ false) × EntriesKeepNone es
 
--- nor is one at any depth
+-- no entry at any depth is flagged to keep its form
 abbrev mutual
   pub NodeKeepsNone : Node → Type 0
   NodeKeepsNone (node h k) = EntriesKeepNone h.entries × ChildrenKeepNone k

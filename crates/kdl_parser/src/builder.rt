@@ -86,7 +86,7 @@ struct WaitingWord<'a> {
     repr: Piece<'a>,
 }
 
-/// Where a name or an entry begins, and whether it counts. Of what doesn't no text is held.
+/// Where a name or an entry begins, and whether it counts. No text is held of what does not count.
 #[derive(Drop)]
 struct Slot<'a> {
     kept: bool,
@@ -103,7 +103,7 @@ enum Waiting<'a> {
     Word(WaitingWord<'a>),
 }
 
-/// A document under way. Of what is slashdashed no text is held.
+/// A document under way. It holds no text of what is slashdashed.
 #[derive(Drop)]
 pub(crate) struct Builder<'a, N> {
     whole: Checkpoint<'a>,

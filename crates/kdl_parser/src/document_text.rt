@@ -64,10 +64,10 @@ fn read_counted<N: ParsedNode>(
 }
 
 /// The document that the text is (KDL 2.0.0, Document), which raises the count by the steps that it takes, up to the
-/// greatest `u64`. Each place and each spelling that the document keeps is sliced once, but for a U+FEFF, which is not;
+/// greatest `u64`. Each place and each spelling that the document keeps is sliced once, except a U+FEFF, which is not;
 /// values are decoded by the lexer, which slices what it needs for that, of what is slashdashed too. `Syntax`: the
-/// text is none; its error has a diagnostic for each fault that is found, and one at least. To tell them the text is
-/// read once more. `Memory`: a request for memory was refused.
+/// text is no document; its error has a diagnostic for each fault that is found, and one at least. The text is read
+/// once more to find them. `Memory`: a request for memory was refused.
 #[tactic(auto, using(crate::proofs::Answering::Outcomes::refused, crate::proofs::Answering::Outcomes::most_counted))]
 pub fn read_document<N: ParsedNode>(
     alloc: Global,

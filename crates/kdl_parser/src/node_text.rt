@@ -55,7 +55,7 @@ fn only_node<N: ParsedNode>(text: &str, nodes: Vec<N>) -> Result<N, LexFailure>
     Ok(node)
 }
 
-/// The only node of a text as a text of its own, where line-spaces alone come after it. A fault at what else does.
+/// The only node of a text as a text of its own, where line-spaces alone come after it. A fault at anything else.
 fn with_line_spaces<N: ParsedNode>(
     alloc: Global,
     text: &str,
@@ -112,7 +112,7 @@ fn read_whole<N: ParsedNode>(alloc: Global, text: &str) -> Result<NodeText<N>, L
 }
 
 /// The node that the text is: line-spaces and nodes that are slashdashed before it, and after its terminator
-/// line-spaces alone (KDL 2.0.0, Node). `Syntax`: the text is none. Its error has a diagnostic for each fault that is
+/// line-spaces alone (KDL 2.0.0, Node). `Syntax`: the text is no node. Its error has a diagnostic for each fault that is
 /// found, and one at least. `Memory`: a request for memory was refused.
 pub fn read_node_text<N: ParsedNode>(alloc: Global, text: &str) -> Result<NodeText<N>, ParseFailure>
     // The node that is returned is laid in the text, which it is.
