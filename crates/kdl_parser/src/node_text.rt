@@ -112,8 +112,8 @@ fn read_whole<N: ParsedNode>(alloc: Global, text: &str) -> Result<NodeText<N>, L
 }
 
 /// The node that the text is: line-spaces and nodes that are slashdashed before it, and after its terminator
-/// line-spaces alone (KDL 2.0.0, Node). `Syntax`: the text is no node. Its error has a diagnostic for each fault that is
-/// found, and one at least. `Memory`: a request for memory was refused.
+/// line-spaces alone (KDL 2.0.0, Node). `Syntax`: the text is no node. Its error has a diagnostic for each fault that
+/// is found, and one at least. `Memory`: a request for memory was refused.
 pub fn read_node_text<N: ParsedNode>(alloc: Global, text: &str) -> Result<NodeText<N>, ParseFailure>
     // The node that is returned is laid in the text, which it is.
     ensures found { IfOk result (λ n. LaidNodeText true (chars text.now) (text_by N.tree n)) }
