@@ -71,7 +71,7 @@ pub use kdl_entry::{KdlEntry, KdlEntryFormat, KdlFloat, KdlIdentifier, KdlValue}
 pub use kdl_fmt::{FormatConfig, FormatConfigBuilder, is_kdl_space};
 pub use kdl_parts::iter::{ArgsIter, EntryIter, EntryIterMut};
 pub use kdl_parts::{KdlDocumentFormat, KdlNodeFormat, NodeKey};
-pub use kdl_text::chars::Steps;
+pub use kdl_text::cursor::Steps;
 pub use kdl_text::error::{KdlDiagnostic, KdlError, ParseFailure};
 pub use kdl_text::span::{Severity, SourceSpan};
 pub use kdl_value::FloatFailure;

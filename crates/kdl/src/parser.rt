@@ -16,7 +16,7 @@ ghost use Rattle.std.specs.Str.{chars};
 use crate::document::KdlDocument;
 use crate::node::KdlNode;
 use kdl_parser::{read_document, read_node_text};
-use kdl_text::chars::Steps;
+use kdl_text::cursor::Steps;
 use kdl_text::error::ParseFailure;
 use std::alloc::Global;
 

@@ -56,7 +56,7 @@ format_decides f g =
     ))
     all
 
--- an identifier's tree, wherever it stood
+-- an identifier's tree, wherever it was
 abbrev spanless : KdlIdentifier → Identifier
 spanless i = without_span (identifier_tree i)
 

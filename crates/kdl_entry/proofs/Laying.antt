@@ -8,7 +8,7 @@ pub mod LaidIsDerived
 pub mod LaidPrints
 -- What is laid is laid, whatever its spans.
 pub mod Respanned
--- A laid entry can stand before every text with a value end.
+-- A laid entry can come before every text with a value end.
 pub mod EntryStands
 -- An entry with the form that it prints has its data and prints it.
 pub mod FormedPrints

@@ -1,10 +1,10 @@
--- Tokens: one at most, and what the lexer answers.
+-- Tokens: one at most, and what the lexer returns.
 
 -- A text begins with one token at most.
 pub mod TokenUnique
 -- What the readers of tokens cost.
 pub mod TokenCost
--- From what the readers answer to the tokens of the whole language.
+-- From what the readers return to the tokens of the whole language.
 pub mod TokenReads
 -- What the first characters of a token tell.
 pub mod FirstCharacters

@@ -1,4 +1,4 @@
--- Tokens: one at most, and what the lexer answers.
+-- Tokens: one at most, and what the lexer returns.
 pub mod Lexing
 -- Pieces before another rest, and the ends of pieces.
 pub mod Moving

@@ -2,11 +2,11 @@
 
 -- A piece as a function of what follows it.
 pub mod Puts
--- Spaces, comments and entries stand before another rest too.
+-- Spaces, comments and entries come before another rest too.
 pub mod EntryMoves
--- Numbers and keywords stand before another rest too.
+-- Numbers and keywords come before another rest too.
 pub mod PieceMoves
--- Strings stand before another rest too.
+-- Strings come before another rest too.
 pub mod StringMoves
 -- What follows a piece of an entry is an end of the text.
 pub mod EntryEnds

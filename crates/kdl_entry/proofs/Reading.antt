@@ -6,7 +6,7 @@ pub mod EntryComplete
 pub mod EntrySound
 -- The loop that reads an entry text, token by token.
 pub mod EntryLoop
--- What the answer of the machine of entries says of the grammar.
+-- What the result of the machine of entries says of the grammar.
 pub mod EntryAnswers
 -- The laws of the machine of entries, put together.
 pub mod EntryLaws

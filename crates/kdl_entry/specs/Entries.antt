@@ -1,5 +1,5 @@
 -- Strings, types, values and entries as they are written (KDL 2.0.0, String, Value, Type Annotation, Argument, Property).
--- `X wide s r x`: an X begins the text s, leaves r, and stands for x. Where `wide` holds, a slashdash ends a value.
+-- `X wide s r x`: an X begins the text s, leaves r, and represents x. Where `wide` holds, a slashdash ends a value.
 use Rattle.std.specs.Prelude.{◌≡◌, Bool, true, false, [], ◌∷◌, Option, Some, None}
 use Rattle.kdl_text.specs.Chars.{Text, Star, Plus}
 use Rattle.kdl_text.specs.Bare.{BareString}
@@ -18,7 +18,7 @@ pub data StringPiece : Text → Text → Text → Type 0 where
   quoted : {s r v : Text} → IsQuoted s r v → StringPiece s r v
   raw : {s r v : Text} → IsRaw s r v → StringPiece s r v
 
--- a string, and a value end behind it
+-- a string, and a value end after it
 pub data IsString (wide : Bool) : Text → Text → Text → Type 0 where
   string : {s r v : Text} → StringPiece s r v → ValueEnd wide r → IsString wide s r v
 
@@ -41,7 +41,7 @@ pub data PlainPiece : Text → Text → Value → Type 0 where
   number : {s r : Text} {n : NumberValue} {v : Value} → IsNumber s r n → v ≡ number_value n → PlainPiece s r v
   keyword : {s r : Text} {k : Keyword} {v : Value} → IsKeyword s r k → v ≡ keyword_value k → PlainPiece s r v
 
--- a string, a number or a keyword, and a value end behind it
+-- a string, a number or a keyword, and a value end after it
 pub data IsPlainValue (wide : Bool) : Text → Text → Value → Type 0 where
   a_string : {s r v : Text} → IsString wide s r v → IsPlainValue wide s r (text v)
   a_plain : {s r : Text} {v : Value} → PlainPiece s r v → ValueEnd wide r → IsPlainValue wide s r v
@@ -69,7 +69,7 @@ pub data IsEntry (wide : Bool) : Text → Text → Entry → Type 0 where
 abbrev pub IsIdentifierText : Bool → Text → Text → Type 0
 IsIdentifierText wide t v = IsString wide t [] v
 
--- an entry that is slashdashed, behind a slashdash and before node-spaces
+-- an entry that is slashdashed, after a slashdash and before node-spaces
 pub data DroppedFirst (wide : Bool) : Text → Text → Type 0 where
   dropped_first : {s t u r : Text} {e : Entry} → Slashdash s t → IsEntry wide t u e → Plus NodeSpace u r → DroppedFirst wide s r
 
@@ -77,6 +77,6 @@ pub data DroppedFirst (wide : Bool) : Text → Text → Type 0 where
 pub data BeforeEntry (wide : Bool) : Text → Text → Type 0 where
   before_entry : {s t r : Text} → Star LineSpace s t → Star (DroppedFirst wide) t r → BeforeEntry wide s r
 
--- the whole text is one entry: these before it, and line-spaces behind it
+-- the whole text is one entry: these before it, and line-spaces after it
 pub data IsEntryText (wide : Bool) : Text → Entry → Type 0 where
   entry_text : {t u r : Text} {e : Entry} → BeforeEntry wide t u → IsEntry wide u r e → Star LineSpace r [] → IsEntryText wide t e

@@ -1,4 +1,4 @@
--- Entries without format and spelling, and the form in which they stand in a node.
+-- Entries without format and spelling, and the form in which they are in a node.
 use Rattle.std.specs.Prelude.{◌≡◌, true, [], ◌∷◌, Option, Some, None, option_map, IfSome}
 use Rattle.std.specs.List.{list_all}
 use Rattle.kdl_text.specs.Chars.{Text, is_scalar}

@@ -4,13 +4,13 @@ pub mod Data
 pub mod Entries
 -- The fields of an identifier or an entry in memory, and an entry with one field changed.
 pub mod Fields
--- Entries without format and spelling, and the form in which they stand in a node.
+-- Entries without format and spelling, and the form in which they are in a node.
 pub mod Formless
 -- Identifiers and entries laid in a text: their spellings and places, in the order of printing, are the text, and each is what it has to be.
 pub mod Laid
 -- What is proved of the written grammar of identifiers and entries.
 pub mod Laws
--- Places: the texts between the parts of an item, and what may stand in them.
+-- Places: the texts between the parts of an item, and what may be in them.
 pub mod Places
 -- What identifiers and entries print.
 pub mod Print

@@ -1,4 +1,4 @@
--- Places: the texts between the parts of an item, and what may stand in them.
+-- Places: the texts between the parts of an item, and what may be in them.
 use Rattle.std.specs.Prelude.{◌≡◌, ◌-◌, Bool, true, false, ◌++◌, length, take}
 use Rattle.kdl_text.specs.Chars.{Text, Star, Plus}
 use Rattle.kdl_text.specs.Trivia.{NodeSpace, Slashdash}
@@ -7,12 +7,12 @@ use Rattle.kdl_text.specs.declared.span.SourceSpan.{SourceSpan}
 use Rattle.kdl_entry.specs.Data.{Entry}
 use Rattle.kdl_entry.specs.Entries.{IsEntry}
 
--- p is what stands in s before r, and it is of the class
+-- p is what is in s before r, and it is of the class
 pub record Is (class : Text → Text → Type 0) (p s r : Text) : Type 0 where
   pub is : class s r
   pub text : s ≡ p ++ r
 
--- an entry that is slashdashed, behind node-spaces and a slashdash
+-- an entry that is slashdashed, after node-spaces and a slashdash
 pub data DroppedEntry : Text → Text → Type 0 where
   dropped : {s t u r : Text} {e : Entry} → Star NodeSpace s t → Slashdash t u → IsEntry true u r e → DroppedEntry s r
 
@@ -24,7 +24,7 @@ pub data EntryLeading : Text → Text → Type 0 where
 unfoldable pub between : Text → Text → Text
 between t s = take (length t - length s) t
 
--- the span, in the whole text, of what stands in s before r
+-- the span, in the whole text, of what is in s before r
 unfoldable pub span_of : Text → Text → Text → SourceSpan
 span_of whole s r = span_between whole s r
 

@@ -63,11 +63,11 @@ empty_format = record {
 abbrev pub plain_entry : Option Identifier → Value → Entry
 plain_entry name value = record { ty = None; value = value; name = name; format = None; span = no_span }
 
--- an identifier, wherever it stood
+-- an identifier, wherever it was
 abbrev pub without_span : Identifier → Identifier
 without_span i = record i { span = no_span }
 
--- an entry, wherever it and its identifiers stood
+-- an entry, wherever it and its identifiers were
 abbrev pub without_spans : Entry → Entry
 without_spans e = record e { ty = option_map without_span e.ty; name = option_map without_span e.name; span = no_span }
 
@@ -95,7 +95,7 @@ without_keep f = record f { autoformat_keep = false }
 abbrev pub unflagged : Entry → Entry
 unflagged e = record e { format = option_map without_keep e.format }
 
--- an entry, wherever it and its identifiers stood, and flagged or not
+-- an entry, wherever it and its identifiers were, and flagged or not
 abbrev pub without_spans_and_flag : Entry → Entry
 without_spans_and_flag e = without_spans (unflagged e)
 

@@ -17,16 +17,16 @@ use std::alloc::{AllocError, Global};
 use std::fmt;
 use std::fmt::{Display, Formatter, Write};
 
-/// The spelling of an entry's value, and the texts around the parts of the entry. Each field says what stands there in
+/// The spelling of an entry's value, and the texts around the parts of the entry. Each field says what is there in
 /// an entry that was parsed.
 #[derive(PartialEq, Eq, Hash, Debug, Drop)]
 pub struct KdlEntryFormat {
     /// The spelling of the value.
     pub value_repr: String,
-    /// What stands before the entry: in a node, entries that a slashdash drops and then at least one node-space;
+    /// What comes before the entry: in a node, entries that a slashdash drops and then at least one node-space;
     /// before an entry that is a whole text, line-spaces and then entries that a slashdash drops.
     pub leading: String,
-    /// What stands behind the value: line-spaces, where the entry is a whole text. Empty in a node.
+    /// What comes after the value: line-spaces, where the entry is a whole text. Empty in a node.
     pub trailing: String,
     /// Node-spaces between the type's `)` and the value. Empty without a type.
     pub after_ty: String,
@@ -168,7 +168,7 @@ impl KdlEntry {
     /// An argument without a type and a format, with the span 0 of length 0.
     ///
     /// ```
-    /// let entry = KdlEntry::new(KdlValue::from(8080)); // prints "8080"; in a node one space stands before it
+    /// let entry = KdlEntry::new(KdlValue::from(8080)); // prints "8080"; in a node one space comes before it
     /// ```
     pub fn new(value: KdlValue) -> KdlEntry
         ensures tree { entry_tree result ≡ plain_entry None (value_tree value) }
@@ -278,7 +278,7 @@ impl KdlEntry {
         self.value = value;
     }
 
-    /// Where the entry stood in the text that it was parsed from, in bytes: from its type, key or value to the end of its
+    /// Where the entry was in the text that it was parsed from, in bytes: from its type, key or value to the end of its
     /// value, or all of a text that `KdlEntry::parse` read.
     ///
     /// ```
@@ -389,7 +389,7 @@ impl KdlEntry {
         self.format = Some(format);
     }
 
-    /// Drops the format, and the spellings of the type and the key. With the format goes what stands before the entry,
+    /// Drops the format, and the spellings of the type and the key. With the format goes what comes before the entry,
     /// comments and what a slashdash drops there too.
     ///
     /// ```
@@ -459,7 +459,7 @@ impl KdlEntry {
         Ok(self.to_string(alloc)?.is_empty())
     }
 
-    /// An entry as it was read: its key and type or none, its value, the texts around them and where it stood.
+    /// An entry as it was read: its key and type or none, its value, the texts around them and where it was.
     pub(crate) fn parsed(
         ty: Option<KdlIdentifier>,
         name: Option<KdlIdentifier>,

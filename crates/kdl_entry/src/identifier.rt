@@ -12,7 +12,7 @@ ghost use Rattle.std.specs.Str.{chars, encode_utf8_all};
 ghost use Rattle.std.specs.String.{string_vec};
 ghost use Rattle.std.specs.Vec.{vec_allocator};
 
-use kdl_text::chars::Piece;
+use kdl_text::cursor::Piece;
 use kdl_text::span::SourceSpan;
 use kdl_value::{write_spelled, write_text};
 use std::alloc::{AllocError, Global};
@@ -24,7 +24,7 @@ use std::{fmt, mem};
 enum Spelling {
     /// None is kept.
     NotKept,
-    /// The string itself, as of what was read from a bare word: its text stands in memory once.
+    /// The string itself, as of what was read from a bare word: its text is in memory once.
     AsValue,
     /// Its own text.
     Own(String),
@@ -82,7 +82,7 @@ impl KdlIdentifier {
         }
     }
 
-    /// Where the identifier stood in the text that it was parsed from, in bytes.
+    /// Where the identifier was in the text that it was parsed from, in bytes.
     ///
     /// ```
     /// let span = KdlIdentifier::parse(alloc, "été")?.span(); // offset 0 and length 5: an `é` has two bytes
@@ -194,8 +194,8 @@ impl KdlIdentifier {
     }
 }
 
-/// An identifier as it was read: its string, the piece of the text that spells it, and where it stood. Where the piece is
-/// the string, as a bare word is, the text stands in memory once, and none is taken. Else it fails where memory runs
+/// An identifier as it was read: its string, the piece of the text that spells it, and where it was. Where the piece is
+/// the string, as a bare word is, the text is in memory once, and none is taken. Else it fails where memory runs
 /// out.
 ///
 /// ```
@@ -319,7 +319,7 @@ impl fmt::Display for KdlIdentifier {
     }
 }
 
-/// Whether the strings and the spellings are equal, wherever the identifiers stood.
+/// Whether the strings and the spellings are equal, wherever the identifiers were.
 ///
 /// ```
 /// let bare = KdlIdentifier::parse(alloc, "a")?;
@@ -349,7 +349,7 @@ impl Eq for KdlIdentifier {
 /// Writes the string and the spelling: equal identifiers write the same.
 ///
 /// ```
-/// KdlIdentifier::parse(alloc, "a")?.hash(&mut hasher); // as each bare `a` does, wherever it stood
+/// KdlIdentifier::parse(alloc, "a")?.hash(&mut hasher); // as each bare `a` does, wherever it was
 /// ```
 impl Hash for KdlIdentifier {
     ghost use Rattle.kdl_entry.specs.Fields.{string_of};

@@ -20,7 +20,7 @@ pub record Scanned (k c : ℕ) (f : Here) (kept : Option Found) (a : Here) : Typ
 pub scan_begins : (k : ℕ) (f : Here) → Scanned k 0 f None f
 scan_begins k f = record { fault = tt; moves = stays f; most = omega arith }
 
--- behind a run of plain characters and a look at what follows them
+-- after a run of plain characters and a look at what follows them
 pub record AtUnit (f a b e : Here) (kept : Option Found) : Type 0 where
   pub fault : OnFound f kept e
   pub moves : Moves f e

@@ -7,7 +7,8 @@ ghost use Rattle.kdl_text.specs.Spans.{bytes};
 ghost use Rattle.kdl_text.specs.Internal.Reading.{Moves};
 ghost use Rattle.std.specs.Prelude.{◌≡◌, ℕ, ◌<◌, ◌≤◌, true, IfSome};
 
-use kdl_text::chars::{Checkpoint, Class, Cursor, is_newline_char, is_space, newline};
+use kdl_text::chars::{Class, is_newline_char, is_space};
+use kdl_text::cursor::{Checkpoint, Cursor, newline};
 use kdl_text::trivia::{block_comment, line_comment, spaces};
 
 /// A block comment that isn't closed, up to the end of the text.

@@ -7,7 +7,8 @@ ghost use Rattle.kdl_text.specs.Spans.{bytes};
 ghost use Rattle.std.specs.Prelude.{◌≡◌, ◌+◌, ◌<◌, ◌≤◌};
 
 use crate::reader::Fault;
-use kdl_text::chars::{Cursor, is_newline_char, is_space};
+use kdl_text::chars::{is_newline_char, is_space};
+use kdl_text::cursor::Cursor;
 use std::alloc::{AllocError, Global};
 
 /// A backslash in a string, before a block comment that the string does not close. It begins an

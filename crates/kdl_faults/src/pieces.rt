@@ -12,9 +12,8 @@ ghost use Rattle.std.specs.Prelude.{◌≡◌, ◌+◌, ◌*◌, ◌≤◌, ◌+
 use crate::ends::{Behind, Unclosed, behind_backslash, value_end};
 use crate::kind::{Form, Kind};
 use crate::strings::{Found, Scan, scan_quoted, scan_raw};
-use kdl_text::chars::{
-    Checkpoint, Class, Cursor, Segment, is_identifier_char, is_newline_char, is_space, newline,
-};
+use kdl_text::chars::{Class, is_identifier_char, is_newline_char, is_space};
+use kdl_text::cursor::{Checkpoint, Cursor, Segment, newline};
 use kdl_text::numbers::{Number, NumberFailure, begins_number, read_keyword, read_number};
 use kdl_text::strings::bare_string;
 use kdl_text::trivia::{SlashRead, slash};

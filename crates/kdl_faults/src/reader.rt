@@ -24,7 +24,7 @@ use crate::kind::Kind;
 use crate::machine::{Move, Phase};
 use crate::pieces::{Piece, PieceKind, StringRole, next_piece};
 use crate::whole::Whole;
-use kdl_text::chars::{Checkpoint, Cursor, Steps};
+use kdl_text::cursor::{Checkpoint, Cursor, Steps};
 use kdl_text::span::SourceSpan;
 use std::alloc::{AllocError, Global};
 

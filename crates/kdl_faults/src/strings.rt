@@ -8,7 +8,8 @@ ghost use Rattle.kdl_text.specs.Internal.Reading.{Moves};
 ghost use Rattle.std.specs.Prelude.{◌≡◌, ◌<◌, Some, true, IfOk};
 
 use crate::kind::Kind;
-use kdl_text::chars::{Checkpoint, Class, Cursor, is_newline_char, newline};
+use kdl_text::chars::{Class, is_newline_char};
+use kdl_text::cursor::{Checkpoint, Cursor, newline};
 use kdl_text::strings::{StringFailure, StringFault, escaped_unit, quoted_string, raw_string};
 use std::alloc::{AllocError, Global};
 

@@ -10,7 +10,7 @@ ghost use Rattle.std.specs.Str.{chars};
 use crate::kind::Kind;
 use crate::reader::{Fault, Reader};
 use crate::whole::Whole;
-use kdl_text::chars::Steps;
+use kdl_text::cursor::Steps;
 use kdl_text::error::{KdlDiagnostic, KdlError, ParseFailure};
 use kdl_text::span::{Severity, SourceSpan};
 use std::alloc::{AllocError, Global};

@@ -1,4 +1,4 @@
--- What an entry prints that is laid out, behind what is kept of the text before it.
+-- What an entry prints that is laid out, after what is kept of the text before it.
 use Rattle.std.proofs.Common.{◌≡◌, false, [], ◌∷◌, ◌++◌, refl, Option, Some, None, option_map, append_assoc, append-nil}
 use Rattle.kdl_text.specs.Chars.{Text}
 use Rattle.kdl_value.specs.Print.{print_value}

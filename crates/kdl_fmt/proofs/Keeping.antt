@@ -6,7 +6,7 @@ pub mod KeptReads
 pub mod KeptAgain
 -- What is kept in a place holds the items of its text.
 pub mod KeptItems
--- What is kept may stand where it is written.
+-- What is kept may occur where it is written.
 pub mod KeptPlaces
 -- A document has one list of items at most.
 pub mod ListUnique
@@ -14,5 +14,5 @@ pub mod ListUnique
 pub mod ListExists
 -- Layout loses no comment.
 pub mod CommentsStay
--- Gaps that stand before any other gap, with their items.
+-- Gaps that come before any other gap, with their items.
 pub mod GapFronts

@@ -1,4 +1,4 @@
--- A loop that changes the elements of a list one by one, as far as it has come: each that it has left is in a relation to what stood there, and the others are as they were.
+-- A loop that changes the elements of a list one by one, as far as it has come: each that it has left is in a relation to what was there, and the others are as they were.
 use Rattle.std.proofs.Common.{◌≡◌, ℕ, zero, suc, ◌+◌, ◌<◌, ◌≤◌, List, [], ◌∷◌, ◌++◌, length, map, take, drop, set, get_or, refl, ap, subst, ◌∙◌, arith, add-one}
 use Rattle.std.proofs.lemmas.List.{length-set}
 use Rattle.kdl_entry.specs.Tree.{Entry, entry_data}
@@ -72,7 +72,7 @@ module _ {A B : Type 0} (f : A → B) (R : B → B → Type 0) where
     pub turned_same : (n i : ℕ) (xs zs ys : List A) → zs ≡ ys → length xs ≡ n → Turned f R xs i (map f zs) → map g (map f (take n (xs ++ drop (length xs) ys))) ≡ map g (map f ys)
     turned_same n i xs zs ys z h k = rw (given_back n xs ys h) (same_so_far xs i (map f zs) k ∙ ap (λ (w : List A). map g (map f w)) z)
 
-    -- also behind an element at which it gave up
+    -- also after an element at which it gave up
     pub turned_exchanged : (n i : ℕ) (xs zs ys : List A) (y d : A) → zs ≡ ys → length xs ≡ n → i < n → Turned f R xs i (map f zs) → g (f y) ≡ g (f (get_or xs i d))
         → map g (map f (take n (set xs i y ++ drop (length (set xs i y)) ys))) ≡ map g (map f ys)
     turned_exchanged n i xs zs ys y d z h l k e =

@@ -56,7 +56,7 @@ pub braces_made : (l t : String Global) (a b before : Text) (ns : Nodes) → tex
     → document_format_tree (record { leading = l; trailing = t }) ≡ in_braces before (content_of ns a b)
 braces_made l t a b before ns x y = rw (x, y) refl
 
--- an entry behind a text
+-- an entry after a text
 pub entry_made : (f : KdlEntryFormat) (a b : String Global) (t : Text) (e : Entry) → entry_format_tree f ≡ empty_format → text_of a ≡ print_value e.value → text_of b ≡ t ++ (32 ∷ []) → t ≢ []
     → record e { format = Some (entry_format_tree (record f { value_repr = a; leading = b })) } ≡ behind t e
 entry_made f a b [] e h x y n = absurd (n refl)

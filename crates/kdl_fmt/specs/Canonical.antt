@@ -20,7 +20,7 @@ abbrev pub canonical_key : Option Text → Text
 canonical_key None = []
 canonical_key (Some s) = spelled s ++ (61 ∷ [])
 
--- each entry behind a space, as `key=(type)value`
+-- each entry after a space, as `key=(type)value`
 abbrev pub canonical_entries : List Entry → Text
 canonical_entries [] = []
 canonical_entries (e ∷ es) = (32 ∷ canonical_key e.key ++ canonical_type e.ty ++ print_value e.value) ++ canonical_entries es

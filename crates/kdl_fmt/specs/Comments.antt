@@ -13,7 +13,7 @@ use Rattle.kdl_fmt.specs.Formatted.{or_empty, or_empty_document}
 use Rattle.kdl_fmt.specs.Kept.{last_place, without_bom, entry_leading}
 use Rattle.kdl_fmt.specs.WithComments.{has_block}
 
--- the items of a text in its place; none where it can't stand there
+-- the items of a text in its place; none where it can't be there
 pub data ItemsIn (Has : List Item → Type 0) : List Item → Type 0 where
   items : {is : List Item} → Has is → ItemsIn Has is
   no_items : ((is : List Item) → Has is → ⊥) → ItemsIn Has []
@@ -29,13 +29,13 @@ pub data EntriesItems : List Entry → List Item → Type 0 where
   an_entry : {e : Entry} {es : List Entry} {is js : List Item} → ItemsIn (PlaceItems (before_entry false) (entry_leading e.format)) is → EntriesItems es js → EntriesItems (e ∷ es) (is ++ js)
 
 mutual
-  -- before the node, before its entries, before its block and in it, before its terminator, that one, and behind the node
+  -- before the node, before its entries, before its block and in it, before its terminator, that one, and after the node
   pub data NodeItems : Node → List Item → Type 0 where
     of_node : {h : Head} {k : Children} {a b c d e f : List Item} → ItemsIn (GapItems (or_empty h.format).leading) a → EntriesItems h.entries b → ChildrenItems (or_empty h.format).before_children k c
         → ItemsIn (PlaceItems (last_place (has_block k)) (or_empty h.format).before_terminator) d → EndItems (or_empty h.format).terminator e → ItemsIn (GapItems (or_empty h.format).trailing) f
         → NodeItems (node h k) (a ++ b ++ c ++ d ++ e ++ f)
 
-  -- behind the text before the block
+  -- after the text before the block
   pub data ChildrenItems : Text → Children → List Item → Type 0 where
     no_block : {t : Text} → ChildrenItems t no_children []
     block : {t : Text} {d : Document} {is js : List Item} → ItemsIn (PlaceItems before_block t) is → DocumentItems d js → ChildrenItems t (children d) (is ++ js)
@@ -44,12 +44,12 @@ mutual
     no_node : NodesItems none []
     a_node : {n : Node} {ns : Nodes} {is js : List Item} → NodeItems n is → NodesItems ns js → NodesItems (first n ns) (is ++ js)
 
-  -- before the nodes, in them, and behind them
+  -- before the nodes, in them, and after them
   pub data DocumentItems : Document → List Item → Type 0 where
     of_document : {f : Option DocumentFormat} {span : SourceSpan} {ns : Nodes} {a b c : List Item} → ItemsIn (GapItems (without_bom (or_empty_document f).leading)) a → NodesItems ns b
         → ItemsIn (GapItems (or_empty_document f).trailing) c → DocumentItems (document f span ns) (a ++ b ++ c)
 
--- the items of the document are, each as it stands on a line, those of the one that is laid in the text
+-- the items of the document are, each as it is on a line, those of the one that is laid in the text
 -- (the laws `has_list`, `laid_out_has_list` and `one_list` of kdl_laws: there is such a list, and one alone)
 abbrev pub CommentsStay : Document → Text → Type 0
 CommentsStay d t = (e : Document) (is : List Item) → DocumentItems d is → LaidDocument true e t → DocumentItems e (map on_line is)

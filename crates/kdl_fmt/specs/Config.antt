@@ -6,7 +6,7 @@ use Rattle.kdl_text.specs.Chars.{Text, is_space}
 use Rattle.kdl_fmt.specs.declared.config.FormatConfig.{FormatConfig}
 use Rattle.kdl_fmt.specs.declared.config.FormatConfigBuilder.{FormatConfigBuilder}
 
--- the level of the outermost nodes, the text that stands before a node once for each level, whether comments are dropped, and whether all entries keep their form
+-- the level of the outermost nodes, the text that comes before a node once for each level, whether comments are dropped, and whether all entries keep their form
 pub record Settings : Type 0 where
   pub indent_level : ℕ
   pub indent : Text
@@ -29,7 +29,7 @@ IndentsBySpaces s = list_all is_space s.indent ≡ true
 abbrev pub IsPlain : Settings → Type 0
 IsPlain s = (s.no_comments ≡ true) × (s.entry_autoformate_keep ≡ false)
 
--- what stands before a node at a level
+-- what comes before a node at a level
 abbrev pub indentation : Settings → ℕ → Text
 indentation s level = repeat level s.indent
 

@@ -17,7 +17,7 @@ with_keep_if true e = record e { format = option_map with_keep e.format }
 abbrev pub formatted_entry : Settings → Entry → Entry
 formatted_entry s e = autoformatted (with_keep_if s.entry_autoformate_keep e)
 
--- a format whose texts are empty stands for one that is missing
+-- a format whose texts are empty represents one that is missing
 abbrev pub or_empty : Option NodeFormat → NodeFormat
 or_empty None = empty_node_format
 or_empty (Some f) = f
@@ -36,7 +36,7 @@ newline_if_none (first n ns) = []
 abbrev pub content_format : Nodes → DocumentFormat
 content_format ns = record { leading = []; trailing = newline_if_none ns }
 
--- the same between braces: a newline behind the first one, and the indentation of the node before the second one
+-- the same between braces: a newline after the first one, and the indentation of the node before the second one
 abbrev pub in_braces : Text → DocumentFormat → DocumentFormat
 in_braces before f = record { leading = 10 ∷ f.leading; trailing = f.trailing ++ before }
 
@@ -107,7 +107,7 @@ abbrev pub EntriesKeepNone : List Entry → Type 0
 EntriesKeepNone [] = Unit {0}
 EntriesKeepNone (e ∷ es) = (is_kept_format e.format ≡ false) × EntriesKeepNone es
 
--- nor is one at any depth
+-- no entry at any depth is flagged to keep its form
 abbrev mutual
   pub NodeKeepsNone : Node → Type 0
   NodeKeepsNone (node h k) = EntriesKeepNone h.entries × ChildrenKeepNone k

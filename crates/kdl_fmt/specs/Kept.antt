@@ -8,7 +8,7 @@ use Rattle.kdl_items.specs.Items.{Item, line_end, GapItems, Place, before_entry,
 use Rattle.kdl_items.specs.Written.{lines, tail}
 use Rattle.kdl_fmt.specs.Config.{Settings, indentation}
 
--- the items that a text has, written in some way; nothing where it has none, since it can't stand in the place
+-- the items that a text has, written in some way; nothing where it has none, since it can't be in the place
 pub data Written (Has : List Item → Type 0) (write : List Item → Text) : Text → Type 0 where
   items : {is : List Item} → Has is → Written Has write (write is)
   none : ((is : List Item) → Has is → ⊥) → Written Has write []
@@ -22,7 +22,7 @@ WrittenUnless false Has write t = Written Has write t
 abbrev pub KeptLines : Settings → ℕ → Text → Text → Type 0
 KeptLines s level place t = WrittenUnless s.no_comments (GapItems place) (lines (indentation s level)) t
 
--- kept of a text in a node: each item behind a space
+-- kept of a text in a node: each item after a space
 abbrev pub KeptTail : Settings → Place → Text → Text → Type 0
 KeptTail s p place t = WrittenUnless s.no_comments (PlaceItems p place) tail t
 
@@ -31,12 +31,12 @@ abbrev pub KeptBeforeBlock : Settings → Bool → Text → Text → Type 0
 KeptBeforeBlock s false place t = t ≡ []
 KeptBeforeBlock s true place t = KeptTail s before_block place t
 
--- the place before the terminator: behind a block or without one
+-- the place before the terminator: after a block or without one
 abbrev pub last_place : Bool → Place
 last_place false = before_block
 last_place true = behind_block
 
--- a terminator that is a line comment stands behind a space, without its newline
+-- a terminator that is a line comment comes after a space, without its newline
 pub data WrittenEnd (terminator : Text) : Text → Text → Type 0 where
   comment : LineComment terminator [] → WrittenEnd terminator (32 ∷ []) (between terminator (line_end terminator))
   other : (LineComment terminator [] → ⊥) → WrittenEnd terminator [] []

@@ -8,7 +8,7 @@ use Rattle.kdl_fmt.specs.Config.{Settings, indentation}
 use Rattle.kdl_fmt.specs.Formatted.{with_keep_if, or_empty, or_empty_document, newline_if_none, in_braces}
 use Rattle.kdl_fmt.specs.Kept.{KeptLines, KeptTail, KeptBeforeBlock, last_place, KeptEnd, without_bom, KeptBefore}
 
--- an entry behind what is kept of the text before it, where something is
+-- an entry after what is kept of the text before it, where something is
 abbrev pub behind : Text → Entry → Entry
 behind [] e = e
 behind (c ∷ s) e = record e { format = Some (record empty_format { leading = (c ∷ s) ++ (32 ∷ []); value_repr = print_value e.value }) }
@@ -38,7 +38,7 @@ pub record KeepsTexts (s : Settings) (level : ℕ) (has_block : Bool) (f : NodeF
   pub end : KeptEnd s.no_comments f.terminator k.space k.comment
   pub behind : KeptLines s level f.trailing k.behind
 
--- the node's line, behind the indentation
+-- the node's line, after the indentation
 abbrev pub line_of : Text → NodeTexts → NodeFormat
 line_of before k = record {
   leading = k.before ++ before;

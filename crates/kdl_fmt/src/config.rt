@@ -23,7 +23,7 @@ pub fn is_kdl_space(text: &str) -> bool
 pub struct FormatConfig<'a> {
     /// The level of the outermost nodes.
     pub indent_level: usize,
-    /// What stands before a node, once for each level. What is promised of the printed text asks for KDL spaces alone.
+    /// What comes before a node, once for each level. The contracts on the printed text are for KDL spaces alone.
     pub indent: &'a str,
     /// Whether comments, and what a slashdash drops, are left out.
     pub no_comments: bool,
@@ -94,7 +94,7 @@ impl<'a> FormatConfigBuilder<'a> {
         self
     }
 
-    /// Sets what stands before a node for each level, where it is given.
+    /// Sets what comes before a node for each level, where it is given.
     pub fn maybe_indent<'b>(self, indent: Option<&'b str>) -> FormatConfigBuilder<'b>
     where
         'a: 'b,
@@ -109,7 +109,7 @@ impl<'a> FormatConfigBuilder<'a> {
         }
     }
 
-    /// Sets what stands before a node for each level.
+    /// Sets what comes before a node for each level.
     pub fn indent<'b>(self, indent: &'b str) -> FormatConfigBuilder<'b>
     where
         'a: 'b,

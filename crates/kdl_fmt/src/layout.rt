@@ -32,7 +32,7 @@ fn number_fits(number: i128)
     ensures { FitsSigned w128 number }
 {}
 
-/// What each value in memory is, for the proofs: at run time it does nothing.
+/// Shows that each value in memory is well formed. It does nothing at run time.
 pub fn well_formed(value: &KdlValue)
     ensures { IsWellFormed (value_tree value.now) }
 {
@@ -63,21 +63,21 @@ fn replaced(alloc: Global, mut text: String, by: &str) -> Result<String, AllocEr
     Ok(text)
 }
 
-/// The text so many times.
+/// The text, repeated `times` times.
 fn repeated(alloc: Global, text: &str, times: usize) -> Result<String, AllocError>
     ensures { IfOk result (λ s. text_of s ≡ repeat times (chars text.now)) }
 {
     text.repeat(alloc, times)
 }
 
-/// What stands before a node at a level. Where the indent is empty it takes no memory and no time, at any level.
+/// What comes before a node at a level. Where the indent is empty it takes no memory and no time, at any level.
 pub fn indentation(alloc: Global, config: &FormatConfig, level: usize) -> Result<String, AllocError>
     ensures { IfOk result (λ s. text_of s ≡ indentation (settings config.now) level) }
 {
     repeated(alloc, config.indent, level)
 }
 
-/// What is kept of a text between nodes: a line for each item, behind a text.
+/// What is kept of a text between nodes: a line for each item, after a text.
 fn kept_lines(
     alloc: Global,
     config: &FormatConfig,
@@ -97,7 +97,7 @@ fn kept_lines(
     Ok(out)
 }
 
-/// What is kept of a text in a node: each item behind a space.
+/// What is kept of a text in a node: each item after a space.
 fn kept_tail(
     alloc: Global,
     config: &FormatConfig,
@@ -140,7 +140,7 @@ fn printed(alloc: Global, value: &KdlValue) -> Result<String, AllocError>
     value.to_string(alloc)
 }
 
-/// Puts the entry behind a text that is kept before it, where there is one.
+/// Puts the entry after a text that is kept before it, where there is one.
 fn put_behind(alloc: Global, entry: &mut KdlEntry, kept: String) -> Result<(), AllocError>
     ensures same { cleared (entry_tree entry.new) ≡ cleared (entry_tree entry.old) }
     ensures behind { OnOk result (entry_tree entry.new ≡
@@ -194,7 +194,7 @@ pub fn lay_out_entries(entries: &mut Vec<KdlEntry>, config: &FormatConfig) -> Re
     Ok(())
 }
 
-/// The text `more` behind what is kept; where that is nothing, in the memory of the text that stood there.
+/// The text `more` after what is kept; where that is nothing, in the memory of the text that was there.
 fn behind(alloc: Global, mut kept: String, old: String, more: &str) -> Result<String, AllocError>
     ensures { IfOk result (λ s. text_of s ≡ text_of kept ++ chars more.now) }
 {
@@ -247,8 +247,8 @@ fn kept_end<'a>(config: &FormatConfig, terminator: &'a str) -> Option<&'a str>
     line_comment(terminator)
 }
 
-/// What ends the line of a node, behind what is kept of the text before its terminator: a newline; and before it,
-/// behind a space, the line comment that the terminator is.
+/// What ends the line of a node, after what is kept of the text before its terminator: a newline; and before it,
+/// after a space, the line comment that the terminator is.
 fn line_end(
     alloc: Global,
     config: &FormatConfig,
@@ -268,7 +268,7 @@ fn line_end(
     Ok((last, end))
 }
 
-/// The texts around the parts of a node on a line of its own. Memory of the texts that stood there serves again.
+/// The texts around the parts of a node on a line of its own. Memory of the texts that were there serves again.
 fn line_format(
     old: KdlNodeFormat,
     alloc: Global,
@@ -309,7 +309,7 @@ fn taken(format: &mut Option<KdlNodeFormat>, alloc: Global) -> KdlNodeFormat
 }
 
 /// Sets the texts around the parts of a node on a line of its own: the indentation before it, a space before its
-/// children, and a newline behind it; with the comments that are kept.
+/// children, and a newline after it; with the comments that are kept.
 pub fn lay_out_line(
     format: &mut Option<KdlNodeFormat>,
     alloc: Global,
@@ -327,7 +327,7 @@ pub fn lay_out_line(
     Ok(())
 }
 
-/// A newline behind a text, where it is asked for.
+/// A newline after a text, where it is asked for.
 fn newline_if(text: &mut String, newline: bool) -> Result<(), AllocError>
     ensures { OnOk result (text_of text.new ≡ text_of text.old ++ newline_if newline) }
 {
@@ -390,7 +390,7 @@ fn kept_content(
     }
 }
 
-/// Sets the texts around the nodes of a document at a level: the comments that are kept, behind the indentation, and a
+/// Sets the texts around the nodes of a document at a level: the comments that are kept, after the indentation, and a
 /// newline where there are no nodes.
 pub fn lay_out_content(
     format: &mut Option<KdlDocumentFormat>,
@@ -409,7 +409,7 @@ pub fn lay_out_content(
     Ok(())
 }
 
-/// Sets the same between the braces of a node: a newline behind the first one, and the node's indentation before the
+/// Sets the same between the braces of a node: a newline after the first one, and the node's indentation before the
 /// second one. `inner` is the level between them.
 pub fn lay_out_braces(
     format: &mut Option<KdlDocumentFormat>,

@@ -1,4 +1,4 @@
--- The machine on tokens, and the grammar: each answers what the other does.
+-- The machine on tokens, and the grammar: each accepts what the other does.
 pub mod Reading
 -- Documents laid in a text: derived, printed, laid again.
 pub mod Laying

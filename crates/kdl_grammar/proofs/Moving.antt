@@ -2,7 +2,7 @@
 
 -- What follows a piece of a document is an end of the text.
 pub mod Ends
--- Gaps, nodes and blocks stand before another rest too.
+-- Gaps, nodes and blocks come before another rest too.
 pub mod Moves
 -- What the former language derives, the present one derives.
 pub mod FormerIsPresent

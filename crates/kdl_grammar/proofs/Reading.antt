@@ -1,4 +1,4 @@
--- The machine on tokens, and the grammar: each answers what the other does.
+-- The machine on tokens, and the grammar: each accepts what the other does.
 
 -- What the grammar derives, the machine reads, and the tree that it builds is laid.
 pub mod Complete

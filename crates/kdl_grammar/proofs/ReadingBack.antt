@@ -4,7 +4,7 @@
 pub mod Reads
 -- What reads back, put together and taken apart.
 pub mod Composing
--- Spaces and what stands before an entry, before another rest.
+-- Spaces and what comes before an entry, before another rest.
 pub mod Following
 -- What ends a line or a node, before any rest.
 pub mod Closing

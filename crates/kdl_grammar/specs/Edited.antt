@@ -18,7 +18,7 @@ abbrev pub IsFormed : Head → Head → Type 0
 IsFormed h h' = h' ≡ record h { ty = option_map formed_identifier h.ty; name = formed_identifier h.name; entries = map formed h.entries }
 
 mutual
-  -- at every depth the nodes but for their children stand in the relation R; spans of documents may be any, and all else is the same
+  -- at every depth the nodes but for their children are in the relation R; spans of documents may be any, and all else is the same
   pub data EachNode (R : Head → Head → Type 0) : Node → Node → Type 0 where
     each_node : {h h' : Head} {k k' : Children} → R h h' → EachChildren R k k' → EachNode R (node h k) (node h' k')
 

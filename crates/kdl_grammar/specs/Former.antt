@@ -1,4 +1,4 @@
--- The former language, in which node-spaces or a `}` stand before each slashdash in a node.
+-- The former language, in which node-spaces or a `}` come before each slashdash in a node.
 use Rattle.std.specs.Prelude.{false}
 use Rattle.kdl_text.specs.Chars.{Text}
 use Rattle.kdl_grammar.specs.Data.{Node, Nodes}

@@ -1,5 +1,5 @@
--- The written grammar of documents and nodes (KDL 2.0.0, Document, Node, Slashdash Comments). `X wide s r x`: an X begins the text s, leaves r, and stands for x.
--- Where `wide` holds, it is the present language. Else it is the former one: node-spaces or a `}` stand before each slashdash in a node, and `/-` ends no value.
+-- The written grammar of documents and nodes (KDL 2.0.0, Document, Node, Slashdash Comments). `X wide s r x`: an X begins the text s, leaves r, and represents x.
+-- Where `wide` holds, it is the present language. Else it is the former one: node-spaces or a `}` come before each slashdash in a node, and `/-` ends no value.
 use Rattle.std.specs.Prelude.{Bool, true, false, ◌||◌, List, [], ◌∷◌, Option}
 use Rattle.kdl_text.specs.Chars.{Text, Star, Plus, Newline}
 use Rattle.kdl_text.specs.Trivia.{LineComment, NodeSpace, LineSpace, Slashdash}
@@ -26,7 +26,7 @@ mutual
     named : {s t u r n : Text} {y : Option Text} {es : List Entry} {k : Children} → MaybeType wide s t y → IsString wide t u n → AfterName wide u r es k
         → IsNode wide s r (node y n es k)
 
-  -- behind a name or an entry: entries, and those that are slashdashed, and then blocks
+  -- after a name or an entry: entries, and those that are slashdashed, and then blocks
   pub data AfterName (wide : Bool) : Text → Text → List Entry → Children → Type 0 where
     kept_entry : {s t u r : Text} {e : Entry} {es : List Entry} {k : Children} → Plus NodeSpace s t → IsEntry wide t u e → AfterName wide u r es k
         → AfterName wide s r (e ∷ es) k
@@ -34,14 +34,14 @@ mutual
         → AfterName wide s r es k
     blocks : {s r : Text} {k : Children} → Blocks wide false s r k → AfterName wide s r [] k
 
-  -- blocks that are slashdashed, a block or none, and what follows it; braced: a `}` stands directly before
+  -- blocks that are slashdashed, a block or none, and what follows it; braced: a `}` comes directly before
   pub data Blocks (wide : Bool) : Bool → Text → Text → Children → Type 0 where
     dropped_block : {braced : Bool} {s t u v r : Text} {xs : Nodes} {k : Children} → Spaces (wide || braced) s t → Slashdash t u → IsBlock wide u v xs
         → Blocks wide true v r k → Blocks wide braced s r k
     block : {braced : Bool} {s t u r : Text} {xs : Nodes} → Star NodeSpace s t → IsBlock wide t u xs → AfterBlock wide u r → Blocks wide braced s r (children xs)
     no_block : {braced : Bool} {s r : Text} → Star NodeSpace s r → Blocks wide braced s r no_children
 
-  -- behind the node's block: blocks that are slashdashed, and node-spaces
+  -- after the node's block: blocks that are slashdashed, and node-spaces
   pub data AfterBlock (wide : Bool) : Text → Text → Type 0 where
     dropped_later : {s t u v r : Text} {xs : Nodes} → Star NodeSpace s t → Slashdash t u → IsBlock wide u v xs → AfterBlock wide v r → AfterBlock wide s r
     no_more : {s r : Text} → Star NodeSpace s r → AfterBlock wide s r
@@ -52,7 +52,7 @@ mutual
     line_space : {s t r : Text} → LineSpace s t → Gap wide t r → Gap wide s r
     dropped_node : {s t u v r : Text} {x : Node} → Slashdash s t → IsNode wide t u x → Terminator u v → Gap wide v r → Gap wide s r
 
-  -- nodes, each behind a gap and with its terminator, and then a gap
+  -- nodes, each after a gap and with its terminator, and then a gap
   pub data AreNodes (wide : Bool) : Text → Text → Nodes → Type 0 where
     last_gap : {s r : Text} → Gap wide s r → AreNodes wide s r none
     node_then : {s t u v r : Text} {x : Node} {xs : Nodes} → Gap wide s t → IsNode wide t u x → Terminator u v → AreNodes wide v r xs → AreNodes wide s r (first x xs)

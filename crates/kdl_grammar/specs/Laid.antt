@@ -42,7 +42,7 @@ pub data LaidEntries (exact : Bool) (whole : Text) : List Entry → Text → Tex
   an_entry : {s t r : Text} {e : Entry} {es : List Entry} → LaidEntry exact whole e s t → LaidEntries exact whole es t r → LaidEntries exact whole (e ∷ es) s r
 
 mutual
-  -- a node from its type or name to its terminator. The text before it, its terminator, the text behind it and its span stand beside:
+  -- a node from its type or name to its terminator. The text before it, its terminator, the text after it and its span are beside:
   -- a node in a list has other ones than a node that is a whole text.
   pub data LaidNode (exact : Bool) (whole : Text) : Text → Text → Text → SourceSpan → Node → Text → Text → Type 0 where
     laid_node : {leading end trailing before after behind before_children before_terminator s t u v r : Text} {at : SourceSpan} {ty : Option Identifier} {name : Identifier} {es : List Entry} {k : Children}
@@ -56,19 +56,19 @@ mutual
           span = at;
         }) k) s r
 
-  -- what stands between the name or the last entry and the terminator: a block and the places around it, or one place
+  -- what is between the name or the last entry and the terminator: a block and the places around it, or one place
   pub data LaidChildren (exact : Bool) (whole : Text) : Children → Text → Text → Text → Text → Type 0 where
     no_block : {before s r : Text} → Is BeforeChildren before s r → LaidChildren exact whole no_children [] before s r
     a_block : {before later s t u r : Text} {d : Document} → Is BeforeChildren before s (123 ∷ t) → LaidContent exact whole d t (125 ∷ u) → Is AfterChildren later u r
         → LaidChildren exact whole (children d) before later s r
 
-  -- nodes in a document or a block, each behind a gap and with its terminator
+  -- nodes in a document or a block, each after a gap and with its terminator
   pub data LaidNodes (exact : Bool) (whole : Text) : Nodes → Text → Text → Type 0 where
     no_node : {s : Text} → LaidNodes exact whole none s s
     a_node : {leading end s t u v r : Text} {at : SourceSpan} {x : Node} {xs : Nodes} → Is (Gap true) leading s t → LaidNode exact whole leading end [] at x t u → Is Terminator end u v
         → Spanned exact at (span_of whole t u) → LaidNodes exact whole xs v r → LaidNodes exact whole (first x xs) s r
 
-  -- nodes and a gap behind them; without nodes the gap stands before them
+  -- nodes and a gap after them; without nodes the gap comes before them
   pub data LaidContent (exact : Bool) (whole : Text) : Document → Text → Text → Type 0 where
     without_nodes : {leading s r : Text} {at : SourceSpan} → Is (Gap true) leading s r → Spanned exact at (span_of whole r r)
         → LaidContent exact whole (document (Some (record { leading = leading; trailing = [] })) at none) s r
@@ -89,7 +89,7 @@ pub data LaidDocument (exact : Bool) : Document → Text → Type 0 where
   no_bom : {d : Document} {t : Text} → LaidContent exact t d t [] → LaidDocument exact d t
   behind_bom : {d : Document} {t : Text} → LaidContent exact (0xFEFF ∷ t) d t [] → LaidDocument exact (with_bom d) (0xFEFF ∷ t)
 
--- a node that is the whole text, which is its span, and line-spaces behind it
+-- a node that is the whole text, which is its span, and line-spaces after it
 pub data LaidNodeText (exact : Bool) (whole : Text) : Node → Type 0 where
   laid_node_text : {leading end trailing t u v : Text} {at : SourceSpan} {x : Node} → Is (Gap true) leading whole t → LaidNode exact whole leading end trailing at x t u
       → Is Terminator end u v → Is (Star LineSpace) trailing v [] → Spanned exact at (span_of whole whole []) → LaidNodeText exact whole x

@@ -45,7 +45,7 @@ FormerIsKept = ((t : Text) (x : data'.Nodes) → IsFormerDocument t x → IsDocu
 abbrev pub ReadsBack : Type 0
 ReadsBack = (d f : Document) → EachDocument IsFormed d f → LaidDocument false f (print_document d 0) → IsDocument true (print_document d 0) (document_data d)
 
--- so does what differs, spans aside, from a laid one in its nodes' entries alone, at each node some of its own, flagged or not, and ones without form; it is so laid
+-- a document that differs from a laid one, spans aside, in its nodes' entries alone reads back and is laid: each node has some of its laid entries, flagged or not, and entries without form
 abbrev pub EditedIsLaid : Type 0
 EditedIsLaid = (exact : Bool) (t : Text) (d e : Document) → LaidDocument exact d t → EachDocument IsEdited d e
     → IsDocument true (print_document e 0) (document_data e) × ((f : Document) → EachDocument IsFormed e f → LaidDocument false f (print_document e 0))

@@ -2,15 +2,15 @@
 pub mod Data
 -- Documents whose nodes differ in entries or spellings alone.
 pub mod Edited
--- The former language, in which node-spaces or a `}` stand before each slashdash in a node.
+-- The former language, in which node-spaces or a `}` come before each slashdash in a node.
 pub mod Former
--- The written grammar of documents and nodes (KDL 2.0.0, Document, Node, Slashdash Comments). `X wide s r x`: an X begins the text s, leaves r, and stands for x.
+-- The written grammar of documents and nodes (KDL 2.0.0, Document, Node, Slashdash Comments). `X wide s r x`: an X begins the text s, leaves r, and represents x.
 pub mod Grammar
 -- Nodes and documents laid in a text: their places and items, in the order of printing, are the text, and each place is what it has to be.
 pub mod Laid
 -- What is proved of the written grammar of documents and nodes.
 pub mod Laws
--- What may stand in the places of a node.
+-- What may be in the places of a node.
 pub mod Places
 -- What nodes and documents print.
 pub mod Print

@@ -9,7 +9,7 @@ use Rattle.kdl_grammar.specs.Tree.{NodeFormat, DocumentFormat, Head, Node, node,
 abbrev pub spaces : ℕ → Text
 spaces depth = replicate (4 * depth) 32
 
--- an entry in a node: one without a format stands after one space
+-- an entry in a node: one without a format comes after one space
 abbrev pub spaced : Option EntryFormat → Text
 spaced None = 32 ∷ []
 spaced (Some f) = []
@@ -18,7 +18,7 @@ spaced (Some f) = []
 abbrev pub print_piece : Entry → Text
 print_piece e = spaced e.format ++ print_entry e
 
--- the entries, one behind the other
+-- the entries, one after the other
 abbrev pub print_pieces : List Entry → Text
 print_pieces [] = []
 print_pieces (e ∷ es) = print_piece e ++ print_pieces es
@@ -43,32 +43,32 @@ abbrev pub space_unless : Bool → Text
 space_unless true = []
 space_unless false = 32 ∷ []
 
--- what stands before the `{` of a child block
+-- what comes before the `{` of a child block
 abbrev pub before_block : Option NodeFormat → List Entry → Text
 before_block None es = space_unless (last_has_format es)
 before_block (Some f) es = f.before_children
 
--- what stands behind the last entry or the `}`; a node without a format prints no terminator
+-- what comes after the last entry or the `}`; a node without a format prints no terminator
 abbrev pub end_text : Option NodeFormat → Text
 end_text None = []
 end_text (Some f) = f.before_terminator ++ f.terminator ++ f.trailing
 
--- what stands before the nodes of a document
+-- what comes before the nodes of a document
 abbrev pub leading_text : Option DocumentFormat → Text
 leading_text None = []
 leading_text (Some f) = f.leading
 
--- what stands behind the nodes of a document
+-- what comes after the nodes of a document
 abbrev pub trailing_text : Option DocumentFormat → Text
 trailing_text None = []
 trailing_text (Some f) = f.trailing
 
--- what stands inside the braces around a child document: nothing, where it has a format
+-- what is inside the braces around a child document: nothing, where it has a format
 abbrev pub after_brace : Option DocumentFormat → Text
 after_brace None = 10 ∷ []
 after_brace (Some f) = []
 
--- what stands before the `}`: the indentation, where the child document has no format
+-- what comes before the `}`: the indentation, where the child document has no format
 abbrev pub before_brace : Option DocumentFormat → ℕ → Text
 before_brace None depth = spaces depth
 before_brace (Some f) depth = []

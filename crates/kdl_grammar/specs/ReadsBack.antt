@@ -50,7 +50,7 @@ entry_trailing (Some f) = f.trailing
 abbrev pub entry_with : Entry → Value → data'.Entry
 entry_with e v = record { key = option_map (λ i. i.value) e.name; ty = option_map (λ i. i.value) e.ty; value = v }
 
--- an entry in a node: its front stands before each value, its value before each value end, and nothing follows its value
+-- an entry in a node: its front comes before each value, its value before each value end, and nothing follows its value
 pub record EntryReads (e : Entry) : Type 0 where
   pub begins : (r : Text) → ValueEnd true (front_text e e.format ++ r)
   pub front : {r u t : Text} {v : Value} {es : List data'.Entry} {k : nodes'.Children} → IsPlainValue true r u v → AfterName true u t es k
@@ -89,7 +89,7 @@ AddsNothing t = (r s : Text) (xs : nodes'.Nodes) → NodesEnd s → AreNodes tru
 abbrev pub IsGapBefore : Rests → Text → Type 0
 IsGapBefore P t = (r : Text) → MayFollow P r → Gap true (t ++ r) r
 
--- what may be before the terminator: of a node without a block, and after a block
+-- what may come before the terminator: of a node without a block, and after a block
 abbrev pub BeforeTerminator : Children → Text → Text → Type 0
 BeforeTerminator no_children = BeforeChildren
 BeforeTerminator (children d) = AfterChildren
@@ -120,7 +120,7 @@ mutual
     last_node : {P : Rests} {n : Node} → NodeReads P n → NodesRead P (first n none)
     next_node : {P : Rests} {n m : Node} {ns : Nodes} → NodeReads Anything n → NodesRead P (first m ns) → NodesRead P (first n (first m ns))
 
-  -- nodes with the texts around them, before the rests P; without nodes one text alone may be before the end
+  -- nodes with the texts around them, before the rests P; without nodes one text alone may come before the end
   pub data ContentReads : Rests → Text → Text → Nodes → Type 0 where
     one_text : {P : Rests} {leading : Text} → IsGapBefore P leading → ContentReads P leading [] none
     two_texts : {P : Rests} {leading trailing : Text} → AddsNothing leading → IsGapBefore P trailing → ContentReads P leading trailing none

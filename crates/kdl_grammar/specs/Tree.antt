@@ -16,7 +16,7 @@ pub record NodeFormat : Type 0 where
   pub terminator : Text
   pub trailing : Text
 
--- the texts before and behind the nodes of a document
+-- the texts before and after the nodes of a document
 pub record DocumentFormat : Type 0 where
   pub leading : Text
   pub trailing : Text
@@ -65,7 +65,7 @@ abbrev pub listed_nodes : List Node → Nodes
 listed_nodes [] = none
 listed_nodes (n ∷ ns) = first n (listed_nodes ns)
 
--- the nodes ns, and ms behind them
+-- the nodes ns, and ms after them
 abbrev pub join : Nodes → Nodes → Nodes
 join none ms = ms
 join (first n ns) ms = first n (join ns ms)

@@ -46,7 +46,7 @@ pub fn nodes_are_laid()
     ensures { NodesAreLaid }
 {}
 
-/// What the former language reads, in which spaces stood before each slashdash, the present one reads with the same
+/// What the former language reads, in which spaces came before each slashdash, the present one reads with the same
 /// data.
 #[tactic(auto, using(crate::proofs::LawProofs::former_is_kept))]
 pub fn former_is_kept()

@@ -1,6 +1,6 @@
 -- What a slashdash drops.
 
--- Behind a slashdash between nodes: what the machine passes over is the dropped node.
+-- After a slashdash between nodes: what the machine passes over is the dropped node.
 pub mod DroppedNodes
 -- One part at most, and where no `=` follows.
 pub mod NoEquals

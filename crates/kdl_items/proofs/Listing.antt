@@ -6,7 +6,7 @@ pub mod ItemsUnique
 pub mod SpaceItems
 -- The items of a gap and of a place, piece by piece.
 pub mod PlaceReads
--- What the readers of spaces and comments answer, and the items that they add.
+-- What the readers of spaces and comments return, and the items that they add.
 pub mod SpaceReads
 -- A text that is cut at a place in bytes.
 pub mod Cuts

@@ -1,6 +1,6 @@
 -- Items that layout wrote are the same items again.
 
--- What stands before a newline stands before LF too.
+-- What comes before a newline comes before LF too.
 pub mod BeforeNewlines
 -- No string, number, entry or block ends with CR.
 pub mod LastCharacters
@@ -8,5 +8,5 @@ pub mod LastCharacters
 pub mod PlacesAgain
 -- Items that are written on lines are items of a gap again.
 pub mod LinesAgain
--- Texts that are written one behind another.
+-- Texts that are written one after another.
 pub mod Pushing

@@ -19,7 +19,7 @@ abbrev pub line_end : Text → Text
 line_end [] = []
 line_end (c ∷ s) = if is_newline_char c then c ∷ s else line_end s
 
--- behind the `\` of an escline: spaces and block comments, and then a line comment, a newline, or the end of the text
+-- after the `\` of an escline: spaces and block comments, and then a line comment, a newline, or the end of the text
 pub data EsclineItems : Text → Text → List Item → Type 0 where
   space : {s t r : Text} {is : List Item} → Space s t → EsclineItems t r is → EsclineItems s r is
   block : {s t r : Text} {is : List Item} → BlockComment s t → EsclineItems t r is → EsclineItems s r (piece (between s t) ∷ is)
@@ -39,23 +39,23 @@ pub data LineSpaceItems : Text → Text → List Item → Type 0 where
   newline : {s r : Text} → Newline s r → LineSpaceItems s r []
   line : {s r : Text} → LineComment s r → LineSpaceItems s r (comment (between s (line_end s)) ∷ [])
 
--- where a node that is dropped ends with the terminator that stands in u before v: behind a `;`, or before the newline of a line
+-- where a node that is dropped ends with the terminator that is in u before v: after a `;`, or before the newline of a line
 pub data ItemEnd : Text → Text → Text → Type 0 where
   semicolon : {r : Text} → ItemEnd (59 ∷ r) r r
   line : {u v : Text} → Break u v → ItemEnd u v (line_end u)
 
--- the node that stands in t before u does not end with node-spaces
+-- the node that is in t before u does not end with node-spaces
 abbrev pub EndsTight : Text → Text → Type 0
 EndsTight t u = (w : Text) (x : Node) → IsNode true t w x → Plus NodeSpace w u → ⊥
 
--- a whole text that is a gap: line-spaces, and dropped nodes; the last one may have no terminator, and the node-spaces behind it are not part of it
+-- a whole text that is a gap: line-spaces, and dropped nodes; the last one may have no terminator, and the node-spaces after it are not part of it
 pub data GapItems : Text → List Item → Type 0 where
   none : GapItems [] []
   space : {s t : Text} {is js : List Item} → LineSpaceItems s t is → GapItems t js → GapItems s (is ++ js)
   dropped_node : {s t u v e : Text} {x : Node} {is : List Item} → Slashdash s t → IsNode true t u x → ItemEnd u v e → GapItems v is → GapItems s (piece (between s e) ∷ is)
   last_node : {s t u : Text} {x : Node} {is : List Item} → Slashdash s t → IsNode true t u x → EndsTight t u → Star NodeSpace u [] → GapItems u is → GapItems s (piece (between s u) ∷ is)
 
--- a place in a node: before an entry, where a node-space may stand directly before what comes; before the block, or before the terminator without a block; behind a block
+-- a place in a node: before an entry, where a node-space may come directly before what comes; before the block, or before the terminator without a block; after a block
 pub data Place : Type 0 where
   before_entry : Bool → Place
   before_block : Place
@@ -79,13 +79,13 @@ takes_blocks (before_entry spaced) = false
 takes_blocks before_block = true
 takes_blocks behind_block = true
 
--- the place behind a node-space, or directly behind a dropped entry
+-- the place after a node-space, or directly after a dropped entry
 abbrev pub spaced : Bool → Place → Place
 spaced b (before_entry c) = before_entry b
 spaced b before_block = before_block
 spaced b behind_block = behind_block
 
--- a whole text that stands in such a place: node-spaces, dropped entries, and then dropped blocks
+-- a whole text that is in such a place: node-spaces, dropped entries, and then dropped blocks
 pub data PlaceItems : Place → Text → List Item → Type 0 where
   ends : {p : Place} → may_end p ≡ true → PlaceItems p [] []
   space : {p : Place} {s t : Text} {is js : List Item} → SpaceItems s t is → PlaceItems (spaced true p) t js → PlaceItems p s (is ++ js)

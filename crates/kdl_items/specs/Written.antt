@@ -13,18 +13,18 @@ line_text [] = []
 line_text (c ∷ []) = (if c == 13 then 10 else c) ∷ []
 line_text (c ∷ d ∷ s) = c ∷ line_text (d ∷ s)
 
--- a line for each item, behind a text
+-- a line for each item, after a text
 abbrev pub lines : Text → List Item → Text
 lines before [] = []
 lines before (i ∷ is) = (before ++ line_text (item_text i) ++ (10 ∷ [])) ++ lines before is
 
--- each item behind a space; a line comment ends an escline
+-- each item after a space; a line comment ends an escline
 abbrev pub tail : List Item → Text
 tail [] = []
 tail (comment t ∷ is) = (32 ∷ 92 ∷ 32 ∷ t ++ (10 ∷ [])) ++ tail is
 tail (piece t ∷ is) = (32 ∷ t) ++ tail is
 
--- the item as it stands on a line
+-- the item as it is on a line
 abbrev pub on_line : Item → Item
 on_line (comment t) = comment (line_text t)
 on_line (piece t) = piece (line_text t)

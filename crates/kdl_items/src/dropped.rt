@@ -18,10 +18,10 @@ use crate::machine::{Machine, Phase, Spot};
 use crate::slices::cut;
 use crate::spaces::line;
 use kdl_entry::items::{LexFailure, Lexer, Token, TokenKind};
-use kdl_text::chars::Steps;
+use kdl_text::cursor::Steps;
 use std::alloc::{AllocError, Global};
 
-/// Where a dropped node ends, and where what stands behind it begins, in bytes from behind its `/-`.
+/// Where a dropped node ends, and where the text after it begins, in bytes from the end of its `/-`.
 #[derive(Clone, Copy)]
 pub(crate) struct NodeEnd {
     item: usize,
@@ -30,7 +30,7 @@ pub(crate) struct NodeEnd {
     pub(crate) is_open: bool,
 }
 
-/// Where a dropped entry or block ends, in bytes from behind its `/-`, and which of the two it is.
+/// Where a dropped entry or block ends, in bytes from the end of its `/-`, and which of the two it is.
 #[derive(Clone, Copy)]
 pub(crate) struct PartEnd {
     pub(crate) at: usize,
@@ -50,7 +50,7 @@ fn follows_word(kind: &TokenKind) -> bool
     matches!(kind, TokenKind::Space | TokenKind::Equals)
 }
 
-/// Whether a string that ends what is dropped stands before the token.
+/// Whether a string that ends what is dropped comes before the token.
 fn ends_word(machine: &Machine, kind: &TokenKind) -> bool
     ensures { result ≡
         (is_word (machine_view machine.now) && not (follows_word (kind_view kind.now))) }
@@ -69,7 +69,7 @@ fn end_behind(token: &Token, last: usize) -> usize
     }
 }
 
-/// The end of a node whose terminator is this token: behind a `;`, or before the newline of a line.
+/// The end of a node whose terminator is this token: after a `;`, or before the newline of a line.
 fn node_end(text: &str, token: &Token) -> NodeEnd
     requires at { Before (chars text.now) token.now.start.at token.now.start.rest
         × Before (chars text.now) token.now.end.at token.now.end.rest }
@@ -97,7 +97,7 @@ fn node_end(text: &str, token: &Token) -> NodeEnd
     }
 }
 
-/// The end of a node where the text ends: behind it stand node-spaces. None where the node can't end.
+/// The end of a node where the text ends: node-spaces come after it. None where the node can't end.
 fn last_end(machine: &Machine, last: usize) -> Option<NodeEnd>
     ensures { MatchOption result (finish (machine_view machine.now) ≡ false)
         (λ e. (finish (machine_view machine.now) ≡ true) × (e.item ≡ last) × (e.behind ≡ last)
@@ -129,7 +129,7 @@ fn word_end(machine: &Machine, last: usize) -> Option<PartEnd>
     }
 }
 
-/// Where the node ends that a `/-` before the text drops; none where none does.
+/// Where the node ends that a `/-` before the text drops; none where it drops no node.
 pub(crate) fn pass_node(alloc: Global, text: &str) -> Result<Option<NodeEnd>, AllocError>
     ensures { IfOk result (λ o. AnswersDroppedNode (chars text.now) o) }
 {
@@ -154,7 +154,7 @@ pub(crate) fn pass_node(alloc: Global, text: &str) -> Result<Option<NodeEnd>, Al
     }
 }
 
-/// Adds the node that the slashdash here drops. The text behind it; none where it drops none.
+/// Adds the node that the slashdash here drops. Returns the text after it, or none where it drops no node.
 pub(crate) fn dropped_node<'a>(
     alloc: Global,
     text: &'a str,
@@ -174,7 +174,7 @@ pub(crate) fn dropped_node<'a>(
     Ok(Some(rest))
 }
 
-/// The phase behind the `/-` in a place.
+/// The phase after the `/-` in a place.
 fn slashdash_phase(place: Place) -> Phase
     ensures { at (phase_view result) [] ≡ slashdash_in (place_view place) }
 {
@@ -184,7 +184,7 @@ fn slashdash_phase(place: Place) -> Phase
     }
 }
 
-/// The place behind an entry or a block that is dropped in it; none where no block may be dropped there.
+/// The place after an entry or a block that is dropped in it; none where no block may be dropped there.
 pub(crate) fn behind_part(place: Place, is_block: bool) -> Option<Place>
     ensures { BehindPart (place_view place) is_block (option_map place_view result) }
 {
@@ -196,7 +196,7 @@ pub(crate) fn behind_part(place: Place, is_block: bool) -> Option<Place>
     }
 }
 
-/// Where the entry or block ends that a `/-` before the text drops in the place; none where none does.
+/// Where the entry or block ends that a `/-` before the text drops in the place; none where it drops neither.
 pub(crate) fn pass_part(
     alloc: Global,
     place: Place,
@@ -228,7 +228,7 @@ pub(crate) fn pass_part(
     }
 }
 
-/// Adds the entry or block that the slashdash here drops. The text behind it and the place there; none where none may
+/// Adds the entry or block that the slashdash here drops. The text after it and the place there; none where none may
 /// be dropped.
 pub(crate) fn dropped_part<'a>(
     alloc: Global,

@@ -9,16 +9,16 @@ ghost use Rattle.std.specs.Prelude.{◌≡◌, ◌∷◌, [], MatchBool, if◌th
 ghost use Rattle.std.specs.Str.{chars};
 
 use crate::spaces::{begins_space, behind_backslash, behind_newline, behind_spaces, block, line};
-use kdl_text::chars::{Cursor, Steps};
+use kdl_text::cursor::{Cursor, Steps};
 
 /// How the spaces that begin a text end.
 #[derive(Clone, Copy)]
 pub(crate) enum Ending<'a> {
-    /// Before this text, whatever follows that.
+    /// Before this rest, whatever follows the rest.
     Before(&'a str),
-    /// With the text, in a CR: an LF after it is part of its newline.
+    /// At the end of the text, in a CR: an LF after it is part of its newline.
     InReturn,
-    /// With the text, in an escline or a line comment without a newline.
+    /// At the end of the text, in an escline or a line comment without a newline.
     Open,
 }
 
@@ -37,7 +37,7 @@ fn is_return(text: &str) -> bool
     cursor.eat('\r') && cursor.look().is_none()
 }
 
-/// The end of a line, of what is left of it from its newline on. None where the text begins with anything else.
+/// How a line ends whose newline or end is at the start of the text. None where the text begins with anything else.
 pub(crate) fn line_ending(end: &str) -> Option<Ending<'_>>
     ensures { LineEnds (chars end.now) result }
 {
@@ -53,7 +53,7 @@ pub(crate) fn line_ending(end: &str) -> Option<Ending<'_>>
     }
 }
 
-/// The text, without the line comment that begins it: from the newline of the comment on.
+/// The text without the line comment that begins it, if one does: from the comment's newline on.
 pub(crate) fn behind_comment(text: &str) -> &str
     ensures { chars result.now ≡ (if begins_two 47 47 (chars text.now)
         then line_end (chars text.now) else chars text.now) }
@@ -77,14 +77,14 @@ fn behind_ws(text: &str) -> &str
     rest
 }
 
-/// How the escline ends whose backslash is before the text; none where none does.
+/// How the escline ends whose backslash comes before the text; none where there is no escline.
 fn escline_ending(text: &str) -> Option<Ending<'_>>
     ensures { EndsAs NodeSpace (92 ∷ chars text.now) result }
 {
     line_ending(behind_comment(behind_ws(text)))
 }
 
-/// How the node-spaces that begin the text end: at least one; none where none begins it.
+/// How the node-spaces at the start of the text end. None where the text begins with no node-space.
 pub(crate) fn node_spaces_ending(text: &str) -> Option<Ending<'_>>
     ensures { EndsAs NodeSpace (chars text.now) result }
 {
@@ -101,7 +101,7 @@ pub(crate) fn node_spaces_ending(text: &str) -> Option<Ending<'_>>
     }
 }
 
-/// The same for line-spaces.
+/// How the line-spaces at the start of the text end. None where the text begins with no line-space.
 pub(crate) fn line_spaces_ending(text: &str) -> Option<Ending<'_>>
     requires { chars text.now ≡ [] → ⊥ }
     ensures { EndsAs LineSpace (chars text.now) result }

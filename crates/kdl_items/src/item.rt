@@ -1,6 +1,6 @@
-//! Items, and the places in a node where they may stand.
+//! Items, and the places in a node where they may be.
 
-/// A comment or a dropped piece in the text around nodes or entries, as it stands there.
+/// A comment or a dropped piece in the text around nodes or entries, as it is written.
 #[derive(Clone, Copy)]
 pub enum Item<'a> {
     /// A line comment, without the newline that ends it.
@@ -10,14 +10,14 @@ pub enum Item<'a> {
     Piece(&'a str),
 }
 
-/// A place in a node, by what may stand there (KDL 2.0.0, Slashdash Comments).
+/// A place in a node, by what may be there (KDL 2.0.0, Slashdash Comments).
 #[derive(Clone, Copy)]
 pub enum Place {
-    /// Before an entry; whether a node-space stands directly before what comes. Entries are dropped there.
+    /// Before an entry; whether a node-space comes directly before what comes. Entries are dropped there.
     BeforeEntry(bool),
     /// Before the node's block, or before the terminator of a node without one. Entries are dropped there, and then
     /// blocks.
     BeforeBlock,
-    /// Behind the node's block, or behind a block that is dropped. Blocks are dropped there.
+    /// After the node's block, or after a block that is dropped. Blocks are dropped there.
     BehindBlock,
 }

@@ -19,13 +19,13 @@ use std::alloc::{AllocError, Global};
 /// The first piece of a gap: line-spaces, or a dropped node.
 #[derive(Clone, Copy)]
 enum GapPiece<'a> {
-    /// It ends before this text, whatever follows that.
+    /// It ends before this rest, whatever follows the rest.
     Until(&'a str),
-    /// It goes on to the end of the text, and lacks so many newlines.
+    /// It is the whole text, and lacks this many newlines.
     Last(usize),
 }
 
-/// Whether the node-spaces that are the text lack the newline of an escline.
+/// Whether the text, which is node-spaces, ends in an escline that lacks its newline.
 fn spaces_lack(text: &str) -> bool
     requires { Star NodeSpace (chars text.now) [] }
     ensures { SpacesLack (chars text.now) result }
@@ -105,7 +105,7 @@ pub fn gap_lacks(alloc: Global, text: &str) -> Result<Option<usize>, AllocError>
     gap_newlines(alloc, text)
 }
 
-/// The same, for what is after a terminator too.
+/// How many newlines the gap lacks, where it is a whole text or follows a terminator.
 fn gap_newlines(alloc: Global, text: &str) -> Result<Option<usize>, AllocError>
     ensures { IfOk result (λ o. GapAnswer (chars text.now) o) }
 {
@@ -147,9 +147,9 @@ pub fn terminator_lacks(alloc: Global, text: &str) -> Result<Option<usize>, Allo
 /// The first piece of a place in a node: node-spaces, or a dropped entry or block.
 #[derive(Clone, Copy)]
 enum PlacePiece<'a> {
-    /// It ends before this text in the place there.
+    /// It ends before this rest, which is in this place.
     Onward(Place, &'a str),
-    /// It goes on to the end of the text, in an escline that has no newline, or none but a CR.
+    /// It is the whole text, and ends in an escline with no newline or only a CR.
     InEscline,
 }
 
@@ -207,8 +207,8 @@ fn place_piece<'a>(
 }
 
 /// Whether the text before a node's terminator, before its block or after it, ends in an escline that lacks a newline:
-/// with an LF after it, it may be before each terminator. A CR at its end is no such newline, since an LF after it is
-/// part of it. None where the text can't be in that place. Of a place before an entry nothing is said.
+/// with an LF after it, it may come before each terminator. A CR at its end is no such newline, since an LF after it is
+/// part of it. None where the text can't be in that place. For a place before an entry the result is not specified.
 ///
 /// Fails where memory runs out.
 ///

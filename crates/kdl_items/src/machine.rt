@@ -1,4 +1,4 @@
-//! Which tokens may come behind a slashdash, up to the end of what it drops. Nothing is built.
+//! Which tokens may come after a slashdash, up to the end of what it drops. Nothing is built.
 
 ghost use Rattle.kdl_entry.specs.Internal.Handed.{kind_view};
 ghost use Rattle.kdl_grammar.specs.Internal.Control as control;
@@ -10,8 +10,8 @@ ghost use Rattle.std.specs.Prelude.{◌≡◌, ◌∷◌, IfOk, List, MatchOptio
 use kdl_entry::items::TokenKind;
 use std::alloc::{AllocError, Global};
 
-/// A node before its block: directly behind its name or an entry, behind spaces there, or behind a dropped block. The
-/// flag: a string stands there that may be a key.
+/// A node before its block: directly after its name or an entry, after spaces there, or after a dropped block. The
+/// flag: a string is there that may be a key.
 #[derive(Clone, Copy)]
 pub(crate) enum Spot {
     Fresh(bool),
@@ -35,7 +35,7 @@ pub(crate) enum Phase {
     KeptSlashdash,
 }
 
-/// An open block: of a node, or one that is dropped before or behind it.
+/// An open block: of a node, or one that is dropped before or after it.
 #[derive(Clone, Copy)]
 pub(crate) enum Frame {
     Node,
@@ -66,7 +66,7 @@ fn in_gap(kind: &TokenKind) -> Move
     }
 }
 
-/// Between nodes, behind `/-`.
+/// Between nodes, after `/-`.
 fn in_node_slashdash(kind: &TokenKind) -> Move
     ensures { Moves control.node_slashdash (kind_view kind.now) result }
 {
@@ -78,7 +78,7 @@ fn in_node_slashdash(kind: &TokenKind) -> Move
     }
 }
 
-/// Behind the `(` of a type.
+/// After the `(` of a type.
 fn in_type(valued: bool, kind: &TokenKind) -> Move
     ensures { Moves (control.type_open valued) (kind_view kind.now) result }
 {
@@ -89,7 +89,7 @@ fn in_type(valued: bool, kind: &TokenKind) -> Move
     }
 }
 
-/// Behind the name of a type.
+/// After the name of a type.
 fn behind_type_name(valued: bool, kind: &TokenKind) -> Move
     ensures { Moves (control.type_name valued) (kind_view kind.now) result }
 {
@@ -100,7 +100,7 @@ fn behind_type_name(valued: bool, kind: &TokenKind) -> Move
     }
 }
 
-/// Behind the `)` of a type.
+/// After the `)` of a type.
 fn behind_type(valued: bool, kind: &TokenKind) -> Move
     ensures { Moves (control.type_done valued) (kind_view kind.now) result }
 {
@@ -112,7 +112,7 @@ fn behind_type(valued: bool, kind: &TokenKind) -> Move
     }
 }
 
-/// Behind the `=` of a property.
+/// After the `=` of a property.
 fn in_property(kind: &TokenKind) -> Move
     ensures { Moves control.property (kind_view kind.now) result }
 {
@@ -124,7 +124,7 @@ fn in_property(kind: &TokenKind) -> Move
     }
 }
 
-/// Behind spaces in a node.
+/// After spaces in a node.
 fn spaced(spot: Spot) -> Spot
     ensures { spot_view result ≡ control.spaced_of (spot_view spot) }
 {
@@ -134,7 +134,7 @@ fn spaced(spot: Spot) -> Spot
     }
 }
 
-/// A string, a value or a type behind spaces in a node.
+/// A string, a value or a type after spaces in a node.
 fn entry(spot: Spot, phase: Phase) -> Move
     ensures { (fs : List control.Frame) → move_view result fs ≡
         control.from_spaced (spot_view spot) (control.at (phase_view phase) fs) }
@@ -169,7 +169,7 @@ fn in_node(spot: Spot, kind: &TokenKind) -> Move
     }
 }
 
-/// Behind `/-` in a node, where an entry or a block may follow.
+/// After `/-` in a node, where an entry or a block may follow.
 fn in_entry_slashdash(kind: &TokenKind) -> Move
     ensures { Moves control.entry_slashdash (kind_view kind.now) result }
 {
@@ -183,7 +183,7 @@ fn in_entry_slashdash(kind: &TokenKind) -> Move
     }
 }
 
-/// Behind `/-` in a node, where a block may follow.
+/// After `/-` in a node, where a block may follow.
 fn in_block_slashdash(kind: &TokenKind) -> Move
     ensures { Moves control.block_slashdash (kind_view kind.now) result }
 {
@@ -194,7 +194,7 @@ fn in_block_slashdash(kind: &TokenKind) -> Move
     }
 }
 
-/// Behind a node's block.
+/// After a node's block.
 fn in_kept(kind: &TokenKind) -> Move
     ensures { Moves control.kept (kind_view kind.now) result }
 {
@@ -207,7 +207,7 @@ fn in_kept(kind: &TokenKind) -> Move
     }
 }
 
-/// Behind `/-` there.
+/// After `/-` there.
 fn in_kept_slashdash(kind: &TokenKind) -> Move
     ensures { Moves control.kept_slashdash (kind_view kind.now) result }
 {
@@ -237,7 +237,7 @@ fn token_move(phase: Phase, kind: &TokenKind) -> Move
     }
 }
 
-/// Whether a string that may be a key stands there.
+/// Whether a string that may be a key is there.
 fn may_be_key(spot: Spot) -> bool
     ensures { result ≡ is_word (control.at (control.in_node (spot_view spot)) []) }
 {
@@ -247,7 +247,7 @@ fn may_be_key(spot: Spot) -> bool
     }
 }
 
-/// Behind the block.
+/// After the block.
 fn behind_block(frame: Frame) -> Phase
     ensures { (fs : List control.Frame) → control.popped (frame_view frame ∷ fs) ≡
         Some (control.at (phase_view result) fs) }
@@ -296,7 +296,7 @@ impl Machine {
         }
     }
 
-    /// Whether a string stands before, or before spaces, that ends what is dropped where no `=` follows.
+    /// Whether a string comes before, or before spaces, that ends what is dropped where no `=` follows.
     pub(crate) fn is_word(&self) -> bool
         ensures { result ≡ is_word (machine_view self.now) }
     {

@@ -1,4 +1,4 @@
-//! The items of a text that is a gap, or that stands in a place of a node.
+//! The items of a text that is a gap, or that is in a place of a node.
 
 ghost use Rattle.kdl_items.specs.Items.{may_end, spaced};
 ghost use Rattle.kdl_items.specs.Internal.Passed.{PlaceTakesHeld};
@@ -10,7 +10,7 @@ ghost use Rattle.std.specs.Str.{chars};
 use crate::dropped::{dropped_node, dropped_part};
 use crate::item::{Item, Place};
 use crate::spaces::{line_spaces, node_spaces};
-use kdl_text::chars::{Cursor, Steps};
+use kdl_text::cursor::{Cursor, Steps};
 use std::alloc::{AllocError, Global};
 
 /// Whether `/-` begins the text.
@@ -28,8 +28,8 @@ pub(crate) fn same(text: &str) -> &str
     text
 }
 
-/// Adds the items of the line-spaces or of the dropped node that begin the text of a gap. The text behind them; none
-/// where the text is no gap.
+/// Adds the items of the line-spaces or of the dropped node that begin the text of a gap. Returns the text
+/// after them, or none where the text is no gap.
 fn gap_piece<'a>(
     alloc: Global,
     text: &'a str,
@@ -46,7 +46,7 @@ fn gap_piece<'a>(
 }
 
 /// The items of the text, in order, each a slice of it; none where the text is no gap: line-spaces, and nodes that a
-/// slashdash drops (KDL 2.0.0, Document). The last of these may end with the text; the spaces and comments behind it
+/// slashdash drops (KDL 2.0.0, Document). The last of these may end with the text; the spaces and comments after it
 /// are no part of it.
 ///
 /// Fails where memory runs out.
@@ -65,7 +65,7 @@ pub fn gap_items<'a>(alloc: Global, text: &'a str) -> Result<Option<Vec<Item<'a>
     Ok(Some(items))
 }
 
-/// The place behind a node-space.
+/// The place after a node-space.
 pub(crate) fn spaced(place: Place) -> Place
     ensures { place_view result ≡ spaced true (place_view place) }
 {
@@ -85,8 +85,8 @@ pub(crate) fn may_end(place: Place) -> bool
     }
 }
 
-/// Adds the items of the node-spaces, or of the entry or block that is dropped, that begin the text in a place. The
-/// text behind them and the place there; none where the text can't stand in the place.
+/// Adds the items of the node-spaces, or of the entry or block that is dropped, that begin the text in a place.
+/// Returns the text after them and the place there, or none where the text can't be in the place.
 fn place_piece<'a>(
     alloc: Global,
     place: Place,
@@ -106,7 +106,7 @@ fn place_piece<'a>(
     }
 }
 
-/// The items of the text in a place of a node, in order, each a slice of it; none where the text can't stand there.
+/// The items of the text in a place of a node, in order, each a slice of it; none where the text can't be there.
 ///
 /// Fails where memory runs out.
 pub fn place_items<'a>(

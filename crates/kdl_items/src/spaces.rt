@@ -10,7 +10,8 @@ ghost use Rattle.std.specs.Str.{IsUtf8, chars};
 
 use crate::item::Item;
 use crate::slices::cut;
-use kdl_text::chars::{Class, Cursor, Steps, is_space, newline};
+use kdl_text::chars::{Class, is_space};
+use kdl_text::cursor::{Cursor, Steps, newline};
 use kdl_text::trivia::block_comment;
 use std::alloc::AllocError;
 
@@ -24,7 +25,7 @@ pub(crate) fn begins_space(text: &str) -> bool
     }
 }
 
-/// The text behind the spaces that begin it.
+/// The text after the spaces that begin it.
 pub(crate) fn behind_spaces(text: &str) -> &str
     ensures { Longest Space (chars text.now) (chars result.now) }
 {
@@ -34,7 +35,7 @@ pub(crate) fn behind_spaces(text: &str) -> &str
     rest
 }
 
-/// The block comment that begins the text, and the text behind it; none where none begins it or it isn't closed.
+/// The block comment that begins the text, and the text after it; none where none begins it or it isn't closed.
 pub(crate) fn block(text: &str) -> Option<(&str, &str)>
     ensures { MatchOption result ((r : Text) → BlockComment (chars text.now) r → ⊥)
         (λ (comment, rest). BlockComment (chars text.now) (chars rest.now)
@@ -59,7 +60,7 @@ pub(crate) fn line(text: &str) -> (&str, &str)
     cut(text, cursor.at())
 }
 
-/// The text behind the newline that begins it.
+/// The text after the newline that begins it.
 pub(crate) fn behind_newline(text: &str) -> Option<&str>
     ensures { MatchOption result ((r : Text) → Newline (chars text.now) r → ⊥)
         (λ rest. Newline (chars text.now) (chars rest.now)) }
@@ -73,7 +74,7 @@ pub(crate) fn behind_newline(text: &str) -> Option<&str>
     }
 }
 
-/// The line comment that begins the text, without its newline, and the text behind that.
+/// The line comment that begins the text, without its newline, and the text after that.
 pub(crate) fn comment(text: &str) -> Option<(&str, &str)>
     ensures { MatchOption result ((r : Text) → LineComment (chars text.now) r → ⊥)
         (λ (comment, rest). LineComment (chars text.now) (chars rest.now)
@@ -90,7 +91,7 @@ pub(crate) fn comment(text: &str) -> Option<(&str, &str)>
     }
 }
 
-/// The text behind its first character, where that is a backslash.
+/// The text after its first character, where that is a backslash.
 pub(crate) fn behind_backslash(text: &str) -> Option<&str>
     ensures { MatchOption result ((s : Text) → chars text.now ≡ 92 ∷ s → ⊥)
         (λ rest. chars text.now ≡ 92 ∷ chars rest.now) }
@@ -118,7 +119,7 @@ pub(crate) fn behind_semicolon(text: &str) -> Option<&str>
     }
 }
 
-/// The text behind an escline whose backslash stands before it; none where none does. Its comments are added.
+/// The text after an escline whose backslash comes before it; none where there is no escline. Its comments are added.
 fn escline<'a>(text: &'a str, items: &mut Vec<Item<'a>>) -> Result<Option<&'a str>, AllocError>
     ensures { IfOk result (λ o.
         AddsHeld SpaceItems (92 ∷ chars text.now) o items.old.items items.new.items) }
@@ -138,7 +139,7 @@ fn escline<'a>(text: &'a str, items: &mut Vec<Item<'a>>) -> Result<Option<&'a st
     Ok(behind_newline(rest))
 }
 
-/// The text behind the node-spaces that begin it, at least one; none where none does. Their comments are added.
+/// The text after the node-spaces that begin it, at least one; none where there is none. Their comments are added.
 pub(crate) fn node_spaces<'a>(
     text: &'a str,
     items: &mut Vec<Item<'a>>,

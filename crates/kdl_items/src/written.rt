@@ -9,10 +9,10 @@ ghost use Rattle.std.specs.Str.{chars};
 use crate::item::Item;
 use std::alloc::AllocError;
 
-/// Puts the text behind another.
+/// Puts the text after another.
 ///
 /// ```
-/// push_text(&mut out, "b")?; // behind `a` the text is `ab`
+/// push_text(&mut out, "b")?; // after `a` the text is `ab`
 /// ```
 pub fn push_text(out: &mut String, text: &str) -> Result<(), AllocError>
     ensures { OnOk result (text_of out.new ≡ text_of out.old ++ chars text.now) }
@@ -20,7 +20,7 @@ pub fn push_text(out: &mut String, text: &str) -> Result<(), AllocError>
     out.push_str(text)
 }
 
-/// The text behind another, with a CR at its end written as LF.
+/// The text after another, with a CR at its end written as LF.
 fn push_line_text(out: &mut String, text: &str) -> Result<(), AllocError>
     ensures { OnOk result (text_of out.new ≡ text_of out.old ++ line_text (chars text.now)) }
 {
@@ -45,7 +45,7 @@ fn push_line(out: &mut String, before: &str, item: Item) -> Result<(), AllocErro
     push_text(out, "\n")
 }
 
-/// Appends a line for each item, behind the text `before`. A CR at the end of an item, which ends an escline, is
+/// Appends a line for each item, after the text `before`. A CR at the end of an item, which ends an escline, is
 /// written as LF: before the newline of the line the two would be one.
 pub fn push_lines(out: &mut String, before: &str, items: &[Item]) -> Result<(), AllocError>
     ensures { OnOk result (text_of out.new ≡ text_of out.old
@@ -57,7 +57,7 @@ pub fn push_lines(out: &mut String, before: &str, items: &[Item]) -> Result<(), 
     Ok(())
 }
 
-/// Appends the item behind a space.
+/// Appends the item after a space.
 fn push_behind_space(out: &mut String, item: Item) -> Result<(), AllocError>
     ensures { OnOk result (text_of out.new ≡ text_of out.old ++ tail (item_view item.entry ∷ [])) }
 {
@@ -74,7 +74,7 @@ fn push_behind_space(out: &mut String, item: Item) -> Result<(), AllocError>
     }
 }
 
-/// Appends each item behind a space; a line comment ends an escline.
+/// Appends each item after a space; a line comment ends an escline.
 pub fn push_tail(out: &mut String, items: &[Item]) -> Result<(), AllocError>
     ensures { OnOk result (text_of out.new ≡ text_of out.old ++ tail (items_view items.now)) }
 {

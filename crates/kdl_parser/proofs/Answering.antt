@@ -1,10 +1,10 @@
--- What is answered on a whole text.
+-- What is returned on a whole text.
 
 -- The loop over the tokens of a text.
 pub mod TokenLoop
--- What the answer on a whole text says of the grammar.
+-- What the result on a whole text says of the grammar.
 pub mod Outcomes
--- Every edited document of an answer reads back.
+-- Every edited document of a result reads back.
 pub mod EditedOutcomes
 -- A text with U+FEFF before it, or without.
 pub mod LeadingBom

@@ -1,4 +1,4 @@
 -- What a step of the builder does, by the machine's.
 pub mod Stepping
--- What is answered on a whole text.
+-- What is returned on a whole text.
 pub mod Answering

@@ -1,16 +1,16 @@
 -- What only proofs and contracts inside the crates need: no contract of a public call of `kdl` speaks of it.
 
--- What is answered on what the lexer has before it, by the tree of a node.
+-- What is returned for what the lexer has before it, by the tree of a node.
 pub mod Answered
 -- The states to which the builder's methods bring it, as the machine has them, and what is not sliced there yet.
 pub mod States
--- The machine's state that the builder's fields stand for, and what its steps answer.
+-- The machine's state that the builder's fields represent, and what its steps return.
 pub mod Building
 -- The steps of a parse: for the texts that the builder slices, and for what the lexer has before it.
 pub mod Counted
 -- Line-spaces alone, up to the end of a text.
 pub mod LineSpaces
--- Nodes that are a whole text, and what is answered on one.
+-- Nodes that are a whole text, and what is returned on one.
 pub mod NodeText
 -- The trees of nodes and documents by their parts, where a node's own tree is given.
 pub mod Parts

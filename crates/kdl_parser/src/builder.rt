@@ -19,7 +19,7 @@ use crate::node_parts::{DocumentParts, ParsedNode};
 use kdl_entry::items::item::{Item, TypeParts, text_between};
 use kdl_entry::items::{LexFailure, Lexer, Token, TokenKind, fault_at};
 use kdl_entry::{KdlEntry, KdlIdentifier};
-use kdl_text::chars::{Checkpoint, Piece};
+use kdl_text::cursor::{Checkpoint, Piece};
 use std::alloc::Global;
 
 /// Where in the grammar the builder is.
@@ -27,23 +27,23 @@ use std::alloc::Global;
 enum Phase {
     /// Between nodes.
     Gap,
-    /// Between nodes, behind `/-`.
+    /// Between nodes, after `/-`.
     NodeSlashdash,
-    /// In a type, or behind the `=` of a property.
+    /// In a type, or after the `=` of a property.
     InItem,
-    /// Directly behind the name or an entry of a node.
+    /// Directly after the name or an entry of a node.
     Fresh,
-    /// Behind spaces there.
+    /// After spaces there.
     Spaced,
-    /// Behind a block that is slashdashed, where the node's own may follow.
+    /// After a block that is slashdashed, where the node's own may follow.
     Later,
-    /// Behind `/-` where an entry or a block may follow.
+    /// After `/-` where an entry or a block may follow.
     EntrySlashdash,
-    /// Behind `/-` where a block may follow.
+    /// After `/-` where a block may follow.
     BlockSlashdash,
-    /// Behind the node's block.
+    /// After the node's block.
     Behind,
-    /// Behind `/-` there.
+    /// After `/-` there.
     BehindSlashdash,
 }
 
@@ -72,7 +72,7 @@ enum Frame<'a, N> {
     Block(Option<Under<'a>>, String, Option<Vec<N>>),
     /// A block that is slashdashed.
     DroppedBlock(Option<Under<'a>>, Option<Vec<N>>),
-    /// A block that is slashdashed, behind the node's own.
+    /// A block that is slashdashed, after the node's own.
     LaterBlock(Option<Kept<'a, N>>, Option<Vec<N>>),
 }
 
@@ -86,7 +86,7 @@ struct WaitingWord<'a> {
     repr: Piece<'a>,
 }
 
-/// Where a name or an entry begins, and whether it counts. Of what doesn't no text is held.
+/// Where a name or an entry begins, and whether it counts. No text is held of what does not count.
 #[derive(Drop)]
 struct Slot<'a> {
     kept: bool,
@@ -103,7 +103,7 @@ enum Waiting<'a> {
     Word(WaitingWord<'a>),
 }
 
-/// A document under way. Of what is slashdashed no text is held.
+/// A document under way. It holds no text of what is slashdashed.
 #[derive(Drop)]
 pub(crate) struct Builder<'a, N> {
     whole: Checkpoint<'a>,
@@ -118,7 +118,7 @@ pub(crate) struct Builder<'a, N> {
 }
 
 impl<'a, N: ParsedNode> Builder<'a, N> {
-    /// A builder at the start of a text, or behind its U+FEFF.
+    /// A builder at the start of a text, or after its U+FEFF.
     pub(crate) fn new(alloc: Global, whole: Checkpoint<'a>, start: Checkpoint<'a>) -> Self
         ensures state { state_view N.tree result ≡ initial start.entry.rest }
         ensures unsliced { unsliced result ≡ bytes start.entry.rest }
@@ -170,7 +170,7 @@ impl<'a, N: ParsedNode> Builder<'a, N> {
         }
     }
 
-    /// A token behind `/-` between nodes.
+    /// A token after `/-` between nodes.
     #[tactic(auto, using(crate::proofs::Stepping::StepsDone::does_did))]
     fn at_slashdash(
         &mut self,
@@ -196,7 +196,7 @@ impl<'a, N: ParsedNode> Builder<'a, N> {
         }
     }
 
-    /// A token directly behind a name or an entry.
+    /// A token directly after a name or an entry.
     #[tactic(auto, using(crate::proofs::Stepping::StepsDone::does_did, crate::proofs::Stepping::StepsDone::none_sliced))]
     fn at_fresh(
         &mut self,
@@ -228,7 +228,7 @@ impl<'a, N: ParsedNode> Builder<'a, N> {
         }
     }
 
-    /// A token behind spaces in a node.
+    /// A token after spaces in a node.
     #[tactic(auto, using(crate::proofs::Stepping::StepsDone::does_did, crate::proofs::Stepping::StepsDone::none_sliced))]
     fn at_spaced(
         &mut self,
@@ -260,7 +260,7 @@ impl<'a, N: ParsedNode> Builder<'a, N> {
         }
     }
 
-    /// A token behind a block that is slashdashed, before the node's own.
+    /// A token after a block that is slashdashed, before the node's own.
     #[tactic(auto, using(crate::proofs::Stepping::StepsDone::does_did))]
     fn at_later(
         &mut self,
@@ -291,7 +291,7 @@ impl<'a, N: ParsedNode> Builder<'a, N> {
         }
     }
 
-    /// A token behind `/-`, where an entry or a block may follow.
+    /// A token after `/-`, where an entry or a block may follow.
     #[tactic(auto, using(crate::proofs::Stepping::StepsDone::does_did, crate::proofs::Stepping::StepsDone::none_sliced))]
     fn at_entry_slashdash(
         &mut self,
@@ -319,7 +319,7 @@ impl<'a, N: ParsedNode> Builder<'a, N> {
         }
     }
 
-    /// A token behind `/-`, where a block may follow.
+    /// A token after `/-`, where a block may follow.
     #[tactic(auto, using(crate::proofs::Stepping::StepsDone::does_did, crate::proofs::Stepping::StepsDone::none_sliced))]
     fn at_block_slashdash(
         &mut self,
@@ -344,7 +344,7 @@ impl<'a, N: ParsedNode> Builder<'a, N> {
         }
     }
 
-    /// A token behind a node's block.
+    /// A token after a node's block.
     #[tactic(auto, using(crate::proofs::Stepping::StepsDone::does_did))]
     fn at_behind(
         &mut self,
@@ -374,7 +374,7 @@ impl<'a, N: ParsedNode> Builder<'a, N> {
         }
     }
 
-    /// A token behind `/-`, where another block may follow.
+    /// A token after `/-`, where another block may follow.
     #[tactic(auto, using(crate::proofs::Stepping::StepsDone::does_did, crate::proofs::Stepping::StepsDone::none_sliced))]
     fn at_behind_slashdash(
         &mut self,
@@ -399,7 +399,7 @@ impl<'a, N: ParsedNode> Builder<'a, N> {
         }
     }
 
-    /// One token. A fault where it may not stand here; running out of memory leaves the builder as it is then.
+    /// One token. A fault where it may not be here; running out of memory leaves the builder as it is then.
     #[tactic(auto, using(crate::proofs::Stepping::ItemTokens::item_did, crate::proofs::Stepping::ItemTokens::item_placed))]
     pub(crate) fn take(
         &mut self,

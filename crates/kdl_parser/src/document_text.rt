@@ -14,7 +14,7 @@ use crate::node_parts::{DocumentParts, ParsedNode};
 use crate::token_loop::build;
 use kdl_entry::items::{LexFailure, Lexer};
 use kdl_faults::{Whole, failure};
-use kdl_text::chars::Steps;
+use kdl_text::cursor::Steps;
 use kdl_text::error::ParseFailure;
 use std::alloc::Global;
 use std::mem;
@@ -22,13 +22,13 @@ use std::mem;
 /// A document that is a whole text.
 #[derive(Drop)]
 pub struct DocumentText<N> {
-    /// What stands in it, behind the U+FEFF.
+    /// What is in it, after the U+FEFF.
     pub parts: DocumentParts<N>,
     /// Whether the text begins with U+FEFF.
     pub has_bom: bool,
 }
 
-/// The machine's answer on the text that the lexer is at the start of.
+/// The machine's result on the text that the lexer is at the start of.
 #[tactic(auto, using(crate::proofs::Answering::LeadingBom::bom_ends, crate::proofs::Answering::LeadingBom::bom_at, crate::proofs::Answering::LeadingBom::whole_answer))]
 fn read_all<'a, N: ParsedNode>(
     alloc: Global,
@@ -47,7 +47,7 @@ fn read_all<'a, N: ParsedNode>(
     }
 }
 
-/// The machine's answer on the text, which raises the count.
+/// The machine's result on the text, which raises the count.
 fn read_counted<N: ParsedNode>(
     alloc: Global,
     text: &str,
@@ -64,23 +64,23 @@ fn read_counted<N: ParsedNode>(
 }
 
 /// The document that the text is (KDL 2.0.0, Document), which raises the count by the steps that it takes, up to the
-/// greatest `u64`. Each place and each spelling that the document keeps is sliced once, but for a U+FEFF, which is not;
+/// greatest `u64`. Each place and each spelling that the document keeps is sliced once, except a U+FEFF, which is not;
 /// values are decoded by the lexer, which slices what it needs for that, of what is slashdashed too. `Syntax`: the
-/// text is none; its error has a diagnostic for each fault that is found, and one at least. To tell them the text is
-/// read once more. `Memory`: a request for memory was refused.
+/// text is no document; its error has a diagnostic for each fault that is found, and one at least. The text is read
+/// once more to find them. `Memory`: a request for memory was refused.
 #[tactic(auto, using(crate::proofs::Answering::Outcomes::refused, crate::proofs::Answering::Outcomes::most_counted))]
 pub fn read_document<N: ParsedNode>(
     alloc: Global,
     text: &str,
     steps: &mut Steps,
 ) -> Result<DocumentText<N>, ParseFailure>
-    // What is answered is what the machine answers on the text.
+    // The result is the machine's on the text.
     ensures found { IfOk result (λ d. AnswersDocument (chars text.now) (whole_by N.tree d)) }
     // What is refused is not derived, and an error tells where.
     ensures refused { IsSyntax result → (x : Nodes) → IsDocument true (chars text.now) x → ⊥ }
     ensures told { TellsOnSyntax text.now result }
     // At least a step for each character is counted, and at most 32 for each byte and 32 more; for a text that is
-    // refused, and what is told of it, at most 160.
+    // refused, and what is reported of it, at most 160.
     ensures least { OnOk result (raise steps.old (length (chars text.now)) ≤ steps.new) }
     ensures most { OnOk result (steps.new ≤ steps.old + 32 * (length text.now + 1)) }
     ensures told_most { IsSyntax result → steps.new ≤ steps.old + 160 * (length text.now + 1) }

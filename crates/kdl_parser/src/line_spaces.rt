@@ -8,7 +8,7 @@ ghost use Rattle.std.specs.Prelude.{◌≡◌};
 ghost use Rattle.std.specs.Str.{chars};
 
 use kdl_entry::items::{LexFailure, Lexer, TokenKind, fault_at};
-use kdl_text::chars::Steps;
+use kdl_text::cursor::Steps;
 use kdl_text::span::SourceSpan;
 use std::alloc::Global;
 
@@ -38,7 +38,7 @@ fn line_spaces(alloc: Global, text: &str) -> Result<(), LexFailure>
     Ok(())
 }
 
-/// The span in the text, where it was told of the text's end.
+/// The span in the text, where it was reported for the text's end.
 fn behind(text: &str, end: &str, span: SourceSpan) -> SourceSpan
     requires ends { EndsIn (chars text.now) (chars end.now) }
     requires told { InText (chars end.now) span }
@@ -51,7 +51,7 @@ fn behind(text: &str, end: &str, span: SourceSpan) -> SourceSpan
     }
 }
 
-/// Reads line-spaces to the end of the trailing text, with which the text ends. A fault is told in the text.
+/// Reads line-spaces to the end of the trailing text, with which the text ends. A fault is reported in the text.
 pub fn trailing_line_spaces(alloc: Global, text: &str, trailing: &str) -> Result<(), LexFailure>
     requires { EndsIn (chars text.now) (chars trailing.now) }
     ensures { EndInLineSpaces (chars text.now) (chars trailing.now) result }

@@ -13,20 +13,20 @@ use std::alloc::Global;
 /// A document: its nodes, and the texts around them.
 #[derive(Drop)]
 pub struct DocumentParts<N> {
-    /// Nothing where there are nodes, since each has what stands before it; without nodes all that there is.
+    /// Nothing where there are nodes, since each has what comes before it; without nodes all that there is.
     pub leading: String,
     /// The nodes that count, in order.
     pub nodes: Vec<N>,
-    /// What stands behind the last node: line-spaces, and nodes that a slashdash drops. Without nodes nothing.
+    /// What comes after the last node: line-spaces, and nodes that a slashdash drops. Without nodes nothing.
     pub trailing: String,
     /// From the first node to the last one, in bytes of the text; without nodes the end.
     pub span: SourceSpan,
 }
 
-/// A node: what stands in it, and the texts around its parts.
+/// A node: what is in it, and the texts around its parts.
 #[derive(Drop)]
 pub struct NodeParts<N> {
-    /// What stands before the node: line-spaces, and nodes that a slashdash drops.
+    /// What comes before the node: line-spaces, and nodes that a slashdash drops.
     pub leading: String,
     /// The type, where the node has one.
     pub ty: Option<TypeParts>,
@@ -34,17 +34,17 @@ pub struct NodeParts<N> {
     pub name: KdlIdentifier,
     /// The entries, in order.
     pub entries: Vec<KdlEntry>,
-    /// What stands between the name or the last entry and the `{` of the children: entries and then blocks that a
+    /// What is between the name or the last entry and the `{` of the children: entries and then blocks that a
     /// slashdash drops, and node-spaces. Without children nothing.
     pub before_children: String,
     /// The children, where the node has a child block.
     pub children: Option<DocumentParts<N>>,
-    /// What stands before the terminator: behind the `}` of the children, blocks that a slashdash drops and
-    /// node-spaces; without children, behind the name or the last entry, such entries before these.
+    /// What comes before the terminator: after the `}` of the children, blocks that a slashdash drops and
+    /// node-spaces; without children, after the name or the last entry, such entries before these.
     pub before_terminator: String,
     /// What ends the node: `;`, a newline, a line comment, or nothing where the text ends or a `}` follows.
     pub terminator: String,
-    /// Where the node stands in the text, in bytes.
+    /// Where the node is in the text, in bytes.
     pub span: SourceSpan,
 }
 
@@ -56,7 +56,7 @@ pub trait ParsedNode: Drop {
     fn from_parts(alloc: Global, parts: NodeParts<Self>) -> Self
         ensures { tree result ≡ node_by tree parts };
 
-    /// Where the node stands in the text, in bytes.
+    /// Where the node is in the text, in bytes.
     fn span(&self) -> SourceSpan
         ensures { result ≡ node_span (tree self.now) };
 }

@@ -15,7 +15,7 @@ use crate::node_parts::{DocumentParts, ParsedNode};
 use crate::token_loop::build;
 use kdl_entry::items::{LexFailure, Lexer};
 use kdl_faults::{Whole, failure};
-use kdl_text::chars::Steps;
+use kdl_text::cursor::Steps;
 use kdl_text::error::ParseFailure;
 use kdl_text::span::SourceSpan;
 use std::alloc::Global;
@@ -25,7 +25,7 @@ use std::alloc::Global;
 pub struct NodeText<N> {
     /// The node.
     pub node: N,
-    /// What stands behind its terminator.
+    /// What comes after its terminator.
     pub trailing: String,
     /// The whole text, in bytes.
     pub span: SourceSpan,
@@ -55,7 +55,7 @@ fn only_node<N: ParsedNode>(text: &str, nodes: Vec<N>) -> Result<N, LexFailure>
     Ok(node)
 }
 
-/// The only node of a text as a text of its own, where line-spaces alone stand behind it. A fault at what else does.
+/// The only node of a text as a text of its own, where line-spaces alone come after it. A fault at anything else.
 fn with_line_spaces<N: ParsedNode>(
     alloc: Global,
     text: &str,
@@ -111,11 +111,11 @@ fn read_whole<N: ParsedNode>(alloc: Global, text: &str) -> Result<NodeText<N>, L
     }
 }
 
-/// The node that the text is: line-spaces and nodes that are slashdashed before it, and behind its terminator
-/// line-spaces alone (KDL 2.0.0, Node). `Syntax`: the text is none. Its error has a diagnostic for each fault that is
-/// found, and one at least. `Memory`: a request for memory was refused.
+/// The node that the text is: line-spaces and nodes that are slashdashed before it, and after its terminator
+/// line-spaces alone (KDL 2.0.0, Node). `Syntax`: the text is no node. Its error has a diagnostic for each fault that
+/// is found, and one at least. `Memory`: a request for memory was refused.
 pub fn read_node_text<N: ParsedNode>(alloc: Global, text: &str) -> Result<NodeText<N>, ParseFailure>
-    // The node that is answered is laid in the text, which it is.
+    // The node that is returned is laid in the text, which it is.
     ensures found { IfOk result (λ n. LaidNodeText true (chars text.now) (text_by N.tree n)) }
     // What is refused is not derived, and an error tells where.
     ensures refused { IsSyntax result → (x : data'.Node) → IsNodeText true (chars text.now) x → ⊥ }

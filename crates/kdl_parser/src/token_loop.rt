@@ -10,10 +10,10 @@ ghost use Rattle.std.specs.Prelude.{◌≡◌, ◌+◌, ◌≤◌};
 use crate::builder::Builder;
 use crate::node_parts::{DocumentParts, ParsedNode};
 use kdl_entry::items::{LexFailure, Lexer};
-use kdl_text::chars::Checkpoint;
+use kdl_text::cursor::Checkpoint;
 use std::alloc::Global;
 
-/// The machine's answer on what the lexer has before it, by a builder that has seen no token yet.
+/// The machine's result on what the lexer has before it, by a builder that has seen no token yet.
 #[tactic(auto, using(crate::proofs::Stepping::TurnCost::counting_starts, crate::proofs::Stepping::TurnCost::counting_ends, crate::proofs::Answering::TokenLoop::starts, crate::proofs::Answering::TokenLoop::goes_on, crate::proofs::Answering::TokenLoop::placed_start, crate::proofs::Answering::TokenLoop::start_end, crate::proofs::Answering::TokenLoop::lexer_told, crate::proofs::Answering::TokenLoop::take_told, crate::proofs::Answering::TokenLoop::all_read, crate::proofs::Answering::TokenLoop::stops_going, crate::proofs::Answering::TokenLoop::from_now, crate::proofs::Answering::TokenLoop::finish_told, crate::proofs::Answering::TokenLoop::nearer))]
 fn build_with<'a, N: ParsedNode>(
     alloc: Global,
@@ -39,7 +39,7 @@ fn build_with<'a, N: ParsedNode>(
 /// was refused.
 ///
 /// The builder slices each place and each spelling that the document keeps once. Of what is slashdashed it slices
-/// nothing by itself: its text is part of the place in which it stands.
+/// nothing by itself: its text is part of the place in which it is.
 pub fn build<'a, N: ParsedNode>(
     alloc: Global,
     whole: Checkpoint<'a>,

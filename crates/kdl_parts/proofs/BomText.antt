@@ -1,4 +1,4 @@
--- The text of one character, as U+FEFF, and a text behind it.
+-- The text of one character, as U+FEFF, and a text after it.
 use Rattle.std.proofs.Common.{◌≡◌, List, ℕ, [], ◌∷◌, ◌++◌, Result, IfOk, is_ok, if◌then◌else◌, ap, sym, ◌∙◌, refl, append-nil}
 use Rattle.std.proofs.lemmas.Str.{chars-nil, chars_past_char}
 use Rattle.std.specs.Char.{encode_utf8}

@@ -63,7 +63,7 @@ arguments_most es = omega (arith, length-map (filter is_argument es) (λ e. valu
 pub arguments_within : (s : List Value) (es : List KdlEntry) (n : ℕ) → arguments es ≡ s → n ≡ length es → length s ≤ n
 arguments_within s es n e h = rw (← e, h) (arguments_most es)
 
--- what stands at a place that was found
+-- what is at a place that was found
 pub found_at : {A : Type 0} (xs : List A) (o : Option ℕ) (i : ℕ) (x : A) → Some i ≡ o → slice_get xs i ≡ Some x → Some x ≡ option_and_then (λ k. slice_get xs k) o
 found_at xs o i x e h = rw (← e, h) refl
 

@@ -6,7 +6,7 @@ pub mod EntryLookups
 pub mod Equality
 -- A loop that changes the elements of a list one by one.
 pub mod Loops
--- The text of U+FEFF, and a text behind it.
+-- The text of U+FEFF, and a text after it.
 pub mod BomText
 -- What the entries of a node print, one by one.
 pub mod PrintedEntries

@@ -7,7 +7,7 @@ use Rattle.kdl_entry.specs.Tree.{Entry, entry_tree, entry_format_tree}
 use Rattle.kdl_entry.specs.declared.entry.KdlEntry.{KdlEntry}
 use Rattle.kdl_grammar.specs.Print.{print_piece, print_pieces, last_has_format}
 
--- one text behind another
+-- one text after another
 pub print_pieces-append : (es fs : List Entry) → print_pieces (es ++ fs) ≡ print_pieces es ++ print_pieces fs
 print_pieces-append [] fs = refl
 print_pieces-append (e ∷ es) fs = ap (λ t. print_piece e ++ t) (print_pieces-append es fs) ∙ sym (append_assoc (print_piece e) (print_pieces es) (print_pieces fs))

@@ -27,17 +27,17 @@ abbrev pub under : Sought → Entry → Entry
 under (property k) e = record e { name = Some (unwrap_or e.name k) }
 under (argument n) e = e
 
--- with e for the one at i, or last where there is none
+-- the entries with e in place of the one at i, or with e last where there is none
 abbrev pub put_for : {A : Type 0} → Option ℕ → A → List A → List A
 put_for None e es = es ++ (e ∷ [])
 put_for (Some i) e es = take i es ++ (e ∷ drop (i + 1) es)
 
--- with e before the one at i, or last where there is none
+-- the entries with e before the one at i, or with e last where there is none
 abbrev pub put_before : {A : Type 0} → Option ℕ → A → List A → List A
 put_before None e es = es ++ (e ∷ [])
 put_before (Some i) e es = take i es ++ (e ∷ drop i es)
 
--- without the one at i
+-- the entries without the one at i
 abbrev pub without : {A : Type 0} → Option ℕ → List A → List A
 without None es = es
 without (Some i) es = take i es ++ drop (i + 1) es
@@ -51,7 +51,7 @@ replaced_place (Index n) es = None
 abbrev pub replaced : NodeKey → List KdlEntry → Option KdlEntry
 replaced key es = there (replaced_place key es) es
 
--- with e inserted: for the last property of that name, or before that argument; last where there is none
+-- the entries with e inserted: in place of the last property of that name, or before that argument; last where there is none
 abbrev pub inserted : NodeKey → KdlEntry → List KdlEntry → List KdlEntry
 inserted (Key k) e es = put_for (place_of (Key k) es) e es
 inserted (Index n) e es = put_before (place_of (Index n) es) e es

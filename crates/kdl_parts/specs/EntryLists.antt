@@ -52,7 +52,7 @@ has_name s e = is_name s (entry_name_of e)
 abbrev pub is_argument : KdlEntry → Bool
 is_argument e = is_none (entry_name_of e)
 
--- the last place, where those behind the first element have this last place, and b tells of the first
+-- the last place, where those after the first element have this last place, and b tells of the first
 abbrev pub later : Option ℕ → Bool → Option ℕ
 later (Some i) b = Some (suc i)
 later None true = Some 0
@@ -63,7 +63,7 @@ abbrev pub last_place : {A : Type 0} → (A → Bool) → List A → Option ℕ
 last_place p [] = None
 last_place p (x ∷ xs) = later (last_place p xs) (p x)
 
--- the place of the n-th, where the first element is one or not, and `rest` gives places behind it
+-- the place of the n-th, where the first element is one or not, and `rest` gives places after it
 abbrev pub nth_step : Bool → ℕ → (ℕ → Option ℕ) → Option ℕ
 nth_step true zero rest = Some 0
 nth_step true (suc n) rest = option_map suc (rest n)
@@ -84,7 +84,7 @@ abbrev pub removed_place : NodeKey → List KdlEntry → Option ℕ
 removed_place (Key k) es = position (has_name (string_bytes (string_of k))) es
 removed_place (Index n) es = nth_place is_argument es n
 
--- what stands at a place that was found
+-- what is at a place that was found
 abbrev pub there : {A : Type 0} → Option ℕ → List A → Option A
 there o xs = option_and_then (λ i. slice_get xs i) o
 

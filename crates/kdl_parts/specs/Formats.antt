@@ -31,6 +31,6 @@ document_texts o = option_map document_format_tree o
 abbrev pub empty_node_format : NodeFormat
 empty_node_format = record { leading = []; before_ty_name = []; after_ty_name = []; after_ty = []; before_children = []; before_terminator = []; terminator = []; trailing = [] }
 
--- the format of a new node: a newline behind it, and nothing else
+-- the format of a new node: a newline after it, and nothing else
 abbrev pub ended_format : NodeFormat
 ended_format = record empty_node_format { trailing = 10 ∷ [] }

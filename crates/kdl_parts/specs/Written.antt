@@ -20,32 +20,32 @@ use Rattle.kdl_parts.specs.declared.key.NodeKey.{NodeKey}
 abbrev pub entries_row : RattleType
 entries_row = vec.the_row entry.the_row global.the_row ghosts
 
--- with the entry at a place that was found exchanged
+-- the entries with another one at the place that was found
 abbrev pub set_entry_there : Option ℕ → Vec KdlEntry Global → KdlEntry → Vec KdlEntry Global
 set_entry_there None v e = v
 set_entry_there (Some i) v e = with_item v i e
 
--- with the value of the entry at i exchanged
+-- the entries with another value for the one at i
 abbrev pub set_value_at : Vec KdlEntry Global → ℕ → KdlValue → Vec KdlEntry Global
 set_value_at v i w = elim (slice_get v.items i) [ None ↦ v | Some e ↦ with_item v i (with_entry_value e w) ]
 
--- with the value of the entry at a place that was found exchanged
+-- the entries with another value for the one at the place that was found
 abbrev pub set_value_there : Option ℕ → Vec KdlEntry Global → KdlValue → Vec KdlEntry Global
 set_value_there None v w = v
 set_value_there (Some i) v w = set_value_at v i w
 
--- with the entry that a key finds exchanged, and with its value exchanged
+-- the entries with another one in place of that which a key finds, and with another value for it
 abbrev pub with_found : NodeKey → Vec KdlEntry Global → KdlEntry → Vec KdlEntry Global
 with_found key v e = set_entry_there (place_of key v.items) v e
 
 abbrev pub with_found_value : NodeKey → Vec KdlEntry Global → KdlValue → Vec KdlEntry Global
 with_found_value key v w = set_value_there (place_of key v.items) v w
 
--- with the value of the argument at that place among the arguments exchanged
+-- the entries with another value for the argument at that place among the arguments
 abbrev pub with_argument_value : ℕ → Vec KdlEntry Global → KdlValue → Vec KdlEntry Global
 with_argument_value n v w = set_value_there (nth_place is_argument v.items n) v w
 
--- fs are the entries es with a property of that name and value behind them
+-- fs are the entries es with a property of that name and value after them
 pub record IsPushed (s : List ℕ) (w : Value) (es fs : List KdlEntry) : Type 0 where
   pub entry : KdlEntry
   pub tree : entry_tree entry ≡ plain_entry (Some (plain_identifier (chars s))) w

@@ -15,7 +15,7 @@ use std::alloc::AllocError;
 use std::cmp::Ordering;
 use std::mem;
 
-/// Puts the entry behind the others. Fails where memory runs out: then the entry comes back, and the entries are as
+/// Puts the entry after the others. Fails where memory runs out: then the entry comes back, and the entries are as
 /// they were.
 ///
 /// ```
@@ -92,7 +92,7 @@ pub fn clear(entries: &mut Vec<KdlEntry>)
     entries.clear();
 }
 
-/// Keeps, in order, the entries for which `keep` answers true. It is asked once for each entry, in order.
+/// Keeps, in order, the entries for which `keep` returns true. It is asked once for each entry, in order.
 ///
 /// ```
 /// retain(&mut entries, |entry| entry.name().is_none()); // of `1 a=2 3` are left `1 3`
@@ -105,7 +105,7 @@ pub fn retain<F: FnMut(&KdlEntry) -> bool>(entries: &mut Vec<KdlEntry>, keep: F)
 }
 
 /// Sorts the entries by `compare`, a total preorder; entries that compare as equal keep their order. Fails where memory
-/// is wanting: then the entries are in some order.
+/// runs out: then the entries are in some order.
 ///
 /// ```
 /// sort_by(&mut entries, |one, other| one.value().cmp(other.value()))?; // of `3 1 2` is made `1 2 3`
@@ -122,8 +122,8 @@ pub fn sort_by<F: FnMut(&KdlEntry, &KdlEntry) -> Ordering>(
     entries.sort_by(compare)
 }
 
-/// Sorts the entries by the key that `f` gives of each; entries with equal keys keep their order. Fails where memory is
-/// wanting: then the entries are in some order.
+/// Sorts the entries by the key that `f` gives of each; entries with equal keys keep their order. Fails where memory
+/// runs out: then the entries are in some order.
 ///
 /// ```
 /// sort_by_key(&mut entries, |entry| entry.name().is_some())?; // of `b=1 2 c=3 4` is made `2 4 b=1 c=3`

@@ -8,10 +8,10 @@ ghost use Rattle.std.specs.Str.{chars};
 
 use std::alloc::{AllocError, Global};
 
-/// The texts around the parts of a node. Each field says what stands there in a node that was parsed.
+/// The texts around the parts of a node. Each field says what is there in a node that was parsed.
 #[derive(PartialEq, Eq, Hash, Debug, Drop)]
 pub struct KdlNodeFormat {
-    /// What stands before the node: line-spaces, and nodes that a slashdash drops.
+    /// What comes before the node: line-spaces, and nodes that a slashdash drops.
     pub leading: String,
     /// Node-spaces between the `(` of the type and its name. Empty without a type.
     pub before_ty_name: String,
@@ -19,16 +19,16 @@ pub struct KdlNodeFormat {
     pub after_ty_name: String,
     /// Node-spaces between the `)` of the type and the node's name. Empty without a type.
     pub after_ty: String,
-    /// What stands between the name or the last entry and the `{` of the children: entries and then blocks that a
+    /// What is between the name or the last entry and the `{` of the children: entries and then blocks that a
     /// slashdash drops, and node-spaces. Empty without children.
     pub before_children: String,
-    /// What stands before the terminator: behind the `}` of the children, blocks that a slashdash drops and
-    /// node-spaces; without children, behind the name or the last entry, such entries before these.
+    /// What comes before the terminator: after the `}` of the children, blocks that a slashdash drops and
+    /// node-spaces; without children, after the name or the last entry, such entries before these.
     pub before_terminator: String,
     /// What ends the node: `;`, a newline, a line comment, or nothing where the text ends or a `}` follows.
     pub terminator: String,
-    /// What stands behind the terminator: line-spaces, where the node is a whole text. Empty in a document, in which it
-    /// stands before the next node or behind the last one.
+    /// What comes after the terminator: line-spaces, where the node is a whole text. Empty in a document, in which it
+    /// comes before the next node or after the last one.
     pub trailing: String,
 }
 
@@ -36,7 +36,7 @@ impl KdlNodeFormat {
     /// A format whose texts are empty. It takes no memory.
     ///
     /// ```
-    /// let mut format = KdlNodeFormat::new(alloc); // nothing ends the node: the next one would stand on the same line
+    /// let mut format = KdlNodeFormat::new(alloc); // nothing ends the node: the next one would be on the same line
     /// format.terminator = String::from_str(alloc, "\n")?;
     /// ```
     #[tactic(auto, using(crate::proofs::Utf8Parts::writes))]
@@ -87,7 +87,7 @@ impl Clone for KdlNodeFormat {
     }
 }
 
-/// The format of a new node: a newline behind it, and nothing else.
+/// The format of a new node: a newline after it, and nothing else.
 ///
 /// ```
 /// let format = new_format(alloc)?;
@@ -103,14 +103,14 @@ pub fn new_format(alloc: Global) -> Result<KdlNodeFormat, AllocError>
     Ok(format)
 }
 
-/// The texts around the nodes of a document or of a child block. Each field says what stands there in one that was
+/// The texts around the nodes of a document or of a child block. Each field says what is there in one that was
 /// parsed.
 #[derive(PartialEq, Eq, Hash, Debug, Drop)]
 pub struct KdlDocumentFormat {
-    /// Where there are nodes, U+FEFF at the start of the text or nothing, since each node has what stands before it;
+    /// Where there are nodes, U+FEFF at the start of the text or nothing, since each node has what comes before it;
     /// without nodes all that there is.
     pub leading: String,
-    /// What stands behind the last node: line-spaces, and nodes that a slashdash drops. Empty without nodes.
+    /// What comes after the last node: line-spaces, and nodes that a slashdash drops. Empty without nodes.
     pub trailing: String,
 }
 
@@ -119,7 +119,7 @@ impl KdlDocumentFormat {
     ///
     /// ```
     /// let mut format = KdlDocumentFormat::new(alloc);
-    /// format.trailing = String::from_str(alloc, "// the end\n")?; // printed behind the last node
+    /// format.trailing = String::from_str(alloc, "// the end\n")?; // printed after the last node
     /// ```
     #[tactic(auto, using(crate::proofs::Utf8Parts::writes))]
     pub fn new(alloc: Global) -> KdlDocumentFormat
@@ -157,7 +157,7 @@ fn bom_text(alloc: Global) -> Result<String, AllocError>
     Ok(bom)
 }
 
-/// The text behind another.
+/// The text after another.
 fn push_text(text: &mut String, more: &str) -> Result<(), AllocError>
     ensures { IfOk result (λ _. text_of text.new ≡ text_of text.old ++ chars more.now) }
 {

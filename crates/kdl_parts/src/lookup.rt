@@ -147,7 +147,7 @@ pub fn has_property(entries: &[KdlEntry], name: &str) -> bool
 }
 
 /// The place of the last property of that name, after a null one was pushed where there was none. Fails where memory for
-/// it is wanting: then the entries are as they were. What is there is found without memory.
+/// it runs out: then the entries are as they were. What is there is found without memory.
 ///
 /// ```
 /// let at = property_or_null(&mut entries, "b")?; // of `1 a=2` the place 2, where `b=#null` is pushed

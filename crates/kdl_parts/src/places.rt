@@ -1,4 +1,4 @@
-//! Where the entries stand that a key names.
+//! Where the entries are that a key names.
 
 ghost use Rattle.kdl_parts.specs.EntryLists.{has_name, is_argument, last_place, nth_place, place_of, removed_place};
 ghost use Rattle.std.specs.Prelude.{◌≡◌, ◌<◌, IfSome, length, position};
@@ -41,7 +41,7 @@ pub(crate) fn last_property(entries: &[KdlEntry], name: &str) -> Option<usize>
     found
 }
 
-/// The place of the argument that stands at `n` among the arguments, from 0.
+/// The place of the argument that is at `n` among the arguments, from 0.
 pub(crate) fn nth_argument(entries: &[KdlEntry], n: usize) -> Option<usize>
     ensures place { result ≡ nth_place is_argument entries.now n }
     ensures bound { IfSome result (λ i. i < length entries.now) }

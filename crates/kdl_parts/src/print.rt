@@ -21,7 +21,7 @@ fn write_spaces<W: fmt::Write>(depth: usize, f: &mut fmt::Formatter<W>) -> fmt::
     Ok(())
 }
 
-/// Writes what stands before the entries of a node at a depth: the leading text, the type and the name.
+/// Writes what comes before the entries of a node at a depth: the leading text, the type and the name.
 ///
 /// ```
 /// write_head(&None, &name, &None, 1, f)?; // writes four spaces and the name
@@ -67,7 +67,7 @@ pub fn write_pieces<W: fmt::Write>(entries: &[KdlEntry], f: &mut fmt::Formatter<
     Ok(())
 }
 
-/// Writes an entry of a node: one without a format stands after one space.
+/// Writes an entry of a node: one without a format comes after one space.
 #[tactic(auto, using(crate::proofs::Utf8Parts::writes))]
 fn write_piece<W: fmt::Write>(entry: &KdlEntry, f: &mut fmt::Formatter<W>) -> fmt::Result
     ensures { Prints W.write_str_gives f.old result (print_piece (entry_tree entry.now)) f.new }
@@ -88,7 +88,7 @@ fn ends_formatted(entries: &[KdlEntry]) -> bool
     }
 }
 
-/// Writes what stands before the `{` of a child block.
+/// Writes what comes before the `{` of a child block.
 ///
 /// ```
 /// write_before_block(&None, &[], f)?; // writes one space
@@ -113,7 +113,7 @@ pub fn write_before_block<W: fmt::Write>(
     }
 }
 
-/// Writes what stands behind the last entry, or behind the child block.
+/// Writes what comes after the last entry, or after the child block.
 ///
 /// ```
 /// write_end(&format, f)?; // of a node `a 1 ; // kept` that was read writes " ;"; without a format nothing
@@ -135,7 +135,7 @@ pub fn write_end<W: fmt::Write>(
     }
 }
 
-/// Writes what stands before the first node.
+/// Writes what comes before the first node.
 ///
 /// ```
 /// write_leading(&None, f)?; // writes nothing: a document without a format begins with its first node
@@ -153,7 +153,7 @@ pub fn write_leading<W: fmt::Write>(
     }
 }
 
-/// Writes what stands behind the last node.
+/// Writes what comes after the last node.
 ///
 /// ```
 /// write_trailing(&None, f)?; // writes nothing: a document without a format ends with its last node
@@ -171,7 +171,7 @@ pub fn write_trailing<W: fmt::Write>(
     }
 }
 
-/// Writes the `{` of a child block, and the newline behind it.
+/// Writes the `{` of a child block, and the newline after it.
 ///
 /// ```
 /// write_after_brace(&None, f)?; // writes `{` and a newline; with a format `{` alone

@@ -8,9 +8,9 @@ pub mod Vectors
 pub mod Runs
 -- What runs and slices cost.
 pub mod SliceCost
--- Characters that are read where they stand, and else left.
+-- Characters that are read where they are, and else left.
 pub mod Eats
--- Moves and costs, one behind another.
+-- Moves and costs, one after another.
 pub mod MovesJoin
 -- How a reader of a value goes on.
 pub mod ValueGoes

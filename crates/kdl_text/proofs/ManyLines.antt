@@ -4,11 +4,11 @@
 pub mod LinesUnique
 -- The loop over a line from its first escape on.
 pub mod EscapedLineLoop
--- The loop over characters that stand for themselves.
+-- The loop over characters that represent themselves.
 pub mod PlainLoop
--- Lines, one behind another.
+-- Lines, one after another.
 pub mod LinesJoin
--- What lines stand for under a prefix.
+-- What lines represent under a prefix.
 pub mod DedentReads
 -- What lines and their dedent cost.
 pub mod LinesCost

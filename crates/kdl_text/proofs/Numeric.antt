@@ -6,7 +6,7 @@ pub mod NumberUnique
 pub mod DecimalUnique
 -- A text begins with one keyword at most.
 pub mod KeywordUnique
--- What the readers of numbers answer, a step at a time.
+-- What the readers of numbers return, a step at a time.
 pub mod NumberReads
--- What the readers of decimals answer, a step at a time.
+-- What the readers of decimals return, a step at a time.
 pub mod DecimalReads

@@ -4,7 +4,7 @@
 pub mod UnitUnique
 -- The loop over the units of a quoted string.
 pub mod BodyLoop
--- What stands behind a backslash.
+-- What comes after a backslash.
 pub mod EscapeReads
 -- The loop over the digits of an escape.
 pub mod HexLoop

@@ -6,13 +6,13 @@ pub mod NewlineUnique
 pub mod SpaceUnique
 -- Comments and spaces are pieces of their text.
 pub mod SpacePieces
--- What the readers of lines, spaces, comments and esclines answer.
+-- What the readers of lines, spaces, comments and esclines return.
 pub mod SpaceReads
--- What the readers of esclines answer, and why none was read.
+-- What the readers of esclines return, and why none was read.
 pub mod EsclineReads
 -- Block comments inside each other: what the count of open ones says.
 pub mod CommentDepth
 -- The loop over a block comment.
 pub mod CommentLoop
--- What may stand behind a value.
+-- What may come after a value.
 pub mod ValueEnds

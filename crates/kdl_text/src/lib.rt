@@ -3,6 +3,7 @@
 #![tactic(auto)]
 
 pub mod chars;
+pub mod cursor;
 pub mod error;
 pub mod numbers;
 pub mod span;

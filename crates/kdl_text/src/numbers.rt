@@ -12,9 +12,8 @@ ghost use Rattle.std.specs.Prelude.{◌≡◌, ℕ, ◌+◌, ◌*◌, ◌<◌, �
 ghost use Rattle.std.specs.List.{list_all};
 ghost use Rattle.std.specs.Str.{chars};
 
-use crate::chars::{
-    Characters, Class, Cursor, Piece, Segment, Steps, is_digit, is_identifier_char, is_sign,
-};
+use crate::chars::{Class, is_digit, is_identifier_char, is_sign};
+use crate::cursor::{Characters, Cursor, Piece, Segment, Steps};
 use std::alloc::{AllocError, Global};
 
 /// The base in which a whole number is written.

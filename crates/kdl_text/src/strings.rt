@@ -18,7 +18,8 @@ ghost use Rattle.std.specs.List.{list_all};
 ghost use Rattle.std.specs.Str.{chars, bytes_eq};
 
 use self::multiline::many_lines;
-use crate::chars::{Class, Cursor, Piece, is_digit, is_newline_char, is_space};
+use crate::chars::{Class, is_digit, is_newline_char, is_space};
+use crate::cursor::{Cursor, Piece};
 use std::alloc::{AllocError, Global};
 
 mod dedent;

@@ -7,7 +7,8 @@ ghost use Rattle.kdl_text.specs.Trivia.{Parts, BlockComment, Line, LineComment, 
 ghost use Rattle.kdl_text.specs.Internal.TriviaReading.{PieceCosts, RunsWs, ReadsSlash, SlashCosts};
 ghost use Rattle.std.specs.Prelude.{◌≡◌, true, false, []};
 
-use crate::chars::{Class, Cursor, newline};
+use crate::chars::Class;
+use crate::cursor::{Cursor, newline};
 
 /// What begins at a slash.
 #[derive(Clone, Copy)]

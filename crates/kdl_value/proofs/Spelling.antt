@@ -4,7 +4,7 @@
 pub mod PlainRuns
 -- Printing a string: its characters, and the bytes that are written.
 pub mod SpellingBytes
--- The printed spelling stands for the string.
+-- The printed spelling represents the string.
 pub mod StringReadsBack
 -- A printed whole number is read back.
 pub mod NumberReadsBack

@@ -33,7 +33,7 @@ abbrev pub is_null : Value → Bool
 is_null null = true
 is_null _ = false
 
--- the value that an option stands for: null where there is none
+-- the value that an option represents: null where there is none
 abbrev pub or_null : Option Value → Value
 or_null None = null
 or_null (Some v) = v

@@ -15,7 +15,7 @@ use kdl_text::chars::{is_banned, is_digit, is_identifier_char, is_newline_char};
 use std::fmt;
 use std::fmt::{Formatter, Write};
 
-/// The first character, and the text behind it.
+/// The first character, and the text after it.
 #[inline]
 fn next_char(s: &str) -> Option<(char, &str)>
     ensures cases { MatchOption result (chars s.now ≡ []) (λ p. chars s.now ≡ p.0 ∷ chars p.1.now) }
@@ -29,14 +29,14 @@ fn next_char(s: &str) -> Option<(char, &str)>
     Some((c, chars.as_str()))
 }
 
-/// Whether each character may stand in a bare string.
+/// Whether each character may be in a bare string.
 fn all_identifier(s: &str) -> bool
     ensures { result ≡ list_all class.is_identifier_char (chars s.now) }
 {
     s.chars().all(|c| is_identifier_char(c))
 }
 
-/// Whether no digit begins the text behind a point.
+/// Whether no digit begins the text after a point.
 fn after_point(s: &str) -> bool
     ensures { result ≡ bare.after_point (chars s.now) }
 {
@@ -46,7 +46,7 @@ fn after_point(s: &str) -> bool
     }
 }
 
-/// Whether no number begins the text behind a sign.
+/// Whether no number begins the text after a sign.
 fn after_sign(s: &str) -> bool
     ensures { result ≡ bare.after_sign (chars s.now) }
 {
@@ -111,7 +111,7 @@ fn escape_letter(c: char) -> char
     }
 }
 
-/// Writes a character as it stands between quotes.
+/// Writes a character as it is between quotes.
 #[tactic(auto, unfolding(crate::specs::Spelled::char_text))]
 fn write_char_text<W: Write>(c: char, f: &mut Formatter<W>) -> fmt::Result
     ensures { WritesOnOk W.write_str_gives f.old result (encode_utf8_all (spec.char_text c)) f.new }
@@ -136,7 +136,7 @@ fn is_plain(c: char) -> bool
     escape_letter(c) == '\0' && !is_newline_char(c) && !is_banned(c)
 }
 
-/// The text behind the longest run of characters that are printed as they are between quotes.
+/// The text after the longest run of characters that are printed as they are between quotes.
 #[tactic(auto, using(crate::proofs::Spelling::PlainRuns::run_begins, crate::proofs::Spelling::PlainRuns::run_turn))]
 fn skip_plain(s: &str) -> &str
     ensures run { PlainRun s.now result.now }
@@ -152,7 +152,7 @@ fn skip_plain(s: &str) -> &str
     rest
 }
 
-/// The characters of such a run that stand before the rest.
+/// The characters of such a run that come before the rest.
 fn before<'a>(s: &'a str, rest: &str) -> &'a str
     requires { PlainRun s.now rest.now }
     ensures parts { chars s.now ≡ chars result.now ++ chars rest.now }
@@ -161,7 +161,7 @@ fn before<'a>(s: &'a str, rest: &str) -> &'a str
     &s[..s.len() - rest.len()]
 }
 
-/// Writes a text as it stands between quotes.
+/// Writes a text as it is between quotes.
 fn write_escaped<W: Write>(s: &str, f: &mut Formatter<W>) -> fmt::Result
     ensures { WritesOnOk W.write_str_gives f.old result
         (encode_utf8_all (spec.escaped_text (chars s.now))) f.new }

@@ -15,7 +15,7 @@ use std::fmt;
 
 /// The value of an argument or a property (KDL 2.0.0, Value).
 ///
-/// Values are ordered by their variants, as they stand here, and then by what they hold: texts by their bytes.
+/// Values are ordered by their variants, in the order of declaration, and then by what they hold: texts by their bytes.
 #[derive(PartialEq, Eq, PartialOrd, Ord, Hash, Debug, Drop)]
 pub enum KdlValue {
     /// A string.

@@ -1,4 +1,4 @@
--- An entry that is laid in a node can stand before every text with a value end.
+-- An entry that is laid in a node can come before every text with a value end.
 use Rattle.std.proofs.Common.{◌≡◌, Bool, true, false, ◌++◌, Option, Some, None, option_map, refl, sym, ap, subst, ◌∙◌}
 use Rattle.kdl_text.specs.Chars.{Text}
 use Rattle.kdl_text.specs.Trivia.{ValueEnd}
@@ -75,6 +75,6 @@ not_flagged (laid_entry l (item k y v) a) = refl
 pub own_stands : {exact : Bool} {whole : Text} {e : Entry} {s r : Text} (x : Entry) → without_spans_and_flag e ≡ without_spans_and_flag x → LaidEntry exact whole e s r → CanStand (formed x)
 own_stands x h d = subst CanStand (sym (own_is d x h)) (same_stands (unflagged x) (sym (ap without_spans (not_flagged d)) ∙ h) d)
 
--- where an entry stands, a value ends before it
+-- where an entry is, a value ends before it
 pub entry_end : {exact : Bool} {whole : Text} {e : Entry} {s r : Text} → LaidEntry exact whole e s r → ValueEnd true s
 entry_end (laid_entry l i x) = leading_end l.is

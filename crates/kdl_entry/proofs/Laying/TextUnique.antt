@@ -78,11 +78,11 @@ value_same (value (typed (parens ss n us) vs) e) (value untyped d) = absurd (no_
     no_left (a_string (string p e)) = let x = (token_det (t_string p) t_left).1 in cc
     no_left (a_plain p e) = let x = (token_det (t_value p) t_left).1 in cc
 
--- no `=` follows, behind node-spaces or without
+-- no `=` follows, after node-spaces or without
 abbrev pub NoEquals : Text → Type 0
 NoEquals s = (u : Text) → Star NodeSpace s (61 ∷ u) → ⊥
 
--- with no `=` behind them, two entries at the front of a text are one
+-- with no `=` after them, two entries at the front of a text are one
 pub entry_same : {a b : Bool} {s r t : Text} {x y : Entry} → IsEntry a s r x → NoEquals r → IsEntry b s t y → NoEquals t → (r ≡ t) × (x ≡ y)
 entry_same (argument v) n (argument w) m = let d = value_same v w in let e = d.1 in let f = d.2 in (d.0, cc)
 entry_same {b = b} (property {t = t} {u = u} {w = p} k ss us v) n (property {t = t'} {u = u'} {w = p'} {r = r'} {y = y} {v = w} k' ss' us' v') m =
@@ -143,7 +143,7 @@ no_dash d (slashdash ls) = entry_no (entry_front d) t_slashdash refl
 dash_lines : {s t : Text} → Slashdash s t → (u : Text) → LineSpace s u → ⊥
 dash_lines (slashdash ls) u x = no_line_space t_slashdash (λ h. cc) (λ h. cc) x
 
--- line-spaces up to the end, or node-spaces up to an entry or a slashdash, stand before no `=`
+-- line-spaces up to the end, or node-spaces up to an entry or a slashdash, come before no `=`
 to_lines : {s r : Text} → Star NodeSpace s r → Star LineSpace s r
 to_lines ss = star_map (λ u v. LineSpace.space) ss
 
@@ -160,7 +160,7 @@ no_equals_end ls u ss = let e = longest_det line_space_dets ls end_lines (to_lin
 no_equals_then : {r t : Text} → Plus NodeSpace r t → ((u : Text) → LineSpace t u → ⊥) → ((u : Text) → t ≡ 61 ∷ u → ⊥) → NoEquals r
 no_equals_then (plus n ss) x y u us = y u (longest_det line_space_dets (to_lines (more n ss)) x (to_lines us) equals_lines)
 
--- what stands behind a dropped entry and its spaces: more of them, or the entry
+-- what comes after a dropped entry and its spaces: more of them, or the entry
 data Items (a : Bool) : Text → Text → Type 0 where
   items : {s t r : Text} {x : Entry} → Star (DroppedFirst a) s t → IsEntry a t r x → Items a s r
 

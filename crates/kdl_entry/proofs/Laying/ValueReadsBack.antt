@@ -73,7 +73,7 @@ printed_string s u ok e =
     let p = m.there u (value_end_no_identifier e) (value_end_no_quote e) in
     string (subst (λ (t : Text). StringPiece t u s) (same_piece (spelled s) m.at (sym (append-nil (spelled s))) u) p) e
 
--- a number or a keyword that is the whole text stands before such a text too
+-- a number or a keyword that is the whole text comes before such a text too
 moved : (t u : Text) (v : Value) → PlainPiece t [] v → ValueEnd true u → PlainPiece (t ++ u) u v
 moved t u v p e =
     let m = move_plain_piece p in

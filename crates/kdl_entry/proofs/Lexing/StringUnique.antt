@@ -108,7 +108,7 @@ string_number (bare x) n = number_not_bare (number_begins n) x
 string_number {s = s} (raw x) n = sign_identifier s (is_raw_begins x) (number_front s (number_begins n))
 string_number {s = s} (quoted x) n = quote_identifier s (is_quoted_begins x) (number_front s (number_begins n))
 
--- behind the first number sign of a raw string stands another one, or a quote
+-- after the first number sign of a raw string is another one, or a quote
 raw_second : (n : ℕ) (b : Text) → 0 < n → (c : ℕ) (t : Text) → times n 35 ++ 34 ∷ b ≡ 35 ∷ c ∷ t → is_identifier_char c ≡ false
 raw_second zero b h c t e = absurd (omega arith)
 raw_second (suc zero) b h c t e = let d : 34 ≡ c = cc in ap is_identifier_char (sym d) ∙ quote_no_identifier

@@ -1,65 +1,27 @@
 -- What the readers of tokens cost.
-use Rattle.std.proofs.Common.{◌≡◌, ℕ, zero, suc, ◌+◌, ◌-◌, ◌*◌, ◌≤◌, ◌<◌, Bool, true, false, [], ◌∷◌, ◌++◌, length, refl, sym, subst, ap, ◌∙◌, ◌==◌, ◌||◌, arith, length-append, ℤ, of_z, to_z, lit<, inl, inr}
+use Rattle.std.proofs.Common.{◌≡◌, ℕ, ◌+◌, ◌-◌, ◌*◌, ◌≤◌, ◌<◌, Bool, true, false, [], ◌∷◌, length, sym, subst, ap, ◌∙◌, arith, length-append}
 use Rattle.std.proofs.Math.Nat.{add-mul, mul-le-mul_left}
-use Rattle.std.proofs.lemmas.Bool.{and_parts, eqb-true}
-use Rattle.std.proofs.lemmas.Bool.Decides.{nat_tests}
-use Rattle.std.proofs.lemmas.Str.{len_utf8_bounds, chars-IsAscii}
-use borrow.Author.Tests.{ltb-true}
-use Rattle.std.specs.Int.{w128}
-use Rattle.std.specs.Prelude.{Some, None, Option, Result, Ok, Err, IfOk, IsErrAnd, string_bytes, String, codes, nat_lt}
-use Rattle.std.specs.List.{list_all}
-use Rattle.std.specs.Str.{chars, IsAscii}
-use Rattle.std.specs.declared.alloc.Global.{Global}
-use Rattle.kdl_text.specs.Chars.{Text, Newline, Star, Plus, is_space, is_newline_char, is_identifier_char, is_banned, is_punctuation, begins_two, starts, times, is_digit, is_sign}
-use Rattle.kdl_text.specs.Chars.Star.{none, more}
-use Rattle.kdl_text.specs.Chars.Plus.{plus}
-use Rattle.kdl_text.specs.Chars.Space.{space as space_char}
+use Rattle.std.specs.Prelude.{Some, Option, Result, Ok, Err, IsErrAnd}
+use Rattle.kdl_text.specs.Chars.{Text}
 use Rattle.kdl_text.specs.Bare.{BareString}
-use Rattle.kdl_text.specs.Internal.Here.{Here, Spot, Skips, Stayed, looked, first, tail, Took}
+use Rattle.kdl_text.specs.Internal.Here.{Here, Stayed, looked, first, tail}
 use Rattle.kdl_text.specs.Spans.{bytes}
 use Rattle.kdl_text.specs.MultiLine.{IsQuoted}
-use Rattle.kdl_text.specs.Internal.NumberReading.{ReadsNumber, ReadsKeyword, number_value}
-use Rattle.kdl_text.specs.Numbers.{IsNumber, is_whole, is_decimal, NumberValue, whole_value, decimal_text, IsKeyword, begins_number, Decimal, FloatText}
 use Rattle.kdl_text.specs.Raw.{IsRaw}
-use Rattle.kdl_text.specs.Internal.Reading.{Moves, Costs, Reads, ReadsNewline}
-use Rattle.kdl_text.specs.Trivia.{NodeSpace, BlockComment, LineComment, Escline}
-use Rattle.kdl_text.specs.Trivia.LineComment.{line}
-use Rattle.kdl_text.specs.Trivia.Ws.{space as ws_space, comment as ws_comment}
-use Rattle.kdl_text.specs.Trivia.NodeSpace.{ws, escline as node_escline}
-use Rattle.kdl_text.specs.Trivia.Break.{newline as break_newline, comment as break_comment}
-use Rattle.kdl_text.specs.Internal.TriviaReading.{PieceCosts, Opens}
-use Rattle.kdl_text.specs.declared.numbers.Keyword.{Keyword}
-use Rattle.kdl_text.specs.declared.numbers.Number.{Number}
-use Rattle.kdl_text.specs.declared.numbers.Number.TheVariants.{Integer as IntegerNumber, Decimal as DecimalNumber}
-use Rattle.kdl_text.specs.declared.span.SourceSpan.{SourceSpan}
-use Rattle.kdl_text.specs.declared.strings.StringFailure.{StringFailure}
-use Rattle.kdl_text.specs.declared.strings.StringFailure.TheVariants.{Fault as StringFaulty, Memory as StringMemory}
-use Rattle.kdl_text.proofs.Looking.MovesJoin.{moves_one, bytes-append, fewer_bytes}
-use Rattle.kdl_text.proofs.Numeric.KeywordUnique.{keyword_begins}
-use Rattle.kdl_text.proofs.Quoted.BareReads.{bare_begins, bare_shorter}
-use Rattle.kdl_text.proofs.Quoted.StringUnique.{is_quoted_begins, is_quoted_shorter, is_raw_begins, is_raw_shorter}
-use Rattle.kdl_text.proofs.Spacing.NewlineUnique.{newline_there}
+use Rattle.kdl_text.specs.Internal.Reading.{Moves, Costs}
+use Rattle.kdl_text.specs.Internal.TriviaReading.{PieceCosts}
+use Rattle.kdl_text.proofs.Looking.MovesJoin.{bytes-append, fewer_bytes}
+use Rattle.kdl_text.proofs.Quoted.BareReads.{bare_shorter}
+use Rattle.kdl_text.proofs.Quoted.StringUnique.{is_quoted_shorter, is_raw_shorter}
 use Rattle.kdl_text.proofs.Looking.Runs.{length-bytes}
-use Rattle.kdl_text.proofs.Looking.SliceCost.{moves_ran}
-use Rattle.kdl_text.proofs.Spacing.SpacePieces.{break_shorter}
-use Rattle.kdl_text.proofs.Numeric.NumberUnique.{number_not_bare}
-use Rattle.kdl_text.proofs.Numeric.DecimalUnique.{number_begins}
-use Rattle.kdl_value.specs.Data.{Value, integer, float}
-use Rattle.kdl_value.specs.Tree.{value_tree}
-use Rattle.kdl_value.specs.declared.value.KdlValue.{KdlValue}
-use Rattle.kdl_entry.specs.Entries.{StringPiece, bare, quoted, raw, PlainPiece, number, keyword, keyword_value}
-use Rattle.kdl_entry.specs.Entries as entries
-use Rattle.kdl_entry.specs.Internal.Handed.{Cuts, one, spaces, NoToken, ReadsKind, KindCosts, LexCosts, Passes, IsFaultAt, IsPunctuation, is_single, kind_view}
-use Rattle.kdl_entry.specs.Internal.Tokens.{space, newline, slashdash, string, value, t_space, t_newline, t_slashdash, t_string, t_value}
+use Rattle.kdl_value.specs.Data.{Value}
+use Rattle.kdl_entry.specs.Entries.{PlainPiece}
+use Rattle.kdl_entry.specs.Internal.Handed.{KindCosts, LexCosts}
 use Rattle.kdl_entry.specs.declared.items.lexer.LexFailure.{LexFailure}
 use Rattle.kdl_entry.specs.declared.items.lexer.LexFailure.TheVariants.{Faulty, Memory}
 use Rattle.kdl_entry.specs.declared.items.lexer.Token.{Token}
 use Rattle.kdl_entry.specs.declared.items.lexer.TokenKind.{TokenKind}
-use Rattle.kdl_entry.proofs.Lexing.TokenUnique.{no_piece, no_slash, no_backslash, no_alien, Alien}
-use Rattle.kdl_entry.proofs.Lexing.FirstCharacters.{no_quote, number_identifier}
-use Rattle.kdl_entry.proofs.Fitting.{number_fits}
-use Rattle.kdl_value.proofs.Floating.DecimalTexts.{decimal_float as read_float}
-use Rattle.kdl_entry.proofs.Lexing.StringUnique.{begins_piece, keyword_front, plain_shorter}
+use Rattle.kdl_entry.proofs.Lexing.StringUnique.{plain_shorter}
 
 pub first_is : (s : Text) (c : ℕ) → first s ≡ Some c → s ≡ c ∷ tail s
 first_is [] c h = cc
@@ -111,7 +73,7 @@ one_look (Ok x) a b e s v p = let q = ap bytes s.rest in record { fewer = omega 
 one_look (Err (Faulty f)) a b e s v p = let q = ap bytes s.rest in record { most = omega (arith, s.steps, q, p.most, fewer_bytes v); least = omega (arith, s.steps, ap length s.rest, p.least) }
 one_look (Err Memory) a b e s v p = tt
 
--- behind a look
+-- after a look
 pub no_token_costs : (r : Result (Option Token) LexFailure) (f : LexFailure) (a b e : Here) → IsErrAnd r (λ g. g ≡ f) → b ≡ looked a → Moves b e → KindCosts {A = TokenKind} 22 (Err f) b e → LexCosts r a e
 no_token_costs (Ok o) f a b e h x v p = absurd h
 no_token_costs (Err g) f a b e h x v p = subst (λ (z : LexFailure). LexCosts (Err z) a e) (sym h) (costs f p)

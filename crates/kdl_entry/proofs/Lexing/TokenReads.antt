@@ -1,12 +1,11 @@
--- From what the readers answer to the tokens of the whole language.
-use Rattle.std.proofs.Common.{◌≡◌, ℕ, zero, suc, ◌+◌, ◌-◌, ◌*◌, ◌≤◌, ◌<◌, Bool, true, false, [], ◌∷◌, ◌++◌, length, refl, sym, subst, ap, ◌∙◌, ◌==◌, ◌||◌, arith, length-append, ℤ, of_z, to_z, lit<, inl, inr}
-use Rattle.std.proofs.Math.Nat.{add-mul, mul-le-mul_left}
+-- From what the readers return to the tokens of the whole language.
+use Rattle.std.proofs.Common.{◌≡◌, ℕ, zero, suc, ◌≤◌, ◌<◌, Bool, true, false, [], ◌∷◌, ◌++◌, length, refl, sym, subst, ap, ◌∙◌, ◌==◌, ◌||◌, arith, length-append, ℤ, of_z, to_z, lit<, inl, inr}
 use Rattle.std.proofs.lemmas.Bool.{and_parts, eqb-true}
 use Rattle.std.proofs.lemmas.Bool.Decides.{nat_tests}
 use Rattle.std.proofs.lemmas.Str.{len_utf8_bounds, chars-IsAscii}
 use borrow.Author.Tests.{ltb-true}
 use Rattle.std.specs.Int.{w128}
-use Rattle.std.specs.Prelude.{Some, None, Option, Result, Ok, Err, IfOk, IsErrAnd, string_bytes, String, codes, nat_lt}
+use Rattle.std.specs.Prelude.{Some, None, Option, Result, Ok, Err, IfOk, string_bytes, String, codes, nat_lt}
 use Rattle.std.specs.List.{list_all}
 use Rattle.std.specs.Str.{chars, IsAscii}
 use Rattle.std.specs.declared.alloc.Global.{Global}
@@ -15,7 +14,7 @@ use Rattle.kdl_text.specs.Chars.Star.{none, more}
 use Rattle.kdl_text.specs.Chars.Plus.{plus}
 use Rattle.kdl_text.specs.Chars.Space.{space as space_char}
 use Rattle.kdl_text.specs.Bare.{BareString}
-use Rattle.kdl_text.specs.Internal.Here.{Here, Spot, Skips, Stayed, looked, first, tail, Took}
+use Rattle.kdl_text.specs.Internal.Here.{Here, Spot, Skips, first, tail, Took}
 use Rattle.kdl_text.specs.Spans.{bytes}
 use Rattle.kdl_text.specs.MultiLine.{IsQuoted}
 use Rattle.kdl_text.specs.Internal.NumberReading.{ReadsNumber, ReadsKeyword, number_value}
@@ -36,8 +35,8 @@ use Rattle.kdl_text.specs.declared.strings.StringFailure.{StringFailure}
 use Rattle.kdl_text.specs.declared.strings.StringFailure.TheVariants.{Fault as StringFaulty, Memory as StringMemory}
 use Rattle.kdl_text.proofs.Looking.MovesJoin.{moves_one, bytes-append, fewer_bytes}
 use Rattle.kdl_text.proofs.Numeric.KeywordUnique.{keyword_begins}
-use Rattle.kdl_text.proofs.Quoted.BareReads.{bare_begins, bare_shorter}
-use Rattle.kdl_text.proofs.Quoted.StringUnique.{is_quoted_begins, is_quoted_shorter, is_raw_begins, is_raw_shorter}
+use Rattle.kdl_text.proofs.Quoted.BareReads.{bare_begins}
+use Rattle.kdl_text.proofs.Quoted.StringUnique.{is_quoted_begins, is_raw_begins}
 use Rattle.kdl_text.proofs.Spacing.NewlineUnique.{newline_there}
 use Rattle.kdl_text.proofs.Looking.Runs.{length-bytes}
 use Rattle.kdl_text.proofs.Looking.SliceCost.{moves_ran}
@@ -49,17 +48,16 @@ use Rattle.kdl_value.specs.Tree.{value_tree}
 use Rattle.kdl_value.specs.declared.value.KdlValue.{KdlValue}
 use Rattle.kdl_entry.specs.Entries.{StringPiece, bare, quoted, raw, PlainPiece, number, keyword, keyword_value}
 use Rattle.kdl_entry.specs.Entries as entries
-use Rattle.kdl_entry.specs.Internal.Handed.{Cuts, one, spaces, NoToken, ReadsKind, KindCosts, LexCosts, Passes, IsFaultAt, IsPunctuation, is_single, kind_view}
+use Rattle.kdl_entry.specs.Internal.Handed.{Cuts, one, spaces, NoToken, ReadsKind, KindCosts, Passes, IsFaultAt, IsPunctuation, is_single, kind_view}
 use Rattle.kdl_entry.specs.Internal.Tokens.{space, newline, slashdash, string, value, t_space, t_newline, t_slashdash, t_string, t_value}
 use Rattle.kdl_entry.specs.declared.items.lexer.LexFailure.{LexFailure}
 use Rattle.kdl_entry.specs.declared.items.lexer.LexFailure.TheVariants.{Faulty, Memory}
-use Rattle.kdl_entry.specs.declared.items.lexer.Token.{Token}
 use Rattle.kdl_entry.specs.declared.items.lexer.TokenKind.{TokenKind}
 use Rattle.kdl_entry.proofs.Lexing.TokenUnique.{no_piece, no_slash, no_backslash, no_alien, Alien}
 use Rattle.kdl_entry.proofs.Lexing.FirstCharacters.{no_quote, number_identifier}
 use Rattle.kdl_entry.proofs.Fitting.{number_fits}
 use Rattle.kdl_value.proofs.Floating.DecimalTexts.{decimal_float as read_float}
-use Rattle.kdl_entry.proofs.Lexing.StringUnique.{begins_piece, keyword_front, plain_shorter}
+use Rattle.kdl_entry.proofs.Lexing.StringUnique.{begins_piece, keyword_front}
 use Rattle.kdl_entry.proofs.Lexing.TokenCost.{first_is, clash, fewer, plain_costs, more_costs}
 
 -- no token, where no string, number or keyword begins with a character of theirs
@@ -138,7 +136,7 @@ no_quoted_here s r place (StringFaulty f) Memory h n x = tt
 no_quoted_here s r place StringMemory (Faulty e) h n x = absurd x
 no_quoted_here s r place StringMemory Memory h n x = tt
 
--- raw strings and keywords, by the character behind the number sign
+-- raw strings and keywords, by the character after the number sign
 abbrev pub looks_raw : Text → Bool
 looks_raw s = starts (λ c. c == 34 || c == 35) (tail s)
 

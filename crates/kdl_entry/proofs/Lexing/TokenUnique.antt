@@ -1,4 +1,4 @@
--- A text begins with one token at most; before a token that may stand behind a value, a value ends.
+-- A text begins with one token at most; before a token that may come after a value, a value ends.
 use Rattle.std.proofs.Common.{◌≡◌, ℕ, ◌<◌, List, Bool, true, false, [], ◌∷◌, length, cond, refl, sym, subst, ap, ◌∙◌, ◌==◌, ◌||◌, arith}
 use Rattle.std.proofs.lemmas.Bool.Decides.{nat_tests}
 use Rattle.kdl_text.specs.Chars.{Text, crlf, is_space, is_newline_char, is_banned, is_punctuation, is_identifier_char, begins, starts}
@@ -166,7 +166,7 @@ lexes_det done (next t l) = absurd (no_token t)
 lexes_det (next t l) done = absurd (no_token t)
 lexes_det {js = js} (next {k = k} t l) (next {ks = js'} u m) = let d = token_det t u in let e = lexes_det l (subst (λ r. Lexes r js') (sym d.0) m) in cc
 
--- the token may stand behind a value
+-- the token may come after a value
 abbrev pub is_end : Token → Bool
 is_end (string v) = false
 is_end (value v) = false
@@ -182,7 +182,7 @@ closes : (c : ℕ) → ((c == 41 || c == 123) || (c == 125 || (c == 61 || c == 5
 unfolding ends_value
 closes c h = grind (arith, nat_tests)
 
--- before a token that may stand behind a value, the value ends
+-- before a token that may come after a value, the value ends
 pub end_behind : {s r : Text} {k : Token} → BeginsToken s k r → is_end k ≡ true → ValueEnd true s
 end_behind (t_space n) e = space_ends n
 end_behind (t_newline n) e = break_ends n
@@ -197,7 +197,7 @@ end_behind t_closing e = ValueEnd.punctuation (closes 125 refl)
 end_behind t_equals e = ValueEnd.punctuation (closes 61 refl)
 end_behind t_semicolon e = ValueEnd.punctuation (closes 59 refl)
 
--- where the next token may stand behind a value, the value ends
+-- where the next token may come after a value, the value ends
 pub value_end : {s : Text} {ks : List Token} → Lexes s ks → may_end ks ≡ true → ValueEnd true s
 value_end done e = ValueEnd.nothing
 value_end (next t l) e = end_behind t e

@@ -1,4 +1,4 @@
--- Spaces, comments and entries stand before another rest too.
+-- Spaces, comments and entries come before another rest too.
 use Rattle.std.proofs.Common.{◌≡◌, ℕ, true, false, ◌&&◌, ◌||◌, ◌==◌, arith, ◌∷◌, Option, refl, sym, ap, subst, ◌∙◌}
 use Rattle.std.proofs.lemmas.Bool.Decides.{nat_tests}
 use Rattle.kdl_text.specs.Chars.{Text, begins_two, Star, none, more, Plus, plus, space as a_space}

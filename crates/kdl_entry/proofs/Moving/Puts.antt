@@ -77,7 +77,7 @@ alike_piece (c ∷ p) u r a q sub = refl
 pub alike_put : {s r : Text} (p : Put s r) (u : Text) → Alike u r → Alike (p.put u) s
 alike_put {s = s} {r = r} p u a = record { same = λ q sub. ap (starts q) (p.text u) ∙ alike_piece p.piece u r a q sub ∙ ap (starts q) (sym (p.text r)) ∙ ap (starts q) (sym p.here) }
 
--- it stands before each rest that begins with the same character, or is none
+-- it comes before each rest that begins with the same character, or is none
 pub record Move (R : Text → Text → Type 0) (s r : Text) : Type 0 where
   pub at : Put s r
   pub there : (u : Text) → first u ≡ first r → R (at.put u) u

@@ -1,4 +1,4 @@
--- Strings in each spelling stand before each rest that begins with no identifier character and no quote.
+-- Strings in each spelling come before each rest that begins with no identifier character and no quote.
 use Rattle.std.proofs.Common.{◌≡◌, ℕ, ◌≤◌, Bool, true, false, ◌&&◌, ◌==◌, List, [], ◌∷◌, ◌++◌, length, refl, sym, ap, ◌∙◌, append_assoc, length-append, arith}
 use Rattle.std.proofs.lemmas.Bool.Decides.{nat_tests}
 use Rattle.kdl_text.specs.Chars.{Text, begins, begins_two, begins_with, times, starts, is_identifier_char, is_space, is_newline_char, Newline, crlf, one}
@@ -13,13 +13,13 @@ use Rattle.kdl_text.specs.declared.strings.dedent.LineUnit.{LineUnit}
 use Rattle.kdl_entry.specs.Entries.{StringPiece, bare, quoted, raw}
 use Rattle.kdl_entry.proofs.Moving.Puts.{Put, stands, also, joined, before, first_piece, same, starts_first, begins_first, Move}
 
--- it stands before each rest that begins with no identifier character and no quote
+-- it comes before each rest that begins with no identifier character and no quote
 pub record MoveString (R : Text → Text → Type 0) (s r : Text) : Type 0 where
   pub at : Put s r
   pub full : (u : Text) → first (at.put u) ≡ first s
   pub there : (u : Text) → starts is_identifier_char u ≡ false → begins 34 u ≡ false → R (at.put u) u
 
--- it stands before each rest
+-- it comes before each rest
 record MoveClosed (R : Text → Text → Type 0) (s r : Text) : Type 0 where
   at : Put s r
   full : (u : Text) → first (at.put u) ≡ first s
@@ -90,7 +90,7 @@ two_quotes [] u r n h = one_quote u n
 two_quotes (c ∷ []) u r n h = h
 two_quotes (c ∷ d ∷ p) u r n h = h
 
--- the text behind the first quote begins with no two quotes, whatever stands behind the last
+-- the text after the first quote begins with no two quotes, whatever comes after the last
 not_three : {t r v : Text} (q : QuotedString t r v) → begins_with (34 ∷ 34 ∷ 34 ∷ []) t ≡ false
     → (u : Text) → begins 34 u ≡ false → begins_with (34 ∷ 34 ∷ 34 ∷ []) ((move_quoted q).at.put u) ≡ false
 unfolding move_quoted
@@ -165,7 +165,7 @@ begins_far [] q u r h = refl
 begins_far (c ∷ p) [] u r h = absurd (omega (arith, h))
 begins_far (c ∷ p) (d ∷ q) u r h = ap (λ b. (d == c) && b) (begins_far p q u r (omega (arith, h)))
 
--- the closing stands before each rest, and no other closing before it
+-- the closing comes before each rest, and no other closing before it
 record MoveRaw (close : Text) (us : List LineUnit) (s m : Text) : Type 0 where
   at : Put s m
   there : (u : Text) → first u ≡ first m → ((q : Text) → begins_with close (q ++ u) ≡ begins_with close (q ++ m)) → RawUnits close (at.put u) u us

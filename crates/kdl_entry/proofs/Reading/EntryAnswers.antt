@@ -1,4 +1,4 @@
--- What the answer of the machine of entries says of the grammar.
+-- What the result of the machine of entries says of the grammar.
 use Rattle.std.proofs.Common.{◌≡◌, true}
 use Rattle.kdl_text.specs.Chars.{Text}
 use Rattle.kdl_entry.specs.Data as data'

@@ -48,7 +48,7 @@ module _ (whole : Text) where
   at_spaced : (b : Bool) → Starts (dropped b true)
   at_spaced b = record { to_string = λ v s r. refl; to_value = λ v s r. refl; to_left = λ s r. refl; to_slashdash = λ s r. refl }
 
-  -- behind the entry e
+  -- after the entry e
   data After (e : Entry) (r : Text) : State → Type 0 where
     is_word : {w : Word} → argument_of w ≡ e → After e r (word w r)
     is_done : After e r (done e r)
@@ -79,7 +79,7 @@ module _ (whole : Text) where
   spelled_at : {s r v : Text} → IsString true s r v → LaidIdentifier true whole (identifier_at whole v s r) s r
   spelled_at d = spelled (place d (end_string d)) refl
 
-  -- a value with its type, where the entry begins with it and behind its key
+  -- a value with its type, where the entry begins with it and after its key
   record ReadValue (s t r : Text) (y : Option Text) (v : Value) : Type 0 where
     type : Option TypeParts
     laid : LaidType true whole (type_of type) (before_name type) (after_name type) (behind_type type) s t

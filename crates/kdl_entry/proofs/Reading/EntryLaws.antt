@@ -12,7 +12,7 @@ use Rattle.kdl_entry.proofs.Lexing.TokenUnique.{token_det, no_token}
 use Rattle.kdl_entry.proofs.Reading.EntryComplete.{built}
 use Rattle.kdl_entry.proofs.Reading.EntrySound.{derived}
 
--- a run at a text that begins with a token goes on behind it
+-- a run at a text that begins with a token goes on after it
 pub goes_on : {whole : Text} {e : Entry} {st : State} {s r : Text} {k : Token} → BeginsToken s k r → Runs whole e st s → (st' : State) × (step whole st k s r ≡ Some st') × Runs whole e st' r
 goes_on t (stops x) = absurd (no_token t)
 goes_on {whole = whole} {e = e} {st = st} {s = s} {r = r} {k = k} t (reads {st' = st'} {r = r'} {k = j} u x a) =

@@ -32,7 +32,7 @@ module _ (whole : Text) where
   item_space it closed s r = refl
   item_space it keyed s r = refl
 
-  -- where a space stands is all one
+  -- the place of a space does not matter
   anywhere : (st : State) (s r t q : Text) → step whole st space s r ≡ step whole st space t q
   anywhere ahead s r t q = refl
   anywhere entry_slashdash s r t q = refl
@@ -96,7 +96,7 @@ ends_here t = ([], refl)
 then_ends : {t s r : Text} → EndsIn t s → EndsIn s r → EndsIn t r
 then_ends {r = r} a b = (a.0 ++ b.0, a.1 ∙ ap (λ (z : Text). a.0 ++ z) b.1 ∙ sym (append_assoc a.0 b.0 r))
 
--- a step leaves the place under way where it began, or begins it behind the token
+-- a step leaves the place under way where it began, or begins it after the token
 module _ (whole s r : Text) (b : EndsIn s r) where
   to : (x y : State) → Some x ≡ Some y → Stands x r → Stands y r
   to x y e a = let q : x ≡ y = cc in subst (λ (z : State). Stands z r) q a
@@ -157,7 +157,7 @@ module _ (whole s r : Text) (b : EndsIn s r) where
   step_stands (done x f) st newline e a = to (done x f) st e (then_ends a b)
   step_stands _ st _ e a = absurd cc
 
--- the lexer stands in the text, and the machine goes on from here as from the start
+-- the lexer is in the text, and the machine goes on from here as from the start
 pub record Going (st : State) (here : Here) (t : Text) : Type 0 where
   pub same : Same st here.rest t
   pub from : Stands st here.rest
@@ -249,7 +249,7 @@ all_read old new e m = nothing_left m.piece.0 new.rest (sym e ∙ m.piece.1)
 pub from_end : (st : State) (old new : Here) (t : Text) → Going st old t → old.rest ≡ [] → Moves old new → Stands st new.rest
 from_end st old new t g e m = rw (all_read old new e m) (rw e at g.from)
 
--- where the text ends, the machine's entry is the answer, or there is none
+-- where the text ends, the machine's entry is the result, or there is none
 pub at_the_end : (st : State) (here : Here) (t : Text) (e : KdlEntry) → Going st here t → here.rest ≡ [] → Ended (finish t st) (Some e) → AnswersEntryText t (Ok e)
 at_the_end st here t e g x f = (g.same (entry_tree e)).0 (subst (λ (z : Text). Runs t (entry_tree e) st z) (sym x) ((at_stop t (entry_tree e) st).1 f))
 

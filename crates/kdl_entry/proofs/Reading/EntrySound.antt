@@ -136,7 +136,7 @@ module _ (whole : Text) (out : Entry) where
   back_run : {r : Text} (x y : State) → Some x ≡ Some y → Runs whole out y r → Runs whole out x r
   back_run {r = r} x y e a = let q : y ≡ x = cc in subst (λ (z : State). Runs whole out z r) q a
 
-  -- the tokens that may stand behind a string or a value
+  -- the tokens that may come after a string or a value
   word_ends : (w : Word) (from : Text) (k : Token) (s r : Text) (st : State) → step whole (word w from) k s r ≡ Some st → is_end k ≡ true
   word_ends w from (string v) s r st e = absurd cc
   word_ends w from (value v) s r st e = absurd cc

@@ -29,7 +29,7 @@ use Rattle.kdl_entry.proofs.Reading.EntryLoop.{bytes_before, char_in}
 use Rattle.kdl_entry.proofs.Lexing.Placing.{place}
 use Rattle.kdl_entry.proofs.Lexing.StringUnique.{string_end}
 
--- where a token was handed out, the text is an identifier only if the token is its string, and the text ends behind it
+-- where a token was handed out, the text is an identifier only if the token is its string, and the text ends after it
 is_string : {t r v : Text} {k : tokens.Token} → Cuts t k r → IsIdentifierText true t v → (r ≡ []) × (k ≡ tokens.string v)
 is_string (one u) (string p e) = token_det u (t_string p)
 is_string (spaces (plus n m)) (string p e) = let x = (token_det (t_space n) (t_string p)).1 in absurd cc
@@ -40,7 +40,7 @@ laid_whole {t = t} {r = r} {v = v} (one (t_string p)) e = subst (λ (z : Text). 
     at_end : (r : Text) → StringPiece t r v → r ≡ [] → Is (λ s q. IsString true s q v) (between t r) t r
     at_end r p e = place (string p (subst (λ (z : Text). ValueEnd true z) (sym e) nothing)) (string_end p)
 
--- a place that was told stands in the text
+-- a place that was reported is in the text
 place_told : (t : Text) (place : Spot) (span : SourceSpan) (p : Text) → t ≡ p ++ place.rest → place.at + bytes place.rest ≡ bytes t → IsFaultAt place span → InText t span
 place_told t place span p e f x = char_in place.rest p t span e (x.offset ∙ bytes_before p place.rest t place.at e f) x.len
 
@@ -70,14 +70,14 @@ other_told t old mid k span e f h n x = (
   place_told t k.start span [] (sym (h.start_rest ∙ e)) (omega (arith, ap bytes (h.start_rest ∙ e), h.start_at, f)) x,
 )
 
--- where the text goes on behind the first token
+-- where the text goes on after the first token
 pub more_told : (t : Text) (old mid : Here) (k : CodeToken) (span : SourceSpan) → old.rest ≡ t → old.at ≡ 0 → HandsOut old k mid → Moves old mid → (k.end.rest ≡ [] → ⊥) → IsFaultAt k.end span → AnswersIdentifierText t (Err (Faulty span))
 more_told t old mid k span e f h m n x = (
   λ v d. n (h.end_rest ∙ (is_string (rw e at h.cuts) d).0),
   place_told t k.end span m.piece.0 (sym e ∙ m.piece.1 ∙ ap (λ (z : Text). m.piece.0 ++ z) (sym h.end_rest)) (omega (arith, ap bytes h.end_rest, h.end_at, m.at, f, ap bytes e)) x,
 )
 
--- where the first token is a string, and the text ends behind it
+-- where the first token is a string, and the text ends after it
 pub whole_laid : (t : Text) (old mid : Here) (k : CodeToken) (s : String Global) (i : Identifier) → old.rest ≡ t → HandsOut old k mid → k.kind ≡ StringKind s → k.end.rest ≡ []
     → i ≡ identifier_at t (text_of s) k.start.rest k.end.rest → LaidIdentifierText true i t
 whole_laid t old mid k s i e h x n y =

@@ -1,4 +1,4 @@
--- The item that a reader's fields stand for, and what its steps answer.
+-- The item that a reader's fields represent, and what its steps return.
 use Rattle.std.specs.Prelude.{◌≡◌, ◌≤◌, Option, Some, None, option_map, Result, Ok, Err}
 use Rattle.kdl_text.specs.Internal.Here.{Here, Spot}
 use Rattle.kdl_text.specs.Spans.{raise}
@@ -24,14 +24,14 @@ type_view y = record { name = identifier_tree y.name; before = text_of y.before;
 abbrev pub key_view : KeyParts → items.KeyParts
 key_view k = record { name = identifier_tree k.name; before = text_of k.before; behind = text_of k.behind }
 
--- the stage that the reader's field stands for
+-- the stage that the reader's field represents
 abbrev pub stage_view : Stage → items.Stage
 stage_view Opened = items.opened
 stage_view Named = items.named
 stage_view Closed = items.closed
 stage_view Keyed = items.keyed
 
--- the item that the reader's fields stand for
+-- the item that the reader's fields represent
 abbrev pub item_view : Item → items.Item
 item_view it = record {
   kept = it.kept;
@@ -46,7 +46,7 @@ item_view it = record {
   after = text_of it.after;
 }
 
--- what a step did; of a refused token its first character is told; running out of memory says nothing
+-- what a step did; for a refused token its first character is reported; running out of memory says nothing
 abbrev pub Did : Answer → Spot → Result (Option Given) LexFailure → items.Item → Type 0
 Did o place (Ok None) it = o ≡ goes it
 Did o place (Ok (Some g)) it = o ≡ gives (option_map key_view g.key) (option_map type_view g.ty) (value_tree g.value)

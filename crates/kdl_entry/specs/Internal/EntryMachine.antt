@@ -1,4 +1,4 @@
--- The machine that reads a text that is one entry: it goes over the tokens once. The token k stands in the text s before r, in the text `whole`.
+-- The machine that reads a text that is one entry: it goes over the tokens once. The token k is in the text s before r, in the text `whole`.
 -- Where a place began is kept as the text from there on. Of an entry that is slashdashed no text is held.
 use Rattle.std.specs.Prelude.{◌≡◌, Bool, true, false, [], Option, Some, None, option_map}
 use Rattle.kdl_text.specs.Chars.{Text}
@@ -10,16 +10,16 @@ use Rattle.kdl_entry.specs.Places.{span_of, between}
 use Rattle.kdl_entry.specs.Internal.Tokens.{Token, space, newline, slashdash, string, value, left, equals, BeginsToken}
 use Rattle.kdl_entry.specs.Tree.{Identifier, EntryFormat, Entry, no_span, plain_identifier}
 
--- a string that may yet be a key: what stands before it, what it stands for, its spelling, and its span
+-- a string that may yet be a key: what comes before it, what it represents, its spelling, and its span
 pub record Word : Type 0 where
   pub leading : Text
   pub value : Text
   pub repr : Text
   pub span : SourceSpan
 
--- ahead of the entry, behind line-spaces alone; behind a slashdash; in an entry that has a type or a key;
--- behind an entry that is slashdashed, which may be a key or not, directly or behind spaces;
--- behind a string that may be a key; behind the entry
+-- ahead of the entry, after line-spaces alone; after a slashdash; in an entry that has a type or a key;
+-- after an entry that is slashdashed, which may be a key or not, directly or after spaces;
+-- after a string that may be a key; after the entry
 pub data State : Type 0 where
   ahead : State
   entry_slashdash : State
@@ -28,11 +28,11 @@ pub data State : Type 0 where
   word : Word → Text → State
   done : Entry → Text → State
 
--- an entry under way, behind the `(` of its type
+-- an entry under way, after the `(` of its type
 abbrev pub opened_item : Text → Bool → Text → Text → Item
 opened_item whole kept leading r = record { kept = kept; valued = true; stage = opened; leading = leading; start = whole; from = r; key = None; name = plain_identifier []; before = []; after = [] }
 
--- an entry under way, behind the `=` that stands behind its key and this text
+-- an entry under way, after the `=` that comes after its key and this text
 abbrev pub keyed_item : Text → Bool → Text → Identifier → Text → Text → Item
 keyed_item whole kept leading name before r = record { kept = kept; valued = true; stage = keyed; leading = leading; start = whole; from = r; key = None; name = name; before = before; after = [] }
 
@@ -43,7 +43,7 @@ word_at whole v s r = record { leading = between whole s; value = v; repr = betw
 abbrev pub word_identifier : Word → Identifier
 word_identifier w = record { value = w.value; repr = Some w.repr; span = w.span }
 
--- the entry, whose span is not told yet
+-- the entry, whose span is not known yet
 abbrev pub entry_by : Text → Option KeyParts → Option TypeParts → Value → Text → Entry
 entry_by leading k y v repr = entry_at no_span leading k y v repr
 
@@ -51,7 +51,7 @@ entry_by leading k y v repr = entry_at no_span leading k y v repr
 abbrev pub argument_of : Word → Entry
 argument_of w = entry_by w.leading None None (text w.value) w.repr
 
--- behind an entry that is kept, or that is slashdashed
+-- after an entry that is kept, or that is slashdashed
 abbrev pub given : Bool → Text → Option KeyParts → Option TypeParts → Value → Text → Text → State
 given true leading k y v s r = done (entry_by leading k y v (between s r)) r
 given false leading k y v s r = dropped false false
@@ -62,7 +62,7 @@ came it (goes next) s r = Some (under next)
 came it (gives k y v) s r = Some (given it.kept it.leading k y v s r)
 came it refuses s r = None
 
--- the token k stands in s before r, in the text `whole`
+-- the token k is in s before r, in the text `whole`
 abbrev pub step : Text → State → Token → Text → Text → Option State
 step whole ahead space s r = Some ahead
 step whole ahead newline s r = Some ahead
@@ -93,21 +93,21 @@ step _ _ _ _ _ = None
 abbrev pub with_trailing : Text → EntryFormat → EntryFormat
 with_trailing p f = record f { trailing = p }
 
--- the entry, whose span is the whole text, with the text behind it
+-- the entry, whose span is the whole text, with the text after it
 abbrev pub ended : Text → Text → Entry → Entry
 ended whole p e = record e { format = option_map (with_trailing p) e.format; span = span_of whole whole [] }
 
--- what the machine answers where the text ends
+-- what the machine returns where the text ends
 abbrev pub finish : Text → State → Option Entry
 finish whole (word w from) = Some (ended whole (between from []) (argument_of w))
 finish whole (done e from) = Some (ended whole (between from []) e)
 finish whole _ = None
 
--- from the state on, the text is read to its end, and the answer is e
+-- from the state on, the text is read to its end, and the result is e
 pub data Runs (whole : Text) (e : Entry) : State → Text → Type 0 where
   stops : {st : State} → finish whole st ≡ Some e → Runs whole e st []
   reads : {st st' : State} {s r : Text} {k : Token} → BeginsToken s k r → step whole st k s r ≡ Some st' → Runs whole e st' r → Runs whole e st s
 
--- the machine's answer on a text
+-- the machine's result on a text
 abbrev pub AnswersEntry : Text → Entry → Type 0
 AnswersEntry t e = Runs t e ahead t

@@ -1,4 +1,4 @@
--- The machine's state that a reader of an entry holds, and what its steps answer.
+-- The machine's state that a reader of an entry holds, and what its steps return.
 use Rattle.std.specs.Prelude.{◌≡◌, ◌↔◌, ◌++◌, Option, Some, None, Result, Ok, Err}
 use Rattle.kdl_text.specs.Chars.{Text}
 use Rattle.kdl_text.specs.Internal.Here.{Spot}
@@ -21,7 +21,7 @@ use Rattle.kdl_entry.specs.declared.items.lexer.LexFailure.TheVariants.{Faulty, 
 abbrev pub word_view : Word → machine.Word
 word_view w = record { leading = text_of w.leading; value = text_of w.value; repr = w.repr; span = w.span }
 
--- the machine's state that the reader's state stands for
+-- the machine's state that the reader's state represents
 abbrev pub state_view : State → machine.State
 state_view Start = machine.ahead
 state_view EntrySlashdash = machine.entry_slashdash
@@ -41,7 +41,7 @@ Stands (word w from) s = EndsIn from s
 Stands (done e from) s = EndsIn from s
 Stands _ s = Unit {0}
 
--- what a step did, by the machine's; of a refused token its first character is told; running out of memory says nothing
+-- what a step did, by the machine's; for a refused token its first character is reported; running out of memory says nothing
 abbrev pub Stepped : Option machine.State → Spot → Result State LexFailure → Type 0
 Stepped o place (Ok st) = o ≡ Some (state_view st)
 Stepped o place (Err (Faulty span)) = (o ≡ None) × IsFaultAt place span
@@ -52,12 +52,12 @@ abbrev pub Ended : Option tree.Entry → Option KdlEntry → Type 0
 Ended o None = o ≡ None
 Ended o (Some e) = o ≡ Some (entry_tree e)
 
--- the machine's answer on a text; of a refused text a place is told
+-- the machine's result on a text; for a refused text a place is reported
 abbrev pub AnswersEntryText : Text → Result KdlEntry LexFailure → Type 0
 AnswersEntryText t (Ok e) = AnswersEntry t (entry_tree e)
 AnswersEntryText t (Err (Faulty span)) = ((e : tree.Entry) → AnswersEntry t e → ⊥) × InText t span
 AnswersEntryText t (Err Memory) = Unit {0}
 
--- the machine answers from here on what it answers on the whole text
+-- the machine returns from here on what it returns on the whole text
 abbrev pub Same : machine.State → Text → Text → Type 0
 Same st s t = (e : tree.Entry) → Runs t e st s ↔ AnswersEntry t e

@@ -22,7 +22,7 @@ pub data Cuts : Text → tokens.Token → Text → Type 0 where
   one : {s r : Text} {k : tokens.Token} → BeginsToken s k r → Cuts s k r
   spaces : {s r : Text} → Plus NodeSpace s r → Cuts s tokens.space r
 
--- the token that a kind stands for
+-- the token that a kind represents
 abbrev pub kind_view : TokenKind → tokens.Token
 kind_view Space = tokens.space
 kind_view Newline = tokens.newline
@@ -47,7 +47,7 @@ pub record NoToken (s : Text) : Type 0 where
   pub begun : s ≡ [] → ⊥
   pub none : (r : Text) (k : tokens.Token) → BeginsToken s k r → ⊥
 
--- the kind of the token that was read at s, before r; of a fault the character at the place is told
+-- the kind of the token that was read at s, before r; for a fault the character at the place is reported
 abbrev pub ReadsKind : Text → Spot → Result TokenKind LexFailure → Text → Type 0
 ReadsKind s place (Ok k) r = Cuts s (kind_view k) r
 ReadsKind s place (Err (Faulty span)) r = NoToken s × IsFaultAt place span
@@ -59,7 +59,7 @@ KindCosts k (Ok x) old new = PieceCosts k old new
 KindCosts k (Err (Faulty span)) old new = Costs k k old new
 KindCosts k (Err Memory) old new = Unit {0}
 
--- a string's fault is told as one at the place, and running out of memory as itself
+-- a string's fault is reported as one at the place, and running out of memory as itself
 abbrev pub Passes : Spot → StringFailure → LexFailure → Type 0
 Passes place (StringFaulty e) (Faulty span) = IsFaultAt place span
 Passes place StringMemory Memory = Unit {0}
@@ -74,7 +74,7 @@ abbrev pub IsPunctuation : ℕ → Option TokenKind → Type 0
 IsPunctuation c (Some k) = (r : Text) → BeginsToken (c ∷ r) (kind_view k) r
 IsPunctuation c None = is_single c ≡ false
 
--- a token stands between two places
+-- a token is between two places
 pub record HandsOut (old : Here) (t : Token) (new : Here) : Type 0 where
   pub cuts : Cuts old.rest (kind_view t.kind) new.rest
   pub start_rest : t.start.rest ≡ old.rest

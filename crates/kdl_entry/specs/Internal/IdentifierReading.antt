@@ -1,4 +1,4 @@
--- What the reader of identifier texts answers.
+-- What the reader of identifier texts returns.
 use Rattle.std.specs.Prelude.{true, Result, Ok, Err}
 use Rattle.kdl_text.specs.Chars.{Text}
 use Rattle.kdl_text.specs.Spans.{InText}
@@ -9,7 +9,7 @@ use Rattle.kdl_entry.specs.declared.identifier.KdlIdentifier.{KdlIdentifier}
 use Rattle.kdl_entry.specs.declared.items.lexer.LexFailure.{LexFailure}
 use Rattle.kdl_entry.specs.declared.items.lexer.LexFailure.TheVariants.{Faulty, Memory}
 
--- the identifier, laid in the text; of a refused text a place is told
+-- the identifier, laid in the text; for a refused text a place is reported
 abbrev pub AnswersIdentifierText : Text → Result KdlIdentifier LexFailure → Type 0
 AnswersIdentifierText t (Ok i) = LaidIdentifierText true (identifier_tree i) t
 AnswersIdentifierText t (Err (Faulty span)) = ((v : Text) → IsIdentifierText true t v → ⊥) × InText t span

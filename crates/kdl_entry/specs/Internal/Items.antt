@@ -1,5 +1,5 @@
--- An item under way: the type and value of an entry behind its key, or the type and name of a node, token by token.
--- The token k stands in the text s before r, in the text `whole`. Where a place began is kept as the text from there on.
+-- An item under way: the type and value of an entry after its key, or the type and name of a node, token by token.
+-- The token k is in the text s before r, in the text `whole`. Where a place began is kept as the text from there on.
 use Rattle.std.specs.Prelude.{Bool, true, false, [], Option, Some, None}
 use Rattle.kdl_text.specs.Chars.{Text}
 use Rattle.kdl_text.specs.declared.span.SourceSpan.{SourceSpan}
@@ -8,14 +8,14 @@ use Rattle.kdl_entry.specs.Places.{between, span_of}
 use Rattle.kdl_entry.specs.Internal.Tokens.{Token, space, string, value, left, right}
 use Rattle.kdl_entry.specs.Tree.{Identifier, plain_identifier, Entry}
 
--- a type, and the texts before its name, behind it, and behind the `)`
+-- a type, and the texts before its name, after it, and after the `)`
 pub record TypeParts : Type 0 where
   pub name : Identifier
   pub before : Text
   pub after : Text
   pub behind : Text
 
--- a key, and the texts before and behind its `=`
+-- a key, and the texts before and after its `=`
 pub record KeyParts : Type 0 where
   pub name : Identifier
   pub before : Text
@@ -31,12 +31,12 @@ abbrev pub before_name : Option TypeParts → Text
 before_name None = []
 before_name (Some y) = y.before
 
--- the text behind the type's name
+-- the text after the type's name
 abbrev pub after_name : Option TypeParts → Text
 after_name None = []
 after_name (Some y) = y.after
 
--- the text behind the type's `)`
+-- the text after the type's `)`
 abbrev pub behind_type : Option TypeParts → Text
 behind_type None = []
 behind_type (Some y) = y.behind
@@ -51,12 +51,12 @@ abbrev pub before_equals : Option KeyParts → Text
 before_equals None = []
 before_equals (Some k) = k.before
 
--- the text behind the `=`
+-- the text after the `=`
 abbrev pub behind_equals : Option KeyParts → Text
 behind_equals None = []
 behind_equals (Some k) = k.behind
 
--- the string that stands in s before r
+-- the string that is in s before r
 abbrev pub identifier_at : Text → Text → Text → Text → Identifier
 identifier_at whole v s r = record { value = v; repr = Some (between s r); span = span_of whole s r }
 
@@ -80,14 +80,14 @@ entry_at span leading k y v repr = record {
   span = span;
 }
 
--- behind the `(` of a type, behind its name, behind its `)`; behind the `=` of a property
+-- after the `(` of a type, after its name, after its `)`; after the `=` of a property
 pub data Stage : Type 0 where
   opened : Stage
   named : Stage
   closed : Stage
   keyed : Stage
 
--- an item under way; the name and the texts around it are those of its type, or behind `=` those of its key.
+-- an item under way; the name and the texts around it are those of its type, or after `=` those of its key.
 -- Of an item that is not kept no text is held; one that is not valued takes a string alone.
 pub record Item : Type 0 where
   pub kept : Bool
@@ -105,7 +105,7 @@ pub record Item : Type 0 where
 abbrev pub no_item : Text → Item
 no_item s = record { kept = false; valued = false; stage = opened; leading = []; start = s; from = s; key = None; name = plain_identifier []; before = []; after = [] }
 
--- the item goes on, or gives its key, its type and its value, or the token may not stand here
+-- the item goes on, or gives its key, its type and its value, or the token may not be here
 pub data Answer : Type 0 where
   goes : Item → Answer
   gives : Option KeyParts → Option TypeParts → Value → Answer
@@ -116,7 +116,7 @@ abbrev pub named_at : Bool → Identifier → Text → Text → Item → Item
 named_at true i before r it = record it { stage = named; name = i; before = before; from = r }
 named_at false i before r it = record it { stage = named; from = r }
 
--- the item with the text behind the name of its type, where it is kept
+-- the item with the text after the name of its type, where it is kept
 abbrev pub closed_at : Bool → Text → Text → Item → Item
 closed_at true after r it = record it { stage = closed; after = after; from = r }
 closed_at false after r it = record it { stage = closed; from = r }
@@ -136,7 +136,7 @@ abbrev pub emptied : Bool → Item → Item
 emptied true it = record it { name = plain_identifier []; before = [] }
 emptied false it = it
 
--- behind the `(` of a type that follows the key k
+-- after the `(` of a type that follows the key k
 abbrev pub reopened : Option KeyParts → Text → Item → Item
 reopened k r it = record (emptied it.kept it) { stage = opened; valued = true; key = k; from = r }
 

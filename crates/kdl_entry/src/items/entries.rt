@@ -17,7 +17,7 @@ use super::lexer::{LexFailure, Lexer, Token, TokenKind, fault_at};
 use crate::entry::KdlEntry;
 use crate::identifier::{KdlIdentifier, sliced_identifier};
 use kdl_faults::{Whole, failure};
-use kdl_text::chars::{Checkpoint, Piece, Steps};
+use kdl_text::cursor::{Checkpoint, Piece, Steps};
 use kdl_text::error::ParseFailure;
 use kdl_text::span::SourceSpan;
 use kdl_value::KdlValue;
@@ -29,7 +29,7 @@ const UNPLACED: SourceSpan = SourceSpan { offset: 0, len: 0 };
 /// A string that may yet be a key.
 #[derive(Drop)]
 struct Word<'a> {
-    /// What stands before it.
+    /// What comes before it.
     leading: String,
     value: String,
     /// Its spelling, which becomes a text of its own where it is not the string.
@@ -54,7 +54,7 @@ enum State<'a> {
     Done(KdlEntry, Checkpoint<'a>),
 }
 
-/// An entry under way, behind the `(` of its type.
+/// An entry under way, after the `(` of its type.
 fn opened<'a>(
     alloc: Global,
     whole: &Checkpoint<'a>,
@@ -69,7 +69,7 @@ fn opened<'a>(
     item
 }
 
-/// An entry under way, behind the `=` of its key.
+/// An entry under way, after the `=` of its key.
 fn keyed<'a>(
     alloc: Global,
     whole: &Checkpoint<'a>,
@@ -88,7 +88,7 @@ fn keyed<'a>(
     item
 }
 
-/// The string that stands between two places, and what stands before it.
+/// The string that is between two places, and what comes before it.
 #[tactic(auto, unfolding(crate::specs::Places::span_of))]
 fn word_between<'a>(
     alloc: Global,
@@ -113,7 +113,7 @@ fn word_between<'a>(
     })
 }
 
-/// The value that stands between two places, as an argument, and what stands before it.
+/// The value that is between two places, as an argument, and what comes before it.
 fn argument_between<'a>(
     alloc: Global,
     lexer: &mut Lexer<'a>,
@@ -190,7 +190,7 @@ fn at_start<'a>(
     }
 }
 
-/// A token behind a slashdash.
+/// A token after a slashdash.
 fn at_slashdash<'a>(
     alloc: Global,
     whole: &Checkpoint<'a>,
@@ -237,7 +237,7 @@ fn at_under<'a>(
     Ok(State::Done(entry, end.copied()))
 }
 
-/// A token directly behind an entry that is slashdashed, which is a string or not.
+/// A token directly after an entry that is slashdashed, which is a string or not.
 fn at_dropped<'a>(
     word: bool,
     alloc: Global,
@@ -264,7 +264,7 @@ fn at_dropped<'a>(
     }
 }
 
-/// A token behind an entry that is slashdashed and spaces.
+/// A token after an entry that is slashdashed and spaces.
 fn at_spaced<'a>(
     word: bool,
     alloc: Global,
@@ -287,7 +287,7 @@ fn at_spaced<'a>(
     }
 }
 
-/// A token behind a string that may yet be a key.
+/// A token after a string that may yet be a key.
 fn at_pending<'a>(
     word: Word<'a>,
     from: Checkpoint<'a>,
@@ -321,7 +321,7 @@ fn at_pending<'a>(
     }
 }
 
-/// A token behind the entry.
+/// A token after the entry.
 fn at_done<'a>(
     entry: KdlEntry,
     from: Checkpoint<'a>,
@@ -339,7 +339,7 @@ fn at_done<'a>(
     }
 }
 
-/// The entry, whose span is the whole text, with the text behind it.
+/// The entry, whose span is the whole text, with the text after it.
 #[tactic(auto, unfolding(crate::specs::Places::span_of))]
 fn ended<'a>(
     mut entry: KdlEntry,
@@ -364,7 +364,7 @@ fn ended<'a>(
 }
 
 impl<'a> State<'a> {
-    /// One token. A fault where the token may not stand here.
+    /// One token. A fault where the token may not be here.
     fn take(
         self,
         alloc: Global,
@@ -461,8 +461,8 @@ impl KdlEntry {
     ghost use Rattle.kdl_text.specs.Failures.{IsSyntax, TellsOnSyntax};
 
     /// The entry that the text is, with every byte of its form: line-spaces and entries that are slashdashed before
-    /// it, and line-spaces behind it (KDL 2.0.0, Argument, Property). Its span is the whole text. `Syntax`: the text is
-    /// none. Its error has a diagnostic for each fault that is found, up to what can stand in no entry, and one at
+    /// it, and line-spaces after it (KDL 2.0.0, Argument, Property). Its span is the whole text. `Syntax`: the text is
+    /// none. Its error has a diagnostic for each fault that is found, up to what can be in no entry, and one at
     /// least. `Memory`: a request for memory was refused. Nothing is made then.
     ///
     /// ```
@@ -471,14 +471,14 @@ impl KdlEntry {
     /// ```
     #[tactic(auto, using(crate::proofs::Reading::EntryAnswers::found, crate::proofs::Reading::EntryAnswers::only, crate::proofs::Reading::EntryAnswers::laid, crate::proofs::Reading::EntryAnswers::prints, crate::proofs::Reading::EntryAnswers::refused))]
     pub fn parse(alloc: Global, text: &str) -> Result<KdlEntry, ParseFailure>
-        // What is answered is what the grammar derives,
+        // The result is what the grammar derives,
         ensures found { IfOk result
             (λ e. IsEntryText true (chars text.now) (entry_data (entry_tree e))) }
         // and it derives nothing else.
         ensures only { IfOk result
             (λ e. (x : data'.Entry) → IsEntryText true (chars text.now) x
             → x ≡ entry_data (entry_tree e)) }
-        // The entry lies in the text, each place in its class and each span where its piece stands, and prints it.
+        // The entry lies in the text, each place in its class and each span where its piece is, and prints it.
         ensures laid { IfOk result (λ e. LaidEntryText true (chars text.now) (entry_tree e)) }
         ensures prints { IfOk result (λ e. print_entry (entry_tree e) ≡ chars text.now) }
         // What is refused is not derived, and an error tells where.

@@ -8,7 +8,7 @@ use super::item::identifier_between;
 use super::lexer::{LexFailure, Lexer, Token, TokenKind, fault_at};
 use crate::identifier::KdlIdentifier;
 use kdl_faults::{Whole, failure};
-use kdl_text::chars::{Checkpoint, Steps};
+use kdl_text::cursor::{Checkpoint, Steps};
 use kdl_text::error::ParseFailure;
 use std::alloc::Global;
 
@@ -64,7 +64,7 @@ impl KdlIdentifier {
     ghost use Rattle.kdl_text.specs.Failures.{IsSyntax, TellsOnSyntax};
     ghost use Rattle.std.specs.Prelude.{true, IfOk};
 
-    /// The identifier that the text is: one string in any spelling (KDL 2.0.0, String), with nothing before and behind
+    /// The identifier that the text is: one string in any spelling (KDL 2.0.0, String), with nothing before and after
     /// it. Its spelling and its span are the whole text. `Syntax`: the text is none. Its error tells what is wrong with
     /// the string, or where what is none begins. `Memory`: a request for memory was refused. Nothing is made then.
     ///
@@ -74,7 +74,7 @@ impl KdlIdentifier {
     /// ```
     #[tactic(auto, using(crate::proofs::Reading::IdentifierAnswers::found, crate::proofs::Reading::IdentifierAnswers::only, crate::proofs::Reading::IdentifierAnswers::prints))]
     pub fn parse(alloc: Global, text: &str) -> Result<KdlIdentifier, ParseFailure>
-        // What is answered is what the grammar derives,
+        // The result is what the grammar derives,
         ensures found { IfOk result
             (λ i. IsIdentifierText true (chars text.now) (identifier_tree i).value) }
         // and it derives nothing else.

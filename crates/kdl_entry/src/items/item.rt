@@ -1,6 +1,6 @@
 //! Items under way: the type and value of an entry, or the type and name of a node, token by token.
 //!
-//! The rules of types, keys and values stand here once, for entries alone and for those of a document.
+//! The rules of types, keys and values, for entries alone and for those of a document.
 
 ghost use Rattle.kdl_entry.specs.Internal.Building.{key_view, type_view, item_view, Did, Holds, Stays};
 ghost use Rattle.kdl_entry.specs.Internal.Counted.{Sliced, ItemSliced};
@@ -17,13 +17,13 @@ ghost use Rattle.std.specs.Prelude.{◌≡◌, if◌then◌else◌, [], Some, No
 use super::lexer::{LexFailure, Lexer, TokenKind, fault_at};
 use crate::entry::{KdlEntry, KdlEntryFormat};
 use crate::identifier::{KdlIdentifier, sliced_identifier};
-use kdl_text::chars::{Checkpoint, Piece};
+use kdl_text::cursor::{Checkpoint, Piece};
 use kdl_text::span::SourceSpan;
 use kdl_value::KdlValue;
 use std::alloc::{AllocError, Global};
 use std::mem;
 
-/// A type, and the texts before its name, behind it, and behind the `)`.
+/// A type, and the texts before its name, after it, and after the `)`.
 #[derive(Drop)]
 pub struct TypeParts {
     pub name: KdlIdentifier,
@@ -32,7 +32,7 @@ pub struct TypeParts {
     pub behind: String,
 }
 
-/// A key, and the texts before and behind its `=`.
+/// A key, and the texts before and after its `=`.
 #[derive(Drop)]
 pub struct KeyParts {
     pub name: KdlIdentifier,
@@ -40,7 +40,7 @@ pub struct KeyParts {
     pub behind: String,
 }
 
-/// Where in an item: behind the `(` of its type, behind the type's name, behind its `)`; behind the `=` of a
+/// Where in an item: after the `(` of its type, after the type's name, after its `)`; after the `=` of a
 /// property.
 #[derive(Clone, Copy)]
 pub enum Stage {
@@ -50,15 +50,15 @@ pub enum Stage {
     Keyed,
 }
 
-/// An item under way. The name and the texts around it are those of its type, or behind `=` those of its key.
+/// An item under way. The name and the texts around it are those of its type, or after `=` those of its key.
 #[derive(Drop)]
 pub struct Item<'a> {
     /// Whether the item counts. Of one that doesn't no text is held.
     pub kept: bool,
-    /// Whether any value may stand, or a string alone.
+    /// Whether any value may follow, or a string alone.
     pub valued: bool,
     pub stage: Stage,
-    /// What stands before the item.
+    /// What comes before the item.
     pub leading: String,
     pub start: Checkpoint<'a>,
     /// Where the place under way began.
@@ -124,7 +124,7 @@ pub fn text_between<'a>(
     piece_between(lexer, from, to).to_string(alloc)
 }
 
-/// The span of what stands between two places, in the text that begins at `whole`.
+/// The span of what is between two places, in the text that begins at `whole`.
 ///
 /// ```
 /// let mut lexer = Lexer::new("ab=1", Steps::new());
@@ -140,7 +140,7 @@ pub fn span_at(whole: &Checkpoint, start: &Checkpoint, end: &Checkpoint) -> Sour
     whole.span_between(start, end)
 }
 
-/// The string that stands between two places, in the text that begins at `whole`.
+/// The string that is between two places, in the text that begins at `whole`.
 ///
 /// ```
 /// let mut lexer = Lexer::new("\"ab\"=1", Steps::new());
@@ -183,7 +183,7 @@ pub fn empty(alloc: Global) -> String
     String::new(alloc)
 }
 
-/// An entry by its parts, without a text behind it.
+/// An entry by its parts, without a text after it.
 ///
 /// ```
 /// let span = SourceSpan { offset: 0, len: 5 };
@@ -267,7 +267,7 @@ impl<'a> Item<'a> {
         }
     }
 
-    /// Begins an item behind the `(` of its type.
+    /// Begins an item after the `(` of its type.
     ///
     /// ```
     /// let mut lexer = Lexer::new("(u8)1", Steps::new());
@@ -307,7 +307,7 @@ impl<'a> Item<'a> {
         self.key = None;
     }
 
-    /// Begins a property behind the `=`, by its key and the text before the `=`.
+    /// Begins a property after the `=`, by its key and the text before the `=`.
     ///
     /// ```
     /// let mut lexer = Lexer::new("a=1", Steps::new());
@@ -354,7 +354,7 @@ impl<'a> Item<'a> {
         self.before = before;
     }
 
-    /// Goes on behind the string that is the type's name.
+    /// Goes on after the string that is the type's name.
     fn take_name(
         &mut self,
         alloc: Global,
@@ -386,7 +386,7 @@ impl<'a> Item<'a> {
         Ok(())
     }
 
-    /// Goes on behind the `)` of the type.
+    /// Goes on after the `)` of the type.
     #[tactic(auto, using(crate::proofs::Lexing::SliceCost::ahead_fewer))]
     fn close(
         &mut self,
@@ -540,7 +540,7 @@ impl<'a> Item<'a> {
         })
     }
 
-    /// A token behind the `(` of a type.
+    /// A token after the `(` of a type.
     fn at_opened(
         &mut self,
         alloc: Global,
@@ -570,7 +570,7 @@ impl<'a> Item<'a> {
         }
     }
 
-    /// A token behind the name of a type.
+    /// A token after the name of a type.
     fn at_named(
         &mut self,
         alloc: Global,
@@ -600,7 +600,7 @@ impl<'a> Item<'a> {
         }
     }
 
-    /// A token behind the `)` of a type.
+    /// A token after the `)` of a type.
     fn at_closed(
         &mut self,
         alloc: Global,
@@ -634,7 +634,7 @@ impl<'a> Item<'a> {
         }
     }
 
-    /// A token behind the `=` of a property.
+    /// A token after the `=` of a property.
     #[tactic(auto, using(crate::proofs::Lexing::SliceCost::ahead_fewer))]
     fn at_keyed(
         &mut self,
@@ -676,8 +676,8 @@ impl<'a> Item<'a> {
         }
     }
 
-    /// One token. It answers what the item came to, where its value stands in the token, and `None` where the
-    /// item goes on. A fault where the token may not stand here.
+    /// One token. It returns what the item came to, where its value is in the token, and `None` where the
+    /// item goes on. A fault where the token may not be here.
     ///
     /// ```
     /// let taken = item.take(alloc, &mut lexer, &whole, token.kind, &token.start, &token.end)?;

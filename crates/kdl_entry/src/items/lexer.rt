@@ -1,6 +1,6 @@
 //! The lexer: the tokens of a text, one at a time.
 //!
-//! A token is told by its first character, and at most the one behind it. A run of spaces is one token.
+//! A token is known by its first character, and at most the one after it. A run of spaces is one token.
 
 ghost use Rattle.kdl_value.specs.Data as data';
 ghost use Rattle.kdl_entry.specs.Entries as spec;
@@ -15,10 +15,8 @@ ghost use Rattle.kdl_text.specs.Internal.Reading.{Moves};
 ghost use Rattle.std.specs.Prelude.{◌≡◌, ◌++◌, ◌==◌, ◌||◌, true, false, Some, None, IfOk};
 ghost use Rattle.std.specs.Str.{chars};
 
-use kdl_text::chars::{
-    Checkpoint, Class, Cursor, Piece, Steps, is_digit, is_identifier_char, is_newline_char,
-    is_sign, is_space, newline,
-};
+use kdl_text::chars::{Class, is_digit, is_identifier_char, is_newline_char, is_sign, is_space};
+use kdl_text::cursor::{Checkpoint, Cursor, Piece, Steps, newline};
 use kdl_text::numbers::{Keyword, Number, NumberFailure, begins_number, read_keyword, read_number};
 use kdl_text::span::SourceSpan;
 use kdl_text::strings::{StringFailure, bare_string, quoted_string, raw_string};
@@ -147,7 +145,7 @@ fn quoted_token(
     }
 }
 
-/// The raw string that begins here, at a number sign with another or a quote behind it.
+/// The raw string that begins here, at a number sign with another or a quote after it.
 #[tactic(auto, using(crate::proofs::Lexing::TokenReads::a_raw_here, crate::proofs::Lexing::TokenReads::no_raw_here, crate::proofs::Lexing::TokenCost::raw_costs))]
 fn raw_token(
     cursor: &mut Cursor,
@@ -188,7 +186,7 @@ fn keyword_value(alloc: Global, keyword: Keyword) -> Result<KdlValue, AllocError
     }
 }
 
-/// The keyword that begins here, at a number sign with neither another nor a quote behind it.
+/// The keyword that begins here, at a number sign with neither another nor a quote after it.
 fn keyword_token(
     cursor: &mut Cursor,
     alloc: Global,
@@ -206,7 +204,7 @@ fn keyword_token(
     }
 }
 
-/// Whether another number sign or a quote stands behind the character here.
+/// Whether another number sign or a quote comes after the character here.
 fn looks_raw(cursor: &mut Cursor) -> bool
     ensures result { result ≡ starts (λ c. c == 34 || c == 35) (tail cursor.old.rest) }
     ensures stayed { Stayed 1 cursor.old cursor.new }
@@ -440,12 +438,12 @@ impl<'a> Lexer<'a> {
         self.cursor.into_steps()
     }
 
-    /// Where the lexer stands.
+    /// Where the lexer is.
     ///
     /// ```
     /// let mut lexer = Lexer::new("ab=1", Steps::new());
     /// let start = lexer.checkpoint();
-    /// let token = lexer.next(alloc)?; // behind it the lexer stands elsewhere, and `start` where it was taken
+    /// let token = lexer.next(alloc)?; // after it the lexer is elsewhere, and `start` where it was taken
     /// ```
     pub fn checkpoint(&self) -> Checkpoint<'a>
         ensures rest { result.rest ≡ self.now.rest }
@@ -454,7 +452,7 @@ impl<'a> Lexer<'a> {
         self.cursor.checkpoint()
     }
 
-    /// Goes past a U+FEFF, where one stands here, and answers whether it did. A step.
+    /// Goes past a U+FEFF, where one is here, and returns whether it did. A step.
     ///
     /// ```
     /// let mut lexer = Lexer::new("\u{feff}a", Steps::new());
@@ -479,7 +477,7 @@ impl<'a> Lexer<'a> {
         self.cursor.count_look();
     }
 
-    /// The text from one place to another behind it. A step for each of its bytes.
+    /// The text from one place to another after it. A step for each of its bytes.
     ///
     /// ```
     /// let mut lexer = Lexer::new("ab=1", Steps::new());
@@ -506,7 +504,7 @@ impl<'a> Lexer<'a> {
     /// let mut lexer = Lexer::new("a }", Steps::new());
     /// let name = lexer.next(alloc)?; // the string `a`, with where it begins and ends
     /// let spaces = lexer.next(alloc)?; // the run of spaces
-    /// let closing = lexer.next(alloc)?; // the `}`: whether it may stand here is for the caller to know
+    /// let closing = lexer.next(alloc)?; // the `}`: whether it may be here is for the caller to know
     /// let none = lexer.next(alloc)?; // `None`: the end of the text
     /// ```
     pub fn next(&mut self, alloc: Global) -> Result<Option<Token<'a>>, LexFailure>

@@ -33,7 +33,7 @@ cleared_behind : (t : Text) (e : Entry) → cleared (behind t (cleared e)) ≡ c
 cleared_behind [] e = cleared_again e
 cleared_behind (c ∷ t) e = cleared_again e
 
--- the entry e' is e without its form, behind what is kept
+-- the entry e' is e without its form, after what is kept
 abbrev LaidEntry : Settings → Entry → Entry → Type 0
 LaidEntry s e e' = (t : Text) × WrittenUnless s.no_comments (PlaceItems (before_entry false) (entry_leading e.format)) tail t × (e' ≡ behind t (cleared e))
 

@@ -62,7 +62,7 @@ module _ (h : Head) (before : Text) (k : NodeTexts) (line : h.format ≡ Some (l
       → (print_head h depth ++ p ++ q) ++ r ≡ k.before ++ (before ++ (type_text y ++ (spelled i.value ++ (p ++ (q ++ r)))))
   node_text y i e f depth p q r = rw (e, f, line) (node_joined k.before before (type_text y) (spelled i.value) p q r)
 
-  -- what stands behind the last entry or the `}`
+  -- what comes after the last entry or the `}`
   abbrev end_of : Text → Text
   end_of r = k.last ++ (k.space ++ (k.comment ++ (10 ∷ (k.behind ++ r))))
 

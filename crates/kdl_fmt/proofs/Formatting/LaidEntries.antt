@@ -50,7 +50,7 @@ module _ (whole : Text) where
       rw (key_joined (spelled i.value) r)
       (Some (identifier_at i.value (61 ∷ r)), laid.a_key (identifier_laid i.value (61 ∷ r) ok (punctuation_end 61 refl)) (record { is = Star.none; text = refl }) (record { is = Star.none; text = refl }))
 
-  -- an entry behind a text
+  -- an entry after a text
   abbrev entry_at : Text → SourceSpan → Option Identifier → Option Identifier → Value → Entry
   entry_at before at key ty v = record { ty = ty; value = v; name = key; format = Some (record empty_format { leading = before; value_repr = print_value v }); span = at }
 

@@ -1,4 +1,4 @@
--- Layout loses no comment: what a document holds of them is, each as it stands on a line, what is held by the document that is laid in the printed text.
+-- Layout loses no comment: what a document holds of them is, each as it is on a line, what is held by the document that is laid in the printed text.
 use Rattle.std.proofs.Common.{◌≡◌, ℕ, ◌+◌, Bool, true, false, List, [], ◌∷◌, ◌++◌, map, refl, sym, ap, subst, ◌∙◌, Option, Some, option_map, append_assoc, append-nil}
 use Rattle.std.proofs.lemmas.List.{map-append}
 use Rattle.std.specs.List.{list_all}
@@ -28,7 +28,7 @@ use Rattle.kdl_fmt.proofs.EntryTexts.{type_text}
 use Rattle.kdl_fmt.proofs.Formatting.LaidEntries.{identifier_at, identifier_laid, type_laid, entries_laid}
 use Rattle.kdl_fmt.proofs.Keeping.KeptPlaces.{space_ends, tail_ends, tail_spaced, LineEnd, line_end_of, line_terminator, last_text, last_ends}
 
--- what a node prints, with a rest behind it
+-- what a node prints, with a rest after it
 node_joined : (l t n p q r : Text) → (l ++ t ++ [] ++ n ++ p ++ q) ++ r ≡ l ++ (t ++ (n ++ (p ++ (q ++ r))))
 node_joined l t n p q r = simp (append_assoc, append-nil)
 
@@ -49,7 +49,7 @@ module _ (h : Head) (before : Text) (k : NodeTexts) (line : h.format ≡ Some (l
       → (print_head h depth ++ p ++ q) ++ r ≡ (k.before ++ before) ++ (type_text y ++ (spelled i.value ++ (p ++ (q ++ r))))
   node_text y i e f depth p q r = rw (e, f, line) (node_joined (k.before ++ before) (type_text y) (spelled i.value) p q r)
 
-  -- what stands behind the last entry or the `}`
+  -- what comes after the last entry or the `}`
   abbrev end_of : Text → Text
   end_of r = (k.last ++ k.space) ++ ((k.comment ++ (10 ∷ [])) ++ (k.behind ++ r))
 
@@ -66,7 +66,7 @@ module _ (h : Head) (before : Text) (k : NodeTexts) (line : h.format ≡ Some (l
       rw (e, line, ← end_joined k.last k.space k.comment k.behind r)
       (braces_joined k.before_block ((10 ∷ a) ++ n ++ behind) (125 ∷ end) r ∙ ap (λ (t : Text). k.before_block ++ (32 ∷ 123 ∷ t)) (content_joined (10 ∷ a) n behind (125 ∷ (end ++ r))))
 
--- a node in a text: what is kept behind it stands before what follows it
+-- a node in a text: what is kept after it comes before what follows it
 record NodeLaid (whole s r : Text) (is : List Item) : Type 0 where
   tree : Node
   pending : Text
@@ -88,13 +88,13 @@ record NodesLaid (whole s r : Text) (is : List Item) : Type 0 where
   front : Front pending later
   same : own ++ later ≡ is
 
--- a document or what stands in a block
+-- a document or what is in a block
 record ContentLaid (whole s r : Text) (is : List Item) : Type 0 where
   tree : Document
   laid : LaidContent true whole tree s r
   items : DocumentItems tree is
 
--- what stands between the last entry and the terminator: a block and what it holds, and the items behind it
+-- what is between the last entry and the terminator: a block and what it holds, and the items after it
 record ChildrenLaid (whole s r : Text) (is js : List Item) : Type 0 where
   tree : Children
   before : Text
@@ -104,7 +104,7 @@ record ChildrenLaid (whole s r : Text) (is js : List Item) : Type 0 where
   behind : ItemsIn (PlaceItems (last_place (has_block tree)) place) js
   ends : ValueEnd true s
 
--- nodes and the gap behind them are the content of a document
+-- nodes and the gap after them are the content of a document
 content_of_nodes : (whole s r g : Text) {is js : List Item} {xs : Nodes} → LaidNodes true whole xs s (g ++ r) → NodesItems xs is → Front g js → ContentLaid whole s r (is ++ js)
 content_of_nodes whole _ r g {js = js} no_node NodesItems.no_node f = record {
   tree = document (Some (record { leading = g; trailing = [] })) (span_of whole r r) none;
@@ -204,7 +204,7 @@ module _ (s : Settings) (ok : list_all is_space s.indent ≡ true) (no_keep : s.
     children_laid level depth h f t no_children (children d') line c kept m w i j r = absurd c
     children_laid level depth h f t (children (document g span ns)) no_children line c kept m w i j r = absurd c
 
-    -- a node behind a gap
+    -- a node after a gap
     node_laid : (level depth : ℕ) (n n' : Node) → IsFormattedNode s level n n' → NodeKeepsNone n → IsWellFormedNode (node_data n) → {is : List Item} → NodeItems n is
         → {p : Text} {ps : List Item} → Front p ps → (r : Text) → NodeLaid whole (p ++ (print_node n' depth ++ r)) r (ps ++ map on_line is)
     node_laid level depth (node h k) (node h' k') (f, c) m w (of_node {a = a} {b = b} {c = ci} {d = d} {e = e} {f = g} ia ib ic id ie ig) {p} {ps} front r =
@@ -282,7 +282,7 @@ module _ (s : Settings) (ok : list_all is_space s.indent ≡ true) (no_keep : s.
       (subst (λ (t : Text). ContentLaid whole t [] (x.own ++ [] ++ x.later)) (append-nil (print_node n' depth))
       (content_of_nodes whole (print_node n' depth ++ []) [] x.pending (x.laid no_node) (NodesItems.a_node x.items NodesItems.no_node) x.front))
 
--- each item of the document is one of the laid text, as it stands on a line, in the same order
+-- each item of the document is one of the laid text, as it is on a line, in the same order
 pub comments_stay : (s : Settings) → list_all is_space s.indent ≡ true → s.entry_autoformate_keep ≡ false → s.no_comments ≡ false → (level depth : ℕ) → (d d' e : Document) → (is : List Item)
     → DocumentItems d is → IsFormattedDocument s level d d' → DocumentKeepsNone d → AreWellFormed (document_data d) → LaidDocument true e (print_document d' depth) → DocumentItems e (map on_line is)
 comments_stay s ok no_keep with level depth d d' e is i f m w laid =

@@ -1,4 +1,4 @@
--- Gaps that stand before any other gap, with their items.
+-- Gaps that come before any other gap, with their items.
 use Rattle.std.proofs.Common.{◌≡◌, ℕ, ◌==◌, Bool, true, false, List, [], ◌∷◌, ◌++◌, map, refl, sym, subst, ◌∙◌, append_assoc, append-nil, arith}
 use Rattle.std.proofs.lemmas.Bool.Decides.{nat_tests}
 use Rattle.std.proofs.lemmas.Bool.{and_parts}
@@ -69,7 +69,7 @@ space_items (c ∷ s) ok g =
 pub indented : (s : Settings) → list_all is_space s.indent ≡ true → (level : ℕ) → Front (indentation s level) []
 indented s ok level = record { gap = λ g. indentation_gap s ok level g; items = λ g. space_items (indentation s level) (level_spaces s.indent ok level) g }
 
--- what is kept of a text between nodes holds its items, each as it stands on a line
+-- what is kept of a text between nodes holds its items, each as it is on a line
 written : (before : Text) → list_all is_space before ≡ true → (place t : Text) {is : List Item} → Written (GapItems place) (lines before) t → ItemsIn (GapItems place) is → Front t (map on_line is)
 written before ok place _ (Written.items {is = js} d) (ItemsIn.items {is = is} e) =
     subst (λ (l : List Item). Front (lines before js) (map on_line l)) (gap_items_det d e) (record { gap = λ g. lines_gap before ok d g; items = λ g. lines_again before ok d g })

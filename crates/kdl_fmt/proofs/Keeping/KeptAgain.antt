@@ -69,7 +69,7 @@ end_items : (ns : Nodes) {r : Text} → GapItems r [] → GapItems (newline_if_n
 end_items Nodes.none {r} g = newline_items r [] g
 end_items (first n ns) g = g
 
--- what may stand behind written items of a place
+-- what may come after written items of a place
 record Follows (p : Place) (more : Text) : Type 0 where
   again : (q : Text) (is : List Item) → PlaceItems p q is → PlaceItems p (tail is ++ more) is
   alone : PlaceItems p more []
@@ -92,7 +92,7 @@ end_follows true p h t space comment k = subst (Follows p) (sym k.0) (nothing_fo
 end_follows false p h t space comment (WrittenEnd.comment l) = space_follows p
 end_follows false p h t space comment (WrittenEnd.other f) = nothing_follows p h
 
--- before an entry that has no text before it nothing stands
+-- before an entry that has no text before it there is nothing
 no_space : {r : Text} {is : List Item} → SpaceItems [] r is → ⊥
 no_space (SpaceItems.space n) = elim n [ ]
 no_space (SpaceItems.block b) = elim b [ ]
@@ -131,7 +131,7 @@ kept_lines s level ok lead rest front back p t u k m = go s.no_comments k m
     go true e h = h ∙ sym e
     go false w v = lines_stay (indentation s level) (indent_spaces level s.indent ok) lead rest front back p t u w v
 
--- before a node: with indentation behind them
+-- before a node: with indentation after them
 pub leading_stays : (s : Settings) (level : ℕ) → list_all is_space s.indent ≡ true → (p t u : Text) → KeptLines s level p t → KeptLines s level (t ++ indentation s level) u → u ≡ t
 leading_stays s level ok p t u k m = kept_lines s level ok [] (indentation s level) no_front (spaces_items (indentation s level) (indent_spaces level s.indent ok)) p t u k m
 
@@ -156,12 +156,12 @@ pub document_leading_stays : (s : Settings) (level : ℕ) → list_all is_space 
 document_leading_stays s level ok p t u k m =
     trailing_stays s level ok p t u k (subst (λ (x : Text). KeptLines s level x u) (lines_without_bom s level ok p t k) m)
 
--- in braces, behind LF
+-- in braces, after LF
 pub block_leading_stays : (s : Settings) (level : ℕ) → list_all is_space s.indent ≡ true → (p t u : Text) → KeptLines s level p t → KeptLines s level (10 ∷ t) u → u ≡ t
 block_leading_stays s level ok p t u k m =
     kept_lines s level ok (10 ∷ []) [] newline_items GapItems.none p t u k (subst (λ (x : Text). KeptLines s level (10 ∷ x) u) (sym (append-nil t)) m)
 
--- behind the nodes
+-- after the nodes
 pub document_trailing_stays : (s : Settings) (level : ℕ) → list_all is_space s.indent ≡ true → (ns : Nodes) (p t u : Text) → KeptLines s level p t → KeptLines s level (t ++ newline_if_none ns) u → u ≡ t
 document_trailing_stays s level ok ns p t u k m =
     kept_lines s level ok [] (newline_if_none ns) no_front (subst (λ (x : Text). GapItems x []) (append-nil (newline_if_none ns)) (end_items ns GapItems.none)) p t u k m

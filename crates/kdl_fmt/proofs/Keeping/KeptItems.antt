@@ -74,7 +74,7 @@ place_stays (PlaceItems.space {is = is} {js = js} n d) = join_stays is js (space
 place_stays (PlaceItems.dropped_entry h m i d) = pair_stays _ _ (piece_on_line (last_behind (end_slashdash m) (entry_last i))) (place_stays d)
 place_stays (PlaceItems.dropped_block h m b d) = pair_stays _ _ (piece_on_line (last_behind (end_slashdash m) (block_last b))) (place_stays d)
 
--- what is kept in a place, and the items there: with a space behind it, and with nothing
+-- what is kept in a place, and the items there: with a space after it, and with nothing
 pub record KeptIn (p : Place) (t : Text) (is : List Item) : Type 0 where
   pub stands : Tail p t
   pub spaced : PlaceItems p (t ++ (32 ∷ [])) is

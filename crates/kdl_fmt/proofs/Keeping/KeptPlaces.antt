@@ -1,4 +1,4 @@
--- What is kept of comments may stand in the place in which it is written.
+-- What is kept of comments may occur in the place in which it is written.
 use Rattle.std.proofs.Common.{◌≡◌, ℕ, zero, suc, Bool, true, false, List, [], ◌∷◌, ◌++◌, refl, sym, subst, ◌∙◌}
 use Rattle.std.proofs.lemmas.Bool.{and_parts}
 use Rattle.std.proofs.lemmas.List.Folds.{list_all-append}
@@ -69,7 +69,7 @@ written_gap before ok false place _ (Written.none h) g = g
 pub kept_gap : (s : Settings) → list_all is_space s.indent ≡ true → (level : ℕ) (place t : Text) → KeptLines s level place t → {u r : Text} → Gap true u r → Gap true (t ++ u) r
 kept_gap s ok level place t k g = written_gap (indentation s level) (level_spaces s.indent ok level) s.no_comments place t k g
 
--- nothing, or items of a place, each behind a space
+-- nothing, or items of a place, each after a space
 pub data Tail (p : Place) : Text → Type 0 where
   nothing : Tail p []
   items : {place : Text} {is : List Item} → PlaceItems p place is → Tail p (tail is)

@@ -27,7 +27,7 @@ pub kept_nothing : (b : Bool) (has : List Item → Type 0) (write : List Item �
 kept_nothing true has write t e h x = absurd cc
 kept_nothing false has write t e h x = subst (Written has write) (sym x) (Written.none h)
 
--- they are written behind an empty text
+-- they are written after an empty text
 pub written_behind : (write : List Item → Text) (t u : Text) (is js : List Item) → t ≡ u ++ write js → u ≡ [] → js ≡ is → t ≡ write is
 written_behind write t u is js e x y = e ∙ ap (λ (z : Text). z ++ write js) x ∙ ap write y
 

@@ -1,4 +1,4 @@
--- The tokens of small texts, and what the machine answers over them.
+-- The tokens of small texts, and what the machine returns over them.
 use Rattle.std.proofs.Common.{◌≡◌, ℕ, true, false, List, [], ◌∷◌, Option, Some, None, option_map, option_and_then, refl, sym, ap, subst, ◌∙◌}
 use Rattle.std.specs.Prelude.{pos}
 use Rattle.std.specs.Str.Parse.{digits_value}
@@ -50,13 +50,13 @@ pub some_document : (o : Option Document) (x : Nodes) → option_map document_da
 some_document None x e = cc
 some_document (Some d) x e = (d, refl, cc)
 
--- where the machine answers over its tokens, the text is a document with that data
+-- where the machine returns over its tokens, the text is a document with that data
 pub derived : {t : Text} {ks : List (Token × Text)} → Cut t ks → (x : Nodes) → option_map document_data (run t (initial t) t ks) ≡ Some x → IsDocument true t x
 derived {t = t} {ks = ks} l x e =
     let d = some_document (run t (initial t) t ks) x e in
     subst (λ (z : Nodes). IsDocument true t z) d.2 (sound t d.0 (AnswersDocument.no_bom (runs_of l (initial t) d.0 d.1))).1
 
--- the same behind U+FEFF
+-- the same after U+FEFF
 pub derived_behind_bom : {t : Text} {ks : List (Token × Text)} → Cut t ks → (x : Nodes) → option_map document_data (run (0xFEFF ∷ t) (initial t) t ks) ≡ Some x → IsDocument true (0xFEFF ∷ t) x
 derived_behind_bom {t = t} {ks = ks} l x e =
     let d = some_document (run (0xFEFF ∷ t) (initial t) t ks) x e in

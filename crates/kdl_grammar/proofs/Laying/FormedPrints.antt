@@ -124,14 +124,14 @@ module _ (R S : Head → Head → Type 0) where
     both_nodes EachNodes.last EachNodes.last = EachNodes.last
     both_nodes (EachNodes.next d ds) (EachNodes.next e es) = EachNodes.next (both_node d e) (both_nodes ds es)
 
--- an entry that is one of those laid, spans and the flag aside, can stand
+-- an entry that is one of those laid, spans and the flag aside, may occur
 contained_stands : {exact : Bool} {whole : Text} {es : List Entry} {s r : Text} → LaidEntries exact whole es s r → (e : Entry)
     → (k : ℕ) → k < length (map without_spans_and_flag es) → slice_index_or (map without_spans_and_flag es) k (without_spans_and_flag e) ≡ without_spans_and_flag e → CanStand (formed e)
 contained_stands no_entry e k h x = absurd (omega arith)
 contained_stands (an_entry {e = y} d ds) e zero h x = own_stands {e = y} e x d
 contained_stands (an_entry d ds) e (suc k) h x = contained_stands ds e k (omega arith) x
 
--- own entries and new ones can stand
+-- own entries and new ones may occur
 chosen_stand : {exact : Bool} {whole : Text} {old : List Entry} {s r : Text} → LaidEntries exact whole old s r → (es : List Entry)
     → All (λ (e : Entry). Contains (map without_spans_and_flag old) (without_spans_and_flag e) ⊎ IsFormless e) es → AllStand (map formed es)
 chosen_stand d [] c = none_stands

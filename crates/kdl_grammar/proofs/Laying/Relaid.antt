@@ -34,7 +34,7 @@ record AtEnd (R : Text → Type 0) : Type 0 where
   laid : R text
   end : ValueEnd true text
 
--- entries that can stand before every text with a value end
+-- entries that can come before every text with a value end
 pub data AllStand : List Entry → Type 0 where
   none_stands : AllStand []
   one_stands : {e : Entry} {es : List Entry} → CanStand e → AllStand es → AllStand (e ∷ es)

@@ -1,4 +1,4 @@
--- Gaps, nodes and blocks stand before another rest too.
+-- Gaps, nodes and blocks come before another rest too.
 use Rattle.std.proofs.Common.{◌≡◌, ℕ, Bool, true, false, List, [], ◌∷◌, Option, Some, refl, sym, subst}
 use Rattle.kdl_text.specs.Chars.{Text, Star, none, more, Plus, plus}
 use Rattle.kdl_text.specs.Internal.Here.{first}
@@ -62,7 +62,7 @@ name_end (NameEnds.ends (kept_entry (plus n ss) i d) e) = space_ends n
 name_end (NameEnds.ends (dropped_entry ss m i d) e) = spaces_dash ss m
 name_end (NameEnds.ends (AfterName.blocks d) e) = blocks_end (BlocksEnd.ends d e)
 
--- it stands before every rest
+-- it comes before every rest
 record Closed (R : Text → Text → Type 0) (s r : Text) : Type 0 where
   at : Put s r
   full : (u : Text) → first (at.put u) ≡ first s
@@ -171,7 +171,7 @@ mutual
       let a = move_nodes ns in
       record { at = also 123 (joined a.at (also 125 stands)); full = λ u. refl; there = λ u. braces (a.there (125 ∷ u) refl) }
 
--- the places before and behind a block
+-- the places before and after a block
 pub after_end : {s r : Text} → AfterChildren s r → ValueEnd true r → ValueEnd true s
 after_end (after none ss) e = spaces_end ss e
 after_end (after (more (dropped us m b) ds) ss) e = spaces_dash us m
@@ -200,7 +200,7 @@ move_blocks_then (more (dropped us m b) ds) ss =
 pub move_after : {s r : Text} → AfterChildren s r → Move AfterChildren s r
 move_after (after ds ss) = move_blocks_then ds ss
 
--- it stands before each rest that begins with the same character and ends a value
+-- it comes before each rest that begins with the same character and ends a value
 pub record MoveEnd (R : Text → Text → Type 0) (s r : Text) : Type 0 where
   pub at : Put s r
   pub there : (u : Text) → first u ≡ first r → ValueEnd true u → R (at.put u) u

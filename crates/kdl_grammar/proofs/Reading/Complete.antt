@@ -56,7 +56,7 @@ abbrev add : Option Under → Entry → Option Under
 add None e = None
 add (Some u) e = Some (with_entry u e)
 
--- what stands between a node's last entry and the text behind it
+-- what is between a node's last entry and the text after it
 record Tail : Type 0 where
   k : Children
   before : Text
@@ -134,7 +134,7 @@ module _ (whole : Text) where
   read_string : (out : Document) → {s r v : Text} {st st' : State} → IsString true s r v → step whole st (string v) s r ≡ Some st' → Runs whole out st' r → Runs whole out st s
   read_string out (a_string' p e) f a = reads (t_string p) f a
 
-  -- a state that takes a string here, or a type first, and a value where one may stand
+  -- a state that takes a string here, or a type first, and a value where one may be
   record Takes (b : Bool) (st : State) (s : Text) (c : Slot) (l : Option Nodes) (fs : List Frame) (from : Text) : Type 0 where
     to_string : (v r : Text) → (o : Option Pending) × (step whole st (string v) s r ≡ Some (given whole c None (text v) o l fs from s r))
     to_value : b ≡ true → (v : Value) (r : Text) → step whole st (value v) s r ≡ Some (given whole c None v None l fs from s r)
@@ -233,7 +233,7 @@ module _ (whole : Text) where
   open_slashdash out h l fs from ls a (spaced o) = lines out (at (entry_slashdash h) l fs from) (λ s r. refl) (λ s r. refl) ls (reads t_opening refl a)
   open_slashdash out h l fs from ls a later = lines out (at (block_slashdash h) l fs from) (λ s r. refl) (λ s r. refl) ls (reads t_opening refl a)
 
-  -- a state in which the node may end here; `to` is the state behind the terminator
+  -- a state in which the node may end here; `to` is the state after the terminator
   record Ending (st : State) (s : Text) (to : Text → Text → State) : Type 0 where
     to_semicolon : (r : Text) → step whole st semicolon s r ≡ Some (to (between s r) r)
     to_newline : (r : Text) → step whole st newline s r ≡ Some (to (between s r) r)
@@ -547,7 +547,7 @@ pub lines_gap : {wide : Bool} {s r : Text} → Star LineSpace s r → Gap wide s
 lines_gap no_star = no_gap
 lines_gap (more n ls) = line_space n (lines_gap ls)
 
--- the machine answers one document on it, with that node and line-spaces behind its terminator
+-- the machine returns one document on it, with that node and line-spaces after its terminator
 pub record OnlyNode (t : Text) : Type 0 where
   pub tree : Node
   pub span : SourceSpan

@@ -1,4 +1,4 @@
--- Without data and places the machine is the one that says which tokens may come; so what it answers is derived.
+-- Without data and places the machine is the one that says which tokens may come; so what it returns is derived.
 use Rattle.std.proofs.Common.{◌≡◌, Bool, true, false, List, [], ◌∷◌, Option, Some, None, option_map, refl, sym, ap, subst, ◌∙◌}
 use Rattle.kdl_text.specs.Chars.{Text}
 use Rattle.kdl_entry.specs.Internal.Tokens.{Token, value, closing, bom, t_bom, Lexes, done, next}
@@ -90,7 +90,7 @@ module _ (whole : Text) where
       let b = accepted a in
       record { tokens = k ∷ b.tokens; lexed = next t b.lexed; accepts = ap (c.held (λ c'. c.accepts c' b.tokens)) (erased st k s r ∙ ap (option_map a_state) e) ∙ b.accepts }
 
-  -- what the machine answers is laid in the text, and the text is derived with its data
+  -- what the machine returns is laid in the text, and the text is derived with its data
   pub sound_runs : {d : Document} {s : Text} → Runs whole d (initial s) s → LaidContent true whole d s [] × AreNodes true s [] (document_data d)
   sound_runs {d = d} {s = s} a =
       let b = accepted a in
@@ -109,7 +109,7 @@ no_bom_here {whole = whole} {s = s} {l = l} {fs = fs} {from = from} (reads {r = 
     let f = ap (λ (j : Token). step whole (at gap l fs from) j (0xFEFF ∷ s) r) (sym k) ∙ e in
     cc
 
--- the machine has one answer at most
+-- the machine has one result at most
 pub answers_det : {t : Text} {x y : Document} → AnswersDocument t x → AnswersDocument t y → x ≡ y
 answers_det (AnswersDocument.no_bom a) (AnswersDocument.no_bom b) = runs_det a b
 answers_det (AnswersDocument.behind_bom a) (AnswersDocument.behind_bom b) = ap with_bom (runs_det a b)

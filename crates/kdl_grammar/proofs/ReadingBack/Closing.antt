@@ -176,7 +176,7 @@ no_lf : (s r : Text) → NodesEnd s → s ≡ 10 ∷ r → ⊥
 no_lf s r (inl e) f = cc
 no_lf s r (inr (t, e)) f = let g : 125 ≡ 10 = cc in no_number (subst (λ (z : ℕ). (z == 125) ≡ false) (sym g) refl)
 
--- nodes behind an LF are nodes without it
+-- nodes after an LF are nodes without it
 pub behind_lf : (r : Text) {s : Text} {xs : data'.Nodes} → NodesEnd s → AreNodes true (10 ∷ r) s xs → AreNodes true r s xs
 behind_lf r {s = s} z (last_gap g) = elim (lf_gap r g) [
   | inl e ↦ absurd (no_lf s r z e)

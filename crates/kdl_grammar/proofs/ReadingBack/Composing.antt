@@ -46,7 +46,7 @@ node_before {P = P} x no_node = last_node (ends_before P x)
 node_before x (last_node y) = next_node x (last_node y)
 node_before x (next_node y ys) = next_node x (next_node y ys)
 
--- the nodes behind the first one
+-- the nodes after the first one
 pub nodes_behind : {P : Rests} {n : Node} {ns : Nodes} → NodesRead P (first n ns) → NodesRead P ns
 nodes_behind (last_node x) = no_node
 nodes_behind (next_node x xs) = xs

@@ -77,7 +77,7 @@ lf_terminates : Terminates Anything (10 ∷ [])
 unfolding is_newline_char
 lf_terminates = λ r s xs p z d. (r, Terminator.newline (Newline.one refl refl), d)
 
--- the format of a new node: no text but an LF behind its terminator
+-- the format of a new node: no text but an LF after its terminator
 abbrev pub new_format : NodeFormat
 new_format = record {
   leading = [];

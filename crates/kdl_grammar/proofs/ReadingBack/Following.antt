@@ -1,4 +1,4 @@
--- Spaces and what stands before an entry, before another rest: one that begins with LF only where the old one does, and ends only where it does.
+-- Spaces and what comes before an entry, before another rest: one that begins with LF only where the old one does, and ends only where it does.
 use Rattle.std.proofs.Common.{◌≡◌, ℕ, Bool, true, false, ◌&&◌, ◌==◌, [], ◌∷◌, ◌++◌, Option, refl, sym, ap, subst, ◌∙◌}
 use Rattle.kdl_text.specs.Chars.{Text, begins, begins_two, Newline, crlf, one, Star, none, more, Plus, plus, space as a_space}
 use Rattle.kdl_text.specs.Internal.Here.{first}
@@ -25,7 +25,7 @@ put_follows {r = r} p u f =
     subst (λ (x : Text). Follows (p.put u) x) (sym (p.here ∙ p.text r))
     (subst (λ (x : Text). Follows x (p.piece ++ r)) (sym (p.text u)) (behind_piece p.piece u r f))
 
--- it stands before each such rest
+-- it comes before each such rest
 pub record Shift (R : Text → Text → Type 0) (s r : Text) : Type 0 where
   pub at : Put s r
   pub there : (u : Text) → Follows u r → R (at.put u) u
@@ -33,7 +33,7 @@ pub record Shift (R : Text → Text → Type 0) (s r : Text) : Type 0 where
 pub is_shift : {R : Text → Text → Type 0} {p s r : Text} (m : Shift R s r) → Is R p s r → (u : Text) → Follows u r → Is R p (m.at.put u) u
 is_shift m d u e = record { is = m.there u e; text = same_piece _ m.at d.text u }
 
--- it stands before each rest
+-- it comes before each rest
 pub record Anywhere (R : Text → Text → Type 0) (s r : Text) : Type 0 where
   pub at : Put s r
   pub full : (u : Text) → first (at.put u) ≡ first s

@@ -176,7 +176,7 @@ module _ (exact : Bool) (whole : Text) where
   gap_before : (P : Rests) {q s r : Text} → Is (Gap true) q s r → Like P r → (u : Text) → MayFollow P u → Gap true (q ++ u) u
   gap_before P g h u p = here (is_move (move_gap g.is) g u (h u p))
 
-  -- a node behind a gap comes neither at the end nor before a `}`
+  -- a node after a gap is neither at the end nor before a `}`
   front_some : {q v t : Text} → Is (Gap true) q v t → Front t → v ≡ [] → ⊥
   front_some {t = t} g c e = c.some (end_gap (subst (λ (x : Text). Gap true x t) e g.is))
 

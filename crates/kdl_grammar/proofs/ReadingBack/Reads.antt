@@ -62,7 +62,7 @@ entries_are (x ∷ es) c r {t = t} {k = k} e d =
       end = own.begins (value_text x x.format ++ (print_pieces es ++ r));
     })
 
--- a block and what stands before it, or nothing
+-- a block and what comes before it, or nothing
 abbrev pub block_text : Children → NodeFormat → ℕ → Text
 block_text no_children f depth = []
 block_text (children d) f depth = f.before_children ++ print_block d depth

@@ -2,7 +2,7 @@
 use Rattle.std.specs.Prelude.{Bool, true, false, List, [], ◌∷◌, Option, Some, None}
 use Rattle.kdl_entry.specs.Internal.Tokens.{Token, space, newline, slashdash, string, value, left, right, opening, closing, equals, semicolon}
 
--- in a node before its block: directly behind the name or an entry, which may be a key, or behind spaces, or behind a block that is slashdashed
+-- in a node before its block: directly after the name or an entry, which may be a key, or after spaces, or after a block that is slashdashed
 pub data Spot : Type 0 where
   fresh : Bool → Spot
   spaced : Bool → Spot
@@ -22,7 +22,7 @@ pub data Phase : Type 0 where
   kept : Phase
   kept_slashdash : Phase
 
--- the block of a node, a block that is slashdashed, or one that does so behind the node's block
+-- the block of a node, a block that is slashdashed, or one that does so after the node's block
 pub data Frame : Type 0 where
   in_block : Frame
   in_dropped : Frame
@@ -51,18 +51,18 @@ slashdash_at (fresh b) = entry_slashdash
 slashdash_at (spaced b) = entry_slashdash
 slashdash_at later = block_slashdash
 
--- behind spaces
+-- after spaces
 abbrev pub from_spaced : Spot → Control → Option Control
 from_spaced (spaced b) c = Some c
 from_spaced _ c = None
 
--- behind a string that may be a key
+-- after a string that may be a key
 abbrev pub value_from : Spot → Control → Option Control
 value_from (fresh true) c = Some c
 value_from (spaced true) c = Some c
 value_from _ c = None
 
--- where a value may stand
+-- where a value may be
 abbrev pub for_value : Bool → Control → Option Control
 for_value true c = Some c
 for_value false c = None
@@ -131,7 +131,7 @@ abbrev pub held : (Control → Bool) → Option Control → Bool
 held f None = false
 held f (Some c) = f c
 
--- the tokens may come, and the text may end behind them
+-- the tokens may come, and the text may end after them
 abbrev pub accepts : Control → List Token → Bool
 accepts c [] = finish c
 accepts c (k ∷ ks) = held (λ c'. accepts c' ks) (step c k)

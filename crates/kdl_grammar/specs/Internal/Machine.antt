@@ -1,5 +1,5 @@
 -- The machine that builds the tree: it goes over the tokens of a text once, with a stack of open blocks.
--- The token k stands in the text s before r. Where a place or an item began is kept as the text from there on.
+-- The token k is in the text s before r. Where a place or an item began is kept as the text from there on.
 -- A `None` in the place of a node or of nodes is inside what is slashdashed, of which nothing is built.
 use Rattle.std.specs.Prelude.{◌≡◌, Bool, true, false, List, [], ◌∷◌, ◌++◌, Option, Some, None}
 use Rattle.kdl_text.specs.Chars.{Text}
@@ -32,11 +32,11 @@ pub data Slot : Type 0 where
   no_value : Option Under → Slot
   for_value : Under → Text → Text → Option KeyParts → Slot
 
--- a string that may be a key, and where the place behind it began
+-- a string that may be a key, and where the place after it began
 pub data Pending : Type 0 where
   pending : Slot → Identifier → Text → Pending
 
--- in a node before its block: directly behind the name or an entry, or behind spaces, or behind a block that is slashdashed
+-- in a node before its block: directly after the name or an entry, or after spaces, or after a block that is slashdashed
 pub data Spot : Type 0 where
   fresh : Option Pending → Spot
   spaced : Option Pending → Spot
@@ -56,13 +56,13 @@ pub data Phase : Type 0 where
   kept : Option Kept → Phase
   kept_slashdash : Option Kept → Phase
 
--- an open block: of the node under way, or one that is slashdashed before or behind the node's own; with the nodes around it
+-- an open block: of the node under way, or one that is slashdashed before or after the node's own; with the nodes around it
 pub data Frame : Type 0 where
   in_block : Option Under → Text → Option Nodes → Frame
   in_dropped : Option Under → Option Nodes → Frame
   in_later : Option Kept → Option Nodes → Frame
 
--- where the machine stands: its phase, the nodes so far, the open blocks, and where the place under way began
+-- where the machine is: its phase, the nodes so far, the open blocks, and where the place under way began
 pub data State : Type 0 where
   at : Phase → Option Nodes → List Frame → Text → State
 
@@ -71,7 +71,7 @@ abbrev pub origin : {A : Type 0} → Option A → Text → Text → Text
 origin None from t = from
 origin (Some x) from t = t
 
--- the place under way begins anew, at t, behind what is kept
+-- the place under way begins anew, at t, after what is kept
 abbrev pub moved : Slot → Text → Text → Text
 moved no_name from t = from
 moved (for_name leading start) from t = t
@@ -88,7 +88,7 @@ abbrev pub entry_slot : Option Under → Text → Text → Slot
 entry_slot None leading start = no_value None
 entry_slot (Some u) leading start = for_value u leading start None
 
--- the slot of a value behind its key
+-- the slot of a value after its key
 abbrev pub keyed : Slot → KeyParts → Slot
 keyed (for_value u leading start k') k = for_value u leading start (Some k)
 keyed c k = c
@@ -97,7 +97,7 @@ keyed c k = c
 abbrev pub with_entry : Under → Entry → Under
 with_entry u e = record u { entries = u.entries ++ (e ∷ []) }
 
--- the node under way once its name, or the value of an entry, stands in s before r
+-- the node under way once its name, or the value of an entry, is in s before r
 abbrev pub filled : Text → Slot → Option TypeParts → Value → Text → Text → Option Under
 filled whole no_name y v s r = None
 filled whole (for_name leading start) y (text v) s r = Some (record { leading = leading; start = start; ty = y; name = identifier_at whole v s r; entries = [] })
@@ -136,7 +136,7 @@ abbrev pub inside : Option Under → Option Nodes
 inside None = None
 inside (Some u) = Some none
 
--- the nodes, and the place behind them; without nodes it stands before them, and s is what follows
+-- the nodes, and the place after them; without nodes it comes before them, and s is what follows
 abbrev pub content_at : Text → Nodes → Text → Text → Document
 content_at whole none place s = document (Some (record { leading = place; trailing = [] })) (span_of whole s s) none
 content_at whole (first n ns) place s = document (Some (record { leading = []; trailing = place })) (content_span (span_of whole s s) (first n ns)) (first n ns)
@@ -147,36 +147,36 @@ with_block whole None before l place s = None
 with_block whole (Some u) before None place s = None
 with_block whole (Some u) before (Some ns) place s = Some (record { under = u; before = before; block = content_at whole ns place s })
 
--- behind the `}` that stands in s before r
+-- after the `}` that is in s before r
 abbrev pub popped : Text → Option Nodes → List Frame → Text → Text → Text → Option State
 popped whole l [] from s r = None
 popped whole l (in_block u before m ∷ fs) from s r = Some (at (kept (with_block whole u before l (between from s) s)) m fs (origin u from r))
 popped whole l (in_dropped u m ∷ fs) from s r = Some (at (in_node u later) m fs from)
 popped whole l (in_later x m ∷ fs) from s r = Some (at (kept x) m fs from)
 
--- the spot behind spaces
+-- the spot after spaces
 abbrev pub spaced_of : Spot → Spot
 spaced_of (fresh o) = spaced o
 spaced_of (spaced o) = spaced o
 spaced_of later = later
 
--- behind `/-` at that spot: an entry or a block may follow, behind a block that is slashdashed a block alone
+-- after `/-` at that spot: an entry or a block may follow, after a block that is slashdashed a block alone
 abbrev pub slashdash_at : Option Under → Spot → Phase
 slashdash_at u (fresh o) = entry_slashdash u
 slashdash_at u (spaced o) = entry_slashdash u
 slashdash_at u later = block_slashdash u
 
--- an entry stands behind spaces alone
+-- an entry comes after spaces alone
 abbrev pub from_spaced : Spot → State → Option State
 from_spaced (spaced o) st = Some st
 from_spaced _ st = None
 
--- a number or a keyword stands where a value may
+-- a number or a keyword is allowed where a value may be
 abbrev pub where_value : Bool → State → Option State
 where_value true st = Some st
 where_value false st = None
 
--- behind the `=` that follows a string
+-- after the `=` that follows a string
 abbrev pub value_from : Spot → Text → Text → Option Phase
 value_from (fresh (Some (pending c k a))) s r = Some (property c k (between a s) r)
 value_from (spaced (Some (pending c k a))) s r = Some (property c k (between a s) r)
@@ -187,11 +187,11 @@ abbrev pub stay : Option Nodes → List Frame → Text → Option Phase → Opti
 stay l fs from None = None
 stay l fs from (Some p) = Some (at p l fs from)
 
--- behind the slot's type and its string or value
+-- after the slot's type and its string or value
 abbrev pub given : Text → Slot → Option TypeParts → Value → Option Pending → Option Nodes → List Frame → Text → Text → Text → State
 given whole c y v o l fs from s r = at (in_node (filled whole c y v s r) (fresh o)) l fs (moved c from r)
 
--- behind a string in the slot that may be a key
+-- after a string in the slot that may be a key
 abbrev pub worded : Text → Slot → Text → Option Nodes → List Frame → Text → Text → Text → State
 worded whole c v l fs from s r = given whole c None (text v) (Some (pending c (identifier_at whole v s r) r)) l fs from s r
 
@@ -199,7 +199,7 @@ worded whole c v l fs from s r = given whole c None (text v) (Some (pending c (i
 abbrev pub typed : Text → Identifier → Text → Text → Text → Option TypeParts
 typed before i after a s = Some (record { name = i; before = before; after = after; behind = between a s })
 
--- the token k stands in s before r, in the text `whole`
+-- the token k is in s before r, in the text `whole`
 abbrev pub step : Text → State → Token → Text → Text → Option State
 step whole (at gap l fs from) space s r = Some (at gap l fs from)
 step whole (at gap l fs from) newline s r = Some (at gap l fs from)
@@ -257,7 +257,7 @@ at_end whole l (f ∷ fs) from = None
 at_end whole None [] from = None
 at_end whole (Some ns) [] from = Some (content_at whole ns (between from []) [])
 
--- what the machine answers where the text ends
+-- what the machine returns where the text ends
 abbrev pub finish : Text → State → Option Document
 finish whole (at gap l fs from) = at_end whole l fs from
 finish whole (at (in_node u p) l fs from) = at_end whole (ended (closed whole u no_children [] (between from []) [] []) l) fs (origin u from [])
@@ -268,12 +268,12 @@ finish whole _ = None
 abbrev pub initial : Text → State
 initial s = at gap (Some none) [] s
 
--- from the state on, the text is read to its end, and the answer is d
+-- from the state on, the text is read to its end, and the result is d
 pub data Runs (whole : Text) (d : Document) : State → Text → Type 0 where
   stops : {st : State} → finish whole st ≡ Some d → Runs whole d st []
   reads : {st st' : State} {s r : Text} {k : Token} → BeginsToken s k r → step whole st k s r ≡ Some st' → Runs whole d st' r → Runs whole d st s
 
--- the machine's answer on a text: where U+FEFF begins it, the rest is read
+-- the machine's result on a text: where U+FEFF begins it, the rest is read
 pub data AnswersDocument : Text → Document → Type 0 where
   no_bom : {t : Text} {d : Document} → Runs t d (initial t) t → AnswersDocument t d
   behind_bom : {t : Text} {d : Document} → Runs (0xFEFF ∷ t) d (initial t) t → AnswersDocument (0xFEFF ∷ t) (with_bom d)

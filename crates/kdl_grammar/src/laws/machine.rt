@@ -9,19 +9,19 @@ pub fn lexed()
     ensures { IsLexed }
 {}
 
-/// The machine has one answer at most on each text.
+/// The machine has one result at most on each text.
 #[tactic(auto, using(crate::proofs::LawProofs::one_answer))]
 pub fn one_answer()
     ensures { OneAnswer }
 {}
 
-/// The machine answers exactly where the text is a document, with the document's data.
+/// The machine returns exactly where the text is a document, with the document's data.
 #[tactic(auto, using(crate::proofs::LawProofs::answers_documents))]
 pub fn answers()
     ensures { AnswersDocuments }
 {}
 
-/// What the machine answers is laid in the text, with its spans.
+/// What the machine returns is laid in the text, with its spans.
 #[tactic(auto, using(crate::proofs::LawProofs::answers_are_laid))]
 pub fn answers_are_laid()
     ensures { AnswersAreLaid }

@@ -1,4 +1,4 @@
--- Behind a slashdash between nodes: what the machine without data passes over is the node that is dropped, and no other.
+-- After a slashdash between nodes: what the machine without data passes over is the node that is dropped, and no other.
 use Rattle.std.proofs.Common.{◌≡◌, ◌↔◌, ◌⊎◌, inl, inr, ◌≤◌, true, false, List, [], ◌∷◌, Some, refl, sym, ap, subst, ◌∙◌, length, arith}
 use Rattle.kdl_text.specs.Chars.{Text, Star, plus}
 use Rattle.kdl_text.specs.Chars.Star.{none as no_star, more}
@@ -201,7 +201,7 @@ module _ {t u v e : Text} {k : Token} (p : NodePasses (at node_slashdash []) t t
               GapItems.dropped_node (slashdash ls) (subst (λ (z : Text). IsNode true t' z y) a x) i g
           by_end (inr z) = let q = passes_last ls (subst (λ (z : Text). IsNode true t' z y) z x) no_star in let d = passes_det q.3 p in cc
 
--- a node that the machine passes over to its terminator is dropped: the items are this piece, and those behind the terminator
+-- a node that the machine passes over to its terminator is dropped: the items are this piece, and those after the terminator
 pub node_returned : {t u v e : Text} {k : Token} → NodePasses (at node_slashdash []) t t (returned k u v) → ItemEnd u v e → (is : List Item) → GapItems (47 ∷ 45 ∷ t) is ↔ ((js : List Item) × (is ≡ piece (between (47 ∷ 45 ∷ t) e) ∷ js) × GapItems v js)
 node_returned {t = t} p i is = (λ g. returned_on p i (dash_items g), λ w. subst (λ (z : List Item). GapItems (47 ∷ 45 ∷ t) z) (sym w.1) (returned_back p i w.2))
 
@@ -244,7 +244,7 @@ module _ {t w : Text} (p : NodePasses (at node_slashdash []) t t (ended w)) wher
               let ws = subst (λ (z : Text). Star NodeSpace z []) a q.2 in
               GapItems.last_node (slashdash ls) (subst (λ (z : Text). IsNode true t' z y) a q.1) (ended_tight ls ws) ws g
 
--- so is one that it passes over to the end of the text: the items are this piece, and those of the node-spaces behind it
+-- so is one that it passes over to the end of the text: the items are this piece, and those of the node-spaces after it
 pub node_ended : {t w : Text} → NodePasses (at node_slashdash []) t t (ended w) → (is : List Item) → GapItems (47 ∷ 45 ∷ t) is ↔ ((js : List Item) × (is ≡ piece (between (47 ∷ 45 ∷ t) w) ∷ js) × GapItems w js)
 node_ended {t = t} p is = (λ g. ended_on p (dash_items g), λ x. subst (λ (z : List Item). GapItems (47 ∷ 45 ∷ t) z) (sym x.1) (ended_back p x.2))
 

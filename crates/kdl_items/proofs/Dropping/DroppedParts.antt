@@ -69,7 +69,7 @@ entry_accepted {s = s} ls i f = drop_entry (λ c last s. Accepted c s) accepted_
 block_accepted : {s t u : Text} {xs : Nodes} → Star LineSpace s t → IsBlock true t u xs → Accepted (at (in_node later) []) u → (b : Bool) → Accepted (at (slashdash_phase b) []) s
 block_accepted {s = s} ls i a b = drop_block (λ c last s. Accepted c s) accepted_back ls i a b s
 
--- where the machine may be in a place: behind a dropped block entries come no more
+-- where the machine may be in a place: after a dropped block entries come no more
 abbrev fits : Place → Spot → Bool
 fits behind_block q = true
 fits p later = false
@@ -106,7 +106,7 @@ slashdash_block (fresh b) f = f true
 slashdash_block (spaced b) f = f true
 slashdash_block later f = f false
 
--- what stands in a place is accepted
+-- what is in a place is accepted
 place_accepted : {p : Place} {s : Text} {is : List Item} → PlaceItems p s is → (q : Spot) → fits p q ≡ true → Accepted (at (in_node q) []) s
 place_accepted (PlaceItems.ends e) q h = text_ends q
 place_accepted {p = p} (PlaceItems.space d g) q h = token_first (t_space (space_of d)) refl (place_accepted g (spaced_of q) (fits_spaced p q h))
@@ -114,7 +114,7 @@ place_accepted {p = p} (PlaceItems.dropped_entry e (a_slashdash {s = s} ls) i g)
     token_first t_slashdash refl (subst (λ (m : Phase). Accepted (at m []) s) (slashdash_entry p q e h) (entry_accepted ls i (λ b. place_accepted g (fresh b) (fits_fresh p b))))
 place_accepted (PlaceItems.dropped_block e (a_slashdash ls) b g) q h = token_first t_slashdash refl (slashdash_block q (λ c. block_accepted ls b (place_accepted g later refl) c))
 
--- where the last token that is no node-space ended, and which spaces stand behind it
+-- where the last token that is no node-space ended, and which spaces come after it
 data Behind : Control → Text → Text → Type 0 where
   directly : {c : Control} {s : Text} → Behind c s s
   spaces : {last s : Text} → Plus NodeSpace last s → Behind (at (in_node (spaced true)) []) last s
@@ -179,7 +179,7 @@ token_behind x o t_equals e = directly
 token_behind x o t_semicolon e = directly
 token_behind x o t_bom e = directly
 
--- behind a token, what is accepted goes on
+-- after a token, what is accepted goes on
 token_off : {c d : Control} {s r : Text} {k : Token} → BeginsToken s k r → step c k ≡ Some d → Accepted c s → Accepted d r
 token_off t e (accepted done f) = absurd (no_token t)
 token_off {c = c} t e (accepted (next {ks = ks} u l) f) =
@@ -190,7 +190,7 @@ spaces_off : {s r : Text} → Star NodeSpace s r → Accepted (at (in_node (spac
 spaces_off no_star a = a
 spaces_off (more n m) a = spaces_off m (token_off (t_space n) refl a)
 
--- behind an entry no entry follows directly; behind a block none does
+-- after an entry no entry follows directly; after a block none does
 abbrev ends_in : Bool → Spot → Bool
 ends_in false later = false
 ends_in b q = true
@@ -215,14 +215,14 @@ word_behind {c = c} x directly f = word_accepted c x f
 word_behind x (spaces (plus n ss)) f = spaces_off ss (token_off (t_space n) refl (f (fresh true) refl))
 word_behind x (other o w) f = absurd cc
 
--- where the machine passes over a part, and what stands behind it is accepted, all is accepted
+-- where the machine passes over a part, and what comes after it is accepted, all is accepted
 passes_accepted : {c : Control} {last s u : Text} {b : Bool} → PartPasses c last s b u → Behind c last s → ((q : Spot) → ends_in b q ≡ true → Accepted (at (in_node q) []) u) → Accepted c s
 passes_accepted (over {c = c} x) h f = subst (λ (z : Text). Accepted c z) (over_here x h) (over_accepted c x f)
 passes_accepted (word_ends {c = c} x) h f = word_accepted c x (λ q e. text_ends q)
 passes_accepted (word_over x t e) h f = word_behind x h f
 passes_accepted (goes o w t e p) h f = token_first t e (passes_accepted p (token_behind h o t e) f)
 
--- what is derived behind a name
+-- what is derived after a name
 data Named (s : Text) : Type 0 where
   rest : {r v : Text} {es : List Entry} {k : Children} → AfterName true s r es k → Terminator r v → Named s
 
@@ -278,7 +278,7 @@ part_dropped b (dropped_entry no_star m i d) e = an_entry (dash_lines b m) i (na
 part_dropped b (dropped_entry (more n ss) m i d) e = absurd (dash_space b n)
 part_dropped b (blocks d) e = some_block (blocks_dropped b d e)
 
--- before `/-` a name may stand
+-- before `/-` there may be a name
 slash_char : (s : Text) → starts is_identifier_char (47 ∷ s) ≡ false
 unfolding is_identifier_char is_space is_newline_char is_banned is_punctuation
 slash_char s = refl
@@ -293,14 +293,14 @@ a_name {s = s} = t_string (StringPiece.bare (a_bare refl bare_a (slash_char s)))
 derived : {s : Text} → Accepted (at gap []) s → (xs : Nodes) × AreNodes true s [] xs
 derived (accepted l f) = derives l f
 
--- what is accepted behind `/-` is derived: behind a name
+-- what is accepted after `/-` is derived: after a name
 part_derived : {t : Text} → Accepted (at entry_slashdash []) t → PartDropped t
 part_derived {t = t} a = of (nodes_named a_name (derived (token_first a_name refl (token_first {c = at (in_node (fresh false)) []} t_slashdash refl a))).1)
   where
     of : Named (47 ∷ 45 ∷ t) → PartDropped t
     of (rest d e) = part_dropped t_slashdash d e
 
--- and behind a block
+-- and after a block
 braces_pass : {t : Text} (last : Text) → PartPasses (at entry_slashdash []) last (123 ∷ 125 ∷ t) true t
 braces_pass last = goes refl refl t_opening refl (goes {d = at (in_node later) []} refl refl t_closing refl (over refl))
 
@@ -358,7 +358,7 @@ block_back (before_entry c) x h g = absurd cc
 block_back before_block x h g = block_of before_block true refl x (some_part x (part_derived (passes_accepted x directly (λ q e. place_accepted g q refl)))) g
 block_back behind_block x h g = block_of behind_block false refl x (block_derived (passes_accepted x directly (λ q e. place_accepted g q refl))) g
 
--- An entry is passed over behind the slashdash.
+-- An entry is passed over after the slashdash.
 entry_there : {p : Place} {t u : Text} {all : List Item} → PartPasses (slashdash_in p) t t false u → Dropped p t all → (js : List Item) × (all ≡ piece (between (47 ∷ 45 ∷ t) u) ∷ js) × PlaceItems (items.spaced false p) u js
 entry_there {p = p} {t = t} x (by_entry {is = is} y g e) =
     let f = (passes_det y x).1 in

@@ -1,4 +1,4 @@
--- What a slashdash drops is cut out of the text, and what stands behind it goes on.
+-- What a slashdash drops is cut out of the text, and what comes after it goes on.
 use Rattle.std.proofs.Common.{◌≡◌, ◌↔◌, ◌⊎◌, inl, inr, ℕ, ◌+◌, ◌-◌, ◌<◌, ◌≤◌, ◌==◌, Bool, true, false, List, [], ◌∷◌, ◌++◌, length, Option, Some, None, refl, sym, ap, subst, ◌∙◌, arith, append_assoc, length-append}
 use Rattle.std.specs.Str.{chars, IsUtf8}
 use Rattle.kdl_text.specs.Chars.{Text}
@@ -42,7 +42,7 @@ a_semicolon : (k : TokenKind) → kind_view k ≡ semicolon → k ≡ Semicolon
 a_semicolon Semicolon e = refl
 a_semicolon _ e = absurd cc
 
--- the texts before and behind a place, by the bytes of both
+-- the texts before and after a place, by the bytes of both
 pub len_before : (bs ds : List ℕ) (p : Text) → IsUtf8 bs → IsUtf8 ds → chars bs ≡ p ++ chars ds → (length ds ≤ length bs) × (bytes p ≡ length bs - length ds)
 len_before bs ds p u v e =
     let n : length bs ≡ bytes p + length ds = sym (bytes-chars bs u) ∙ ap bytes e ∙ bytes-append p (chars ds) ∙ ap (λ (k : ℕ). bytes p + k) (bytes-chars ds v) in
@@ -52,7 +52,7 @@ len_before bs ds p u v e =
 pub end_semicolon : (t s r : Text) (k : TokenKind) (n : ℕ) → Cuts s (kind_view k) r → k ≡ Semicolon → Before t n r → (i : Text) × ItemEnd s r i × Before t n i × Before t n r × HasOpenEnd s r false
 end_semicolon t s r k n c e b = (r, semicolon_cut c (ap kind_view e), b, b, semicolon_open c (ap kind_view e))
 
--- what stands behind a line's text
+-- what comes after a line's text
 line_parts : (s u f e : Text) → u ≡ s → u ≡ f ++ e → e ≡ line_end u → (s ≡ f ++ e) × (e ≡ line_end s)
 line_parts s u f e x y z = (sym x ∙ y, z ∙ ap line_end x)
 
@@ -74,7 +74,7 @@ line_open bs s r k c (inr e) f u l b h = absurd (f (a_semicolon k e))
 line_open bs s r k c (inl e) f u l true h = HasOpenEnd.unended (newline_cut c e) (sym l ∙ no_chars bs (sym h))
 line_open bs s r k c (inl e) f u l false h = HasOpenEnd.ended (newline_cut c e) (λ z. some_chars bs u (sym h) (l ∙ z))
 
--- behind `/-`
+-- after `/-`
 pub dash_cut : (s t : Text) → s ≡ 47 ∷ 45 ∷ t → Cut s 2
 dash_cut s t e = (47 ∷ 45 ∷ [], t, e, refl)
 

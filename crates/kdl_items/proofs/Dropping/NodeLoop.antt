@@ -26,7 +26,7 @@ Of P (Some d) = P d
 pub there : (P : Control → Type 0) {o : Option Control} {d : Control} → o ≡ Some d → Of P o → P d
 there P e x = subst (Of P) e x
 
--- behind a space the machine takes more of them, and stays what it is
+-- after a space the machine takes more of them, and stays what it is
 space_turn : (c : Control) → is_gap c ≡ false → Of (λ d. (is_gap d ≡ false) × (step d space ≡ Some d)) (step c space)
 space_turn (at gap fs) g = (g, refl)
 space_turn (at node_slashdash fs) g = (refl, refl)
@@ -136,7 +136,7 @@ last_turn : {c d : Control} {last s r : Text} {k : Token} → is_gap c ≡ false
 last_turn {d = d} g (one t) f h = returns t (f ∙ ap Some (gap_is d h))
 last_turn {c = c} g (spaces n) f h = let x = (there (λ d. (is_gap d ≡ false) × (step d space ≡ Some d)) f (space_turn c g)).0 in absurd cc
 
--- the place behind a token
+-- the place after a token
 pub then_before : (t : Text) (old new : Here) → Before t old.at old.rest → Moves old new → Before t new.at new.rest
 then_before t old new (p, e, n) m =
     let q = m.piece.0 in
@@ -154,7 +154,7 @@ pub cut_shorter : {s r : Text} {k : Token} → Cuts s k r → length r < length 
 cut_shorter (one t) = token_shorter t
 cut_shorter (spaces (plus n m)) = omega (arith, token_shorter (t_space n), spaces_shorter m)
 
--- the lexer stands in the text t, over which the machine passes as from here on; the last token that is no node-space ended behind so many bytes
+-- the lexer is in the text t, over which the machine passes as from here on; the last token that is no node-space ended after so many bytes
 pub record NodeGoes (here : Here) (c : Control) (t : Text) (last : ℕ) : Type 0 where
   pub behind : Text
   pub same : (e : NodeEnd) → NodePasses (at node_slashdash []) t t e ↔ NodePasses c behind here.rest e

@@ -1,4 +1,4 @@
--- The blocks that the machine behind a slashdash has open, kept in a row with the last one at its end.
+-- The blocks that the machine after a slashdash has open, kept in a row with the last one at its end.
 use Rattle.std.proofs.Common.{◌≡◌, ◌⊎◌, inl, inr, ℕ, suc, ◌==◌, Bool, true, false, List, [], ◌∷◌, ◌++◌, length, Option, Some, refl, sym, ap, ◌∙◌}
 use Rattle.std.proofs.lemmas.Bool.{eq-eqb, eqb-true}
 use Rattle.std.specs.Prelude.{option_to_list}

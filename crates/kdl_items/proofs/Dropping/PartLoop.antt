@@ -17,7 +17,7 @@ use Rattle.kdl_items.specs.Internal.Passed.{Before, AnswersDroppedPart, of_space
 use Rattle.kdl_items.specs.declared.dropped.PartEnd.{PartEnd}
 use Rattle.kdl_items.proofs.Dropping.NodeLoop.{Of, there, then_before, moved_before}
 
--- behind a space the machine takes more of them, and nothing ends there
+-- after a space the machine takes more of them, and nothing ends there
 space_turn : (c : Control) → is_over c ≡ false → Of (λ d. (is_over d ≡ false) × (step d space ≡ Some d)) (step c space)
 space_turn (at gap fs) o = (refl, refl)
 space_turn (at node_slashdash fs) o = (refl, refl)
@@ -95,7 +95,7 @@ word_turn : {c : Control} {last s r : Text} {k : Token} → is_word c ≡ true �
 word_turn x (one t) h = word_over x t h
 word_turn x (spaces n) h = absurd cc
 
--- the lexer stands in the text t behind `/-` in the place, over which the machine passes as from here on; the last token that is no node-space ended behind so many bytes
+-- the lexer is in the text t after `/-` in the place, over which the machine passes as from here on; the last token that is no node-space ended after so many bytes
 pub record PartGoes (p : Place) (here : Here) (c : Control) (t : Text) (last : ℕ) : Type 0 where
   pub behind : Text
   pub same : (b : Bool) (u : Text) → PartPasses (slashdash_in p) t t b u ↔ PartPasses c behind here.rest b u
@@ -133,7 +133,7 @@ part_refused_here p t old new c k last g h w f = λ b u x. cut_refused g.under_w
 pub part_faulty : (p : Place) (t : Text) (old : Here) (c : Control) (last : ℕ) → PartGoes p old c t last → NoToken old.rest → AnswersDroppedPart p t None
 part_faulty p t old c last g n = λ b u x. nothing_begins g.under_way n ((g.same b u).0 x)
 
--- what the reader of a string's end answers
+-- what the reader of a string's end returns
 abbrev pub WordEnds : Control → ℕ → Option PartEnd → Type 0
 WordEnds c last o = MatchOption o (is_word c ≡ false) (λ e. (is_word c ≡ true) × (e.at ≡ last) × (e.is_block ≡ false))
 
@@ -162,7 +162,7 @@ part_word p t old new c k last (Some e) g h w (w', i, j) =
     let x = no_follower (follows_word (kind_view k.kind)) (and_parts (is_word c) (not (follows_word (kind_view k.kind))) w).1 in
     a_word p t old.rest c last e g.behind ((g.same false g.behind).1 (word_turn w' h.cuts x)) g.counted i j
 
--- behind a value or a block
+-- after a value or a block
 pub part_over : (p : Place) (t : Text) (old new : Here) (c d : Control) (k : CodeToken) (last n : ℕ) (b : Bool) → PartGoes p old c t last → HandsOut old k new → Moves old new → (is_word c && not (follows_word (kind_view k.kind))) ≡ false → step c (kind_view k.kind) ≡ Some d
     → n ≡ (if of_spaces (kind_view k.kind) then last else k.end.at) → is_over d ≡ true → b ≡ is_block d → AnswersDroppedPart p t (Some (record { at = n; is_block = b }))
 part_over p t old new c d k last n b g h m w f i x j =

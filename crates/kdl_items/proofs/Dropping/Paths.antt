@@ -14,7 +14,7 @@ use Rattle.kdl_grammar.specs.Grammar.{Terminator, IsNode, named, AfterName, kept
 use Rattle.kdl_grammar.specs.Internal.Control.{Spot, fresh, spaced, later, Phase, gap, node_slashdash, type_open, type_name, type_done, in_node, property, entry_slashdash, block_slashdash, kept, kept_slashdash, Frame, in_block, in_dropped, in_later, Control, at, popped, spaced_of, slashdash_at, step}
 use Rattle.kdl_items.specs.Internal.Passing.{moved, is_gap, NodeEnd, NodePasses, is_over, is_word, follows_word, PartPasses, slashdash_phase}
 
--- behind the name of a node
+-- after the name of a node
 pub data Tail (fs : List Frame) : Control → Type 0 where
   before_block : {q : Spot} → Tail fs (at (in_node q) fs)
   behind_block : Tail fs (at kept fs)
@@ -126,7 +126,7 @@ module _ (P : Control → Text → Text → Type 0) (over : Back P) where
   lines p h g e f (more (LineSpace.space n) m) x last = h _ _ _ _ _ (t_space n) e g (lines p h g e f m x last)
   lines p h g e f (more (LineSpace.«break» n) m) x last = h _ _ _ _ _ (t_newline n) f g (lines p h g e f m x _)
 
-  -- behind the `(`
+  -- after the `(`
   type_in : {fs : List Frame} (b : Bool) {s t u r v : Text} → Star NodeSpace s t → IsString true t u v → Star NodeSpace u (41 ∷ r) → P (at (type_done b) fs) r r → (last : Text) → P (at (type_open b) fs) last s
   type_in {fs = fs} b ss (a_string' p e) us x last =
       stay (at (type_open b) fs) (λ last s r n x. back (t_space n) refl refl refl refl x) ss (back (t_string p) refl refl refl refl
@@ -144,7 +144,7 @@ module _ (P : Control → Text → Text → Type 0) (over : Back P) where
       h _ _ _ _ _ t_left to_left refl (type_in true ss w us (stay (at (type_done true) fs) (λ last s r n x. back (t_space n) refl refl refl refl x) vs
       (plain_value d (type_done true) (λ d last s r k t e g x. back t e g refl refl x) false (λ v. refl) (λ v. refl) x _)) _)
 
-  -- behind the key
+  -- after the key
   equals_in : {fs : List Frame} {s u : Text} → Star NodeSpace s (61 ∷ u) → P (at property fs) u u → (last : Text) → P (at (in_node (fresh true)) fs) last s
   equals_in {fs = fs} no_star x last = back t_equals refl refl refl (and_false (is_word (at (in_node (fresh true)) fs))) x
   equals_in {fs = fs} (more n m) x last =
@@ -159,7 +159,7 @@ module _ (P : Control → Text → Text → Type 0) (over : Back P) where
       h _ _ _ _ _ (t_string q) (to_string _) refl (equals_in ss (stay (at property fs) (λ last s r n x. back (t_space n) refl refl refl refl x) us
       (a_value v property (λ d last s r k t e g x. back t e g refl refl x) false (λ v. refl) (λ v. refl) refl x _)) _)
 
-  -- node-spaces behind a name, an entry or a dropped block
+  -- node-spaces after a name, an entry or a dropped block
   spaces : {fs : List Frame} {last s r : Text} → Star NodeSpace s r → (q : Spot) → Here P fs → ((q' : Spot) → slashdash_at q' ≡ slashdash_at q → P (at (in_node q') fs) last r) → P (at (in_node q) fs) last s
   spaces no_star q h x = x q refl
   spaces (more n m) q h x = h (in_node q) _ _ _ _ _ (t_space n) refl refl (spaces m (spaced_of q) h (λ q' e. x q' (e ∙ slashdash_spaced q)))
@@ -171,7 +171,7 @@ module _ (P : Control → Text → Text → Type 0) (over : Back P) where
   tail_spaces (before_block {q = q}) ss h x = spaces ss q h (λ q' e. x _ before_block)
   tail_spaces behind_block ss h x = kept_spaces ss h (x _ behind_block)
 
-  -- the terminator, where the nodes go on behind it or end
+  -- the terminator, where the nodes go on after it or end
   pub terminator : {fs : List Frame} {c : Control} {u v : Text} → Terminator u v → Tail fs c → ToGap P fs → ((last : Text) → P (at gap fs) last v) → (Halt v → (last : Text) → P c last v) → (last : Text) → P c last u
   terminator Terminator.semicolon (before_block {q = q}) t x z last = t (in_node q) _ _ _ _ t_semicolon refl (x _)
   terminator Terminator.semicolon behind_block t x z last = t kept _ _ _ _ t_semicolon refl (x _)

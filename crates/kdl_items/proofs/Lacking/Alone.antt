@@ -1,4 +1,4 @@
--- What may be before a `}` may be alone.
+-- What may come before a `}` may be a whole text.
 use Rattle.std.proofs.Common.{◌≡◌, Bool, true, false, ◌&&◌, ◌==◌, [], ◌∷◌, ◌++◌, length, refl, sym, ap, subst, ◌∙◌, arith, append-nil, length-append}
 use Rattle.kdl_text.specs.Chars.{Text, begins, Newline, crlf, one, Star, none, more}
 use Rattle.kdl_text.specs.Internal.Here.{first}

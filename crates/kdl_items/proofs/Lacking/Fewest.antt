@@ -1,4 +1,4 @@
--- Fewer newlines do not do.
+-- Fewer newlines are not enough.
 use Rattle.std.proofs.Common.{◌≡◌, ◌⊎◌, inl, inr, ℕ, zero, suc, ◌+◌, ◌-◌, ◌<◌, true, false, [], ◌∷◌, ◌++◌, length, Option, Some, None, refl, sym, ap, subst, ◌∙◌, arith, append_assoc}
 use Rattle.kdl_text.specs.Bare.{is_bare}
 use Rattle.kdl_text.specs.Bare.BareString.{bare as a_bare}

@@ -1,5 +1,5 @@
 -- What the first piece of a gap adds to the nodes after it.
-use Rattle.std.proofs.Common.{◌≡◌, inl, inr, ℕ, ◌<◌, Bool, true, false, ◌&&◌, ◌==◌, if◌then◌else◌, length-append, List, [], ◌∷◌, ◌++◌, length, Some, None, Bor, refl, sym, ap, subst, ◌∙◌, arith, append_assoc, append-nil}
+use Rattle.std.proofs.Common.{◌≡◌, ℕ, ◌<◌, Bool, true, false, ◌&&◌, ◌==◌, if◌then◌else◌, length-append, List, [], ◌∷◌, ◌++◌, length, Some, None, Bor, refl, sym, ap, subst, ◌∙◌, arith, append_assoc, append-nil}
 use Rattle.std.proofs.lemmas.Bool.{and_parts, eqb-true}
 use Rattle.std.specs.Str.{chars}
 use Rattle.kdl_text.specs.Chars.{Text, is_newline_char, begins, begins_two, starts, Newline, crlf, one, Star, none, more, Plus, plus}
@@ -9,16 +9,15 @@ use Rattle.kdl_text.specs.Trivia.{Line, LineComment, line as a_line, NodeSpace, 
 use Rattle.kdl_text.proofs.Looking.Stars.{snoc, meets}
 use Rattle.kdl_text.proofs.Spacing.SpacePieces.{node_space_shorter, line_space_shorter}
 use Rattle.kdl_text.proofs.Spacing.SpaceUnique.{newline_begins, line_comment_begins, node_space_dets, line_space_det, space_or_break}
-use Rattle.kdl_entry.specs.Entries.{string as a_string', untyped, typed}
 use Rattle.kdl_entry.specs.Internal.Tokens.{Token, BeginsToken, t_space, t_newline, t_slashdash, t_string, t_value, t_left, t_right, t_opening, t_closing, t_equals, t_semicolon, t_bom}
-use Rattle.kdl_entry.proofs.Lexing.TokenUnique.{token_det}
 use Rattle.kdl_entry.proofs.Moving.EntryMoves.{move_spaces, move_slashdash, spaces_end}
 use Rattle.kdl_grammar.specs.Data as nodes'
 use Rattle.kdl_grammar.specs.Data.{Node, Nodes}
-use Rattle.kdl_grammar.specs.Grammar.{Terminator, IsNode, named, Gap, no_gap, line_space, dropped_node, AreNodes, last_gap, node_then}
+use Rattle.kdl_grammar.specs.Grammar.{Terminator, IsNode, Gap, no_gap, line_space, dropped_node, AreNodes, last_gap, node_then}
 use Rattle.kdl_grammar.specs.Internal.Control.{Control, at, node_slashdash}
 use Rattle.kdl_grammar.specs.ReadsBack.{NodesEnd, AddsNothing}
 use Rattle.kdl_grammar.proofs.Moving.Moves.{terminator_end}
+use Rattle.kdl_grammar.proofs.ReadingBack.Closing.{behind_lf}
 use Rattle.kdl_items.specs.Items.{Item, line_end, ItemEnd, EndsTight}
 use Rattle.kdl_items.specs.Lacks.{newlines}
 use Rattle.kdl_items.specs.Internal.Lacking.{letter, Fewest, GapEnds, EndsInReturn, EndsAs, HasOpenEnd, semicolon, ended, unended, SpacesLack, Through, PieceEnds}
@@ -54,28 +53,6 @@ lines_gap (more n ns) = line_space n (lines_gap ns)
 -- an LF before nodes adds nothing, and goes with a CR
 lf_space : (r : Text) → LineSpace (10 ∷ r) r
 lf_space r = LineSpace.«break» (Break.newline (lf r))
-
-no_lf_end : {r : Text} → NodesEnd (10 ∷ r) → ⊥
-no_lf_end (inl e) = cc
-no_lf_end (inr (t, e)) = cc
-
-no_lf_node : {r u : Text} {x : Node} → IsNode true (10 ∷ r) u x → ⊥
-no_lf_node {r = r} (named untyped (a_string' p e) d) = let e = (token_det (t_newline (Break.newline (lf r))) (t_string p)).1 in cc
-no_lf_node (named (typed y ss) z d) = elim y [ ]
-
-gap_behind_lf : {r z : Text} → NodesEnd z → Gap true (10 ∷ r) z → Gap true r z
-gap_behind_lf e no_gap = absurd (no_lf_end e)
-gap_behind_lf {r = r} {z = z} e (line_space n g) = subst (λ (y : Text). Gap true y z) (line_space_det n (lf_space r)) g
-gap_behind_lf e (dropped_node m x t g) = elim m [ ]
-
-node_behind_lf : {r t u : Text} {x : Node} → Gap true (10 ∷ r) t → IsNode true t u x → Gap true r t
-node_behind_lf no_gap x = absurd (no_lf_node x)
-node_behind_lf {r = r} {t = t} (line_space n g) x = subst (λ (y : Text). Gap true y t) (line_space_det n (lf_space r)) g
-node_behind_lf (dropped_node m y t g) x = elim m [ ]
-
-pub behind_lf : {r z : Text} {xs : Nodes} → NodesEnd z → AreNodes true (10 ∷ r) z xs → AreNodes true r z xs
-behind_lf e (last_gap g) = last_gap (gap_behind_lf e g)
-behind_lf e (node_then g x t ds) = node_then (node_behind_lf g x) x t ds
 
 -- one piece after another
 pub through_start : (s : Text) → Through s s
@@ -120,7 +97,7 @@ return_adds {s = s} k r z xs e ds = go (begins 10 r) refl
     go : (b : Bool) → begins 10 r ≡ b → AreNodes true (s ++ r) z xs
     go true h =
         let (t, f) = begins_lf r h in
-        subst (λ (y : Text). AreNodes true (s ++ y) z xs) (sym f) (in_front (one_line (k.before_lf t)) (behind_lf e (subst (λ (y : Text). AreNodes true y z xs) f ds)))
+        subst (λ (y : Text). AreNodes true (s ++ y) z xs) (sym f) (in_front (one_line (k.before_lf t)) (behind_lf _ e (subst (λ (y : Text). AreNodes true y z xs) f ds)))
     go false h = in_front (one_line (k.alone r h)) ds
 
 with_none : (s : Text) → AddsNothing s → AddsNothing (s ++ newlines 0)
@@ -168,7 +145,7 @@ newline_adds (one {c = c} {r = []} x y) (d ∷ w) z xs e ds = go ((c == 13) && (
     go true h =
         let (i, j) = and_parts (c == 13) (d == 10) h in
         let k : c ≡ 13 = eqb-true c 13 i in let l : d ≡ 10 = eqb-true d 10 j in
-        (w, rw (k, l) crlf, behind_lf e (subst (λ (y : ℕ). AreNodes true (y ∷ w) z xs) l ds))
+        (w, rw (k, l) crlf, behind_lf _ e (subst (λ (y : ℕ). AreNodes true (y ∷ w) z xs) l ds))
     go false h = (d ∷ w, one x h, ds)
 
 line_adds : {u v : Text} → Line u v → (line_end u ≡ [] → ⊥) → (w z : Text) (xs : Nodes) → NodesEnd z → AreNodes true (v ++ w) z xs → (t : Text) × Line (u ++ w) t × AreNodes true t z xs

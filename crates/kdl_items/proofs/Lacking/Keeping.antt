@@ -1,4 +1,4 @@
--- What is before a rest is before more of it.
+-- A piece that comes before a rest comes before a longer rest.
 use Rattle.std.proofs.Common.{◌≡◌, [], ◌∷◌, ◌++◌, refl, sym, ap, subst, ◌∙◌, append_assoc, append-nil}
 use Rattle.kdl_text.specs.Chars.{Text, Star, none, more, Space, space as a_space}
 use Rattle.kdl_text.specs.Internal.Here.{first}
@@ -6,7 +6,7 @@ use Rattle.kdl_text.specs.Trivia.{BlockComment, Ws}
 use Rattle.kdl_entry.proofs.Moving.Puts.{Put, Move}
 use Rattle.kdl_items.proofs.Rewriting.BeforeNewlines.{closed_block, closed_run}
 
--- a text as a function of its rest, of more
+-- the text before a longer rest
 pub put_more : {s r : Text} (p : Put s r) (w : Text) → p.put (r ++ w) ≡ s ++ w
 put_more {r = r} p w = p.text (r ++ w) ∙ sym (append_assoc p.piece r w) ∙ ap (λ (z : Text). z ++ w) (sym (p.text r) ∙ sym p.here)
 

@@ -1,4 +1,4 @@
--- Before each terminator, fewer newlines do not do.
+-- Before each terminator, fewer newlines are not enough.
 use Rattle.std.proofs.Common.{◌≡◌, Bool, true, false, [], ◌∷◌, ◌++◌, None, refl}
 use Rattle.kdl_text.specs.Bare.BareString.{bare as a_bare}
 use Rattle.kdl_text.specs.Chars.{Text, Star, none, more}
@@ -52,7 +52,7 @@ place_node behind_block h (after ds ss) e =
       named untyped (a_string' (letter_piece k) k) (AfterName.blocks (Blocks.block none (braces (last_gap no_gap)) (later ds ss))),
     )
 
--- a text that an LF ends may not be there before each terminator
+-- a text that needs an LF to end may not be in the place before each terminator
 pub not_each : (p : Place) → takes_blocks p ≡ true → (t : Text) → ((s z : Text) → InPlace p s z → ValueEnd true z → ValueEnd true s) → InPlace p (t ++ (10 ∷ letter)) letter → BeforeEach p t → ⊥
 not_each p h t ends d f =
     let r = 10 ∷ letter in

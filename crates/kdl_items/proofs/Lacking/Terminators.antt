@@ -13,7 +13,8 @@ use Rattle.kdl_items.specs.Internal.Lacking.{letter, GapAnswer, LineEnds}
 use Rattle.kdl_items.specs.declared.ends.Ending.TheVariants.{Before, InReturn, Open}
 use Rattle.kdl_items.proofs.Dropping.Paths.{at_brace, halts}
 use Rattle.kdl_items.proofs.Lacking.Fewest.{a, letter_node, some_nodes, no_nodes, fewer_not, ends_more}
-use Rattle.kdl_items.proofs.Lacking.GapPieces.{behind_lf, begins_lf}
+use Rattle.kdl_grammar.proofs.ReadingBack.Closing.{behind_lf}
+use Rattle.kdl_items.proofs.Lacking.GapPieces.{begins_lf}
 use Rattle.kdl_items.proofs.Lacking.Keeping.{alone}
 use Rattle.kdl_items.proofs.Lacking.SpaceEnds.{Rest, rest_is, lf, cr, break_at, comment_open, letter_line, space_no_newline, no_line_end}
 
@@ -31,7 +32,7 @@ behind Terminator.semicolon = refl
 behind (Terminator.newline n) = let x = newline_begins n in let y = semicolon_no_newline in absurd cc
 behind (Terminator.comment l) = elim l [ ]
 
--- where one newline less leaves no node, fewer do not do
+-- where one newline fewer leaves no node, fewer are not enough
 fewer : (t : Text) (k : ℕ) → ((j : ℕ) → suc j ≡ k → (v : Text) → Terminator ((t ++ newlines j) ++ letter) v → AreNodes true v [] (first a none) → first a none ≡ none) → (j : ℕ) → j < k → Terminates Anything (t ++ newlines j) → ⊥
 fewer t k f = fewer_not (Terminates Anything) t k (ends_more t) (λ j e p. let (v, m, ds) = p letter [] (first a none) tt (inl refl) letter_node in some_nodes (f j e v m ds))
 
@@ -109,7 +110,7 @@ return_alone t e x n =
         let (u, i) = begins_lf w h in (
           u,
           subst (λ (y : Text). Terminator ((t ++ newlines 0) ++ y) u) (sym i) (subst (λ (y : Text). Terminator (y ++ (10 ∷ u)) u) (sym (append-nil t)) (break_terminator (g u))),
-          behind_lf e (subst (λ (y : Text). AreNodes true y z xs) i ds),
+          behind_lf _ e (subst (λ (y : Text). AreNodes true y z xs) i ds),
         )
     go w z xs e ds f g false h = (w, subst (λ (y : Text). Terminator (y ++ w) w) (sym (append-nil t)) (break_terminator (f w h)), ds)
 

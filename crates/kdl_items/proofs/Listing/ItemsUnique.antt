@@ -14,7 +14,7 @@ use Rattle.kdl_items.proofs.Dropping.NoEquals.{place_quiet}
 use Rattle.kdl_items.proofs.Dropping.DroppedParts.{entry_passes, block_passes, part_entry, part_block}
 use Rattle.kdl_items.proofs.Listing.SpaceItems.{gap_space, gap_end, place_space, place_end}
 
--- no node-spaces stand where the node ends tight
+-- there are no node-spaces where the node ends tight
 tight_end : {t u w : Text} {x : Node} → EndsTight t u → IsNode true t w x → Star NodeSpace w u → w ≡ u
 tight_end tight x no_star = refl
 tight_end tight x (more n ss) = absurd (tight _ _ x (plus n ss))

@@ -1,4 +1,4 @@
--- What the readers of spaces, comments and newlines answer, of the text that a cursor began with; and the items that they add.
+-- What the readers of spaces, comments and newlines return, of the text that a cursor began with; and the items that they add.
 use Rattle.std.proofs.Common.{◌≡◌, ℕ, ◌<◌, ◌≤◌, Bool, true, false, not, ◌&&◌, ◌==◌, List, [], ◌∷◌, ◌++◌, length, Option, Some, None, MatchOption, option_map, Bor, refl, sym, ap, subst, ◌∙◌, arith, append_assoc, append-nil, if◌then◌else◌}
 use Rattle.std.proofs.lemmas.List.{map-append}
 use Rattle.std.proofs.lemmas.Str.{chars-nil, encodes-chars}
@@ -44,7 +44,7 @@ cut_len s a b (k, e) m =
 pub cut_at : (s : Text) (n : ℕ) (a b : Here) → Began s a → Moves a b → n ≡ b.at → Cut s n
 cut_at s n a b g m e = let (p, q) = cut_len s a b g m in (m.piece.0, b.rest, p, q ∙ sym e)
 
--- what stands before and behind the place where the cursor is
+-- what comes before and after the place where the cursor is
 pub parts_at : (s f r : Text) (n : ℕ) (a b : Here) → Began s a → Moves a b → n ≡ b.at → ((p q : Text) → s ≡ p ++ q → bytes p ≡ n → (f ≡ p) × (r ≡ q)) → (r ≡ b.rest) × (s ≡ f ++ r)
 parts_at s f r n a b g m e h =
     let (p, q) = cut_len s a b g m in
@@ -87,7 +87,7 @@ pub reads_newline : (s : Text) (a b : Here) (found : Bool) → Began s a → Rea
 reads_newline s a b true g n e = subst (λ (z : Text). Newline z b.rest) (began_rest s a g) n
 reads_newline s a b false g n e = absurd cc
 
--- a block comment behind two looks
+-- a block comment after two looks
 pub reads_block : (s : Text) (a b d : Here) (closed : Bool) → Began s a → Stayed 2 a b → Reads BlockComment closed b.rest d.rest → closed ≡ true → BlockComment s d.rest
 reads_block s a b d true g st c e = subst (λ (z : Text). BlockComment z d.rest) (st.rest ∙ began_rest s a g) ((c d.rest).1 refl)
 reads_block s a b d false g st c e = absurd cc

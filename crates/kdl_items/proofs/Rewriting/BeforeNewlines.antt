@@ -1,4 +1,4 @@
--- Node-spaces and nodes that stand before a newline stand before LF too, where CR at their end is LF.
+-- Node-spaces and nodes that come before a newline come before LF too, where CR at their end is LF.
 use Rattle.std.proofs.Common.{◌≡◌, ℕ, Bool, true, false, ◌&&◌, ◌==◌, List, [], ◌∷◌, ◌++◌, refl, sym, ap, subst, ◌∙◌, append_assoc}
 use Rattle.std.proofs.lemmas.List.{append_cancel_right}
 use Rattle.std.specs.Prelude.{if◌then◌else◌}
@@ -36,7 +36,7 @@ piece_kept {r = r} q e l p =
 lined_behind : (q : Text) {piece line : Text} → ((p : Text) → line_text (p ++ piece) ≡ p ++ line) → (p : Text) → line_text (p ++ (q ++ piece)) ≡ p ++ (q ++ line)
 lined_behind q {piece} {line} f p = ap line_text (sym (append_assoc p q piece)) ∙ f (p ++ q) ∙ append_assoc p q line
 
--- it stands before each rest
+-- it comes before each rest
 pub record Closed (R : Text → Text → Type 0) (s r : Text) : Type 0 where
   pub at : Put s r
   pub full : (u : Text) → first (at.put u) ≡ first s
@@ -74,7 +74,7 @@ pub closed_run : {s r : Text} → Star Ws s r → ClosedRun s r
 closed_run none = record { at = stands; there = λ u. none }
 closed_run (more w ws) = let m = closed_ws w in let k = closed_run ws in record { at = joined m.at k.at; there = λ u. more (m.there (k.at.put u)) (k.there u) }
 
--- what stands in s before r, and the same before LF
+-- what is in s before r, and the same before LF
 pub record OnLine (R : Text → Text → Type 0) (s r : Text) : Type 0 where
   pub piece : Text
   pub line : Text
@@ -185,7 +185,7 @@ spaces_line n (more m ms) h =
       begun = λ u. ap first (sym (put_line a.at k.on.line u)) ∙ same a.at (k.on.line ++ (10 ∷ u)) (k.begun u);
     }
 
--- what ends with node-spaces, cut before them: it stands before each value end, and node-spaces behind it
+-- what ends with node-spaces, cut before them: it comes before each value end, and node-spaces after it
 pub record Cut (R : Text → Text → Type 0) (s r : Text) : Type 0 where
   pub rest : Text
   pub at : Put s rest

@@ -27,7 +27,7 @@ use Rattle.kdl_grammar.specs.Data.{Nodes}
 use Rattle.kdl_grammar.specs.Grammar.{IsBlock, braces}
 use Rattle.kdl_grammar.proofs.Moving.Moves.{move_nodes}
 
--- the character that stands in s directly before r is not CR
+-- the character that is in s directly before r is not CR
 pub record Last (s r : Text) : Type 0 where
   pub front : Text
   pub char : ℕ

@@ -93,7 +93,7 @@ comment_kept s = piece_kept (comment_part s) (comment_cut s) (comment_last s) []
 pub comment_item : {s r : Text} → LineComment s r → (z : Text) × (between s (line_end s) ≡ comment_part z)
 comment_item (a_line {s = z} l) = (z, ap (between (47 ∷ 47 ∷ z)) (slash_end z) ∙ sym (is_between (47 ∷ 47 ∷ z) (line_end z) (comment_part z) (comment_cut z)))
 
--- the same rest, or the rest behind LF
+-- the same rest, or the rest after LF
 data Over : Text → Text → Type 0 where
   over : {r : Text} → Over r r
   line : {r : Text} → Over (10 ∷ r) r
@@ -180,7 +180,7 @@ tight_at {t = t} {u = u} {w = w} {x = x} m p l full there tight end (more k ks) 
 node_last : {s t u : Text} {x : Node} → Slashdash s t → IsNode true t u x → EndsTight t u → Star NodeSpace u [] → Standing (piece (between s u))
 node_last m n tight ss = let c = cut_node n in tight_at m c.at c.last c.full c.there tight (spaces_end c.spaces (spaces_end ss ValueEnd.nothing)) c.spaces
 
--- each item of a gap stands on a line
+-- each item of a gap is on a line
 standing_join : (is js : List Item) → AreStanding is → AreStanding js → AreStanding (is ++ js)
 standing_join [] js a b = b
 standing_join (i ∷ is) js a b = (a.0, standing_join is js a.1 b)
@@ -317,7 +317,7 @@ no_items ok (GapItems.space {is = is} {js = js} d g) = let h = only_space ok d i
 no_items ok (GapItems.dropped_node (slashdash {s = s} ls) n e g) = absurd (no_slash (45 ∷ s) ok)
 no_items ok (last_node (slashdash {s = s} ls) n tight ss g) = absurd (no_slash (45 ∷ s) ok)
 
--- with spaces alone behind the lines
+-- with spaces alone after the lines
 pub lines_spaces : (before after : Text) → list_all is_space before ≡ true → list_all is_space after ≡ true → {s : Text} {is : List Item} → GapItems s is → GapItems (lines before is ++ after) (map on_line is)
 lines_spaces before after ok ok' {s} {is} d =
     subst (λ (js : List Item). GapItems (lines before is ++ after) js) (append-nil (map on_line is)) (lines_again before ok d (spaces_items after ok'))

@@ -1,4 +1,4 @@
--- Items that are written in a place of a node are items of such a place again, and what is written may stand there.
+-- Items that are written in a place of a node are items of such a place again, and what is written may be there.
 use Rattle.std.proofs.Common.{◌≡◌, Bool, true, false, List, [], ◌∷◌, ◌++◌, refl, sym, subst, ◌∙◌, append_assoc, append-nil}
 use Rattle.kdl_text.specs.Chars.{Text, is_space, Space, none, more, plus, space as a_space}
 use Rattle.kdl_text.specs.Trivia.{BlockComment, LineComment, Ws, EscEnd, escline, NodeSpace, Slashdash, ValueEnd}
@@ -22,7 +22,7 @@ pub data DashedEntry : Text → Text → Type 0 where
 pub data DashedBlock : Text → Text → Type 0 where
   dashed : {s t r : Text} {xs : Nodes} → Slashdash s t → IsBlock true t r xs → DashedBlock s r
 
--- the item in a place, and the place behind it
+-- the item in a place, and the place after it
 data InPlace : Place → Item → Place → Type 0 where
   line_comment : {p : Place} (s : Text) → InPlace p (comment (comment_part s)) p
   block_comment : {p : Place} {t : Text} → ((r : Text) → BlockComment (t ++ r) r) → InPlace p (piece t) p
@@ -92,7 +92,7 @@ space_in (SpaceItems.space n) = no_item
 space_in (SpaceItems.block b) = one_more (block_in b) no_item
 space_in (SpaceItems.escline d) = esc_in d
 
--- the place directly behind the last item
+-- the place directly after the last item
 abbrev pub last_place : {p : Place} {s : Text} {is : List Item} → PlaceItems p s is → Place
 last_place (ends {p = p} h) = spaced false p
 last_place (PlaceItems.space n d) = last_place d
@@ -190,7 +190,7 @@ tail_again {p} {s} {is} d {q} {js} k e =
     subst (λ (x : Place). PlaceItems x (tail is ++ q) (is ++ js)) (spaced_again o.0 false p ∙ o.1)
     (written (all_in d) (subst (λ (x : Place). PlaceItems x q js) (sym (last_unspaced d)) k) e o.0)
 
--- with nothing behind them, where blocks may be dropped
+-- with nothing after them, where blocks may be dropped
 pub tail_alone : {p : Place} {s : Text} {is : List Item} → takes_blocks p ≡ true → PlaceItems p s is → PlaceItems p (tail is) is
 tail_alone {p} {s} {is} h d =
     subst (λ (t : Text). PlaceItems p t is) (append-nil (tail is))
@@ -201,7 +201,7 @@ tail_alone {p} {s} {is} h d =
     go before_block k = refl
     go behind_block k = refl
 
--- with a space behind them
+-- with a space after them
 pub tail_spaced : {p : Place} {s : Text} {is : List Item} → PlaceItems p s is → PlaceItems p (tail is ++ (32 ∷ [])) is
 tail_spaced {p} {s} {is} d =
     subst (λ (js : List Item). PlaceItems p (tail is ++ (32 ∷ [])) js) (append-nil is)
@@ -212,7 +212,7 @@ tail_spaced {p} {s} {is} d =
     go before_block = refl
     go behind_block = refl
 
--- the text of a place stands before a rest
+-- the text of a place comes before a rest
 abbrev pub PlaceText : Place → Text → Text → Type 0
 PlaceText (before_entry b) = EntryLeading
 PlaceText before_block = BeforeChildren
@@ -282,7 +282,7 @@ place_spaced b (before_entry c) s r d = d
 place_spaced b before_block s r d = d
 place_spaced b behind_block s r d = d
 
--- what is written stands in the place, before what it stands before; with a space behind it before each rest
+-- what is written is in the place, before what it comes before; with a space after it before each rest
 pub tail_text : {p : Place} {s : Text} {is : List Item} (d : PlaceItems p s is) (z r : Text) → PlaceText (last_place d) z r → ValueEnd true z → PlaceText p (tail is ++ z) r
 tail_text {p} {is = is} d z r k e = place_spaced false p (tail is ++ z) r (written_text (all_in d) z r k e)
 

@@ -1,4 +1,4 @@
--- Texts that are written one behind another.
+-- Texts that are written one after another.
 use Rattle.std.proofs.Common.{◌≡◌, ◌≢◌, ℕ, ◌+◌, ◌-◌, ◌<◌, ◌≤◌, ◌==◌, Bool, true, false, List, [], ◌∷◌, ◌++◌, length, take, get_or, refl, sym, ap, ◌∙◌, arith, lit<, zero, suc, append_assoc, append-nil, Some, Result, Ok, Err, IfOk, MatchBool}
 use Rattle.std.proofs.lemmas.Bool.{eqb-true, eq-eqb}
 use Rattle.std.proofs.lemmas.List.{take_all, take_more, map-append}

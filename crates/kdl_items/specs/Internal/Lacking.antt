@@ -1,4 +1,4 @@
--- How the answers of the readers of what a text lacks stand to the text.
+-- How the results of the readers of what a text lacks relate to the text.
 use Rattle.std.specs.Borrow.{Bor}
 use Rattle.std.specs.Prelude.{◌≡◌, ◌⊎◌, ℕ, suc, ◌<◌, ◌≤◌, Bool, true, false, List, [], ◌∷◌, ◌++◌, Option, Some, None, length}
 use Rattle.std.specs.Str.{chars}
@@ -19,14 +19,14 @@ use Rattle.kdl_items.specs.declared.lacks.GapPiece.TheVariants.{Until, Last}
 use Rattle.kdl_items.specs.declared.lacks.PlacePiece.{PlacePiece}
 use Rattle.kdl_items.specs.declared.lacks.PlacePiece.TheVariants.{Onward, InEscline}
 
--- what is left of a line from its newline on
+-- how a line ends: before a rest, in a CR, or at the end of the text; none where neither a newline nor the end is here
 abbrev pub LineEnds : Text → Option Ending → Type 0
 LineEnds e (Some (Before r)) = (w : Text) → Newline (e ++ w) (chars r.now ++ w)
 LineEnds e (Some InReturn) = e ≡ 13 ∷ []
 LineEnds e (Some Open) = e ≡ []
 LineEnds e None = (e ≡ [] → ⊥) × ((r : Text) → Newline e r → ⊥)
 
--- it ends in a CR, of which an LF after it would be part
+-- the piece ends in a CR: an LF after it is part of its newline
 pub record EndsInReturn (X : Text → Text → Type 0) (s : Text) : Type 0 where
   pub alone : (w : Text) → begins 10 w ≡ false → X (s ++ w) w
   pub before_lf : (w : Text) → X (s ++ (10 ∷ w)) w
@@ -35,13 +35,13 @@ pub record EndsInReturn (X : Text → Text → Type 0) (s : Text) : Type 0 where
 abbrev pub letter : Text
 letter = 32 ∷ 97 ∷ []
 
--- it has no newline: one ends it, and with a letter after it nothing of the text is left
+-- the piece has no newline: an LF ends it, and a letter after it is part of its first token
 pub record IsOpen (X : Text → Text → Type 0) (s : Text) : Type 0 where
   pub alone : X s []
   pub ended : (w : Text) → X (s ++ (10 ∷ w)) w
   pub swallows : (r : Text) (k : Token) → BeginsToken (s ++ letter) k r → ((k ≡ space) ⊎ (k ≡ newline)) × (r ≡ [])
 
--- Xs begin the text and end before a rest, whatever follows that; or one X is all the text; or none begins it
+-- the text begins with Xs that end before a rest, whatever follows the rest; or the whole text is one X; or no X begins it
 abbrev pub EndsAs : (Text → Text → Type 0) → Text → Option Ending → Type 0
 EndsAs X s (Some (Before r)) = ((w : Text) → Plus X (s ++ w) (chars r.now ++ w)) × (length (chars r.now) < length s)
 EndsAs X s (Some InReturn) = EndsInReturn X s
@@ -54,50 +54,50 @@ pub data HasOpenEnd : Text → Text → Bool → Type 0 where
   ended : {u v : Text} → Break u v → (line_end u ≡ [] → ⊥) → HasOpenEnd u v false
   unended : {u v : Text} → Break u v → line_end u ≡ [] → HasOpenEnd u v true
 
--- node-spaces that are all the text end before whatever follows them, or after a newline
+-- whether the node-spaces that are the whole text need an LF to end before whatever follows them
 abbrev pub SpacesLack : Text → Bool → Type 0
 SpacesLack t true = (w : Text) → Star NodeSpace (t ++ (10 ∷ w)) w
 SpacesLack t false = (w : Text) → Star NodeSpace (t ++ w) w
 
--- what of a gap is before r adds nothing to the nodes after it, and is a gap with r alone
+-- what comes before r in s adds nothing to the nodes after it, and s is a gap exactly where r is one
 pub record Through (s r : Text) : Type 0 where
   pub on : Gap true s [] → Gap true r []
   pub back : Gap true r [] → Gap true s []
   pub adds : Gap true r [] → (w z : Text) (xs : Nodes) → NodesEnd z → AreNodes true (r ++ w) z xs → AreNodes true (s ++ w) z xs
   pub off : Gap true r [] → (w : Text) (xs : Nodes) → AreNodes true (s ++ w) [] xs → AreNodes true (r ++ w) [] xs
 
--- one newline less, and a letter after it is no node
+-- with one newline fewer, a letter appended adds no node
 abbrev pub Fewest : Text → ℕ → Type 0
 Fewest s k = (j : ℕ) → suc j ≡ k → (xs : Nodes) → AreNodes true ((s ++ newlines j) ++ letter) [] xs → xs ≡ none
 
--- a gap lacks so many newlines, at most two
+-- the text is a gap that lacks k newlines, at most two
 abbrev pub GapEnds : Text → ℕ → Type 0
 GapEnds s k = (k ≤ 2) × Gap true s [] × AddsNothing (s ++ newlines k) × Fewest s k
 
--- it does; or the text is none
+-- the text is such a gap; or it is no gap
 abbrev pub GapAnswer : Text → Option ℕ → Type 0
 GapAnswer s (Some k) = GapEnds s k
 GapAnswer s None = Gap true s [] → ⊥
 
--- the first piece of a gap goes up to a rest; or it is all the text, and lacks so many newlines; or there is none
+-- the first piece of a gap ends before a rest; or it is the whole text, and lacks k newlines; or the text is no gap
 abbrev pub PieceEnds : Text → Option GapPiece → Type 0
 PieceEnds s (Some (Until r)) = Through s (chars r.now) × (length (chars r.now) < length s)
 PieceEnds s (Some (Last k)) = GapEnds s k
 PieceEnds s None = Gap true s [] → ⊥
 
--- what of a place is before r, which is in the place q, is in the place p before what follows, and has a list of items with r alone
+-- s in the place p goes on as r in the place q: each of the two has items where the other has, and s may be before what r may be before
 pub record PlaceThrough (p : Place) (s : Text) (q : Place) (r : Text) : Type 0 where
   pub on : (is : List Item) → PlaceItems p s is → (js : List Item) × PlaceItems q r js
   pub back : (js : List Item) → PlaceItems q r js → (is : List Item) × PlaceItems p s is
   pub adds : (js : List Item) → PlaceItems q r js → (w z : Text) → ValueEnd true z → InPlace q (r ++ w) z → InPlace p (s ++ w) z
   pub blocks : takes_blocks p ≡ true → takes_blocks q ≡ true
 
--- the first piece of a place goes up to a rest, in another place; or there is none
+-- the first piece of a place ends before a rest, in the place there; or the text may not be in the place
 abbrev pub PlaceGoes : held.Place → Text → Option (held.Place × Bor (List ℕ)) → Type 0
 PlaceGoes p s (Some (q, r)) = PlaceThrough (place_view p) s (place_view q) (chars r.now) × (length (chars r.now) < length s)
 PlaceGoes p s None = (is : List Item) → PlaceItems (place_view p) s is → ⊥
 
--- it goes up to a rest; or it is all the text, and ends in an escline that lacks a newline; or there is none
+-- the first piece ends before a rest; or it is the whole text, and ends in an escline that lacks a newline; or the text may not be in the place
 abbrev pub PlacePieceEnds : held.Place → Text → Option PlacePiece → Type 0
 PlacePieceEnds p s (Some (Onward q r)) = PlaceThrough (place_view p) s (place_view q) (chars r.now) × (length (chars r.now) < length s)
 PlacePieceEnds p s (Some InEscline) = ((is : List Item) × PlaceItems (place_view p) s is) × ((z : Text) → InPlace (place_view p) (s ++ (10 ∷ z)) z)

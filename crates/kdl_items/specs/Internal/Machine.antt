@@ -1,4 +1,4 @@
--- What the fields of the machine behind a slashdash stand for.
+-- What the fields of the machine after a slashdash represent.
 use Rattle.std.specs.Prelude.{◌≡◌, List, [], ◌∷◌, Option, Some, None}
 use Rattle.kdl_entry.specs.Internal.Tokens.{Token}
 use Rattle.kdl_grammar.specs.Internal.Control as c

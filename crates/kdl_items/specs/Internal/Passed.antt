@@ -1,4 +1,4 @@
--- How the answers of the readers of what a slashdash drops stand to the text behind the `/-`.
+-- How the results of the readers of what a slashdash drops relate to the text after the `/-`.
 use Rattle.std.specs.Borrow.{Bor}
 use Rattle.std.specs.Prelude.{◌≡◌, ◌↔◌, ℕ, ◌<◌, Bool, true, false, List, [], ◌++◌, Option, Some, None, length, option_map}
 use Rattle.std.specs.Str.{chars}
@@ -20,11 +20,11 @@ abbrev pub of_spaces : Token → Bool
 of_spaces space = true
 of_spaces _ = false
 
--- the text r stands in s behind so many bytes
+-- the text r is in s after so many bytes
 abbrev pub Before : Text → ℕ → Text → Type 0
 Before s n r = (p : Text) × (s ≡ p ++ r) × (bytes p ≡ n)
 
--- the node behind the `/-` ends there
+-- the node after the `/-` ends there
 pub data EndsAt (t : Text) (e : NodeEnd) : Type 0 where
   returns : {k : Token} {u v i : Text} → NodePasses (at node_slashdash []) t t (returned k u v) → ItemEnd u v i → Before t e.item i → Before t e.behind v → HasOpenEnd u v e.is_open → EndsAt t e
   ends : {w : Text} → NodePasses (at node_slashdash []) t t (ended w) → Before t e.item w → Before t e.behind w → e.is_open ≡ true → EndsAt t e
@@ -38,7 +38,7 @@ abbrev pub AnswersDroppedPart : Place → Text → Option PartEnd → Type 0
 AnswersDroppedPart p t (Some e) = (u : Text) × PartPasses (slashdash_in p) t t e.is_block u × Before t e.at u
 AnswersDroppedPart p t None = (b : Bool) (u : Text) → PartPasses (slashdash_in p) t t b u → ⊥
 
--- the place behind what was dropped
+-- the place after what was dropped
 abbrev pub BehindPart : Place → Bool → Option Place → Type 0
 BehindPart p false o = o ≡ Some (spaced false p)
 BehindPart p true (Some q) = (takes_blocks p ≡ true) × (q ≡ behind_block)

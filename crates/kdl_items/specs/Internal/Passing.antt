@@ -1,4 +1,4 @@
--- What the machine without data does behind a slashdash, up to where what is dropped ends.
+-- What the machine without data does after a slashdash, up to where what is dropped ends.
 use Rattle.std.specs.Prelude.{◌≡◌, Bool, true, false, ◌&&◌, not, [], Some}
 use Rattle.kdl_text.specs.Chars.{Text}
 use Rattle.kdl_entry.specs.Internal.Tokens.{Token, space, equals, BeginsToken}
@@ -15,7 +15,7 @@ abbrev pub is_gap : Control → Bool
 is_gap (at gap []) = true
 is_gap _ = false
 
--- a node that is dropped ends with the terminator, a token that stands in a text before another, or with the place: then node-spaces stand behind it
+-- a node that is dropped ends with the terminator, a token that is in a text before another, or with the place: then node-spaces come after it
 pub data NodeEnd : Type 0 where
   returned : Token → Text → Text → NodeEnd
   ended : Text → NodeEnd
@@ -26,7 +26,7 @@ pub data NodePasses : Control → Text → Text → NodeEnd → Type 0 where
   ends : {c : Control} {last : Text} → is_gap c ≡ false → finish c ≡ true → NodePasses c last [] (ended last)
   goes : {c d : Control} {last s r : Text} {k : Token} {e : NodeEnd} → BeginsToken s k r → step c k ≡ Some d → is_gap d ≡ false → NodePasses d (moved k last r) r e → NodePasses c last s e
 
--- what is dropped in a node ends directly behind a value or a block
+-- what is dropped in a node ends directly after a value or a block
 abbrev pub is_over : Control → Bool
 is_over (at (in_node (fresh false)) []) = true
 is_over (at (in_node later) []) = true
@@ -56,7 +56,7 @@ pub data PartPasses : Control → Text → Text → Bool → Text → Type 0 whe
   goes : {c d : Control} {last s r : Text} {k : Token} {b : Bool} {e : Text} → is_over c ≡ false → (is_word c && not (follows_word k)) ≡ false → BeginsToken s k r → step c k ≡ Some d
       → PartPasses d (moved k last r) r b e → PartPasses c last s b e
 
--- the phase behind the `/-` in a place of a node
+-- the phase after the `/-` in a place of a node
 abbrev pub slashdash_phase : Bool → Phase
 slashdash_phase true = entry_slashdash
 slashdash_phase false = block_slashdash

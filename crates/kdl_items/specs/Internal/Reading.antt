@@ -1,4 +1,4 @@
--- How the answers of the readers of items stand to the text.
+-- How the results of the readers of items relate to the text.
 use Rattle.std.specs.Borrow.{Bor}
 use Rattle.std.specs.Prelude.{◌≡◌, ◌↔◌, ℕ, ◌<◌, List, [], ◌++◌, Option, Some, None, map, length, option_map}
 use Rattle.std.specs.Str.{chars}

@@ -1,4 +1,4 @@
--- Every edited document of an answer reads back.
+-- Every edited document of a result reads back.
 use Rattle.std.proofs.Common.{true}
 use Rattle.kdl_text.specs.Chars.{Text}
 use Rattle.kdl_grammar.specs.Edited.{IsEdited, EachDocument}

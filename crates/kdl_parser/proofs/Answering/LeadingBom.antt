@@ -11,7 +11,7 @@ use Rattle.kdl_parser.specs.Internal.Whole.{AnswersDocumentText}
 use Rattle.kdl_parser.specs.declared.node_parts.DocumentParts.{DocumentParts}
 use Rattle.kdl_parser.proofs.Answering.Outcomes.{not_begins, plain_answer, plain_failure, bom_answer, bom_failure}
 
--- what is left behind the U+FEFF, or where there is none
+-- what is left after the U+FEFF, or where there is none
 pub bom_ends : (w : Text) (eaten : Bool) (old new : Here) → w ≡ old.rest → Ate 0xFEFF eaten old new → EndsIn w new.rest
 bom_ends w true old new e a = (0xFEFF ∷ [], e ∙ a.0)
 bom_ends w false old new e a = ([], e ∙ ap (λ (h : Here). h.rest) (sym a.1))
@@ -20,7 +20,7 @@ pub bom_at : (w : Text) (eaten : Bool) (old new : Here) → w ≡ old.rest → o
 bom_at w true old new e n a = omega (arith, ap bytes e, ap bytes a.0, a.1, n)
 bom_at w false old new e n a = let x = ap (λ (h : Here). h.rest) a.1 in let y = ap (λ (h : Here). h.at) a.1 in omega (arith, ap bytes e, ap bytes x, y, n)
 
--- the answer on the whole text
+-- the result on the whole text
 pub whole_answer : {N : Type 0} (tree : N → Node) (t w : Text) (has_bom : Bool) (old new : Here) (p : DocumentParts N) → w ≡ t → old.rest ≡ t → Ate 0xFEFF has_bom old new → AnswersParts tree w new.rest (Ok p)
     → AnswersDocumentText tree t (Ok (record { parts = p; has_bom = has_bom }))
 whole_answer tree t w true old new p e f a x = bom_answer tree t new.rest p (sym f ∙ a.0) (subst (λ (z : Text). AnswersParts tree z new.rest (Ok p)) e x)

@@ -77,7 +77,7 @@ behind_cut : {s r : Text} {k : Token} → Cuts s k r → Star LineSpace s [] →
 behind_cut (one t) a = after_lines t a
 behind_cut (spaces (plus n m)) a = (refl, after_spaces m (after_lines (t_space n) a).1)
 
--- the lexer stands in the text t, which is line-spaces where what is left is
+-- the lexer is in the text t, which is line-spaces where what is left is
 pub record Lines (here : Here) (t : Text) : Type 0 where
   pub same : Star LineSpace here.rest [] ↔ Star LineSpace t []
   pub text : EndsIn t here.rest
@@ -122,7 +122,7 @@ lines_fail t old new Memory g x = tt
 pub lines_end : (t : Text) (old new : Here) → Lines old t → Lexed old (Ok None) new → Star LineSpace t []
 lines_end t old new g e = let f : old.rest ≡ [] = e in g.same.0 (subst (λ (z : Text). Star LineSpace z []) (sym f) no_star)
 
--- a place that was told of an end of the text, in the text
+-- a place that was reported for an end of the text, in the text
 end_len : (bs : List ℕ) (u : Text) (span : SourceSpan) → IsUtf8 bs → chars bs ≡ u → InText u span → span.offset ≤ length bs
 end_len bs u span v e (b, m, a, x, o, l) = omega (arith, chars_bytes bs v, ap bytes e, ap bytes x, bytes-append (b ++ m) a, bytes-append b m, o)
 

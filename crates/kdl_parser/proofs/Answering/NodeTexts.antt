@@ -1,4 +1,4 @@
--- Nodes that are a whole text: a document with that node alone, and line-spaces behind its terminator.
+-- Nodes that are a whole text: a document with that node alone, and line-spaces after its terminator.
 use Rattle.std.proofs.Common.{◌≡◌, ℕ, ◌+◌, ◌-◌, length, Bool, true, false, List, [], ◌∷◌, ◌++◌, Option, Some, Ok, Err, refl, sym, ap, subst, ◌∙◌, arith, append_assoc, append-nil}
 use Rattle.std.specs.Str.{chars, IsUtf8}
 use Rattle.kdl_text.specs.Chars.{Text, Star}
@@ -39,7 +39,7 @@ use Rattle.kdl_grammar.proofs.Moving.FormerIsPresent.{wider_node}
 abbrev nodes_in : Document → Nodes
 nodes_in (document f at ns) = ns
 
--- on a node's text the machine answers one node, with line-spaces behind it
+-- on a node's text the machine returns one node, with line-spaces after it
 one_there : (t : Text) (f : Option DocumentFormat) (ns : Nodes) (x : data'.Node) → RunsToNodes t f ns → IsNodeText true t x → (n : Node) × (ns ≡ first n none) × Star LineSpace (trailing_text f) []
 one_there t f ns x (at, a) i =
     let o = only_node i in
@@ -153,7 +153,7 @@ pub one_read : {N : Type 0} (tree : N → Node) (t : Text) (d : DocumentParts N)
 one_read tree t d n a e =
     (text_of d.leading, subst (λ z. RunsToNodes t (Some (record { leading = text_of d.leading; trailing = text_of d.trailing })) (nodes_tree tree z)) e (d.span, a))
 
--- the text behind the one node
+-- the text after the one node
 pub ends_there : (t u : Text) (f : Option DocumentFormat) (n : Node) → RunsToNodes t f (first n none) → u ≡ trailing_text f → EndsIn t u
 ends_there t u f n a e = subst (λ (z : Text). EndsIn t z) (sym e) (trailing_ends t f n a)
 
@@ -168,7 +168,7 @@ pub none_there : (t u : Text) (f : Option DocumentFormat) (n : Node) (e : LexFai
 none_there t u f n (Faulty span) a e x = (no_lines t f (first n none) a (λ ls. x.0 (subst (λ (z : Text). Star LineSpace z []) (sym e) ls)), x.1)
 none_there t u f n Memory a e x = tt
 
--- the builder's answer on the whole text
+-- the builder's result on the whole text
 pub whole_ends : (w : Text) (l : Here) → w ≡ l.rest → EndsIn w l.rest
 whole_ends w l e = ([], e)
 

@@ -1,4 +1,4 @@
--- What the answer on a whole text says of the grammar.
+-- What the result on a whole text says of the grammar.
 use Rattle.std.proofs.Common.{◌≡◌, ℕ, List, ◌+◌, ◌*◌, ◌≤◌, length, arith, true, false, ◌∷◌, Ok, Err, refl, sym, ap, subst, ◌∙◌}
 use Rattle.std.specs.Str.{chars, IsUtf8}
 use Rattle.kdl_text.specs.Chars.{Text, begins}
@@ -60,7 +60,7 @@ pub bom_failure : {N : Type 0} (tree : N → Node) (t u : Text) (e : LexFailure)
 bom_failure tree t u (Faulty span) e a = (λ d x. refused_behind_bom x u e a.0, a.1)
 bom_failure tree t u Memory e a = tt
 
--- what is answered is what the grammar derives, laid in the text, and prints it
+-- what is returned is what the grammar derives, laid in the text, and prints it
 pub found : (t : Text) (d : Document) → AnswersDocument t d → IsDocument true t (document_data d)
 found t d a = (sound t d a).1
 
@@ -84,6 +84,6 @@ former t d a x i = sym (only t d a x (wider false i))
 pub most_counted : (text : List ℕ) (old new : ℕ) → IsUtf8 text → Counted (chars text) old new → new ≤ old + 32 * (length text + 1)
 most_counted text old new u c = omega (arith, c.most, bytes-chars text u)
 
--- where it is refused, and the faults are told from mid on
+-- where it is refused, and the faults are reported from mid on
 pub told_counted : (text : List ℕ) (old mid new : ℕ) → IsUtf8 text → mid ≤ old + 32 * (bytes (chars text) + 1) → new ≤ mid + 128 * (length text + 1) → new ≤ old + 160 * (length text + 1)
 told_counted text old mid new u c d = omega (arith, c, d, bytes-chars text u)

@@ -1,4 +1,4 @@
--- The turns of the loop over the tokens of a text, and what they answer.
+-- The turns of the loop over the tokens of a text, and what they return.
 use Rattle.std.proofs.Common.{◌≡◌, ◌↔◌, ℕ, ◌+◌, ◌<◌, ◌≤◌, length, [], ◌∷◌, ◌++◌, Some, None, option_map, Result, Ok, Err, refl, sym, ap, subst, ◌∙◌, arith, append_assoc, append-nil}
 use Rattle.kdl_text.specs.Chars.{Text, Star, plus}
 use Rattle.kdl_text.specs.Chars.Star.{none as no_star, more}
@@ -25,11 +25,11 @@ use Rattle.kdl_parser.specs.declared.node_parts.DocumentParts.{DocumentParts}
 use Rattle.kdl_parser.proofs.Stepping.PlacesAhead.{placed_step, then_ends}
 use Rattle.kdl_parser.proofs.Stepping.MachineSteps.{read_cut, refuses, faults, at_stop}
 
--- the machine answers from here on what it answers on u
+-- the machine returns from here on what it returns on u
 abbrev pub Same : Text → Text → State → Text → Type 0
 Same whole u st s = (d : Document) → Runs whole d st s ↔ Runs whole d (initial u) u
 
--- the lexer stands in the text t, and the machine goes on from here as from the start of u
+-- the lexer is in the text t, and the machine goes on from here as from the start of u
 pub record Going {N : Type 0} (tree : N → Node) (b : Builder N) (here : Here) (t u : Text) : Type 0 where
   pub same : Same t u (state_view tree b) here.rest
   pub whole : b.whole.rest ≡ t
@@ -56,7 +56,7 @@ turn_same t u s r st st' k a c e d = let x = read_cut t d st st' s r k c e in le
 same_at : (t u s r : Text) (st : State) → r ≡ s → Same t u st s → Same t u st r
 same_at t u s r st e a = rw e a
 
--- the start of a text, or behind its U+FEFF
+-- the start of a text, or after its U+FEFF
 pub starts : {N : Type 0} (tree : N → Node) (t u : Text) (b : Builder N) (here : Here) → state_view tree b ≡ initial u → b.whole.rest ≡ t → here.rest ≡ u → EndsIn t u → here.at + bytes u ≡ bytes t → Going tree b here t u
 starts tree t u b here e w f x n = record {
   same = start_same t u here.rest (state_view tree b) e f;
@@ -153,7 +153,7 @@ stops_going tree b before after t u g e m =
 pub from_now : {N : Type 0} (tree : N → Node) (b : Builder N) (here : Here) (t u : Text) → Going tree b here t u → EndsIn b.from.rest here.rest
 from_now tree b here t u g = g.placed.0
 
--- where the text ends, the machine's document is the answer
+-- where the text ends, the machine's document is the result
 run_there : (t u s : Text) (st : State) (d : Document) → Same t u st s → s ≡ [] → finish t st ≡ Some d → Runs t d (initial u) u
 run_there t u s st d a e f = (a d).0 (subst (λ (z : Text). Runs t d st z) (sym e) ((at_stop t d st).1 f))
 

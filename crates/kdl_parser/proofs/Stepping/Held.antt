@@ -1,4 +1,4 @@
--- What the machine holds of an item that is slashdashed changes neither its steps nor its answer.
+-- What the machine holds of an item that is slashdashed changes neither its steps nor its result.
 use Rattle.std.proofs.Common.{◌≡◌, true, false, List, [], ◌∷◌, Option, Some, None, option_map, map, refl, sym, ap, ◌∙◌}
 use Rattle.kdl_text.specs.Chars.{Text}
 use Rattle.kdl_entry.specs.Internal.Tokens.{Token, space, value, closing}
@@ -97,7 +97,7 @@ module _ (whole : Text) where
   held_finish (at (kept x) l (f ∷ fs) from) = refl
   held_finish (at p l fs from) = refl
 
-  -- where two states hold the same, so do those behind a token
+  -- where two states hold the same, so do those after a token
   pub alike_step : (st st' : State) (k : Token) (s r : Text) → held st ≡ held st' → option_map held (step whole st k s r) ≡ option_map held (step whole st' k s r)
   alike_step st st' k s r e = sym (held_step st k s r) ∙ ap (λ (z : State). option_map held (step whole z k s r)) e ∙ held_step st' k s r
 

@@ -11,7 +11,7 @@ use Rattle.kdl_parser.specs.Internal.Building.{held}
 use Rattle.kdl_grammar.specs.Tree.{Document}
 use Rattle.kdl_parser.proofs.Stepping.Held.{reached, alike}
 
--- a run at a text that begins with a token goes on behind it
+-- a run at a text that begins with a token goes on after it
 goes_on : {whole : Text} {d : Document} {st : State} {s r : Text} {k : Token} → BeginsToken s k r → Runs whole d st s → (st' : State) × (step whole st k s r ≡ Some st') × Runs whole d st' r
 goes_on t (stops e) = absurd (no_token t)
 goes_on {whole = whole} {d = d} {st = st} {s = s} {r = r} {k = k} t (reads {st' = st'} {r = r'} {k = j} u e a) =
@@ -35,7 +35,7 @@ module _ (whole : Text) (d : Document) where
   again (at (in_node u later) l fs from) s r t q = refl
   again _ s r t q = refl
 
-  -- and where it stands is all one
+  -- and its place does not matter
   anywhere : (st : State) (s r t q : Text) → step whole st space s r ≡ step whole st space t q
   anywhere (at gap l fs from) s r t q = refl
   anywhere (at (in_node u p) l fs from) s r t q = refl

@@ -33,7 +33,7 @@ pub nothing : {N : Type 0} (tree : N → Node) (ns : List N) (place : SourceSpan
 nothing tree [] place e = refl
 nothing tree (n ∷ ns) place e = cc
 
--- without nodes the place stands before them, and else behind them
+-- without nodes the place comes before them, and else after them
 pub without : {N : Type 0} (tree : N → Node) (whole s place : Text) (ns : List N) → length ns ≡ 0 → content_at whole (nodes_tree tree ns) place s ≡ document (Some (record { leading = place; trailing = [] })) (content_span (text_span whole s s) (nodes_tree tree ns)) (nodes_tree tree ns)
 without tree whole s place [] e = refl
 without tree whole s place (n ∷ ns) e = absurd (omega arith)

@@ -1,4 +1,4 @@
--- Where the place under way and the place in a type or behind `=` began lies before the text that is left.
+-- Where the place under way and the place in a type or after `=` began lies before the text that is left.
 use Rattle.std.proofs.Common.{◌≡◌, true, false, List, [], ◌∷◌, ◌++◌, Option, Some, None, option_map, refl, sym, ap, subst, ◌∙◌, append_assoc}
 use Rattle.kdl_text.specs.Chars.{Text}
 use Rattle.kdl_entry.specs.Internal.Tokens.{Token, space, newline, slashdash, string, value, left, right, opening, closing, equals, semicolon}

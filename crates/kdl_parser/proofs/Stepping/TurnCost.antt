@@ -140,7 +140,7 @@ on_name_given (Ok x) p kept kept' entry o from item there n a b c e f g x' y = n
 on_name_given (Err (Faulty span)) p kept kept' entry o from item there n a b c e f g x' y = name_given p kept kept' entry o from item there 0 a b c e f g x' y
 on_name_given (Err Memory) p kept kept' entry o from item there n a b c e f g x' y = tt
 
--- behind what was sliced or not, where nothing more is sliced
+-- after what was sliced or not, where nothing more is sliced
 pub begun : (kept : Bool) (from : ℕ) (start end place : Spot) (a : Here) → kept ≡ true → Ahead start end → place ≡ end → Sliced (if kept then bytes start.rest else from) (bytes place.rest) a a
 begun kept from start end place a e x f = rw (e, f) (record { most = omega (arith, fewer start end x) })
 

@@ -1,4 +1,4 @@
--- The machine's state that the builder's fields stand for, and what its steps answer.
+-- The machine's state that the builder's fields represent, and what its steps return.
 use Rattle.std.specs.Prelude.{◌≡◌, Bool, true, false, List, [], ◌∷◌, ◌++◌, map, Option, Some, None, option_map, Result, Ok, Err}
 use Rattle.std.specs.declared.alloc.Global.{Global}
 use Rattle.std.specs.declared.vec.Vec.{Vec}
@@ -56,7 +56,7 @@ abbrev pub stacked : {N : Type 0} → (N → Node) → List machine.Frame → Li
 stacked tree acc [] = acc
 stacked tree acc (f ∷ fs) = stacked tree (frame_view tree f ∷ acc) fs
 
--- a string that waits is an argument, unless `=` follows; it stands before where the place under way began
+-- a string that waits is an argument, unless `=` follows; it comes before the place where what is under way began
 abbrev pub word_name : Text → Text → WaitingWord → Identifier
 word_name whole from w = record { value = text_of w.value; repr = Some w.repr; span = span_of whole w.start.rest from }
 
@@ -88,14 +88,14 @@ abbrev pub slot_of : Bool → Option machine.Under → items.Item → Option Key
 slot_of true o it k = entry_slot it.kept o it.leading it.start k
 slot_of false o it k = name_slot it.kept it.leading it.start
 
--- behind `=` the key is not yet in the slot
+-- after `=` the key is not yet in the slot
 abbrev pub item_phase : Stage → Option machine.Under → items.Item → machine.Phase
 item_phase opened o it = machine.type_open it.valued (slot_of it.valued o it it.key) it.from
 item_phase named o it = machine.type_name it.valued (slot_of it.valued o it it.key) it.before it.name it.from
 item_phase closed o it = machine.type_done it.valued (slot_of it.valued o it it.key) it.before it.name it.after it.from
 item_phase keyed o it = machine.property (slot_of true o it None) it.name it.before it.from
 
--- once the item went on or gave its value, which stands in s before r
+-- once the item went on or gave its value, which is in s before r
 abbrev pub valued_at : Stage → Bool → Bool
 valued_at keyed b = true
 valued_at _ b = b
@@ -124,7 +124,7 @@ node_now b = under_now b.whole.rest b.from.rest b.waiting (option_map under_view
 abbrev pub frames_view : {N : Type 0} → (N → Node) → Builder N → List machine.Frame
 frames_view tree b = stacked tree [] b.frames.items
 
--- the state that the builder's fields stand for
+-- the state that the builder's fields represent
 abbrev pub state_view : {N : Type 0} → (N → Node) → Builder N → State
 state_view tree b =
     at (phase_view b.phase b.whole.rest b.from.rest b.waiting (option_map under_view b.under) (option_map (kept_view tree) b.kept) (item_view b.item))
@@ -160,13 +160,13 @@ frame_held f = f
 abbrev pub held : State → State
 held (at p l fs from) = at (phase_held p) l (map frame_held fs) from
 
--- what a step did, by the machine's; of a refused token its first character is told; running out of memory says nothing
+-- what a step did, by the machine's; for a refused token its first character is reported; running out of memory says nothing
 abbrev pub Did : {A : Type 0} → Option State → Spot → Result A LexFailure → State → Type 0
 Did o place (Ok x) st = option_map held o ≡ Some (held st)
 Did o place (Err (Faulty span)) st = (o ≡ None) × IsFaultAt place span
 Did o place (Err Memory) st = Unit {0}
 
--- what a step did that is refused at no token, by the machine's state behind it
+-- what a step did that is refused at no token, by the machine's state after it
 abbrev pub Does : {A : Type 0} → State → Result A LexFailure → State → Type 0
 Does want (Ok x) st = st ≡ want
 Does want (Err (Faulty span)) st = ⊥

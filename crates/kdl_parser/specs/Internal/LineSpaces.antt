@@ -14,13 +14,13 @@ is_line_space Space = true
 is_line_space Newline = true
 is_line_space _ = false
 
--- whether the text t is line-spaces alone; else a place of it is told
+-- whether the text t is line-spaces alone; else a place of it is reported
 abbrev pub AreLineSpaces : Text → Result (Unit {0}) LexFailure → Type 0
 AreLineSpaces t (Ok _) = Star LineSpace t []
 AreLineSpaces t (Err (Faulty span)) = (Star LineSpace t [] → ⊥) × InText t span
 AreLineSpaces t (Err Memory) = Unit {0}
 
--- the same of an end u of the text t, in which the place is told
+-- the same of an end u of the text t, in which the place is reported
 abbrev pub EndInLineSpaces : Text → Text → Result (Unit {0}) LexFailure → Type 0
 EndInLineSpaces t u (Ok _) = Star LineSpace u []
 EndInLineSpaces t u (Err (Faulty span)) = (Star LineSpace u [] → ⊥) × InText t span

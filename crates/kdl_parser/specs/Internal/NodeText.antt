@@ -1,4 +1,4 @@
--- Nodes that are a whole text, and what is answered on one.
+-- Nodes that are a whole text, and what is returned on one.
 use Rattle.std.specs.Prelude.{◌≡◌, true, List, [], ◌∷◌, Option, Some, None, Result, Ok, Err}
 use Rattle.kdl_text.specs.Chars.{Text}
 use Rattle.kdl_text.specs.Spans.{InText}
@@ -13,35 +13,35 @@ use Rattle.kdl_grammar.specs.Internal.Machine.{initial, Runs}
 use Rattle.kdl_grammar.specs.Tree.{NodeFormat, DocumentFormat, Node, node, Document, document, Nodes, none, first}
 use Rattle.kdl_parser.specs.declared.node_text.NodeText.{NodeText}
 
--- a format with another text behind the terminator
+-- a format with another text after the terminator
 abbrev pub trailed : Text → Option NodeFormat → Option NodeFormat
 trailed t None = None
 trailed t (Some f) = Some (record f { trailing = t })
 
--- the node with the text behind its terminator, and the span of the text that it is
+-- the node with the text after its terminator, and the span of the text that it is
 abbrev pub with_text_behind : Node → Text → SourceSpan → Node
 with_text_behind (node h k) t at = node (record h { format = trailed t h.format; span = at }) k
 
 abbrev pub text_by : {N : Type 0} → (N → Node) → NodeText N → Node
 text_by tree n = with_text_behind (tree n.node) (text_of n.trailing) n.span
 
--- what the machine answers on the text
+-- what the machine returns on the text
 abbrev pub RunsOnText : Text → Document → Type 0
 RunsOnText t d = Runs t d (initial t) t
 
--- it answers a document of these nodes, with this format
+-- It returns a document of these nodes, with this format
 abbrev pub RunsToNodes : Text → Option DocumentFormat → Nodes → Type 0
 RunsToNodes t f ns = (at : SourceSpan) × RunsOnText t (document f at ns)
 
--- it answers a document of these nodes
+-- It returns a document of these nodes
 abbrev pub ReadsSome : Text → Nodes → Type 0
 ReadsSome t ns = (f : Option DocumentFormat) × RunsToNodes t f ns
 
--- it answers a document of the one node, with this text behind it
+-- It returns a document of the one node, with this text after it
 abbrev pub ReadsOne : Text → Node → Text → Type 0
 ReadsOne t x trailing = (leading : Text) × RunsToNodes t (Some (record { leading = leading; trailing = trailing })) (first x none)
 
--- the text is no node, and a place of it is told
+-- the text is no node, and a place of it is reported
 abbrev pub NoNode : Text → LexFailure → Type 0
 NoNode t (Faulty span) = ((x : data'.Node) → IsNodeText true t x → ⊥) × InText t span
 NoNode t Memory = Unit {0}

@@ -1,5 +1,5 @@
 -- The states to which the builder's methods bring it, as the machine has them, and what is not sliced there yet.
--- A token stands at s and ends at r.
+-- A token is at s and ends at r.
 use Rattle.std.specs.Prelude.{ℕ, Bool, true, false, if◌then◌else◌, [], ◌∷◌, Option, Some, None, option_map, Result}
 use Rattle.std.specs.declared.alloc.Global.{Global}
 use Rattle.std.specs.declared.string.String.{String}
@@ -41,11 +41,11 @@ item_step tree b kind s r =
 abbrev pub in_phase : {N : Type 0} → (N → Node) → Builder N → machine.Phase → State
 in_phase tree b p = at p (nodes_view tree b.nodes) (frames_view tree b) b.from.rest
 
--- the node with its block, which is behind it
+-- the node with its block, which is after it
 abbrev pub kept_now : {N : Type 0} → (N → Node) → Builder N → Option machine.Kept
 kept_now tree b = option_map (kept_view tree) b.kept
 
--- the nodes, and the node under way behind them: it has no block, and ends at s with the terminator
+-- the nodes, and the node under way after them: it has no block, and ends at s with the terminator
 abbrev pub nodes_and : {N : Type 0} → (N → Node) → Builder N → Spot → Text → Option Nodes
 nodes_and tree b s terminator = machine.ended (machine.closed b.whole.rest (node_now b) no_children [] (between b.from.rest s.rest) terminator s.rest) (nodes_view tree b.nodes)
 
@@ -53,23 +53,23 @@ nodes_and tree b s terminator = machine.ended (machine.closed b.whole.rest (node
 abbrev pub nodes_and_kept : {N : Type 0} → (N → Node) → Builder N → Spot → Text → Option Nodes
 nodes_and_kept tree b s terminator = machine.ended (machine.closed_kept b.whole.rest (kept_now tree b) (between b.from.rest s.rest) terminator s.rest) (nodes_view tree b.nodes)
 
--- behind a node without a block, of which the token is the terminator
+-- after a node without a block, of which the token is the terminator
 abbrev pub node_ended : {N : Type 0} → (N → Node) → Builder N → Spot → Spot → State
 node_ended tree b s r = at machine.gap (nodes_and tree b s (between s.rest r.rest)) (frames_view tree b) (machine.origin (node_now b) b.from.rest r.rest)
 
--- behind a node with a block, of which the token is the terminator
+-- after a node with a block, of which the token is the terminator
 abbrev pub kept_ended : {N : Type 0} → (N → Node) → Builder N → Spot → Spot → State
 kept_ended tree b s r = at machine.gap (nodes_and_kept tree b s (between s.rest r.rest)) (frames_view tree b) (machine.origin (kept_now tree b) b.from.rest r.rest)
 
--- behind the `}` that ends the block around the builder's nodes
+-- after the `}` that ends the block around the builder's nodes
 abbrev pub around : {N : Type 0} → (N → Node) → Builder N → Spot → Spot → Option State
 around tree b s r = machine.popped b.whole.rest (nodes_view tree b.nodes) (frames_view tree b) b.from.rest s.rest r.rest
 
--- behind the `}` that ends a node without a block, and the block around it
+-- after the `}` that ends a node without a block, and the block around it
 abbrev pub around_node : {N : Type 0} → (N → Node) → Builder N → Spot → Spot → Option State
 around_node tree b s r = machine.popped b.whole.rest (nodes_and tree b s []) (frames_view tree b) (machine.origin (node_now b) b.from.rest s.rest) s.rest r.rest
 
--- behind the `}` that ends a node with a block, and the block around it
+-- after the `}` that ends a node with a block, and the block around it
 abbrev pub around_kept : {N : Type 0} → (N → Node) → Builder N → Spot → Spot → Option State
 around_kept tree b s r = machine.popped b.whole.rest (nodes_and_kept tree b s []) (frames_view tree b) (machine.origin (kept_now tree b) b.from.rest s.rest) s.rest r.rest
 
@@ -83,11 +83,11 @@ block_opened tree b s r =
 abbrev pub dropped_opened : {N : Type 0} → (N → Node) → Builder N → State
 dropped_opened tree b = at machine.gap None (machine.in_dropped (node_now b) (nodes_view tree b.nodes) ∷ frames_view tree b) b.from.rest
 
--- in a block that is slashdashed, behind the node's own
+-- in a block that is slashdashed, after the node's own
 abbrev pub later_opened : {N : Type 0} → (N → Node) → Builder N → State
 later_opened tree b = at machine.gap None (machine.in_later (kept_now tree b) (nodes_view tree b.nodes) ∷ frames_view tree b) b.from.rest
 
--- behind the block of the node, which ends with the token, and among the nodes before that node
+-- after the block of the node, which ends with the token, and among the nodes before that node
 abbrev pub block_closed : {N : Type 0} → (N → Node) → Builder N → Option Under → String Global → Option (Vec N Global) → Spot → Spot → State
 block_closed tree b under before nodes s r =
     at (machine.kept (machine.with_block b.whole.rest (option_map under_view under) (text_of before) (nodes_view tree b.nodes) (between b.from.rest s.rest) s.rest))
@@ -108,26 +108,26 @@ named_slot slot = name_slot slot.kept (text_of slot.leading) slot.start.rest
 abbrev pub valued_slot : {N : Type 0} → Builder N → Slot → Option KeyParts → machine.Slot
 valued_slot b slot key = entry_slot slot.kept (option_map under_view b.under) (text_of slot.leading) slot.start.rest key
 
--- behind a name or a value, with its type
+-- after a name or a value, with its type
 abbrev pub given_at : {N : Type 0} → (N → Node) → Builder N → machine.Slot → Option TypeParts → Value → Spot → Spot → State
 given_at tree b slot ty value s r = machine.given b.whole.rest slot ty value None (nodes_view tree b.nodes) (frames_view tree b) b.from.rest s.rest r.rest
 
--- behind a string that may be a key
+-- after a string that may be a key
 abbrev pub worded : {N : Type 0} → (N → Node) → Builder N → Text → Spot → Spot → State
 worded tree b value s r =
     machine.worded b.whole.rest (machine.entry_slot (node_now b) (between b.from.rest s.rest) s.rest) value (nodes_view tree b.nodes) (frames_view tree b) b.from.rest s.rest r.rest
 
--- behind a string that may be a key, where it is slashdashed
+-- after a string that may be a key, where it is slashdashed
 abbrev pub dropped_worded : {N : Type 0} → (N → Node) → Builder N → State
 dropped_worded tree b = in_phase tree b (machine.in_node (node_now b) (machine.fresh (Some (machine.pending (machine.no_value (node_now b)) (plain_identifier []) []))))
 
--- behind the `=`, where a string waits for it
+-- after the `=`, where a string waits for it
 abbrev pub property_opened : {N : Type 0} → (N → Node) → Builder N → Spot → Spot → Option State
 property_opened tree b s r =
     machine.stay (nodes_view tree b.nodes) (frames_view tree b) b.from.rest
     (machine.value_from (machine.fresh (pending_now b.whole.rest b.from.rest b.waiting (option_map under_view b.under))) s.rest r.rest)
 
--- behind the `=` of a property that is slashdashed
+-- after the `=` of a property that is slashdashed
 abbrev pub dropped_property : {N : Type 0} → (N → Node) → Builder N → Spot → State
 dropped_property tree b r = in_phase tree b (machine.property (machine.no_value (option_map under_view b.under)) (plain_identifier []) [] r.rest)
 
@@ -147,7 +147,7 @@ document_now tree b = machine.finish b.whole.rest (state_view tree b)
 abbrev pub document_of_nodes : {N : Type 0} → (N → Node) → Builder N → Option Document
 document_of_nodes tree b = machine.at_end b.whole.rest (nodes_view tree b.nodes) (frames_view tree b) b.from.rest
 
--- the place where the lexer stands
+-- the place where the lexer is
 abbrev pub spot_of : Here → Spot
 spot_of here = record { rest = here.rest; at = here.at }
 
@@ -155,7 +155,7 @@ spot_of here = record { rest = here.rest; at = here.at }
 abbrev pub Takes : {A N : Type 0} → (N → Node) → Builder N → TokenKind → Spot → Spot → Result A LexFailure → Builder N → Type 0
 Takes tree old kind s r result new = Did (token_step tree old kind s r) s result (state_view tree new)
 
--- a step by the machine's o, at a token that stands at s
+-- a step by the machine's o, at a token that is at s
 abbrev pub Steps : {A N : Type 0} → (N → Node) → Option State → Spot → Result A LexFailure → Builder N → Type 0
 Steps tree o s result new = Did o s result (state_view tree new)
 
@@ -167,11 +167,11 @@ Reaches tree want result new = Does want result (state_view tree new)
 abbrev pub Slices : {A N : Type 0} → ℕ → Result A LexFailure → Builder N → Here → Here → Type 0
 Slices m result new before behind = SlicedOn result m (unsliced new) before behind
 
--- not sliced behind a name that begins at s, if it counts, and else behind the place under way
+-- not sliced after a name that begins at s, if it counts, and else after the place under way
 abbrev pub name_unsliced : {N : Type 0} → Builder N → Bool → Spot → ℕ
 name_unsliced b kept s = if kept then bytes s.rest else bytes b.from.rest
 
--- not sliced behind an entry that begins at s, if it and its node count, and else behind the place under way
+-- not sliced after an entry that begins at s, if it and its node count, and else after the place under way
 abbrev pub entry_unsliced : {N : Type 0} → Builder N → Bool → Spot → ℕ
 entry_unsliced b kept s = if kept then up_to b.under (bytes b.from.rest) (bytes s.rest) else bytes b.from.rest
 

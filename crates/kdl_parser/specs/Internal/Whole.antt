@@ -18,7 +18,7 @@ with_bom_if false d = d
 abbrev pub whole_by : {N : Type 0} → (N → Node) → DocumentText N → Document
 whole_by tree d = with_bom_if d.has_bom (document_by tree d.parts)
 
--- what the machine answers on the whole text; of a refused text a place is told
+-- what the machine returns on the whole text; for a refused text a place is reported
 abbrev pub AnswersDocumentText : {N : Type 0} → (N → Node) → Text → Result (DocumentText N) LexFailure → Type 0
 AnswersDocumentText tree t (Ok d) = AnswersDocument t (whole_by tree d)
 AnswersDocumentText tree t (Err (Faulty span)) = ((d : Document) → AnswersDocument t d → ⊥) × InText t span

@@ -23,12 +23,12 @@ use crate::node_parts::{DocumentParts, NodeParts, ParsedNode};
 use kdl_entry::items::Lexer;
 use kdl_entry::items::item::{Given, Item, Stage, empty, entry_from, span_at, text_between};
 use kdl_entry::{KdlEntry, KdlValue};
-use kdl_text::chars::Checkpoint;
+use kdl_text::cursor::Checkpoint;
 use kdl_text::span::SourceSpan;
 use std::alloc::{AllocError, Global};
 use std::mem;
 
-/// Puts the item behind the others. A full list doubles, from one on.
+/// Puts the item after the others. A full list doubles, from one on.
 #[inline(always)]
 pub(super) fn add<T: Drop>(items: &mut Vec<T>, item: T) -> Result<(), AllocError>
     ensures { OnOk result (items.new.items ≡ items.old.items ++ (item ∷ [])) }
@@ -42,7 +42,7 @@ pub(super) fn add<T: Drop>(items: &mut Vec<T>, item: T) -> Result<(), AllocError
 }
 
 /// Puts the value in the place, and drops the one that was there. An assignment does the same; as a call, what is
-/// dropped stands in one proof, and not at each place.
+/// dropped is in one proof, and not at each place.
 #[inline]
 pub(super) fn put<T: Drop>(place: &mut T, value: T)
     ensures { place.new ≡ value }
@@ -83,7 +83,7 @@ pub(super) fn settle<'a>(
     Ok(())
 }
 
-/// An entry, whose value stands between two places.
+/// An entry, whose value is between two places.
 #[inline]
 pub(super) fn entry_between<'a>(
     alloc: Global,
@@ -115,7 +115,7 @@ pub(super) fn entry_between<'a>(
     Ok(entry_from(alloc, span, slot.leading, key, ty, value, repr))
 }
 
-/// The node of what stands under way, its block and the texts behind its entries.
+/// The node of what is under way, its block and the texts after its entries.
 #[inline(always)]
 pub(super) fn node_from<N: ParsedNode>(
     alloc: Global,
@@ -178,7 +178,7 @@ fn push_node<N: ParsedNode>(nodes: &mut Option<Vec<N>>, node: N) -> Result<(), A
     }
 }
 
-/// Takes out the node under way, which ends at `start`, with its terminator, and puts it behind the nodes, where it
+/// Takes out the node under way, which ends at `start`, with its terminator, and puts it after the nodes, where it
 /// counts.
 pub(super) fn push_ended<'a, N: ParsedNode>(
     alloc: Global,
@@ -214,7 +214,7 @@ pub(super) fn push_ended<'a, N: ParsedNode>(
     push_node(nodes, node)
 }
 
-/// Takes out the node with its block, which ends at `start`, with its terminator, and puts it behind the nodes, where
+/// Takes out the node with its block, which ends at `start`, with its terminator, and puts it after the nodes, where
 /// it counts.
 pub(super) fn push_kept<'a, N: ParsedNode>(
     alloc: Global,
@@ -276,7 +276,7 @@ pub(super) fn content_span<N: ParsedNode>(nodes: &[N], place: SourceSpan) -> Sou
     }
 }
 
-/// The nodes, and the place behind them, before `end`; without nodes it stands before them.
+/// The nodes, and the place after them, before `end`; without nodes it comes before them.
 #[tactic(auto, using(crate::proofs::Stepping::NodeSpans::without, crate::proofs::Stepping::NodeSpans::within))]
 pub(super) fn content<N: ParsedNode>(
     alloc: Global,

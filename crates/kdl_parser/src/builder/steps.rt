@@ -23,7 +23,7 @@ use kdl_entry::items::item::{
 };
 use kdl_entry::items::{LexFailure, Lexer, TokenKind, fault_at};
 use kdl_entry::{KdlIdentifier, KdlValue, sliced_identifier};
-use kdl_text::chars::Checkpoint;
+use kdl_text::cursor::Checkpoint;
 use std::alloc::{AllocError, Global};
 use std::mem;
 
@@ -148,7 +148,7 @@ impl<'a, N: ParsedNode> Builder<'a, N> {
         Ok(())
     }
 
-    /// Opens a block that is slashdashed, behind the node's own.
+    /// Opens a block that is slashdashed, after the node's own.
     #[tactic(auto, using(crate::proofs::Stepping::Views::frame_pushed))]
     pub(super) fn open_later(&mut self) -> Result<(), LexFailure>
         ensures opened { Reaches N.tree (later_opened N.tree self.old) result self.new }
@@ -244,7 +244,7 @@ impl<'a, N: ParsedNode> Builder<'a, N> {
         }
     }
 
-    /// Begins a node, whose name stands between two places.
+    /// Begins a node, whose name is between two places.
     #[tactic(auto, using(crate::proofs::Stepping::TurnCost::fewer))]
     pub(super) fn begin_node(
         &mut self,
@@ -296,7 +296,7 @@ impl<'a, N: ParsedNode> Builder<'a, N> {
         Ok(())
     }
 
-    /// Gives the node under way an entry, whose value stands between two places.
+    /// Gives the node under way an entry, whose value is between two places.
     #[tactic(auto, using(crate::proofs::Stepping::Views::entry_pushed))]
     pub(super) fn add_entry(
         &mut self,
@@ -524,7 +524,7 @@ impl<'a, N: ParsedNode> Builder<'a, N> {
         Ok(())
     }
 
-    /// A token inside a type, or behind the `=` of a property.
+    /// A token inside a type, or after the `=` of a property.
     #[tactic(auto, using(crate::proofs::Stepping::TurnCost::stays_entry, crate::proofs::Stepping::TurnCost::item_went, crate::proofs::Stepping::TurnCost::on_entry_given, crate::proofs::Stepping::TurnCost::on_name_given, crate::proofs::Stepping::StepsDone::does_did))]
     pub(super) fn at_item(
         &mut self,
@@ -595,7 +595,7 @@ impl<'a, N: ParsedNode> Builder<'a, N> {
         self.begin_node(alloc, lexer, slot, given, start, end)
     }
 
-    /// A string behind `/-`, which may be a key.
+    /// A string after `/-`, which may be a key.
     pub(super) fn wait_dropped(&mut self, alloc: Global) -> Result<(), LexFailure>
         ensures waits { Reaches N.tree (dropped_worded N.tree self.old) result self.new }
         ensures whole { self.new.whole ≡ self.old.whole }
@@ -619,7 +619,7 @@ impl<'a, N: ParsedNode> Builder<'a, N> {
         Ok(())
     }
 
-    /// The `}` behind a node without a block.
+    /// The `}` after a node without a block.
     #[tactic(auto, using(crate::proofs::Stepping::Origins::between_none, crate::proofs::Stepping::Origins::origin_ends, crate::proofs::Stepping::StepsDone::failed))]
     pub(super) fn close_node(
         &mut self,
@@ -640,7 +640,7 @@ impl<'a, N: ParsedNode> Builder<'a, N> {
         self.close(alloc, lexer, start, end)
     }
 
-    /// The `}` behind a node with a block.
+    /// The `}` after a node with a block.
     #[tactic(auto, using(crate::proofs::Stepping::Origins::between_none, crate::proofs::Stepping::Origins::origin_ends, crate::proofs::Stepping::StepsDone::failed))]
     pub(super) fn close_kept(
         &mut self,

@@ -15,11 +15,11 @@ more i c a b m k le = record { most = omega (arith, k.most, fewer_bytes m, le); 
 costs_stayed : (a b : Here) → Stayed 1 a b → Costs 2 1 a b
 costs_stayed a b s = record { most = omega (arith, ap bytes s.rest, s.steps); least = omega (arith, ap length s.rest, s.steps) }
 
--- a front, and a look behind it
+-- a front, and a look after it
 pub front_looked : (f a b : Here) → Costs 2 4 f a → Stayed 1 a b → Costs 2 5 f b
 front_looked f a b c s = costs_then 2 4 1 f a b c (costs_stayed a b s)
 
--- a front, a look, and what stands behind
+-- a front, a look, and what comes after
 pub front_all : (f a b d : Here) → Costs 2 4 f a → Stayed 1 a b → Costs 2 6 b d → Costs 2 11 f d
 front_all f a b d c s k = costs_then 2 5 6 f b d (front_looked f a b c s) k
 
@@ -30,7 +30,7 @@ copied_most p a b e k h r = record {
   least = omega (arith, k.least, r.counts, ap length r.rest);
 }
 
--- no number sign stands here
+-- no number sign is here
 pub none_most : (a b : Here) → b ≡ looked a → Costs 4 4 a b
 none_most a b e = record { most = omega (arith, ap (λ z. bytes z.rest) e, ap (λ z. z.steps) e); least = omega (arith, ap (λ z. length z.rest) e, ap (λ z. z.steps) e) }
 

@@ -12,7 +12,7 @@ use Rattle.kdl_text.specs.Internal.Here.{first, AsciiOf, RunOf}
 use Rattle.kdl_text.specs.Spans.{bytes}
 use Rattle.kdl_text.proofs.Looking.MovesJoin.{bytes-append}
 
--- the run read so far, behind which no ASCII character of the class stands
+-- the run read so far, after which no ASCII character of the class comes
 pub record SoFar (p : ℕ → Bool) (old new : List ℕ) (count : ℕ) : Type 0 where
   pub run : Text
   pub text : chars old ≡ run ++ chars new

@@ -69,7 +69,7 @@ ran_sliced p x a m e (run, r) t s =
 pub all_of_run : (q : ℕ → Bool) (p t r : Text) → Run q t r → t ≡ p ++ r → list_all q p ≡ true
 all_of_run q p t r k e = let same : k.run ≡ p = append_cancel_right k.run p r (sym k.text ∙ e) in ap (list_all q) (sym same) ∙ k.all
 
--- a text behind a text
+-- a text after a text
 pub pushed : {T E : Type 0} (r : Result T E) (a n t x : List ℕ) → IsUtf8 a → n ≡ (if is_ok r then a ++ t else a) → chars t ≡ x → IfOk r (λ _. chars n ≡ chars a ++ x)
 pushed (Ok v) a n t x u e h = ap chars e ∙ chars-append a t u ∙ ap (λ z. chars a ++ z) h
 pushed (Err v) a n t x u e h = tt

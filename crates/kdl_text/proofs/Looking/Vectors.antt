@@ -59,7 +59,7 @@ outsiders_are t v a b n e f =
 pub none_outside : (p : ℕ → Bool) (s : List ℕ) (n m : ℕ) → n + 16 ≤ length s → m ≡ mask_l (map p (chunk n 16 s)) → m ≡ 0 → ((k : ℕ) → k < n → p (get_or s k 0) ≡ false) → (k : ℕ) → k < n + 16 → p (get_or s k 0) ≡ false
 none_outside p s n m room is none below k h = elim (cases_lt k n) [ inl l ↦ below k l | inr g ↦ none_from_empty_mask p s n 16 0 room (sym is ∙ none) k g h ]
 
--- an outsider among them, and how many bytes stand before the first
+-- an outsider among them, and how many bytes come before the first
 before : (p : ℕ → Bool) (s : List ℕ) (n m : ℕ) → n + 16 ≤ length s → m ≡ mask_l (map p (chunk n 16 s)) → 0 < m → count_trailing_zeros 64 m ≡ prefix_len (λ x. not (p x)) (chunk n 16 s)
 before p s n m room is some = ap (count_trailing_zeros 64) is ∙ trailing_mask_l p 64 (chunk n 16 s) (omega (arith, length-chunk n 16 s room)) (omega arith)
 

@@ -1,4 +1,4 @@
--- What lines stand for under a prefix.
+-- What lines represent under a prefix.
 use Rattle.std.proofs.Common.{◌≡◌, ℕ, suc, ◌+◌, ◌<◌, ◌≤◌, Bool, true, false, List, [], ◌∷◌, ◌++◌, map, length, refl, sym, ap, ◌∙◌, append_assoc, append-nil, take, drop, get_or, eq-eqb, eqb-true, subst}
 use Rattle.std.proofs.lemmas.Bool.{false≢true, true≢false}
 use Rattle.std.proofs.lemmas.List.{append_cancel_left, map-append, take-append-drop, take_all, take_more}
@@ -50,7 +50,7 @@ values_same p (l ∷ ls) (v ∷ vs) (w ∷ ws) (more a xs) (more b ys) =
     let rest = values_same p ls vs ws xs ys in
     cc
 
--- lines stand for one text at most
+-- lines represent one text at most
 pub dedents_det : {us : List LineUnit} {v w : Text} → Dedents us v → Dedents us w → v ≡ w
 dedents_det d e =
     let (same, last) = snoc_same d.lines e.lines d.prefix e.prefix (sym d.text ∙ e.text) in

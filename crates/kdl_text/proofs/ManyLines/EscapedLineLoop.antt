@@ -145,7 +145,7 @@ plain_fails m k = record { most = omega (arith, fewer_bytes m, k.most); least = 
 pub plain_at : (stop : Stop) (s p t u : Text) → u ≡ t → ReadsPlain Content stop s p t → ReadsPlain Content stop s p u
 plain_at stop s p t u e x = subst (ReadsPlain Content stop s p) (sym e) x
 
--- a line with an escape, behind what stands before that
+-- a line with an escape, after what comes before that
 pub line_escaped : (f b d p : Text) (none old : List LineUnit) {new : List LineUnit} (closed : Bool) → Goes Content f (literals p) (92 ∷ b) → none ≡ [] → old ≡ none ++ literals p
     → (us : List LineUnit) × (new ≡ old ++ us) × ReadsLine Content closed (92 ∷ b) us d × (bytes d + 1 ≤ bytes b) → ReadsLine Content closed f new d
 line_escaped f b d p none old {new = new} closed g n e (us, is, line, few) =

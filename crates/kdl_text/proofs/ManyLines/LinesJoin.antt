@@ -1,4 +1,4 @@
--- Lines of strings of many lines, one behind another.
+-- Lines of strings of many lines, one after another.
 use Rattle.std.proofs.Common.{◌≡◌, ℕ, suc, ◌+◌, ◌<◌, ◌≤◌, ◌&&◌, true, false, take, drop, get_or, add-one, List, [], ◌∷◌, ◌++◌, map, length, refl, sym, ap, ◌∙◌, subst, arith, append_assoc}
 use Rattle.std.proofs.lemmas.Bool.{and_parts, false≢true}
 use Rattle.std.proofs.lemmas.List.{map-append, take-append-drop, take_all, take_more}
@@ -33,7 +33,7 @@ pub literals_inside : (p : Text) → is_one_line (literals p) ≡ true
 literals_inside [] = refl
 literals_inside (c ∷ p) = literals_inside p
 
--- lines, each with a newline behind it
+-- lines, each with a newline after it
 abbrev pub ended : List (List LineUnit) → List LineUnit
 ended [] = []
 ended (l ∷ ls) = l ++ (LineEnd ∷ ended ls)

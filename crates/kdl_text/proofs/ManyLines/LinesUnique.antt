@@ -52,7 +52,7 @@ content_back {r = r} i (more {us = us} {vs = vs} j x e) =
     let (same, ends) = content_unit_det i j in
     (vs, e ∙ ap (λ z. z ++ vs) (sym same), subst (λ z. Content z r vs) (sym ends) x)
 
--- behind a unit the lines go on
+-- after a unit the lines go on
 pub goes_content : {s t : Text} {us : List LineUnit} → ContentUnit s t us → Goes Content s us t
 goes_content i = record { on = λ r v x. more i x refl; back = λ r w. content_back i }
 

@@ -1,4 +1,4 @@
--- Characters that stand for themselves in a string of many lines, and what ends them.
+-- Characters that represent themselves in a string of many lines, and what ends them.
 use Rattle.std.proofs.Common.{◌≡◌, ℕ, ◌+◌, ◌≤◌, true, false, List, [], ◌∷◌, ◌++◌, length, refl, sym, ap, ◌∙◌, subst, arith, append_assoc, append-nil}
 use Rattle.std.proofs.lemmas.Bool.{and_parts}
 use Rattle.std.proofs.lemmas.List.{append_cancel_right}
@@ -142,7 +142,7 @@ module _ (f a : Here) (i : InPlain f a) (c : ℕ) (b : Here) (t : Took (Some c) 
         },
       )
 
-  -- a character that may not stand there
+  -- a character that may not occur there
   pub plain_stuck : (c ≡ 34 → ⊥) → (c ≡ 92 → ⊥) → is_newline_char c ≡ false → is_literal c ≡ false → ((r : Text) (us : List LineUnit) → Content f.rest r us → ⊥) × Moves f b × Costs 2 1 f b
   plain_stuck x34 x92 nl lit = (
     λ r us x.

@@ -29,7 +29,7 @@ use Rattle.kdl_text.proofs.Numeric.NumberUnique.{sign_det, integer_digit, whole_
 use Rattle.kdl_text.proofs.Numeric.DecimalUnique.{part_det, part_is, fraction_det, no_ten, base_is_ten, part_of, part_begins, number_det}
 use Rattle.kdl_text.proofs.Numeric.NumberReads.{tight}
 
--- no number begins where no digit stands behind the sign and the prefix
+-- no number begins where no digit comes after the sign and the prefix
 pub no_front : (t s u : Text) (n : Bool) (k j : ℕ) → Sign t s n → BasePrefix s u k → j ≡ k → starts (is_digit_of j) u ≡ false → (r : Text) (x : NumberValue) → IsNumber t r x → ⊥
 no_front t s u n k j a b e h r x (is_whole {z = z} w) = let y = whole_digit t s u r n k z a b w in let y' : starts (is_digit_of k) u ≡ false = rw (← e) h in cc
 no_front t s u n k j a b e h r x (is_decimal (decimal {s = s'} {u = u'} {v = v} p a' i d f g)) =
@@ -186,12 +186,12 @@ always : {A E : Type 0} (r : Result A E) (P : Type 0) → P → IfOk r (λ n. P)
 always (Ok n) P h = h
 always (Err x) P h = tt
 
--- what a whole number costs: its front, and a look behind it
+-- what a whole number costs: its front, and a look after it
 pub whole_costs : {A E : Type 0} (r : Result A E) (f a b : Here) → Moves f a → Costs 2 4 f a → length a.rest < length f.rest → Stayed 1 a b → IfOk r (λ n. Costs 20 0 f b)
 whole_costs r f a b m c less s =
     always r (Costs 20 0 f b) (tight 5 f b (lit≤ tt) (moves_then m (moves_stayed s)) (omega (arith, less, ap length s.rest)) (costs_then 2 4 1 f a b c (costs_stayed a b s)))
 
--- the front, a look, and the part behind it
+-- the front, a look, and the part after it
 pub part_moves : (f a b d : Here) → Moves f a → Stayed 1 a b → Moves b d → Moves f d
 part_moves f a b d m s n = moves_then m (moves_then (moves_stayed s) n)
 
@@ -283,7 +283,7 @@ no_underscore_here c s ne = go (c == 95) refl
     go true e = absurd (ne (eqb-true c 95 e))
     go false e = rw e refl
 
--- which fault is answered
+-- which fault is returned
 module _ (f : Front) (t u : Text) (x : IsFront f t u) where
   begun : (rest : Text) → rest ≡ u → Begun f.radix t rest
   begun rest e =

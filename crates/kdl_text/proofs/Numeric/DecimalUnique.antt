@@ -102,12 +102,12 @@ no_base_part {c = c} {d = d} {k = k} {q = q} h (integer x i) p = no_more (base_l
 pub no_ten : (c d : ℕ) (s : Text) → base_prefix (c ∷ d ∷ s) ≡ Some 10 → ⊥
 no_ten c d s h = grind (arith, nat_tests)
 
--- at a decimal no prefix of another base stands
+-- a decimal has no prefix of another base
 pub base_is_ten : {s u v r x : Text} {k : ℕ} → Integer 10 s u v → DecimalPart u r → BasePrefix s x k → (x ≡ s) × (k ≡ 10)
 base_is_ten i p (ten h) = (refl, refl)
 base_is_ten i p (other h) = absurd (no_base_part h i p)
 
--- behind its sign, its prefix and its first integer a decimal goes on
+-- after its sign, its prefix and its first integer a decimal goes on
 pub part_of : (t s u r w v : Text) (n : Bool) (k : ℕ) (x : Text) → Sign t s n → BasePrefix s u k → Integer k u r w → Decimal t v x → (k ≡ 10) × DecimalPart r v
 part_of t s u r w v n k x a b d (decimal {s = s'} {u = u'} {v = w'} p a' i e f g) =
     let y = sign_det a a' in

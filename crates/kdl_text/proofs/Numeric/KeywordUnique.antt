@@ -17,7 +17,7 @@ use Rattle.kdl_text.specs.declared.numbers.Keyword.{Keyword}
 use Rattle.kdl_text.specs.declared.numbers.Keyword.TheVariants.{True, False, Null, Infinity, NegativeInfinity, NotANumber}
 use Rattle.kdl_text.proofs.Looking.MovesJoin.{bytes-append, moves_then, moves_one}
 
--- the word behind the `#`
+-- the word after the `#`
 abbrev pub word : Keyword → Text
 word True = codes "true"
 word False = codes "false"
@@ -77,7 +77,7 @@ run_det f (c ∷ p) (d ∷ q) r s e a b x y =
     let i = run_det f p q r s t (and_parts (f c) (list_all f p) a).1 (and_parts (f d) (list_all f q) b).1 x y in
     (ap (λ z. z ∷ p) h ∙ ap (λ z. d ∷ z) i.0, i.1)
 
--- a keyword stands at the front of a text whose word is known
+-- a keyword is at the front of a text whose word is known
 pub keyword_is : (t p rest r : Text) (x : Keyword) → t ≡ 35 ∷ (p ++ rest) → list_all is_identifier_char p ≡ true → starts is_identifier_char rest ≡ false → IsKeyword t r x → (word x ≡ p) × (r ≡ rest)
 keyword_is t p rest r x e a n (keyword f m) =
     let g : 35 ∷ (word x ++ r) ≡ 35 ∷ (p ++ rest) = ap (λ z. z ++ r) (sym (text_of x)) ∙ sym f ∙ e in
@@ -150,7 +150,7 @@ pub no_keyword : (p : Text) → (p ≡ chars (word True) → IsTrue false) → (
     → (p ≡ chars (word NegativeInfinity) → IsTrue false) → (p ≡ chars (word NotANumber) → IsTrue false) → (k : Keyword) → keyword_text k ≡ 35 ∷ p → ⊥
 no_keyword p a b c d e f = no_word p (none_of p (never a) (never b) (never c) (never d) (never e) (never f))
 
--- the word behind a `#`, cut out
+-- the word after a `#`, cut out
 pub keyword_here : (o : Option Keyword) (p run : Text) (a b d e : Here) → Took (Some 35) a b → Ran is_identifier_char run b d → b.rest ≡ p ++ d.rest → e ≡ sliced p d → WordOf o p → ReadsKeyword o a.rest e.rest
 keyword_here o p run a b d e t s x m w =
     let same : run ≡ p = append_cancel_right run p d.rest (sym s.text ∙ x) in

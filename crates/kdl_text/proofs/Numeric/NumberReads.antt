@@ -120,7 +120,7 @@ base_other k a b m e h s x y =
       costs = record { most = omega (arith, ap bytes w, steps, (len_utf8_bounds c).0, (len_utf8_bounds d).0); least = omega (arith, ap length w, steps) };
     }
 
--- an integer: its first digit, and those behind it
+-- an integer: its first digit, and those after it
 pub integer_read : (k c d : ℕ) (m : Magnitude) (a b e g : Here) → Some c ≡ first a.rest → b ≡ looked a → e ≡ stepped b → IsDigit k c (Some d) → ReadsDigits k (Small d) m e.rest g.rest → ReadsInteger k (Some m) a.rest g.rest
 integer_read k c d m a b e g h x y (is, value, small) (w, read, counts) =
     let t = took_from c a b e h x y in

@@ -146,7 +146,7 @@ whole_number_begins (whole a b d e f g) = sign_begins a (base_digit b d)
 pub integer_digit : {k : ℕ} {t r w : Text} → Integer k t r w → starts (is_digit_of k) t ≡ true
 integer_digit (integer x d) = x
 
--- behind the sign and the prefix of a whole number stands a digit of the base
+-- after the sign and the prefix of a whole number is a digit of the base
 pub whole_digit : (t s u v : Text) (n : Bool) (k : ℕ) (z : ℤ) → Sign t s n → BasePrefix s u k → WholeNumber t v z → starts (is_digit_of k) u ≡ true
 whole_digit t s u v n k z a b (whole {s = s'} {u = u'} {w = w'} {radix = j} a' b' d' e f g) =
     let x = sign_det a a' in

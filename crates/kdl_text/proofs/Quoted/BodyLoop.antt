@@ -89,7 +89,7 @@ module _ (f a : Here) (out : Text) (i : Reading f a out) where
   pub reading_over : (b : Here) → Took None a b → (r w : Text) → QuotedBody f.rest r w → ⊥
   reading_over b took = goes_none (subst (Goes QuotedBody f.rest out) took.0 i.goes) (λ r v. body_empty)
 
-  -- where no unit and no quote stands
+  -- where there is no unit and no quote
   pub reading_none : (c : ℕ) (b : Here) → Took (Some c) a b → (c ≡ 34 → ⊥) → ((m : Text) (u : StringUnit) → IsUnit (c ∷ b.rest) m u → ⊥) → (r w : Text) → QuotedBody f.rest r w → ⊥
   reading_none c b took ne none = goes_none (subst (Goes QuotedBody f.rest out) took.0 i.goes) (λ r v. body_none ne none)
 

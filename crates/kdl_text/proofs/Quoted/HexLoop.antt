@@ -16,7 +16,7 @@ use Rattle.kdl_text.specs.Strings.{HexNumber, is_hex}
 use Rattle.kdl_text.proofs.Looking.MovesJoin.{moves_then, moves_one, costs_then}
 use Rattle.kdl_text.proofs.Looking.SliceCost.{costs_took, ended}
 
--- behind the digits ds stand the rest of the digits and the brace
+-- after the digits ds are the rest of the digits and the brace
 pub record HexTail (ds t r : Text) (c : ℕ) : Type 0 where
   pub digits : Text
   pub text : t ≡ digits ++ 125 ∷ r
@@ -122,7 +122,7 @@ pub record Digits (f a : Here) (value count : ℕ) : Type 0 where
   pub moves : Moves f a
   pub costs : Costs 1 0 f a
 
--- where no number stands
+-- where there is no number
 pub record NoHex (f b : Here) : Type 0 where
   pub none : (r : Text) (c : ℕ) → HexNumber f.rest r c → ⊥
   pub moves : Moves f b

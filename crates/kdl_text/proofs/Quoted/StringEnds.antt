@@ -32,7 +32,7 @@ content_end (Content.more u c e) = then (content_unit_end u) (content_end c)
 many_end : {s r v : Text} → MultiLineString s r v → End s r
 many_end (multi_line (MultiLineBody.lines n c d)) = also 34 (also 34 (also 34 (then (end_newline n) (content_end c))))
 
--- behind a quoted string in either form
+-- after a quoted string in either form
 pub is_quoted_end : {s r v : Text} → IsQuoted s r v → End s r
 is_quoted_end (IsQuoted.on_one_line x q) = quoted_end q
 is_quoted_end (IsQuoted.on_many_lines m) = many_end m
@@ -57,7 +57,7 @@ raw_body_end (MultiLineRawBody.lines n c d) = then (end_newline n) (raw_content_
 raw_many_end : {s r v : Text} → MultiLineRawString s r v → End s r
 raw_many_end x = then (record { piece = times x.signs 35; text = x.text }) (also 34 (also 34 (also 34 (raw_body_end x.is_body))))
 
--- behind a raw string in either form
+-- after a raw string in either form
 pub is_raw_end : {s r v : Text} → IsRaw s r v → End s r
 is_raw_end (IsRaw.on_one_line x) = raw_end x
 is_raw_end (IsRaw.on_many_lines x) = raw_many_end x

@@ -90,7 +90,7 @@ body_back {r = r} j (body {us = x ∷ us} (more k ks) e) =
 body_on : {t m r v : Text} {u : StringUnit} → IsUnit t m u → QuotedBody m r v → QuotedBody t r (unit_value u ++ v)
 body_on {u = u} i (body us e) = body (more i us) (ap (λ z. unit_value u ++ z) e)
 
--- behind a unit a body goes on
+-- after a unit a body goes on
 pub goes_unit : {t m : Text} {u : StringUnit} → IsUnit t m u → Goes QuotedBody t (unit_value u) m
 goes_unit i = record { on = λ r v. body_on i; back = λ r w. body_back i }
 
@@ -112,7 +112,7 @@ body_empty (body (more u us) e) = elim u [ ]
 pub body_unit : {t r v : Text} → QuotedBody (92 ∷ t) r v → (m : Text) × (u : StringUnit) × IsUnit (92 ∷ t) m u
 body_unit (body (more u us) e) = (_, _, u)
 
--- where neither a quote nor a unit stands
+-- where there is neither a quote nor a unit
 pub body_none : {c : ℕ} {t r v : Text} → (c ≡ 34 → ⊥) → ((m : Text) (u : StringUnit) → IsUnit (c ∷ t) m u → ⊥) → QuotedBody (c ∷ t) r v → ⊥
 body_none h k (body none e) = h refl
 body_none h k (body (more u us) e) = k _ _ u

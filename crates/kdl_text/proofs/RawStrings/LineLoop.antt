@@ -129,7 +129,7 @@ module _ (n c : ℕ) (f m b d : Here) (i : InLine n 1 f m) (t : Took (Some c) m 
       )
 
 module _ (n c : ℕ) (f m b : Here) (i : InLine n 1 f m) (t : Took (Some c) m b) where
-  -- at a character that may not stand there
+  -- at a character that may not occur there
   pub line_stuck : (c ≡ 34 → ⊥) → starts is_unquoted m.rest ≡ false → (r w : Text) → RawContent (closing 1 n) f.rest r (literals w) → ⊥
   line_stuck ne stops r w x =
       let (v, e, y) = (goes_raw i.units).back r (literals w) x in

@@ -173,7 +173,7 @@ module _ (n : ℕ) (f a : Here) (i : InRaw n f a) (c : ℕ) (b : Here) (t : Took
         },
       )
 
-  -- a character that may not stand there
+  -- a character that may not occur there
   pub raw_stuck : (c ≡ 34 → ⊥) → is_newline_char c ≡ false → is_raw c ≡ false → ((r : Text) (us : List LineUnit) → RawContent (closing 3 n) f.rest r us → ⊥) × Moves f b × Costs 2 1 f b
   raw_stuck ne nl bad = (
     λ r us x.

@@ -1,4 +1,4 @@
--- Whole raw strings: from their number signs, their quotes and what stands between these.
+-- Whole raw strings: from their number signs, their quotes and what is between these.
 use Rattle.std.proofs.Common.{◌≡◌, ℕ, zero, suc, ◌<◌, Bool, true, false, not, ◌&&◌, ◌==◌, List, [], ◌∷◌, ◌++◌, refl, sym, ap, ◌∙◌, subst, arith}
 use Rattle.std.proofs.lemmas.Bool.{false≢true, true≢false}
 use Rattle.std.specs.Prelude.{Result, Ok, Err, IfOk, MatchResult}
@@ -29,12 +29,12 @@ no_first : (m : ℕ) (d x : Text) → 0 < m → d ≡ times m 35 ++ x → begins
 no_first zero d x some e h = omega arith
 no_first (suc m) d x some e h = true≢false (sym (ap (begins 35) e) ∙ h)
 
--- where no number signs stand
+-- where there are no number signs
 pub unsigned : (j : ℕ) (s d r w : Text) → s ≡ times j 35 ++ d → begins 35 d ≡ false → j ≡ 0 → IsRaw s r w → ⊥
 unsigned j s d r w e h z (on_one_line q) = no_first q.signs d _ q.some (sym (e ∙ ap (λ i. times i 35 ++ d) z) ∙ q.text) h
 unsigned j s d r w e h z (on_many_lines q) = no_first q.signs d _ q.some (sym (e ∙ ap (λ i. times i 35 ++ d) z) ∙ q.text) h
 
--- where no quote stands behind them
+-- where no quote comes after them
 pub unquoted : (j : ℕ) (s d r w : Text) → s ≡ times j 35 ++ d → begins 35 d ≡ false → begins 34 d ≡ false → IsRaw s r w → ⊥
 unquoted j s d r w e h k (on_one_line q) = no_signs j q.signs d _ h k (sym e ∙ q.text)
 unquoted j s d r w e h k (on_many_lines q) = no_signs j q.signs d _ h k (sym e ∙ q.text)

@@ -12,7 +12,7 @@ use Rattle.kdl_text.specs.Internal.Reading.{Reads, Moves, Costs}
 use Rattle.kdl_text.proofs.Spacing.CommentDepth.{Ends, none, Same, same_opens, same_closes, same_passes, same_run, same_ends, same_starts, none_end}
 use Rattle.kdl_text.proofs.Looking.MovesJoin.{stays, moves_then, moves_took, fewer_bytes}
 
--- where the loop stands
+-- where the loop is
 pub record Inside (f : Here) (depth : ℕ) (a : Here) : Type 0 where
   pub inside : 0 < depth
   pub few : depth + f.at ≤ a.at + 1

@@ -45,7 +45,7 @@ esc_reads false a b m e t (l, x) n = λ r p. n r (escline_ends_at l.0 l.1 (rw t.
 pub esc_unclosed : (a b m : Here) → Took (Some 92) a b → RunsWs false b m → (r : Text) → Escline a.rest r → ⊥
 esc_unclosed a b m t (u, run, o) = λ r p. opens_end o (escline_ends_at run (λ w. opens_ws o) (rw t.0 at p))
 
--- what went on behind the backslash
+-- what went on after the backslash
 pub esc_moves : (a b e : Here) → Took (Some 92) a b → Moves b e → Moves a e
 esc_moves a b e t m = moves_then (moves_one t) m
 

@@ -36,7 +36,7 @@ cr_is : is_newline_char 13 ≡ true
 unfolding is_newline_char
 cr_is = refl
 
--- a newline that begins with a carriage return, behind which a line feed is gone past, or with another character
+-- a newline that begins with a carriage return, after which a line feed is gone past, or with another character
 pub end_lf : (r : Bool) (c : ℕ) (a b : Here) → c ≡ 13 → Ate 10 r a b → Newline (c ∷ a.rest) b.rest
 end_lf true c a b e t = rw (e, t.0) crlf
 end_lf false c a b e (n, l) = rw (e, (stayed_looked a b l).rest) (one cr_is n)

@@ -16,7 +16,7 @@ use Rattle.kdl_text.specs.Trivia.Break.{newline as break_newline, comment as bre
 use Rattle.kdl_text.specs.Trivia.LineSpace.{space as line_space, «break» as line_break}
 use Rattle.kdl_text.specs.Trivia.Slashdash.{slashdash}
 
--- r is the end of t behind some piece
+-- r is the end of t after some piece
 abbrev pub EndOf : Text → Text → Type 0
 EndOf t r = (p : Text) × (t ≡ p ++ r)
 

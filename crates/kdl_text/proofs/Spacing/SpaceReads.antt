@@ -70,7 +70,7 @@ line_ran b run a m e r n = let found : Line a.rest e.rest = rw r.text (line_run 
 pub line_costs : (run : Text) (a m e : Here) → Ran (λ c. not (is_newline_char c)) run a m → Moves m e → Costs 2 1 m e → Costs 2 2 a e
 line_costs run a m e r v c = let k = costs_ran r in record { most = omega (arith, k.most, c.most, fewer_bytes (moves_ran r)); least = omega (arith, k.least, c.least) }
 
--- what the caller knows to stand here was eaten
+-- what the caller knows to be here was eaten
 pub ate_here : (c : ℕ) (b : Bool) (old new : Here) → begins c old.rest ≡ true → Ate c b old new → Took (Some c) old new
 ate_here c true old new h t = t
 ate_here c false old new h (x, t) = cc
@@ -83,7 +83,7 @@ pub moves_ate_two : (c d : ℕ) (b : Bool) (old new : Here) → AteTwo c d b old
 moves_ate_two c d true old new t = moves_two t
 moves_ate_two c d false old new (x, s) = moves_stayed s
 
--- comments behind their first two characters
+-- comments after their first two characters
 block_parts : {s r : Text} → BlockComment (47 ∷ 42 ∷ s) r → Parts s r
 block_parts (block p) = p
 

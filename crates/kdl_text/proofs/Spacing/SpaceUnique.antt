@@ -140,7 +140,7 @@ esc_end_det ends (comment q) = elim q [ ]
 esc_end_det ends (newline n) = elim n [ ]
 esc_end_det ends ends = refl
 
--- an escline ends where the longest run of ws behind its backslash does
+-- an escline ends where the longest run of ws after its backslash does
 pub escline_ends_at : {s u r : Text} → Star Ws s u → ((t : Text) → Ws u t → ⊥) → Escline (92 ∷ s) r → EscEnd u r
 escline_ends_at {r = r} run stuck (escline p e) = subst (λ u. EscEnd u r) (stops (meets ws_dets p run stuck) (λ u. esc_end_ws e)) e
 

@@ -1,4 +1,4 @@
--- What may stand behind a value begins with no character of a bare string or a number; each node-space and break may.
+-- What may come after a value begins with no character of a bare string or a number; each node-space and break may.
 use Rattle.std.proofs.Common.{◌≡◌, ℕ, Bool, true, false, ◌||◌, refl, arith}
 use Rattle.std.proofs.lemmas.Bool.Decides.{nat_tests}
 use Rattle.kdl_text.specs.Chars.{Text, Space, Newline, is_space, is_newline_char, is_banned, is_punctuation, is_identifier_char, starts, crlf, one, space as a_space}
@@ -65,7 +65,7 @@ pub break_ends : {wide : Bool} {s r : Text} → Break s r → ValueEnd wide s
 break_ends (Break.newline p) = ValueEnd.newline p
 break_ends (Break.comment (line l)) = ValueEnd.line_comment
 
--- what may stand behind a value without `/-` may with it
+-- what may come after a value without `/-` may with it
 pub value_end_wider : {wide : Bool} {s : Text} → ValueEnd wide s → ValueEnd true s
 value_end_wider ValueEnd.nothing = ValueEnd.nothing
 value_end_wider (ValueEnd.punctuation x) = ValueEnd.punctuation x

@@ -13,7 +13,8 @@ ghost use Rattle.std.specs.Prelude.{◌≡◌, ◌++◌, ◌∷◌, [], ◌+◌,
 ghost use Rattle.std.specs.List.{list_all};
 ghost use Rattle.std.specs.Str.{chars};
 
-use crate::chars::{Characters, Class, Cursor, Segment, is_space};
+use crate::chars::{Class, is_space};
+use crate::cursor::{Characters, Cursor, Segment};
 use crate::strings::{StringFailure, StringFault};
 use std::alloc::{AllocError, Global};
 

@@ -12,7 +12,8 @@ ghost use Rattle.kdl_text.specs.declared.strings.dedent.LineUnit.{LineUnit};
 ghost use Rattle.std.specs.Prelude.{◌≡◌, ◌≤◌, ◌+◌, ◌∷◌, ◌++◌, List, ℕ, true, map, string_bytes, IfOk, IfErr, MatchResult};
 ghost use Rattle.std.specs.Str.{chars};
 
-use crate::chars::{Class, Cursor, Segment, is_literal, is_newline_char, newline};
+use crate::chars::{Class, is_literal, is_newline_char};
+use crate::cursor::{Cursor, Segment, newline};
 use crate::strings::dedent::{Line, LineUnit, add_line, dedent, push_literals, push_unit};
 use crate::strings::{StringFailure, StringFault, escaped_unit};
 use std::alloc::Global;

@@ -12,7 +12,8 @@ ghost use Rattle.kdl_text.specs.declared.strings.dedent.LineUnit.{LineUnit};
 ghost use Rattle.std.specs.Prelude.{◌≡◌, ◌<◌, ◌≤◌, ◌+◌, ◌++◌, ◌∷◌, List, false, map, string_bytes, IfOk, IfErr, IfSome, IfNone, MatchResult};
 ghost use Rattle.std.specs.Str.{chars};
 
-use crate::chars::{Checkpoint, Class, Cursor, Piece, Segment, is_newline_char, is_raw, newline};
+use crate::chars::{Class, is_newline_char, is_raw};
+use crate::cursor::{Checkpoint, Cursor, Piece, Segment, newline};
 use crate::strings::dedent::{Line, add_line, dedent};
 use crate::strings::multiline::end_newline;
 use crate::strings::{StringFailure, StringFault, fault_at};

@@ -10,7 +10,7 @@ use Rattle.kdl_text.specs.Numbers.Digits.{stop, digit, underscore}
 use Rattle.kdl_text.specs.Numbers.Fraction.{none as no_fraction, fraction}
 use Rattle.kdl_text.specs.Numbers.Exponent.{none as no_exponent, exponent}
 
--- a piece stands at the front of t before r; without its `_` it is an X before any rest that P allows
+-- a piece is at the front of t before r; without its `_` it is an X before any rest that P allows
 record Plain (t r : Text) (P : Text → Type 0) (X : Text → Text → Type 0) : Type 0 where
   piece : Text
   text : t ≡ piece ++ r
@@ -160,6 +160,6 @@ plain_decimal {t = t} {r = r} (decimal {s = s} {u = u} p a i (part {s = v} f e s
     let at_all : Decimal all [] all = decimal all (signed.reads unsigned (integer_signless at_whole)) at_whole (part at_point.fraction at_power.power some refl) (sym (append-nil all)) once in
     subst (λ z. Decimal z [] z) (sym (is ∙ same)) at_all
 
--- what a decimal stands for is a float's text
+-- what a decimal represents is a float's text
 pub decimal_float : {t r w : Text} → Decimal t r w → FloatText w
 decimal_float d = inl (plain_decimal d)

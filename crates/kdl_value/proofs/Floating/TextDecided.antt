@@ -103,7 +103,7 @@ some_exponent (c ∷ t) = elim (cases_Bool (is_exponent_letter c)) [ inl h ↦ b
     behind h (inl i) = inl (record { rest = i.rest; power = true; exponent = Exponent.exponent h (some_sign t).sign i.int })
     behind h (inr n) = inr (never_exponent c t n h)
 
--- behind its sign and its integer a decimal that is the whole text goes on
+-- after its sign and its integer a decimal that is the whole text goes on
 rest_part : {s t u w : Text} {m : Bool} → Sign s t m → Integer 10 t u w → Decimal s [] s → DecimalPart u [] × (plain s ≡ s)
 rest_part {s = s} a i (decimal {u = v} {v = x} p b j e f g) =
     let j' = subst (λ (q : Text). Integer 10 q v x) (sym (sign_det a b).0) j in

@@ -29,7 +29,7 @@ end_baseless : (c : ℕ) → is_identifier_char c ≡ false → base_of c ≡ No
 unfolding is_identifier_char is_space is_newline_char is_banned is_punctuation
 end_baseless c h = grind (arith, nat_tests)
 
--- behind a digit stands no prefix of a base
+-- after a digit there is no prefix of a base
 no_base : (c d : ℕ) (s : Text) → base_of d ≡ None → base_prefix (c ∷ d ∷ s) ≡ None
 no_base c d s h = go (c == 48)
   where

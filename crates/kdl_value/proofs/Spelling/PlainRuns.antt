@@ -36,7 +36,7 @@ boundary old new r u v =
     let w = whole old new r u v in
     subst (IsCharBoundary old) (sym (front_len old new _ w)) (IsCharBoundary-at_seam old (encode_utf8_all r.run) new w v)
 
--- what stands before the rest
+-- what comes before the rest
 pub front : (old new piece : List ℕ) → PlainRun old new → IsUtf8 old → IsUtf8 new → IsUtf8 piece
     → piece ≡ slice_range old 0 (length old - length new) → chars old ≡ chars piece ++ chars new
 front old new piece r u v p e =
@@ -51,7 +51,7 @@ front_as_is old new piece r e =
     let same = append_cancel_right r.run (chars piece) (chars new) (sym r.text ∙ e) in
     subst (λ x. escaped_text x ≡ x) same r.as_is
 
--- a run, and the character behind it
+-- a run, and the character after it
 pub escaped-run : (done s run next behind : List ℕ) (c : ℕ) (all : List ℕ) → chars s ≡ chars run ++ chars next → escaped_text (chars run) ≡ chars run → chars next ≡ c ∷ chars behind
     → done ++ encode_utf8_all (escaped_text (chars s)) ≡ all
     → ((done ++ encode_utf8_all (chars run)) ++ encode_utf8_all (char_text c)) ++ encode_utf8_all (escaped_text (chars behind)) ≡ all

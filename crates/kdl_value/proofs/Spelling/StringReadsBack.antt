@@ -1,4 +1,4 @@
--- The printed spelling stands for the string.
+-- The printed spelling represents the string.
 use Rattle.std.proofs.Common.{◌≡◌, ℕ, zero, suc, ◌+◌, ◌<◌, ◌≤◌, ◌/◌, ◌%◌, ◌^◌, true, false, ◌||◌, ◌==◌, List, [], ◌∷◌, ◌++◌, length, refl, sym, subst, inl, inr, arith, append_assoc, append-nil, eq-eqb, ne_eqb}
 use Rattle.std.specs.Prelude.{Some}
 use Rattle.std.proofs.lemmas.Bool.{cases_Bool, cases_eq, and_parts}
@@ -43,7 +43,7 @@ short : (c : ℕ) → c < 65536 → length (digits 16 false c) ≤ 6
 unfolding digits
 short c small = omega (arith, digits_short 64 4 c [] small (omega arith))
 
--- the letter of a short escape stands for its character
+-- the letter of a short escape represents its character
 back : (c : ℕ) → (escape_letter c == 0) ≡ false → letter_escape (escape_letter c) ≡ Some c
 back c h = grind (arith, nat_tests)
 

@@ -1,4 +1,4 @@
--- The entry that the machine answers on a text is the one that is laid in it, and so no other is.
+-- The entry that the machine returns on a text is the one that is laid in it, and so no other is.
 use Rattle.std.proofs.Common.{◌≡◌, true, [], ◌∷◌, Option, Some, refl, sym, ap, subst, ◌∙◌}
 use Rattle.kdl_text.specs.Chars.{Text, Star}
 use Rattle.kdl_text.specs.Trivia.{LineSpace}
@@ -18,7 +18,7 @@ use Rattle.kdl_entry.proofs.Reading.EntryComplete.{read_value, read_item, built}
 use Rattle.kdl_entry.proofs.Reading.EntryLaws.{runs_det}
 use Rattle.kdl_entry.proofs.Laying.TextUnique.{one_identifier}
 
--- an identifier that is laid is the string that stands there
+-- an identifier that is laid is the string that is there
 pub identifier_same : (whole : Text) {s r : Text} {i : Identifier} → LaidIdentifier true whole i s r → identifier_at whole i.value s r ≡ i
 identifier_same whole {s = s} {r = r} (spelled {v = v} {p = p} {at = at} d e) = let a : p ≡ between s r = is_between s r p d.text in let b : at ≡ span_of whole s r = e in cc
 
@@ -54,12 +54,12 @@ module _ (whole : Text) where
       let l : after_eq ≡ between q t = is_between q t after_eq us.text in
       cc
 
--- it stands between what is before it and the line-spaces behind it
+-- it is between what is before it and the line-spaces after it
 build_same : {t u r : Text} {x : data'.Entry} (b : BeforeEntry true t u) (i : IsEntry true u r x) (zs : Star LineSpace r []) → (built (entry_text b i zs)).tree ≡ ended t (between r []) ((read_item t i).tree (between t u))
 unfolding built
 build_same (before_entry ls ds) i zs = refl
 
--- the entry that the machine answers is the one that is laid in the whole text
+-- the entry that the machine returns is the one that is laid in the whole text
 built_same : (t : Text) (e : Entry) (l : LaidEntryText true t e) → (built (entry_of true t e l)).tree ≡ e
 unfolding entry_of
 built_same t e (laid_entry_text {leading = leading} {trailing = trailing} {t = u} {r = r} b i ls x) =
@@ -69,7 +69,7 @@ built_same t e (laid_entry_text {leading = leading} {trailing = trailing} {t = u
     ∙ ap (λ (z : Text). ended t trailing (I.tree z)) (sym (is_between t u leading b.text))
     ∙ item_same t i x
 
--- what is laid in a text, the machine answers
+-- what is laid in a text, the machine returns
 pub entry_answered : (t : Text) (e : Entry) → LaidEntryText true t e → AnswersEntry t e
 entry_answered t e l = subst (λ (z : Entry). AnswersEntry t z) (built_same t e l) (built (entry_of true t e l)).answers
 

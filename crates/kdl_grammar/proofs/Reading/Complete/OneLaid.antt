@@ -1,4 +1,4 @@
--- The document that the machine answers on a text is the one that is laid in it, and so no other is.
+-- The document that the machine returns on a text is the one that is laid in it, and so no other is.
 use Rattle.std.proofs.Common.{◌≡◌, Bool, true, false, List, [], ◌∷◌, Option, Some, option_map, refl, sym, ap, subst, ◌∙◌}
 use Rattle.kdl_text.specs.Chars.{Text, Star, Plus, plus}
 use Rattle.kdl_text.specs.Chars.Star.{none as no_star, more}
@@ -55,7 +55,7 @@ module _ (whole : Text) where
   end_same : {end s r : Text} (e : Is Terminator end s r) → (read_end whole e.is).end ≡ end
   end_same {end = end} {s = s} {r = r} e = let E = read_end whole e.is in is_between s r E.end E.laid.text ∙ sym (is_between s r end e.text)
 
-  -- behind dropped entries and spaces stands the next entry, and what is behind that one stays
+  -- after dropped entries and spaces is the next entry, and what is after that one stays
   kept_same : {s t u w r v p : Text} {x : entry_data'.Entry} {es : List entry_data'.Entry} {k : data'.Children} (ds : Star DroppedEntry s t) (n : Plus NodeSpace t u) (i : IsEntry true u w x) (d : AfterName true w r es k) (e : Terminator r v) (before : Star DroppedEntry p s)
       → ((read_name whole (dropped_first ds (kept_entry n i d)) e p before).entries ≡ entry_of whole (between p u) (read_item whole i) ∷ (read_name whole d e w no_star).entries)
       × ((read_name whole (dropped_first ds (kept_entry n i d)) e p before).tail ≡ (read_name whole d e w no_star).tail)
@@ -63,7 +63,7 @@ module _ (whole : Text) where
   kept_same no_star (plus n ss) i d e before = (refl, refl)
   kept_same (more (DroppedEntry.dropped ss m x) ds) n i d e before = kept_same ds n i d e (snoc before (DroppedEntry.dropped ss m x))
 
-  -- the first entry, behind what is before it
+  -- the first entry, after what is before it
   first_same : {p u w r v : Text} {x : entry_data'.Entry} {es : List entry_data'.Entry} {k : data'.Children} (l : EntryLeading p u) (i : IsEntry true u w x) (d : AfterName true w r es k) (e : Terminator r v)
       → ((read_name whole (first_entry l i d) e p no_star).entries ≡ entry_of whole (between p u) (read_item whole i) ∷ (read_name whole d e w no_star).entries)
       × ((read_name whole (first_entry l i d) e p no_star).tail ≡ (read_name whole d e w no_star).tail)
@@ -87,50 +87,50 @@ module _ (whole : Text) where
         a.1 ∙ b.1,
       )
 
-  -- behind dropped entries alone no entry is made, and the blocks are what follows
+  -- after dropped entries alone no entry is made, and the blocks are what follows
   blocks_same : {s t r v p : Text} {k : data'.Children} (ds : Star DroppedEntry s t) (d : Blocks true false t r k) (e : Terminator r v) (before : Star DroppedEntry p s) (tail : Tail) → ((before : Star DroppedEntry p t) → (read_blocks whole d e p before no_star).tail ≡ tail)
       → ((read_name whole (dropped_first ds (AfterName.blocks d)) e p before).entries ≡ []) × ((read_name whole (dropped_first ds (AfterName.blocks d)) e p before).tail ≡ tail)
   unfolding read_name dropped_first
   blocks_same no_star d e before tail f = (refl, f before)
   blocks_same (more (DroppedEntry.dropped ss m x) ds) d e before tail f = blocks_same ds d e (snoc before (DroppedEntry.dropped ss m x)) tail f
 
-  -- behind dropped blocks alone there is no block
+  -- after dropped blocks alone there is no block
   no_block_same : (b : Bool) {s t r v p m : Text} (bs : Star DroppedBlock s t) (ss : Star NodeSpace t r) (e : Terminator r v) (ds : Star DroppedEntry p m) (before : Star DroppedBlock m s)
       → (read_blocks whole (no_block_of {b = b} bs ss) e p ds before).tail ≡ tail_of no_children [] (between p r) (read_end whole e).end
   unfolding read_blocks no_block_of
   no_block_same b no_star ss e ds before = refl
   no_block_same b (more (DroppedBlock.dropped us (slashdash ls) (braces ns)) bs) ss e ds before = no_block_same true bs ss e ds (snoc before (DroppedBlock.dropped us (slashdash ls) (braces ns)))
 
-  -- what the machine makes of nodes and the gap behind them
+  -- what the machine makes of nodes and the gap after them
   abbrev content_read : {s r : Text} {xs : data'.Nodes} → AreNodes true s r xs → Document
   content_read {r = r} ns = content_at whole (read_nodes whole ns).tree (between (read_nodes whole ns).last r) r
 
-  -- behind dropped blocks stands the node's own
+  -- after dropped blocks is the node's own
   block_same : (b : Bool) {s t u w r v p m : Text} {xs : data'.Nodes} (bs : Star DroppedBlock s t) (ss : Star NodeSpace t (123 ∷ u)) (ns : AreNodes true u (125 ∷ w) xs) (d : AfterBlock true w r) (e : Terminator r v) (ds : Star DroppedEntry p m) (before : Star DroppedBlock m s)
       → (read_blocks whole (block_of {b = b} bs ss (braces ns) d) e p ds before).tail ≡ tail_of (children (content_read ns)) (between p (123 ∷ u)) (read_later whole d e w no_star).behind (read_later whole d e w no_star).end
   unfolding read_blocks block_of
   block_same b no_star ss ns d e ds before = refl
   block_same b (more (DroppedBlock.dropped us (slashdash ls) (braces ns')) bs) ss ns d e ds before = block_same true bs ss ns d e ds (snoc before (DroppedBlock.dropped us (slashdash ls) (braces ns')))
 
-  -- dropped blocks behind the node's own are one place
+  -- dropped blocks after the node's own are one place
   dropped_later_same : {s t r v p : Text} (bs : Star DroppedBlock s t) (ss : Star NodeSpace t r) (e : Terminator r v) (before : Star DroppedBlock p s)
       → ((read_later whole (later_of (after_children bs ss)) e p before).behind ≡ between p r) × ((read_later whole (later_of (after_children bs ss)) e p before).end ≡ (read_end whole e).end)
   unfolding read_later later_of
   dropped_later_same no_star ss e before = (refl, refl)
   dropped_later_same (more (DroppedBlock.dropped us (slashdash ls) (braces ns)) bs) ss e before = dropped_later_same bs ss e (snoc before (DroppedBlock.dropped us (slashdash ls) (braces ns)))
 
-  -- what stands behind the node's block is one place
+  -- what comes after the node's block is one place
   later_same : {r v p : Text} (l : AfterChildren p r) (e : Terminator r v)
       → ((read_later whole (later_of l) e p no_star).behind ≡ between p r) × ((read_later whole (later_of l) e p no_star).end ≡ (read_end whole e).end)
   later_same (after_children bs ss) e = dropped_later_same bs ss e no_star
 
-  -- where there is no block, what stands behind the name or the last entry is one place
+  -- where there is no block, what comes after the name or the last entry is one place
   plain_same : {p r v : Text} (b : BeforeChildren p r) (e : Terminator r v)
       → ((read_name whole (plain_of b) e p no_star).entries ≡ []) × ((read_name whole (plain_of b) e p no_star).tail ≡ tail_of no_children [] (between p r) (read_end whole e).end)
   unfolding plain_of
   plain_same {p = p} {r = r} (before_children ds (after_children bs ss)) e = blocks_same ds (no_block_of bs ss) e no_star (tail_of no_children [] (between p r) (read_end whole e).end) (λ before. no_block_same false bs ss e before no_star)
 
-  -- where there is a block, the places before and behind it are two
+  -- where there is a block, the places before and after it are two
   braced_same : {p u w r v : Text} {xs : data'.Nodes} (b : BeforeChildren p (123 ∷ u)) (ns : AreNodes true u (125 ∷ w) xs) (l : AfterBlock true w r) (e : Terminator r v)
       → ((read_name whole (braced_of b (braces ns) l) e p no_star).entries ≡ [])
       × ((read_name whole (braced_of b (braces ns) l) e p no_star).tail ≡ tail_of (children (content_read ns)) (between p (123 ∷ u)) (read_later whole l e w no_star).behind (read_later whole l e w no_star).end)
@@ -138,7 +138,7 @@ module _ (whole : Text) where
   braced_same {p = p} {u = u} {w = w} (before_children ds (after_children bs ss)) ns l e =
       blocks_same ds (block_of bs ss (braces ns) l) e no_star (tail_of (children (content_read ns)) (between p (123 ∷ u)) (read_later whole l e w no_star).behind (read_later whole l e w no_star).end) (λ before. block_same false bs ss ns l e before no_star)
 
-  -- the first node is made of its parts, and those behind it stay
+  -- the first node is made of its parts, and those after it stay
   node_then_same : {s t m w r v q : Text} {n : Text} {y : Option Text} {es : List entry_data'.Entry} {k : data'.Children} {xs : data'.Nodes} (g : Gap true s t) (y' : MaybeType true t m y) (z : IsString true m w n) (d : AfterName true w r es k) (e : Terminator r v) (ds : AreNodes true v q xs)
       → ((read_nodes whole (node_then g (named y' z d) e ds)).tree
       ≡ first (node_at whole (record { leading = between s t; start = t; ty = (read_filled whole {b = false} y' (by_string z)).type; name = identifier_at whole n m w; entries = (read_name whole d e w no_star).entries }) (read_name whole d e w no_star).tail.k (read_name whole d e w no_star).tail.before (read_name whole d e w no_star).tail.place (read_name whole d e w no_star).tail.end r) (read_nodes whole ds).tree)
@@ -154,7 +154,7 @@ module _ (whole : Text) where
   mutual
     unfolding content_of
 
-    -- what stands behind the name or the last entry is as it is laid
+    -- what comes after the name or the last entry is as it is laid
     tail_same : {before place end p r v : Text} {k : Children} (c : LaidChildren true whole k before place p r) (e : Is Terminator end r v)
         → ((read_name whole (children_of true whole c) e.is p no_star).entries ≡ []) × ((read_name whole (children_of true whole c) e.is p no_star).tail ≡ tail_of k before place end)
     tail_same {place = place} {end = end} {p = p} {r = r} (laid_no_block b) e =
@@ -212,7 +212,7 @@ module _ (whole : Text) where
         let x = later.0 in
         (a.0 ∙ cc, a.1 ∙ later.1)
 
-  -- the document that the machine answers is the one that is laid
+  -- the document that the machine returns is the one that is laid
   placed_same : {s : Text} {d : Document} (c : LaidContent true whole d s []) → (placed whole (content_of true whole c)).tree ≡ d
   unfolding placed
   placed_same c = content_same c
@@ -221,7 +221,7 @@ module _ (whole : Text) where
   runs_laid : {s : Text} {d : Document} → LaidContent true whole d s [] → Runs whole d (initial s) s
   runs_laid {s = s} c = subst (λ (z : Document). Runs whole z (initial s) s) (placed_same c) (placed whole (content_of true whole c)).runs
 
--- what is laid in a text, the machine answers
+-- what is laid in a text, the machine returns
 pub document_answered : {t : Text} {d : Document} → LaidDocument true d t → AnswersDocument t d
 document_answered (LaidDocument.no_bom {t = t} c) = AnswersDocument.no_bom (runs_laid t c)
 document_answered (LaidDocument.behind_bom {t = t} c) = AnswersDocument.behind_bom (runs_laid (0xFEFF ∷ t) c)
@@ -230,11 +230,11 @@ document_answered (LaidDocument.behind_bom {t = t} c) = AnswersDocument.behind_b
 pub one_laid_document : OneLaidDocument
 one_laid_document t d e k l = answers_det (document_answered k) (document_answered l)
 
--- the node with that text behind it, and that span
+-- the node with that text after it, and that span
 abbrev behind : Text → SourceSpan → Node → Node
 behind trailing at (node h k) = node (record h { format = option_map (λ (f : NodeFormat). record f { trailing = trailing }) h.format; span = at }) k
 
--- a node that is the whole text is the only one of a document, but for the line-spaces behind it and for its span
+-- a node that is the whole text is the only one of a document, but for the line-spaces after it and for its span
 record AsDocument (t : Text) (x : Node) : Type 0 where
   inner : Node
   span : SourceSpan

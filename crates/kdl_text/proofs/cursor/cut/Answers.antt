@@ -2,7 +2,7 @@ use Rattle.std.proofs.Common.{◌++◌, sym, ap, ◌∙◌}
 use Rattle.std.proofs.lemmas.Str.{chars-append}
 use Rattle.std.specs.Str.{chars}
 use Rattle.kdl_text.proofs.Looking.Texts.{boundary, front, rest_shorter, range_is, bytes-chars}
-use Rattle.kdl_text.proofs.chars.cut.Goals as goal
+use Rattle.kdl_text.proofs.cursor.cut.Goals as goal
 
 pub range-requires-clause-end_boundary : goal.range-requires-clause-end_boundary
 range-requires-clause-end_boundary c = boundary _ _ c.requires.0 c.utf8.text c.utf8.rest c.requires.1

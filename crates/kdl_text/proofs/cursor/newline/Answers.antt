@@ -1,5 +1,5 @@
 use Rattle.kdl_text.proofs.Spacing.NewlineUnique.{reads_cr, reads_one}
-use Rattle.kdl_text.proofs.chars.newline.Goals as goal
+use Rattle.kdl_text.proofs.cursor.newline.Goals as goal
 
 pub returns-in-Some-eq13-clause-reads : goal.returns-in-Some-eq13-clause-reads
 returns-in-Some-eq13-clause-reads c = (reads_cr _ _ _ _ _ _ c.in-Some-eq13.ensures.result c.in-Some-eq13.field-0-test c.look.ensures.moved c.step.ensures c.eat.ensures).0

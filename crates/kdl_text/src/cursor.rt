@@ -1,0 +1,546 @@
+//! The cursor through which every reader looks at a text, and the pieces that it cuts out of it.
+//!
+//! A text is looked at by a `Cursor` alone, which counts each look and each byte of a slice. A
+//! slice is a `Piece`: it is copied, or compared as a whole. What is read again is a `Segment`: a
+//! cursor enters it and counts each look in it, or counts its bytes at once and returns its
+//! `Characters`.
+
+ghost use Rattle.kdl_text.specs.Chars as class;
+ghost use Rattle.kdl_text.specs.Chars.{Text};
+ghost use Rattle.kdl_text.specs.Internal.Here.{Ahead, Behind, Skips, Took, Ate, AteTwo, Stayed, first, first_len, tail, looked, stepped, sliced, in_class};
+ghost use Rattle.kdl_text.specs.Spans.{bytes, raise};
+ghost use Rattle.kdl_text.specs.Internal.Reading.{Moves, Costs, ReadsNewline};
+ghost use Rattle.kdl_text.specs.Spans as spans;
+ghost use Rattle.std.specs.Prelude.{◌≡◌, ◌+◌, ◌<◌, ◌^◌, ◌++◌, ◌∷◌, [], length, MatchOption, IfOk, IsTrue, ◌↔◌, string_bytes};
+ghost use Rattle.std.specs.Str.{chars};
+
+use crate::chars::{Class, first_char, is_newline_char, skip_class, split_first};
+use crate::span::SourceSpan;
+use std::alloc::{AllocError, Global};
+use std::marker::Model;
+
+/// A count of steps, which stays at the greatest `u64` once it is there.
+#[derive(Drop)]
+pub struct Steps {
+    count: u64,
+}
+
+impl Model for Steps {
+    ghost use Rattle.std.specs.Prelude.{ℕ};
+
+    ghost Value = { ℕ };
+
+    ghost view = { λ s. s.count };
+}
+
+impl Steps {
+    /// A count of no steps.
+    pub fn new() -> Self
+        ensures { result ≡ 0 }
+    {
+        Steps { count: 0 }
+    }
+
+    /// The steps counted so far.
+    pub fn count(&self) -> u64
+        ensures { result ≡ self.now }
+    {
+        self.count
+    }
+
+    /// Raises the count by so many steps, up to the greatest `u64`.
+    #[inline]
+    fn raise(&mut self, by: u64)
+        ensures { self.new ≡ raise self.old by }
+    {
+        self.count = self.count.saturating_add(by);
+    }
+}
+
+/// The second character.
+fn second_char(text: &str) -> Option<char>
+    ensures { result ≡ first (tail (chars text.now)) }
+{
+    match split_first(text) {
+        Some((_, rest)) => first_char(rest),
+        None => None,
+    }
+}
+
+/// Whether the text begins with these two characters.
+#[inline]
+fn starts_with_two(text: &str, a: char, b: char) -> bool
+    ensures { result ≡ class.begins_two a b (chars text.now) }
+{
+    match split_first(text) {
+        Some((c, rest)) => c == a && first_char(rest) == Some(b),
+        None => false,
+    }
+}
+
+/// The text before its rest.
+#[inline]
+fn cut<'a>(text: &'a str, rest: &str) -> &'a str
+    requires { (p : Text) × (chars text.now ≡ p ++ chars rest.now) }
+    ensures parts { chars text.now ≡ chars result.now ++ chars rest.now }
+    ensures len { bytes (chars result.now) ≡ length result.now }
+{
+    &text[..text.len() - rest.len()]
+}
+
+fn same_bytes(a: &str, b: &str) -> bool
+    ensures { IsTrue result ↔ (a.now ≡ b.now) }
+{
+    a == b
+}
+
+fn same(a: &str, b: &str) -> bool
+    ensures { IsTrue result ↔ (chars a.now ≡ chars b.now) }
+{
+    same_bytes(a, b)
+}
+
+/// The bytes of the text.
+#[inline]
+#[tactic(auto, using(crate::proofs::Looking::Texts::chars_bytes))]
+fn byte_len(text: &str) -> usize
+    ensures { result ≡ bytes (chars text.now) }
+{
+    text.len()
+}
+
+/// A place in a text, to which a slice can go back.
+#[derive(Drop)]
+pub struct Checkpoint<'a> {
+    rest: &'a str,
+    at: usize,
+}
+
+impl<'a> Model for Checkpoint<'a> {
+    ghost use Rattle.kdl_text.specs.Internal.Here.{Spot};
+    ghost use Rattle.std.specs.Prelude.{◌+◌, ◌<◌, ◌^◌, length};
+    ghost use Rattle.std.specs.Str.{chars};
+
+    ghost Value = { Spot };
+
+    ghost view = { λ c. record { rest = chars c.rest.now; at = c.at } };
+
+    ghost invariant = { λ c. c.at + length c.rest.now < 2 ^ 64 };
+}
+
+impl<'a> Checkpoint<'a> {
+    /// Where the place is, in bytes from the start of the text.
+    #[inline]
+    pub fn at(&self) -> usize
+        ensures { result ≡ self.now.at }
+    {
+        self.at
+    }
+
+    /// The same place once more.
+    #[inline]
+    pub fn copied(&self) -> Checkpoint<'a>
+        ensures { result ≡ self.now }
+    {
+        Checkpoint {
+            rest: self.rest,
+            at: self.at,
+        }
+    }
+
+    /// The text from the place up to another one, for a cursor to enter. No step.
+    #[inline]
+    pub fn up_to(&self, end: &Checkpoint<'a>) -> Segment<'a>
+        requires { Ahead self.now end.now }
+        ensures { self.now.rest ≡ result ++ end.now.rest }
+    {
+        Segment {
+            text: cut(self.rest, end.rest),
+        }
+    }
+
+    /// The span of the character at the place, of length 0 at the end of the text.
+    pub fn char_span(&self) -> SourceSpan
+        ensures offset { result.offset ≡ self.now.at }
+        ensures len { result.len ≡ first_len self.now.rest }
+    {
+        let len = match first_char(self.rest) {
+            Some(c) => c.len_utf8(),
+            None => 0,
+        };
+        SourceSpan {
+            offset: self.at,
+            len,
+        }
+    }
+
+    /// The span between two places, in the text that begins here, in bytes.
+    pub fn span_between(&self, from: &Checkpoint, to: &Checkpoint) -> SourceSpan
+        ensures { result ≡ spans.span_between self.now.rest from.now.rest to.now.rest }
+    {
+        SourceSpan {
+            offset: byte_len(self.rest).saturating_sub(byte_len(from.rest)),
+            len: byte_len(from.rest).saturating_sub(byte_len(to.rest)),
+        }
+    }
+}
+
+/// A segment of a text, which a cursor enters to read it again. It shows nothing of the text by
+/// itself.
+#[derive(Drop)]
+pub struct Segment<'a> {
+    text: &'a str,
+}
+
+impl<'a> Model for Segment<'a> {
+    ghost use Rattle.kdl_text.specs.Chars.{Text};
+    ghost use Rattle.std.specs.Str.{chars};
+
+    ghost Value = { Text };
+
+    ghost view = { λ s. chars s.text.now };
+}
+
+impl<'a> Segment<'a> {
+    /// The bytes of the segment. No step.
+    #[inline]
+    pub fn byte_len(&self) -> usize
+        ensures { result ≡ bytes self.now }
+    {
+        byte_len(self.text)
+    }
+}
+
+/// The characters of a segment, whose bytes were counted. Each is taken once.
+#[derive(Drop)]
+pub struct Characters<'a> {
+    text: &'a str,
+}
+
+impl<'a> Model for Characters<'a> {
+    ghost use Rattle.kdl_text.specs.Chars.{Text};
+    ghost use Rattle.std.specs.Str.{chars};
+
+    ghost Value = { Text };
+
+    ghost view = { λ s. chars s.text.now };
+}
+
+impl<'a> Characters<'a> {
+    /// The next character, if there is one.
+    #[inline]
+    pub fn next(&mut self) -> Option<char>
+        ensures { MatchOption result (self.old ≡ []) (λ c. self.old ≡ c ∷ self.new) }
+    {
+        match split_first(self.text) {
+            Some((c, rest)) => {
+                self.text = rest;
+                Some(c)
+            }
+            None => None,
+        }
+    }
+
+    /// The bytes of the characters that are left.
+    #[inline]
+    pub fn byte_len(&self) -> usize
+        ensures { result ≡ bytes self.now }
+    {
+        byte_len(self.text)
+    }
+
+    /// The characters that are left, as a piece.
+    #[inline]
+    pub fn into_piece(self) -> Piece<'a>
+        ensures { result ≡ self.entry }
+    {
+        Piece { text: self.text }
+    }
+}
+
+/// A piece of a text, whose slice was counted. It is copied, or compared as a whole.
+#[derive(Drop)]
+pub struct Piece<'a> {
+    text: &'a str,
+}
+
+impl<'a> Model for Piece<'a> {
+    ghost use Rattle.kdl_text.specs.Chars.{Text};
+    ghost use Rattle.std.specs.Str.{chars};
+
+    ghost Value = { Text };
+
+    ghost view = { λ p. chars p.text.now };
+}
+
+impl<'a> Piece<'a> {
+    /// A copy of the piece. An empty one takes no memory.
+    #[inline]
+    pub fn to_string(&self, alloc: Global) -> Result<String, AllocError>
+        ensures { IfOk result (λ s. chars (string_bytes s) ≡ self.now) }
+    {
+        String::from_str(alloc, self.text)
+    }
+
+    /// Appends the piece to the text. An empty one takes no memory.
+    #[inline]
+    pub fn push_to(&self, out: &mut String) -> Result<(), AllocError>
+        ensures { IfOk result (λ _. chars (string_bytes out.new)
+            ≡ chars (string_bytes out.old) ++ self.now) }
+    {
+        out.push_str(self.text)
+    }
+
+    /// Whether the piece is this text.
+    pub fn is(&self, text: &str) -> bool
+        ensures { IsTrue result ↔ (self.now ≡ chars text.now) }
+    {
+        same(self.text, text)
+    }
+}
+
+/// A reader of a text, character by character. Each look and each byte of a slice is a step.
+#[derive(Drop)]
+pub struct Cursor<'a> {
+    rest: &'a str,
+    at: usize,
+    steps: Steps,
+}
+
+impl<'a> Model for Cursor<'a> {
+    ghost use Rattle.kdl_text.specs.Internal.Here.{Here};
+    ghost use Rattle.std.specs.Prelude.{◌+◌, ◌<◌, ◌^◌, length};
+    ghost use Rattle.std.specs.Str.{chars};
+
+    ghost Value = { Here };
+
+    ghost view = { λ c. record { rest = chars c.rest.now; at = c.at; steps = c.steps } };
+
+    ghost invariant = { λ c. c.at + length c.rest.now < 2 ^ 64 };
+}
+
+impl<'a> Cursor<'a> {
+    /// A cursor at the start of the text, on the given count.
+    pub fn new(text: &'a str, steps: Steps) -> Self
+        ensures { result ≡ record { rest = chars text.now; at = 0; steps = steps } }
+    {
+        let _len = text.len();
+        Cursor {
+            rest: text,
+            at: 0,
+            steps,
+        }
+    }
+
+    /// The count of steps, where the cursor is done.
+    pub fn into_steps(self) -> Steps
+        ensures { result ≡ self.entry.steps }
+    {
+        self.steps
+    }
+
+    /// Where the cursor is, in bytes from the start of the text.
+    #[inline]
+    pub fn at(&self) -> usize
+        ensures { result ≡ self.now.at }
+    {
+        self.at
+    }
+
+    /// Counts a look at a token that was read here. A step.
+    #[inline]
+    pub fn count_look(&mut self)
+        ensures { self.new ≡ looked self.old }
+    {
+        self.steps.raise(1);
+    }
+
+    /// Where the cursor is, to slice from there.
+    #[inline]
+    pub fn checkpoint(&self) -> Checkpoint<'a>
+        ensures rest { result.rest ≡ self.now.rest }
+        ensures at { result.at ≡ self.now.at }
+    {
+        Checkpoint {
+            rest: self.rest,
+            at: self.at,
+        }
+    }
+
+    /// Goes back or on to a place in the text. No step.
+    pub fn go_to(&mut self, place: &Checkpoint<'a>)
+        ensures { self.new ≡ record {
+          rest = place.now.rest;
+          at = place.now.at;
+          steps = self.old.steps;
+        } }
+    {
+        self.rest = place.rest;
+        self.at = place.at;
+    }
+
+    /// Goes to the start of a segment, at whose end the text ends for the cursor. Gives the place
+    /// where the cursor was, to which it goes back by `go_to`. No step.
+    pub fn enter(&mut self, segment: &Segment<'a>) -> Checkpoint<'a>
+        ensures inside { self.new ≡ record { rest = segment.now; at = 0; steps = self.old.steps } }
+        ensures rest { result.rest ≡ self.old.rest }
+        ensures at { result.at ≡ self.old.at }
+    {
+        let _len = segment.text.len();
+        let place = self.checkpoint();
+        self.rest = segment.text;
+        self.at = 0;
+        place
+    }
+
+    /// The character here; none at the end of the text. A step.
+    #[inline]
+    pub fn look(&mut self) -> Option<char>
+        ensures result { result ≡ first self.old.rest }
+        ensures moved { self.new ≡ looked self.old }
+        ensures room { self.old.at + bytes self.old.rest < 2 ^ 64 }
+    {
+        self.steps.raise(1);
+        first_char(self.rest)
+    }
+
+    /// The character after the one here, if there is one. A step.
+    pub fn look_second(&mut self) -> Option<char>
+        ensures result { result ≡ first (tail self.old.rest) }
+        ensures moved { self.new ≡ looked self.old }
+    {
+        self.steps.raise(1);
+        second_char(self.rest)
+    }
+
+    /// Goes past the character here, if there is one.
+    #[inline]
+    pub fn step(&mut self)
+        ensures { self.new ≡ stepped self.old }
+    {
+        if let Some((_, rest)) = split_first(self.rest) {
+            self.at += self.rest.len() - rest.len();
+            self.rest = rest;
+        }
+    }
+
+    /// The character here, which the cursor goes past; none at the end of the text. A step.
+    #[inline]
+    pub fn take(&mut self) -> Option<char>
+        ensures took { Took result self.old self.new }
+        ensures room { self.old.at + bytes self.old.rest < 2 ^ 64 }
+    {
+        let _end = self.rest.len();
+        self.steps.raise(1);
+        match split_first(self.rest) {
+            Some((c, rest)) => {
+                self.at += self.rest.len() - rest.len();
+                self.rest = rest;
+                Some(c)
+            }
+            None => None,
+        }
+    }
+
+    /// Goes past the character c, if it is here. A step.
+    #[inline]
+    pub fn eat(&mut self, c: char) -> bool
+        ensures { Ate c result self.old self.new }
+    {
+        let eats = self.look() == Some(c);
+        if eats {
+            self.step();
+        }
+        eats
+    }
+
+    /// Whether the characters a and b are here. Two steps.
+    #[inline]
+    pub fn looks_two(&mut self, a: char, b: char) -> bool
+        ensures result { result ≡ class.begins_two a b self.old.rest }
+        ensures stayed { Stayed 2 self.old self.new }
+    {
+        self.steps.raise(2);
+        starts_with_two(self.rest, a, b)
+    }
+
+    /// Goes past the characters a and b, if they are here. Two steps.
+    #[inline]
+    pub fn eat_two(&mut self, a: char, b: char) -> bool
+        ensures { AteTwo a b result self.old self.new }
+    {
+        let eats = self.looks_two(a, b);
+        if eats {
+            self.step();
+            self.step();
+        }
+        eats
+    }
+
+    /// Goes past the longest run of characters of a class. A step for each, and one for the
+    /// character after them.
+    #[inline]
+    pub fn skip(&mut self, class: Class)
+        ensures { Skips (in_class class) self.old self.new }
+    {
+        let (rest, count) = skip_class(self.rest, class);
+        self.at += self.rest.len() - rest.len();
+        self.rest = rest;
+        self.steps.raise(count);
+        self.steps.raise(1);
+    }
+
+    /// The text from the checkpoint to here. A step for each of its bytes.
+    #[inline]
+    pub fn slice(&mut self, from: &Checkpoint<'a>) -> Piece<'a>
+        requires { Behind from.now self.old }
+        ensures result { from.now.rest ≡ result ++ self.old.rest }
+        ensures moved { self.new ≡ sliced result self.old }
+    {
+        let text = cut(from.rest, self.rest);
+        self.steps.raise(text.len() as u64);
+        Piece { text }
+    }
+
+    /// The text from one checkpoint to a later one. A step for each of its bytes.
+    #[inline]
+    pub fn slice_between(&mut self, from: &Checkpoint<'a>, to: &Checkpoint<'a>) -> Piece<'a>
+        requires { Ahead from.now to.now }
+        ensures result { from.now.rest ≡ result ++ to.now.rest }
+        ensures moved { self.new ≡ sliced result self.old }
+    {
+        let text = cut(from.rest, to.rest);
+        self.steps.raise(text.len() as u64);
+        Piece { text }
+    }
+
+    /// The characters of the segment. A step for each of its bytes.
+    #[inline]
+    pub fn characters(&mut self, segment: &Segment<'a>) -> Characters<'a>
+        ensures result { result ≡ segment.now }
+        ensures moved { self.new ≡ sliced segment.now self.old }
+    {
+        self.steps.raise(byte_len(segment.text) as u64);
+        Characters { text: segment.text }
+    }
+}
+
+/// Goes past a newline, if one begins here (KDL 2.0.0, Newline): CR LF is one.
+pub fn newline(cursor: &mut Cursor) -> bool
+    ensures reads { ReadsNewline result cursor.old cursor.new }
+    ensures moves { Moves cursor.old cursor.new }
+    ensures costs { Costs 2 1 cursor.old cursor.new }
+{
+    match cursor.look() {
+        Some('\r') => {
+            cursor.step();
+            let _ = cursor.eat('\n');
+            true
+        }
+        Some(c) if is_newline_char(c) => {
+            cursor.step();
+            true
+        }
+        _ => false,
+    }
+}
