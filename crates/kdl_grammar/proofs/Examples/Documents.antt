@@ -1,24 +1,17 @@
 -- Small texts that are documents, and small texts that are none.
-use Rattle.std.proofs.Common.{◌≡◌, ℕ, true, false, List, [], ◌∷◌, Option, Some, None, option_map, option_and_then, refl, sym, ap, subst, ◌∙◌}
+use Rattle.std.proofs.Common.{true, [], ◌∷◌, Some, None, refl}
 use Rattle.std.specs.Prelude.{pos}
-use Rattle.std.specs.Str.Parse.{digits_value}
 use Rattle.kdl_text.specs.Chars.{Text, starts, begins, begins_with, is_identifier_char, is_space, is_newline_char, is_banned, is_punctuation, is_sign}
 use Rattle.kdl_text.specs.Bare.{is_bare}
-use Rattle.kdl_text.specs.Numbers.{is_digit_of, is_part, base_prefix, fits}
+use Rattle.kdl_text.specs.Numbers.{is_digit_of}
 use Rattle.kdl_text.specs.Trivia.{NodeSpace, Break}
-use Rattle.kdl_entry.specs.Data as entry_data'
-use Rattle.kdl_value.specs.Data.{Value, text, integer, truth}
-use Rattle.kdl_entry.specs.Entries.{StringPiece, PlainPiece}
-use Rattle.kdl_entry.specs.Internal.Tokens.{Token, space, newline, slashdash, string, value, left, right, opening, closing, equals, semicolon, bom, BeginsToken, t_space, t_newline, t_slashdash, t_string, t_value, t_left, t_right, t_opening, t_closing, t_equals, t_semicolon, t_bom}
-use Rattle.kdl_entry.proofs.Lexing.TokenUnique.{token_det, no_token}
+use Rattle.kdl_value.specs.Data.{text, integer, truth}
+use Rattle.kdl_entry.specs.Entries.{StringPiece}
+use Rattle.kdl_entry.specs.Internal.Tokens.{Token, BeginsToken, t_space, t_newline, t_string, t_value}
 use Rattle.kdl_entry.proofs.Lexing.StringUnique.{string_begins, plain_begins}
 use Rattle.kdl_grammar.proofs.Reading.NoToken.{here, then, faulty}
-use Rattle.kdl_grammar.specs.Data.{Node, node, no_children, children, Nodes, none, first}
+use Rattle.kdl_grammar.specs.Data.{node, no_children, Nodes, none, first}
 use Rattle.kdl_grammar.specs.Grammar.{IsDocument}
-use Rattle.kdl_grammar.specs.Internal.Machine.{State, step, finish, initial, Runs, stops, reads, AnswersDocument}
-use Rattle.kdl_grammar.specs.Tree.{Document, document_data}
-use Rattle.kdl_grammar.proofs.Reading.Complete.{built}
-use Rattle.kdl_grammar.proofs.Reading.Erased.{sound, sound_runs}
 use Rattle.kdl_grammar.proofs.Examples.Tokens.{end, derived, derived_behind_bom, refused, blank, line_feed, block, comment, escline_, dash, open_paren, close_paren, open_brace, close_brace, equals_sign, semi, a_bom, empty, keyword_true, letter, digit, argument, keyed, name, with, just}
 
 -- ``

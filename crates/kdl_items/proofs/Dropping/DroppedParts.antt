@@ -1,5 +1,5 @@
 -- What a slashdash drops in a place of a node: the machine's passing over it says what it is, and where it ends.
-use Rattle.std.proofs.Common.{◌≡◌, ◌↔◌, Bool, true, false, ◌&&◌, not, List, [], ◌∷◌, Option, Some, refl, sym, ap, subst, ◌∙◌}
+use Rattle.std.proofs.Common.{◌≡◌, ◌↔◌, Bool, true, false, List, [], ◌∷◌, Option, Some, refl, sym, ap, subst, ◌∙◌}
 use Rattle.kdl_text.specs.Chars.{Text, is_identifier_char, is_space, is_newline_char, is_banned, is_punctuation, starts, Star, Plus, plus}
 use Rattle.kdl_text.specs.Chars.Star.{none as no_star, more}
 use Rattle.kdl_text.specs.Bare.{is_bare}
@@ -9,9 +9,8 @@ use Rattle.kdl_text.specs.Trivia.Break.{newline as break_newline, comment as bre
 use Rattle.kdl_text.specs.Trivia.LineSpace.{space as line_space, «break» as line_break}
 use Rattle.kdl_text.specs.Trivia.Slashdash.{slashdash as a_slashdash}
 use Rattle.kdl_text.proofs.Looking.Stars.{snoc}
-use Rattle.kdl_value.specs.Data.{Value}
 use Rattle.kdl_entry.specs.Data.{Entry}
-use Rattle.kdl_entry.specs.Entries.{StringPiece, IsString, string as a_string', a_string, a_plain, parens, untyped, typed, MaybeType, IsValue, value as a_value, IsEntry, property as a_property, argument}
+use Rattle.kdl_entry.specs.Entries.{StringPiece, IsString, string as a_string', parens, untyped, typed, MaybeType, IsEntry}
 use Rattle.kdl_entry.specs.Places.{between}
 use Rattle.kdl_entry.specs.Internal.Tokens.{Token, slashdash, string, BeginsToken, t_space, t_newline, t_slashdash, t_string, t_value, t_left, t_right, t_opening, t_closing, t_equals, t_semicolon, t_bom, Lexes, done, next}
 use Rattle.kdl_entry.specs.Internal.Tokens as token'
@@ -23,10 +22,10 @@ use Rattle.kdl_grammar.specs.Internal.Control.{Control, at, Spot, fresh, spaced,
 use Rattle.kdl_grammar.proofs.Reading.Sound.{derives}
 use Rattle.kdl_items.specs.Items as items
 use Rattle.kdl_items.specs.Items.{Item, piece, Place, before_entry, before_block, behind_block, takes_entries, takes_blocks, PlaceItems}
-use Rattle.kdl_items.specs.Internal.Passing.{moved, is_over, is_block, is_word, follows_word, PartPasses, over, word_ends, word_over, goes, slashdash_phase, slashdash_in}
+use Rattle.kdl_items.specs.Internal.Passing.{moved, is_over, is_block, is_word, PartPasses, over, word_ends, word_over, goes, slashdash_phase, slashdash_in}
 use Rattle.kdl_items.proofs.Dropping.Paths.{Back, over_part, drop_entry, drop_block}
 use Rattle.kdl_items.proofs.Listing.SpaceItems.{space_of}
-use Rattle.kdl_items.proofs.Dropping.NoEquals.{passes_det, Quiet, ends, token, name_quiet, place_quiet}
+use Rattle.kdl_items.proofs.Dropping.NoEquals.{passes_det, Quiet, name_quiet, place_quiet}
 
 -- a string ends where no `=` follows
 spaced_ends : {last s : Text} → Quiet s → PartPasses (at (in_node (spaced true)) []) last s false last

@@ -1,29 +1,20 @@
 -- The machine passes over one part at most; and where no `=` follows.
-use Rattle.std.proofs.Common.{◌≡◌, ◌↔◌, Bool, true, false, ◌&&◌, not, List, [], ◌∷◌, Option, Some, refl, sym, ap, subst, ◌∙◌}
-use Rattle.kdl_text.specs.Chars.{Text, is_identifier_char, is_space, is_newline_char, is_banned, is_punctuation, starts, Star, Plus, plus}
+use Rattle.std.proofs.Common.{◌≡◌, Bool, true, false, ◌&&◌, not, List, [], Option, refl, sym, ap, subst, ◌∙◌}
+use Rattle.kdl_text.specs.Chars.{Text, Star, plus}
 use Rattle.kdl_text.specs.Chars.Star.{none as no_star, more}
-use Rattle.kdl_text.specs.Bare.{is_bare}
-use Rattle.kdl_text.specs.Bare.BareString.{bare as a_bare}
-use Rattle.kdl_text.specs.Trivia.{NodeSpace, LineSpace, Slashdash}
+use Rattle.kdl_text.specs.Trivia.{NodeSpace, Slashdash}
 use Rattle.kdl_text.specs.Trivia.Break.{newline as break_newline, comment as break_comment}
-use Rattle.kdl_text.specs.Trivia.LineSpace.{space as line_space, «break» as line_break}
 use Rattle.kdl_text.specs.Trivia.Slashdash.{slashdash as a_slashdash}
-use Rattle.kdl_text.proofs.Looking.Stars.{snoc}
 use Rattle.kdl_value.specs.Data.{Value}
 use Rattle.kdl_entry.specs.Data.{Entry}
-use Rattle.kdl_entry.specs.Entries.{StringPiece, IsString, string as a_string', a_string, a_plain, parens, untyped, typed, MaybeType, IsValue, value as a_value, IsEntry, property as a_property, argument}
-use Rattle.kdl_entry.specs.Internal.Tokens.{Token, slashdash, string, BeginsToken, t_space, t_newline, t_slashdash, t_string, t_value, t_left, t_right, t_opening, t_closing, t_equals, t_semicolon, t_bom, Lexes, done, next}
-use Rattle.kdl_entry.specs.Internal.Tokens as token'
+use Rattle.kdl_entry.specs.Entries.{string as a_string', a_string, a_plain, parens, untyped, typed, IsValue, value as a_value, IsEntry, property as a_property, argument}
+use Rattle.kdl_entry.specs.Internal.Tokens.{Token, BeginsToken, t_newline, t_slashdash, t_string, t_value, t_left, t_opening, t_closing, t_semicolon}
 use Rattle.kdl_entry.proofs.Lexing.TokenUnique.{token_det, no_token}
 use Rattle.kdl_grammar.specs.Data.{Children, Nodes}
-use Rattle.kdl_grammar.specs.Grammar.{Terminator, named, AfterName, kept_entry, dropped_entry, blocks, Blocks, dropped_block, block, no_block, Gap, no_gap, dropped_node, AreNodes, last_gap, node_then, IsBlock, braces}
-use Rattle.kdl_grammar.specs.Grammar.Gap.{line_space as gap_space}
-use Rattle.kdl_grammar.specs.Internal.Control.{Control, at, Spot, fresh, spaced, later, Phase, gap, node_slashdash, type_open, type_name, type_done, in_node, property, entry_slashdash, block_slashdash, kept, kept_slashdash, Frame, in_dropped, spaced_of, slashdash_at, step, held, accepts}
-use Rattle.kdl_grammar.proofs.Reading.Sound.{derives}
-use Rattle.kdl_items.specs.Items as items
-use Rattle.kdl_items.specs.Items.{Item, piece, Place, before_entry, before_block, behind_block, takes_entries, takes_blocks, PlaceItems}
-use Rattle.kdl_items.specs.Internal.Passing.{moved, is_over, is_block, is_word, follows_word, PartPasses, over, word_ends, word_over, goes, slashdash_phase, slashdash_in}
-use Rattle.kdl_items.proofs.Dropping.Paths.{Back, over_part, drop_entry, drop_block}
+use Rattle.kdl_grammar.specs.Grammar.{Terminator, AfterName, kept_entry, dropped_entry, blocks, Blocks, dropped_block, block, no_block, IsBlock, braces}
+use Rattle.kdl_grammar.specs.Internal.Control.{Control, at, fresh, later, in_node}
+use Rattle.kdl_items.specs.Items.{Item, Place, PlaceItems}
+use Rattle.kdl_items.specs.Internal.Passing.{moved, is_over, is_word, follows_word, PartPasses, over, word_ends, word_over, goes}
 use Rattle.kdl_items.proofs.Listing.SpaceItems.{space_of}
 
 -- a string that may be a key is not over

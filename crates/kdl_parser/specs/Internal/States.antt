@@ -9,7 +9,7 @@ use Rattle.kdl_text.specs.Internal.Here.{Here, Spot}
 use Rattle.kdl_text.specs.Spans.{bytes}
 use Rattle.kdl_value.specs.Data.{Value}
 use Rattle.kdl_value.specs.Tree.{text_of}
-use Rattle.kdl_entry.specs.Internal.Building.{key_view, item_view}
+use Rattle.kdl_entry.specs.Internal.Building.{item_view}
 use Rattle.kdl_entry.specs.Internal.Counted.{Sliced}
 use Rattle.kdl_entry.specs.Internal.Handed.{kind_view}
 use Rattle.kdl_entry.specs.Internal.Items as items
