@@ -34,20 +34,18 @@ place_alone P f end = elim (may_end P) [ inl m ↦ at [] m (inl refl) | inr m �
 block_says : (t : Text) (n : ℕ) → PlaceSays no_children t n → BeforeChildren t [] → (s : Text) → BeforeChildren ((t ++ newlines n) ++ (123 ∷ s)) (123 ∷ s)
 block_says t n says h s = before_brace (t ++ newlines n) s (says h (125 ∷ []) (125 ∷ []) Terminator.at_close)
 
-pub text_says : (o : Option NodeFormat) (f : NodeFormat) (n : ℕ) (t : Text) → o ≡ Some f → PlaceSays no_children f.before_terminator n → t ≡ f.before_terminator ++ newlines n → BlockSays o (Some t)
-text_says o f n t e says k =
-    subst (λ (z : Option NodeFormat). BlockSays z (Some t)) (sym e)
-    (λ g i h s. let same : f ≡ g = cc in subst (λ (z : Text). BeforeChildren (z ++ (123 ∷ s)) (123 ∷ s)) (sym k) (block_says f.before_terminator n says (subst (λ (z : NodeFormat). BeforeChildren z.before_terminator []) (sym same) h) s))
-
-pub place_says : (o : Option NodeFormat) (f : NodeFormat) (n : ℕ) → o ≡ Some f → n ≡ 0 → PlaceSays no_children f.before_terminator n → BlockSays o None
-place_says o f n e z says = λ g i h s.
+pub text_says : (o : Option NodeFormat) (f : NodeFormat) (n : ℕ) (u t : Text) → o ≡ Some f → u ≡ f.before_terminator → PlaceSays no_children u n → t ≡ f.before_terminator ++ newlines n → BlockSays o (Some t)
+text_says o f n u t e q says k g i h s =
     let same : f ≡ g = cc in
-    subst (λ (y : NodeFormat). BeforeChildren (y.before_terminator ++ (123 ∷ s)) (123 ∷ s)) same
-    (subst (λ (y : Text). BeforeChildren (y ++ (123 ∷ s)) (123 ∷ s)) (append-nil f.before_terminator)
-    (block_says f.before_terminator 0 (subst (PlaceSays no_children f.before_terminator) z says) (subst (λ (y : NodeFormat). BeforeChildren y.before_terminator []) (sym same) h) s))
+    let own : u ≡ g.before_terminator = q ∙ ap (λ (z : NodeFormat). z.before_terminator) same in
+    subst (λ (z : Text). BeforeChildren (z ++ (123 ∷ s)) (123 ∷ s)) (ap (λ (z : Text). z ++ newlines n) q ∙ sym k) (block_says u n says (subst (λ (z : Text). BeforeChildren z []) (sym own) h) s)
 
-pub nothing_says : (o : Option NodeFormat) → o ≡ None → BlockSays o None
-nothing_says o e = λ f i. absurd (cc)
+pub place_says : (o : Option NodeFormat) (f : NodeFormat) (n : ℕ) (u : Text) → o ≡ Some f → u ≡ f.before_terminator → n ≡ 0 → PlaceSays no_children u n → BlockSays o None
+place_says o f n u e q z says g i h s =
+    let same : f ≡ g = cc in
+    let own : u ≡ g.before_terminator = q ∙ ap (λ (z : NodeFormat). z.before_terminator) same in
+    subst (λ (y : Text). BeforeChildren (y ++ (123 ∷ s)) (123 ∷ s)) (append-nil u ∙ own)
+    (block_says u 0 (subst (PlaceSays no_children u) z says) (subst (λ (y : Text). BeforeChildren y []) (sym own) h) s)
 
 -- the node with a block that reads back
 block_put : (P : Rests) (h : Head) (o : Option Text) (d : Document) → BlockSays h.format o → BlockReads d → NodeReads P (node h no_children)
