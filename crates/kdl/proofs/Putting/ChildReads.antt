@@ -1,5 +1,5 @@
 -- Nodes that read back, with a child put into their block, or into a new one.
-use Rattle.std.proofs.Common.{◌≡◌, ◌⊎◌, inl, inr, ℕ, true, [], ◌∷◌, ◌++◌, ap, ◌∙◌, sym, refl, subst, append-nil, Option, Some, None, option_map, unwrap_or, Result, OnOk}
+use Rattle.std.proofs.Common.{◌≡◌, inl, inr, ℕ, true, [], ◌∷◌, ◌++◌, ap, ◌∙◌, sym, refl, subst, append-nil, Option, Some, None, option_map, Result, Ok, Err, OnErr, OnOk}
 use Rattle.kdl_text.specs.Chars.{Text, none as no_star}
 use Rattle.kdl_grammar.specs.Data as data'
 use Rattle.kdl_grammar.specs.Grammar.{Terminator, no_gap, last_gap}
@@ -19,7 +19,6 @@ use Rattle.kdl.specs.declared.document.KdlDocument.{KdlDocument}
 use Rattle.kdl.specs.declared.document.KdlDocument.TheViews.{out-KdlNode, out-roll-KdlNode}
 use Rattle.kdl.specs.declared.node.KdlNode.{KdlNode}
 use Rattle.kdl.proofs.Putting.PutReads.{may_end}
-use Rattle.kdl.proofs.Putting.Puts.{on_ok}
 use Rattle.kdl.proofs.ReadingBack.{block_exchanged, new_block_reads}
 use Rattle.kdl.proofs.Trees.{NodeFields, node_tree_out, node_tree_roll}
 
@@ -73,7 +72,8 @@ new_child_reads n m m' x d e o k made put says (g, s, t) r c P y =
     subst (λ (z : Option KdlDocument). NodeReads P (node h (children_of (option_map document_tree z)))) k (subst (NodeReads P) (node_tree_out m) y) in
     subst (NodeReads P) (sym (ap node_tree r ∙ block_tree m x e g o s t)) (block_put P h o (document_tree e) says (put (new_block_reads d made) c) own)
 
--- a child in the block of the node
+-- a child in the block of the node, or none where the call is refused
 pub child_reads : {T E : Type 0} (r : Result T E) (n m : KdlNode) (d e : KdlDocument) → (out-KdlNode m).children ≡ Some d → OnOk r (ReadsIn true d → NodeReadsBack n → ReadsIn true e)
-    → OnOk r (NodeReadsBack n → ReadsAs m (with_children m (Some e)))
-child_reads r n m d e h put = on_ok r (λ f c. block_exchanged m d e h (λ b. f b c)) put
+    → OnErr r (document_tree e ≡ document_tree d) → NodeReadsBack n → ReadsAs m (with_children m (Some e))
+child_reads (Ok a) n m d e h put same c = block_exchanged m d e h (λ b. put b c)
+child_reads (Err a) n m d e h put same c = block_exchanged m d e h (subst BlockReads (sym same))

@@ -28,6 +28,8 @@ impl KdlNode {
     ///
     /// What is before the node's terminator goes before a new block, and an open escline there gets its newline.
     ///
+    /// Where the child reads back, the node reads back before each text before which it did.
+    ///
     /// Fails where memory runs out: then the child comes back, and the node is as it was.
     ///
     /// ```
@@ -37,7 +39,8 @@ impl KdlNode {
     pub fn push_child(&mut self, node: KdlNode) -> Result<(), (KdlNode, AllocError)>
         ensures nodes { OnOk result
             (ChildPut (length (child_nodes self.old)) node self.old self.new) }
-        ensures reads { OnOk result (NodeReadsBack node → ReadsAs self.old self.new) }
+        // With a child that reads back, it reads back wherever it did.
+        ensures reads { NodeReadsBack node → ReadsAs self.old self.new }
         ensures back { IfErr result (λ e. e.0 ≡ node) }
         ensures refused { OnErr result (node_tree self.new ≡ node_tree self.old) }
     {
@@ -62,7 +65,8 @@ impl KdlNode {
     pub fn insert_child(&mut self, index: usize, node: KdlNode) -> Result<(), (KdlNode, AllocError)>
         requires { index ≤ length (child_nodes self.old) }
         ensures nodes { OnOk result (ChildPut index node self.old self.new) }
-        ensures reads { OnOk result (NodeReadsBack node → ReadsAs self.old self.new) }
+        // With a child that reads back, it reads back wherever it did.
+        ensures reads { NodeReadsBack node → ReadsAs self.old self.new }
         ensures back { IfErr result (λ e. e.0 ≡ node) }
         ensures refused { OnErr result (node_tree self.new ≡ node_tree self.old) }
     {
@@ -76,7 +80,8 @@ impl KdlNode {
     fn put_in_new_block(&mut self, node: KdlNode) -> Result<(), (KdlNode, AllocError)>
         requires { (out-KdlNode self.old).children ≡ None }
         ensures nodes { OnOk result (ChildPut 0 node self.old self.new) }
-        ensures reads { OnOk result (NodeReadsBack node → ReadsAs self.old self.new) }
+        // With a child that reads back, it reads back wherever it did.
+        ensures reads { NodeReadsBack node → ReadsAs self.old self.new }
         ensures back { IfErr result (λ e. e.0 ≡ node) }
         ensures refused { OnErr result (self.new ≡ self.old) }
     {
