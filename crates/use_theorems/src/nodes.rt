@@ -3,8 +3,8 @@
 ghost use Rattle.kdl.specs.Words.{DocumentReadsBack, NodeReadsBack, document_says, node_says, nodes_of, said_with, said_without};
 ghost use Rattle.std.specs.Prelude.{◌≡◌, IfOk, IfSome, length};
 
-use kdl::{KdlDocument, KdlNode};
-use std::alloc::AllocError;
+use kdl::{KdlDocument, KdlNode, ParseFailure};
+use std::alloc::{AllocError, Global};
 
 /// Removes the first node, where there is one: what is left reads back, and so does the node.
 pub fn remove_first(document: &mut KdlDocument) -> Option<KdlNode>
@@ -29,4 +29,37 @@ pub fn add(document: &mut KdlDocument, node: KdlNode) -> Result<(), AllocError>
         Ok(()) => Ok(()),
         Err((_, error)) => Err(error),
     }
+}
+
+/// Adds a child to the first node of a name: the document reads back, whether the call succeeds or not.
+pub fn add_child(
+    document: &mut KdlDocument,
+    name: &str,
+    child: KdlNode,
+) -> Result<(), AllocError>
+    requires document { DocumentReadsBack document.old }
+    requires child { NodeReadsBack child }
+    ensures { DocumentReadsBack document.new }
+{
+    let Some(node) = document.get_mut(name) else {
+        return Ok(());
+    };
+    match node.push_child(child) {
+        Ok(()) => Ok(()),
+        Err((_, error)) => Err(error),
+    }
+}
+
+/// The document of a text, with the node of another text as a child of its first node of a name: it reads back.
+pub fn with_child(
+    alloc: Global,
+    text: &str,
+    name: &str,
+    child: &str,
+) -> Result<KdlDocument, ParseFailure>
+    ensures { IfOk result DocumentReadsBack }
+{
+    let mut document = KdlDocument::parse(alloc, text)?;
+    add_child(&mut document, name, KdlNode::parse(alloc, child)?)?;
+    Ok(document)
 }
