@@ -6,3 +6,7 @@ pub mod Puts
 pub mod PutReads
 -- Documents and blocks that read back, with a node put in.
 pub mod DocumentReads
+-- Fewer newlines at the ends of nodes, which do not do.
+pub mod Fewest
+-- Nodes put among others with the newlines that are lacking, and no more.
+pub mod Exact

@@ -1,6 +1,7 @@
 //! Children put into the block of a node.
 
-ghost use Rattle.kdl.specs.Internal.Ends.{BeforeNewBlock, BlockBegins, EndsAs, IsEnded, end_with};
+ghost use Rattle.kdl.specs.Internal.Ends.{BeforeNewBlock, BeginsFewest, BlockBegins, EndsAs, EndsExactly, IsEnded, end_with};
+ghost use Rattle.kdl.specs.Exact.{ChildPutExactly};
 ghost use Rattle.kdl.specs.Iterators.{child_nodes};
 ghost use Rattle.kdl.specs.Nodes.{ChildPut, format_or_printed};
 ghost use Rattle.kdl.specs.Tree.{head_tree, node_tree};
@@ -36,6 +37,8 @@ impl KdlNode {
     pub fn push_child(&mut self, node: KdlNode) -> Result<(), (KdlNode, AllocError)>
         ensures nodes { OnOk result
             (ChildPut (length (child_nodes self.old)) node self.old self.new) }
+        ensures exact { OnOk result
+            (ChildPutExactly (length (child_nodes self.old)) node self.old self.new) }
         ensures back { IfErr result (λ e. e.0 ≡ node) }
         ensures refused { OnErr result (node_tree self.new ≡ node_tree self.old) }
     {
@@ -60,6 +63,7 @@ impl KdlNode {
     pub fn insert_child(&mut self, index: usize, node: KdlNode) -> Result<(), (KdlNode, AllocError)>
         requires { index ≤ length (child_nodes self.old) }
         ensures nodes { OnOk result (ChildPut index node self.old self.new) }
+        ensures exact { OnOk result (ChildPutExactly index node self.old self.new) }
         ensures back { IfErr result (λ e. e.0 ≡ node) }
         ensures refused { OnErr result (node_tree self.new ≡ node_tree self.old) }
     {
@@ -73,6 +77,7 @@ impl KdlNode {
     fn put_in_new_block(&mut self, node: KdlNode) -> Result<(), (KdlNode, AllocError)>
         requires { (out-KdlNode self.old).children ≡ None }
         ensures nodes { OnOk result (ChildPut 0 node self.old self.new) }
+        ensures exact { OnOk result (ChildPutExactly 0 node self.old self.new) }
         ensures back { IfErr result (λ e. e.0 ≡ node) }
         ensures refused { OnErr result (self.new ≡ self.old) }
     {
@@ -89,7 +94,9 @@ impl KdlNode {
 
     /// What is to be before a new block, where that is not the text before the terminator.
     fn before_new_block(&self) -> Result<Option<String>, AllocError>
-        ensures { IfOk result (λ o. BeforeNewBlock
+        ensures before { IfOk result (λ o. BeforeNewBlock
+            (node_texts (out-KdlNode self.now).format) (option_map text_of o)) }
+        ensures fewest { IfOk result (λ o. BeginsFewest
             (node_texts (out-KdlNode self.now).format) (option_map text_of o)) }
     {
         let Some(format) = &self.format else {
@@ -121,6 +128,7 @@ impl KdlNode {
         ensures is_ended { IfOk result (λ o. IsEnded
             (format_or_printed (head_tree (out-KdlNode self.now))) (node_texts o)) }
         ensures reads { IfOk result (λ o. EndsAs rest self.now (end_with o self.now)) }
+        ensures exact { IfOk result (λ o. EndsExactly rest self.now o) }
     {
         ended_format(
             *self.entries.allocator(),

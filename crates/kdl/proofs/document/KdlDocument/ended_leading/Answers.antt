@@ -9,8 +9,8 @@ use Rattle.kdl.specs.Nodes.{texts_around}
 use Rattle.kdl.proofs.Putting.NodeEnds.{copy_put, leading_ended, leading_ends, no_leading}
 use Rattle.kdl.proofs.document.KdlDocument.ended_leading.Goals as goal
 
-pub returns : goal.returns
-returns c =
+pub returns-clause-ended : goal.returns-clause-ended
+returns-clause-ended c =
     leading_ended (texts_around c.args.self.now) (document_format_tree c.in-Some.format) (text_of c.push_newlines.new.text) c.in_ok-lacks.lacks (ap document_texts c.in-Some.is)
     (omega (arith, c.if-lacks-eq0.false)) c.in_ok-lacks.ensures.few
     (copy_put (text_of c.push_newlines.new.text) c.in_ok-leading.leading c.in-Some.format.leading c.in_ok-lacks.lacks c.in_ok-leading.ensures.cases c.in_ok-push_newlines.ensures)

@@ -5,8 +5,8 @@ use Rattle.kdl.specs.declared.node.KdlNode.{out-KdlNode}
 use Rattle.kdl.proofs.Putting.NodeEnds.{before_begun, copy_put}
 use Rattle.kdl.proofs.node.KdlNode.before_new_block.Goals as goal
 
-pub returns : goal.returns
-returns c =
+pub returns-clause-before : goal.returns-clause-before
+returns-clause-before c =
     before_begun (node_texts (out-KdlNode c.args.self.now).format) (node_format_tree c.in-Some.format) (text_of c.push_newlines.new.text) c.in_ok-lacks.lacks (ap node_texts c.in-Some.is)
     (omega (arith, c.if-lacks-eq0.false)) c.in_ok-lacks.ensures.few
     (copy_put (text_of c.push_newlines.new.text) c.in_ok-before.before c.in-Some.format.before_terminator c.in_ok-lacks.lacks c.in_ok-before.ensures.cases c.in_ok-push_newlines.ensures)

@@ -6,4 +6,4 @@ use Rattle.kdl.proofs.node.KdlNode.put_in_new_block.Goals as goal
 pub returns-clause-nodes : goal.returns-clause-nodes
 returns-clause-nodes c =
     new_block 0 c.args.node c.args.self.now _ c.begin_block.new.self c.new-block.result c.put.new.self (option_map text_of c.in-Ok.before) c.requires c.new-block.ensures.made c.in_ok-put.ensures.nodes
-    c.in-Ok.ensures c.begin_block.ensures refl
+    c.in-Ok.ensures.before c.begin_block.ensures refl
