@@ -1,11 +1,12 @@
 -- Nodes put among others with the newlines that are lacking, and no more.
-use Rattle.std.proofs.Common.{◌≡◌, ℕ, zero, suc, ◌+◌, ◌-◌, ◌<◌, ◌≤◌, Bool, true, false, List, [], ◌∷◌, ◌++◌, length, map, set, ap, ◌∙◌, sym, refl, subst, arith, Option, Some, None, option_map, unwrap_or, is_some, slice_get, get_or, add-one, Result, Ok, Err, IfOk, String, Global}
+use Rattle.std.proofs.Common.{◌≡◌, ℕ, zero, suc, ◌+◌, ◌-◌, ◌<◌, ◌≤◌, Bool, true, false, List, [], ◌∷◌, ◌++◌, length, map, set, ap, ◌∙◌, sym, refl, subst, arith, Option, Some, None, option_map, unwrap_or, is_some, slice_get, get_or, add-one, Result, Ok, Err, IfOk, String, Vec, Global}
 use Rattle.std.proofs.lemmas.List.{append-nil, map-set}
 use Rattle.std.proofs.lemmas.Option.{slice_get-map}
 use Rattle.std.specs.List.{insert}
 use Rattle.std.specs.Vec.{with_item}
 use Rattle.kdl_text.specs.Chars.{Text}
 use Rattle.kdl_entry.specs.Tree.{Entry}
+use Rattle.kdl_value.specs.Tree.{text_of}
 use Rattle.kdl_fmt.specs.Kept.{without_bom}
 use Rattle.kdl_grammar.specs.Places.{BeforeChildren}
 use Rattle.kdl_grammar.specs.ReadsBack.{Anything, EndReads, NodeReads, reads, terminator_text}
@@ -18,7 +19,7 @@ use Rattle.kdl.specs.Cleared.{new_document}
 use Rattle.kdl.specs.DocumentLookups.{nodes_of}
 use Rattle.kdl.specs.Exact.{BlockBegunExactly, ChildPutExactly, ChildPutExactlyIn, FewerFail, HasOpenEnd, IsAtEnd, IsBeforeNewline, IsPutInBlock, LacksAt, LacksBeforeBrace, LacksBeforeText, LacksInBlock, LacksInText, lengthened, with_more}
 use Rattle.kdl.specs.Fields.{node_format_of}
-use Rattle.kdl.specs.Internal.Ends.{BeforeNewBlock, BeginsFewest, BlockBegins, EndsAs, EndsExactly, FewestBefore, FormatFewest, GapFewest, IsEnded, IsEndedBy, IsEndedExactly, IsNodeEnded, IsRestAt, Lacks, LacksBefore, LeadsExactly, PlaceFewest, PutBehind, PutBehindExactly, PutExactly, PutFirst, PutFirstExactly, block_format, block_if, end_with, formless_count, lead_with, led_with, with_newlines}
+use Rattle.kdl.specs.Internal.Ends.{BeforeNewBlock, BeginsFewest, BlockBegins, EndsAs, EndsExactly, FewestBefore, FormatFewest, GapFewest, IsEnded, IsEndedBy, IsEndedExactly, IsNodeEnded, IsRestAt, Lacks, LacksBefore, LeadingEnded, LeadsExactly, PlaceFewest, PutBehind, PutBehindExactly, PutExactly, PutFirst, PutFirstExactly, block_format, block_if, end_with, formless_count, lead_with, led_with, with_newlines}
 use Rattle.kdl.specs.Nodes.{EndsWith, IsPut, LeadsWith, WithNewlines, format_or_printed, newlines, printed_format, texts_around, trees}
 use Rattle.kdl.specs.ReadsBack.{NodeEnds}
 use Rattle.kdl.specs.Tree.{document_tree, head_tree, node_tree}
@@ -105,7 +106,7 @@ module _ (n : KdlNode) (b : Bool) (k : b ≡ is_some (out-KdlNode n).children) w
 
   before_brace : (m : ℕ) → FormatFewest (block_if b) (format_or_printed (head_tree (out-KdlNode n))) m → (HasOpenEnd n → FormatFewest (block_if b) (format_or_printed (head_tree (out-KdlNode n))) (m + 1))
       → (node_format_of n ≡ None → m ≡ 0) → LacksBeforeBrace m n
-  before_brace m less more zero = record { none = none_lacking m (fewer_fail m less); fewer = fewer_fail m less; unended = λ h. fewer_fail (m + 1) (more h); formless = zero }
+  before_brace m less more bare = record { none = none_lacking m (fewer_fail m less); fewer = fewer_fail m less; unended = λ h. fewer_fail (m + 1) (more h); formless = bare }
 
   -- with a format and without one
   formless_lacks : (rest : Rest) → format_or_printed (head_tree (out-KdlNode n)) ≡ printed_format (head_tree (out-KdlNode n)).entries → node_texts (node_format_of n) ≡ None → LacksBefore rest (formless_count rest) n
@@ -117,10 +118,10 @@ module _ (n : KdlNode) (b : Bool) (k : b ≡ is_some (out-KdlNode n).children) w
   format_lacks : (rest : Rest) (m : ℕ) (f : NodeFormat) → format_or_printed (head_tree (out-KdlNode n)) ≡ f → node_texts (node_format_of n) ≡ Some f → (rest ≡ Rest.End → m ≡ 0) → FewestBefore rest (block_if b) f m
       → LacksBefore rest m n
   format_lacks Rest.End m f h e z x = z refl
-  format_lacks Rest.Text m f h e z x = before_text m (subst (λ (y : NodeFormat). FormatFewest (block_if b) y m) (sym h) x) (λ y. absurd (cc (ap node_texts y)))
+  format_lacks Rest.Text m f h e z x = before_text m (subst (λ (y : NodeFormat). FormatFewest (block_if b) y m) (sym h) x) (λ y. absurd (cc))
   format_lacks Rest.Brace m f h e z x =
       before_brace m (subst (λ (y : NodeFormat). FormatFewest (block_if b) y m) (sym h) x.0)
-      (λ (g, s, t). let same : g ≡ f = cc in subst (λ (y : NodeFormat). FormatFewest (block_if b) y (m + 1)) (sym h) (x.1 (subst (λ (y : NodeFormat). terminator_text y ≡ []) same t))) (λ y. absurd (cc (ap node_texts y)))
+      (λ (g, s, t). let same : g ≡ f = cc in subst (λ (y : NodeFormat). FormatFewest (block_if b) y (m + 1)) (sym h) (x.1 (subst (λ (y : NodeFormat). terminator_text y ≡ []) same t))) (λ y. absurd (cc))
 
 -- a node with the newlines more that it lacks
 formatted : (n : KdlNode) (f : KdlNodeFormat) → node_tree (end_with (Some f) n) ≡ node (record (head_tree (out-KdlNode n)) { format = Some (node_format_tree f) }) (children_of (block_of n))
@@ -167,10 +168,29 @@ behind_put_exactly d p i n b m x o h at c ends exact q r g w =
     let y = behind_put_is d p i n b m x o h at c ends q r g w in
     (y.0, subst (λ (z : KdlNode). EndsExactly Rest.Text z y.0.format) (sym y.1) (subst (λ (z : Option KdlNodeFormat). EndsExactly Rest.Text b z) (sym y.2) exact))
 
+-- a node put before all others, after a leading text that took the place of the old one
+abbrev pub IsFirst : Option Text → KdlNode → KdlDocument → KdlDocument → Type 0
+IsFirst l n d e = (texts_around e ≡ led_with l (texts_around d)) × (nodes_of e ≡ insert (nodes_of d) 0 n) × ((out-KdlDocument e).span ≡ (out-KdlDocument d).span)
+
+pub first_same : (n : KdlNode) (d p e : KdlDocument) (l : Option (String Global)) → ((t : String Global) → l ≡ Some t → ⊥) → nodes_of p ≡ insert (nodes_of d) 0 n → p ≡ with_nodes d (out-KdlDocument p).nodes → e ≡ p
+    → IsFirst (option_map text_of l) n d e
+first_same n d p e None f k r h = subst (IsFirst None n d) (sym h) (texts_kept d p r, k, span_kept d p r)
+first_same n d p e (Some t) f k r h = absurd (f t refl)
+
+pub first_led : (n : KdlNode) (d p q e : KdlDocument) (l : Option (String Global)) (t : String Global) → l ≡ Some t → nodes_of p ≡ insert (nodes_of d) 0 n → p ≡ with_nodes d (out-KdlDocument p).nodes
+    → (out-KdlDocument q).nodes ≡ (out-KdlDocument p).nodes → texts_around q ≡ option_map (lead_with (text_of t)) (texts_around p) → (out-KdlDocument q).span ≡ (out-KdlDocument p).span → e ≡ q
+    → IsFirst (option_map text_of l) n d e
+first_led n d p q e l t z k r a b c h =
+    subst (λ (o : Option (String Global)). IsFirst (option_map text_of o) n d e) (sym z)
+    (subst (IsFirst (Some (text_of t)) n d) (sym h) (b ∙ ap (option_map (lead_with (text_of t))) (texts_kept d p r), ap (λ (v : Vec KdlNode Global). v.items) a ∙ k, c ∙ span_kept d p r))
+
+pub first_put : (l : Option Text) (n : KdlNode) (d e : KdlDocument) → IsFirst l n d e → LeadingEnded (texts_around d) l → LeadsExactly (texts_around d) l → PutFirstExactly n d e
+first_put l n d e (a, b, c) h x = (record { leading = l; ended = h; texts = a; nodes = b; span = c }, x)
+
 -- what the node itself lacks there
 own_in_text : (i j : ℕ) (n : KdlNode) (d : KdlDocument) (rest : Rest) → IsRestAt false i d rest → LacksBefore rest j n → LacksInText i j n d
 own_in_text i j n d Rest.End (e, last) x = record { at_end = λ h. x; before_text = λ f. absurd (f last) }
-own_in_text i j n d Rest.Brace (e, w) x = absurd (cc)
+own_in_text i j n d Rest.Brace (e, f, k, last) x = absurd (cc)
 own_in_text i j n d Rest.Text w x = record { at_end = λ h. let e = (w h).0 in absurd (cc); before_text = λ f. x }
 
 own_in_block : (i j : ℕ) (n : KdlNode) (d : KdlDocument) (rest : Rest) → IsRestAt true i d rest → LacksBefore rest j n → LacksInBlock i j n d

@@ -1,3 +1,4 @@
+use Rattle.kdl.proofs.Putting.Exact.{begins_fewest}
 use Rattle.std.proofs.Common.{ap, arith}
 use Rattle.kdl_value.specs.Tree.{text_of}
 use Rattle.kdl_parts.specs.Formats.{node_format_tree, node_texts}
@@ -10,3 +11,8 @@ returns-clause-before c =
     before_begun (node_texts (out-KdlNode c.args.self.now).format) (node_format_tree c.in-Some.format) (text_of c.push_newlines.new.text) c.in_ok-lacks.lacks (ap node_texts c.in-Some.is)
     (omega (arith, c.if-lacks-eq0.false)) c.in_ok-lacks.ensures.few
     (copy_put (text_of c.push_newlines.new.text) c.in_ok-before.before c.in-Some.format.before_terminator c.in_ok-lacks.lacks c.in_ok-before.ensures.cases c.in_ok-push_newlines.ensures)
+
+pub returns-clause-fewest : goal.returns-clause-fewest
+returns-clause-fewest c =
+    begins_fewest (node_texts (out-KdlNode c.args.self.now).format) (node_format_tree c.in-Some.format) (text_of c.push_newlines.new.text) c.in_ok-lacks.lacks (ap node_texts c.in-Some.is)
+    (omega (arith, c.if-lacks-eq0.false)) ?

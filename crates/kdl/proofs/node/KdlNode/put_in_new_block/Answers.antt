@@ -1,3 +1,4 @@
+use Rattle.kdl.proofs.Putting.Exact.{new_block_exactly}
 use Rattle.std.proofs.Common.{Some, None, option_map, refl}
 use Rattle.kdl_value.specs.Tree.{text_of}
 use Rattle.kdl.proofs.Putting.NodeEnds.{new_block}
@@ -7,3 +8,8 @@ pub returns-clause-nodes : goal.returns-clause-nodes
 returns-clause-nodes c =
     new_block 0 c.args.node c.args.self.now _ c.begin_block.new.self c.new-block.result c.put.new.self (option_map text_of c.in-Ok.before) c.requires c.new-block.ensures.made c.in_ok-put.ensures.nodes
     c.in-Ok.ensures.before c.begin_block.ensures refl
+
+pub returns-clause-exact : goal.returns-clause-exact
+returns-clause-exact c =
+    new_block_exactly 0 c.args.node c.args.self.now _ c.begin_block.new.self c.new-block.result c.put.new.self (option_map text_of c.in-Ok.before) c.requires c.new-block.ensures.made c.in_ok-put.ensures.exact
+    c.in-Ok.ensures.before c.in-Ok.ensures.fewest c.begin_block.ensures refl
