@@ -98,3 +98,13 @@ ChildPutExactlyIn (Some d) i n m m' = (e : KdlDocument) × IsPutInBlock i n d e 
 -- the same of its own block
 abbrev pub ChildPutExactly : ℕ → KdlNode → KdlNode → KdlNode → Type 0
 ChildPutExactly i n m m' = ChildPutExactlyIn (out-KdlNode m).children i n m m'
+
+-- what is before the place i ends by itself: the node there, or the text before the first one
+abbrev pub EndsAt : ℕ → KdlDocument → Type 0
+EndsAt zero d = AddsNothing (without_bom (leading_text (texts_around d)))
+EndsAt (suc i) d = (n : KdlNode) → slice_get (nodes_of d) i ≡ Some n → NodeEnds n
+
+-- nodes may follow what a document prints: its last node ends by itself, and no text is after it
+pub record NodesMayFollow (d : KdlDocument) : Type 0 where
+  pub ends : EndsAt (length (nodes_of d)) d
+  pub trailing : trailing_text (texts_around d) ≡ []

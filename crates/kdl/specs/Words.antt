@@ -105,4 +105,4 @@ pub use Rattle.kdl.specs.ReadsBack.{BlockReadsBack, DocumentReadsBack, EntryRead
 -- Nodes put in and taken out.
 pub use Rattle.kdl.specs.Nodes.{ChildPut, IsPut, PrintsPut, PrintsWithout, said_with, said_without}
 -- With the newlines that are lacking, and no more.
-pub use Rattle.kdl.specs.Exact.{ChildPutExactly, IsPutExactly}
+pub use Rattle.kdl.specs.Exact.{ChildPutExactly, IsPutExactly, NodesMayFollow}

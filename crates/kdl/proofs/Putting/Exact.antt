@@ -1,6 +1,6 @@
 -- Nodes put among others with the newlines that are lacking, and no more.
-use Rattle.std.proofs.Common.{◌≡◌, ℕ, zero, suc, ◌+◌, ◌-◌, ◌<◌, ◌≤◌, Bool, true, false, List, [], ◌∷◌, ◌++◌, length, map, set, ap, ◌∙◌, sym, refl, subst, arith, Option, Some, None, option_map, unwrap_or, is_some, slice_get, get_or, add-one, Result, Ok, Err, IfOk, String, Vec, Global}
-use Rattle.std.proofs.lemmas.List.{append-nil, map-set}
+use Rattle.std.proofs.Common.{◌≡◌, ℕ, zero, suc, ◌+◌, ◌-◌, ◌<◌, ◌≤◌, Bool, true, false, List, [], ◌∷◌, ◌++◌, length, map, set, take, drop, ap, ◌∙◌, sym, refl, subst, arith, Option, Some, None, option_map, unwrap_or, is_some, slice_get, get_or, add-one, Result, Ok, Err, IfOk, String, Vec, Global}
+use Rattle.std.proofs.lemmas.List.{append-nil, drop_all, length-map, map-set, take_all}
 use Rattle.std.proofs.lemmas.Option.{slice_get-map}
 use Rattle.std.specs.List.{insert}
 use Rattle.std.specs.Vec.{with_item}
@@ -9,20 +9,20 @@ use Rattle.kdl_entry.specs.Tree.{Entry}
 use Rattle.kdl_value.specs.Tree.{text_of}
 use Rattle.kdl_fmt.specs.Kept.{without_bom}
 use Rattle.kdl_grammar.specs.Places.{BeforeChildren}
-use Rattle.kdl_grammar.specs.ReadsBack.{Anything, EndReads, NodeReads, reads, terminator_text}
-use Rattle.kdl_grammar.specs.Print.{end_text}
-use Rattle.kdl_grammar.specs.Tree.{Children, no_children, children, children_of, Document, DocumentFormat, Head, Node, node, NodeFormat}
+use Rattle.kdl_grammar.specs.ReadsBack.{AddsNothing, Anything, EndReads, NodeReads, reads, terminator_text}
+use Rattle.kdl_grammar.specs.Print.{end_text, leading_text, print_nodes, trailing_text}
+use Rattle.kdl_grammar.specs.Tree.{Children, no_children, children, children_of, Document, DocumentFormat, Head, Node, node, NodeFormat, listed_nodes}
 use Rattle.kdl_parts.specs.Formats.{node_format_tree, node_texts}
 use Rattle.kdl_parts.specs.declared.format.KdlNodeFormat.{KdlNodeFormat}
 use Rattle.kdl.specs.Change.{with_children, with_nodes}
 use Rattle.kdl.specs.Cleared.{new_document}
 use Rattle.kdl.specs.DocumentLookups.{nodes_of}
-use Rattle.kdl.specs.Exact.{BlockBegunExactly, ChildPutExactly, ChildPutExactlyIn, FewerFail, HasOpenEnd, IsAtEnd, IsBeforeNewline, IsPutInBlock, LacksAt, LacksBeforeBrace, LacksBeforeText, LacksInBlock, LacksInText, lengthened, with_more}
+use Rattle.kdl.specs.Exact.{BlockBegunExactly, ChildPutExactly, ChildPutExactlyIn, EndsAt, FewerFail, HasOpenEnd, IsBeforeNewline, IsPutExactly, IsPutInBlock, LacksAt, LacksBeforeBrace, LacksBeforeText, LacksInBlock, LacksInText, NodesMayFollow, lengthened, with_more}
 use Rattle.kdl.specs.Fields.{node_format_of}
 use Rattle.kdl.specs.Internal.Ends.{BeforeNewBlock, BeginsFewest, BlockBegins, EndsAs, EndsExactly, FewestBefore, FormatFewest, GapFewest, IsEnded, IsEndedBy, IsEndedExactly, IsNodeEnded, IsRestAt, Lacks, LacksBefore, LeadingEnded, LeadsExactly, PlaceFewest, PutBehind, PutBehindExactly, PutExactly, PutFirst, PutFirstExactly, block_format, block_if, end_with, formless_count, lead_with, led_with, with_newlines}
-use Rattle.kdl.specs.Nodes.{EndsWith, IsPut, LeadsWith, WithNewlines, format_or_printed, newlines, printed_format, texts_around, trees}
+use Rattle.kdl.specs.Nodes.{EndsWith, IsPut, LeadsWith, WithNewlines, format_or_printed, newlines, printed_format, text_from, text_up_to, texts_around, trees}
 use Rattle.kdl.specs.ReadsBack.{NodeEnds}
-use Rattle.kdl.specs.Tree.{document_tree, head_tree, node_tree}
+use Rattle.kdl.specs.Tree.{document_prints, document_tree, head_tree, node_prints, node_tree, nodes_tree}
 use Rattle.kdl.specs.declared.document.KdlDocument.{KdlDocument}
 use Rattle.kdl.specs.declared.document.KdlDocument.TheViews.{out-KdlDocument, out-KdlNode}
 use Rattle.kdl.specs.declared.ends.Rest.{Rest}
@@ -31,6 +31,7 @@ use Rattle.kdl.specs.declared.node.KdlNode.{KdlNode}
 use Rattle.kdl.proofs.Putting.Fewest.{open_fewest}
 use Rattle.kdl.proofs.Putting.NodeEnds.{ends_with}
 use Rattle.kdl.proofs.Putting.Puts.{behind_put_is, insert_trees, put_printed_as, span_kept, texts_kept}
+use Rattle.kdl.proofs.Printing.PrintedParts.{document_printed}
 use Rattle.kdl.proofs.Trees.{node_tree_out, node_tree_roll}
 
 -- what a format lacks
@@ -289,3 +290,36 @@ pub new_block_exactly : (i : ℕ) (n m m' x : KdlNode) (d e : KdlDocument) (o : 
 new_block_exactly i n m m' x d e o h k p b w (g, s, t) r =
     let P : Option KdlDocument → Type 0 = λ z. ChildPutExactlyIn z i n m m' in
     subst P (sym h) (d, e, g, k, p, begun_exactly (node_texts (out-KdlNode m).format) o (node_texts g) b w t, r ∙ ap (λ (z : KdlNode). with_children z (Some e)) s)
+
+-- a node put after the others, where nothing is lacking
+node_there : (ns : List KdlNode) (i : ℕ) → i < length ns → (n : KdlNode) × (slice_get ns i ≡ Some n)
+node_there [] i h = absurd (omega arith)
+node_there (n ∷ ns) zero h = (n, refl)
+node_there (n ∷ ns) (suc i) h = node_there ns i (omega arith)
+
+none_at : (i k : ℕ) (d : KdlDocument) → i ≤ length (nodes_of d) → EndsAt i d → LacksAt i k d → k ≡ 0
+none_at zero zero d h e less = refl
+none_at zero (suc k) d h e less = absurd (less 0 (omega arith) (subst AddsNothing (sym (append-nil (without_bom (leading_text (texts_around d))))) e))
+none_at (suc i) k d h e less = let n = node_there (nodes_of d) i (omega arith) in (less n.0 n.1).none (e n.0 n.1)
+
+seam : (l t n : Text) → (((((l ++ t) ++ []) ++ n) ++ []) ++ []) ≡ ((l ++ t) ++ []) ++ n
+seam l t n = simp append-nil
+
+pub appended : (n : KdlNode) (d e : KdlDocument) → IsPutExactly (length (nodes_of d)) n d e → NodesMayFollow d → document_prints e ≡ document_prints d ++ node_prints n
+appended n d e p f =
+    let i = length (nodes_of d) in
+    let put = p.put in
+    let own = p.own in
+    let k : put.k ≡ 0 = none_at i put.k d (omega arith) f.ends p.before in
+    let j : put.j ≡ 0 = own.at_end (omega arith, f.trailing) in
+    let all : take i (trees d) ≡ trees d = take_all i (trees d) (omega (arith, length-map (nodes_of d) node_tree)) in
+    let rest : drop i (trees d) ≡ [] = drop_all i (trees d) (omega (arith, length-map (nodes_of d) node_tree)) in
+    p.prints
+    ∙ ap (λ (m : ℕ). text_up_to i d 0 ++ newlines m ++ node_prints n ++ newlines put.j ++ text_from i d 0) k
+    ∙ ap (λ (m : ℕ). text_up_to i d 0 ++ [] ++ node_prints n ++ newlines m ++ text_from i d 0) j
+    ∙ ap (λ (ns : List Node). (leading_text (texts_around d) ++ print_nodes (listed_nodes ns) 0) ++ [] ++ node_prints n ++ [] ++ text_from i d 0) all
+    ∙ ap (λ (ns : List Node). (leading_text (texts_around d) ++ print_nodes (nodes_tree (nodes_of d)) 0) ++ [] ++ node_prints n ++ [] ++ (print_nodes (listed_nodes ns) 0 ++ trailing_text (texts_around d))) rest
+    ∙ ap (λ (t : Text). (leading_text (texts_around d) ++ print_nodes (nodes_tree (nodes_of d)) 0) ++ [] ++ node_prints n ++ [] ++ t) f.trailing
+    ∙ seam (leading_text (texts_around d)) (print_nodes (nodes_tree (nodes_of d)) 0) (node_prints n)
+    ∙ ap (λ (t : Text). ((leading_text (texts_around d) ++ print_nodes (nodes_tree (nodes_of d)) 0) ++ t) ++ node_prints n) (sym f.trailing)
+    ∙ ap (λ (t : Text). t ++ node_prints n) (sym (document_printed d 0))

@@ -2,17 +2,17 @@
 
 ghost use Rattle.kdl.specs.DocumentLookups.{nodes_of};
 ghost use Rattle.kdl.specs.Change.{with_nodes};
-ghost use Rattle.kdl.specs.Exact.{IsPutExactly};
+ghost use Rattle.kdl.specs.Exact.{IsPutExactly, NodesMayFollow};
 ghost use Rattle.kdl.specs.Fields.{held_nodes};
 ghost use Rattle.kdl.specs.Internal.Ends.{LeadingEnded, LeadsExactly, PutBehind, PutBehindExactly, PutExactly, PutFirst, PutFirstExactly, end_with, lead_with, IsRestAt, ReadsIn};
 ghost use Rattle.kdl.specs.Nodes.{IsPut, PrintsPut, PrintsWithout, said_with, said_without, texts_around};
 ghost use Rattle.kdl.specs.ReadsBack.{DocumentReadsBack, NodeReadsBack};
-ghost use Rattle.kdl.specs.Tree.{document_says, document_tree, node_says, node_tree};
+ghost use Rattle.kdl.specs.Tree.{document_prints, document_says, document_tree, node_prints, node_says, node_tree};
 ghost use Rattle.kdl.specs.declared.document.KdlDocument.{out-KdlDocument};
 ghost use Rattle.kdl_grammar.specs.Print.{trailing_text};
 ghost use Rattle.kdl_value.specs.Tree.{text_of};
 ghost use Rattle.std.specs.List.{insert, remove};
-ghost use Rattle.std.specs.Prelude.{◌≡◌, ◌≢◌, ◌<◌, ◌≤◌, [], IfErr, IfOk, MatchBool, OnErr, OnOk, Some, if◌then◌else◌, is_ok, length, option_map, slice_get};
+ghost use Rattle.std.specs.Prelude.{◌≡◌, ◌≢◌, ◌<◌, ◌≤◌, ◌++◌, [], IfErr, IfOk, MatchBool, OnErr, OnOk, Some, if◌then◌else◌, is_ok, length, option_map, slice_get};
 
 use crate::document::KdlDocument;
 use crate::ends::{Rest, gap_newlines, is_empty, push_newlines};
@@ -44,6 +44,8 @@ impl KdlDocument {
             (PrintsPut (length (nodes_of self.old)) node self.old self.new) }
         ensures exact { OnOk result
             (IsPutExactly (length (nodes_of self.old)) node self.old self.new) }
+        ensures appended { OnOk result (NodesMayFollow self.old
+            → document_prints self.new ≡ document_prints self.old ++ node_prints node) }
         ensures data { OnOk result (document_says self.new ≡
             said_with (length (nodes_of self.old)) (node_says node) (document_says self.old)) }
         ensures reads { OnOk result (DocumentReadsBack self.old → NodeReadsBack node
