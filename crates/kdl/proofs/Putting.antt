@@ -8,3 +8,7 @@ pub mod PutReads
 pub mod DocumentReads
 -- Nodes that read back, with a child put into their block, or into a new one.
 pub mod ChildReads
+-- Fewer newlines at the ends of nodes, which do not do.
+pub mod Fewest
+-- Nodes put among others with the newlines that are lacking, and no more.
+pub mod Exact

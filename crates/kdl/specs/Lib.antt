@@ -24,6 +24,8 @@ pub mod Said
 pub mod Found
 -- Nodes put among others, and the newlines that are added there.
 pub mod Nodes
+-- Nodes put among others with the newlines that are lacking, and no more.
+pub mod Exact
 -- Which nodes, and which documents, `==` takes for one.
 pub mod Same
 -- The trees of nodes and documents in memory.

@@ -104,3 +104,5 @@ pub use Rattle.kdl_grammar.specs.ReadsBack.{EntryReads}
 pub use Rattle.kdl.specs.ReadsBack.{BlockReadsBack, DocumentReadsBack, EntryReadsBack, IsUnformed, NodeEnds, NodeReadsBack, ReadsAs, respelled}
 -- Nodes added and removed.
 pub use Rattle.kdl.specs.Nodes.{ChildPut, IsPut, PrintsPut, PrintsWithout, said_with, said_without}
+-- With the newlines that are lacking, and no more.
+pub use Rattle.kdl.specs.Exact.{ChildPutExactly, IsPutExactly, NodesMayFollow}

@@ -1,6 +1,6 @@
 //! The newlines that nodes, and the texts between them, lack at their ends before others may follow.
 
-ghost use Rattle.kdl.specs.Internal.Ends.{EndSays, EndsReadAs, GapSays, IsEnded, Lacks, PlaceSays, block_if, newline_count, with_newlines};
+ghost use Rattle.kdl.specs.Internal.Ends.{EndFewest, EndSays, EndsReadAs, FewestBefore, GapFewest, GapSays, IsEnded, IsEndedExactly, IsNodeEnded, Lacks, PlaceFewest, PlaceSays, block_if, newline_count, with_newlines};
 ghost use Rattle.kdl.specs.Nodes.{newlines, printed_format};
 ghost use Rattle.kdl_entry.specs.Tree.{entry_tree};
 ghost use Rattle.kdl_fmt.specs.Kept.{without_bom};
@@ -9,7 +9,7 @@ ghost use Rattle.kdl_grammar.specs.ReadsBack.{terminator_text};
 ghost use Rattle.kdl_grammar.specs.Tree.{NodeFormat};
 ghost use Rattle.kdl_parts.specs.Formats.{node_format_tree, node_texts};
 ghost use Rattle.kdl_value.specs.Tree.{text_of};
-ghost use Rattle.std.specs.Prelude.{◌≡◌, ◌≢◌, ◌≤◌, ◌++◌, ◌∷◌, [], IfOk, MatchBool, None, OnOk, Some, map, unwrap_or};
+ghost use Rattle.std.specs.Prelude.{◌≡◌, ◌≢◌, ◌≤◌, ◌+◌, ◌++◌, ◌∷◌, [], IfOk, MatchBool, None, OnOk, Some, map, unwrap_or};
 ghost use Rattle.std.specs.Str.{chars};
 
 use kdl_entry::KdlEntry;
@@ -52,6 +52,7 @@ fn without_bom(text: &str) -> &str
 pub(crate) fn gap_newlines(alloc: Global, text: &str) -> Result<usize, AllocError>
     ensures few { IfOk result (λ n. n ≤ 2) }
     ensures says { IfOk result (λ n. GapSays (without_bom (chars text.now)) n) }
+    ensures fewest { IfOk result (λ n. GapFewest (without_bom (chars text.now)) n) }
 {
     match gap_lacks(alloc, without_bom(text))? {
         Some(lacks) => Ok(lacks),
@@ -74,6 +75,7 @@ pub(crate) fn place_newlines(
 ) -> Result<usize, AllocError>
     ensures few { IfOk result (λ n. n ≤ 1) }
     ensures says { IfOk result (λ n. PlaceSays (block_if has_block) (chars text.now) n) }
+    ensures fewest { IfOk result (λ n. PlaceFewest (block_if has_block) (chars text.now) n) }
 {
     let place = if has_block {
         Place::BehindBlock
@@ -90,6 +92,8 @@ pub(crate) fn place_newlines(
 fn end_newlines(alloc: Global, terminator: &str, trailing: &str) -> Result<usize, AllocError>
     ensures few { IfOk result (λ n. n ≤ 2) }
     ensures says { IfOk result (λ n. EndSays (chars terminator.now ++ chars trailing.now) n) }
+    ensures fewest { IfOk result (λ n.
+        EndFewest (chars terminator.now ++ chars trailing.now) n) }
 {
     let mut end = String::new(alloc);
     push_text(&mut end, terminator)?;
@@ -128,6 +132,8 @@ fn newlines(
     ensures lacks { IfOk result (λ (b, e). Lacks (node_format_tree format.now) b e) }
     ensures reads { IfOk result (λ (b, e). EndsReadAs rest (block_if has_block)
         (node_format_tree format.now) (with_newlines (node_format_tree format.now) b e)) }
+    ensures fewest { IfOk result (λ (b, e). FewestBefore rest (block_if has_block)
+        (node_format_tree format.now) (b + e)) }
 {
     if has_end(format) {
         let end = end_newlines(alloc, &format.terminator, &format.trailing)?;
@@ -170,6 +176,8 @@ fn ended(
         IsEnded (node_format_tree format.now) (node_texts o)) }
     ensures reads { IfOk result (λ o. EndsReadAs rest (block_if has_block)
         (node_format_tree format.now) (unwrap_or (node_texts o) (node_format_tree format.now))) }
+    ensures exact { IfOk result (λ o. IsEndedExactly rest (block_if has_block)
+        (node_format_tree format.now) (node_texts o)) }
 {
     let (before, end) = newlines(alloc, format, has_block, rest)?;
     if before == 0 && end == 0 {
@@ -227,6 +235,8 @@ pub(crate) fn ended_format(
     ensures reads { IfOk result (λ o. (f : NodeFormat) → node_texts format.now ≡ Some f
         → EndsReadAs rest (block_if has_block) f (unwrap_or (node_texts o) f)) }
     ensures last { rest ≡ Rest.End → IfOk result (λ o. o ≡ None) }
+    ensures exact { IfOk result (λ o. IsNodeEnded rest (block_if has_block)
+        (node_texts format.now) (printed_format (map entry_tree entries.now)) (node_texts o)) }
 {
     if let Rest::End = rest {
         return Ok(None);

@@ -238,7 +238,7 @@ place_of true = behind_block
 place_of false = before_block
 
 -- what the readers say
-times_same : (n : ℕ) → times n 10 ≡ newlines n
+pub times_same : (n : ℕ) → times n 10 ≡ newlines n
 times_same zero = refl
 times_same (suc n) = ap (λ (t : Text). 10 ∷ t) (times_same n)
 

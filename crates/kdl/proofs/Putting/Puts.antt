@@ -15,7 +15,7 @@ use Rattle.kdl.specs.Change.{with_nodes}
 use Rattle.kdl.specs.DocumentLookups.{nodes_of}
 use Rattle.kdl.specs.Internal.Ends.{EndsAs, IsEnded, LeadingEnded, PutBehind, PutFirst, end_with, lead_with, led_with}
 use Rattle.kdl.specs.Nodes.{EndedAt, EndedBefore, IsPut, LeadsWith, PrintsPut, PrintsWithout, WithNewlines, format_or_printed, newlines, said_with, said_without, text_from, text_up_to, texts_around, trees}
-use Rattle.kdl.specs.Tree.{document_says, document_tree, head_tree, node_says, node_tree, nodes_tree}
+use Rattle.kdl.specs.Tree.{document_prints, document_says, document_tree, head_tree, node_prints, node_says, node_tree, nodes_tree}
 use Rattle.kdl.specs.declared.document.KdlDocument.{KdlDocument}
 use Rattle.kdl.specs.declared.document.KdlDocument.TheViews.{out-KdlDocument, out-KdlNode, out-roll-KdlDocument, roll-KdlDocument}
 use Rattle.kdl.specs.declared.ends.Rest.TheVariants as Rest
@@ -79,16 +79,14 @@ printed (suc i) k j n put o p ns ms (e, x) w =
     rw (x.nodes, e, put_printed i ns x.old x.new put (newlines k) _ x.is (newlines_printed k x.old x.new x.ends) (newlines_printed j n put w))
     (seam_behind (leading_text o) (text (take (suc i) ns)) (newlines k) (print_node n 0) (newlines j) (text (drop (suc i) ns)) (trailing_text o))
 
+pub put_printed_as : (i : ℕ) (n : KdlNode) (d e : KdlDocument) (p : IsPut i (node_tree n) d e)
+    → document_prints e ≡ text_up_to i d 0 ++ newlines p.k ++ node_prints n ++ newlines p.j ++ text_from i d 0
+put_printed_as i n d e p =
+    document_printed e 0 ∙ ap (λ z. leading_text (texts_around e) ++ text z ++ trailing_text (texts_around e)) p.nodes
+    ∙ printed i p.k p.j (node_tree n) p.put (texts_around d) (texts_around e) (trees d) p.ended p.before p.ends
+
 pub put_prints : (i : ℕ) (n : KdlNode) (d e : KdlDocument) → IsPut i (node_tree n) d e → PrintsPut i n d e
-put_prints i n d e p =
-    let few = p.few in (
-      p.k,
-      p.j,
-      few.0,
-      few.1,
-      document_printed e 0 ∙ ap (λ z. leading_text (texts_around e) ++ text z ++ trailing_text (texts_around e)) p.nodes
-          ∙ printed i p.k p.j (node_tree n) p.put (texts_around d) (texts_around e) (trees d) p.ended p.before p.ends,
-    )
+put_prints i n d e p = let few = p.few in (p.k, p.j, few.0, few.1, put_printed_as i n d e p)
 
 said : (i k j : ℕ) (n put : Node) (o p : Option DocumentFormat) (ns ms : List Node) → EndedBefore i k o ns p ms → WithNewlines j n put
     → nodes_data (listed_nodes (insert ms i put)) ≡ said_with i (node_data n) (nodes_data (listed_nodes ns))
@@ -269,6 +267,13 @@ behind_put d p i n b m x o h at c ends q r g w =
       rest = let v = with_item (out-KdlDocument p).nodes i x in
           ap (λ (z : KdlDocument). with_nodes z v) r ∙ with_nodes_twice d (out-KdlDocument p).nodes v ∙ ap (with_nodes d) (sym (ap (λ x. x.nodes) (out-roll-KdlDocument (record (out-KdlDocument p) { nodes = v }))));
     }
+
+-- it is that node, and that format
+pub behind_put_is : (d p : KdlDocument) (i : ℕ) (n b m x : KdlNode) (o : Option KdlNodeFormat) → i < length (nodes_of d) → get_or (nodes_of d) i b ≡ b
+    → IsEnded (format_or_printed (head_tree (out-KdlNode b))) (node_texts o) → EndsAs Rest.Text b (end_with o b) → nodes_of p ≡ insert (nodes_of d) (i + 1) n → p ≡ with_nodes d (out-KdlDocument p).nodes
+    → get_or (nodes_of p) i m ≡ m → x ≡ end_with o m → (q : PutBehind i n d (with_nodes p (with_item (out-KdlDocument p).nodes i x))) × (q.last ≡ b) × (q.format ≡ o)
+unfolding behind_put
+behind_put_is d p i n b m x o h at c ends q r g w = (behind_put d p i n b m x o h at c ends q r g w, refl, refl)
 
 -- where a call succeeds
 pub on_ok : {T E P Q : Type 0} (r : Result T E) → (P → Q) → OnOk r P → OnOk r Q

@@ -6,14 +6,15 @@ use Rattle.kdl_fmt.specs.Kept.{without_bom}
 use Rattle.kdl_grammar.specs.Grammar.{Terminator, Gap}
 use Rattle.kdl_grammar.specs.Places.{BeforeChildren}
 use Rattle.kdl_grammar.specs.Print.{leading_text, trailing_text}
-use Rattle.kdl_grammar.specs.ReadsBack.{Rests, Anything, TextEnd, BlockEnd, Terminates, AddsNothing, BeforeTerminator, EndReads, NodeReads}
+use Rattle.kdl_grammar.specs.ReadsBack.{Rests, Anything, TextEnd, BlockEnd, Terminates, AddsNothing, BeforeTerminator, EndReads, NodeReads, terminator_text}
 use Rattle.kdl_grammar.specs.Tree.{DocumentFormat, NodeFormat, Children, no_children, children}
 use Rattle.kdl_parts.specs.Formats.{node_texts}
 use Rattle.kdl_parts.specs.declared.format.KdlNodeFormat.{KdlNodeFormat}
 use Rattle.kdl.specs.Change.{with_format, with_nodes}
 use Rattle.kdl.specs.Cleared.{new_document}
 use Rattle.kdl.specs.DocumentLookups.{nodes_of}
-use Rattle.kdl.specs.Nodes.{EndsWith, format_or_printed, newlines, texts_around}
+use Rattle.kdl.specs.Exact.{IsBeforeNewline, IsPutExactly, IsPutInBlock, LacksBeforeBrace, LacksBeforeText, lengthened}
+use Rattle.kdl.specs.Nodes.{EndsWith, LeadsWith, WithNewlines, format_or_printed, newlines, texts_around}
 use Rattle.kdl.specs.ReadsBack.{BlockReadsBack, DocumentReadsBack}
 use Rattle.kdl.specs.Tree.{head_tree, node_tree}
 use Rattle.kdl.specs.declared.document.KdlDocument.{KdlDocument, out-KdlDocument}
@@ -140,9 +141,81 @@ IsLast i d = (length (nodes_of d) ≤ i) × (trailing_text (texts_around d) ≡ 
 abbrev pub IsRestAt : Bool → ℕ → KdlDocument → Rest → Type 0
 IsRestAt b i d Rest.End = (b ≡ false) × IsLast i d
 IsRestAt b i d Rest.Brace = (b ≡ true) × (f : DocumentFormat) × (texts_around d ≡ Some f) × IsLast i d
-IsRestAt b i d Rest.Text = Unit {0}
+IsRestAt b i d Rest.Text = IsLast i d → (b ≡ true) × (texts_around d ≡ None)
 
 -- one newline, or none
 abbrev pub newline_count : Bool → ℕ
 newline_count true = 1
 newline_count false = 0
+
+-- with fewer newlines a text between nodes adds something to them
+abbrev pub GapFewest : Text → ℕ → Type 0
+GapFewest t n = (m : ℕ) → m < n → AddsNothing (t ++ newlines m) → ⊥
+
+-- with fewer newlines a text may not be before a terminator that is a newline
+abbrev pub PlaceFewest : Children → Text → ℕ → Type 0
+PlaceFewest c t n = (m : ℕ) → m < n → ((r : Text) → BeforeTerminator c ((t ++ newlines m) ++ (10 ∷ r)) (10 ∷ r)) → ⊥
+
+-- with fewer newlines a terminator and what is after it do not end the node before whatever follows
+abbrev pub EndFewest : Text → ℕ → Type 0
+EndFewest t n = (m : ℕ) → m < n → Terminates Anything (t ++ newlines m) → ⊥
+
+-- with fewer newlines, before its terminator and at its end, a format does not end a node before whatever follows
+abbrev pub FormatFewest : Children → NodeFormat → ℕ → Type 0
+FormatFewest c f k = (b e : ℕ) → b + e < k → EndReads Anything c (lengthened b e f) → ⊥
+
+-- the same before what follows: before a `}` an empty terminator does
+abbrev pub FewestBefore : Rest → Children → NodeFormat → ℕ → Type 0
+FewestBefore Rest.End c f k = Unit {0}
+FewestBefore Rest.Brace c f k = FormatFewest c f k × (terminator_text f ≡ [] → FormatFewest c f (k + 1))
+FewestBefore Rest.Text c f k = FormatFewest c f k
+
+-- the format in place of f, where there is one, has k newlines more at its end
+abbrev pub IsEndedBy : ℕ → NodeFormat → Option NodeFormat → Type 0
+IsEndedBy k f None = k ≡ 0
+IsEndedBy k f (Some g) = (0 < k) × (k ≤ 2) × EndsWith k f g
+
+-- before what follows these are the fewest
+abbrev pub IsEndedExactly : Rest → Children → NodeFormat → Option NodeFormat → Type 0
+IsEndedExactly rest c f o = (k : ℕ) × IsEndedBy k f o × FewestBefore rest c f k
+
+-- how many newlines a node without a format lacks
+abbrev pub formless_count : Rest → ℕ
+formless_count Rest.Text = 1
+formless_count rest = 0
+
+-- of a node with the format, if any, and else with what it prints without one
+abbrev pub IsNodeEnded : Rest → Children → Option NodeFormat → NodeFormat → Option NodeFormat → Type 0
+IsNodeEnded rest c None f o = IsEndedBy (formless_count rest) f o
+IsNodeEnded rest c (Some g) f o = IsEndedExactly rest c g o
+
+-- before what follows a node lacks k newlines, and no fewer
+abbrev pub LacksBefore : Rest → ℕ → KdlNode → Type 0
+LacksBefore Rest.End k n = k ≡ 0
+LacksBefore Rest.Brace k n = LacksBeforeBrace k n
+LacksBefore Rest.Text k n = LacksBeforeText k n
+
+-- with the format, where there is one, the node has just the newlines more that it lacks
+abbrev pub EndsExactly : Rest → KdlNode → Option KdlNodeFormat → Type 0
+EndsExactly rest n o = (k : ℕ) × (k ≤ 2) × WithNewlines k (node_tree n) (node_tree (end_with o n)) × LacksBefore rest k n
+
+-- so has the leading text, with the one in its place where there is one
+abbrev pub LeadsExactly : Option DocumentFormat → Option Text → Type 0
+LeadsExactly o l = (k : ℕ) × (k ≤ 2) × LeadsWith k o (led_with l o) × GapFewest (without_bom (leading_text o)) k
+
+-- e is d with the node n after the one at i, or before the others, and what is before it has just the newlines more that it lacked
+abbrev pub PutBehindExactly : ℕ → KdlNode → KdlDocument → KdlDocument → Type 0
+PutBehindExactly i n d e = (p : PutBehind i n d e) × EndsExactly Rest.Text p.last p.format
+
+abbrev pub PutFirstExactly : KdlNode → KdlDocument → KdlDocument → Type 0
+PutFirstExactly n d e = (p : PutFirst n d e) × LeadsExactly (texts_around d) p.leading
+
+-- a node is put in at i, in a text or a block
+abbrev pub PutExactly : Bool → ℕ → KdlNode → KdlDocument → KdlDocument → Type 0
+PutExactly false = IsPutExactly
+PutExactly true = IsPutInBlock
+
+-- with fewer newlines the text before the terminator of a format may not be before a newline
+abbrev pub BeginsFewest : Option NodeFormat → Option Text → Type 0
+BeginsFewest o None = Unit {0}
+BeginsFewest o (Some t) = (f : NodeFormat) → o ≡ Some f → IsBeforeNewline f.before_terminator → ⊥

@@ -2,16 +2,17 @@
 
 ghost use Rattle.kdl.specs.DocumentLookups.{nodes_of};
 ghost use Rattle.kdl.specs.Change.{with_nodes};
+ghost use Rattle.kdl.specs.Exact.{IsPutExactly, NodesMayFollow};
 ghost use Rattle.kdl.specs.Fields.{held_nodes};
-ghost use Rattle.kdl.specs.Internal.Ends.{LeadingEnded, PutBehind, PutFirst, end_with, lead_with, IsRestAt, ReadsIn};
+ghost use Rattle.kdl.specs.Internal.Ends.{LeadingEnded, LeadsExactly, PutBehind, PutBehindExactly, PutExactly, PutFirst, PutFirstExactly, end_with, lead_with, IsRestAt, ReadsIn};
 ghost use Rattle.kdl.specs.Nodes.{IsPut, PrintsPut, PrintsWithout, said_with, said_without, texts_around};
 ghost use Rattle.kdl.specs.ReadsBack.{DocumentReadsBack, NodeReadsBack};
-ghost use Rattle.kdl.specs.Tree.{document_says, document_tree, node_says, node_tree};
+ghost use Rattle.kdl.specs.Tree.{document_prints, document_says, document_tree, node_prints, node_says, node_tree};
 ghost use Rattle.kdl.specs.declared.document.KdlDocument.{out-KdlDocument};
 ghost use Rattle.kdl_grammar.specs.Print.{trailing_text};
 ghost use Rattle.kdl_value.specs.Tree.{text_of};
 ghost use Rattle.std.specs.List.{insert, remove};
-ghost use Rattle.std.specs.Prelude.{◌≡◌, ◌≢◌, ◌<◌, ◌≤◌, [], IfErr, IfOk, MatchBool, OnErr, OnOk, Some, if◌then◌else◌, is_ok, length, option_map, slice_get};
+ghost use Rattle.std.specs.Prelude.{◌≡◌, ◌≢◌, ◌<◌, ◌≤◌, ◌++◌, [], IfErr, IfOk, MatchBool, OnErr, OnOk, Some, if◌then◌else◌, is_ok, length, option_map, slice_get};
 
 use crate::document::KdlDocument;
 use crate::ends::{Rest, gap_newlines, is_empty, push_newlines};
@@ -40,6 +41,10 @@ impl KdlDocument {
             (IsPut (length (nodes_of self.old)) (node_tree node) self.old self.new) }
         ensures prints { OnOk result
             (PrintsPut (length (nodes_of self.old)) node self.old self.new) }
+        ensures exact { OnOk result
+            (IsPutExactly (length (nodes_of self.old)) node self.old self.new) }
+        ensures appended { OnOk result (NodesMayFollow self.old
+            → document_prints self.new ≡ document_prints self.old ++ node_prints node) }
         ensures data { OnOk result (document_says self.new ≡
             said_with (length (nodes_of self.old)) (node_says node) (document_says self.old)) }
         ensures reads { OnOk result (DocumentReadsBack self.old → NodeReadsBack node
@@ -68,6 +73,7 @@ impl KdlDocument {
         requires { index ≤ length (nodes_of self.old) }
         ensures nodes { OnOk result (IsPut index (node_tree node) self.old self.new) }
         ensures prints { OnOk result (PrintsPut index node self.old self.new) }
+        ensures exact { OnOk result (IsPutExactly index node self.old self.new) }
         ensures data { OnOk result (document_says self.new ≡
             said_with index (node_says node) (document_says self.old)) }
         ensures reads { OnOk result (DocumentReadsBack self.old → NodeReadsBack node
@@ -110,6 +116,7 @@ impl KdlDocument {
         ensures nodes { OnOk result (IsPut index (node_tree node) self.old self.new) }
         ensures reads { OnOk result (ReadsIn in_block self.old → NodeReadsBack node
             → ReadsIn in_block self.new) }
+        ensures exact { OnOk result (PutExactly in_block index node self.old self.new) }
         ensures back { IfErr result (λ e. e.0 ≡ node) }
         ensures refused { OnErr result (document_tree self.new ≡ document_tree self.old) }
     {
@@ -159,6 +166,8 @@ impl KdlDocument {
     ) -> Result<(), (KdlNode, AllocError)>
         requires { last < length (nodes_of self.old) }
         ensures put { OnOk result (PutBehind last (end_with own node) self.old self.new) }
+        ensures exact { OnOk result
+            (PutBehindExactly last (end_with own node) self.old self.new) }
         ensures back { IfErr result (λ e. e.0 ≡ node) }
         ensures refused { OnErr result (document_tree self.new ≡ document_tree self.old) }
     {
@@ -178,6 +187,7 @@ impl KdlDocument {
         own: Option<KdlNodeFormat>,
     ) -> Result<(), (KdlNode, AllocError)>
         ensures put { OnOk result (PutFirst (end_with own node) self.old self.new) }
+        ensures exact { OnOk result (PutFirstExactly (end_with own node) self.old self.new) }
         ensures back { IfErr result (λ e. e.0 ≡ node) }
         ensures refused { OnErr result (document_tree self.new ≡ document_tree self.old) }
     {
@@ -194,7 +204,10 @@ impl KdlDocument {
 
     /// The leading text with the newlines that it lacks, or none where it lacks none.
     fn ended_leading(&self) -> Result<Option<String>, AllocError>
-        ensures { IfOk result (λ o. LeadingEnded (texts_around self.now) (option_map text_of o)) }
+        ensures ended { IfOk result (λ o.
+            LeadingEnded (texts_around self.now) (option_map text_of o)) }
+        ensures exact { IfOk result (λ o.
+            LeadsExactly (texts_around self.now) (option_map text_of o)) }
     {
         let Some(format) = &self.format else {
             return Ok(None);

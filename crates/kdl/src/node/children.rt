@@ -1,6 +1,7 @@
 //! Children added to the block of a node.
 
-ghost use Rattle.kdl.specs.Internal.Ends.{BeforeNewBlock, BlockBegins, BlockSays, EndsAs, IsEnded, end_with};
+ghost use Rattle.kdl.specs.Internal.Ends.{BeforeNewBlock, BeginsFewest, BlockBegins, BlockSays, EndsAs, EndsExactly, IsEnded, end_with};
+ghost use Rattle.kdl.specs.Exact.{ChildPutExactly};
 ghost use Rattle.kdl.specs.Iterators.{child_nodes};
 ghost use Rattle.kdl.specs.Nodes.{ChildPut, format_or_printed};
 ghost use Rattle.kdl.specs.ReadsBack.{NodeReadsBack, ReadsAs};
@@ -42,6 +43,8 @@ impl KdlNode {
             (ChildPut (length (child_nodes self.old)) node self.old self.new) }
         // With a child that reads back, it reads back wherever it did.
         ensures reads { NodeReadsBack node → ReadsAs self.old self.new }
+        ensures exact { OnOk result
+            (ChildPutExactly (length (child_nodes self.old)) node self.old self.new) }
         ensures back { IfErr result (λ e. e.0 ≡ node) }
         ensures refused { OnErr result (node_tree self.new ≡ node_tree self.old) }
     {
@@ -68,6 +71,7 @@ impl KdlNode {
         ensures nodes { OnOk result (ChildPut index node self.old self.new) }
         // With a child that reads back, it reads back wherever it did.
         ensures reads { NodeReadsBack node → ReadsAs self.old self.new }
+        ensures exact { OnOk result (ChildPutExactly index node self.old self.new) }
         ensures back { IfErr result (λ e. e.0 ≡ node) }
         ensures refused { OnErr result (node_tree self.new ≡ node_tree self.old) }
     {
@@ -83,6 +87,7 @@ impl KdlNode {
         ensures nodes { OnOk result (ChildPut 0 node self.old self.new) }
         // With a child that reads back, it reads back wherever it did.
         ensures reads { NodeReadsBack node → ReadsAs self.old self.new }
+        ensures exact { OnOk result (ChildPutExactly 0 node self.old self.new) }
         ensures back { IfErr result (λ e. e.0 ≡ node) }
         ensures refused { OnErr result (self.new ≡ self.old) }
     {
@@ -102,6 +107,8 @@ impl KdlNode {
         ensures text { IfOk result (λ o. BeforeNewBlock
             (node_texts (out-KdlNode self.now).format) (option_map text_of o)) }
         ensures says { IfOk result (λ o. BlockSays
+            (node_texts (out-KdlNode self.now).format) (option_map text_of o)) }
+        ensures fewest { IfOk result (λ o. BeginsFewest
             (node_texts (out-KdlNode self.now).format) (option_map text_of o)) }
     {
         let Some(format) = &self.format else {
@@ -133,6 +140,7 @@ impl KdlNode {
         ensures is_ended { IfOk result (λ o. IsEnded
             (format_or_printed (head_tree (out-KdlNode self.now))) (node_texts o)) }
         ensures reads { IfOk result (λ o. EndsAs rest self.now (end_with o self.now)) }
+        ensures exact { IfOk result (λ o. EndsExactly rest self.now o) }
     {
         ended_format(
             *self.entries.allocator(),

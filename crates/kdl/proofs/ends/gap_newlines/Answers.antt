@@ -1,3 +1,4 @@
+use Rattle.kdl.proofs.Putting.Fewest.{gap_fewest}
 use Rattle.std.proofs.Common.{subst}
 use Rattle.std.specs.Str.{chars}
 use Rattle.kdl_fmt.specs.Kept.{without_bom}
@@ -17,3 +18,8 @@ pub returns-in-None-clause-says : goal.returns-in-None-clause-says
 returns-in-None-clause-says c =
     let u = chars c.without_bom.result.now in
     gap_missing (without_bom (chars c.args.text.now)) u c.without_bom.ensures (subst (GapLacks u) c.in-None.is c.in_ok-lacks.ensures)
+
+pub returns-in-Some-clause-fewest : goal.returns-in-Some-clause-fewest
+returns-in-Some-clause-fewest c =
+    let u = chars c.without_bom.result.now in
+    gap_fewest (without_bom (chars c.args.text.now)) u c.in-Some.lacks c.without_bom.ensures (subst (GapLacks u) c.in-Some.is c.in_ok-lacks.ensures)

@@ -1,9 +1,11 @@
-use Rattle.std.proofs.Common.{ap, arith, inr, refl, subst, sym}
+use Rattle.std.proofs.Common.{◌+◌, ◌++◌, ap, arith, inr, refl, subst, sym}
 use Rattle.std.specs.Str.{chars}
 use Rattle.kdl_text.specs.Chars.{Text}
 use Rattle.kdl_parts.specs.Formats.{node_format_tree}
-use Rattle.kdl.specs.Internal.Ends.{EndsReadAs, PlaceSays, block_if, with_newlines}
+use Rattle.kdl.specs.Internal.Ends.{EndFewest, EndsReadAs, FewestBefore, PlaceFewest, PlaceSays, block_if, with_newlines}
 use Rattle.kdl.specs.declared.ends.Rest.{Rest}
+use Rattle.kdl_grammar.specs.ReadsBack.{terminator_text}
+use Rattle.kdl.proofs.Putting.Fewest.{ended_before, open_before_else, open_before_text}
 use Rattle.kdl.proofs.Putting.PutReads.{both_empty, newlines_else, newlines_read, says_as, terminator_read}
 use Rattle.kdl.proofs.ends.newlines.Goals as goal
 
@@ -28,4 +30,22 @@ returns-in_default c = let few = c.in_ok-before.ensures.few in record {
   reads = let k = block_if c.args.has_block in
       newlines_else c.args.rest k (node_format_tree c.args.format.now) c.in_ok-before.before c.in_default.not-Text
       (subst (λ (t : Text). PlaceSays k t c.in_ok-before.before) (ap chars c.deref-2.ensures) c.in_ok-before.ensures.says) c.if-has_end.ensures;
+  fewest = let k = block_if c.args.has_block in
+      open_before_else c.args.rest k (node_format_tree c.args.format.now) c.in_ok-before.before c.in_default.not-Text c.if-has_end.ensures c.in_ok-before.ensures.few
+      (subst (λ (t : Text). PlaceFewest k t c.in_ok-before.before) (ap chars c.deref-2.ensures) c.in_ok-before.ensures.fewest);
 }
+
+pub returns-then-has_end-clause-fewest : goal.returns-then-has_end-clause-fewest
+returns-then-has_end-clause-fewest c =
+    let n = c.in_ok-end.end in
+    let f = node_format_tree c.args.format.now in
+    let less : EndFewest (terminator_text f) n = subst (λ (t : Text). EndFewest (t ++ f.trailing) n) (ap chars c.deref.ensures)
+    (subst (λ (t : Text). EndFewest (chars c.deref.result.now ++ t) n) (ap chars c.deref-then-has_end.ensures) c.in_ok-end.ensures.fewest) in
+    ended_before c.args.rest (block_if c.args.has_block) f (0 + n) n (omega arith) c.if-has_end.ensures less
+
+pub returns-in-Text-clause-fewest : goal.returns-in-Text-clause-fewest
+returns-in-Text-clause-fewest c =
+    let f = node_format_tree c.args.format.now in
+    let k = block_if c.args.has_block in
+    subst (λ (r : Rest). FewestBefore r k f (c.in_ok-before.before + 1)) (sym c.in-Text.is)
+    (open_before_text k f c.in_ok-before.before c.if-has_end.ensures c.in_ok-before.ensures.few (subst (λ (t : Text). PlaceFewest k t c.in_ok-before.before) (ap chars c.deref-2.ensures) c.in_ok-before.ensures.fewest))

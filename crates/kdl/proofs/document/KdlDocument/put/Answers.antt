@@ -1,3 +1,4 @@
+use Rattle.kdl.proofs.Putting.Exact.{put_behind_exactly, put_first_exactly}
 use Rattle.std.proofs.Common.{◌≡◌, ℕ, suc, arith, subst, sym}
 use Rattle.kdl.specs.Nodes.{IsPut}
 use Rattle.kdl.specs.Tree.{node_tree}
@@ -28,3 +29,15 @@ returns-in-None-clause-reads c =
     on_ok c.put_first.result
     (put_first_reads c.args.in_block c.args.index c.args.self.now c.put_first.new.self c.rest_at.result c.args.node c.in-Ok.own (omega (arith, c.in-None.ensures)) c.rest_at.ensures c.in-Ok.ensures.reads)
     c.put_first.ensures.put
+
+pub returns-in-Some-clause-exact : goal.returns-in-Some-clause-exact
+returns-in-Some-clause-exact c =
+    on_ok c.put_behind.result
+    (put_behind_exactly c.args.in_block c.in-Some.last c.args.index c.args.node c.in-Ok.own c.args.self.now c.put_behind.new.self c.rest_at.result (omega (arith, c.in-Some.ensures)) c.rest_at.ensures c.in-Ok.ensures.exact)
+    c.put_behind.ensures.exact
+
+pub returns-in-None-clause-exact : goal.returns-in-None-clause-exact
+returns-in-None-clause-exact c =
+    on_ok c.put_first.result
+    (put_first_exactly c.args.in_block c.args.index c.args.node c.in-Ok.own c.args.self.now c.put_first.new.self c.rest_at.result (omega (arith, c.in-None.ensures)) c.rest_at.ensures c.in-Ok.ensures.exact)
+    c.put_first.ensures.exact

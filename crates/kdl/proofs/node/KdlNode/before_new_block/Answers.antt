@@ -1,6 +1,10 @@
-use Rattle.std.proofs.Common.{ap, arith}
+use Rattle.kdl.proofs.Putting.Exact.{begins_fewest}
+use Rattle.std.proofs.Common.{ap, arith, subst}
 use Rattle.std.specs.Str.{chars}
+use Rattle.kdl_text.specs.Chars.{Text}
 use Rattle.kdl_value.specs.Tree.{text_of}
+use Rattle.kdl_grammar.specs.Tree.{no_children}
+use Rattle.kdl.specs.Internal.Ends.{PlaceFewest}
 use Rattle.kdl_parts.specs.Formats.{node_format_tree, node_texts}
 use Rattle.kdl.specs.declared.node.KdlNode.{out-KdlNode}
 use Rattle.kdl.proofs.Putting.ChildReads.{place_says, text_says}
@@ -23,3 +27,8 @@ pub returns-then-lacks-eq0-clause-says : goal.returns-then-lacks-eq0-clause-says
 returns-then-lacks-eq0-clause-says c =
     place_says (node_texts (out-KdlNode c.args.self.now).format) (node_format_tree c.in-Some.format) c.in_ok-lacks.lacks (chars c.deref.result.now) (ap node_texts c.in-Some.is) (ap chars c.deref.ensures) c.if-lacks-eq0.true
     c.in_ok-lacks.ensures.says
+
+pub returns-clause-fewest : goal.returns-clause-fewest
+returns-clause-fewest c =
+    begins_fewest (node_texts (out-KdlNode c.args.self.now).format) (node_format_tree c.in-Some.format) (text_of c.push_newlines.new.text) c.in_ok-lacks.lacks (ap node_texts c.in-Some.is)
+    (omega (arith, c.if-lacks-eq0.false)) (subst (λ (t : Text). PlaceFewest no_children t c.in_ok-lacks.lacks) (ap chars c.deref.ensures) c.in_ok-lacks.ensures.fewest)
