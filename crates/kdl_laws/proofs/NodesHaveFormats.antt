@@ -17,7 +17,7 @@ use Rattle.kdl.proofs.ReadingBack.{nodes_read_back}
 use Rattle.kdl.proofs.Trees.{node_tree_out}
 
 -- what holds of each holds of the one that is found
-find_all : {A : Type 0} (P : A → Type 0) (p : A → Bool) (xs : List A) (x : A) → All P xs → find p xs ≡ Some x → P x
+pub find_all : {A : Type 0} (P : A → Type 0) (p : A → Bool) (xs : List A) (x : A) → All P xs → find p xs ≡ Some x → P x
 find_all P p [] x a h = absurd (none-some _ h)
 find_all {A = A} P p (y ∷ ys) x a h = go (p y) h (find_all P p ys x (All-tail P y ys a))
   where

@@ -1,23 +1,27 @@
 //! What reads back: documents and nodes from the text that they print, entries in any node.
 
-ghost use Rattle.kdl.specs.DocumentLookups.{node_named, nodes_of};
+ghost use Rattle.kdl.specs.Change.{with_children, with_nodes};
+ghost use Rattle.kdl.specs.DocumentLookups.{node_named, nodes_of, with_node_named};
 ghost use Rattle.kdl.specs.Fields.{block_of, node_format_of};
-ghost use Rattle.kdl.specs.ReadsBack.{BlockReadsBack, DocumentReadsBack, EntryReadsBack, IsUnformed, NodeEnds, NodeReadsBack, respelled};
+ghost use Rattle.kdl.specs.Nodes.{said_with};
+ghost use Rattle.kdl.specs.ReadsBack.{BlockReadsBack, DocumentReadsBack, EntryReadsBack, IsUnformed, NodeEnds, NodeReadsBack, ReadsAs, respelled};
 ghost use Rattle.kdl.specs.Tree.{document_prints, document_says, node_prints, node_says};
 ghost use Rattle.kdl.specs.declared.document.KdlDocument.{KdlDocument};
 ghost use Rattle.kdl.specs.declared.node.KdlNode.{KdlNode};
-ghost use Rattle.kdl_entry.specs.Tree.{Entry, entry_tree, plain_entry, plain_identifier};
+ghost use Rattle.kdl_entry.specs.Tree.{Entry, Identifier, entry_tree, plain_entry, plain_identifier};
 ghost use Rattle.kdl_entry.specs.declared.entry.KdlEntry.{KdlEntry};
 ghost use Rattle.kdl_grammar.specs.Data.{Nodes, first, none};
 ghost use Rattle.kdl_grammar.specs.Grammar.{IsDocument};
+ghost use Rattle.kdl_laws.specs.Pushed.{EndsLine, LastEnds};
 ghost use Rattle.kdl_parts.specs.Edits.{under};
 ghost use Rattle.kdl_parts.specs.EntryLists.{Sought, property};
+ghost use Rattle.kdl_parts.specs.declared.format.KdlNodeFormat.{KdlNodeFormat};
 ghost use Rattle.kdl_text.specs.Chars.{Text};
 ghost use Rattle.kdl_value.specs.Data.{Value};
 ghost use Rattle.kdl_value.specs.Tree.{text_of};
 ghost use Rattle.kdl_value.specs.WellFormed.{IsWellFormed};
 ghost use Rattle.std.specs.List.{All};
-ghost use Rattle.std.specs.Prelude.{◌≡◌, IsSome, List, None, Some, String, string_bytes, true, ℕ};
+ghost use Rattle.std.specs.Prelude.{◌≡◌, ◌++◌, [], ◌∷◌, IsSome, List, None, Option, Some, String, Vec, length, string_bytes, true, ℕ};
 ghost use Rattle.std.specs.Str.{encode_utf8_all};
 ghost use Rattle.std.specs.declared.alloc.Global.{Global};
 
@@ -71,11 +75,41 @@ pub fn ended_reads_back()
     ensures { (n : KdlNode) → NodeEnds n → NodeReadsBack n }
 {}
 
+/// A node that reads back ends by itself, where it prints one `;` or one newline as its terminator and after that.
+#[tactic(auto, using(crate::proofs::EndedNodes::line_ends))]
+pub fn ended_line_ends()
+    ensures { (n : KdlNode) (f : KdlNodeFormat) → node_format_of n ≡ Some f
+        → EndsLine (text_of f.terminator ++ text_of f.trailing) → NodeReadsBack n → NodeEnds n }
+{}
+
+/// A node that is pushed to the list of nodes of a document, where the last node and the new one end by themselves: the
+/// document reads back, and says the new node after the others. Without nodes, the text before them ends by itself.
+#[tactic(auto, using(crate::proofs::PushedNodes::pushed_reads, crate::proofs::PushedNodes::pushed_says))]
+pub fn pushed_reads_back(document: &kdl::KdlDocument, node: &kdl::KdlNode)
+    ensures reads { DocumentReadsBack document.now → LastEnds document.now → NodeEnds node.now
+        → (v : Vec KdlNode Global) → v.items ≡ nodes_of document.now ++ (node.now ∷ [])
+        → DocumentReadsBack (with_nodes document.now v) }
+    ensures says { (v : Vec KdlNode Global) → v.items ≡ nodes_of document.now ++ (node.now ∷ [])
+        → document_says (with_nodes document.now v) ≡
+        said_with (length (nodes_of document.now)) (node_says node.now)
+        (document_says document.now) }
+{}
+
 /// The block of a node that reads back reads back as a block.
 #[tactic(auto, using(kdl::proofs::ReadingBack::block_reads_back))]
 pub fn block_reads_back()
     ensures { (n : KdlNode) (d : KdlDocument) → NodeReadsBack n
         → block_of n ≡ Some d → BlockReadsBack d }
+{}
+
+/// A document of which a node in a block is edited, so that the node reads back wherever it did: it reads back. The node
+/// is the first one of a name, in the block o of the first one of a name.
+#[tactic(auto, using(crate::proofs::NestedNodes::nested_reads))]
+pub fn nested_edit_reads_back()
+    ensures { (s t : List ℕ) (d b : KdlDocument) (o : Option KdlDocument) (n k m : KdlNode)
+        → Some n ≡ node_named s d → o ≡ block_of n → o ≡ Some b → Some k ≡ node_named t b
+        → ReadsAs k m → DocumentReadsBack d
+        → DocumentReadsBack (with_node_named s d (with_children n (Some (with_node_named t b m)))) }
 {}
 
 /// An entry with neither a format nor a spelling reads back in any node.
@@ -91,6 +125,17 @@ pub fn new_entries_are_unformed()
     ensures named { (q : Sought) (e : Entry) (s : Text) (v : Value)
         → q ≡ property (plain_identifier s) → e ≡ plain_entry None v → IsWellFormed v
         → IsUnformed (under q e) }
+{}
+
+/// An entry with neither a format nor a spelling has none with another key or another type that has no spelling, and
+/// without a key.
+#[tactic(auto, using(crate::proofs::NewEntries::named_unformed, crate::proofs::NewEntries::typed_unformed, crate::proofs::NewEntries::unnamed_unformed))]
+pub fn named_entries_are_unformed()
+    ensures named { (e f : Entry) (i : Identifier) → f ≡ record e { name = Some i }
+        → i.repr ≡ None → IsUnformed e → IsUnformed f }
+    ensures typed { (e f : Entry) (i : Identifier) → f ≡ record e { ty = Some i }
+        → i.repr ≡ None → IsUnformed e → IsUnformed f }
+    ensures unnamed { (e f : Entry) → f ≡ record e { name = None } → IsUnformed e → IsUnformed f }
 {}
 
 /// An entry that reads back does so with another value, where its format, if it has one, has the spelling that the value

@@ -1,10 +1,12 @@
 //! Nodes that are added and removed.
 
-ghost use Rattle.kdl.specs.Words.{DocumentReadsBack, NodeReadsBack, document_says, node_says, nodes_of, said_with, said_without};
-ghost use Rattle.std.specs.Prelude.{◌≡◌, IfOk, IfSome, length};
+ghost use Rattle.kdl.specs.Words.{DocumentReadsBack, IsDocument, NodeEnds, NodeReadsBack, Nodes, document_says, node_says, nodes_of, said_nodes, said_with, said_without};
+ghost use Rattle.kdl_laws.specs.ClientWords.{LastEnds};
+ghost use Rattle.std.specs.Prelude.{◌≡◌, IfOk, IfSome, IsTrue, chars, length, true};
 
-use kdl::{KdlDocument, KdlNode};
-use std::alloc::AllocError;
+use kdl::{KdlDocument, KdlNode, ParseFailure};
+use kdl_laws::reading_back::{ended_line_ends, nodes_read_back, pushed_reads_back};
+use std::alloc::{AllocError, Global};
 
 /// Removes the first node, where there is one: what is left reads back, and so does the node.
 pub fn remove_first(document: &mut KdlDocument) -> Option<KdlNode>
@@ -29,4 +31,39 @@ pub fn add(document: &mut KdlDocument, node: KdlNode) -> Result<(), AllocError>
         Ok(()) => Ok(()),
         Err((_, error)) => Err(error),
     }
+}
+
+/// Whether a node ends by itself, with `;` or a newline.
+fn ends(node: &KdlNode) -> bool
+    requires { NodeReadsBack node.now }
+    ensures { IsTrue result → NodeEnds node.now }
+{
+    ended_line_ends();
+    match node.format() {
+        Some(format) => {
+            format.trailing.is_empty()
+                && (format.terminator.as_str() == ";" || format.terminator.as_str() == "\n")
+        }
+        None => false,
+    }
+}
+
+/// Pushes a node to the list itself, where the last node of the text ends in `;` or a newline, and returns whether it
+/// does.
+pub fn push_to_list(alloc: Global, text: &str, node: KdlNode) -> Result<KdlDocument, ParseFailure>
+    requires { NodeEnds node }
+    ensures { IfOk result DocumentReadsBack }
+{
+    nodes_read_back();
+    let mut document = KdlDocument::parse(alloc, text)?;
+    pushed_reads_back(&document, &node);
+    let Some(last) = document.nodes().last() else {
+        return Ok(document);
+    };
+    if ends(last) {
+        let Ok(()) = document.nodes_mut().push(node) else {
+            return Err(ParseFailure::Memory);
+        };
+    }
+    Ok(document)
 }

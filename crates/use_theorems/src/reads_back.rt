@@ -5,7 +5,9 @@ ghost use Rattle.kdl.specs.Words.{IsDocument, Nodes, document_says, entry_tree, 
 ghost use Rattle.std.specs.Prelude.{◌≡◌, IfOk, true};
 
 use kdl::{KdlDocument, KdlEntry, KdlValue, NodeKey, ParseFailure};
-use kdl_laws::reading_back::{new_entries_are_unformed, printed_reads_back};
+use kdl_laws::reading_back::{
+    nested_edit_reads_back, new_entries_are_unformed, printed_reads_back,
+};
 use kdl_laws::values::values_are_well_formed;
 use std::alloc::{AllocError, Global};
 
@@ -106,6 +108,44 @@ pub fn push_in_block(
     Ok(())
 }
 
+/// Three edits of a node in the block of another: a property is removed, an argument pushed and the first one replaced.
+pub fn edit_in_block(
+    alloc: Global,
+    document: &mut KdlDocument,
+    outer: &str,
+    inner: &str,
+    property: &str,
+    one: KdlValue,
+    other: KdlValue,
+) -> Result<(), AllocError>
+    requires { DocumentReadsBack document.old }
+    ensures { DocumentReadsBack document.new }
+{
+    values_are_well_formed(&one);
+    values_are_well_formed(&other);
+    new_entries_are_unformed();
+    nested_edit_reads_back();
+    let key = NodeKey::from_text(alloc, property)?;
+    let Some(node) = document.get_mut(outer) else {
+        return Ok(());
+    };
+    let Some(block) = node.children_mut() else {
+        return Ok(());
+    };
+    let Some(child) = block.get_mut(inner) else {
+        return Ok(());
+    };
+    let Ok(_) = child.push(KdlEntry::new(one)) else {
+        return Err(AllocError);
+    };
+    let Some(entry) = child.entry_mut(NodeKey::Index(0)) else {
+        return Ok(());
+    };
+    *entry = KdlEntry::new(other);
+    child.remove(key);
+    Ok(())
+}
+
 /// Sets the value, and its spelling where the entry keeps one.
 fn respell(entry: &mut KdlEntry, value: KdlValue, spelling: String)
     requires { text_of spelling ≡ print_value (value_tree value) }
@@ -145,4 +185,20 @@ pub fn push_in_text(
     let mut document = KdlDocument::parse(alloc, text)?;
     push_argument(&mut document, name, value)?;
     Ok(printed(alloc, &document)?)
+}
+
+/// The properties of these names, of value true, in the first node of a name.
+pub fn set_each(
+    alloc: Global,
+    document: &mut KdlDocument,
+    node: &str,
+    names: &[&str],
+) -> Result<(), AllocError>
+    requires { DocumentReadsBack document.old }
+    ensures { DocumentReadsBack document.new }
+{
+    for name in names {
+        set_property(alloc, document, node, *name, KdlValue::from(true))?;
+    }
+    Ok(())
 }
