@@ -10,7 +10,6 @@ use Rattle.kdl_parts.specs.declared.format.KdlNodeFormat.{KdlNodeFormat}
 use Rattle.kdl.specs.DocumentLookups.{is_node_named, node_named, nodes_of}
 use Rattle.kdl.specs.Fields.{node_format_of}
 use Rattle.kdl.specs.ReadsBack.{DocumentReadsBack, NodeReadsBack}
-use Rattle.kdl.specs.Tree.{node_tree}
 use Rattle.kdl.specs.declared.node.KdlNode.{KdlNode}
 use Rattle.kdl.specs.declared.document.KdlDocument.{KdlDocument}
 use Rattle.kdl.proofs.ReadingBack.{nodes_read_back}

@@ -1,10 +1,9 @@
 -- The piece of an entry that an insertion replaces is the piece of the property that the document says.
-use Rattle.std.proofs.Common.{◌≡◌, ℕ, List, [], map, length, Option, Some, None, IsUtf8, chars, option_and_then, option_map, slice_get, string_bytes, refl, ap, ◌∙◌, sym, subst}
+use Rattle.std.proofs.Common.{◌≡◌, ℕ, List, [], map, Option, Some, None, IsUtf8, chars, option_and_then, option_map, slice_get, string_bytes, refl, ap, ◌∙◌, sym, subst}
 use Rattle.std.proofs.lemmas.Option.{get_or_from_slice_get, none-some, slice_get-map, slice_get_within}
 use Rattle.std.specs.List.{All}
-use Rattle.kdl_text.specs.Chars.{Text}
 use Rattle.kdl_entry.specs.Data.{Entry as EntryData}
-use Rattle.kdl_entry.specs.Tree.{Entry, entry_data, entry_tree}
+use Rattle.kdl_entry.specs.Tree.{entry_tree}
 use Rattle.kdl_entry.specs.declared.entry.KdlEntry.{KdlEntry}
 use Rattle.kdl_grammar.specs.Data.{Node as NodeData}
 use Rattle.kdl_grammar.specs.Print.{print_piece}

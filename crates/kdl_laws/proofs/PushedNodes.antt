@@ -1,14 +1,13 @@
 -- Nodes pushed to the list of a document, where what is before them ends by itself.
-use Rattle.std.proofs.Common.{◌≡◌, ℕ, zero, suc, ◌+◌, ◌-◌, Bool, true, false, List, [], ◌∷◌, ◌++◌, length, map, Option, Some, None, option_map, slice_get, Vec, Global, refl, ap, ◌∙◌, sym, subst, arith}
+use Rattle.std.proofs.Common.{◌≡◌, ℕ, suc, ◌-◌, true, List, [], ◌∷◌, ◌++◌, length, map, Option, Some, None, slice_get, Vec, Global, refl, ap, ◌∙◌, sym, subst, arith}
 use Rattle.std.proofs.lemmas.List.{append-nil, map-append}
-use Rattle.std.proofs.lemmas.Option.{slice_get-map}
 use Rattle.kdl_text.specs.Chars.{Text}
 use Rattle.kdl_text.specs.declared.span.SourceSpan.{SourceSpan}
 use Rattle.kdl_grammar.specs.Data as data'
 use Rattle.kdl_grammar.specs.Grammar.{Gap, no_gap}
 use Rattle.kdl_grammar.specs.Print.{leading_text, trailing_text}
 use Rattle.kdl_grammar.specs.ReadsBack.{Rests, Anything, TextEnd, AddsNothing, NodeReads, NodesRead, last_node, next_node, ContentReads, one_text, two_texts, with_nodes, last_rests, DocumentReads}
-use Rattle.kdl_grammar.specs.Tree.{DocumentFormat, Node, Nodes, document, document_data, listed_nodes, node_data, nodes_data}
+use Rattle.kdl_grammar.specs.Tree.{DocumentFormat, Node, document, document_data, listed_nodes, node_data, nodes_data}
 use Rattle.kdl_grammar.proofs.ReadingBack.Composing.{ends_before}
 use Rattle.kdl_fmt.specs.Kept.{without_bom}
 use Rattle.kdl_fmt.proofs.Keeping.GapFronts.{gap_without_bom}
@@ -41,7 +40,9 @@ content_pushed o l t [] put s e p (one_text g) =
     with_nodes (subst AddsNothing (s gap) e) (last_node (ends_before TextEnd p)) (λ r q. no_gap)
 content_pushed o l t [] put s e p (two_texts a g) = with_nodes a (last_node (ends_before (last_rests t TextEnd) p)) g
 content_pushed o l t (n ∷ ns) put s e p (with_nodes a x g) =
-    with_nodes a (nodes_pushed n ns put (λ y h. last_ends o (slice_get (n ∷ ns) (length ns)) y h e) (ends_before (last_rests t TextEnd) p) x) g
+    let at : suc (length ns) - 1 ≡ length ns = omega arith in
+    let here : EndsBefore o (slice_get (n ∷ ns) (length ns)) = subst (λ (k : ℕ). EndsBefore o (slice_get (n ∷ ns) k)) at e in
+    with_nodes a (nodes_pushed n ns put (λ y h. last_ends o (slice_get (n ∷ ns) (length ns)) y h here) (ends_before (last_rests t TextEnd) p) x) g
 
 -- U+FEFF begins no gap, and is not of the text behind it
 gap_alone : (t : Text) → Gap true t [] → without_bom t ≡ t

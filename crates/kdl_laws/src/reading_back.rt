@@ -76,7 +76,6 @@ pub fn ended_reads_back()
 {}
 
 /// A node that reads back ends by itself, where it prints one `;` or one newline as its terminator and after that.
-#[tactic(auto, using(crate::proofs::EndedNodes::line_ends))]
 pub fn ended_line_ends()
     ensures { (n : KdlNode) (f : KdlNodeFormat) → node_format_of n ≡ Some f
         → EndsLine (text_of f.terminator ++ text_of f.trailing) → NodeReadsBack n → NodeEnds n }
@@ -84,7 +83,6 @@ pub fn ended_line_ends()
 
 /// A node that is pushed to the list of nodes of a document, where the last node and the new one end by themselves: the
 /// document reads back, and says the new node after the others. Without nodes, the text before them ends by itself.
-#[tactic(auto, using(crate::proofs::PushedNodes::pushed_reads, crate::proofs::PushedNodes::pushed_says))]
 pub fn pushed_reads_back(document: &kdl::KdlDocument, node: &kdl::KdlNode)
     ensures reads { DocumentReadsBack document.now → LastEnds document.now → NodeEnds node.now
         → (v : Vec KdlNode Global) → v.items ≡ nodes_of document.now ++ (node.now ∷ [])
