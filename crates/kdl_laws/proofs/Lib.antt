@@ -34,5 +34,3 @@ pub mod OldPieces
 pub mod PushedNodes
 -- Nodes that end by themselves, since they end in `;` or a newline.
 pub mod EndedNodes
--- Edits of a node in the block of another.
-pub mod NestedNodes

@@ -1,6 +1,7 @@
 -- Nodes pushed to the list of a document, where what is before them ends by itself.
 use Rattle.std.proofs.Common.{◌≡◌, ℕ, suc, ◌-◌, true, List, [], ◌∷◌, ◌++◌, length, map, Option, Some, None, slice_get, Vec, Global, refl, ap, ◌∙◌, sym, subst, arith}
 use Rattle.std.proofs.lemmas.List.{append-nil, map-append}
+use Rattle.std.proofs.lemmas.Option.{get_or_from_slice_get, slice_get_within}
 use Rattle.kdl_text.specs.Chars.{Text}
 use Rattle.kdl_text.specs.declared.span.SourceSpan.{SourceSpan}
 use Rattle.kdl_grammar.specs.Data as data'
@@ -14,11 +15,12 @@ use Rattle.kdl_fmt.proofs.Keeping.GapFronts.{gap_without_bom}
 use Rattle.kdl.specs.Change as change
 use Rattle.kdl.specs.DocumentLookups.{nodes_of}
 use Rattle.kdl.specs.Nodes.{said_with, texts_around, trees}
-use Rattle.kdl.specs.ReadsBack.{DocumentReadsBack, NodeEnds}
+use Rattle.kdl.specs.ReadsBack.{DocumentReadsBack, NodeEnds, NodeReadsBack}
 use Rattle.kdl.specs.Tree.{document_says, document_tree, node_says, node_tree, nodes_tree}
 use Rattle.kdl.specs.declared.node.KdlNode.{KdlNode}
 use Rattle.kdl.specs.declared.document.KdlDocument.{KdlDocument}
 use Rattle.kdl.specs.declared.document.KdlDocument.TheViews.{out-KdlDocument}
+use Rattle.kdl.proofs.ReadingBack.{nodes_read_back}
 use Rattle.kdl.proofs.Trees.{document_tree_out, document_tree_roll}
 use Rattle.kdl_laws.specs.Pushed.{EndsBefore, LastEnds}
 use Rattle.kdl_laws.proofs.PlaceItems.{gap_items}
@@ -81,3 +83,11 @@ pushed_says d n v h =
     ap document_data (tree_pushed d n v h) ∙ said_last (trees d) (node_tree n)
     ∙ ap (λ (k : ℕ). said_with k (node_says n) (nodes_data (listed_nodes (trees d)))) (length_trees (nodes_of d))
     ∙ ap (λ (z : data'.Nodes). said_with (length (nodes_of d)) (node_says n) z) (sym (ap document_data (document_tree_out d)))
+
+-- the last node of a list is that of the document
+pub last_is_end : (d : KdlDocument) (ns : List KdlNode) (n : KdlNode) → ns ≡ nodes_of d → Some n ≡ slice_get ns (length ns - 1) → (NodeReadsBack n → NodeEnds n) → DocumentReadsBack d → LastEnds d
+last_is_end d ns n h s f x =
+    let i = length (nodes_of d) - 1 in
+    let own : slice_get (nodes_of d) i ≡ Some n = subst (λ (l : List KdlNode). slice_get l (length l - 1) ≡ Some n) h (sym s) in
+    let here : NodeReadsBack n = subst NodeReadsBack (get_or_from_slice_get (nodes_of d) i n n own) (nodes_read_back d x i n (slice_get_within (nodes_of d) i n own)) in
+    subst (EndsBefore (texts_around d)) (sym own) (f here)

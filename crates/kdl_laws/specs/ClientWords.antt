@@ -26,4 +26,4 @@ pub use Rattle.kdl_laws.specs.Errors.{Diagnostic, Failure, Refusal, diagnostic_t
 -- Pieces of a text: those of a diagnostic, and of an entry.
 pub use Rattle.kdl_laws.specs.Pieces.{IsPiece, IsPieceOf, said_entry_in}
 -- Documents to whose list of nodes a node can be pushed.
-pub use Rattle.kdl_laws.specs.Pushed.{EndsLine, LastEnds}
+pub use Rattle.kdl_laws.specs.Pushed.{LastEnds}

@@ -1,10 +1,10 @@
 //! What reads back: documents and nodes from the text that they print, entries in any node.
 
-ghost use Rattle.kdl.specs.Change.{with_children, with_nodes};
-ghost use Rattle.kdl.specs.DocumentLookups.{node_named, nodes_of, with_node_named};
+ghost use Rattle.kdl.specs.Change.{with_nodes};
+ghost use Rattle.kdl.specs.DocumentLookups.{node_named, nodes_of};
 ghost use Rattle.kdl.specs.Fields.{block_of, node_format_of};
 ghost use Rattle.kdl.specs.Nodes.{said_with};
-ghost use Rattle.kdl.specs.ReadsBack.{BlockReadsBack, DocumentReadsBack, EntryReadsBack, IsUnformed, NodeEnds, NodeReadsBack, ReadsAs, respelled};
+ghost use Rattle.kdl.specs.ReadsBack.{BlockReadsBack, DocumentReadsBack, EntryReadsBack, IsUnformed, NodeEnds, NodeReadsBack, respelled};
 ghost use Rattle.kdl.specs.Tree.{document_prints, document_says, node_prints, node_says};
 ghost use Rattle.kdl.specs.declared.document.KdlDocument.{KdlDocument};
 ghost use Rattle.kdl.specs.declared.node.KdlNode.{KdlNode};
@@ -15,13 +15,12 @@ ghost use Rattle.kdl_grammar.specs.Grammar.{IsDocument};
 ghost use Rattle.kdl_laws.specs.Pushed.{EndsLine, LastEnds};
 ghost use Rattle.kdl_parts.specs.Edits.{under};
 ghost use Rattle.kdl_parts.specs.EntryLists.{Sought, property};
-ghost use Rattle.kdl_parts.specs.declared.format.KdlNodeFormat.{KdlNodeFormat};
 ghost use Rattle.kdl_text.specs.Chars.{Text};
 ghost use Rattle.kdl_value.specs.Data.{Value};
 ghost use Rattle.kdl_value.specs.Tree.{text_of};
 ghost use Rattle.kdl_value.specs.WellFormed.{IsWellFormed};
 ghost use Rattle.std.specs.List.{All};
-ghost use Rattle.std.specs.Prelude.{◌≡◌, ◌++◌, [], ◌∷◌, IsSome, List, None, Option, Some, String, Vec, length, string_bytes, true, ℕ};
+ghost use Rattle.std.specs.Prelude.{◌≡◌, ◌++◌, [], ◌∷◌, IsSome, IsTrue, List, None, Some, String, Vec, chars, length, string_bytes, true, ℕ};
 ghost use Rattle.std.specs.Str.{encode_utf8_all};
 ghost use Rattle.std.specs.declared.alloc.Global.{Global};
 
@@ -75,11 +74,34 @@ pub fn ended_reads_back()
     ensures { (n : KdlNode) → NodeEnds n → NodeReadsBack n }
 {}
 
-/// A node that reads back ends by itself, where it prints one `;` or one newline as its terminator and after that.
-pub fn ended_line_ends()
-    ensures { (n : KdlNode) (f : KdlNodeFormat) → node_format_of n ≡ Some f
-        → EndsLine (text_of f.terminator ++ text_of f.trailing) → NodeReadsBack n → NodeEnds n }
-{}
+/// Whether the text is one `;` or one newline.
+fn is_line_end(text: &str) -> bool
+    ensures { IsTrue result → EndsLine (chars text.now) }
+{
+    text == ";" || text == "\n"
+}
+
+/// Whether the terminator of a node is one `;` or one newline, with no text after that. Then the node ends by itself,
+/// where it reads back.
+pub fn ends_line(node: &kdl::KdlNode) -> bool
+    ensures { IsTrue result → NodeReadsBack node.now → NodeEnds node.now }
+{
+    match node.format() {
+        Some(format) => format.trailing.as_str().is_empty() && is_line_end(&format.terminator),
+        None => false,
+    }
+}
+
+/// Whether a document has nodes, and the last one ends in `;` or a newline: it ends by itself, where the document reads
+/// back.
+pub fn last_ends(document: &kdl::KdlDocument) -> bool
+    ensures { IsTrue result → DocumentReadsBack document.now → LastEnds document.now }
+{
+    match document.nodes().last() {
+        Some(node) => ends_line(node),
+        None => false,
+    }
+}
 
 /// A node that is pushed to the list of nodes of a document, where the last node and the new one end by themselves: the
 /// document reads back, and says the new node after the others. Without nodes, the text before them ends by itself.
@@ -98,16 +120,6 @@ pub fn pushed_reads_back(document: &kdl::KdlDocument, node: &kdl::KdlNode)
 pub fn block_reads_back()
     ensures { (n : KdlNode) (d : KdlDocument) → NodeReadsBack n
         → block_of n ≡ Some d → BlockReadsBack d }
-{}
-
-/// A document of which a node in a block is edited, so that the node reads back wherever it did: it reads back. The node
-/// is the first one of a name, in the block o of the first one of a name.
-#[tactic(auto, using(crate::proofs::NestedNodes::nested_reads))]
-pub fn nested_edit_reads_back()
-    ensures { (s t : List ℕ) (d b : KdlDocument) (o : Option KdlDocument) (n k m : KdlNode)
-        → Some n ≡ node_named s d → o ≡ block_of n → o ≡ Some b → Some k ≡ node_named t b
-        → ReadsAs k m → DocumentReadsBack d
-        → DocumentReadsBack (with_node_named s d (with_children n (Some (with_node_named t b m)))) }
 {}
 
 /// An entry with neither a format nor a spelling reads back in any node.

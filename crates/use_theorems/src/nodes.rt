@@ -1,11 +1,10 @@
 //! Nodes that are added and removed.
 
-ghost use Rattle.kdl.specs.Words.{DocumentReadsBack, IsDocument, NodeEnds, NodeReadsBack, Nodes, document_says, node_says, nodes_of, said_nodes, said_with, said_without};
-ghost use Rattle.kdl_laws.specs.ClientWords.{LastEnds};
-ghost use Rattle.std.specs.Prelude.{◌≡◌, IfOk, IfSome, IsTrue, chars, length, true};
+ghost use Rattle.kdl.specs.Words.{DocumentReadsBack, NodeEnds, NodeReadsBack, document_says, node_says, nodes_of, said_with, said_without};
+ghost use Rattle.std.specs.Prelude.{◌≡◌, IfOk, IfSome, length};
 
 use kdl::{KdlDocument, KdlNode, ParseFailure};
-use kdl_laws::reading_back::{ended_line_ends, nodes_read_back, pushed_reads_back};
+use kdl_laws::reading_back::{last_ends, pushed_reads_back};
 use std::alloc::{AllocError, Global};
 
 /// Removes the first node, where there is one: what is left reads back, and so does the node.
@@ -33,34 +32,14 @@ pub fn add(document: &mut KdlDocument, node: KdlNode) -> Result<(), AllocError>
     }
 }
 
-/// Whether a node ends by itself, with `;` or a newline.
-fn ends(node: &KdlNode) -> bool
-    requires { NodeReadsBack node.now }
-    ensures { IsTrue result → NodeEnds node.now }
-{
-    ended_line_ends();
-    match node.format() {
-        Some(format) => {
-            format.trailing.is_empty()
-                && (format.terminator.as_str() == ";" || format.terminator.as_str() == "\n")
-        }
-        None => false,
-    }
-}
-
-/// Pushes a node to the list itself, where the last node of the text ends in `;` or a newline, and returns whether it
-/// does.
+/// Pushes a node to the list of nodes of a document that was read, where the last one ends in `;` or a newline.
 pub fn push_to_list(alloc: Global, text: &str, node: KdlNode) -> Result<KdlDocument, ParseFailure>
     requires { NodeEnds node }
     ensures { IfOk result DocumentReadsBack }
 {
-    nodes_read_back();
     let mut document = KdlDocument::parse(alloc, text)?;
-    pushed_reads_back(&document, &node);
-    let Some(last) = document.nodes().last() else {
-        return Ok(document);
-    };
-    if ends(last) {
+    if last_ends(&document) {
+        pushed_reads_back(&document, &node);
         let Ok(()) = document.nodes_mut().push(node) else {
             return Err(ParseFailure::Memory);
         };
