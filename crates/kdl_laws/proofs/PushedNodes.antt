@@ -16,6 +16,7 @@ use Rattle.kdl.specs.Change as change
 use Rattle.kdl.specs.DocumentLookups.{nodes_of}
 use Rattle.kdl.specs.Nodes.{said_with, texts_around, trees}
 use Rattle.kdl.specs.ReadsBack.{DocumentReadsBack, NodeEnds, NodeReadsBack}
+use Rattle.kdl.specs.Said.{said_nodes}
 use Rattle.kdl.specs.Tree.{document_says, document_tree, node_says, node_tree, nodes_tree}
 use Rattle.kdl.specs.declared.node.KdlNode.{KdlNode}
 use Rattle.kdl.specs.declared.document.KdlDocument.{KdlDocument}
@@ -91,3 +92,16 @@ last_is_end d ns n h s f x =
     let own : slice_get (nodes_of d) i ≡ Some n = subst (λ (l : List KdlNode). slice_get l (length l - 1) ≡ Some n) h (sym s) in
     let here : NodeReadsBack n = subst NodeReadsBack (get_or_from_slice_get (nodes_of d) i n n own) (nodes_read_back d x i n (slice_get_within (nodes_of d) i n own)) in
     subst (EndsBefore (texts_around d)) (sym own) (f here)
+
+-- as a list, what a document says
+abbrev lasts : List KdlNode → data'.Node → List data'.Node
+lasts ns x = said_nodes (said_with (length ns) x (nodes_data (nodes_tree ns)))
+
+said_behind : (ns : List KdlNode) (x : data'.Node) → lasts ns x ≡ said_nodes (nodes_data (nodes_tree ns)) ++ (x ∷ [])
+said_behind [] x = refl
+said_behind (n ∷ ns) x = ap (λ (l : List data'.Node). node_says n ∷ l) (said_behind ns x)
+
+pub put_last : (d e : KdlDocument) (x : data'.Node) → document_says e ≡ said_with (length (nodes_of d)) x (document_says d) → said_nodes (document_says e) ≡ said_nodes (document_says d) ++ (x ∷ [])
+put_last d e x h =
+    let own : document_says d ≡ nodes_data (nodes_tree (nodes_of d)) = ap document_data (document_tree_out d) in
+    ap said_nodes (h ∙ ap (said_with (length (nodes_of d)) x) own) ∙ said_behind (nodes_of d) x ∙ ap (λ (z : data'.Nodes). said_nodes z ++ (x ∷ [])) (sym own)
