@@ -6,3 +6,5 @@ pub mod Puts
 pub mod PutReads
 -- Documents and blocks that read back, with a node put in.
 pub mod DocumentReads
+-- Nodes that read back, with a child put into their block, or into a new one.
+pub mod ChildReads

@@ -46,3 +46,36 @@ pub fn push_to_list(alloc: Global, text: &str, node: KdlNode) -> Result<KdlDocum
     }
     Ok(document)
 }
+
+/// Adds a child to the first node of a name: the document reads back, whether the call succeeds or not.
+pub fn add_child(
+    document: &mut KdlDocument,
+    name: &str,
+    child: KdlNode,
+) -> Result<(), AllocError>
+    requires document { DocumentReadsBack document.old }
+    requires child { NodeReadsBack child }
+    ensures { DocumentReadsBack document.new }
+{
+    let Some(node) = document.get_mut(name) else {
+        return Ok(());
+    };
+    match node.push_child(child) {
+        Ok(()) => Ok(()),
+        Err((_, error)) => Err(error),
+    }
+}
+
+/// The document of a text, with the node of another text as a child of its first node of a name: it reads back.
+pub fn with_child(
+    alloc: Global,
+    text: &str,
+    name: &str,
+    child: &str,
+) -> Result<KdlDocument, ParseFailure>
+    ensures { IfOk result DocumentReadsBack }
+{
+    let mut document = KdlDocument::parse(alloc, text)?;
+    add_child(&mut document, name, KdlNode::parse(alloc, child)?)?;
+    Ok(document)
+}

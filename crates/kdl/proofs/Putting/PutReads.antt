@@ -18,7 +18,7 @@ use Rattle.kdl_grammar.proofs.Moving.Moves.{move_after, move_before, terminator_
 use Rattle.kdl_grammar.proofs.ReadingBack.Composing.{ends_before, node_before, nodes_append, nodes_drop, nodes_take, each_reads}
 use Rattle.kdl_items.specs.Items.{Place, before_block, behind_block}
 use Rattle.kdl_items.specs.Lacks.{GapLacks, PlaceLacks, TerminatorLacks, Terminating}
-use Rattle.kdl_items.proofs.Lacking.Alone.{after_before_close, before_before_close, gap_before_close, terminator_before_close}
+use Rattle.kdl_items.proofs.Lacking.Alone.{after_before_close, before_alone, gap_before_close, terminator_before_close}
 use Rattle.kdl_items.proofs.Rewriting.BeforeNewlines.{a_newline}
 use Rattle.kdl.specs.DocumentLookups.{nodes_of}
 use Rattle.kdl.specs.Internal.Ends.{EndSays, EndsAs, EndsReadAs, GapSays, IsEnded, PlaceSays, block_if, end_newlines, end_with, newline_count, with_newlines}
@@ -109,14 +109,14 @@ gap_of : {v : Text} → AreNodes true v [] data'.none → Gap true v []
 gap_of (last_gap g) = g
 
 -- the end of the text, or a `}`, is among the rests
-may_end : (P : Rests) → MayFollow P [] ⊎ MayFollow P (125 ∷ [])
+pub may_end : (P : Rests) → MayFollow P [] ⊎ MayFollow P (125 ∷ [])
 may_end Anything = inl tt
 may_end TextEnd = inl refl
 may_end (BlockEnd None) = inr (0, [], refl)
 may_end (BlockEnd (Some f)) = inr ([], refl)
 
 before_close : (k : Children) (t u : Text) → BeforeTerminator k (t ++ (125 ∷ u)) (125 ∷ u) → BeforeTerminator k t []
-before_close no_children t u c = before_before_close t u c
+before_close no_children t u c = before_alone t (125 ∷ u) c
 before_close (children d) t u c = after_before_close t u c
 
 -- without a terminator, the place before the end of the text

@@ -4,6 +4,7 @@ use Rattle.std.specs.Prelude.{◌≡◌, ◌⊎◌, ℕ, suc, Bool, true, false,
 use Rattle.kdl_text.specs.Chars.{Text}
 use Rattle.kdl_fmt.specs.Kept.{without_bom}
 use Rattle.kdl_grammar.specs.Grammar.{Terminator, Gap}
+use Rattle.kdl_grammar.specs.Places.{BeforeChildren}
 use Rattle.kdl_grammar.specs.Print.{leading_text, trailing_text}
 use Rattle.kdl_grammar.specs.ReadsBack.{Rests, Anything, TextEnd, BlockEnd, Terminates, AddsNothing, BeforeTerminator, EndReads, NodeReads}
 use Rattle.kdl_grammar.specs.Tree.{DocumentFormat, NodeFormat, Children, no_children, children}
@@ -108,6 +109,10 @@ pub record PutFirst (n : KdlNode) (d e : KdlDocument) : Type 0 where
 abbrev pub BeforeNewBlock : Option NodeFormat → Option Text → Type 0
 BeforeNewBlock o None = Unit {0}
 BeforeNewBlock o (Some t) = (f : NodeFormat) × (o ≡ Some f) × (t ≡ f.before_terminator ++ newlines 1)
+
+-- with that text, or else as it is, what is before the terminator of the format is before a block, where it may be there alone
+abbrev pub BlockSays : Option NodeFormat → Option Text → Type 0
+BlockSays o t = (f : NodeFormat) → o ≡ Some f → BeforeChildren f.before_terminator [] → (s : Text) → BeforeChildren (unwrap_or t f.before_terminator ++ (123 ∷ s)) (123 ∷ s)
 
 -- what is before the terminator of f, or else t, put before the block
 abbrev pub block_format : Option Text → NodeFormat → NodeFormat

@@ -1,8 +1,9 @@
 //! Children put into the block of a node.
 
-ghost use Rattle.kdl.specs.Internal.Ends.{BeforeNewBlock, BlockBegins, EndsAs, IsEnded, end_with};
+ghost use Rattle.kdl.specs.Internal.Ends.{BeforeNewBlock, BlockBegins, BlockSays, EndsAs, IsEnded, end_with};
 ghost use Rattle.kdl.specs.Iterators.{child_nodes};
 ghost use Rattle.kdl.specs.Nodes.{ChildPut, format_or_printed};
+ghost use Rattle.kdl.specs.ReadsBack.{NodeReadsBack, ReadsAs};
 ghost use Rattle.kdl.specs.Tree.{head_tree, node_tree};
 ghost use Rattle.kdl.specs.declared.node.KdlNode.{out-KdlNode};
 ghost use Rattle.kdl_parts.specs.Formats.{node_texts};
@@ -27,6 +28,8 @@ impl KdlNode {
     ///
     /// What is before the node's terminator goes before a new block, and an open escline there gets its newline.
     ///
+    /// Where the child reads back, the node reads back before each text before which it did.
+    ///
     /// Fails where memory runs out: then the child comes back, and the node is as it was.
     ///
     /// ```
@@ -36,6 +39,8 @@ impl KdlNode {
     pub fn push_child(&mut self, node: KdlNode) -> Result<(), (KdlNode, AllocError)>
         ensures nodes { OnOk result
             (ChildPut (length (child_nodes self.old)) node self.old self.new) }
+        // With a child that reads back, it reads back wherever it did.
+        ensures reads { NodeReadsBack node → ReadsAs self.old self.new }
         ensures back { IfErr result (λ e. e.0 ≡ node) }
         ensures refused { OnErr result (node_tree self.new ≡ node_tree self.old) }
     {
@@ -60,6 +65,8 @@ impl KdlNode {
     pub fn insert_child(&mut self, index: usize, node: KdlNode) -> Result<(), (KdlNode, AllocError)>
         requires { index ≤ length (child_nodes self.old) }
         ensures nodes { OnOk result (ChildPut index node self.old self.new) }
+        // With a child that reads back, it reads back wherever it did.
+        ensures reads { NodeReadsBack node → ReadsAs self.old self.new }
         ensures back { IfErr result (λ e. e.0 ≡ node) }
         ensures refused { OnErr result (node_tree self.new ≡ node_tree self.old) }
     {
@@ -73,6 +80,8 @@ impl KdlNode {
     fn put_in_new_block(&mut self, node: KdlNode) -> Result<(), (KdlNode, AllocError)>
         requires { (out-KdlNode self.old).children ≡ None }
         ensures nodes { OnOk result (ChildPut 0 node self.old self.new) }
+        // With a child that reads back, it reads back wherever it did.
+        ensures reads { NodeReadsBack node → ReadsAs self.old self.new }
         ensures back { IfErr result (λ e. e.0 ≡ node) }
         ensures refused { OnErr result (self.new ≡ self.old) }
     {
@@ -89,7 +98,9 @@ impl KdlNode {
 
     /// What is to be before a new block, where that is not the text before the terminator.
     fn before_new_block(&self) -> Result<Option<String>, AllocError>
-        ensures { IfOk result (λ o. BeforeNewBlock
+        ensures text { IfOk result (λ o. BeforeNewBlock
+            (node_texts (out-KdlNode self.now).format) (option_map text_of o)) }
+        ensures says { IfOk result (λ o. BlockSays
             (node_texts (out-KdlNode self.now).format) (option_map text_of o)) }
     {
         let Some(format) = &self.format else {

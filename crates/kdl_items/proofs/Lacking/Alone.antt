@@ -4,7 +4,7 @@ use Rattle.kdl_text.specs.Chars.{Text, begins, Newline, crlf, one, Star, none, m
 use Rattle.kdl_text.specs.Internal.Here.{first}
 use Rattle.kdl_text.specs.Trivia.{Line, LineComment, line as a_line, EscEnd, escline, NodeSpace, Break, LineSpace, Slashdash, ValueEnd}
 use Rattle.kdl_entry.specs.Places.{DroppedEntry, dropped as dropped_e}
-use Rattle.kdl_entry.proofs.Moving.EntryMoves.{move_spaces, move_slashdash, move_entry, spaces_end}
+use Rattle.kdl_entry.proofs.Moving.EntryMoves.{move_spaces, move_slashdash, move_entry, punctuation_end, spaces_end}
 use Rattle.kdl_entry.proofs.Moving.Puts.{Put, stands, also, joined, same, same_piece}
 use Rattle.kdl_grammar.specs.Data as data'
 use Rattle.kdl_grammar.specs.Grammar.{Terminator, IsNode, Gap, no_gap, line_space, dropped_node, AreNodes, last_gap}
@@ -14,17 +14,26 @@ use Rattle.kdl_items.specs.Lacks.{Terminating}
 use Rattle.kdl_items.proofs.Dropping.Paths.{at_end, at_brace, halts}
 use Rattle.kdl_items.proofs.Rewriting.BeforeNewlines.{closed_ws, closed_run, closed_braces, cut_node}
 
--- it is before each rest that begins with LF, or does not, as the rest does
+-- where u begins with LF, r does
+abbrev LfAs : Text → Text → Type 0
+LfAs u r = begins 10 r ≡ false → begins 10 u ≡ false
+
+-- it is before each rest that begins with LF only where the rest does
 pub record MoveLf (R : Text → Text → Type 0) (s r : Text) : Type 0 where
   pub at : Put s r
-  pub there : (u : Text) → begins 10 u ≡ begins 10 r → R (at.put u) u
+  pub there : (u : Text) → LfAs u r → R (at.put u) u
 
-lf_piece : (p s t : Text) → begins 10 s ≡ begins 10 t → begins 10 (p ++ s) ≡ begins 10 (p ++ t)
+lf_piece : (p s t : Text) → LfAs s t → LfAs (p ++ s) (p ++ t)
 lf_piece [] s t e = e
-lf_piece (c ∷ p) s t e = refl
+lf_piece (c ∷ p) s t e = λ h. h
 
-same_lf : {s r : Text} (p : Put s r) (u : Text) → begins 10 u ≡ begins 10 r → begins 10 (p.put u) ≡ begins 10 s
-same_lf {r = r} p u e = ap (begins 10) (p.text u) ∙ lf_piece p.piece u r e ∙ ap (begins 10) (sym (p.text r)) ∙ ap (begins 10) (sym p.here)
+same_lf : {s r : Text} (p : Put s r) (u : Text) → LfAs u r → LfAs (p.put u) s
+same_lf {r = r} p u e = λ h. ap (begins 10) (p.text u) ∙ lf_piece p.piece u r e (sym (ap (begins 10) (p.here ∙ p.text r)) ∙ h)
+
+-- a newline before one rest is one before the other
+lf_one : (b x y : Bool) → (x ≡ false → y ≡ false) → (b && x) ≡ false → (b && y) ≡ false
+lf_one true x y e h = e h
+lf_one false x y e h = refl
 
 some_text : {s r : Text} → Put s r → (r ≡ [] → ⊥) → s ≡ [] → ⊥
 some_text {r = r} p f e = go p.piece (sym (p.here ∙ p.text r) ∙ e)
@@ -35,7 +44,7 @@ some_text {r = r} p f e = go p.piece (sym (p.here ∙ p.text r) ∙ e)
 
 lf_newline : {s r : Text} → Newline s r → MoveLf Newline s r
 lf_newline crlf = record { at = also 13 (also 10 stands); there = λ u e. crlf }
-lf_newline (one {c = c} x y) = record { at = also c stands; there = λ u e. one x (ap (λ (b : Bool). (c == 13) && b) e ∙ y) }
+lf_newline (one {c = c} {r = r} x y) = record { at = also c stands; there = λ u e. one x (lf_one (c == 13) (begins 10 r) (begins 10 u) e y) }
 
 lf_line : {s r : Text} → Line s r → (r ≡ [] → ⊥) → MoveLf Line s r
 lf_line Line.ends f = absurd (f refl)
@@ -71,11 +80,11 @@ lf_spaces (more n ns) f =
 record HasTerminator (u v : Text) : Type 0 where
   at : Put u v
   full : (w : Text) → first (at.put w) ≡ first u
-  there : (w : Text) → begins 10 w ≡ begins 10 v → Terminator (at.put w) w
+  there : (w : Text) → LfAs w v → Terminator (at.put w) w
 
 newline_terminator : {u v : Text} → Newline u v → HasTerminator u v
 newline_terminator crlf = record { at = also 13 (also 10 stands); full = λ w. refl; there = λ w e. Terminator.newline crlf }
-newline_terminator (one {c = c} x y) = record { at = also c stands; full = λ w. refl; there = λ w e. Terminator.newline (one x (ap (λ (b : Bool). (c == 13) && b) e ∙ y)) }
+newline_terminator (one {c = c} {r = r} x y) = record { at = also c stands; full = λ w. refl; there = λ w e. Terminator.newline (one x (lf_one (c == 13) (begins 10 r) (begins 10 w) e y)) }
 
 comment_terminator : {u v : Text} → LineComment u v → (v ≡ [] → ⊥) → HasTerminator u v
 comment_terminator (a_line l) f = let m = lf_line l f in record { at = also 47 (also 47 m.at); full = λ w. refl; there = λ w e. Terminator.comment (a_line (m.there w e)) }
@@ -90,9 +99,6 @@ data Brace : Text → Type 0 where
 brace_some : {r : Text} → Brace r → r ≡ [] → ⊥
 brace_some brace e = cc
 
-brace_lf : {r : Text} → Brace r → false ≡ begins 10 r
-brace_lf brace = refl
-
 no_brace : Brace [] → ⊥
 no_brace b = elim b [ ]
 
@@ -106,7 +112,7 @@ dropped_alone m x e b g =
     let o = move_slashdash m in let c = cut_node x in let k = move_spaces c.spaces in
     let w = g.at.put [] in
     let z = e.at.put w in
-    let tm = e.there w (same_lf g.at [] (brace_lf b)) in
+    let tm = e.there w (same_lf g.at [] (λ h. refl)) in
     let ss = k.there z (e.full w) in
     record {
       at = joined o.at (joined c.at (joined k.at (joined e.at g.at)));
@@ -118,7 +124,7 @@ last_alone : {s t r : Text} {x : data'.Node} → Slashdash s t → IsNode true t
 last_alone m x b =
     let o = move_slashdash m in let c = cut_node x in let k = lf_spaces c.spaces (brace_some b) in
     let z = k.at.put [] in
-    let ss = k.there [] (brace_lf b) in
+    let ss = k.there [] (λ h. refl) in
     record {
       at = joined o.at (joined c.at k.at);
       alone = dropped_node (o.there (c.at.put z) (c.full z)) (c.there z [] (spaces_end ss ValueEnd.nothing) ss) Terminator.at_end no_gap;
@@ -128,7 +134,7 @@ gap_alone : {s r : Text} → Gap true s r → Brace r → GapAlone s r
 gap_alone no_gap b = record { at = stands; alone = no_gap }
 gap_alone (line_space n g) b =
     let k = gap_alone g b in let m = lf_line_space n (some_text k.at (brace_some b)) in
-    record { at = joined m.at k.at; alone = line_space (m.there (k.at.put []) (same_lf k.at [] (brace_lf b))) k.alone }
+    record { at = joined m.at k.at; alone = line_space (m.there (k.at.put []) (same_lf k.at [] (λ h. refl))) k.alone }
 gap_alone (dropped_node {v = v} m x Terminator.semicolon g) b = dropped_alone m x (semicolon_terminator v) b (gap_alone g b)
 gap_alone (dropped_node m x (Terminator.newline n) g) b = dropped_alone m x (newline_terminator n) b (gap_alone g b)
 gap_alone (dropped_node m x (Terminator.comment l) g) b = let k = gap_alone g b in dropped_alone m x (comment_terminator l (some_text k.at (brace_some b))) b k
@@ -157,29 +163,39 @@ lf_blocks (more (dropped us m b) ds) ss f =
           one_block (dropped (a.there (o.at.put (c.at.put (k.at.put u))) (same o.at (c.at.put (k.at.put u)) g)) (o.there (c.at.put (k.at.put u)) g) (c.there (k.at.put u))) (k.there u e);
     }
 
-record EntriesAlone (s r : Text) : Type 0 where
+-- it may be before the rest u
+record EntriesAt (u s r : Text) : Type 0 where
   at : Put s r
-  alone : BeforeChildren (at.put []) []
+  there : BeforeChildren (at.put u) u
 
 one_entry : {s t r : Text} → DroppedEntry s t → BeforeChildren t r → BeforeChildren s r
 one_entry d (before ds a) = before (more d ds) a
 
-entries_alone : {s t r : Text} → Star DroppedEntry s t → AfterChildren t r → Brace r → EntriesAlone s r
-entries_alone none (after ds ss) b = let m = lf_blocks ds ss (brace_some b) in record { at = m.at; alone = before none (m.there [] (brace_lf b)) }
-entries_alone (more (dropped_e ss m i) ds) x b =
-    let a = move_spaces ss in let o = move_slashdash m in let c = move_entry i in let k = entries_alone ds x b in
-    let z = k.at.put [] in
+entries_at : (u : Text) {s t r : Text} → ValueEnd true u → LfAs u r → (r ≡ [] → ⊥) → Star DroppedEntry s t → AfterChildren t r → EntriesAt u s r
+entries_at u v e f none (after ds ss) = let m = lf_blocks ds ss f in record { at = m.at; there = before none (m.there u e) }
+entries_at u v e f (more (dropped_e ss m i) ds) x =
+    let a = move_spaces ss in let o = move_slashdash m in let c = move_entry i in let k = entries_at u v e f ds x in
+    let z = k.at.put u in
     let g = c.full z in
     record {
       at = joined a.at (joined o.at (joined c.at k.at));
-      alone = one_entry (dropped_e (a.there (o.at.put (c.at.put z)) (same o.at (c.at.put z) g)) (o.there (c.at.put z) g) (c.there z (before_end k.alone ValueEnd.nothing))) k.alone;
+      there = one_entry (dropped_e (a.there (o.at.put (c.at.put z)) (same o.at (c.at.put z) g)) (o.there (c.at.put z) g) (c.there z (before_end k.there v))) k.there;
     }
 
-pub after_before_close : (t u : Text) → AfterChildren (t ++ (125 ∷ u)) (125 ∷ u) → AfterChildren t []
-after_before_close t u (after ds ss) = let m = lf_blocks ds ss (λ e. cc) in subst (λ (y : Text). AfterChildren y []) (put_front t (125 ∷ u) m.at) (m.there [] refl)
+-- what is before some text is before each value end, which begins with LF only where the text does
+before_moves : (t r u : Text) → (r ≡ [] → ⊥) → LfAs u r → ValueEnd true u → BeforeChildren (t ++ r) r → BeforeChildren (t ++ u) u
+before_moves t r u f e v (before ds a) = let k = entries_at u v e f ds a in subst (λ (y : Text). BeforeChildren y u) (same_piece t k.at refl u) k.there
 
-pub before_before_close : (t u : Text) → BeforeChildren (t ++ (125 ∷ u)) (125 ∷ u) → BeforeChildren t []
-before_before_close t u (before ds a) = let k = entries_alone ds a brace in subst (λ (y : Text). BeforeChildren y []) (put_front t (125 ∷ u) k.at) k.alone
+pub before_alone : (t r : Text) → BeforeChildren (t ++ r) r → BeforeChildren t []
+before_alone t [] x = subst (λ (y : Text). BeforeChildren y []) (append-nil t) x
+before_alone t (c ∷ r) x = subst (λ (y : Text). BeforeChildren y []) (append-nil t) (before_moves t (c ∷ r) [] (λ e. cc) (λ h. refl) ValueEnd.nothing x)
+
+-- what is before a `}` is before a block
+pub before_brace : (t s : Text) → BeforeChildren (t ++ (125 ∷ [])) (125 ∷ []) → BeforeChildren (t ++ (123 ∷ s)) (123 ∷ s)
+before_brace t s x = before_moves t (125 ∷ []) (123 ∷ s) (λ e. cc) (λ h. refl) (punctuation_end 123 refl) x
+
+pub after_before_close : (t u : Text) → AfterChildren (t ++ (125 ∷ u)) (125 ∷ u) → AfterChildren t []
+after_before_close t u (after ds ss) = let m = lf_blocks ds ss (λ e. cc) in subst (λ (y : Text). AfterChildren y []) (put_front t (125 ∷ u) m.at) (m.there [] (λ h. refl))
 
 -- a terminator with a gap after it
 record EndAlone (s r : Text) : Type 0 where
@@ -189,7 +205,7 @@ record EndAlone (s r : Text) : Type 0 where
 end_alone : {s v r : Text} → HasTerminator s v → Gap true v r → Brace r → EndAlone s r
 end_alone e g b =
     let k = gap_alone g b in let w = k.at.put [] in
-    record { at = joined e.at k.at; alone = (w, e.there w (same_lf k.at [] (brace_lf b)), k.alone) }
+    record { at = joined e.at k.at; alone = (w, e.there w (same_lf k.at [] (λ h. refl)), k.alone) }
 
 terminator_alone : {s v r : Text} → Terminator s v → Gap true v r → Brace r → (s ≡ r → ⊥) → EndAlone s r
 terminator_alone {v = v} Terminator.semicolon g b f = end_alone (semicolon_terminator v) g b

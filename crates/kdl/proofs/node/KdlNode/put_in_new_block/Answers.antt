@@ -1,9 +1,15 @@
-use Rattle.std.proofs.Common.{Some, None, option_map, refl}
+use Rattle.std.proofs.Common.{option_map, refl}
 use Rattle.kdl_value.specs.Tree.{text_of}
+use Rattle.kdl.proofs.Putting.ChildReads.{new_child_reads}
 use Rattle.kdl.proofs.Putting.NodeEnds.{new_block}
 use Rattle.kdl.proofs.node.KdlNode.put_in_new_block.Goals as goal
 
 pub returns-clause-nodes : goal.returns-clause-nodes
 returns-clause-nodes c =
     new_block 0 c.args.node c.args.self.now _ c.begin_block.new.self c.new-block.result c.put.new.self (option_map text_of c.in-Ok.before) c.requires c.new-block.ensures.made c.in_ok-put.ensures.nodes
-    c.in-Ok.ensures c.begin_block.ensures refl
+    c.in-Ok.ensures.text c.begin_block.ensures refl
+
+pub returns-clause-reads : goal.returns-clause-reads
+returns-clause-reads c =
+    new_child_reads c.args.node c.args.self.now _ c.begin_block.new.self c.new-block.result c.put.new.self (option_map text_of c.in-Ok.before) c.requires c.new-block.ensures.made c.in_ok-put.ensures.reads c.in-Ok.ensures.says
+    c.begin_block.ensures refl
