@@ -28,3 +28,9 @@ pub mod PrintedOnce
 pub mod SetInData
 -- The nodes of a document that reads back have formats.
 pub mod NodesHaveFormats
+-- The piece of an entry that an insertion replaces is the piece of the property that the document says.
+pub mod OldPieces
+-- Nodes pushed to the list of a document, where what is before them ends by itself.
+pub mod PushedNodes
+-- Nodes that end by themselves, since they end in `;` or a newline.
+pub mod EndedNodes

@@ -1,9 +1,9 @@
 -- New entries have neither a format nor a spelling.
-use Rattle.std.proofs.Common.{◌≡◌, None, refl, sym, subst}
+use Rattle.std.proofs.Common.{◌≡◌, ◌∙◌, Option, Some, None, ap, option_map, refl, sym, subst}
 use Rattle.kdl_text.specs.Chars.{Text}
 use Rattle.kdl_value.specs.Data.{Value}
 use Rattle.kdl_value.specs.WellFormed.{IsWellFormed}
-use Rattle.kdl_entry.specs.Tree.{Entry, plain_entry, plain_identifier}
+use Rattle.kdl_entry.specs.Tree.{Entry, Identifier, cleared, plain_entry, plain_identifier, unspelled}
 use Rattle.kdl_parts.specs.Edits.{under}
 use Rattle.kdl_parts.specs.EntryLists.{Sought, property}
 use Rattle.kdl.specs.ReadsBack.{IsUnformed}
@@ -15,3 +15,28 @@ plain_unformed e v h ok = subst IsUnformed (sym h) (record { plain = refl; value
 pub plain_under : (q : Sought) (e : Entry) (s : Text) (v : Value) → q ≡ property (plain_identifier s) → e ≡ plain_entry None v → IsWellFormed v → IsUnformed (under q e)
 plain_under q e s v a h ok =
     subst (λ (q : Sought). IsUnformed (under q e)) (sym a) (subst (λ (e : Entry). IsUnformed (under (property (plain_identifier s)) e)) (sym h) (record { plain = refl; value = ok }))
+
+-- with another key, or another type, without a spelling
+unspelled_own : (i : Identifier) → i.repr ≡ None → unspelled i ≡ i
+unspelled_own i h = ap (λ (r : Option Text). record i { repr = r }) (sym h)
+
+renamed : (e : Entry) (o : Option Identifier) → option_map unspelled o ≡ o → IsUnformed e → IsUnformed (record e { name = o })
+renamed e o h u = record {
+  plain = ap (λ (n : Option Identifier). record (cleared e) { name = n }) h ∙ ap (λ (y : Entry). record y { name = o }) u.plain;
+  value = u.value;
+}
+
+retyped : (e : Entry) (o : Option Identifier) → option_map unspelled o ≡ o → IsUnformed e → IsUnformed (record e { ty = o })
+retyped e o h u = record {
+  plain = ap (λ (n : Option Identifier). record (cleared e) { ty = n }) h ∙ ap (λ (y : Entry). record y { ty = o }) u.plain;
+  value = u.value;
+}
+
+pub named_unformed : (e f : Entry) (i : Identifier) → f ≡ record e { name = Some i } → i.repr ≡ None → IsUnformed e → IsUnformed f
+named_unformed e f i h r u = subst IsUnformed (sym h) (renamed e (Some i) (ap (λ (j : Identifier). Some j) (unspelled_own i r)) u)
+
+pub unnamed_unformed : (e f : Entry) → f ≡ record e { name = None } → IsUnformed e → IsUnformed f
+unnamed_unformed e f h u = subst IsUnformed (sym h) (renamed e None refl u)
+
+pub typed_unformed : (e f : Entry) (i : Identifier) → f ≡ record e { ty = Some i } → i.repr ≡ None → IsUnformed e → IsUnformed f
+typed_unformed e f i h r u = subst IsUnformed (sym h) (retyped e (Some i) (ap (λ (j : Identifier). Some j) (unspelled_own i r)) u)

@@ -10,14 +10,13 @@ use Rattle.kdl_parts.specs.declared.format.KdlNodeFormat.{KdlNodeFormat}
 use Rattle.kdl.specs.DocumentLookups.{is_node_named, node_named, nodes_of}
 use Rattle.kdl.specs.Fields.{node_format_of}
 use Rattle.kdl.specs.ReadsBack.{DocumentReadsBack, NodeReadsBack}
-use Rattle.kdl.specs.Tree.{node_tree}
 use Rattle.kdl.specs.declared.node.KdlNode.{KdlNode}
 use Rattle.kdl.specs.declared.document.KdlDocument.{KdlDocument}
 use Rattle.kdl.proofs.ReadingBack.{nodes_read_back}
 use Rattle.kdl.proofs.Trees.{node_tree_out}
 
 -- what holds of each holds of the one that is found
-find_all : {A : Type 0} (P : A → Type 0) (p : A → Bool) (xs : List A) (x : A) → All P xs → find p xs ≡ Some x → P x
+pub find_all : {A : Type 0} (P : A → Type 0) (p : A → Bool) (xs : List A) (x : A) → All P xs → find p xs ≡ Some x → P x
 find_all P p [] x a h = absurd (none-some _ h)
 find_all {A = A} P p (y ∷ ys) x a h = go (p y) h (find_all P p ys x (All-tail P y ys a))
   where

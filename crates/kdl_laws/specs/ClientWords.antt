@@ -23,5 +23,7 @@ pub use Rattle.kdl_items.specs.Written.{lines, on_line, tail}
 -- Keys, errors and their parts, on which `==` goes.
 pub use Rattle.kdl_laws.specs.Keys.{sought_anywhere}
 pub use Rattle.kdl_laws.specs.Errors.{Diagnostic, Failure, Refusal, diagnostic_tree, error_tree, failure_tree, memory, syntax'}
--- Pieces of a text.
-pub use Rattle.kdl_laws.specs.Pieces.{IsPiece}
+-- Pieces of a text: those of a diagnostic, and of an entry.
+pub use Rattle.kdl_laws.specs.Pieces.{IsPiece, IsPieceOf, said_entry_in}
+-- Documents to whose list of nodes a node can be pushed.
+pub use Rattle.kdl_laws.specs.Pushed.{LastEnds}

@@ -8,3 +8,5 @@ pub mod Keys
 pub mod Pieces
 -- What the text before the nodes of a document may be.
 pub mod Leading
+-- Documents to whose list of nodes a node can be pushed.
+pub mod Pushed

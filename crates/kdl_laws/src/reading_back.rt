@@ -1,15 +1,18 @@
 //! What reads back: documents and nodes from the text that they print, entries in any node.
 
+ghost use Rattle.kdl.specs.Change.{with_nodes};
 ghost use Rattle.kdl.specs.DocumentLookups.{node_named, nodes_of};
 ghost use Rattle.kdl.specs.Fields.{block_of, node_format_of};
+ghost use Rattle.kdl.specs.Nodes.{said_with};
 ghost use Rattle.kdl.specs.ReadsBack.{BlockReadsBack, DocumentReadsBack, EntryReadsBack, IsUnformed, NodeEnds, NodeReadsBack, respelled};
 ghost use Rattle.kdl.specs.Tree.{document_prints, document_says, node_prints, node_says};
 ghost use Rattle.kdl.specs.declared.document.KdlDocument.{KdlDocument};
 ghost use Rattle.kdl.specs.declared.node.KdlNode.{KdlNode};
-ghost use Rattle.kdl_entry.specs.Tree.{Entry, entry_tree, plain_entry, plain_identifier};
+ghost use Rattle.kdl_entry.specs.Tree.{Entry, Identifier, entry_tree, plain_entry, plain_identifier};
 ghost use Rattle.kdl_entry.specs.declared.entry.KdlEntry.{KdlEntry};
 ghost use Rattle.kdl_grammar.specs.Data.{Nodes, first, none};
 ghost use Rattle.kdl_grammar.specs.Grammar.{IsDocument};
+ghost use Rattle.kdl_laws.specs.Pushed.{EndsLine, LastEnds};
 ghost use Rattle.kdl_parts.specs.Edits.{under};
 ghost use Rattle.kdl_parts.specs.EntryLists.{Sought, property};
 ghost use Rattle.kdl_text.specs.Chars.{Text};
@@ -17,7 +20,7 @@ ghost use Rattle.kdl_value.specs.Data.{Value};
 ghost use Rattle.kdl_value.specs.Tree.{text_of};
 ghost use Rattle.kdl_value.specs.WellFormed.{IsWellFormed};
 ghost use Rattle.std.specs.List.{All};
-ghost use Rattle.std.specs.Prelude.{◌≡◌, IsSome, List, None, Some, String, string_bytes, true, ℕ};
+ghost use Rattle.std.specs.Prelude.{◌≡◌, ◌++◌, [], ◌∷◌, IsSome, IsTrue, List, None, Some, String, Vec, chars, length, string_bytes, true, ℕ};
 ghost use Rattle.std.specs.Str.{encode_utf8_all};
 ghost use Rattle.std.specs.declared.alloc.Global.{Global};
 
@@ -71,6 +74,47 @@ pub fn ended_reads_back()
     ensures { (n : KdlNode) → NodeEnds n → NodeReadsBack n }
 {}
 
+/// Whether the text is one `;` or one newline.
+fn is_line_end(text: &str) -> bool
+    ensures { IsTrue result → EndsLine (chars text.now) }
+{
+    text == ";" || text == "\n"
+}
+
+/// Whether the terminator of a node is one `;` or one newline, with no text after that. Then the node ends by itself,
+/// where it reads back.
+pub fn ends_line(node: &kdl::KdlNode) -> bool
+    ensures { IsTrue result → NodeReadsBack node.now → NodeEnds node.now }
+{
+    match node.format() {
+        Some(format) => format.trailing.as_str().is_empty() && is_line_end(&format.terminator),
+        None => false,
+    }
+}
+
+/// Whether a document has nodes, and the last one ends in `;` or a newline: it ends by itself, where the document reads
+/// back.
+pub fn last_ends(document: &kdl::KdlDocument) -> bool
+    ensures { IsTrue result → DocumentReadsBack document.now → LastEnds document.now }
+{
+    match document.nodes().last() {
+        Some(node) => ends_line(node),
+        None => false,
+    }
+}
+
+/// A node that is pushed to the list of nodes of a document, where the last node and the new one end by themselves: the
+/// document reads back, and says the new node after the others. Without nodes, the text before them ends by itself.
+pub fn pushed_reads_back(document: &kdl::KdlDocument, node: &kdl::KdlNode)
+    ensures reads { DocumentReadsBack document.now → LastEnds document.now → NodeEnds node.now
+        → (v : Vec KdlNode Global) → v.items ≡ nodes_of document.now ++ (node.now ∷ [])
+        → DocumentReadsBack (with_nodes document.now v) }
+    ensures says { (v : Vec KdlNode Global) → v.items ≡ nodes_of document.now ++ (node.now ∷ [])
+        → document_says (with_nodes document.now v) ≡
+        said_with (length (nodes_of document.now)) (node_says node.now)
+        (document_says document.now) }
+{}
+
 /// The block of a node that reads back reads back as a block.
 #[tactic(auto, using(kdl::proofs::ReadingBack::block_reads_back))]
 pub fn block_reads_back()
@@ -91,6 +135,17 @@ pub fn new_entries_are_unformed()
     ensures named { (q : Sought) (e : Entry) (s : Text) (v : Value)
         → q ≡ property (plain_identifier s) → e ≡ plain_entry None v → IsWellFormed v
         → IsUnformed (under q e) }
+{}
+
+/// An entry with neither a format nor a spelling has none with another key or another type that has no spelling, and
+/// without a key.
+#[tactic(auto, using(crate::proofs::NewEntries::named_unformed, crate::proofs::NewEntries::typed_unformed, crate::proofs::NewEntries::unnamed_unformed))]
+pub fn named_entries_are_unformed()
+    ensures named { (e f : Entry) (i : Identifier) → f ≡ record e { name = Some i }
+        → i.repr ≡ None → IsUnformed e → IsUnformed f }
+    ensures typed { (e f : Entry) (i : Identifier) → f ≡ record e { ty = Some i }
+        → i.repr ≡ None → IsUnformed e → IsUnformed f }
+    ensures unnamed { (e f : Entry) → f ≡ record e { name = None } → IsUnformed e → IsUnformed f }
 {}
 
 /// An entry that reads back does so with another value, where its format, if it has one, has the spelling that the value

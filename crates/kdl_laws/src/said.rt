@@ -1,16 +1,17 @@
 //! What a document says after an edit: look-ups find it in the data.
 
 ghost use Rattle.kdl.specs.Change.{with_entries};
-ghost use Rattle.kdl.specs.DocumentLookups.{node_named, with_node_named};
+ghost use Rattle.kdl.specs.DocumentLookups.{node_named, nodes_of, with_node_named};
 ghost use Rattle.kdl.specs.Fields.{held_entries};
 ghost use Rattle.kdl.specs.Found.{IsSet};
-ghost use Rattle.kdl.specs.Said.{IsSetInData};
+ghost use Rattle.kdl.specs.Nodes.{said_with};
+ghost use Rattle.kdl.specs.Said.{IsSetInData, said_nodes};
 ghost use Rattle.kdl.specs.Tree.{document_says};
 ghost use Rattle.kdl.specs.declared.document.KdlDocument.{KdlDocument};
 ghost use Rattle.kdl.specs.declared.node.KdlNode.{KdlNode};
-ghost use Rattle.kdl_grammar.specs.Data.{Nodes};
+ghost use Rattle.kdl_grammar.specs.Data.{Node as NodeData, Nodes};
 ghost use Rattle.kdl_value.specs.Data.{Value};
-ghost use Rattle.std.specs.Prelude.{◌≡◌, List, Some, ℕ, chars};
+ghost use Rattle.std.specs.Prelude.{◌≡◌, ◌++◌, [], ◌∷◌, List, Some, ℕ, chars, length};
 ghost use Rattle.std.specs.Str.{IsUtf8};
 
 /// A property that is set in the first node of a name is set in what the document says: x before, and y after it.
@@ -19,4 +20,12 @@ pub fn property_set_is_said()
         → IsUtf8 s → IsUtf8 r → Some n ≡ node_named s d
         → m ≡ with_entries n (held_entries m) → IsSet r v n m → x ≡ document_says d
         → y ≡ document_says (with_node_named s d m) → IsSetInData (chars s) (chars r) v x y }
+{}
+
+/// A node that is put after the others is the last one of what the document says: of e, which was d before.
+#[tactic(auto, using(crate::proofs::PushedNodes::put_last))]
+pub fn pushed_is_said_last()
+    ensures { (d e : KdlDocument) (x : NodeData)
+        → document_says e ≡ said_with (length (nodes_of d)) x (document_says d)
+        → said_nodes (document_says e) ≡ said_nodes (document_says d) ++ (x ∷ []) }
 {}

@@ -1,10 +1,12 @@
 //! Documents that calls build: what they print reads back.
 
-ghost use Rattle.kdl.specs.ReadsBack.{NodeEnds};
-ghost use Rattle.std.specs.Prelude.{IfOk};
+ghost use Rattle.kdl.specs.Words.{IsDocument, NodeEnds, NodeReadsBack, Nodes, node_says, said_nodes, text_of};
+ghost use Rattle.std.specs.Prelude.{◌≡◌, [], ◌∷◌, IfOk, true};
 
-use kdl::{KdlEntry, KdlIdentifier, KdlNode, KdlValue, NodeKey};
-use kdl_laws::reading_back::new_entries_are_unformed;
+use crate::reads_back::printed;
+use kdl::{KdlDocument, KdlEntry, KdlIdentifier, KdlNode, KdlValue, NodeKey};
+use kdl_laws::reading_back::{ended_reads_back, new_entries_are_unformed};
+use kdl_laws::said::pushed_is_said_last;
 use kdl_laws::values::values_are_well_formed;
 use std::alloc::{AllocError, Global};
 
@@ -30,4 +32,32 @@ pub fn one_node(
         return Err(AllocError);
     };
     Ok(node)
+}
+
+/// The text of a document of two nodes, built from nothing: it says these nodes, and no others.
+pub fn two_nodes(alloc: Global, one: KdlNode, other: KdlNode) -> Result<String, AllocError>
+    requires one { NodeReadsBack one }
+    requires other { NodeReadsBack other }
+    ensures { IfOk result (λ out. (x : Nodes) × IsDocument true (text_of out) x
+        × (said_nodes x ≡ node_says one ∷ node_says other ∷ [])) }
+{
+    pushed_is_said_last();
+    let mut document = KdlDocument::new(alloc);
+    let Ok(()) = document.push_node(one) else {
+        return Err(AllocError);
+    };
+    let Ok(()) = document.push_node(other) else {
+        return Err(AllocError);
+    };
+    printed(alloc, &document)
+}
+
+/// A text of two nodes, each with an argument and a property.
+pub fn servers(alloc: Global, one: &str, other: &str) -> Result<String, AllocError>
+    ensures { IfOk result (λ out. (x : Nodes) × IsDocument true (text_of out) x) }
+{
+    ended_reads_back();
+    let first = one_node(alloc, one, "port", KdlValue::from(1), KdlValue::from(8080))?;
+    let second = one_node(alloc, other, "port", KdlValue::from(2), KdlValue::from(8081))?;
+    two_nodes(alloc, first, second)
 }

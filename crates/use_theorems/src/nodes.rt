@@ -1,9 +1,10 @@
 //! Nodes that are added and removed.
 
-ghost use Rattle.kdl.specs.Words.{DocumentReadsBack, NodeReadsBack, document_says, node_says, nodes_of, said_with, said_without};
+ghost use Rattle.kdl.specs.Words.{DocumentReadsBack, NodeEnds, NodeReadsBack, document_says, node_says, nodes_of, said_with, said_without};
 ghost use Rattle.std.specs.Prelude.{◌≡◌, IfOk, IfSome, length};
 
 use kdl::{KdlDocument, KdlNode, ParseFailure};
+use kdl_laws::reading_back::{last_ends, pushed_reads_back};
 use std::alloc::{AllocError, Global};
 
 /// Removes the first node, where there is one: what is left reads back, and so does the node.
@@ -29,6 +30,21 @@ pub fn add(document: &mut KdlDocument, node: KdlNode) -> Result<(), AllocError>
         Ok(()) => Ok(()),
         Err((_, error)) => Err(error),
     }
+}
+
+/// Pushes a node to the list of nodes of a document that was read, where the last one ends in `;` or a newline.
+pub fn push_to_list(alloc: Global, text: &str, node: KdlNode) -> Result<KdlDocument, ParseFailure>
+    requires { NodeEnds node }
+    ensures { IfOk result DocumentReadsBack }
+{
+    let mut document = KdlDocument::parse(alloc, text)?;
+    if last_ends(&document) {
+        pushed_reads_back(&document, &node);
+        let Ok(()) = document.nodes_mut().push(node) else {
+            return Err(ParseFailure::Memory);
+        };
+    }
+    Ok(document)
 }
 
 /// Adds a child to the first node of a name: the document reads back, whether the call succeeds or not.

@@ -1,9 +1,11 @@
 //! A program that sets a port in a text.
 
 ghost use Rattle.kdl.specs.Words.{DocumentReadsBack, IsDocument, IsExchanged, IsSetInData, IsSyntax, Nodes, Text, document_prints, document_says, integer, plain_entry, plain_identifier, print_piece, said_node, text_of, value_tree};
+ghost use Rattle.kdl_laws.specs.ClientWords.{IsPieceOf, said_entry_in};
 ghost use Rattle.std.specs.Prelude.{◌≡◌, IfOk, IsSome, None, Some, chars, codes, pos, true};
 
 use kdl::{KdlDocument, KdlEntry, KdlValue, NodeKey, ParseFailure};
+use kdl_laws::bytes::replaced_piece_is_said;
 use kdl_laws::reading_back::{
     found_node_has_format, new_entries_are_unformed, printed_reads_back, printed_reads_once,
 };
@@ -27,7 +29,8 @@ pub fn set_in(
         (document_says document.old) (document_says document.new)) }
     ensures bytes { IfOk result (λ _.
         IsSome (said_node (chars node.now) (document_says document.old))
-        → (p : Text) × IsExchanged p (print_piece
+        → (p : Text) × IsPieceOf (said_entry_in (chars node.now) (chars name.now)
+        (document_says document.old)) p × IsExchanged p (print_piece
         (plain_entry (Some (plain_identifier (chars name.now))) (value_tree value)))
         (document_prints document.old) (document_prints document.new)) }
     ensures stays { IfOk result (λ _.
@@ -38,6 +41,7 @@ pub fn set_in(
     new_entries_are_unformed();
     property_set_is_said();
     found_node_has_format();
+    replaced_piece_is_said();
     let key = NodeKey::from_text(alloc, name)?;
     let Some(found) = document.get_mut(node) else {
         return Ok(());
@@ -58,10 +62,12 @@ pub fn set_port(alloc: Global, text: &str) -> Result<String, ParseFailure>
         → IsSome (said_node (chars (codes "server")) x)
         → IsSetInData (chars (codes "server")) (chars (codes "port"))
         (integer (pos 8080)) x y) }
-    // Its text is the one that was read, but for the piece of that entry.
+    // Its text is the one that was read, but for the piece of that entry. The piece is put in the place of that of the
+    // old port, and of no text where there was no port.
     ensures bytes { IfOk result (λ out. (x : Nodes) → IsDocument true (chars text.now) x
         → IsSome (said_node (chars (codes "server")) x)
-        → (p : Text) × IsExchanged p (print_piece
+        → (p : Text) × IsPieceOf (said_entry_in (chars (codes "server")) (chars (codes "port")) x) p
+        × IsExchanged p (print_piece
         (plain_entry (Some (plain_identifier (chars (codes "port")))) (integer (pos 8080))))
         (chars text.now) (text_of out)) }
     // Without a server, the output is the text.

@@ -1,10 +1,10 @@
 //! Edited documents: what they print reads back.
 
-ghost use Rattle.kdl.specs.ReadsBack.{DocumentReadsBack, respelled};
+ghost use Rattle.kdl.specs.ReadsBack.{DocumentReadsBack, ReadsAs, respelled};
 ghost use Rattle.kdl.specs.Words.{IsDocument, Nodes, document_says, entry_tree, print_value, text_of, value_tree};
 ghost use Rattle.std.specs.Prelude.{◌≡◌, IfOk, true};
 
-use kdl::{KdlDocument, KdlEntry, KdlValue, NodeKey, ParseFailure};
+use kdl::{KdlDocument, KdlEntry, KdlNode, KdlValue, NodeKey, ParseFailure};
 use kdl_laws::reading_back::{new_entries_are_unformed, printed_reads_back};
 use kdl_laws::values::values_are_well_formed;
 use std::alloc::{AllocError, Global};
@@ -106,6 +106,69 @@ pub fn push_in_block(
     Ok(())
 }
 
+/// Three edits of a node: a property is removed, an argument pushed and the first argument replaced.
+pub fn edit(
+    alloc: Global,
+    node: &mut KdlNode,
+    property: &str,
+    one: KdlValue,
+    other: KdlValue,
+) -> Result<(), AllocError>
+    ensures { ReadsAs node.old node.new }
+{
+    values_are_well_formed(&one);
+    values_are_well_formed(&other);
+    new_entries_are_unformed();
+    node.remove(NodeKey::from_text(alloc, property)?);
+    let Ok(_) = node.push(KdlEntry::new(one)) else {
+        return Err(AllocError);
+    };
+    let Some(entry) = node.entry_mut(NodeKey::Index(0)) else {
+        return Ok(());
+    };
+    *entry = KdlEntry::new(other);
+    Ok(())
+}
+
+/// The same edits of the first child of a name.
+pub fn edit_child(
+    alloc: Global,
+    node: &mut KdlNode,
+    name: &str,
+    property: &str,
+    one: KdlValue,
+    other: KdlValue,
+) -> Result<(), AllocError>
+    ensures { ReadsAs node.old node.new }
+{
+    let Some(block) = node.children_mut() else {
+        return Ok(());
+    };
+    let Some(child) = block.get_mut(name) else {
+        return Ok(());
+    };
+    edit(alloc, child, property, one, other)
+}
+
+/// The same edits of a node in the block of another.
+pub fn edit_in_block(
+    alloc: Global,
+    document: &mut KdlDocument,
+    outer: &str,
+    inner: &str,
+    property: &str,
+    one: KdlValue,
+    other: KdlValue,
+) -> Result<(), AllocError>
+    requires { DocumentReadsBack document.old }
+    ensures { DocumentReadsBack document.new }
+{
+    let Some(node) = document.get_mut(outer) else {
+        return Ok(());
+    };
+    edit_child(alloc, node, inner, property, one, other)
+}
+
 /// Sets the value, and its spelling where the entry keeps one.
 fn respell(entry: &mut KdlEntry, value: KdlValue, spelling: String)
     requires { text_of spelling ≡ print_value (value_tree value) }
@@ -145,4 +208,20 @@ pub fn push_in_text(
     let mut document = KdlDocument::parse(alloc, text)?;
     push_argument(&mut document, name, value)?;
     Ok(printed(alloc, &document)?)
+}
+
+/// The properties of these names, of value true, in the first node of a name.
+pub fn set_each(
+    alloc: Global,
+    document: &mut KdlDocument,
+    node: &str,
+    names: &[&str],
+) -> Result<(), AllocError>
+    requires { DocumentReadsBack document.old }
+    ensures { DocumentReadsBack document.new }
+{
+    for name in names {
+        set_property(alloc, document, node, *name, KdlValue::from(true))?;
+    }
+    Ok(())
 }

@@ -15,4 +15,4 @@ returns-clause-bytes c has =
     ap (λ (q : Sought). under q (entry_tree c.new.result)) c.in_ok-key.ensures.sought ∙ ap (under (property (plain_identifier (chars c.args.name.now)))) c.new.ensures.tree in
     let e = document_prints (with_node_named c.args.node.now d c.insert.new.self) in
     let p = piece_of c.in-Ok.field-0 in
-    (p, subst (λ (x : Entry). IsExchanged p (print_piece x) (document_prints d) e) entry ((c.in-Some.ensures.bytes _ _ _ node).prints 0))
+    (p, c.replaced_piece_is_said.ensures c.args.node.now c.args.name.now c.in_ok-key.key d c.in-Some.found.now c.in-Ok.field-0 c.utf8.node c.utf8.name c.requires c.in-Some.ensures.value c.in_ok-key.ensures.name c.in-Ok.ensures.replaced, subst (λ (x : Entry). IsExchanged p (print_piece x) (document_prints d) e) entry ((c.in-Some.ensures.bytes _ _ _ node).prints 0))

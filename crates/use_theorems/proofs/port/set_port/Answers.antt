@@ -1,5 +1,6 @@
-use Rattle.std.proofs.Common.{IsSome, chars, codes, rules, subst}
+use Rattle.std.proofs.Common.{IsSome, chars, codes, rules, subst, sym}
 use Rattle.kdl.specs.Words.{Nodes, document_says, said_node}
+use Rattle.kdl_laws.specs.ClientWords.{IsPieceOf, said_entry_in}
 use Rattle.use_theorems.proofs.port.set_port.Goals as goal
 
 pub returns-clause-document : goal.returns-clause-document
@@ -8,5 +9,6 @@ returns-clause-document c =
 
 pub returns-clause-bytes : goal.returns-clause-bytes
 returns-clause-bytes c x d has =
-    let (p, e) = c.in_ok-set_in.ensures.bytes (subst (λ (z : Nodes). IsSome (said_node (chars (codes "server")) z)) (c.in_ok-document.ensures.only x d) has) in
-    (p, search rules)
+    let same = c.in_ok-document.ensures.only x d in
+    let (p, old, e) = c.in_ok-set_in.ensures.bytes (subst (λ (z : Nodes). IsSome (said_node (chars (codes "server")) z)) same has) in
+    (p, subst (λ (z : Nodes). IsPieceOf (said_entry_in (chars (codes "server")) (chars (codes "port")) z) p) (sym same) old, search rules)

@@ -1,0 +1,66 @@
+-- Nodes that end by themselves, since they end in `;` or a newline.
+use Rattle.std.proofs.Common.{◌≡◌, inl, inr, ℕ, true, [], ◌∷◌, ◌++◌, Some, option_map, refl, ap, ◌∙◌, sym, subst}
+use Rattle.kdl_text.specs.Chars.{Text}
+use Rattle.kdl_value.specs.Tree.{text_of}
+use Rattle.kdl_text.specs.Internal.Here.{first as first_char}
+use Rattle.kdl_text.specs.Trivia.{ValueEnd}
+use Rattle.kdl_entry.proofs.Moving.Puts.{same_piece}
+use Rattle.kdl_grammar.specs.Grammar.{Terminator}
+use Rattle.kdl_grammar.specs.Places.{BeforeChildren, AfterChildren}
+use Rattle.kdl_grammar.specs.ReadsBack.{Anything, TextEnd, BeforeTerminator, EndReads, NodeReads, reads, Terminates, terminator_text}
+use Rattle.kdl_grammar.specs.Tree.{NodeFormat, Head, node, Children, no_children, children, children_of}
+use Rattle.kdl_grammar.proofs.Moving.Moves.{move_after, move_before, terminator_end}
+use Rattle.kdl_items.proofs.Rewriting.BeforeNewlines.{a_newline}
+use Rattle.kdl_parts.specs.Formats.{node_format_tree}
+use Rattle.kdl_parts.specs.declared.format.KdlNodeFormat.{KdlNodeFormat}
+use Rattle.kdl.specs.Fields.{node_format_of}
+use Rattle.kdl.specs.ReadsBack.{NodeEnds, NodeReadsBack}
+use Rattle.kdl.specs.Tree.{document_tree, head_tree}
+use Rattle.kdl.specs.declared.node.KdlNode.{KdlNode}
+use Rattle.kdl.specs.declared.document.KdlDocument.TheViews.{out-KdlNode}
+use Rattle.kdl.proofs.Trees.{node_tree_out}
+use Rattle.kdl_laws.specs.Pushed.{EndsLine}
+
+-- a place before a terminator, before another text that begins alike
+place_moves : (k : Children) (b u x : Text) → BeforeTerminator k (b ++ u) u → first_char x ≡ first_char u → ValueEnd true x → BeforeTerminator k (b ++ x) x
+place_moves no_children b u x c h e = let m = move_before c in subst (λ (y : Text). BeforeChildren y x) (same_piece b m.at refl x) (m.there x h e)
+place_moves (children d) b u x c h e = let m = move_after c in subst (λ (y : Text). AfterChildren y x) (same_piece b m.at refl x) (m.there x h)
+
+-- a terminator of one character, which ends a node before whatever follows
+record Ends (c : ℕ) : Type 0 where
+  always : (r : Text) → Terminator (c ∷ r) r
+
+semicolon_ends : Ends 59
+semicolon_ends = record { always = λ r. Terminator.semicolon }
+
+newline_ends : Ends 10
+newline_ends = record { always = λ r. Terminator.newline (a_newline r) }
+
+end_moves : (c : ℕ) (k : Children) (f : NodeFormat) → Ends c → terminator_text f ≡ c ∷ [] → EndReads TextEnd k f → EndReads Anything k f
+end_moves c k f x h end = record { place = λ r p t. at r t; terminator = subst (Terminates Anything) (sym h) (λ r s xs p z d. (r, x.always r, d)) }
+  where
+    alone : BeforeTerminator k (f.before_terminator ++ (c ∷ [])) (c ∷ [])
+    alone =
+        subst (λ (u : Text). BeforeTerminator k (f.before_terminator ++ (u ++ [])) (u ++ [])) h
+        (end.place [] refl (subst (λ (u : Text). Terminator (u ++ []) []) (sym h) (x.always [])))
+
+    at : (r : Text) {v : Text} → Terminator (terminator_text f ++ r) v → BeforeTerminator k (f.before_terminator ++ (terminator_text f ++ r)) (terminator_text f ++ r)
+    at r t =
+        subst (λ (u : Text). BeforeTerminator k (f.before_terminator ++ (u ++ r)) (u ++ r)) (sym h)
+        (place_moves k f.before_terminator (c ∷ []) (c ∷ r) alone refl (terminator_end (x.always r)))
+
+end_anywhere : (k : Children) (f : NodeFormat) → EndsLine (terminator_text f) → EndReads TextEnd k f → EndReads Anything k f
+end_anywhere k f (inl e) end = end_moves 59 k f semicolon_ends e end
+end_anywhere k f (inr e) end = end_moves 10 k f newline_ends e end
+
+node_anywhere : (h : Head) (k : Children) (f : NodeFormat) → h.format ≡ Some f → EndsLine (terminator_text f) → NodeReads TextEnd (node h k) → NodeReads Anything (node h k)
+node_anywhere h k f s e (reads {f = g} a head kids end) =
+    let both : Some g ≡ Some f = sym a ∙ s in
+    let same : g ≡ f = cc in
+    reads a head kids (end_anywhere k g (subst (λ (x : NodeFormat). EndsLine (terminator_text x)) (sym same) e) end)
+
+pub line_ends : (n : KdlNode) (f : KdlNodeFormat) → node_format_of n ≡ Some f → EndsLine (text_of f.terminator ++ text_of f.trailing) → NodeReadsBack n → NodeEnds n
+line_ends n f s e x =
+    let X = out-KdlNode n in
+    let k = children_of (option_map document_tree X.children) in
+    subst (NodeReads Anything) (sym (node_tree_out n)) (node_anywhere (head_tree X) k (node_format_tree f) (ap (option_map node_format_tree) s) e (subst (NodeReads TextEnd) (node_tree_out n) x))
