@@ -28,3 +28,9 @@ pub mod PrintedOnce
 pub mod SetInData
 -- The nodes of a document that reads back have formats.
 pub mod NodesHaveFormats
+-- What a document says, and prints, once an argument has another value.
+pub mod ArgumentSet
+-- A text that is laid out.
+pub mod TextLaidOut
+-- Names and arguments in memory, by what they say.
+pub mod SaidInMemory

@@ -25,3 +25,7 @@ pub use Rattle.kdl_laws.specs.Keys.{sought_anywhere}
 pub use Rattle.kdl_laws.specs.Errors.{Diagnostic, Failure, Refusal, diagnostic_tree, error_tree, failure_tree, memory, syntax'}
 -- Pieces of a text.
 pub use Rattle.kdl_laws.specs.Pieces.{IsPiece}
+-- What a document says with another value for an argument, and texts with another piece.
+pub use Rattle.kdl_laws.specs.ArgumentSet.{HasInstead, with_said_arg}
+-- What layout makes of a text.
+pub use Rattle.kdl_laws.specs.LaidOut.{IsLaidOut}

@@ -8,3 +8,7 @@ pub mod Keys
 pub mod Pieces
 -- What the text before the nodes of a document may be.
 pub mod Leading
+-- What a document says with another value for an argument, and texts with another piece.
+pub mod ArgumentSet
+-- What layout makes of a text.
+pub mod LaidOut
