@@ -17,4 +17,4 @@ texts_compared b s u v = (same_chars s v).same b u
 
 pub arguments_counted : (n : KdlNode) → count_by is_argument (entries_of n) ≡ length (said_arguments (node_says n))
 arguments_counted n =
-    sym (length-filter is_argument (entries_of n)) ∙ sym (length-map (λ (e : KdlEntry). value_tree e.value) (filter is_argument (entries_of n))) ∙ ap length (arguments_said n)
+    sym (length-filter is_argument (entries_of n)) ∙ sym (length-map (filter is_argument (entries_of n)) (λ (e : KdlEntry). value_tree e.value)) ∙ ap length (arguments_said n)
