@@ -1,7 +1,7 @@
 //! Settings, read from a text with their types.
 
 ghost use Rattle.kdl.specs.Words.{IsDocument, Nodes, argument_named, document_says, text_of};
-ghost use Rattle.std.specs.Prelude.{◌≡◌, ◌++◌, ⊥, IfNone, IfOk, IfSome, OnOk, Some, chars, map, option_map, true};
+ghost use Rattle.std.specs.Prelude.{◌≡◌, ◌++◌, IfNone, IfOk, IfSome, OnOk, Some, chars, map, option_map, true};
 ghost use Rattle.use_settings.specs.Settings as said;
 ghost use Rattle.use_settings.specs.Settings.{Fits, IsSyntax, IsUnfit, fault_at, fault_view, faults_of, host_fault, place_of, port_fault, verbose_fault};
 
@@ -34,12 +34,6 @@ pub enum Refused {
     Memory,
 }
 
-impl From<AllocError> for Refused {
-    fn from(_: AllocError) -> Refused {
-        Refused::Memory
-    }
-}
-
 /// The settings of a text: the host has to be there, the port is 8080 where the text has none, and `verbose` is off.
 pub fn load(alloc: Global, text: &str) -> Result<Settings, Refused>
     // Each setting is what the text says, or the default where the text says nothing.
@@ -61,9 +55,10 @@ pub fn load(alloc: Global, text: &str) -> Result<Settings, Refused>
         Err(ParseFailure::Memory) => return Err(Refused::Memory),
     };
     let mut faults = Vec::new(alloc);
-    match read(alloc, &document, &mut faults)? {
-        Some(settings) => Ok(settings),
-        None => Err(Refused::Unfit(faults)),
+    match read(alloc, &document, &mut faults) {
+        Ok(Some(settings)) => Ok(settings),
+        Ok(None) => Err(Refused::Unfit(faults)),
+        Err(AllocError) => Err(Refused::Memory),
     }
 }
 
