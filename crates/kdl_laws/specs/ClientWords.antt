@@ -29,3 +29,5 @@ pub use Rattle.kdl_laws.specs.Pieces.{IsPiece}
 pub use Rattle.kdl_laws.specs.ArgumentSet.{HasInstead, with_said_arg}
 -- What layout makes of a text.
 pub use Rattle.kdl_laws.specs.LaidOut.{IsLaidOut}
+-- Whether two texts have the same bytes, or the same characters.
+pub use Rattle.kdl_parts.specs.EntryLists.{same_text}

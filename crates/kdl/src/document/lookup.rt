@@ -94,7 +94,7 @@ impl KdlDocument {
         ensures value { option_map (λ n. n.now) result ≡ node_named name.now self.old }
         ensures said { option_map (λ n. node_says n.now) result ≡
             said_node (chars name.now) (document_says self.old) }
-        // With a node in its place that reads back wherever it did, the document reads back where it did.
+        // With a node in its place that reads back as it did, the document reads back as before.
         ensures reads { IfSome result (λ n. (m : KdlNode) → ReadsAs n.now m
             → DocumentReadsBack self.old
             → DocumentReadsBack (with_node_named name.now self.old m)) }

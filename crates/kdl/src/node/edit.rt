@@ -87,7 +87,7 @@ impl KdlNode {
         ensures* writes_back { sem 𝓛 (Lends the_row entries_row self.entry result
             (with_entries self.old)) }
         ensures value { result.now ≡ held_entries self.old }
-        // With entries that read back where the old ones did, the node reads back wherever it did.
+        // With entries that read back where the old ones did, the node reads back as before.
         ensures reads { (v : Vec KdlEntry Global)
             → (All EntryReadsBack (entries_of self.old) → All EntryReadsBack v.items)
             → ReadsAs self.old (with_entries self.old v) }
@@ -104,7 +104,7 @@ impl KdlNode {
     pub fn clear(&mut self)
         ensures items { entries_of self.new ≡ [] }
         ensures rest { self.new ≡ with_entries self.old (held_entries self.new) }
-        // It reads back wherever it did.
+        // It reads back as before.
         ensures reads { ReadsAs self.old self.new }
     {
         edit::clear(&mut self.entries);
@@ -203,7 +203,7 @@ impl KdlNode {
             IsExchangedInNode (piece_of result) [] self.old self.new }
         ensures takes { IfSome (key_name key) (λ name. IsTakenOut name self.old self.new) }
         ensures takes_at { IfSome (key_index key) (λ i. IsTakenOutAt i self.old self.new) }
-        // It reads back wherever it did.
+        // It reads back as before.
         ensures reads { ReadsAs self.old self.new }
     {
         edit::remove(&mut self.entries, key)
@@ -221,7 +221,7 @@ impl KdlNode {
         ensures items { IsFiltered (CalledAt F.FnMut) keep
             (entries_of self.old) (entries_of self.new) }
         ensures rest { self.new ≡ with_entries self.old (held_entries self.new) }
-        // It reads back wherever it did.
+        // It reads back as before.
         ensures reads { ReadsAs self.old self.new }
     {
         edit::retain(&mut self.entries, keep);
@@ -244,7 +244,7 @@ impl KdlNode {
         ensures stable { IsStableByClosure F.FnMut compare
             (entries_of self.old) (entries_of self.new) }
         ensures rest { self.new ≡ with_entries self.old (held_entries self.new) }
-        // It reads back wherever it did.
+        // It reads back as before.
         ensures reads { ReadsAs self.old self.new }
     {
         edit::sort_by(&mut self.entries, compare)
@@ -266,7 +266,7 @@ impl KdlNode {
         ensures stable { IsStableByKeyClosure F.FnMut K.cmp f
             (entries_of self.old) (entries_of self.new) }
         ensures rest { self.new ≡ with_entries self.old (held_entries self.new) }
-        // It reads back wherever it did.
+        // It reads back as before.
         ensures reads { ReadsAs self.old self.new }
     {
         edit::sort_by_key(&mut self.entries, f)

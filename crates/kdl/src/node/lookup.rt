@@ -168,7 +168,7 @@ impl KdlNode {
     }
 }
 
-/// The value of the argument at that place among the arguments, from 0. It has to be there, as `get` tells.
+/// The value of the argument at that place among the arguments, from 0. It has to be there, as `get` says.
 ///
 /// ```
 /// let node = KdlNode::parse(alloc, "a b=1 2")?;
@@ -187,7 +187,7 @@ impl Index<usize> for KdlNode {
     }
 }
 
-/// The value of the last property of that name. It has to be there, as `has_property` tells.
+/// The value of the last property of that name. It has to be there, as `has_property` says.
 ///
 /// ```
 /// let node = KdlNode::parse(alloc, "a b=1 2")?;
