@@ -1,11 +1,11 @@
 //! The edit of one number.
 
-ghost use Rattle.kdl.specs.Words.{DocumentReadsBack, IsDocument, IsSyntax, Nodes, TellsOnSyntax, document_prints, document_says, entry_tree, integer, print_value, respelled, said_arg, text_of, value_tree};
+ghost use Rattle.kdl.specs.Words.{DocumentReadsBack, IsDocument, IsSyntax, Nodes, TellsOnSyntax, argument_named, document_prints, document_says, entry_tree, integer, print_value, respelled, said_arg, text_of, value_tree};
 ghost use Rattle.kdl_laws.specs.ClientWords.{HasInstead, with_said_arg};
-ghost use Rattle.std.specs.Prelude.{◌≡◌, IfNone, IfOk, IfSome, IsTrue, None, chars, false, is_some, true};
+ghost use Rattle.std.specs.Prelude.{◌≡◌, IfNone, IfOk, IfSome, IsSome, None, chars, true};
 
 use kdl::{KdlDocument, KdlEntry, KdlValue, NodeKey, ParseFailure};
-use kdl_laws::reading_back::{printed_reads_back, printed_reads_once};
+use kdl_laws::reading_back::{printed_is_text, printed_reads_back, printed_reads_once};
 use kdl_laws::sets::argument_is_set;
 use kdl_laws::values::values_are_well_formed;
 use std::alloc::Global;
@@ -32,36 +32,36 @@ pub fn edit(
 {
     printed_reads_back();
     printed_reads_once();
+    printed_is_text();
     let mut document = KdlDocument::parse(alloc, text)?;
-    let value = KdlValue::from(number);
-    let spelling = value.to_string(alloc)?;
-    if !set(&mut document, name, value, spelling) {
+    if document.get_arg(name).is_none() {
         return Ok(None);
     }
+    let value = KdlValue::from(number);
+    let spelling = value.to_string(alloc)?;
+    set(&mut document, name, value, spelling);
     Ok(Some(document.to_string(alloc)?))
 }
 
-/// Sets the first argument of the first node of that name, with its spelling, and returns whether there is one.
-fn set(document: &mut KdlDocument, name: &str, value: KdlValue, spelling: String) -> bool
+/// Sets the first argument of the first node of that name, where there is one, with its spelling.
+fn set(document: &mut KdlDocument, name: &str, value: KdlValue, spelling: String)
     requires reads { DocumentReadsBack document.old }
     requires spells { text_of spelling ≡ print_value (value_tree value) }
     ensures reads { DocumentReadsBack document.new }
-    ensures found { result ≡ is_some (said_arg (chars name.now) (document_says document.old)) }
-    ensures says { IsTrue result → document_says document.new ≡
+    ensures says { IsSome (argument_named name.now document.old) → document_says document.new ≡
         with_said_arg (chars name.now) (value_tree value) (document_says document.old) }
-    ensures bytes { IsTrue result → HasInstead (print_value (value_tree value))
-        (document_prints document.old) (document_prints document.new) }
+    ensures bytes { IsSome (argument_named name.now document.old) → HasInstead
+        (print_value (value_tree value)) (document_prints document.old) (document_prints document.new) }
 {
     values_are_well_formed(&value);
     argument_is_set();
     let Some(node) = document.get_mut(name) else {
-        return false;
+        return;
     };
     let Some(entry) = node.entry_mut(NodeKey::Index(0)) else {
-        return false;
+        return;
     };
     respell(entry, value, spelling);
-    true
 }
 
 /// Sets the value, and its spelling where the entry has a format. The type and the texts around the value stay.
