@@ -79,8 +79,8 @@ impl KdlDocument {
         first_named(&self.nodes, name)
     }
 
-    /// The first node of that name, to be changed in place. All else stays as it is, and each byte of the printed text
-    /// before and after what the node prints.
+    /// The first node of that name, to be changed in place. All else stays as it is, and so do all bytes of the printed
+    /// text before and after those of the node.
     ///
     /// ```
     /// let mut document = KdlDocument::parse(alloc, "host a; port 1 // kept")?;
@@ -130,7 +130,7 @@ impl KdlDocument {
         }
     }
 
-    /// The value that `get_arg` gives, to be changed in place. The entry's format, with the spelling of the value, and
+    /// The value that `get_arg` returns, to be changed in place. The entry's format, with the spelling of the value, and
     /// all else stay as they are.
     ///
     /// ```
