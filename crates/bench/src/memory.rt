@@ -6,7 +6,7 @@ use std::{fs, io};
 /// The bytes that the process takes at its peak while the text is parsed, beyond those that it had before; 0 where the
 /// system does not tell. None where the text is no document.
 ///
-/// What was freed before and not given back serves again uncounted, so the first text of a run is told best.
+/// What was freed before and not given back is used again uncounted, so the number is best for the first text of a run.
 pub fn bytes_to_parse(rt: &HostRuntime, text: &str) -> io::Result<Option<u64>> {
     // From here on the peak is counted anew.
     let is_reset = fs::write(rt, "/proc/self/clear_refs", "5").is_ok();

@@ -34,3 +34,9 @@ pub mod OldPieces
 pub mod PushedNodes
 -- Nodes that end by themselves, since they end in `;` or a newline.
 pub mod EndedNodes
+-- What a document says, and prints, once an argument has another value.
+pub mod ArgumentSet
+-- A text that is laid out.
+pub mod TextLaidOut
+-- Names and arguments in memory, by what they say.
+pub mod SaidInMemory

@@ -12,6 +12,9 @@ use Rattle.kdl.specs.Tree.{document_prints, document_says}
 use Rattle.kdl.specs.declared.document.KdlDocument.{KdlDocument}
 use Rattle.kdl.proofs.ReadingBack.{document_derived}
 
+pub text_printed : (s : String Global) (t : Text) → string_bytes s ≡ encode_utf8_all t → text_of s ≡ t
+text_printed s t h = printed_text {E = Unit {0}} (Ok s) t h
+
 pub printed : (d : KdlDocument) (s : String Global) → string_bytes s ≡ encode_utf8_all (document_prints d) → text_of s ≡ document_prints d
 printed d s h = printed_text {E = Unit {0}} (Ok s) (document_prints d) h
 

@@ -27,3 +27,9 @@ pub use Rattle.kdl_laws.specs.Errors.{Diagnostic, Failure, Refusal, diagnostic_t
 pub use Rattle.kdl_laws.specs.Pieces.{IsPiece, IsPieceOf, said_entry_in}
 -- Documents to whose list of nodes a node can be pushed.
 pub use Rattle.kdl_laws.specs.Pushed.{LastEnds}
+-- What a document says with another value for an argument, and texts with another piece.
+pub use Rattle.kdl_laws.specs.ArgumentSet.{HasInstead, with_said_arg}
+-- What layout makes of a text.
+pub use Rattle.kdl_laws.specs.LaidOut.{IsLaidOut}
+-- Whether two texts have the same bytes, or the same characters.
+pub use Rattle.kdl_parts.specs.EntryLists.{same_text}

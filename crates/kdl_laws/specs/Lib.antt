@@ -10,3 +10,7 @@ pub mod Pieces
 pub mod Leading
 -- Documents to whose list of nodes a node can be pushed.
 pub mod Pushed
+-- What a document says with another value for an argument, and texts with another piece.
+pub mod ArgumentSet
+-- What layout makes of a text.
+pub mod LaidOut

@@ -1,15 +1,23 @@
 //! That layout makes one thing, that it changes nothing when it is repeated, and that without comments it gives the
 //! canonical text.
 
-ghost use Rattle.kdl.specs.Tree.{document_tree, node_tree};
-ghost use Rattle.kdl_fmt.specs.Config.{IndentsBySpaces, Settings, settings};
+ghost use Rattle.kdl.specs.Layout.{DocumentKeepsNoForm, DocumentLaidOut};
+ghost use Rattle.kdl.specs.Tree.{document_prints, document_tree, node_tree};
+ghost use Rattle.kdl.specs.declared.document.KdlDocument.{KdlDocument};
+ghost use Rattle.kdl_fmt.specs.Comments.{CommentsStay};
+ghost use Rattle.kdl_fmt.specs.Config.{IndentsBySpaces, Settings, defaults, settings};
 ghost use Rattle.kdl_fmt.specs.Formatted.{DocumentKeepsNone, NodeKeepsNone};
 ghost use Rattle.kdl_fmt.specs.WithComments.{IsFormattedDocument, IsFormattedNode};
+ghost use Rattle.kdl_grammar.specs.Laid.{LaidDocument};
 ghost use Rattle.kdl_grammar.specs.Print.{print_document};
 ghost use Rattle.kdl_grammar.specs.Tree.{Document, Node, document_data};
-ghost use Rattle.kdl_text.specs.Chars.{is_space};
+ghost use Rattle.kdl_laws.specs.LaidOut.{IsLaidOut};
+ghost use Rattle.kdl_text.specs.Chars.{Text, is_space};
+ghost use Rattle.kdl_value.specs.Tree.{text_of};
 ghost use Rattle.std.specs.List.{list_all};
-ghost use Rattle.std.specs.Prelude.{◌≡◌, ◌↔◌, ℕ, IfOk, false, true};
+ghost use Rattle.std.specs.Prelude.{◌≡◌, ◌↔◌, ℕ, IfOk, String, false, string_bytes, true};
+ghost use Rattle.std.specs.Str.{encode_utf8_all};
+ghost use Rattle.std.specs.declared.alloc.Global.{Global};
 
 use kdl::{FormatConfig, KdlDocument, KdlNode};
 use std::alloc::AllocError;
@@ -67,4 +75,13 @@ pub fn second_layout()
     ensures node { (s : Settings) (level : ℕ) (n x y : Node) → IndentsBySpaces s
         → s.entry_autoformate_keep ≡ false → NodeKeepsNone n
         → IsFormattedNode s level n x → IsFormattedNode s level x y → y ≡ x }
+{}
+
+/// The text in memory that a document prints once it is laid out with its comments is the text of the document, laid out.
+#[tactic(auto, using(crate::proofs::TextLaidOut::text_laid_out))]
+pub fn texts_are_laid_out()
+    ensures { (text : Text) (d e : KdlDocument) (s : String Global)
+        → LaidDocument true (document_tree d) text → DocumentKeepsNoForm d
+        → DocumentLaidOut defaults d e → CommentsStay (document_tree d) (document_prints e)
+        → string_bytes s ≡ encode_utf8_all (document_prints e) → IsLaidOut text (text_of s) }
 {}

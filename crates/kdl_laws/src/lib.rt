@@ -14,6 +14,7 @@ pub mod machine;
 pub mod nodes;
 pub mod reading_back;
 pub mod said;
+pub mod sets;
 pub mod spans;
 pub mod values;
 

@@ -48,6 +48,13 @@ pub fn printed_reads_once()
         → IsDocument true (text_of s) y → y ≡ document_says d }
 {}
 
+/// A text in memory, of which a call says that it is what was printed, has those characters.
+#[tactic(auto, using(crate::proofs::PrintedOnce::text_printed))]
+pub fn printed_is_text()
+    ensures { (s : String Global) (t : Text) → string_bytes s ≡ encode_utf8_all t
+        → text_of s ≡ t }
+{}
+
 /// A node that reads back prints a text that is a document with that node alone.
 #[tactic(auto, using(kdl::proofs::ReadingBack::node_derived_alone))]
 pub fn node_reads_back()

@@ -114,7 +114,7 @@ fn two_faults(alloc: Global) -> Result<KdlError, AllocError> {
     Ok(KdlError { input, diagnostics })
 }
 
-/// The outcome has this status and this report, which a writer that takes nothing, or fails, is told in part alone.
+/// The outcome has this status and this report. A writer that takes nothing, or fails, gets a beginning of it.
 fn reported(rt: &impl Abort, alloc: Global, outcome: &Outcome, status: u8, text: &str) {
     assert_eq!(rt; outcome.status(), status, "{text}");
     let mut sink = Sink::new(alloc, 1, NEVER);

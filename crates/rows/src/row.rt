@@ -32,7 +32,7 @@ impl Seen {
         }
         let line = Line::of(line);
         match line.kind() {
-            Kind::Text(_) if self.has_wanted => return Some("a text behind what is expected: "),
+            Kind::Text(_) if self.has_wanted => return Some("a text after what is expected: "),
             Kind::Text(_) => self.has_text = true,
             Kind::Making => return making(line),
             Kind::Layout => self.has_setting = true,

@@ -1,30 +1,36 @@
-//! Lays out KDL files, with their comments, and writes them one behind another.
+//! Lays out KDL files, with their comments, and writes them one after another.
 #![tactic(auto)]
 
 ghost use Rattle.kdl.specs.Words.{IsDocument, IsSyntax, Nodes, TellsOnSyntax, text_of};
+ghost use Rattle.kdl_laws.specs.ClientWords.{IsLaidOut};
 ghost use Rattle.std.specs.Prelude.{IfOk, chars, true};
-ghost use Rattle.use_fmt.specs.LaidOut.{IsLaidOut};
 
 use kdl::{KdlDocument, ParseFailure};
+use kdl_laws::layout::texts_are_laid_out;
+use kdl_laws::reading_back::printed_reads_once;
 use std::alloc::Global;
 use std::process::ExitCode;
 use std::{env, fs, io};
 
-/// The document of the text, laid out: it says what the text says, and has its comments.
+/// The document of the text, laid out.
 fn laid_out(alloc: Global, text: &str) -> Result<String, ParseFailure>
-    ensures laid_out { IfOk result (λ out. IsLaidOut (chars text.now) (text_of out)) }
-    ensures same { IfOk result (λ out. (x : Nodes) → IsDocument true (chars text.now) x
+    // The output is a document that says what the text says.
+    ensures says { IfOk result (λ out. (x : Nodes) → IsDocument true (chars text.now) x
         → IsDocument true (text_of out) x) }
+    // It is the text as `autoformat` lays it out: its comments stay, and a second layout changes nothing.
+    ensures laid_out { IfOk result (λ out. IsLaidOut (chars text.now) (text_of out)) }
+    // A text that is refused is no document, and the error has its faults.
     ensures refused { IsSyntax result → (x : Nodes) → IsDocument true (chars text.now) x → ⊥ }
     ensures told { TellsOnSyntax text.now result }
 {
+    texts_are_laid_out();
+    printed_reads_once();
     let mut document = KdlDocument::parse(alloc, text)?;
     document.autoformat()?;
-    let text = document.to_string(alloc)?;
-    Ok(text)
+    Ok(document.to_string(alloc)?)
 }
 
-/// Writes the file laid out, or what is wrong with it, and answers whether nothing is.
+/// Writes the file laid out, or its faults, and returns whether it has none.
 fn show(rt: &HostRuntime, name: &str) -> io::Result<bool> {
     let text = fs::read_to_string(rt, name)?;
     match laid_out(rt.alloc(), &text) {

@@ -6,7 +6,7 @@ use Rattle.std.proofs.lemmas.List.{map-append}
 use Rattle.std.proofs.lemmas.List.Elements.{Contains-append_left, Contains-append_right, Contains-append_cases}
 use Rattle.std.proofs.lemmas.Option.{none-some}
 use Rattle.kdl.specs.Internal.Count.{total, count_nodes, count_option}
-use Rattle.kdl.specs.Words.{nodes_of}
+use Rattle.kdl.specs.Words.{node_says, nodes_of}
 use Rattle.kdl.specs.declared.document.KdlDocument.{KdlDocument}
 use Rattle.kdl.specs.declared.node.KdlNode.{KdlNode, out-KdlNode}
 use Rattle.kdl.proofs.NodeCounts.{count_doc_out, count_node_out, total-append}
@@ -55,22 +55,22 @@ abbrev blocks_of : Bool → Option Rule → Option KdlDocument → List Block
 blocks_of m f c = if m then option_map_or (λ r. option_map_or (λ d. record { nodes = nodes_of d; above = r } ∷ []) c []) f [] else []
 
 -- it is there, and where it is from
-block_there : (rules : List Rule) (above r : Rule) (n : KdlNode) (d : KdlDocument) → is_allowed above n ≡ true → rule_of rules n ≡ Some r → (out-KdlNode n).children ≡ Some d
+block_there : (rules : List Rule) (above r : Rule) (n : KdlNode) (d : KdlDocument) → is_allowed above (node_says n) ≡ true → rule_of rules (node_says n) ≡ Some r → (out-KdlNode n).children ≡ Some d
     → Contains (blocks_at rules above n) (record { nodes = nodes_of d; above = r })
 block_there rules above r n d m f c = rw (m, f, c) (contains_first _ [])
 
 pub record BlockFrom (rules : List Rule) (above : Rule) (n : KdlNode) (x : Block) : Type 0 where
   pub rule : Rule
   pub document : KdlDocument
-  pub allowed : is_allowed above n ≡ true
-  pub found : rule_of rules n ≡ Some rule
+  pub allowed : is_allowed above (node_says n) ≡ true
+  pub found : rule_of rules (node_says n) ≡ Some rule
   pub children : (out-KdlNode n).children ≡ Some document
   pub is : record { nodes = nodes_of document; above = rule } ≡ x
 
 block_from : (rules : List Rule) (above : Rule) (n : KdlNode) (x : Block) → Contains (blocks_at rules above n) x → BlockFrom rules above n x
-block_from rules above n x = go (is_allowed above n) (rule_of rules n) (out-KdlNode n).children refl refl refl
+block_from rules above n x = go (is_allowed above (node_says n)) (rule_of rules (node_says n)) (out-KdlNode n).children refl refl refl
   where
-    go : (m : Bool) (f : Option Rule) (c : Option KdlDocument) → is_allowed above n ≡ m → rule_of rules n ≡ f → (out-KdlNode n).children ≡ c → Contains (blocks_of m f c) x → BlockFrom rules above n x
+    go : (m : Bool) (f : Option Rule) (c : Option KdlDocument) → is_allowed above (node_says n) ≡ m → rule_of rules (node_says n) ≡ f → (out-KdlNode n).children ≡ c → Contains (blocks_of m f c) x → BlockFrom rules above n x
     go true (Some r) (Some d) m f c h = record { rule = r; document = d; allowed = m; found = f; children = c; is = only _ x h }
     go true (Some r) None m f c h = absurd (none_in_nil x h)
     go true None c m f e h = absurd (none_in_nil x h)
@@ -168,7 +168,7 @@ due_size-append : (xs ys : List Block) → due_size (xs ++ ys) ≡ due_size xs +
 due_size-append xs ys = ap total (map-append size xs ys) ∙ total-append (map size xs) (map size ys)
 
 block_within : (rules : List Rule) (above : Rule) (n : KdlNode) → due_size (blocks_at rules above n) ≤ count_option (out-KdlNode n).children
-block_within rules above n = go (is_allowed above n) (rule_of rules n) (out-KdlNode n).children
+block_within rules above n = go (is_allowed above (node_says n)) (rule_of rules (node_says n)) (out-KdlNode n).children
   where
     go : (m : Bool) (f : Option Rule) (c : Option KdlDocument) → due_size (blocks_of m f c) ≤ count_option c
     go true (Some r) (Some d) = omega (arith, count_doc_out d)

@@ -1,8 +1,9 @@
--- Which rule is breached where in a document.
+-- Which rule is broken where in a document, by what the document says.
 use Rattle.std.specs.List.{list_any}
 use Rattle.std.specs.Option.{option_map_or}
-use Rattle.std.specs.Prelude.{◌≡◌, ℕ, Bool, true, not, ◌&&◌, ◌||◌, nat_le, if◌then◌else◌, List, [], ◌∷◌, ◌++◌, Contains, count_by, filter, find, map, Option, Some, is_some, codes}
-use Rattle.kdl.specs.Words.{Value, block_of as child_block, entries_of, entry_tree, has_name, integer_value, is_argument, is_node_named, node_span_of, nodes_of, text_value, truth_value}
+use Rattle.std.specs.Prelude.{◌≡◌, ℕ, Bool, true, not, ◌&&◌, ◌||◌, nat_le, if◌then◌else◌, List, [], ◌∷◌, ◌++◌, Contains, chars, filter, find, length, map, Option, Some, is_some, codes}
+use Rattle.kdl.specs.Words.{EntryData, NodeData, Value, block_of as child_block, entries_of, entry_data, entry_tree, integer_value, node_says, node_span_of, nodes_of, said_arguments, text_value, truth_value}
+use Rattle.kdl.specs.Said.{has_key, has_no_key, is_called}
 use Rattle.kdl.specs.declared.KdlEntry.{KdlEntry}
 use Rattle.kdl.specs.declared.SourceSpan.{SourceSpan}
 use Rattle.kdl.specs.declared.document.KdlDocument.{KdlDocument}
@@ -19,29 +20,33 @@ is_kind Text v = is_some (text_value v)
 is_kind Whole v = is_some (integer_value v)
 is_kind Boolean v = is_some (truth_value v)
 
--- the entry is a property of that name and kind
-abbrev pub is_property : KdlEntry → List ℕ → Kind → Bool
-is_property e name kind = has_name name e && is_kind kind (entry_tree e).value
+-- what an entry says is a property of that name and kind
+abbrev pub is_property : EntryData → List ℕ → Kind → Bool
+is_property e name kind = has_key (chars name) e && is_kind kind e.value
 
--- the entry is a property that the rule has
-abbrev pub is_listed : Rule → KdlEntry → Bool
+-- it is a property that the rule has
+abbrev pub is_listed : Rule → EntryData → Bool
 is_listed r e = list_any (λ p. is_property e p.0.now p.1) r.properties.now
 
--- the entry is an argument, or such a property
-abbrev pub is_entry : Rule → KdlEntry → Bool
-is_entry r e = is_argument e || is_listed r e
+-- it is an argument, or such a property
+abbrev pub is_entry : Rule → EntryData → Bool
+is_entry r e = has_no_key e || is_listed r e
 
--- the node has as many arguments as the rule says
-abbrev pub has_arguments : Rule → KdlNode → Bool
-has_arguments r n = nat_le r.arguments.0 (count_by is_argument (entries_of n)) && nat_le (count_by is_argument (entries_of n)) r.arguments.1
+-- what an entry in memory says
+abbrev pub entry_says : KdlEntry → EntryData
+entry_says e = entry_data (entry_tree e)
 
--- the node is allowed in the block of a node of that rule
-abbrev pub is_allowed : Rule → KdlNode → Bool
-is_allowed above n = list_any (λ name. is_node_named name.now n) above.children.now
+-- a node says as many arguments as the rule allows
+abbrev pub has_arguments : Rule → NodeData → Bool
+has_arguments r n = nat_le r.arguments.0 (length (said_arguments n)) && nat_le (length (said_arguments n)) r.arguments.1
 
--- the first rule of the node's name
-abbrev pub rule_of : List Rule → KdlNode → Option Rule
-rule_of rules n = find (λ r. is_node_named r.name.now n) rules
+-- it is allowed in the block of a node of that rule
+abbrev pub is_allowed : Rule → NodeData → Bool
+is_allowed above n = list_any (λ name. is_called (chars name.now) n) above.children.now
+
+-- the first rule of its name
+abbrev pub rule_of : List Rule → NodeData → Option Rule
+rule_of rules n = find (λ r. is_called (chars r.name.now) n) rules
 
 -- a breach, with its text as bytes
 pub record BreachView : Type 0 where
@@ -53,11 +58,11 @@ breach_view b = record { span = b.span; what = b.what.now }
 
 -- the breach of a node that has too few arguments, or too many
 abbrev pub argument_breaches : Rule → KdlNode → List BreachView
-argument_breaches r n = if has_arguments r n then [] else record { span = node_span_of n; what = codes "too few or too many arguments" } ∷ []
+argument_breaches r n = if has_arguments r (node_says n) then [] else record { span = node_span_of n; what = codes "too few or too many arguments" } ∷ []
 
 -- those of the entries that are not allowed in such a node
 abbrev pub entry_breaches : Rule → List KdlEntry → List BreachView
-entry_breaches r es = map (λ e. record { span = (entry_tree e).span; what = codes "a property that is not known, or of another type" }) (filter (λ e. not (is_entry r e)) es)
+entry_breaches r es = map (λ e. record { span = (entry_tree e).span; what = codes "a property that is not known, or of another type" }) (filter (λ e. not (is_entry r (entry_says e))) es)
 
 -- both, of a node that has that rule
 abbrev pub own_breaches : Rule → KdlNode → List BreachView
@@ -66,13 +71,13 @@ own_breaches r n = argument_breaches r n ++ entry_breaches r (entries_of n)
 -- the breaches of a node in a block of the rule `above`, but for those in its own block
 abbrev pub breaches_at : List Rule → Rule → KdlNode → List BreachView
 breaches_at rules above n =
-    if is_allowed above n then option_map_or (λ r. own_breaches r n) (rule_of rules n) []
-    else record { span = node_span_of n; what = codes "a node that may not stand here" } ∷ []
+    if is_allowed above (node_says n) then option_map_or (λ r. own_breaches r n) (rule_of rules (node_says n)) []
+    else record { span = node_span_of n; what = codes "a node that is not allowed here" } ∷ []
 
 -- a breach among nodes in a block of the rule `above`: of one of them, or in the block of one that is allowed there and has a rule
 pub data IsBreach (rules : List Rule) : Rule → List KdlNode → BreachView → Type 0 where
   at : {above : Rule} {ns : List KdlNode} {n : KdlNode} {b : BreachView} → Contains ns n → Contains (breaches_at rules above n) b → IsBreach rules above ns b
-  below : {above r : Rule} {ns : List KdlNode} {n : KdlNode} {d : KdlDocument} {b : BreachView} → Contains ns n → is_allowed above n ≡ true → rule_of rules n ≡ Some r → child_block n ≡ Some d
+  below : {above r : Rule} {ns : List KdlNode} {n : KdlNode} {d : KdlDocument} {b : BreachView} → Contains ns n → is_allowed above (node_says n) ≡ true → rule_of rules (node_says n) ≡ Some r → child_block n ≡ Some d
       → IsBreach rules r (nodes_of d) b → IsBreach rules above ns b
 
 -- a breach in the document, in which the first rule is that of the top; without rules there is none
@@ -91,4 +96,4 @@ block_of d = record { nodes = d.nodes.now; above = d.above.now }
 -- the block of a node, where it is to be checked
 abbrev pub blocks_at : List Rule → Rule → KdlNode → List Block
 blocks_at rules above n =
-    if is_allowed above n then option_map_or (λ r. option_map_or (λ d. record { nodes = nodes_of d; above = r } ∷ []) (child_block n) []) (rule_of rules n) [] else []
+    if is_allowed above (node_says n) then option_map_or (λ r. option_map_or (λ d. record { nodes = nodes_of d; above = r } ∷ []) (child_block n) []) (rule_of rules (node_says n)) [] else []

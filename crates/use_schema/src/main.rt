@@ -8,7 +8,7 @@ use kdl::KdlDocument;
 use std::io;
 use std::process::ExitCode;
 
-/// What may stand at the top, in a bed and in a tree.
+/// What is allowed at the top, in a bed and in a tree.
 static RULES: [Rule<'static>; 3] = [
     Rule {
         name: "",
@@ -30,7 +30,7 @@ static RULES: [Rule<'static>; 3] = [
     },
 ];
 
-/// Prints each breach, and answers with success where there is none.
+/// Prints each breach, and returns success where there is none.
 fn show(rt: &HostRuntime, document: &KdlDocument) -> io::Result<ExitCode> {
     let mut code = ExitCode::SUCCESS;
     for breach in &breaches(rt.alloc(), &RULES, document)? {

@@ -1,10 +1,12 @@
 //! Rules for nodes, and what breaks them.
 
-ghost use Rattle.kdl.specs.Words.{has_name, is_node_named, value_tree};
-ghost use Rattle.std.specs.Prelude.{◌≡◌, ◌↔◌, ◌++◌, Contains, IfOk, OnOk, flat_map, map, option_map};
-ghost use Rattle.use_schema.specs.Breaches.{BreachView, IsBreachIn, argument_breaches, block_of, blocks_at, breach_view, breaches_at, entry_breaches, has_arguments, is_entry, is_kind, is_listed, is_property, is_allowed, own_breaches, rule_of};
+ghost use Rattle.kdl.specs.Said.{has_key, is_called};
+ghost use Rattle.kdl.specs.Words.{node_says, value_tree};
+ghost use Rattle.std.specs.Prelude.{◌≡◌, ◌↔◌, ◌++◌, Contains, IfOk, OnOk, chars, flat_map, map, option_map};
+ghost use Rattle.use_schema.specs.Breaches.{BreachView, IsBreachIn, argument_breaches, block_of, blocks_at, breach_view, breaches_at, entry_breaches, entry_says, has_arguments, is_entry, is_kind, is_listed, is_property, is_allowed, own_breaches, rule_of};
 
 use kdl::{KdlDocument, KdlEntry, KdlNode, KdlValue, SourceSpan};
+use kdl_laws::said::{arguments_are_counted, texts_are_compared};
 use std::alloc::{AllocError, Global};
 
 /// What a property says.
@@ -50,8 +52,9 @@ fn is_kind(kind: Kind, value: &KdlValue) -> bool
 
 /// Whether the entry has that name.
 fn has_name(entry: &KdlEntry, name: &str) -> bool
-    ensures { result ≡ has_name name.now entry.now }
+    ensures { result ≡ has_key (chars name.now) (entry_says entry.now) }
 {
+    texts_are_compared();
     match entry.name() {
         Some(key) => key.value() == name,
         None => false,
@@ -60,14 +63,14 @@ fn has_name(entry: &KdlEntry, name: &str) -> bool
 
 /// Whether the entry is a property of that name and kind.
 fn is_property(entry: &KdlEntry, name: &str, kind: Kind) -> bool
-    ensures { result ≡ is_property entry.now name.now kind }
+    ensures { result ≡ is_property (entry_says entry.now) name.now kind }
 {
     has_name(entry, name) && is_kind(kind, entry.value())
 }
 
 /// Whether the entry is a property that the rule has.
 fn is_listed(rule: &Rule<'_>, entry: &KdlEntry) -> bool
-    ensures { result ≡ is_listed rule.now entry.now }
+    ensures { result ≡ is_listed rule.now (entry_says entry.now) }
 {
     rule.properties
         .iter()
@@ -76,36 +79,38 @@ fn is_listed(rule: &Rule<'_>, entry: &KdlEntry) -> bool
 
 /// Whether the entry is an argument, or such a property.
 fn is_entry(rule: &Rule<'_>, entry: &KdlEntry) -> bool
-    ensures { result ≡ is_entry rule.now entry.now }
+    ensures { result ≡ is_entry rule.now (entry_says entry.now) }
 {
     entry.name().is_none() || is_listed(rule, entry)
 }
 
 /// Whether the node has as many arguments as it may have.
 fn has_arguments(rule: &Rule<'_>, node: &KdlNode) -> bool
-    ensures { result ≡ has_arguments rule.now node.now }
+    ensures { result ≡ has_arguments rule.now (node_says node.now) }
 {
+    arguments_are_counted();
     let count = node.argument_count();
     rule.arguments.0 <= count && count <= rule.arguments.1
 }
 
 /// Whether the node has that name.
 fn is_named(node: &KdlNode, name: &str) -> bool
-    ensures { result ≡ is_node_named name.now node.now }
+    ensures { result ≡ is_called (chars name.now) (node_says node.now) }
 {
+    texts_are_compared();
     node.name().value() == name
 }
 
 /// Whether the node is allowed in the block of a node of that rule.
 fn is_allowed(above: &Rule<'_>, node: &KdlNode) -> bool
-    ensures { result ≡ is_allowed above.now node.now }
+    ensures { result ≡ is_allowed above.now (node_says node.now) }
 {
     above.children.iter().any(|name| is_named(node, name))
 }
 
 /// The rule of the node's name.
 fn rule_of<'a>(rules: &'a [Rule<'a>], node: &KdlNode) -> Option<&'a Rule<'a>>
-    ensures { option_map (λ r. r.now) result ≡ rule_of rules.now node.now }
+    ensures { option_map (λ r. r.now) result ≡ rule_of rules.now (node_says node.now) }
 {
     rules.iter().find(|rule| is_named(node, rule.name))
 }
@@ -173,7 +178,7 @@ fn check_node<'a>(
         map block_of due.old.items ++ blocks_at rules.now above.now node.now) }
 {
     if !is_allowed(above, node) {
-        let what = "a node that may not stand here";
+        let what = "a node that is not allowed here";
         found.push(Breach {
             span: node.span(),
             what,

@@ -1,61 +1,73 @@
 //! The edit of one number.
 
-ghost use Rattle.kdl.specs.Words.{IsDocument, IsSyntax, Nodes, TellsOnSyntax, argument_named, entry_tree, integer, print_value, text_of, value_tree};
-ghost use Rattle.std.specs.Prelude.{◌≡◌, IfOk, IfSome, IfNone, IsTrue, chars, is_some, true};
-ghost use Rattle.use_set.specs.Edit.{HasNone, IsEdited, IsExchanged, IsSet, respelled};
+ghost use Rattle.kdl.specs.Words.{DocumentReadsBack, IsDocument, IsSyntax, Nodes, TellsOnSyntax, argument_named, document_prints, document_says, entry_tree, integer, print_value, respelled, said_arg, text_of, value_tree};
+ghost use Rattle.kdl_laws.specs.ClientWords.{HasInstead, with_said_arg};
+ghost use Rattle.std.specs.Prelude.{◌≡◌, IfNone, IfOk, IfSome, IsSome, None, chars, true};
 
 use kdl::{KdlDocument, KdlEntry, KdlValue, NodeKey, ParseFailure};
+use kdl_laws::reading_back::{printed_is_text, printed_reads_back, printed_reads_once};
+use kdl_laws::sets::argument_is_set;
+use kdl_laws::values::values_are_well_formed;
 use std::alloc::Global;
 
-/// The text with the number as the first argument of the first node of that name, and otherwise byte for byte; none where
-/// the first node of that name has no argument, or there is none.
+/// The text with the number as the first argument of the first node of that name. None where there is no such argument.
 pub fn edit(
     alloc: Global,
     text: &str,
     name: &str,
     number: i128,
 ) -> Result<Option<String>, ParseFailure>
-    // The document with the number in its place is written,
-    ensures edited { IfOk result (λ o. IfSome o (λ out.
-        IsEdited (chars text.now) name.now (integer number) (text_of out))) }
-    // in which no byte differs but those of the number.
-    ensures kept { IfOk result (λ o. IfSome o (λ out.
-        IsExchanged (chars text.now) (text_of out) (print_value (integer number)))) }
-    // Where nothing is written, there is no such argument.
-    ensures missing { IfOk result (λ o. IfNone o (HasNone (chars text.now) name.now)) }
-    // What is refused is no document, and an error tells where.
+    // The output is a document. It says what the text says, with the number in its place.
+    ensures says { IfOk result (λ o. IfSome o (λ out. (x : Nodes) → IsDocument true (chars text.now) x
+        → IsDocument true (text_of out) (with_said_arg (chars name.now) (integer number) x))) }
+    // It is the text, with the number in place of the former value: all other bytes stay.
+    ensures bytes { IfOk result (λ o. IfSome o (λ out.
+        HasInstead (print_value (integer number)) (chars text.now) (text_of out))) }
+    // Without an output, the text has no such argument.
+    ensures missing { IfOk result (λ o. IfNone o ((x : Nodes) → IsDocument true (chars text.now) x
+        → said_arg (chars name.now) x ≡ None)) }
+    // A text that is refused is no document, and the error has its faults.
     ensures refused { IsSyntax result → (x : Nodes) → IsDocument true (chars text.now) x → ⊥ }
     ensures told { TellsOnSyntax text.now result }
 {
+    printed_reads_back();
+    printed_reads_once();
+    printed_is_text();
     let mut document = KdlDocument::parse(alloc, text)?;
-    let value = KdlValue::from(number);
-    let spelling = value.to_string(alloc)?;
-    if !set(&mut document, name, value, spelling) {
+    if document.get_arg(name).is_none() {
         return Ok(None);
     }
+    let value = KdlValue::from(number);
+    let spelling = value.to_string(alloc)?;
+    set(&mut document, name, value, spelling);
     Ok(Some(document.to_string(alloc)?))
 }
 
-/// Sets the first argument of the first node of that name, and answers whether there is one.
-fn set(document: &mut KdlDocument, name: &str, value: KdlValue, spelling: String) -> bool
-    ensures found { result ≡ is_some (argument_named name.now document.old) }
-    ensures set { IsTrue result
-        → IsSet name.now (value_tree value) (text_of spelling) document.old document.new }
+/// Sets the first argument of the first node of that name, where there is one, with its spelling.
+fn set(document: &mut KdlDocument, name: &str, value: KdlValue, spelling: String)
+    requires reads { DocumentReadsBack document.old }
+    requires spells { text_of spelling ≡ print_value (value_tree value) }
+    ensures reads { DocumentReadsBack document.new }
+    ensures says { IsSome (argument_named name.now document.old) → document_says document.new ≡
+        with_said_arg (chars name.now) (value_tree value) (document_says document.old) }
+    ensures bytes { IsSome (argument_named name.now document.old) → HasInstead
+        (print_value (value_tree value)) (document_prints document.old) (document_prints document.new) }
 {
+    values_are_well_formed(&value);
+    argument_is_set();
     let Some(node) = document.get_mut(name) else {
-        return false;
+        return;
     };
     let Some(entry) = node.entry_mut(NodeKey::Index(0)) else {
-        return false;
+        return;
     };
     respell(entry, value, spelling);
-    true
 }
 
-/// Sets the value, and its spelling where the entry keeps one. The type and what stands around the value stay.
+/// Sets the value, and its spelling where the entry has a format. The type and the texts around the value stay.
 fn respell(entry: &mut KdlEntry, value: KdlValue, spelling: String)
-    ensures { entry_tree entry.new
-        ≡ respelled (value_tree value) (text_of spelling) (entry_tree entry.old) }
+    requires { text_of spelling ≡ print_value (value_tree value) }
+    ensures { entry_tree entry.new ≡ respelled (value_tree value) (entry_tree entry.old) }
 {
     entry.set_value(value);
     if let Some(format) = entry.format_mut() {

@@ -1,28 +1,48 @@
--- Settings, and what is wrong with them, by what a document says.
-use Rattle.std.specs.Option.{ok_or}
-use Rattle.std.specs.Prelude.{ℕ, ℤ, pos, Bool, ◌&&◌, int_le, if◌then◌else◌, List, [], ◌∷◌, ◌++◌, Option, Some, None, option_and_then, option_map, unwrap_or, Result, Ok, Err, codes}
-use Rattle.kdl.specs.Words.{Text, Value, argument_named, document_span_of, entry_tree, integer_value, text_value, truth_value}
-use Rattle.kdl.specs.declared.KdlEntry.{KdlEntry}
+-- Settings, and what is wrong with them, by what a text says.
+use Rattle.std.specs.Option.{option_map_or}
+use Rattle.std.specs.Prelude.{ℕ, ℤ, pos, Bool, false, ◌&&◌, int_le, if◌then◌else◌, List, [], ◌∷◌, ◌++◌, Option, Some, None, IsSome, option_and_then, Result, Err, chars, codes}
+use Rattle.kdl.specs.Words.{Nodes, Text, Value, argument_named, document_says, document_span_of, entry_tree, integer_value, said_arg, text_value, truth_value}
 use Rattle.kdl.specs.declared.SourceSpan.{SourceSpan}
 use Rattle.kdl.specs.declared.document.KdlDocument.{KdlDocument}
 use Rattle.use_settings.specs.declared.settings.Fault.{Fault}
+use Rattle.use_settings.specs.declared.settings.Refused.{Refused}
+use Rattle.use_settings.specs.declared.settings.Refused.TheVariants.{Syntax, Unfit}
 
 -- a whole number from 1 to the greatest
 abbrev pub number_value : ℤ → Value → Option ℤ
 number_value most v = option_and_then (λ n. if int_le (pos 1) n && int_le n most then Some n else None) (integer_value v)
 
--- what is read of an entry: its value, or else its span
-abbrev pub read_at : {A : Type 0} → (Value → Option A) → KdlEntry → Result A SourceSpan
-read_at read e = ok_or (read (entry_tree e).value) (entry_tree e).span
+-- the default where nothing is said, else what is said, if it is of that type
+abbrev pub setting : {A : Type 0} → (Value → Option A) → A → Option Value → Option A
+setting read default None = Some default
+setting read default (Some v) = read v
 
--- what is read of the first argument of the first node of that name, where there is one
-abbrev pub setting : {A : Type 0} → (Value → Option A) → List ℕ → KdlDocument → Option (Result A SourceSpan)
-setting read name d = option_map (read_at read) (argument_named name d)
+-- the host that a text says, a string
+abbrev pub host : Nodes → Option Text
+host x = option_and_then text_value (said_arg (chars (codes "host")) x)
 
--- what was read, or else the default
-abbrev pub value_or : {A : Type 0} → A → Option (Result A SourceSpan) → A
-value_or default (Some (Ok v)) = v
-value_or default _ = default
+-- the port, 8080 where the text has none
+abbrev pub port : Nodes → Option ℤ
+port x = setting (number_value (pos 65535)) (pos 8080) (said_arg (chars (codes "port")) x)
+
+-- whether to be verbose, off where the text says nothing
+abbrev pub verbose : Nodes → Option Bool
+verbose x = setting truth_value false (said_arg (chars (codes "verbose")) x)
+
+-- each setting is there, or has a default, and is of its type
+pub record Fits (x : Nodes) : Type 0 where
+  pub host : IsSome (host x)
+  pub port : IsSome (port x)
+  pub verbose : IsSome (verbose x)
+
+-- the text was refused; the settings do not fit
+abbrev pub IsSyntax : {A : Type 0} → Result A Refused → Type 0
+IsSyntax (Err (Syntax e)) = Unit {0}
+IsSyntax _ = ⊥
+
+abbrev pub IsUnfit : {A : Type 0} → Result A Refused → Type 0
+IsUnfit (Err (Unfit faults)) = Unit {0}
+IsUnfit _ = ⊥
 
 -- a fault, with its text as bytes
 pub record FaultView : Type 0 where
@@ -32,33 +52,28 @@ pub record FaultView : Type 0 where
 abbrev pub fault_view : Fault → FaultView
 fault_view f = record { wants = f.wants.now; span = f.span }
 
--- the fault of what could not be read
-abbrev pub faults_in : {A : Type 0} → List ℕ → Option (Result A SourceSpan) → List FaultView
-faults_in wants (Some (Err span)) = record { wants = wants; span = span } ∷ []
-faults_in wants _ = []
+-- where the first argument of the first node of that name is, or the document where there is none
+abbrev pub place_of : List ℕ → KdlDocument → SourceSpan
+place_of name d = option_map_or (λ e. (entry_tree e).span) (argument_named name d) (document_span_of d)
 
--- the host, which has to be there
-abbrev pub host : KdlDocument → Option (Result Text SourceSpan)
-host d = Some (unwrap_or (setting text_value (codes "host") d) (Err (document_span_of d)))
+-- the fault of a setting that does not fit
+abbrev pub fault_at : List ℕ → List ℕ → KdlDocument → List FaultView
+fault_at wants name d = record { wants = wants; span = place_of name d } ∷ []
 
--- the port
-abbrev pub port : KdlDocument → Option (Result ℤ SourceSpan)
-port d = setting (number_value (pos 65535)) (codes "port") d
+abbrev pub fault_unless : {A : Type 0} → Option A → List ℕ → List ℕ → KdlDocument → List FaultView
+fault_unless (Some v) wants name d = []
+fault_unless None wants name d = fault_at wants name d
 
--- whether to be verbose
-abbrev pub verbose : KdlDocument → Option (Result Bool SourceSpan)
-verbose d = setting truth_value (codes "verbose") d
+-- the fault of each setting
+abbrev pub host_fault : KdlDocument → List FaultView
+host_fault d = fault_unless (host (document_says d)) (codes "host wants a text") (codes "host") d
 
--- the faults of each
-abbrev pub host_faults : KdlDocument → List FaultView
-host_faults d = faults_in (codes "host wants a text") (host d)
+abbrev pub port_fault : KdlDocument → List FaultView
+port_fault d = fault_unless (port (document_says d)) (codes "port wants a number from 1 to 65535") (codes "port") d
 
-abbrev pub port_faults : KdlDocument → List FaultView
-port_faults d = faults_in (codes "port wants a number from 1 to 65535") (port d)
+abbrev pub verbose_fault : KdlDocument → List FaultView
+verbose_fault d = fault_unless (verbose (document_says d)) (codes "verbose wants #true or #false") (codes "verbose") d
 
-abbrev pub verbose_faults : KdlDocument → List FaultView
-verbose_faults d = faults_in (codes "verbose wants #true or #false") (verbose d)
-
--- all faults of the document
+-- all faults of the settings, in their order
 abbrev pub faults_of : KdlDocument → List FaultView
-faults_of d = host_faults d ++ port_faults d ++ verbose_faults d
+faults_of d = host_fault d ++ port_fault d ++ verbose_fault d

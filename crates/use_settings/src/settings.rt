@@ -1,25 +1,173 @@
-//! Settings, read from a document with their types.
+//! Settings, read from a text with their types.
 
-ghost use Rattle.kdl.specs.Words.{argument_named, text_value, truth_value};
-ghost use Rattle.std.specs.Prelude.{◌≡◌, ◌++◌, [], IfOk, MatchResult, OnOk, chars, false, map, option_map, pos};
-ghost use Rattle.use_settings.specs.Settings as read;
-ghost use Rattle.use_settings.specs.Settings.{fault_view, faults_in, faults_of, host_faults, number_value, port_faults, read_at, value_or, verbose_faults};
+ghost use Rattle.kdl.specs.Words.{IsDocument, Nodes, argument_named, document_says, text_of};
+ghost use Rattle.std.specs.Prelude.{◌≡◌, ◌++◌, IfNone, IfOk, IfSome, OnOk, Some, chars, map, option_map, true};
+ghost use Rattle.use_settings.specs.Settings as said;
+ghost use Rattle.use_settings.specs.Settings.{Fits, IsSyntax, IsUnfit, fault_at, fault_view, faults_of, host_fault, place_of, port_fault, verbose_fault};
 
-use kdl::{KdlDocument, KdlEntry, NodeKey, SourceSpan};
-use std::alloc::AllocError;
+use kdl::{KdlDocument, KdlEntry, KdlError, NodeKey, ParseFailure, SourceSpan};
+use std::alloc::{AllocError, Global};
 
-/// What is missing or of another type, and where.
+/// The settings.
+#[derive(Drop)]
+pub struct Settings {
+    pub host: String,
+    pub port: i128,
+    pub verbose: bool,
+}
+
+/// A setting that is missing or of another type, and where.
 #[derive(Clone, Copy)]
 pub struct Fault {
     pub wants: &'static str,
     pub span: SourceSpan,
 }
 
-#[derive(Clone, Copy)]
-pub struct Settings<'a> {
-    pub host: &'a str,
-    pub port: i128,
-    pub verbose: bool,
+/// Why a text has no settings.
+#[derive(Drop)]
+pub enum Refused {
+    /// The text is no document.
+    Syntax(KdlError),
+    /// Settings are missing, or of another type.
+    Unfit(Vec<Fault>),
+    /// Memory ran out.
+    Memory,
+}
+
+/// The settings of a text: the host has to be there, the port is 8080 where the text has none, and `verbose` is off.
+pub fn load(alloc: Global, text: &str) -> Result<Settings, Refused>
+    // Each setting is what the text says, or the default where the text says nothing.
+    ensures host { IfOk result (λ s. (x : Nodes) → IsDocument true (chars text.now) x
+        → said.host x ≡ Some (text_of s.host)) }
+    ensures port { IfOk result (λ s. (x : Nodes) → IsDocument true (chars text.now) x
+        → said.port x ≡ Some s.port) }
+    ensures verbose { IfOk result (λ s. (x : Nodes) → IsDocument true (chars text.now) x
+        → said.verbose x ≡ Some s.verbose) }
+    // Settings are refused where one is missing, or of another type.
+    ensures unfit { IsUnfit result → (x : Nodes) → IsDocument true (chars text.now) x
+        → Fits x → ⊥ }
+    // A text that is refused is no document.
+    ensures refused { IsSyntax result → (x : Nodes) → IsDocument true (chars text.now) x → ⊥ }
+{
+    let document = match KdlDocument::parse(alloc, text) {
+        Ok(document) => document,
+        Err(ParseFailure::Syntax(error)) => return Err(Refused::Syntax(error)),
+        Err(ParseFailure::Memory) => return Err(Refused::Memory),
+    };
+    let mut faults = Vec::new(alloc);
+    match read(alloc, &document, &mut faults) {
+        Ok(Some(settings)) => Ok(settings),
+        Ok(None) => Err(Refused::Unfit(faults)),
+        Err(AllocError) => Err(Refused::Memory),
+    }
+}
+
+/// The settings of a document; none, and a fault for each that does not fit, where one does not.
+fn read(
+    alloc: Global,
+    document: &KdlDocument,
+    faults: &mut Vec<Fault>,
+) -> Result<Option<Settings>, AllocError>
+    ensures host { IfOk result (λ o. IfSome o (λ s.
+        said.host (document_says document.now) ≡ Some (text_of s.host))) }
+    ensures port { IfOk result (λ o. IfSome o (λ s.
+        said.port (document_says document.now) ≡ Some s.port)) }
+    ensures verbose { IfOk result (λ o. IfSome o (λ s.
+        said.verbose (document_says document.now) ≡ Some s.verbose)) }
+    ensures unfit { IfOk result (λ o. IfNone o (Fits (document_says document.now) → ⊥)) }
+    ensures faults { OnOk result (map fault_view faults.new.items ≡
+        map fault_view faults.old.items ++ faults_of document.now) }
+{
+    let host = host(document, faults)?;
+    let port = port(document, faults)?;
+    let verbose = verbose(document, faults)?;
+    match (host, port, verbose) {
+        (Some(host), Some(port), Some(verbose)) => Ok(Some(Settings {
+            host: String::from_str(alloc, host)?,
+            port,
+            verbose,
+        })),
+        _ => Ok(None),
+    }
+}
+
+/// The host, which has to be there.
+fn host<'a>(
+    document: &'a KdlDocument,
+    faults: &mut Vec<Fault>,
+) -> Result<Option<&'a str>, AllocError>
+    ensures value { IfOk result (λ o.
+        option_map (λ s. chars s.now) o ≡ said.host (document_says document.now)) }
+    ensures faults { OnOk result (map fault_view faults.new.items ≡
+        map fault_view faults.old.items ++ host_fault document.now) }
+{
+    if let Some(value) = document.get_arg("host") {
+        if let Some(host) = value.as_string() {
+            return Ok(Some(host));
+        }
+    }
+    note(document, "host", "host wants a text", faults)?;
+    Ok(None)
+}
+
+/// The port, 8080 where there is none.
+fn port(document: &KdlDocument, faults: &mut Vec<Fault>) -> Result<Option<i128>, AllocError>
+    ensures value { IfOk result (λ o. o ≡ said.port (document_says document.now)) }
+    ensures faults { OnOk result (map fault_view faults.new.items ≡
+        map fault_view faults.old.items ++ port_fault document.now) }
+{
+    let Some(value) = document.get_arg("port") else {
+        return Ok(Some(8080));
+    };
+    match value.as_integer() {
+        Some(port) if 1 <= port && port <= 65535 => Ok(Some(port)),
+        _ => {
+            let wants = "port wants a number from 1 to 65535";
+            note(document, "port", wants, faults)?;
+            Ok(None)
+        }
+    }
+}
+
+/// Whether to be verbose, which is off where nothing says so.
+fn verbose(document: &KdlDocument, faults: &mut Vec<Fault>) -> Result<Option<bool>, AllocError>
+    ensures value { IfOk result (λ o. o ≡ said.verbose (document_says document.now)) }
+    ensures faults { OnOk result (map fault_view faults.new.items ≡
+        map fault_view faults.old.items ++ verbose_fault document.now) }
+{
+    let Some(value) = document.get_arg("verbose") else {
+        return Ok(Some(false));
+    };
+    let verbose = value.as_bool();
+    if verbose.is_none() {
+        note(document, "verbose", "verbose wants #true or #false", faults)?;
+    }
+    Ok(verbose)
+}
+
+/// Notes that the first argument of the first node of that name is missing, or of another type.
+fn note(
+    document: &KdlDocument,
+    name: &str,
+    wants: &'static str,
+    faults: &mut Vec<Fault>,
+) -> Result<(), AllocError>
+    ensures { OnOk result (map fault_view faults.new.items ≡
+        map fault_view faults.old.items ++ fault_at wants.now name.now document.now) }
+{
+    let span = place(document, name);
+    faults.push(Fault { wants, span })?;
+    Ok(())
+}
+
+/// Where the first argument of the first node of that name is, or the document where there is none.
+fn place(document: &KdlDocument, name: &str) -> SourceSpan
+    ensures { result ≡ place_of name.now document.now }
+{
+    match argument(document, name) {
+        Some(entry) => entry.span(),
+        None => document.span(),
+    }
 }
 
 /// The first argument of the first node of that name.
@@ -30,99 +178,4 @@ fn argument<'a>(document: &'a KdlDocument, name: &str) -> Option<&'a KdlEntry>
         Some(node) => node.entry(NodeKey::Index(0)),
         None => None,
     }
-}
-
-/// The text that the entry says, or else where it stands.
-fn text(entry: &KdlEntry) -> Result<&str, SourceSpan>
-    ensures { MatchResult result (λ s. read_at text_value entry.now ≡ Ok (chars s.now))
-        (λ at. read_at text_value entry.now ≡ Err at) }
-{
-    entry.value().as_string().ok_or(entry.span())
-}
-
-/// The boolean, likewise.
-fn boolean(entry: &KdlEntry) -> Result<bool, SourceSpan>
-    ensures { result ≡ read_at truth_value entry.now }
-{
-    entry.value().as_bool().ok_or(entry.span())
-}
-
-/// The whole number, from 1 to `most`, likewise.
-fn number(entry: &KdlEntry, most: i128) -> Result<i128, SourceSpan>
-    ensures { result ≡ read_at (number_value most) entry.now }
-{
-    match entry.value().as_integer() {
-        Some(number) if 1 <= number && number <= most => Ok(number),
-        _ => Err(entry.span()),
-    }
-}
-
-/// What was read, or the default, and a note of the fault where it is of another type.
-fn read_or<T: Copy>(
-    default: T,
-    read: Option<Result<T, SourceSpan>>,
-    wants: &'static str,
-    faults: &mut Vec<Fault>,
-) -> Result<T, AllocError>
-    ensures value { IfOk result (λ v. v ≡ value_or default read) }
-    ensures faults { OnOk result (map fault_view faults.new.items ≡
-        map fault_view faults.old.items ++ faults_in wants.now read) }
-{
-    match read {
-        Some(Ok(value)) => return Ok(value),
-        Some(Err(span)) => faults.push(Fault { wants, span })?,
-        None => (),
-    }
-    Ok(default)
-}
-
-/// The host, which has to be there.
-fn host<'a>(document: &'a KdlDocument, faults: &mut Vec<Fault>) -> Result<&'a str, AllocError>
-    ensures value { IfOk result (λ s. chars s.now ≡ value_or [] (read.host document.now)) }
-    ensures faults { OnOk result (map fault_view faults.new.items ≡
-        map fault_view faults.old.items ++ host_faults document.now) }
-{
-    let host = match argument(document, "host") {
-        Some(entry) => text(entry),
-        None => Err(document.span()),
-    };
-    read_or("", Some(host), "host wants a text", faults)
-}
-
-/// The port, 8080 where there is none.
-fn port(document: &KdlDocument, faults: &mut Vec<Fault>) -> Result<i128, AllocError>
-    ensures value { IfOk result (λ n. n ≡ value_or (pos 8080) (read.port document.now)) }
-    ensures faults { OnOk result (map fault_view faults.new.items ≡
-        map fault_view faults.old.items ++ port_faults document.now) }
-{
-    let port = argument(document, "port").map(|entry| number(entry, 65535));
-    read_or(8080, port, "port wants a number from 1 to 65535", faults)
-}
-
-/// Whether to be verbose, which is off where nothing says so.
-fn verbose(document: &KdlDocument, faults: &mut Vec<Fault>) -> Result<bool, AllocError>
-    ensures value { IfOk result (λ b. b ≡ value_or false (read.verbose document.now)) }
-    ensures faults { OnOk result (map fault_view faults.new.items ≡
-        map fault_view faults.old.items ++ verbose_faults document.now) }
-{
-    let verbose = argument(document, "verbose").map(boolean);
-    read_or(false, verbose, "verbose wants #true or #false", faults)
-}
-
-/// Reads the settings, and notes what is missing or of another type: the host has to be there.
-pub fn load<'a>(
-    document: &'a KdlDocument,
-    faults: &mut Vec<Fault>,
-) -> Result<Settings<'a>, AllocError>
-    ensures host { IfOk result (λ s. chars s.host.now ≡ value_or [] (read.host document.now)) }
-    ensures port { IfOk result (λ s. s.port ≡ value_or (pos 8080) (read.port document.now)) }
-    ensures verbose { IfOk result (λ s. s.verbose ≡ value_or false (read.verbose document.now)) }
-    ensures faults { OnOk result (map fault_view faults.new.items ≡
-        map fault_view faults.old.items ++ faults_of document.now) }
-{
-    Ok(Settings {
-        host: host(document, faults)?,
-        port: port(document, faults)?,
-        verbose: verbose(document, faults)?,
-    })
 }

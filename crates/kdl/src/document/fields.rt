@@ -90,7 +90,7 @@ impl KdlDocument {
         clear_all(self);
     }
 
-    /// The length of the printed text, in bytes. It prints the document: it fails where memory runs out.
+    /// The length of the printed text, in bytes. The document is printed for it, which fails where memory runs out.
     ///
     /// ```
     /// let document = KdlDocument::parse(alloc, "naïve")?;
@@ -102,7 +102,7 @@ impl KdlDocument {
         Ok(self.to_string(alloc)?.len())
     }
 
-    /// Whether the printed text is empty. It prints the document: it fails where memory runs out.
+    /// Whether the printed text is empty. The document is printed for it, which fails where memory runs out.
     ///
     /// ```
     /// let document = KdlDocument::parse(alloc, "// a comment")?;

@@ -52,9 +52,9 @@ impl KdlDocument {
         self.autoformat_config(&config)
     }
 
-    /// Lays out the document like `autoformat`, without comments: these go, and what a slashdash drops.
+    /// Lays out the document like `autoformat`, and removes its comments, and what a slashdash drops.
     ///
-    /// Where no entry is flagged, two documents print the same text then exactly where they say the same.
+    /// Where no entry is flagged, two documents that are laid out so print the same text exactly where they say the same.
     ///
     /// Fails where memory runs out: then the document says what it said, and some of it may be laid out.
     ///

@@ -79,8 +79,8 @@ impl KdlDocument {
         first_named(&self.nodes, name)
     }
 
-    /// The first node of that name, to be changed in place. All else stays as it is, and each byte of the printed text
-    /// before and after what the node prints.
+    /// The first node of that name, to be changed in place. All else stays as it is, and so do all bytes of the printed
+    /// text before and after those of the node.
     ///
     /// ```
     /// let mut document = KdlDocument::parse(alloc, "host a; port 1 // kept")?;
@@ -94,7 +94,7 @@ impl KdlDocument {
         ensures value { option_map (λ n. n.now) result ≡ node_named name.now self.old }
         ensures said { option_map (λ n. node_says n.now) result ≡
             said_node (chars name.now) (document_says self.old) }
-        // With a node in its place that reads back wherever it did, the document reads back where it did.
+        // With a node in its place that reads back as it did, the document reads back as before.
         ensures reads { IfSome result (λ n. (m : KdlNode) → ReadsAs n.now m
             → DocumentReadsBack self.old
             → DocumentReadsBack (with_node_named name.now self.old m)) }
@@ -130,7 +130,7 @@ impl KdlDocument {
         }
     }
 
-    /// The value that `get_arg` gives, to be changed in place. The entry's format, with the spelling of the value, and
+    /// The value that `get_arg` returns, to be changed in place. The entry's format, with the spelling of the value, and
     /// all else stay as they are.
     ///
     /// ```

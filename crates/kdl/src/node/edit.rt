@@ -76,8 +76,8 @@ impl KdlNode {
         self.entries.is_empty()
     }
 
-    /// The entries, to be changed in place. All else stays as it is: of a node with a format, what is printed before
-    /// the entries and after them too.
+    /// The entries, to be changed in place. All else stays as it is. A node with a format prints the same before its
+    /// entries, and after them.
     ///
     /// ```
     /// let mut node = KdlNode::parse(alloc, "a 1 2 3 // kept")?;
@@ -87,7 +87,7 @@ impl KdlNode {
         ensures* writes_back { sem 𝓛 (Lends the_row entries_row self.entry result
             (with_entries self.old)) }
         ensures value { result.now ≡ held_entries self.old }
-        // With entries that read back where the old ones did, the node reads back wherever it did.
+        // With entries that read back where the old ones did, the node reads back as before.
         ensures reads { (v : Vec KdlEntry Global)
             → (All EntryReadsBack (entries_of self.old) → All EntryReadsBack v.items)
             → ReadsAs self.old (with_entries self.old v) }
@@ -104,13 +104,13 @@ impl KdlNode {
     pub fn clear(&mut self)
         ensures items { entries_of self.new ≡ [] }
         ensures rest { self.new ≡ with_entries self.old (held_entries self.new) }
-        // It reads back wherever it did.
+        // It reads back as before.
         ensures reads { ReadsAs self.old self.new }
     {
         edit::clear(&mut self.entries);
     }
 
-    /// Puts the entry after the others. Fails where memory runs out: then the entry comes back, and the node is as
+    /// Puts the entry after the others. Where memory runs out, the entry comes back with the error, and the node is as
     /// it was.
     ///
     /// ```
@@ -137,14 +137,17 @@ impl KdlNode {
         edit::push(&mut self.entries, entry)
     }
 
-    /// Puts the entry in under the key. Under a name, an entry without a name takes it; the last property whose name
-    /// has that value is replaced in place and returned, and where there is none the entry goes last. Under an index
-    /// it goes directly before the argument at that place among the arguments, or last where there are as many
+    /// Puts the entry in under the key.
+    ///
+    /// Under a name, an entry without a name gets this name. It replaces the last property of that name, which is
+    /// returned. Where there is none, the entry goes last. Under an index, the entry goes directly before the argument
+    /// at that place among the arguments, or last where the index is the number of arguments.
+    ///
+    /// The entry must have no name, or, under a name, one of equal value. The index must be at most the number of
     /// arguments.
     ///
-    /// The entry has no name, or under a name one of equal value; the index is at most the number of arguments. A
-    /// replacement takes no memory. Else it fails where memory runs out: then the entry comes back, with the key for
-    /// its name where it had none, and the node is as it was.
+    /// A replacement takes no memory. Otherwise, where memory runs out, the entry comes back with the error, with the
+    /// key as its name where it had none, and the node is as it was.
     ///
     /// ```
     /// let mut node = KdlNode::parse(alloc, "a b=1 // kept")?;
@@ -203,7 +206,7 @@ impl KdlNode {
             IsExchangedInNode (piece_of result) [] self.old self.new }
         ensures takes { IfSome (key_name key) (λ name. IsTakenOut name self.old self.new) }
         ensures takes_at { IfSome (key_index key) (λ i. IsTakenOutAt i self.old self.new) }
-        // It reads back wherever it did.
+        // It reads back as before.
         ensures reads { ReadsAs self.old self.new }
     {
         edit::remove(&mut self.entries, key)
@@ -221,7 +224,7 @@ impl KdlNode {
         ensures items { IsFiltered (CalledAt F.FnMut) keep
             (entries_of self.old) (entries_of self.new) }
         ensures rest { self.new ≡ with_entries self.old (held_entries self.new) }
-        // It reads back wherever it did.
+        // It reads back as before.
         ensures reads { ReadsAs self.old self.new }
     {
         edit::retain(&mut self.entries, keep);
@@ -244,13 +247,13 @@ impl KdlNode {
         ensures stable { IsStableByClosure F.FnMut compare
             (entries_of self.old) (entries_of self.new) }
         ensures rest { self.new ≡ with_entries self.old (held_entries self.new) }
-        // It reads back wherever it did.
+        // It reads back as before.
         ensures reads { ReadsAs self.old self.new }
     {
         edit::sort_by(&mut self.entries, compare)
     }
 
-    /// Sorts the entries by the key that `f` gives of each; entries with equal keys keep their order. Fails where
+    /// Sorts the entries by the key that `f` returns for each; entries with equal keys keep their order. Fails where
     /// memory ran out: then the entries are in some order.
     ///
     /// ```
@@ -266,7 +269,7 @@ impl KdlNode {
         ensures stable { IsStableByKeyClosure F.FnMut K.cmp f
             (entries_of self.old) (entries_of self.new) }
         ensures rest { self.new ≡ with_entries self.old (held_entries self.new) }
-        // It reads back wherever it did.
+        // It reads back as before.
         ensures reads { ReadsAs self.old self.new }
     {
         edit::sort_by_key(&mut self.entries, f)

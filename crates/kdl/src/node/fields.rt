@@ -124,7 +124,7 @@ impl KdlNode {
         ensures* writes_back { sem 𝓛 (Lends the_row children_row self.entry result
             (with_children self.old)) }
         ensures value { result.now ≡ block_of self.old }
-        // With a block that reads back where the old one did, the node reads back wherever it did.
+        // With a block that reads back where the old one did, the node reads back as before.
         ensures reads { (d e : KdlDocument) → result.now ≡ Some d
             → (BlockReadsBack d → BlockReadsBack e)
             → ReadsAs self.old (with_children self.old (Some e)) }

@@ -61,7 +61,7 @@ impl KdlNode {
         self.autoformat_config(&config)
     }
 
-    /// Lays out the node like `autoformat`, without comments: these go, and what a slashdash drops.
+    /// Lays out the node like `autoformat`, and removes its comments, and what a slashdash drops.
     ///
     /// Fails where memory runs out: then the node says what it said, and some of it may be laid out.
     ///

@@ -66,8 +66,8 @@ impl KdlNode {
         lookup::value(&self.entries, key)
     }
 
-    /// Whether the node has a property of that name. The name's value counts, not its spelling. Then `node[name]` is
-    /// there.
+    /// Whether the node has a property of that name. The name's value counts, not its spelling. Where it has one,
+    /// `node[name]` may be used.
     ///
     /// ```
     /// let node = KdlNode::parse(alloc, "a b=1 c")?;
@@ -87,8 +87,8 @@ impl KdlNode {
     ghost use Rattle.kdl_entry.specs.contracts.entry.KdlEntry.{the_row as entry_row};
     ghost use Rattle.kdl_value.specs.contracts.value.KdlValue.{the_row as value_row};
 
-    /// The entry that `entry` gives, to be changed in place. All else stays as it is: of a node with a format, each byte
-    /// of the printed text before and after what the entry prints too.
+    /// The entry that `entry` returns, to be changed in place. All else stays as it is. In the printed text of a node
+    /// with a format, all bytes before and after those of the entry stay too.
     ///
     /// ```
     /// let mut node = KdlNode::parse(alloc, "a 0x10")?;
@@ -122,7 +122,7 @@ impl KdlNode {
         lookup::entry_mut(&mut self.entries, key)
     }
 
-    /// The value that `get` gives, to be changed in place. The entry's format, with the spelling of the value, and all
+    /// The value that `get` returns, to be changed in place. The entry's format, with the spelling of the value, and all
     /// else stay as they are.
     ///
     /// ```
@@ -143,9 +143,9 @@ impl KdlNode {
         lookup::value_mut(&mut self.entries, key)
     }
 
-    /// The value of the last property of that name, to be changed in place; a property of that name with the value null
-    /// is pushed first where there is none. Fails where memory for it runs out: then the entries are as they were. What
-    /// is there is lent without memory.
+    /// The value of the last property of that name, to be changed in place. Where there is none, a property of that
+    /// name with the value null is pushed first. Only this takes memory. Where memory runs out, the entries are as they
+    /// were.
     ///
     /// ```
     /// let mut node = KdlNode::parse(alloc, "a")?;
@@ -168,7 +168,7 @@ impl KdlNode {
     }
 }
 
-/// The value of the argument at that place among the arguments, from 0. It has to be there, as `get` tells.
+/// The value of the argument at that place among the arguments, from 0. It has to be there, as `get` says.
 ///
 /// ```
 /// let node = KdlNode::parse(alloc, "a b=1 2")?;
@@ -187,7 +187,7 @@ impl Index<usize> for KdlNode {
     }
 }
 
-/// The value of the last property of that name. It has to be there, as `has_property` tells.
+/// The value of the last property of that name. It has to be there, as `has_property` says.
 ///
 /// ```
 /// let node = KdlNode::parse(alloc, "a b=1 2")?;

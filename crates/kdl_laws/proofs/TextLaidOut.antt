@@ -1,0 +1,33 @@
+-- A text that is laid out.
+use Rattle.std.proofs.Common.{◌≡◌, Global, String, string_bytes, refl, subst, sym, true}
+use Rattle.std.specs.Str.{encode_utf8_all}
+use Rattle.std.specs.List.{list_all}
+use Rattle.kdl_text.specs.Chars.{Text, is_space}
+use Rattle.kdl_value.specs.Tree.{text_of}
+use Rattle.kdl_grammar.specs.Laid.{LaidDocument}
+use Rattle.kdl_fmt.specs.Comments.{CommentsStay}
+use Rattle.kdl_fmt.specs.Config.{defaults}
+use Rattle.kdl_fmt.proofs.Formatting.Again.{document_stays}
+use Rattle.kdl.specs.Layout.{DocumentKeepsNoForm, DocumentLaidOut}
+use Rattle.kdl.specs.Tree.{document_prints, document_tree}
+use Rattle.kdl.specs.declared.document.KdlDocument.{KdlDocument}
+use Rattle.kdl_laws.specs.LaidOut.{IsLaidOut}
+use Rattle.kdl_laws.proofs.PrintedOnce.{printed}
+
+spaces_are : list_all is_space defaults.indent ≡ true
+unfolding is_space
+spaces_are = refl
+
+pub text_laid_out : (text : Text) (d e : KdlDocument) (s : String Global) → LaidDocument true (document_tree d) text → DocumentKeepsNoForm d → DocumentLaidOut defaults d e → CommentsStay (document_tree d) (document_prints e)
+    → string_bytes s ≡ encode_utf8_all (document_prints e) → IsLaidOut text (text_of s)
+text_laid_out text d e s laid none formatted comments h =
+    let p = printed e s h in
+    record {
+      before = document_tree d;
+      after = document_tree e;
+      laid = laid;
+      formatted = formatted;
+      prints = p;
+      comments = subst (CommentsStay (document_tree d)) (sym p) comments;
+      again = λ y g. document_stays defaults 0 spaces_are refl (document_tree d) (document_tree e) y formatted none g;
+    }

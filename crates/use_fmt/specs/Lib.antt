@@ -1,2 +1,0 @@
--- What layout makes of a text.
-pub mod LaidOut
