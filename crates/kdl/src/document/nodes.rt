@@ -29,6 +29,9 @@ impl KdlDocument {
     /// is, and so does all other text. A node without a format takes one where it lacks a newline: the texts that it
     /// prints at depth 0.
     ///
+    /// No newline is added that is not lacking: where the last node ends by itself and no text is after it, the new text
+    /// is the old one and then the node.
+    ///
     /// In a block use `KdlNode::push_child`, since a `}` follows there.
     ///
     /// Fails where memory runs out: then the node comes back, and the document is as it was.
