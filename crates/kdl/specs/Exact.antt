@@ -1,10 +1,11 @@
 -- Nodes put among others without a newline too many: each part gets the newlines that it lacks, and no more.
-use Rattle.std.specs.Prelude.{◌≡◌, ℕ, zero, suc, ◌+◌, ◌<◌, ◌≤◌, [], ◌∷◌, ◌++◌, length, Option, Some, None, slice_get}
+use Rattle.std.specs.Prelude.{◌≡◌, ℕ, zero, suc, true, ◌+◌, ◌<◌, ◌≤◌, [], ◌∷◌, ◌++◌, length, Option, Some, None, slice_get}
 use Rattle.kdl_text.specs.Chars.{Text}
 use Rattle.kdl_fmt.specs.Kept.{without_bom}
+use Rattle.kdl_grammar.specs.Grammar.{Gap}
 use Rattle.kdl_grammar.specs.Places.{BeforeChildren}
 use Rattle.kdl_grammar.specs.Print.{leading_text, trailing_text}
-use Rattle.kdl_grammar.specs.ReadsBack.{Anything, AddsNothing, NodeReads, terminator_text}
+use Rattle.kdl_grammar.specs.ReadsBack.{Rests, Anything, BlockEnd, AddsNothing, NodeReads, terminator_text}
 use Rattle.kdl_grammar.specs.Tree.{DocumentFormat, Node, node, NodeFormat}
 use Rattle.kdl_parts.specs.Formats.{node_texts}
 use Rattle.kdl_parts.specs.declared.format.KdlNodeFormat.{KdlNodeFormat}
@@ -12,10 +13,10 @@ use Rattle.kdl.specs.Change.{with_children, with_format}
 use Rattle.kdl.specs.Cleared.{new_document}
 use Rattle.kdl.specs.DocumentLookups.{nodes_of}
 use Rattle.kdl.specs.Fields.{node_format_of}
-use Rattle.kdl.specs.Nodes.{IsPut, format_or_printed, newlines, text_from, text_up_to, texts_around}
+use Rattle.kdl.specs.Nodes.{IsPut, WithNewlines, format_or_printed, newlines, text_from, text_up_to, texts_around}
 use Rattle.kdl.specs.ReadsBack.{NodeEnds}
 use Rattle.kdl.specs.Tree.{document_prints, document_tree, node_prints, node_tree}
-use Rattle.kdl.specs.declared.document.KdlDocument.{KdlDocument, out-KdlDocument}
+use Rattle.kdl.specs.declared.document.KdlDocument.{KdlDocument}
 use Rattle.kdl.specs.declared.node.KdlNode.{KdlNode, out-KdlNode}
 
 -- a format with b newlines more before its terminator, and e more at its end
@@ -30,33 +31,40 @@ with_more b e (node h c) = node (record h { format = Some (lengthened b e (forma
 abbrev pub FewerFail : ℕ → KdlNode → Type 0
 FewerFail k n = (b e : ℕ) → b + e < k → NodeReads Anything (with_more b e (node_tree n)) → ⊥
 
--- before any text a node lacks k newlines, and no fewer: none where it ends by itself, and one where it has no format
+-- before any text a node lacks k newlines: with them it ends by itself, and with fewer it does not. None where it ends so already, and one where it has no format
 pub record LacksBeforeText (k : ℕ) (n : KdlNode) : Type 0 where
-  pub none : NodeEnds n → k ≡ 0
+  pub enough : (P : Rests) → NodeReads P (node_tree n) → (m : Node) × WithNewlines k (node_tree n) m × NodeReads Anything m
   pub fewer : FewerFail k n
+  pub none : NodeEnds n → k ≡ 0
   pub formless : node_format_of n ≡ None → k ≡ 1
 
 -- a node has a format that prints no terminator
 abbrev pub HasOpenEnd : KdlNode → Type 0
 HasOpenEnd n = (f : NodeFormat) × (node_texts (node_format_of n) ≡ Some f) × (terminator_text f ≡ [])
 
--- before a `}` a node lacks k newlines: the same, but for the one that would be its terminator
+-- before the `}` of a block a node lacks k newlines: the same, but for the one that would be its terminator
 pub record LacksBeforeBrace (k : ℕ) (n : KdlNode) : Type 0 where
-  pub none : NodeEnds n → k ≡ 0
+  pub enough : (P : Rests) (f : DocumentFormat) → NodeReads P (node_tree n) → (m : Node) × WithNewlines k (node_tree n) m × NodeReads (BlockEnd (Some f)) m
   pub fewer : FewerFail k n
   pub unended : HasOpenEnd n → FewerFail (k + 1) n
+  pub none : NodeEnds n → k ≡ 0
   pub formless : node_format_of n ≡ None → k ≡ 0
 
--- what is before the place i, a node or the text before the first one, lacks k newlines, and no fewer
+-- before nodes a text lacks k newlines: with them it adds nothing to the nodes, and with fewer it does
+pub record GapLacks (k : ℕ) (t : Text) : Type 0 where
+  pub enough : Gap true t [] → AddsNothing (t ++ newlines k)
+  pub fewer : (m : ℕ) → m < k → AddsNothing (t ++ newlines m) → ⊥
+
+-- what is before the place i lacks k newlines: the node there, or the text before the first one
 abbrev pub LacksAt : ℕ → ℕ → KdlDocument → Type 0
-LacksAt zero k d = (m : ℕ) → m < k → AddsNothing (without_bom (leading_text (texts_around d)) ++ newlines m) → ⊥
+LacksAt zero k d = GapLacks k (without_bom (leading_text (texts_around d)))
 LacksAt (suc i) k d = (n : KdlNode) → slice_get (nodes_of d) i ≡ Some n → LacksBeforeText k n
 
 -- nothing of the document is after the place i: no node, and no text
 abbrev pub IsAtEnd : ℕ → KdlDocument → Type 0
 IsAtEnd i d = (length (nodes_of d) ≤ i) × (trailing_text (texts_around d) ≡ [])
 
--- a node at the place i of a text d lacks j newlines, and no fewer: none at the end
+-- a node at the place i of a text d lacks j newlines: none at the end
 pub record LacksInText (i j : ℕ) (n : KdlNode) (d : KdlDocument) : Type 0 where
   pub at_end : IsAtEnd i d → j ≡ 0
   pub before_text : (IsAtEnd i d → ⊥) → LacksBeforeText j n

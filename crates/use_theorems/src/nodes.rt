@@ -1,7 +1,9 @@
 //! Nodes that are added and removed.
 
-ghost use Rattle.kdl.specs.Words.{DocumentReadsBack, NodeEnds, NodeReadsBack, document_says, node_says, nodes_of, said_with, said_without};
-ghost use Rattle.std.specs.Prelude.{◌≡◌, IfOk, IfSome, length};
+ghost use Rattle.kdl.specs.Words.{DocumentReadsBack, LaidDocument, NodeEnds, NodeReadsBack, NodesMayFollow, document_prints, document_says, document_tree, node_prints, node_says, nodes_of, said_with, said_without};
+ghost use Rattle.kdl.specs.declared.document.KdlDocument.{KdlDocument};
+ghost use Rattle.std.specs.Prelude.{◌≡◌, ◌++◌, IfOk, IfSome, length, true};
+ghost use Rattle.std.specs.Str.{chars};
 
 use kdl::{KdlDocument, KdlNode, ParseFailure};
 use kdl_laws::reading_back::{last_ends, pushed_reads_back};
@@ -78,4 +80,34 @@ pub fn with_child(
     let mut document = KdlDocument::parse(alloc, text)?;
     add_child(&mut document, name, KdlNode::parse(alloc, child)?)?;
     Ok(document)
+}
+
+/// Adds a node after a document that ends its last line: it prints what it printed, and then the node.
+pub fn append(document: &mut KdlDocument, node: KdlNode) -> Result<(), AllocError>
+    requires { NodesMayFollow document.old }
+    ensures { IfOk result (λ _.
+        document_prints document.new ≡ document_prints document.old ++ node_prints node) }
+{
+    match document.push_node(node) {
+        Ok(()) => Ok(()),
+        Err((_, error)) => Err(error),
+    }
+}
+
+/// Reads a text, and adds a node after it: where the text ends its last line, what is printed is the text, and then the
+/// node.
+pub fn append_to_text(
+    alloc: Global,
+    text: &str,
+    node: KdlNode,
+) -> Result<KdlDocument, ParseFailure>
+    ensures { IfOk result (λ out. ((d : KdlDocument)
+        → LaidDocument true (document_tree d) (chars text.now) → NodesMayFollow d)
+        → document_prints out ≡ chars text.now ++ node_prints node) }
+{
+    let mut document = KdlDocument::parse(alloc, text)?;
+    match document.push_node(node) {
+        Ok(()) => Ok(document),
+        Err(_) => Err(ParseFailure::Memory),
+    }
 }

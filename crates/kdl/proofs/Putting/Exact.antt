@@ -1,17 +1,16 @@
 -- Nodes put among others with the newlines that are lacking, and no more.
-use Rattle.std.proofs.Common.{◌≡◌, ℕ, zero, suc, ◌+◌, ◌-◌, ◌<◌, ◌≤◌, Bool, true, false, List, [], ◌∷◌, ◌++◌, length, map, set, take, drop, ap, ◌∙◌, sym, refl, subst, arith, Option, Some, None, option_map, unwrap_or, is_some, slice_get, get_or, add-one, Result, Ok, Err, IfOk, String, Vec, Global}
+use Rattle.std.proofs.Common.{◌≡◌, ℕ, zero, suc, ◌+◌, ◌<◌, ◌≤◌, Bool, true, false, List, [], ◌∷◌, ◌++◌, length, map, set, take, drop, ap, ◌∙◌, sym, refl, subst, arith, Option, Some, None, option_map, unwrap_or, is_some, slice_get, get_or, add-one, Result, Ok, Err, IfOk, String, Vec, Global}
 use Rattle.std.proofs.lemmas.List.{append-nil, drop_all, length-map, map-set, take_all}
 use Rattle.std.proofs.lemmas.Option.{slice_get-map}
 use Rattle.std.specs.List.{insert}
 use Rattle.std.specs.Vec.{with_item}
 use Rattle.kdl_text.specs.Chars.{Text}
-use Rattle.kdl_entry.specs.Tree.{Entry}
 use Rattle.kdl_value.specs.Tree.{text_of}
 use Rattle.kdl_fmt.specs.Kept.{without_bom}
 use Rattle.kdl_grammar.specs.Places.{BeforeChildren}
 use Rattle.kdl_grammar.specs.ReadsBack.{AddsNothing, Anything, EndReads, NodeReads, reads, terminator_text}
-use Rattle.kdl_grammar.specs.Print.{end_text, leading_text, print_nodes, trailing_text}
-use Rattle.kdl_grammar.specs.Tree.{Children, no_children, children, children_of, Document, DocumentFormat, Head, Node, node, NodeFormat, listed_nodes}
+use Rattle.kdl_grammar.specs.Print.{leading_text, print_nodes, trailing_text}
+use Rattle.kdl_grammar.specs.Tree.{Children, no_children, children_of, Document, DocumentFormat, Head, Node, node, NodeFormat, listed_nodes}
 use Rattle.kdl_parts.specs.Formats.{node_format_tree, node_texts}
 use Rattle.kdl_parts.specs.declared.format.KdlNodeFormat.{KdlNodeFormat}
 use Rattle.kdl.specs.Change.{with_children, with_nodes}
@@ -19,14 +18,13 @@ use Rattle.kdl.specs.Cleared.{new_document}
 use Rattle.kdl.specs.DocumentLookups.{nodes_of}
 use Rattle.kdl.specs.Exact.{BlockBegunExactly, ChildPutExactly, ChildPutExactlyIn, EndsAt, FewerFail, HasOpenEnd, IsBeforeNewline, IsPutExactly, IsPutInBlock, LacksAt, LacksBeforeBrace, LacksBeforeText, LacksInBlock, LacksInText, NodesMayFollow, lengthened, with_more}
 use Rattle.kdl.specs.Fields.{node_format_of}
-use Rattle.kdl.specs.Internal.Ends.{BeforeNewBlock, BeginsFewest, BlockBegins, EndsAs, EndsExactly, FewestBefore, FormatFewest, GapFewest, IsEnded, IsEndedBy, IsEndedExactly, IsNodeEnded, IsRestAt, Lacks, LacksBefore, LeadingEnded, LeadsExactly, PlaceFewest, PutBehind, PutBehindExactly, PutExactly, PutFirst, PutFirstExactly, block_format, block_if, end_with, formless_count, lead_with, led_with, with_newlines}
+use Rattle.kdl.specs.Internal.Ends.{BeforeNewBlock, BeginsFewest, BlockBegins, EndsAs, EndsExactly, FewestBefore, FormatFewest, GapFewest, GapSays, IsEnded, IsEndedBy, IsEndedExactly, IsNodeEnded, IsRestAt, Lacks, LacksBefore, LeadingEnded, LeadsExactly, PlaceFewest, PutBehind, PutBehindExactly, PutExactly, PutFirst, PutFirstExactly, block_format, block_if, end_with, formless_count, lead_with, led_with, with_newlines}
 use Rattle.kdl.specs.Nodes.{EndsWith, IsPut, LeadsWith, WithNewlines, format_or_printed, newlines, printed_format, text_from, text_up_to, texts_around, trees}
 use Rattle.kdl.specs.ReadsBack.{NodeEnds}
 use Rattle.kdl.specs.Tree.{document_prints, document_tree, head_tree, node_prints, node_tree, nodes_tree}
 use Rattle.kdl.specs.declared.document.KdlDocument.{KdlDocument}
 use Rattle.kdl.specs.declared.document.KdlDocument.TheViews.{out-KdlDocument, out-KdlNode}
 use Rattle.kdl.specs.declared.ends.Rest.{Rest}
-use Rattle.kdl.specs.declared.ends.Rest.TheVariants as Rest
 use Rattle.kdl.specs.declared.node.KdlNode.{KdlNode}
 use Rattle.kdl.proofs.Putting.Fewest.{open_fewest}
 use Rattle.kdl.proofs.Putting.NodeEnds.{ends_with}
@@ -35,26 +33,8 @@ use Rattle.kdl.proofs.Printing.PrintedParts.{document_printed}
 use Rattle.kdl.proofs.Trees.{node_tree_out, node_tree_roll}
 
 -- what a format lacks
-pub nothing_lacking : (rest : Rest) (c : Children) (f : NodeFormat) (b e : ℕ) → b ≡ 0 → e ≡ 0 → FewestBefore rest c f (b + e) → IsEndedExactly rest c f None
-nothing_lacking rest c f b e h k x = (b + e, omega arith, x)
-
 pub something_lacking : (rest : Rest) (c : Children) (f g : NodeFormat) (b e : ℕ) → Lacks f b e → 0 < b + e → g ≡ with_newlines f b e → FewestBefore rest c f (b + e) → IsEndedExactly rest c f (Some g)
 something_lacking rest c f g b e l h k x = (b + e, (h, l.few, subst (EndsWith (b + e) f) (sym k) (ends_with f b e l)), x)
-
--- what a node lacks, with a format and without one
-pub nothing_at_end : (c : Children) (o : Option NodeFormat) (f : NodeFormat) → IsNodeEnded Rest.End c o f None
-nothing_at_end c None f = refl
-nothing_at_end c (Some g) f = (0, refl, tt)
-
-pub formless_exactly : (c : Children) (es : List Entry) (g : NodeFormat) → g ≡ record (printed_format es) { terminator = 10 ∷ [] } → IsNodeEnded Rest.Text c None (printed_format es) (Some g)
-formless_exactly c es g k =
-    let texts = λ (f : NodeFormat). record (printed_format es) { before_terminator = f.before_terminator; terminator = f.terminator; trailing = f.trailing } in
-    (omega arith, omega arith, record { texts = ap (λ (f : NodeFormat). end_text (Some f)) k; rest = k ∙ ap texts (sym k) })
-
-pub formless_before : (rest : Rest) (c : Children) (f : NodeFormat) → (rest ≡ Rest.Text → ⊥) → IsNodeEnded rest c None f None
-formless_before Rest.End c f h = refl
-formless_before Rest.Brace c f h = refl
-formless_before Rest.Text c f h = absurd (h refl)
 
 -- a node that reads with its format
 end_read : (c : Children) (h : Head) (f : NodeFormat) → h.format ≡ Some f → NodeReads Anything (node h c) → EndReads Anything c f
@@ -102,27 +82,35 @@ module _ (n : KdlNode) (b : Bool) (k : b ≡ is_some (out-KdlNode n).children) w
       let read : NodeReads Anything (node (head_tree (out-KdlNode n)) kids) = subst (NodeReads Anything) (node_tree_out n) r in
       absurd (less 0 0 (omega arith) (subst (λ (z : Node). NodeReads Anything (with_more 0 0 z)) (sym (node_tree_out n)) (same_more kids (head_tree (out-KdlNode n)) read)))
 
-  before_text : (m : ℕ) → FormatFewest (block_if b) (format_or_printed (head_tree (out-KdlNode n))) m → (node_format_of n ≡ None → m ≡ 1) → LacksBeforeText m n
-  before_text m less one = record { none = none_lacking m (fewer_fail m less); fewer = fewer_fail m less; formless = one }
+  module _ (x : KdlNode) (m : ℕ) (w : WithNewlines m (node_tree n) (node_tree x)) where
+    before_text : FormatFewest (block_if b) (format_or_printed (head_tree (out-KdlNode n))) m → EndsAs Rest.Text n x → (node_format_of n ≡ None → m ≡ 1) → LacksBeforeText m n
+    before_text less ends one = record { enough = λ P r. (node_tree x, w, ends P r); fewer = fewer_fail m less; none = none_lacking m (fewer_fail m less); formless = one }
 
-  before_brace : (m : ℕ) → FormatFewest (block_if b) (format_or_printed (head_tree (out-KdlNode n))) m → (HasOpenEnd n → FormatFewest (block_if b) (format_or_printed (head_tree (out-KdlNode n))) (m + 1))
-      → (node_format_of n ≡ None → m ≡ 0) → LacksBeforeBrace m n
-  before_brace m less more bare = record { none = none_lacking m (fewer_fail m less); fewer = fewer_fail m less; unended = λ h. fewer_fail (m + 1) (more h); formless = bare }
+    before_brace : FormatFewest (block_if b) (format_or_printed (head_tree (out-KdlNode n))) m → (HasOpenEnd n → FormatFewest (block_if b) (format_or_printed (head_tree (out-KdlNode n))) (m + 1)) → EndsAs Rest.Brace n x
+        → (node_format_of n ≡ None → m ≡ 0) → LacksBeforeBrace m n
+    before_brace less more ends bare = record {
+      enough = λ P f r. (node_tree x, w, ends P f r);
+      fewer = fewer_fail m less;
+      unended = λ h. fewer_fail (m + 1) (more h);
+      none = none_lacking m (fewer_fail m less);
+      formless = bare;
+    }
 
   -- with a format and without one
-  formless_lacks : (rest : Rest) → format_or_printed (head_tree (out-KdlNode n)) ≡ printed_format (head_tree (out-KdlNode n)).entries → node_texts (node_format_of n) ≡ None → LacksBefore rest (formless_count rest) n
-  formless_lacks Rest.End h e = refl
-  formless_lacks Rest.Text h e =
-      before_text 1 (open_fewest (block_if b) (format_or_printed (head_tree (out-KdlNode n))) 0 (ap terminator_text h) (omega arith) (λ m l g. absurd (omega arith))) (λ x. refl)
-  formless_lacks Rest.Brace h e = before_brace 0 (λ x y l r. absurd (omega arith)) (λ x. absurd (cc)) (λ x. refl)
+  formless_lacks : (rest : Rest) (x : KdlNode) → WithNewlines (formless_count rest) (node_tree n) (node_tree x) → EndsAs rest n x → format_or_printed (head_tree (out-KdlNode n)) ≡ printed_format (head_tree (out-KdlNode n)).entries
+      → node_texts (node_format_of n) ≡ None → LacksBefore rest (formless_count rest) n
+  formless_lacks Rest.End x w ends h e = refl
+  formless_lacks Rest.Text x w ends h e =
+      before_text x 1 w (open_fewest (block_if b) (format_or_printed (head_tree (out-KdlNode n))) 0 (ap terminator_text h) (omega arith) (λ m l g. absurd (omega arith))) ends (λ x. refl)
+  formless_lacks Rest.Brace x w ends h e = before_brace x 0 w (λ x y l r. absurd (omega arith)) (λ x. absurd (cc)) ends (λ x. refl)
 
-  format_lacks : (rest : Rest) (m : ℕ) (f : NodeFormat) → format_or_printed (head_tree (out-KdlNode n)) ≡ f → node_texts (node_format_of n) ≡ Some f → (rest ≡ Rest.End → m ≡ 0) → FewestBefore rest (block_if b) f m
-      → LacksBefore rest m n
-  format_lacks Rest.End m f h e z x = z refl
-  format_lacks Rest.Text m f h e z x = before_text m (subst (λ (y : NodeFormat). FormatFewest (block_if b) y m) (sym h) x) (λ y. absurd (cc))
-  format_lacks Rest.Brace m f h e z x =
-      before_brace m (subst (λ (y : NodeFormat). FormatFewest (block_if b) y m) (sym h) x.0)
-      (λ (g, s, t). let same : g ≡ f = cc in subst (λ (y : NodeFormat). FormatFewest (block_if b) y (m + 1)) (sym h) (x.1 (subst (λ (y : NodeFormat). terminator_text y ≡ []) same t))) (λ y. absurd (cc))
+  format_lacks : (rest : Rest) (x : KdlNode) (m : ℕ) (f : NodeFormat) → WithNewlines m (node_tree n) (node_tree x) → EndsAs rest n x → format_or_printed (head_tree (out-KdlNode n)) ≡ f
+      → node_texts (node_format_of n) ≡ Some f → (rest ≡ Rest.End → m ≡ 0) → FewestBefore rest (block_if b) f m → LacksBefore rest m n
+  format_lacks Rest.End x m f w ends h e z less = z refl
+  format_lacks Rest.Text x m f w ends h e z less = before_text x m w (subst (λ (y : NodeFormat). FormatFewest (block_if b) y m) (sym h) less) ends (λ y. absurd (cc))
+  format_lacks Rest.Brace x m f w ends h e z less =
+      before_brace x m w (subst (λ (y : NodeFormat). FormatFewest (block_if b) y m) (sym h) less.0)
+      (λ (g, s, t). let same : g ≡ f = cc in subst (λ (y : NodeFormat). FormatFewest (block_if b) y (m + 1)) (sym h) (less.1 (subst (λ (y : NodeFormat). terminator_text y ≡ []) same t))) ends (λ y. absurd (cc))
 
 -- a node with the newlines more that it lacks
 formatted : (n : KdlNode) (f : KdlNodeFormat) → node_tree (end_with (Some f) n) ≡ node (record (head_tree (out-KdlNode n)) { format = Some (node_format_tree f) }) (children_of (block_of n))
@@ -137,29 +125,28 @@ no_newline : (rest : Rest) (k : ℕ) (f : NodeFormat) (o : Option KdlNodeFormat)
 no_newline rest k f o last h e = subst (λ (p : Option KdlNodeFormat). IsEndedBy k f (node_texts p)) (last e) h
 
 ends_exactly : (rest : Rest) (n : KdlNode) (b : Bool) (o : Option KdlNodeFormat) (own : Option NodeFormat) → b ≡ is_some (out-KdlNode n).children → node_texts (node_format_of n) ≡ own
-    → IsNodeEnded rest (block_if b) own (printed_format (head_tree (out-KdlNode n)).entries) (node_texts o) → (rest ≡ Rest.End → o ≡ None) → EndsExactly rest n o
-ends_exactly rest n b o None k e h last =
+    → IsNodeEnded rest (block_if b) own (printed_format (head_tree (out-KdlNode n)).entries) (node_texts o) → (rest ≡ Rest.End → o ≡ None) → EndsAs rest n (end_with o n) → EndsExactly rest n o
+ends_exactly rest n b o None k e h last ends =
     let same : format_or_printed (head_tree (out-KdlNode n)) ≡ printed_format (head_tree (out-KdlNode n)).entries = ap (λ (z : Option NodeFormat). unwrap_or z (printed_format (head_tree (out-KdlNode n)).entries)) e in
     let w = node_longer n o (formless_count rest) (subst (λ (f : NodeFormat). IsEndedBy (formless_count rest) f (node_texts o)) (sym same) h) in
-    (formless_count rest, w.0, w.1, formless_lacks n b k rest same e)
-ends_exactly rest n b o (Some g) k e (m, h, x) last =
+    (formless_count rest, w.0, w.1, formless_lacks n b k rest (end_with o n) w.1 ends same e)
+ends_exactly rest n b o (Some g) k e (m, h, x) last ends =
     let same : format_or_printed (head_tree (out-KdlNode n)) ≡ g = ap (λ (z : Option NodeFormat). unwrap_or z (printed_format (head_tree (out-KdlNode n)).entries)) e in
     let w = node_longer n o m (subst (λ (f : NodeFormat). IsEndedBy m f (node_texts o)) (sym same) h) in
-    (m, w.0, w.1, format_lacks n b k rest m g same e (no_newline rest m g o last h) x)
+    (m, w.0, w.1, format_lacks n b k rest (end_with o n) m g w.1 ends same e (no_newline rest m g o last h) x)
 
 pub ends_exactly_ok : {E : Type 0} (r : Result (Option KdlNodeFormat) E) (rest : Rest) (n : KdlNode) (b : Bool) → b ≡ is_some (out-KdlNode n).children
-    → IfOk r (λ o. IsNodeEnded rest (block_if b) (node_texts (node_format_of n)) (printed_format (head_tree (out-KdlNode n)).entries) (node_texts o)) → (rest ≡ Rest.End → IfOk r (λ o. o ≡ None)) → IfOk r (λ o. EndsExactly rest n o)
-ends_exactly_ok (Ok o) rest n b k h last = ends_exactly rest n b o (node_texts (node_format_of n)) k refl h last
-ends_exactly_ok (Err e) rest n b k h last = tt
+    → IfOk r (λ o. IsNodeEnded rest (block_if b) (node_texts (node_format_of n)) (printed_format (head_tree (out-KdlNode n)).entries) (node_texts o)) → (rest ≡ Rest.End → IfOk r (λ o. o ≡ None))
+    → IfOk r (λ o. EndsAs rest n (end_with o n)) → IfOk r (λ o. EndsExactly rest n o)
+ends_exactly_ok (Ok o) rest n b k h last ends = ends_exactly rest n b o (node_texts (node_format_of n)) k refl h last ends
+ends_exactly_ok (Err e) rest n b k h last ends = tt
 
 -- the leading text with the newlines more that it lacks
-pub leads_exactly : (o : Option DocumentFormat) (f : DocumentFormat) (t : Text) (k : ℕ) → o ≡ Some f → 0 < k → k ≤ 2 → t ≡ f.leading ++ newlines k → GapFewest (without_bom f.leading) k → LeadsExactly o (Some t)
-leads_exactly o f t zero h l m e x = absurd (omega arith)
-leads_exactly o f t (suc k) h l m e x =
-    subst (λ (p : Option DocumentFormat). LeadsExactly p (Some t)) (sym h) (suc k, m, (f, refl, ap (λ (z : Text). Some (record f { leading = z })) e), x)
-
-pub leads_same : (o : Option DocumentFormat) → LeadsExactly o None
-leads_same o = (0, omega arith, refl, λ m h g. omega arith)
+pub leads_exactly : (o : Option DocumentFormat) (f : DocumentFormat) (t : Text) (k : ℕ) → o ≡ Some f → 0 < k → k ≤ 2 → t ≡ f.leading ++ newlines k → GapSays (without_bom f.leading) k → GapFewest (without_bom f.leading) k
+    → LeadsExactly o (Some t)
+leads_exactly o f t zero h l m e says x = absurd (omega arith)
+leads_exactly o f t (suc k) h l m e says x =
+    subst (λ (p : Option DocumentFormat). LeadsExactly p (Some t)) (sym h) (suc k, m, (f, refl, ap (λ (z : Text). Some (record f { leading = z })) e), says, x)
 
 -- a node put behind another one
 pub behind_put_exactly : (d p : KdlDocument) (i : ℕ) (n b m x : KdlNode) (o : Option KdlNodeFormat) → i < length (nodes_of d) → get_or (nodes_of d) i b ≡ b
@@ -258,8 +245,8 @@ first_exactly : (b : Bool) (n : KdlNode) (own : Option KdlNodeFormat) (d e : Kdl
 unfolding first_is_put
 first_exactly false n own d e rest at a (p, x) =
     let q = first_is_put n own d e rest a p x in
-    record { put = q; prints = put_printed_as 0 n d e q; before = x.3; own = own_in_text 0 a.0 n d rest at a.3 }
-first_exactly true n own d e rest at a (p, x) = record { put = first_is_put n own d e rest a p x; before = x.3; own = own_in_block 0 a.0 n d rest at a.3 }
+    record { put = q; prints = put_printed_as 0 n d e q; before = record { enough = x.3; fewer = x.4 }; own = own_in_text 0 a.0 n d rest at a.3 }
+first_exactly true n own d e rest at a (p, x) = record { put = first_is_put n own d e rest a p x; before = record { enough = x.3; fewer = x.4 }; own = own_in_block 0 a.0 n d rest at a.3 }
 
 pub put_first_exactly : (b : Bool) (j : ℕ) (n : KdlNode) (own : Option KdlNodeFormat) (d e : KdlDocument) (rest : Rest) → 0 ≡ j → IsRestAt b j d rest → EndsExactly rest n own
     → PutFirstExactly (end_with own n) d e → PutExactly b j n d e
@@ -299,7 +286,7 @@ node_there (n ∷ ns) (suc i) h = node_there ns i (omega arith)
 
 none_at : (i k : ℕ) (d : KdlDocument) → i ≤ length (nodes_of d) → EndsAt i d → LacksAt i k d → k ≡ 0
 none_at zero zero d h e less = refl
-none_at zero (suc k) d h e less = absurd (less 0 (omega arith) (subst AddsNothing (sym (append-nil (without_bom (leading_text (texts_around d))))) e))
+none_at zero (suc k) d h e less = absurd (less.fewer 0 (omega arith) (subst AddsNothing (sym (append-nil (without_bom (leading_text (texts_around d))))) e))
 none_at (suc i) k d h e less = let n = node_there (nodes_of d) i (omega arith) in (less n.0 n.1).none (e n.0 n.1)
 
 seam : (l t n : Text) → (((((l ++ t) ++ []) ++ n) ++ []) ++ []) ≡ ((l ++ t) ++ []) ++ n

@@ -1,8 +1,8 @@
 -- Fewer newlines at the ends of nodes, which do not do.
-use Rattle.std.proofs.Common.{◌≡◌, inl, ℕ, zero, suc, ◌+◌, ◌<◌, ◌≤◌, Bool, true, false, List, [], ◌∷◌, ◌++◌, length, ap, ◌∙◌, sym, refl, subst, append_assoc, arith, Option, Some, None, option_map, unwrap_or, is_some}
+use Rattle.std.proofs.Common.{◌≡◌, inl, ℕ, zero, suc, ◌+◌, ◌≤◌, Bool, true, false, [], ◌∷◌, ◌++◌, length, ap, ◌∙◌, sym, refl, subst, append_assoc, arith, Some, None}
 use Rattle.std.proofs.lemmas.List.{append-nil}
 use Rattle.kdl_text.specs.Bare.BareString.{bare as a_bare}
-use Rattle.kdl_text.specs.Chars.{Text, Newline, Star, times}
+use Rattle.kdl_text.specs.Chars.{Text, Newline}
 use Rattle.kdl_entry.specs.Internal.Tokens.{t_newline, t_space}
 use Rattle.kdl_entry.proofs.Lexing.TokenUnique.{token_det}
 use Rattle.kdl_items.specs.Internal.Lacking.{letter}
@@ -13,12 +13,12 @@ use Rattle.kdl_text.proofs.Spacing.ValueEnds.{value_end_no_identifier}
 use Rattle.kdl_entry.specs.Entries.{StringPiece, string as a_string', untyped}
 use Rattle.kdl_entry.proofs.Moving.EntryMoves.{punctuation_end}
 use Rattle.kdl_grammar.specs.Data as data'
-use Rattle.kdl_grammar.specs.Grammar.{Terminator, IsNode, named, no_gap, last_gap, braces, AreNodes}
-use Rattle.kdl_grammar.specs.Places.{AfterChildren, after, BeforeChildren, before}
-use Rattle.kdl_grammar.specs.ReadsBack.{Anything, AddsNothing, BeforeTerminator, EndReads, NodeReads, reads, Terminates, terminator_text}
-use Rattle.kdl_grammar.specs.Tree.{Children, no_children, children, DocumentFormat, Head, Node, node, NodeFormat}
+use Rattle.kdl_grammar.specs.Grammar.{Terminator, IsNode, named, no_gap, last_gap, braces}
+use Rattle.kdl_grammar.specs.Places.{after, before}
+use Rattle.kdl_grammar.specs.ReadsBack.{Anything, AddsNothing, BeforeTerminator, Terminates, terminator_text}
+use Rattle.kdl_grammar.specs.Tree.{Children, no_children, children, NodeFormat}
 use Rattle.kdl_grammar.proofs.Laying.LaidIsDerived.{braced_of, later_of, plain_of}
-use Rattle.kdl_grammar.proofs.Moving.Moves.{after_end, before_end, terminator_end}
+use Rattle.kdl_grammar.proofs.Moving.Moves.{before_end}
 use Rattle.kdl_items.specs.Items.{ItemEnd, Place, before_block, behind_block}
 use Rattle.kdl_items.specs.Lacks.{GapLacks, PlaceLacks, TerminatorLacks}
 use Rattle.kdl_items.proofs.Dropping.DroppedNodes.{passes_det, passes_node}
@@ -28,7 +28,6 @@ use Rattle.kdl.specs.Internal.Ends.{EndFewest, FewestBefore, FormatFewest, GapFe
 use Rattle.kdl.specs.Exact.{lengthened}
 use Rattle.kdl.specs.Nodes.{newlines}
 use Rattle.kdl.specs.declared.ends.Rest.{Rest}
-use Rattle.kdl.specs.declared.ends.Rest.TheVariants as Rest
 use Rattle.kdl.proofs.Putting.PutReads.{place_of, times_same}
 
 -- a letter after an empty terminator is no terminator

@@ -201,7 +201,7 @@ EndsExactly rest n o = (k : ℕ) × (k ≤ 2) × WithNewlines k (node_tree n) (n
 
 -- so has the leading text, with the one in its place where there is one
 abbrev pub LeadsExactly : Option DocumentFormat → Option Text → Type 0
-LeadsExactly o l = (k : ℕ) × (k ≤ 2) × LeadsWith k o (led_with l o) × GapFewest (without_bom (leading_text o)) k
+LeadsExactly o l = (k : ℕ) × (k ≤ 2) × LeadsWith k o (led_with l o) × GapSays (without_bom (leading_text o)) k × GapFewest (without_bom (leading_text o)) k
 
 -- e is d with the node n after the one at i, or before the others, and what is before it has just the newlines more that it lacked
 abbrev pub PutBehindExactly : ℕ → KdlNode → KdlDocument → KdlDocument → Type 0

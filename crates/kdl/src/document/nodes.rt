@@ -28,6 +28,9 @@ impl KdlDocument {
     /// the document's leading text. The new node itself gets it only where the document has a trailing text. No other
     /// text changes. A node without a format that needs a newline gets a format, of the texts that it prints at depth 0.
     ///
+    /// No newline is added that is not lacking: where the last node ends by itself and no text is after it, the new text
+    /// is the old one and then the node.
+    ///
     /// In a block use `KdlNode::push_child`, since a `}` follows there.
     ///
     /// Fails where memory runs out: then the node comes back, and the document is as it was.

@@ -1,4 +1,4 @@
-use Rattle.kdl.proofs.Putting.Exact.{leads_exactly, leads_same}
+use Rattle.kdl.proofs.Putting.Exact.{leads_exactly}
 use Rattle.std.proofs.Common.{ap, arith, subst}
 use Rattle.std.specs.Str.{chars}
 use Rattle.kdl_fmt.specs.Kept.{without_bom}
@@ -7,7 +7,7 @@ use Rattle.kdl_value.specs.Tree.{text_of}
 use Rattle.kdl_parts.specs.Formats.{document_format_tree, document_texts}
 use Rattle.kdl.specs.Internal.Ends.{GapSays, GapFewest}
 use Rattle.kdl.specs.Nodes.{texts_around}
-use Rattle.kdl.proofs.Putting.NodeEnds.{copy_put, leading_ended, leading_ends, no_leading}
+use Rattle.kdl.proofs.Putting.NodeEnds.{copy_put, leading_ended}
 use Rattle.kdl.proofs.document.KdlDocument.ended_leading.Goals as goal
 
 pub returns-clause-ended : goal.returns-clause-ended
@@ -22,4 +22,5 @@ returns-clause-exact c =
     leads_exactly (texts_around c.args.self.now) (document_format_tree c.in-Some.format) (text_of c.push_newlines.new.text) c.in_ok-lacks.lacks (ap document_texts c.in-Some.is)
     (omega (arith, c.if-lacks-eq0.false)) c.in_ok-lacks.ensures.few
     (copy_put (text_of c.push_newlines.new.text) c.in_ok-leading.leading c.in-Some.format.leading c.in_ok-lacks.lacks c.in_ok-leading.ensures.cases c.in_ok-push_newlines.ensures)
+    (subst (λ (t : Text). GapSays (without_bom t) c.in_ok-lacks.lacks) (ap chars c.deref.ensures) c.in_ok-lacks.ensures.says)
     (subst (λ (t : Text). GapFewest (without_bom t) c.in_ok-lacks.lacks) (ap chars c.deref.ensures) c.in_ok-lacks.ensures.fewest)

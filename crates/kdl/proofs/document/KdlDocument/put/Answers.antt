@@ -1,5 +1,5 @@
 use Rattle.kdl.proofs.Putting.Exact.{put_behind_exactly, put_first_exactly}
-use Rattle.std.proofs.Common.{◌≡◌, ℕ, suc, arith, subst, sym}
+use Rattle.std.proofs.Common.{◌≡◌, ℕ, suc, arith, subst}
 use Rattle.kdl.specs.Nodes.{IsPut}
 use Rattle.kdl.specs.Tree.{node_tree}
 use Rattle.kdl.proofs.Putting.DocumentReads.{put_behind_reads, put_first_reads}

@@ -1,4 +1,4 @@
-use Rattle.std.proofs.Common.{option_map, sym}
+use Rattle.std.proofs.Common.{option_map}
 use Rattle.kdl_value.specs.Tree.{text_of}
 use Rattle.kdl.specs.Internal.Ends.{end_with}
 use Rattle.kdl.proofs.Putting.Exact.{IsFirst, first_led, first_put, first_same}

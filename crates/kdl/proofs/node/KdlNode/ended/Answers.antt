@@ -19,4 +19,4 @@ pub returns-clause-exact : goal.returns-clause-exact
 returns-clause-exact c =
     let n = c.args.self.now in
     let P : List KdlEntry → Type 0 = λ es. IfOk c.ended_format.result (λ o. IsNodeEnded c.args.rest (block_if c.is_some.result) (node_texts (node_format_of n)) (printed_format (map entry_tree es)) (node_texts o)) in
-    ends_exactly_ok c.ended_format.result c.args.rest n c.is_some.result c.is_some.ensures (subst P c.deref.ensures.value c.ended_format.ensures.exact) c.ended_format.ensures.last
+    ends_exactly_ok c.ended_format.result c.args.rest n c.is_some.result c.is_some.ensures (subst P c.deref.ensures.value c.ended_format.ensures.exact) c.ended_format.ensures.last (returns-clause-reads c)

@@ -1,5 +1,5 @@
 use Rattle.kdl.proofs.Putting.Exact.{new_block_exactly}
-use Rattle.std.proofs.Common.{Some, None, option_map, refl}
+use Rattle.std.proofs.Common.{option_map, refl}
 use Rattle.kdl_value.specs.Tree.{text_of}
 use Rattle.kdl.proofs.Putting.ChildReads.{new_child_reads}
 use Rattle.kdl.proofs.Putting.NodeEnds.{new_block}
