@@ -70,7 +70,19 @@ pub fn servers(alloc: Global, one: &str, other: &str) -> Result<String, AllocErr
 {
     ended_reads_back();
     let first = one_node(alloc, one, "port", KdlValue::from(1), KdlValue::from(8080))?;
-    let second = one_node(alloc, other, "port", KdlValue::from(2), KdlValue::from(8081))?;
-    let child = one_node(alloc, "limits", "cpu", KdlValue::from(4), KdlValue::from(true))?;
+    let second = one_node(
+        alloc,
+        other,
+        "port",
+        KdlValue::from(2),
+        KdlValue::from(8081),
+    )?;
+    let child = one_node(
+        alloc,
+        "limits",
+        "cpu",
+        KdlValue::from(4),
+        KdlValue::from(true),
+    )?;
     two_nodes(alloc, with_block(first, child)?, second)
 }
