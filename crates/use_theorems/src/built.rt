@@ -52,12 +52,37 @@ pub fn two_nodes(alloc: Global, one: KdlNode, other: KdlNode) -> Result<String, 
     printed(alloc, &document)
 }
 
-/// A text of two nodes, each with an argument and a property.
+/// A node with a child. It reads back before any text where it did without it.
+pub fn with_block(mut node: KdlNode, child: KdlNode) -> Result<KdlNode, AllocError>
+    requires node { NodeEnds node }
+    requires child { NodeReadsBack child }
+    ensures { IfOk result NodeEnds }
+{
+    match node.push_child(child) {
+        Ok(()) => Ok(node),
+        Err((_, error)) => Err(error),
+    }
+}
+
+/// A text of two nodes, the first of them with a child: each has an argument and a property.
 pub fn servers(alloc: Global, one: &str, other: &str) -> Result<String, AllocError>
     ensures { IfOk result (λ out. (x : Nodes) × IsDocument true (text_of out) x) }
 {
     ended_reads_back();
     let first = one_node(alloc, one, "port", KdlValue::from(1), KdlValue::from(8080))?;
-    let second = one_node(alloc, other, "port", KdlValue::from(2), KdlValue::from(8081))?;
-    two_nodes(alloc, first, second)
+    let second = one_node(
+        alloc,
+        other,
+        "port",
+        KdlValue::from(2),
+        KdlValue::from(8081),
+    )?;
+    let child = one_node(
+        alloc,
+        "limits",
+        "cpu",
+        KdlValue::from(4),
+        KdlValue::from(true),
+    )?;
+    two_nodes(alloc, with_block(first, child)?, second)
 }

@@ -50,11 +50,7 @@ pub fn push_to_list(alloc: Global, text: &str, node: KdlNode) -> Result<KdlDocum
 }
 
 /// Adds a child to the first node of a name: the document reads back, whether the call succeeds or not.
-pub fn add_child(
-    document: &mut KdlDocument,
-    name: &str,
-    child: KdlNode,
-) -> Result<(), AllocError>
+pub fn add_child(document: &mut KdlDocument, name: &str, child: KdlNode) -> Result<(), AllocError>
     requires document { DocumentReadsBack document.old }
     requires child { NodeReadsBack child }
     ensures { DocumentReadsBack document.new }

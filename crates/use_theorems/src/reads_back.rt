@@ -79,33 +79,6 @@ pub fn remove_property(
     Ok(())
 }
 
-/// An argument more, in a node in the block of another.
-pub fn push_in_block(
-    document: &mut KdlDocument,
-    outer: &str,
-    inner: &str,
-    value: KdlValue,
-) -> Result<(), AllocError>
-    requires { DocumentReadsBack document.old }
-    ensures { DocumentReadsBack document.new }
-{
-    values_are_well_formed(&value);
-    new_entries_are_unformed();
-    let Some(node) = document.get_mut(outer) else {
-        return Ok(());
-    };
-    let Some(block) = node.children_mut() else {
-        return Ok(());
-    };
-    let Some(child) = block.get_mut(inner) else {
-        return Ok(());
-    };
-    let Ok(_) = child.push(KdlEntry::new(value)) else {
-        return Err(AllocError);
-    };
-    Ok(())
-}
-
 /// Three edits of a node: a property is removed, an argument pushed and the first argument replaced.
 pub fn edit(
     alloc: Global,
