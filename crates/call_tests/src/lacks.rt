@@ -29,69 +29,89 @@ fn place(rt: &impl Abort, alloc: Global, place: Place, text: &str, lacks: Option
     }
 }
 
+const GAPS: &[(&str, Option<usize>)] = &[
+    ("", Some(0)),
+    (" /* x */", Some(0)),
+    ("// c\n", Some(0)),
+    ("\r", Some(0)),
+    ("// c", Some(1)),
+    ("\n\\", Some(1)),
+    ("\\ // c", Some(1)),
+    ("\\ /* x */", Some(1)),
+    ("\\\r", Some(0)),
+    ("x", None),
+    ("\\ x", None),
+];
+
 #[test]
 fn gaps_lack_the_newlines_of_their_last_piece(rt: HostRuntime) {
-    let alloc = rt.alloc();
-    gap(&rt, alloc, "", Some(0));
-    gap(&rt, alloc, " /* x */", Some(0));
-    gap(&rt, alloc, "// c\n", Some(0));
-    gap(&rt, alloc, "\r", Some(0));
-    gap(&rt, alloc, "// c", Some(1));
-    gap(&rt, alloc, "\n\\", Some(1));
-    gap(&rt, alloc, "\\ // c", Some(1));
-    gap(&rt, alloc, "\\ /* x */", Some(1));
-    gap(&rt, alloc, "\\\r", Some(0));
-    gap(&rt, alloc, "x", None);
-    gap(&rt, alloc, "\\ x", None);
+    for (text, lacks) in GAPS {
+        gap(&rt, rt.alloc(), text, *lacks);
+    }
 }
+
+const GAPS_WITH_NODES: &[(&str, Option<usize>)] = &[
+    ("/-x;", Some(0)),
+    ("/-x\n", Some(0)),
+    ("/-x\r", Some(0)),
+    ("/-x", Some(1)),
+    ("/-x ", Some(1)),
+    ("/-x // c", Some(1)),
+    ("/-x;/-y {}", Some(1)),
+    ("/-x \\\n", Some(1)),
+    ("/-x \\", Some(2)),
+    ("/-x \\ // c", Some(2)),
+    ("/-x \\\r", Some(2)),
+    ("/-", None),
+];
 
 #[test]
 fn gaps_lack_the_terminator_of_a_dropped_node(rt: HostRuntime) {
-    let alloc = rt.alloc();
-    gap(&rt, alloc, "/-x;", Some(0));
-    gap(&rt, alloc, "/-x\n", Some(0));
-    gap(&rt, alloc, "/-x\r", Some(0));
-    gap(&rt, alloc, "/-x", Some(1));
-    gap(&rt, alloc, "/-x ", Some(1));
-    gap(&rt, alloc, "/-x // c", Some(1));
-    gap(&rt, alloc, "/-x;/-y {}", Some(1));
-    gap(&rt, alloc, "/-x \\\n", Some(1));
-    gap(&rt, alloc, "/-x \\", Some(2));
-    gap(&rt, alloc, "/-x \\ // c", Some(2));
-    gap(&rt, alloc, "/-x \\\r", Some(2));
-    gap(&rt, alloc, "/-", None);
+    for (text, lacks) in GAPS_WITH_NODES {
+        gap(&rt, rt.alloc(), text, *lacks);
+    }
 }
+
+const TERMINATORS: &[(&str, Option<usize>)] = &[
+    (";", Some(0)),
+    ("\n", Some(0)),
+    ("\r", Some(0)),
+    ("// c\n", Some(0)),
+    (";// c\n", Some(0)),
+    ("", Some(1)),
+    ("// c", Some(1)),
+    (";// c", Some(1)),
+    ("\n\\", Some(1)),
+    ("\n/-x", Some(1)),
+    ("\n/-x \\", Some(2)),
+    (";;", None),
+    (" \n", None),
+];
 
 #[test]
 fn terminators_lack_what_the_gap_behind_them_lacks(rt: HostRuntime) {
-    let alloc = rt.alloc();
-    terminator(&rt, alloc, ";", Some(0));
-    terminator(&rt, alloc, "\n", Some(0));
-    terminator(&rt, alloc, "\r", Some(0));
-    terminator(&rt, alloc, "// c\n", Some(0));
-    terminator(&rt, alloc, ";// c\n", Some(0));
-    terminator(&rt, alloc, "", Some(1));
-    terminator(&rt, alloc, "// c", Some(1));
-    terminator(&rt, alloc, ";// c", Some(1));
-    terminator(&rt, alloc, "\n\\", Some(1));
-    terminator(&rt, alloc, "\n/-x", Some(1));
-    terminator(&rt, alloc, "\n/-x \\", Some(2));
-    terminator(&rt, alloc, ";;", None);
-    terminator(&rt, alloc, " \n", None);
+    for (text, lacks) in TERMINATORS {
+        terminator(&rt, rt.alloc(), text, *lacks);
+    }
 }
+
+const PLACES: &[(Place, &str, Option<bool>)] = &[
+    (Place::BeforeBlock, "", Some(false)),
+    (Place::BeforeBlock, " /-3", Some(false)),
+    (Place::BeforeBlock, " /-{}", Some(false)),
+    (Place::BeforeBlock, " \\\n", Some(false)),
+    (Place::BeforeBlock, " \\", Some(true)),
+    (Place::BeforeBlock, " \\ // c", Some(true)),
+    (Place::BeforeBlock, " \\ /* x */", Some(true)),
+    (Place::BehindBlock, " \\\r", Some(true)),
+    (Place::BehindBlock, "/-{} ", Some(false)),
+    (Place::BehindBlock, "/-3", None),
+    (Place::BeforeBlock, " // c", None),
+];
 
 #[test]
 fn places_lack_the_newline_of_an_escline(rt: HostRuntime) {
-    let alloc = rt.alloc();
-    place(&rt, alloc, Place::BeforeBlock, "", Some(false));
-    place(&rt, alloc, Place::BeforeBlock, " /-3", Some(false));
-    place(&rt, alloc, Place::BeforeBlock, " /-{}", Some(false));
-    place(&rt, alloc, Place::BeforeBlock, " \\\n", Some(false));
-    place(&rt, alloc, Place::BeforeBlock, " \\", Some(true));
-    place(&rt, alloc, Place::BeforeBlock, " \\ // c", Some(true));
-    place(&rt, alloc, Place::BeforeBlock, " \\ /* x */", Some(true));
-    place(&rt, alloc, Place::BehindBlock, " \\\r", Some(true));
-    place(&rt, alloc, Place::BehindBlock, "/-{} ", Some(false));
-    place(&rt, alloc, Place::BehindBlock, "/-3", None);
-    place(&rt, alloc, Place::BeforeBlock, " // c", None);
+    for (at, text, lacks) in PLACES {
+        place(&rt, rt.alloc(), *at, text, *lacks);
+    }
 }

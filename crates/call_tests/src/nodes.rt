@@ -76,129 +76,137 @@ fn puts_each(rt: &impl Abort, alloc: Global, index: usize, rows: &[Row]) {
     }
 }
 
-#[test]
-fn a_node_behind_others(rt: HostRuntime) {
-    let rows = [
-        Row("a", "a\nb"),
-        Row("a;", "a;b"),
-        Row("a\n", "a\nb"),
-        Row("a // c", "a // c\nb"),
-        Row("a // c\n", "a // c\nb"),
-        Row("a \\", "a \\\n\nb"),
-        Row("a \\\n", "a \\\n\nb"),
-        Row("a \\ // c", "a \\ // c\n\nb"),
-        Row("a \\ // c\n", "a \\ // c\n\nb"),
-        Row("a /-3", "a /-3\nb"),
-        Row("a /-k=3", "a /-k=3\nb"),
-        Row("a /* c */", "a /* c */\nb"),
-        Row("a {}", "a {}\nb"),
-        Row("a {} \\", "a {} \\\n\nb"),
-        Row("a {} /-{}", "a {} /-{}\nb"),
-        Row("c { d }", "c { d }\nb"),
-        Row("c { d \\\n}", "c { d \\\n}\nb"),
-        Row("c { d }; e", "c { d }; e\nb"),
-    ];
-    puts_each(&rt, rt.alloc(), 9, &rows);
-}
+const AFTER_OTHERS: &[Row] = &[
+    Row("a", "a\nb"),
+    Row("a;", "a;b"),
+    Row("a\n", "a\nb"),
+    Row("a // c", "a // c\nb"),
+    Row("a // c\n", "a // c\nb"),
+    Row("a \\", "a \\\n\nb"),
+    Row("a \\\n", "a \\\n\nb"),
+    Row("a \\ // c", "a \\ // c\n\nb"),
+    Row("a \\ // c\n", "a \\ // c\n\nb"),
+    Row("a /-3", "a /-3\nb"),
+    Row("a /-k=3", "a /-k=3\nb"),
+    Row("a /* c */", "a /* c */\nb"),
+    Row("a {}", "a {}\nb"),
+    Row("a {} \\", "a {} \\\n\nb"),
+    Row("a {} /-{}", "a {} /-{}\nb"),
+    Row("c { d }", "c { d }\nb"),
+    Row("c { d \\\n}", "c { d \\\n}\nb"),
+    Row("c { d }; e", "c { d }; e\nb"),
+];
 
 #[test]
-fn a_node_behind_texts(rt: HostRuntime) {
-    let rows = [
-        Row("", "b"),
-        Row(" ", " b"),
-        Row("\n\n", "\n\nb"),
-        Row("// c", "// c\nb"),
-        Row("// c\n", "// c\nb"),
-        Row("/* c */", "/* c */b"),
-        Row("\\", "\\\nb"),
-        Row("\\ // c", "\\ // c\nb"),
-        Row("/-x", "/-x\nb"),
-        Row("/-x;", "/-x;b"),
-        Row("/-x \\", "/-x \\\n\nb"),
-        Row("/-x // c", "/-x // c\nb"),
-        Row("/-x {}", "/-x {}\nb"),
-        Row("\u{feff}", "\u{feff}b"),
-        Row("\u{feff}// c", "\u{feff}// c\nb"),
-        Row("\u{feff}a", "\u{feff}a\nb"),
-    ];
-    puts_each(&rt, rt.alloc(), 9, &rows);
+fn a_node_after_others(rt: HostRuntime) {
+    puts_each(&rt, rt.alloc(), 9, AFTER_OTHERS);
 }
+
+const AFTER_TEXTS: &[Row] = &[
+    Row("", "b"),
+    Row(" ", " b"),
+    Row("\n\n", "\n\nb"),
+    Row("// c", "// c\nb"),
+    Row("// c\n", "// c\nb"),
+    Row("/* c */", "/* c */b"),
+    Row("\\", "\\\nb"),
+    Row("\\ // c", "\\ // c\nb"),
+    Row("/-x", "/-x\nb"),
+    Row("/-x;", "/-x;b"),
+    Row("/-x \\", "/-x \\\n\nb"),
+    Row("/-x // c", "/-x // c\nb"),
+    Row("/-x {}", "/-x {}\nb"),
+    Row("\u{feff}", "\u{feff}b"),
+    Row("\u{feff}// c", "\u{feff}// c\nb"),
+    Row("\u{feff}a", "\u{feff}a\nb"),
+];
+
+#[test]
+fn a_node_after_texts(rt: HostRuntime) {
+    puts_each(&rt, rt.alloc(), 9, AFTER_TEXTS);
+}
+
+const OTHER_NEWLINES: &[Row] = &[
+    Row("a\r\n", "a\r\nb"),
+    Row("a\r", "a\rb"),
+    Row("a\u{85}", "a\u{85}b"),
+    Row("a // c\r\n", "a // c\r\nb"),
+    Row("a \\\r\n", "a \\\r\n\nb"),
+    Row("// c\r\n", "// c\r\nb"),
+    Row("a\r\n// c\r\n", "a\r\nb\n// c\r\n"),
+];
 
 #[test]
 fn newlines_of_other_forms(rt: HostRuntime) {
-    let rows = [
-        Row("a\r\n", "a\r\nb"),
-        Row("a\r", "a\rb"),
-        Row("a\u{85}", "a\u{85}b"),
-        Row("a // c\r\n", "a // c\r\nb"),
-        Row("a \\\r\n", "a \\\r\n\nb"),
-        Row("// c\r\n", "// c\r\nb"),
-        Row("a\r\n// c\r\n", "a\r\nb\n// c\r\n"),
-    ];
-    puts_each(&rt, rt.alloc(), 9, &rows);
+    puts_each(&rt, rt.alloc(), 9, OTHER_NEWLINES);
 }
+
+const BEFORE_TRAILING: &[Row] = &[
+    Row("a; /-x {}", "a;b\n /-x {}"),
+    Row("a\n/-x", "a\nb\n/-x"),
+    Row("a\n// end\n", "a\nb\n// end\n"),
+    Row("a;// end", "a;b\n// end"),
+    Row("a\n\n", "a\nb\n\n"),
+];
 
 #[test]
 fn a_node_before_a_trailing_text(rt: HostRuntime) {
-    let rows = [
-        Row("a; /-x {}", "a;b\n /-x {}"),
-        Row("a\n/-x", "a\nb\n/-x"),
-        Row("a\n// end\n", "a\nb\n// end\n"),
-        Row("a;// end", "a;b\n// end"),
-        Row("a\n\n", "a\nb\n\n"),
-    ];
-    puts_each(&rt, rt.alloc(), 9, &rows);
+    puts_each(&rt, rt.alloc(), 9, BEFORE_TRAILING);
 }
+
+const BEFORE_OTHERS: &[Row] = &[
+    Row("a", "b\na"),
+    Row(" a;", "b\n a;"),
+    Row("// c\na", "b\n// c\na"),
+    Row("/-x\na", "b\n/-x\na"),
+    Row("c { d }", "b\nc { d }"),
+    Row("\u{feff}a", "\u{feff}b\na"),
+    Row("\u{feff}// c\na", "\u{feff}b\n// c\na"),
+];
 
 #[test]
 fn a_node_before_others(rt: HostRuntime) {
-    let rows = [
-        Row("a", "b\na"),
-        Row(" a;", "b\n a;"),
-        Row("// c\na", "b\n// c\na"),
-        Row("/-x\na", "b\n/-x\na"),
-        Row("c { d }", "b\nc { d }"),
-        Row("\u{feff}a", "\u{feff}b\na"),
-        Row("\u{feff}// c\na", "\u{feff}b\n// c\na"),
-    ];
-    puts_each(&rt, rt.alloc(), 0, &rows);
+    puts_each(&rt, rt.alloc(), 0, BEFORE_OTHERS);
 }
+
+const BETWEEN_OTHERS: &[Row] = &[
+    Row("a\nc", "a\nb\nc"),
+    Row("a;c", "a;b\nc"),
+    Row("a // x\n// y\nc", "a // x\nb\n// y\nc"),
+    Row("a \\ // x\n\nc", "a \\ // x\n\nb\nc"),
+    Row("a {}\nc", "a {}\nb\nc"),
+    Row("a { d }; c", "a { d };b\n c"),
+];
 
 #[test]
 fn a_node_between_others(rt: HostRuntime) {
-    let rows = [
-        Row("a\nc", "a\nb\nc"),
-        Row("a;c", "a;b\nc"),
-        Row("a // x\n// y\nc", "a // x\nb\n// y\nc"),
-        Row("a \\ // x\n\nc", "a \\ // x\n\nb\nc"),
-        Row("a {}\nc", "a {}\nb\nc"),
-        Row("a { d }; c", "a { d };b\n c"),
-    ];
-    puts_each(&rt, rt.alloc(), 1, &rows);
+    puts_each(&rt, rt.alloc(), 1, BETWEEN_OTHERS);
 }
+
+/// New nodes of each form, and what each prints when it is put before `a`.
+const NEW_NODES: &[Row] = &[
+    Row("b", "b\n"),
+    Row("b;", "b;"),
+    Row("b\n", "b\n"),
+    Row("// y\nb 1", "// y\nb 1\n"),
+    Row("b // x", "b // x\n"),
+    Row("b // x\n", "b // x\n"),
+    Row("b; // x", "b; // x\n"),
+    Row("b; \\", "b; \\\n"),
+    Row("b\n\n", "b\n\n"),
+    Row("b \\", "b \\\n\n"),
+    Row("b \\ // x", "b \\ // x\n\n"),
+    Row("b /-3", "b /-3\n"),
+    Row("b { d }", "b { d }\n"),
+    Row("b { d } \\", "b { d } \\\n\n"),
+    Row("b { d; } // x", "b { d; } // x\n"),
+];
 
 /// A new node of each form, put after `a` and before it: the second text of a row is what it prints before `a`.
 #[test]
 fn new_nodes_of_each_form(rt: HostRuntime) {
     let alloc = rt.alloc();
-    let rows = [
-        Row("b", "b\n"),
-        Row("b;", "b;"),
-        Row("b\n", "b\n"),
-        Row("// y\nb 1", "// y\nb 1\n"),
-        Row("b // x", "b // x\n"),
-        Row("b // x\n", "b // x\n"),
-        Row("b; // x", "b; // x\n"),
-        Row("b; \\", "b; \\\n"),
-        Row("b\n\n", "b\n\n"),
-        Row("b \\", "b \\\n\n"),
-        Row("b \\ // x", "b \\ // x\n\n"),
-        Row("b /-3", "b /-3\n"),
-        Row("b { d }", "b { d }\n"),
-        Row("b { d } \\", "b { d } \\\n\n"),
-        Row("b { d; } // x", "b { d; } // x\n"),
-    ];
-    for Row(new, ended) in &rows {
+    for Row(new, ended) in NEW_NODES {
         let mut last = text(&rt, alloc, "a\n");
         last.push_str(new).expect(&rt, "memory");
         puts(&rt, alloc, "a", 1, new, &last);
@@ -280,54 +288,57 @@ fn puts_child(
     drop(node);
 }
 
+const CHILDREN_BEHIND: &[Row] = &[
+    Row("c {}", "c {e}"),
+    Row("c { d }", "c { d \ne}"),
+    Row("c { d; }", "c { d;e\n }"),
+    Row("c { d // x\n}", "c { d // x\ne}"),
+    Row("c { d \\\n}", "c { d \\\n\ne}"),
+    Row("c { // x\n}", "c { // x\ne}"),
+    Row("c { /-x }", "c { /-x \ne}"),
+    Row("c { d\n // x\n}", "c { d\ne\n // x\n}"),
+    Row("c { d }; // x", "c { d \ne}; // x"),
+];
+
 #[test]
 fn a_child_behind_others(rt: HostRuntime) {
-    let rows = [
-        Row("c {}", "c {e}"),
-        Row("c { d }", "c { d \ne}"),
-        Row("c { d; }", "c { d;e\n }"),
-        Row("c { d // x\n}", "c { d // x\ne}"),
-        Row("c { d \\\n}", "c { d \\\n\ne}"),
-        Row("c { // x\n}", "c { // x\ne}"),
-        Row("c { /-x }", "c { /-x \ne}"),
-        Row("c { d\n // x\n}", "c { d\ne\n // x\n}"),
-        Row("c { d }; // x", "c { d \ne}; // x"),
-    ];
-    for Row(before, printed) in &rows {
+    for Row(before, printed) in CHILDREN_BEHIND {
         puts_child(&rt, rt.alloc(), before, 9, "e", printed);
     }
 }
+
+const CHILDREN_IN_NEW_BLOCKS: &[Row] = &[
+    Row("c", "c{\ne\n}"),
+    Row("c;", "c{\ne\n};"),
+    Row("c\n", "c{\ne\n}\n"),
+    Row("c 1 // x", "c 1 {\ne\n}// x"),
+    Row("c \\", "c \\\n{\ne\n}"),
+    Row("c \\ // x", "c \\ // x\n{\ne\n}"),
+    Row("c /-3", "c /-3{\ne\n}"),
+    Row("c /-{} \\\n;", "c /-{} \\\n{\ne\n};"),
+];
 
 #[test]
 fn a_child_in_a_new_block(rt: HostRuntime) {
-    let rows = [
-        Row("c", "c{\ne\n}"),
-        Row("c;", "c{\ne\n};"),
-        Row("c\n", "c{\ne\n}\n"),
-        Row("c 1 // x", "c 1 {\ne\n}// x"),
-        Row("c \\", "c \\\n{\ne\n}"),
-        Row("c \\ // x", "c \\ // x\n{\ne\n}"),
-        Row("c /-3", "c /-3{\ne\n}"),
-        Row("c /-{} \\\n;", "c /-{} \\\n{\ne\n};"),
-    ];
-    for Row(before, printed) in &rows {
+    for Row(before, printed) in CHILDREN_IN_NEW_BLOCKS {
         puts_child(&rt, rt.alloc(), before, 9, "e", printed);
     }
 }
 
+const NEW_CHILDREN: &[Row] = &[
+    Row("e", "c {e}"),
+    Row("e;", "c {e;}"),
+    Row("e // x", "c {e // x\n}"),
+    Row("e \\", "c {e \\\n}"),
+    Row("e \\ // x", "c {e \\ // x\n}"),
+    Row("e /-3", "c {e /-3}"),
+    Row("e { f } \\", "c {e { f } \\\n}"),
+    Row("e; // x", "c {e; // x\n}"),
+];
+
 #[test]
 fn new_children_of_each_form(rt: HostRuntime) {
-    let rows = [
-        Row("e", "c {e}"),
-        Row("e;", "c {e;}"),
-        Row("e // x", "c {e // x\n}"),
-        Row("e \\", "c {e \\\n}"),
-        Row("e \\ // x", "c {e \\ // x\n}"),
-        Row("e /-3", "c {e /-3}"),
-        Row("e { f } \\", "c {e { f } \\\n}"),
-        Row("e; // x", "c {e; // x\n}"),
-    ];
-    for Row(new, printed) in &rows {
+    for Row(new, printed) in NEW_CHILDREN {
         puts_child(&rt, rt.alloc(), "c {}", 0, new, printed);
     }
 }

@@ -6,7 +6,6 @@
 mod tests;
 #[cfg(test)]
 mod tests_runs;
-mod tool;
 
 use std::alloc::Global;
 use std::io::ErrorKind;

@@ -1,6 +1,5 @@
 //! Readers and writers that fail, or that give and take little at a time; their flags, and the reports of each outcome.
 
-use crate::tool::Outcome;
 use kdl::{KdlDiagnostic, KdlError, Severity, SourceSpan};
 use std::alloc::{AllocError, Global};
 use std::io;
@@ -8,6 +7,7 @@ use std::io::{ErrorKind, Read, Write};
 use std::process::Abort;
 use std::rc::RcStr;
 use std::test::Fail;
+use tool::Outcome;
 use watched::Watched;
 
 /// Gives its bytes a few at a time, and may fail at one read.
@@ -158,20 +158,22 @@ fn outcome_of(number: u32) -> Outcome {
     }
 }
 
+/// The number of an outcome, its status, and what is reported.
+const REPORTS: [(u32, u8, &str); 7] = [
+    (0, 0, ""),
+    (1, 1, "0..0 Input is not UTF-8\n"),
+    (2, 1, "0..0 No such value\n"),
+    (3, 2, "usage: kdl-tool cat, fmt, strip or get NAME\n"),
+    (4, 3, "reading failed\n"),
+    (5, 3, "writing failed\n"),
+    (6, 3, "out of memory\n"),
+];
+
 #[test]
 fn each_report(rt: HostRuntime) {
-    let table = [
-        (0, 0, ""),
-        (1, 1, "0..0 Input is not UTF-8\n"),
-        (2, 1, "0..0 No such value\n"),
-        (3, 2, "usage: kdl-tool cat, fmt, strip or get NAME\n"),
-        (4, 3, "reading failed\n"),
-        (5, 3, "writing failed\n"),
-        (6, 3, "out of memory\n"),
-    ];
-    for (number, status, text) in table {
-        let outcome = outcome_of(number);
-        reported(&rt, rt.alloc(), &outcome, status, text);
+    for (number, status, text) in &REPORTS {
+        let outcome = outcome_of(*number);
+        reported(&rt, rt.alloc(), &outcome, *status, text);
         if !text.is_empty() {
             broken_off(&rt, rt.alloc(), &outcome, text);
         }

@@ -2,10 +2,10 @@
 //! few or fail.
 
 use crate::tests::{NEVER, Sink, Source};
-use crate::tool::{Outcome, run};
 use std::alloc::{AllocError, Global};
 use std::process::Abort;
 use std::test::Fail;
+use tool::{Outcome, run};
 use watched::Watched;
 
 /// What a run reads: the input, how many bytes a read gives, and which read fails.
@@ -170,14 +170,16 @@ fn cat_writes_what_it_reads(rt: HostRuntime) -> Result<(), Fail> {
     Ok(())
 }
 
+/// Words, and what they write of the marked text.
+const MARKED_RUNS: [(&[&str], &str); 3] = [
+    (&["fmt"], "\u{E9} \u{FC}\n"),
+    (&["strip"], "\u{E9} \u{FC}\n"),
+    (&["get", "\u{E9}"], "\u{FC}\n"),
+];
+
 #[test]
 fn a_byte_at_a_time(rt: HostRuntime) -> Result<(), Fail> {
-    let table: [(&[&str], &str); 3] = [
-        (&["fmt"], "\u{E9} \u{FC}\n"),
-        (&["strip"], "\u{E9} \u{FC}\n"),
-        (&["get", "\u{E9}"], "\u{FC}\n"),
-    ];
-    for (line, output) in table {
+    for (line, output) in &MARKED_RUNS {
         for step in [1, 4096] {
             let reads = Reads {
                 input: MARKED.as_bytes(),
@@ -190,64 +192,76 @@ fn a_byte_at_a_time(rt: HostRuntime) -> Result<(), Fail> {
     Ok(())
 }
 
+/// Words, an input, and what they write of it.
+const WRITTEN: [(&[&str], &str, &str); 12] = [
+    (&["fmt"], DOCUMENT, FORMATTED),
+    (&["fmt"], "", "\n"),
+    (&["fmt"], "/-n 1;", "/-n 1;\n\n"),
+    (
+        &["fmt"],
+        "a /*x*/ {  b // c\n }",
+        "a /*x*/ {\n    b // c\n}\n",
+    ),
+    (&["strip"], DOCUMENT, STRIPPED),
+    (&["strip"], "", "\n"),
+    (&["strip"], "/-n 1;", "\n"),
+    (&["get", "hello"], DOCUMENT, "1\n"),
+    (&["get", "a"], "a \"x y\"", "\"x y\"\n"),
+    (&["get", "n"], "n 0x10", "16\n"),
+    (&["get", "a"], "\"\\u{61}\" 5", "5\n"),
+    (&["get", "get"], "get 1", "1\n"),
+];
+
 #[test]
 fn what_fmt_strip_and_get_write(rt: HostRuntime) -> Result<(), Fail> {
-    let table: [(&[&str], &str, &str); 12] = [
-        (&["fmt"], DOCUMENT, FORMATTED),
-        (&["fmt"], "", "\n"),
-        (&["fmt"], "/-n 1;", "/-n 1;\n\n"),
-        (
-            &["fmt"],
-            "a /*x*/ {  b // c\n }",
-            "a /*x*/ {\n    b // c\n}\n",
-        ),
-        (&["strip"], DOCUMENT, STRIPPED),
-        (&["strip"], "", "\n"),
-        (&["strip"], "/-n 1;", "\n"),
-        (&["get", "hello"], DOCUMENT, "1\n"),
-        (&["get", "a"], "a \"x y\"", "\"x y\"\n"),
-        (&["get", "n"], "n 0x10", "16\n"),
-        (&["get", "a"], "\"\\u{61}\" 5", "5\n"),
-        (&["get", "get"], "get 1", "1\n"),
-    ];
-    for (line, input, output) in table {
+    for (line, input, output) in &WRITTEN {
         comes_of(&rt, rt.alloc(), line, text(input), (7, NEVER), done(output))?;
     }
     Ok(())
 }
 
+const NONE: &str = "0..0 No such value\n";
+
+const NO_NAME: &str = "0..1 Found invalid node name\n";
+
+const UNCLOSED: &str = "5..6 No closing '}' for child block\n";
+
+const UNCLOSED_SECOND: &str = "6..7 No closing '}' for child block\n";
+
+const UNCLOSED_THIRD: &str = "13..14 No closing '}' for child block\n";
+
+const END: &str = "2..3 Expected end of document\n";
+
+const NO_VALUE: &str = "4..4 Expected property value\n";
+
+const NO_QUOTE: &str = "2..4 Expected quoted string\n";
+
+/// Words, an input that is refused or lacks the value, the outcome, and what is reported.
+const REFUSED: [(&[&str], &str, &str, &str); 14] = [
+    (&["cat"], ";", "Refused", NO_NAME),
+    (&["cat"], "node {", "Refused", UNCLOSED),
+    (&["cat"], "a 1\nb {\n", "Refused", UNCLOSED_SECOND),
+    (&["cat"], "a\n}", "Refused", END),
+    (&["cat"], "a b=", "Refused", NO_VALUE),
+    (&["cat"], "a\n\"b", "Refused", NO_QUOTE),
+    (&["fmt"], "node {", "Refused", UNCLOSED),
+    (&["strip"], ";", "Refused", NO_NAME),
+    (&["strip"], "node {", "Refused", UNCLOSED),
+    (
+        &["get", "node"],
+        "node 1; node {",
+        "Refused",
+        UNCLOSED_THIRD,
+    ),
+    (&["get", "n"], "n k=1", "NoValue", NONE),
+    (&["get", "n"], "n k=1\nn 2\n", "NoValue", NONE),
+    (&["get", "m"], "n 1 { m 2; }", "NoValue", NONE),
+    (&["get", ""], "", "NoValue", NONE),
+];
+
 #[test]
 fn what_is_refused(rt: HostRuntime) -> Result<(), Fail> {
-    let none = "0..0 No such value\n";
-    let no_name = "0..1 Found invalid node name\n";
-    let unclosed = "5..6 No closing '}' for child block\n";
-    let unclosed_second = "6..7 No closing '}' for child block\n";
-    let unclosed_third = "13..14 No closing '}' for child block\n";
-    let end = "2..3 Expected end of document\n";
-    let no_value = "4..4 Expected property value\n";
-    let no_quote = "2..4 Expected quoted string\n";
-    let table: [(&[&str], &str, &str, &str); 14] = [
-        (&["cat"], ";", "Refused", no_name),
-        (&["cat"], "node {", "Refused", unclosed),
-        (&["cat"], "a 1\nb {\n", "Refused", unclosed_second),
-        (&["cat"], "a\n}", "Refused", end),
-        (&["cat"], "a b=", "Refused", no_value),
-        (&["cat"], "a\n\"b", "Refused", no_quote),
-        (&["fmt"], "node {", "Refused", unclosed),
-        (&["strip"], ";", "Refused", no_name),
-        (&["strip"], "node {", "Refused", unclosed),
-        (
-            &["get", "node"],
-            "node 1; node {",
-            "Refused",
-            unclosed_third,
-        ),
-        (&["get", "n"], "n k=1", "NoValue", none),
-        (&["get", "n"], "n k=1\nn 2\n", "NoValue", none),
-        (&["get", "m"], "n 1 { m 2; }", "NoValue", none),
-        (&["get", ""], "", "NoValue", none),
-    ];
-    for (line, input, outcome, report) in table {
+    for (line, input, outcome, report) in &REFUSED {
         comes_of(
             &rt,
             rt.alloc(),
@@ -260,20 +274,22 @@ fn what_is_refused(rt: HostRuntime) -> Result<(), Fail> {
     Ok(())
 }
 
+/// Words that are none of the tool's.
+const OTHER_WORDS: [&[&str]; 9] = [
+    &[],
+    &[""],
+    &["Cat"],
+    &["cats"],
+    &["cat", "x"],
+    &["strip", "x"],
+    &["get"],
+    &["get", "a", "b"],
+    &["got", "a"],
+];
+
 #[test]
 fn other_words_are_usage(rt: HostRuntime) -> Result<(), Fail> {
-    let lines: [&[&str]; 9] = [
-        &[],
-        &[""],
-        &["Cat"],
-        &["cats"],
-        &["cat", "x"],
-        &["strip", "x"],
-        &["get"],
-        &["get", "a", "b"],
-        &["got", "a"],
-    ];
-    for line in lines {
+    for line in &OTHER_WORDS {
         comes_of(
             &rt,
             rt.alloc(),
@@ -321,27 +337,30 @@ fn a_read_that_fails(rt: HostRuntime) -> Result<(), Fail> {
     Ok(())
 }
 
+const LINE: &str = "node 1 \"two\" three;\n";
+
+/// Words, an input, how many bytes a write takes and which one fails, and what is written.
+const BROKEN_WRITES: [(&[&str], &str, (usize, u32), &str); 9] = [
+    (&["cat"], LINE, (1, 0), ""),
+    (&["cat"], LINE, (1, 4), "node"),
+    (&["cat"], LINE, (1, 18), "node 1 \"two\" three"),
+    (&["cat"], LINE, (7, 1), "node 1 "),
+    (&["cat"], LINE, (0, NEVER), ""),
+    (&["strip"], DOCUMENT, (5, 0), ""),
+    (&["strip"], DOCUMENT, (5, 2), "hello 1 2 "),
+    (&["get", "a"], "a \"x y\"", (5, 1), "\"x y\""),
+    (&["get", "n"], "n 0x10", (5, 0), ""),
+];
+
 #[test]
 fn a_write_that_fails(rt: HostRuntime) -> Result<(), Fail> {
-    let document = "node 1 \"two\" three;\n";
-    let table: [(&[&str], &str, (usize, u32), &str); 9] = [
-        (&["cat"], document, (1, 0), ""),
-        (&["cat"], document, (1, 4), "node"),
-        (&["cat"], document, (1, 18), "node 1 \"two\" three"),
-        (&["cat"], document, (7, 1), "node 1 "),
-        (&["cat"], document, (0, NEVER), ""),
-        (&["strip"], DOCUMENT, (5, 0), ""),
-        (&["strip"], DOCUMENT, (5, 2), "hello 1 2 "),
-        (&["get", "a"], "a \"x y\"", (5, 1), "\"x y\""),
-        (&["get", "n"], "n 0x10", (5, 0), ""),
-    ];
-    for (line, input, writes, output) in table {
+    for (line, input, writes, output) in &BROKEN_WRITES {
         let wanted = Wanted {
             outcome: "WriteFailed",
             output: output.as_bytes(),
             report: "writing failed\n",
         };
-        comes_of(&rt, rt.alloc(), line, text(input), writes, wanted)?;
+        comes_of(&rt, rt.alloc(), line, text(input), *writes, wanted)?;
     }
     Ok(())
 }

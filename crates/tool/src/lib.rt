@@ -1,0 +1,346 @@
+//! The tool itself, over any reader and any writer.
+#![tactic(auto)]
+
+ghost use Rattle.std.specs.Prelude.{◌≡◌, ◌↔◌, ◌||◌, true, IfOk, IsTrue, MatchOption, OnOk, ◌≤◌, chars, length, map, take, flat_map, decimal, option_map, string_bytes};
+ghost use Rattle.kdl_text.specs.Failures.{IsSyntax, TellsOnSyntax};
+ghost use Rattle.kdl.specs.Said.{said_arg};
+ghost use Rattle.kdl.specs.Tree.{document_says};
+ghost use Rattle.tool.specs.Commands.{AreOther, asked_by, value_line, words_of};
+ghost use Rattle.tool.specs.Runs.{IsUsage, IsInput, Output, Ran, WritesNothing, Flagged, Answered, AreNoDocument, IsDone, is_read_failed, is_write_failed, is_unread_failed};
+ghost use Rattle.tool.specs.Reports.{status_of, report_of, line, diagnostic_line, lines_of};
+ghost use Rattle.tool.specs.Writing.{Writes};
+
+use kdl::{KdlDiagnostic, KdlDocument, KdlError, ParseFailure};
+use std::alloc::{AllocError, Global};
+use std::io::{Read, Write};
+use watched::Watched;
+
+/// How many bytes are asked for at a time.
+const READ_SIZE: usize = 65536;
+
+/// How many decimal digits a `usize` has at most.
+const MOST_DIGITS: usize = 20;
+
+/// What a run came to.
+#[derive(Debug, Drop)]
+pub enum Outcome {
+    /// The output is written, all of it.
+    Done,
+    /// The input is no KDL document.
+    Refused(KdlError),
+    /// The input is no UTF-8.
+    NotUtf8,
+    /// The document has no such value.
+    NoValue,
+    /// The words are none of the tool's.
+    Usage,
+    /// A `read` failed.
+    ReadFailed,
+    /// A `write` failed, or took no byte.
+    WriteFailed,
+    /// A request for memory was refused.
+    Memory,
+}
+
+/// What the words ask for.
+#[derive(Clone, Copy)]
+enum Command<'a> {
+    /// The document as it is.
+    Cat,
+    /// The document laid out, with its comments.
+    Fmt,
+    /// The document laid out, without comments.
+    Strip,
+    /// The value of the first argument of the first node of this name.
+    Get(&'a str),
+}
+
+/// Why the input was not read to its end.
+#[derive(Drop)]
+enum Unread {
+    Failed,
+    Memory,
+}
+
+/// Runs the tool on its words:
+///
+/// - `cat` writes the document that it reads as it is;
+/// - `fmt` writes it laid out, in one layout for all documents: comments, and what a slashdash drops,
+///   stay where `KdlDocument::autoformat` keeps them; the spellings of names and values go;
+/// - `strip` writes it laid out, without comments and without what a slashdash drops;
+/// - `get NAME` writes the value of the first argument of the first node of that name, as values
+///   print, and a newline. `NoValue`: there is no such node, or it has no argument, whatever
+///   later nodes have.
+///
+/// Any other words are `Usage`, and nothing is read.
+///
+/// The whole input is read and parsed before the first byte is written. The first error of a
+/// `read` or a `write` ends the run, an interrupted one too. Nothing is flushed: that is for the
+/// owner of a writer with a buffer.
+pub fn run<R: Read, W: Write>(
+    alloc: Global,
+    words: &[String],
+    reader: &mut Watched<R>,
+    writer: &mut Watched<W>,
+) -> Outcome
+    ensures usage { IsUsage result ↔ AreOther (map string_bytes words.now) }
+    ensures unread { IsUsage result → reader.new ≡ reader.old }
+    ensures unwritten { WritesNothing result → writer.new ≡ writer.old }
+    ensures ran { Ran result (map string_bytes words.now) (R.remaining reader.old.inner) (R.remaining reader.new.inner)
+        (W.contents writer.old.inner) (W.contents writer.new.inner) }
+    ensures flags { Flagged result reader.new.failed reader.new.ended writer.new.failed }
+    ensures read_failed { reader.new.failed ≡ (is_read_failed result || reader.old.failed) }
+    ensures write_failed { writer.new.failed ≡ (is_write_failed result || writer.old.failed) }
+{
+    let Some(command) = command_of(words) else {
+        return Outcome::Usage;
+    };
+    match read_whole(alloc, reader) {
+        Ok(input) => answer(alloc, command, &input, writer),
+        Err(Unread::Failed) => Outcome::ReadFailed,
+        Err(Unread::Memory) => Outcome::Memory,
+    }
+}
+
+/// What the words ask for, where they are the tool's.
+fn command_of(words: &[String]) -> Option<Command<'_>>
+    ensures { MatchOption result (AreOther (map string_bytes words.now))
+        (λ c. map string_bytes words.now ≡ words_of (asked_by c)) }
+{
+    match words {
+        [word] => {
+            if word.as_str() == "cat" {
+                Some(Command::Cat)
+            } else if word.as_str() == "fmt" {
+                Some(Command::Fmt)
+            } else if word.as_str() == "strip" {
+                Some(Command::Strip)
+            } else {
+                None
+            }
+        }
+        [word, name] => {
+            if word.as_str() == "get" {
+                Some(Command::Get(name.as_str()))
+            } else {
+                None
+            }
+        }
+        _ => None,
+    }
+}
+
+/// All that the reader has left, up to the first read that gives no byte.
+fn read_whole<R: Read>(alloc: Global, reader: &mut Watched<R>) -> Result<Vec<u8>, Unread>
+    ensures whole { IfOk result
+        (λ input. IsInput (R.remaining reader.old.inner)
+        (R.remaining reader.new.inner) input.items) }
+    ensures ended { OnOk result (reader.new.ended ≡ true) }
+    ensures failed { reader.new.failed ≡ (is_unread_failed result || reader.old.failed) }
+{
+    let mut input = Vec::new(alloc);
+    let mut buffer = [0u8; READ_SIZE];
+    loop {
+        match reader.read(&mut buffer) {
+            Ok(0) => return Ok(input),
+            Ok(n) => {
+                if input.extend_from_slice(&buffer[..n]).is_err() {
+                    return Err(Unread::Memory);
+                }
+            }
+            Err(_) => return Err(Unread::Failed),
+        }
+    }
+}
+
+/// Parses the input, and writes what the command asks of it.
+fn answer<W: Write>(
+    alloc: Global,
+    command: Command<'_>,
+    input: &[u8],
+    writer: &mut Watched<W>,
+) -> Outcome
+    ensures unwritten { WritesNothing result → writer.new ≡ writer.old }
+    ensures answered { Answered result (words_of (asked_by command.entry)) input.now
+        (W.contents writer.old.inner) (W.contents writer.new.inner) }
+    ensures flags { Flagged result true true writer.new.failed }
+    ensures write_failed { writer.new.failed ≡ (is_write_failed result || writer.old.failed) }
+{
+    let Ok(text) = str::from_utf8(input) else {
+        return Outcome::NotUtf8;
+    };
+    match output(alloc, command, text) {
+        Ok(Some(output)) => {
+            if write_whole(output.as_bytes(), writer) {
+                Outcome::Done
+            } else {
+                Outcome::WriteFailed
+            }
+        }
+        Ok(None) => Outcome::NoValue,
+        Err(ParseFailure::Syntax(error)) => Outcome::Refused(error),
+        Err(ParseFailure::Memory) => Outcome::Memory,
+    }
+}
+
+/// What the command writes of a text, where it has the value that is asked for.
+fn output(alloc: Global, command: Command<'_>, text: &str) -> Result<Option<String>, ParseFailure>
+    ensures output { IfOk result
+        (λ o. Output (words_of (asked_by command.entry)) text.now (option_map string_bytes o)) }
+    ensures refused { IsSyntax result → AreNoDocument text.now }
+    ensures told { TellsOnSyntax text.now result }
+{
+    let mut document = KdlDocument::parse(alloc, text)?;
+    match command {
+        Command::Cat => Ok(Some(document.to_string(alloc)?)),
+        Command::Fmt => {
+            document.autoformat()?;
+            Ok(Some(document.to_string(alloc)?))
+        }
+        Command::Strip => {
+            document.autoformat_no_comments()?;
+            Ok(Some(document.to_string(alloc)?))
+        }
+        Command::Get(name) => Ok(value_line(alloc, &document, name)?),
+    }
+}
+
+/// The value of the first argument of the first node of that name, on a line.
+fn value_line(
+    alloc: Global,
+    document: &KdlDocument,
+    name: &str,
+) -> Result<Option<String>, AllocError>
+    ensures { IfOk result (λ o. option_map string_bytes o
+        ≡ value_line (said_arg (chars name.now) (document_says document.now))) }
+{
+    let Some(value) = document.get_arg(name) else {
+        return Ok(None);
+    };
+    let mut line = value.to_string(alloc)?;
+    line.push('\n')?;
+    Ok(Some(line))
+}
+
+/// Writes the bytes, and returns whether all were written. It stops at the first error, and at
+/// the first write that takes no byte.
+#[tactic(auto, using(crate::proofs::LoopSteps::written_more))]
+fn write_whole<W: Write>(bytes: &[u8], writer: &mut Watched<W>) -> bool
+    ensures { Writes W.contents writer.old writer.new bytes.now result }
+{
+    let mut done = 0;
+    while done < bytes.len() {
+        match writer.write(&bytes[done..]) {
+            Ok(0) | Err(_) => return false,
+            Ok(n) => done += n,
+        }
+    }
+    true
+}
+
+/// Writes the pieces one after another, and returns whether all were written.
+fn write_pieces<W: Write>(pieces: &[&[u8]], writer: &mut Watched<W>) -> bool
+    ensures { Writes W.contents writer.old writer.new (flat_map (λ p. p.now) pieces.now) result }
+{
+    for piece in pieces {
+        if !write_whole(piece, writer) {
+            return false;
+        }
+    }
+    true
+}
+
+/// Puts the decimal digits of the number at the front of the buffer, and returns how many they are.
+fn put_decimal(number: usize, buffer: &mut [u8]) -> usize
+    requires { length (decimal number) ≤ length buffer.old }
+    ensures count { result ≡ length (decimal number) }
+    ensures digits { take result buffer.new ≡ decimal number }
+{
+    if number < 10 {
+        buffer[0] = b'0' + number as u8;
+        return 1;
+    }
+    let count = put_decimal(number / 10, buffer);
+    buffer[count] = b'0' + (number % 10) as u8;
+    count + 1
+}
+
+impl Outcome {
+    /// The exit status: 0 where all is done, 1 where the input is refused, 2 for words that are
+    /// none of the tool's, and 3 where a read, a write or a request for memory failed.
+    pub fn status(&self) -> u8
+        ensures { result ≡ status_of self.now }
+    {
+        match self {
+            Outcome::Done => 0,
+            Outcome::Refused(_) | Outcome::NotUtf8 | Outcome::NoValue => 1,
+            Outcome::Usage => 2,
+            Outcome::ReadFailed | Outcome::WriteFailed | Outcome::Memory => 3,
+        }
+    }
+
+    /// Writes a line for each fault, and returns whether all lines were written: where they were not,
+    /// a write failed. It stops at the first error, an interrupted one too, and at the first write
+    /// that takes no byte.
+    ///
+    /// A line of a refused input is `offset..end message`, in bytes of the input.
+    pub fn report<W: Write>(&self, writer: &mut Watched<W>) -> bool
+        ensures written { Writes W.contents writer.old writer.new (report_of self.now) result }
+        ensures done { IsDone self.now → (IsTrue result × writer.new ≡ writer.old) }
+    {
+        match self {
+            Outcome::Done => true,
+            Outcome::Refused(error) => report_error(error, writer),
+            Outcome::NotUtf8 => report_line("0..0 Input is not UTF-8", writer),
+            Outcome::NoValue => report_line("0..0 No such value", writer),
+            Outcome::Usage => report_line("usage: kdl-tool cat, fmt, strip or get NAME", writer),
+            Outcome::ReadFailed => report_line("reading failed", writer),
+            Outcome::WriteFailed => report_line("writing failed", writer),
+            Outcome::Memory => report_line("out of memory", writer),
+        }
+    }
+}
+
+/// Writes a line, and returns whether all of it was written.
+fn report_line<W: Write>(text: &str, writer: &mut Watched<W>) -> bool
+    ensures { Writes W.contents writer.old writer.new (line text.now) result }
+{
+    write_pieces(&[text.as_bytes(), b"\n"], writer)
+}
+
+/// Writes a line for each diagnostic, and returns whether all were written.
+fn report_error<W: Write>(error: &KdlError, writer: &mut Watched<W>) -> bool
+    ensures { Writes W.contents writer.old writer.new (lines_of error.now) result }
+{
+    for diagnostic in &error.diagnostics {
+        if !report_diagnostic(diagnostic, writer) {
+            return false;
+        }
+    }
+    true
+}
+
+/// Writes the line of a diagnostic, and returns whether all of it was written.
+fn report_diagnostic<W: Write>(diagnostic: &KdlDiagnostic, writer: &mut Watched<W>) -> bool
+    ensures { Writes W.contents writer.old writer.new (diagnostic_line diagnostic.now) result }
+{
+    let start = diagnostic.span.offset;
+    let end = start.saturating_add(diagnostic.span.len);
+    let message = match &diagnostic.message {
+        Some(message) => message.as_str(),
+        None => "Unexpected error",
+    };
+    let mut starts = [0u8; MOST_DIGITS];
+    let starts_len = put_decimal(start, &mut starts);
+    let mut ends = [0u8; MOST_DIGITS];
+    let ends_len = put_decimal(end, &mut ends);
+    let pieces: [&[u8]; 6] = [
+        &starts[..starts_len],
+        b"..",
+        &ends[..ends_len],
+        b" ",
+        message.as_bytes(),
+        b"\n",
+    ];
+    write_pieces(&pieces, writer)
+}
