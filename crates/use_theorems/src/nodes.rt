@@ -32,11 +32,7 @@ pub fn add(document: &mut KdlDocument, node: KdlNode) -> Result<(), AllocError>
 }
 
 /// Adds a child to the first node of a name: the document reads back, whether the call succeeds or not.
-pub fn add_child(
-    document: &mut KdlDocument,
-    name: &str,
-    child: KdlNode,
-) -> Result<(), AllocError>
+pub fn add_child(document: &mut KdlDocument, name: &str, child: KdlNode) -> Result<(), AllocError>
     requires document { DocumentReadsBack document.old }
     requires child { NodeReadsBack child }
     ensures { DocumentReadsBack document.new }
