@@ -17,9 +17,6 @@ plain_under q e s v a h ok =
     subst (λ (q : Sought). IsUnformed (under q e)) (sym a) (subst (λ (e : Entry). IsUnformed (under (property (plain_identifier s)) e)) (sym h) (record { plain = refl; value = ok }))
 
 -- with another key, or another type, without a spelling
-unspelled_own : (i : Identifier) → i.repr ≡ None → unspelled i ≡ i
-unspelled_own i h = ap (λ (r : Option Text). record i { repr = r }) (sym h)
-
 renamed : (e : Entry) (o : Option Identifier) → option_map unspelled o ≡ o → IsUnformed e → IsUnformed (record e { name = o })
 renamed e o h u = record {
   plain = ap (λ (n : Option Identifier). record (cleared e) { name = n }) h ∙ ap (λ (y : Entry). record y { name = o }) u.plain;
@@ -32,11 +29,14 @@ retyped e o h u = record {
   value = u.value;
 }
 
-pub named_unformed : (e f : Entry) (i : Identifier) → f ≡ record e { name = Some i } → i.repr ≡ None → IsUnformed e → IsUnformed f
-named_unformed e f i h r u = subst IsUnformed (sym h) (renamed e (Some i) (ap (λ (j : Identifier). Some j) (unspelled_own i r)) u)
+plain_own : (i : Identifier) (s : Text) → i ≡ plain_identifier s → option_map unspelled (Some i) ≡ Some i
+plain_own i s h = ap (λ (j : Identifier). Some (unspelled j)) h ∙ ap (λ (j : Identifier). Some j) (sym h)
+
+pub named_unformed : (e f : Entry) (i : Identifier) (s : Text) → f ≡ record e { name = Some i } → i ≡ plain_identifier s → IsUnformed e → IsUnformed f
+named_unformed e f i s h p u = subst IsUnformed (sym h) (renamed e (Some i) (plain_own i s p) u)
 
 pub unnamed_unformed : (e f : Entry) → f ≡ record e { name = None } → IsUnformed e → IsUnformed f
 unnamed_unformed e f h u = subst IsUnformed (sym h) (renamed e None refl u)
 
-pub typed_unformed : (e f : Entry) (i : Identifier) → f ≡ record e { ty = Some i } → i.repr ≡ None → IsUnformed e → IsUnformed f
-typed_unformed e f i h r u = subst IsUnformed (sym h) (retyped e (Some i) (ap (λ (j : Identifier). Some j) (unspelled_own i r)) u)
+pub typed_unformed : (e f : Entry) (i : Identifier) (s : Text) → f ≡ record e { ty = Some i } → i ≡ plain_identifier s → IsUnformed e → IsUnformed f
+typed_unformed e f i s h p u = subst IsUnformed (sym h) (retyped e (Some i) (plain_own i s p) u)

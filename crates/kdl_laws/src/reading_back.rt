@@ -148,10 +148,10 @@ pub fn new_entries_are_unformed()
 /// without a key.
 #[tactic(auto, using(crate::proofs::NewEntries::named_unformed, crate::proofs::NewEntries::typed_unformed, crate::proofs::NewEntries::unnamed_unformed))]
 pub fn named_entries_are_unformed()
-    ensures named { (e f : Entry) (i : Identifier) → f ≡ record e { name = Some i }
-        → i.repr ≡ None → IsUnformed e → IsUnformed f }
-    ensures typed { (e f : Entry) (i : Identifier) → f ≡ record e { ty = Some i }
-        → i.repr ≡ None → IsUnformed e → IsUnformed f }
+    ensures named { (e f : Entry) (i : Identifier) (s : Text) → f ≡ record e { name = Some i }
+        → i ≡ plain_identifier s → IsUnformed e → IsUnformed f }
+    ensures typed { (e f : Entry) (i : Identifier) (s : Text) → f ≡ record e { ty = Some i }
+        → i ≡ plain_identifier s → IsUnformed e → IsUnformed f }
     ensures unnamed { (e f : Entry) → f ≡ record e { name = None } → IsUnformed e → IsUnformed f }
 {}
 

@@ -4,8 +4,10 @@ ghost use Rattle.kdl.specs.ReadsBack.{DocumentReadsBack, ReadsAs, respelled};
 ghost use Rattle.kdl.specs.Words.{IsDocument, Nodes, document_says, entry_tree, print_value, text_of, value_tree};
 ghost use Rattle.std.specs.Prelude.{◌≡◌, IfOk, true};
 
-use kdl::{KdlDocument, KdlEntry, KdlNode, KdlValue, NodeKey, ParseFailure};
-use kdl_laws::reading_back::{new_entries_are_unformed, printed_reads_back};
+use kdl::{KdlDocument, KdlEntry, KdlIdentifier, KdlNode, KdlValue, NodeKey, ParseFailure};
+use kdl_laws::reading_back::{
+    named_entries_are_unformed, new_entries_are_unformed, printed_reads_back,
+};
 use kdl_laws::values::values_are_well_formed;
 use std::alloc::{AllocError, Global};
 
@@ -101,6 +103,28 @@ pub fn edit(
     };
     *entry = KdlEntry::new(other);
     Ok(())
+}
+
+/// A property with a type more in a node.
+pub fn push_typed(
+    alloc: Global,
+    node: &mut KdlNode,
+    name: &str,
+    ty: &str,
+    value: KdlValue,
+) -> Result<(), AllocError>
+    ensures { ReadsAs node.old node.new }
+{
+    values_are_well_formed(&value);
+    new_entries_are_unformed();
+    named_entries_are_unformed();
+    let mut entry = KdlEntry::new(value);
+    entry.set_name(Some(KdlIdentifier::from_text(alloc, name)?));
+    entry.set_ty(KdlIdentifier::from_text(alloc, ty)?);
+    match node.push(entry) {
+        Ok(()) => Ok(()),
+        Err((_, error)) => Err(error),
+    }
 }
 
 /// The same edits of the first child of a name.
