@@ -1,0 +1,37 @@
+//! The statuses that the calls return.
+
+ghost use Rattle.kdl_c.specs.Answers.{failure_status};
+ghost use Rattle.std.specs.Prelude.{◌≡◌};
+
+use kdl::ParseFailure;
+
+/// The call did what it says.
+pub const OK: u32 = 0;
+
+/// The text has faults.
+pub const FAULTS: u32 = 1;
+
+/// The text is not UTF-8.
+pub const NOT_UTF8: u32 = 2;
+
+/// Memory ran out.
+pub const OUT_OF_MEMORY: u32 = 3;
+
+/// The buffer has less room than is needed.
+pub const TOO_SMALL: u32 = 4;
+
+/// The handle has no document.
+pub const NO_DOCUMENT: u32 = 5;
+
+/// There is no node at the path, or no entry at the index.
+pub const NOT_FOUND: u32 = 6;
+
+/// The status for a text that was not parsed.
+pub fn of_failure(failure: &ParseFailure) -> u32
+    ensures { result ≡ failure_status failure.now }
+{
+    match failure {
+        ParseFailure::Syntax(_) => FAULTS,
+        ParseFailure::Memory => OUT_OF_MEMORY,
+    }
+}
