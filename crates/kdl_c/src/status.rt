@@ -1,6 +1,8 @@
 //! The statuses that the calls return.
 
 ghost use Rattle.kdl_c.specs.Answers.{failure_status};
+ghost use Rattle.kdl_c.specs.declared.status.Refused.TheVariants.{NotFound};
+ghost use Rattle.kdl_c.specs.declared.status.Unread.TheVariants.{Faults};
 ghost use Rattle.std.specs.Prelude.{◌≡◌};
 
 use kdl::ParseFailure;
@@ -33,5 +35,55 @@ pub fn of_failure(failure: &ParseFailure) -> u32
     match failure {
         ParseFailure::Syntax(_) => FAULTS,
         ParseFailure::Memory => OUT_OF_MEMORY,
+    }
+}
+
+/// Why a text was not read.
+#[derive(Clone, Copy)]
+pub enum Unread {
+    /// It has faults.
+    Faults,
+    /// It is not UTF-8.
+    NotUtf8,
+    /// Memory ran out.
+    Memory,
+}
+
+impl Unread {
+    /// The status for a text that was not read.
+    pub fn status(self) -> u32
+        ensures not_done { result ≡ 0 → ⊥ }
+        ensures held { result ≡ 5 → ⊥ }
+        ensures faults { result ≡ 1 → self ≡ Faults }
+    {
+        match self {
+            Unread::Faults => FAULTS,
+            Unread::NotUtf8 => NOT_UTF8,
+            Unread::Memory => OUT_OF_MEMORY,
+        }
+    }
+}
+
+/// Why an edit was not made.
+#[derive(Clone, Copy)]
+pub enum Refused {
+    /// There is no node at the path, or nothing at the index.
+    NotFound,
+    /// Memory ran out.
+    Memory,
+}
+
+impl Refused {
+    /// The status of an edit that was not made.
+    pub fn status(self) -> u32
+        ensures not_done { result ≡ 0 → ⊥ }
+        ensures held { result ≡ 5 → ⊥ }
+        ensures read { result ≡ 1 → ⊥ }
+        ensures absent { result ≡ 6 → self ≡ NotFound }
+    {
+        match self {
+            Refused::NotFound => NOT_FOUND,
+            Refused::Memory => OUT_OF_MEMORY,
+        }
     }
 }

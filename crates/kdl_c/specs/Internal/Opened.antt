@@ -1,0 +1,40 @@
+-- A document taken apart along a path.
+use Rattle.std.specs.Prelude.{◌≡◌, ℕ, zero, suc, List, [], ◌∷◌, ◌++◌, Option, Some, None, option_and_then, slice_get}
+use Rattle.kdl.specs.Words.{Document, Node, block_of, document_tree, nodes_of}
+use Rattle.kdl.specs.declared.document.KdlDocument.{KdlDocument}
+use Rattle.kdl_grammar.specs.Tree.{Children, children, document, no_children, node}
+use Rattle.kdl_c.specs.Changes.{changed_at, changed_nth}
+use Rattle.kdl_c.specs.Paths.{nodes_at}
+use Rattle.kdl_c.specs.declared.edits.opened.Above.{Above}
+use Rattle.kdl_c.specs.declared.edits.opened.Opened.{Opened}
+
+-- the block of the node at i
+abbrev pub block_in : ℕ → KdlDocument → Option KdlDocument
+block_in i d = option_and_then block_of (slice_get (nodes_of d) i)
+
+-- a node with these children
+abbrev pub with_kids : Children → Node → Node
+with_kids k (node h _) = node h k
+
+-- a document with these children in the node at i
+abbrev pub with_kids_at : ℕ → Children → Document → Document
+with_kids_at i k (document o s ns) = document o s (changed_nth i (with_kids k) ns)
+
+-- the block c, put into the documents above it
+abbrev pub plugged : List Above → Document → Document
+plugged [] c = c
+plugged (a ∷ as) c = with_kids_at a.index (children (plugged as c)) (document_tree a.document)
+
+-- one level further down
+pub record HasEntered (i : ℕ) (o p : Opened) : Type 0 where
+  pub outer : Above
+  pub block : block_in i o.block ≡ Some p.block
+  pub index : outer.index ≡ i
+  pub without : document_tree outer.document ≡ with_kids_at i no_children (document_tree o.block)
+  pub above : p.above.items ≡ o.above.items ++ outer ∷ []
+
+-- d taken apart along the path: with another node in the block it makes what d makes with that node at the path
+pub record IsOpened (path : List ℕ) (d : KdlDocument) (o : Opened) : Type 0 where
+  pub nodes : nodes_at path (nodes_of d) ≡ Some (nodes_of o.block)
+  pub whole : plugged o.above.items (document_tree o.block) ≡ document_tree d
+  pub changed : (i : ℕ) (x : Node) → plugged o.above.items (changed_at (i ∷ []) (λ _. x) (document_tree o.block)) ≡ changed_at (path ++ i ∷ []) (λ _. x) (document_tree d)

@@ -1,0 +1,135 @@
+//! Changes of one node.
+
+ghost use Rattle.kdl.specs.Words.{ChildPut, node_tree};
+ghost use Rattle.kdl_c.specs.Changes.{AtEntry};
+ghost use Rattle.kdl_c.specs.Edits.{ChildRemoved, EntryRemoved};
+ghost use Rattle.kdl_c.specs.Internal.Done.{EntryPut, IsDone, changed_entry};
+ghost use Rattle.std.specs.Prelude.{◌≡◌, OnErr, OnOk};
+
+use crate::edits::entry_change::EntryChange;
+use crate::status::Refused;
+use kdl::{KdlEntry, KdlIdentifier, KdlNode};
+use std::alloc::Global;
+
+/// A change of one node.
+#[derive(Drop)]
+pub enum NodeChange {
+    /// Another name.
+    SetName(KdlIdentifier),
+    /// Another type, or none.
+    SetType(Option<KdlIdentifier>),
+    /// A change of the entry at the index.
+    ChangeEntry(usize, EntryChange),
+    /// An entry, before the one at the index or last.
+    InsertEntry(usize, KdlEntry),
+    /// No longer the entry at the index.
+    RemoveEntry(usize),
+    /// A node in the block, before the one at the index or last.
+    InsertChild(usize, KdlNode),
+    /// No longer the node at the index of the block.
+    RemoveChild(usize),
+}
+
+impl NodeChange {
+    /// Makes the change. Where it fails, the node is as it was.
+    pub fn make(self, alloc: Global, node: &mut KdlNode) -> Result<(), Refused>
+        ensures done { OnOk result (IsDone self node.old node.new) }
+        ensures refused { OnErr result (node_tree node.new ≡ node_tree node.old) }
+    {
+        match self {
+            NodeChange::SetName(name) => {
+                node.set_name(name);
+                Ok(())
+            }
+            NodeChange::SetType(ty) => {
+                *node.ty_mut() = ty;
+                Ok(())
+            }
+            NodeChange::ChangeEntry(index, change) => change_entry(alloc, node, index, change),
+            NodeChange::InsertEntry(index, entry) => insert_entry(node, index, entry),
+            NodeChange::RemoveEntry(index) => remove_entry(node, index),
+            NodeChange::InsertChild(index, child) => insert_child(node, index, child),
+            NodeChange::RemoveChild(index) => remove_child(node, index),
+        }
+    }
+}
+
+/// Makes the change of the entry at the index.
+fn change_entry(
+    alloc: Global,
+    node: &mut KdlNode,
+    index: usize,
+    change: EntryChange,
+) -> Result<(), Refused>
+    ensures done { OnOk result
+        (AtEntry index (λ e f. f ≡ changed_entry change e) node.old node.new) }
+    ensures refused { OnErr result (node.new ≡ node.old) }
+{
+    match node.entries_mut().get_mut(index) {
+        Some(entry) => {
+            change.make(alloc, entry);
+            Ok(())
+        }
+        None => Err(Refused::NotFound),
+    }
+}
+
+/// Inserts the entry before the one at the index, or last.
+fn insert_entry(node: &mut KdlNode, index: usize, entry: KdlEntry) -> Result<(), Refused>
+    ensures done { OnOk result (EntryPut index entry node.old node.new) }
+    ensures refused { OnErr result (node_tree node.new ≡ node_tree node.old) }
+{
+    let entries = node.entries_mut();
+    if entries.len() < index {
+        return Err(Refused::NotFound);
+    }
+    match entries.insert(index, entry) {
+        Ok(()) => Ok(()),
+        Err(_) => Err(Refused::Memory),
+    }
+}
+
+/// Removes the entry at the index.
+fn remove_entry(node: &mut KdlNode, index: usize) -> Result<(), Refused>
+    ensures done { OnOk result (EntryRemoved index node.old node.new) }
+    ensures refused { OnErr result (node_tree node.new ≡ node_tree node.old) }
+{
+    let entries = node.entries_mut();
+    if entries.len() <= index {
+        return Err(Refused::NotFound);
+    }
+    drop(entries.remove(index));
+    Ok(())
+}
+
+/// Inserts the node into the block, before the one at the index or last, and makes the block where there is none.
+fn insert_child(node: &mut KdlNode, index: usize, child: KdlNode) -> Result<(), Refused>
+    ensures done { OnOk result (ChildPut index child node.old node.new) }
+    ensures refused { OnErr result (node_tree node.new ≡ node_tree node.old) }
+{
+    let count = match node.children() {
+        Some(block) => block.nodes().len(),
+        None => 0,
+    };
+    if count < index {
+        return Err(Refused::NotFound);
+    }
+    match node.insert_child(index, child) {
+        Ok(()) => Ok(()),
+        Err(_) => Err(Refused::Memory),
+    }
+}
+
+/// Removes the node at the index of the block.
+fn remove_child(node: &mut KdlNode, index: usize) -> Result<(), Refused>
+    ensures done { OnOk result (ChildRemoved index node.old node.new) }
+    ensures refused { OnErr result (node_tree node.new ≡ node_tree node.old) }
+{
+    match node.children_mut() {
+        Some(block) if index < block.nodes().len() => {
+            drop(block.remove_node(index));
+            Ok(())
+        }
+        _ => Err(Refused::NotFound),
+    }
+}
