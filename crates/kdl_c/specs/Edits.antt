@@ -89,7 +89,7 @@ pub record FirstInserted (t : Text) (i : ℕ) (d e : KdlDocument) : Type 0 where
   pub laid : LaidNodeText true t (node_tree given)
   pub put : IsPut i (node_tree given) d e
   pub prints : PrintsPut i given d e
-  pub data : document_says e ≡ said_with i (node_says given) (document_says d)
+  pub says : document_says e ≡ said_with i (node_says given) (document_says d)
 
 -- e is d without the node at i
 pub record FirstRemoved (i : ℕ) (d e : KdlDocument) : Type 0 where
@@ -98,7 +98,7 @@ pub record FirstRemoved (i : ℕ) (d e : KdlDocument) : Type 0 where
   pub nodes : nodes_of e ≡ remove (nodes_of d) i
   pub rest : e ≡ with_nodes d (held_nodes e)
   pub prints : PrintsWithout i taken d e
-  pub data : document_says e ≡ said_without i (document_says d)
+  pub says : document_says e ≡ said_without i (document_says d)
 
 -- the node of the text t is inserted into the block of the node at the path, or into the document where that is empty
 abbrev pub NodeInserted : List ℕ → Text → ℕ → KdlDocument → KdlDocument → Type 0

@@ -54,4 +54,4 @@ pub record IsDoneIn (i : ℕ) (c : NodeChange) (d e : KdlDocument) : Type 0 wher
 pub record NodePut (i : ℕ) (n : KdlNode) (d e : KdlDocument) : Type 0 where
   pub put : IsPut i (node_tree n) d e
   pub prints : PrintsPut i n d e
-  pub data : document_says e ≡ said_with i (node_says n) (document_says d)
+  pub says : document_says e ≡ said_with i (node_says n) (document_says d)
