@@ -23,7 +23,7 @@ with_kids_at i k (document o s ns) = document o s (changed_nth i (with_kids k) n
 -- the block c, put into the documents above it
 abbrev pub plugged : List Above → Document → Document
 plugged [] c = c
-plugged (a ∷ as) c = with_kids_at a.index (children (plugged as c)) (document_tree a.document)
+plugged (a ∷ more) c = with_kids_at a.index (children (plugged more c)) (document_tree a.document)
 
 -- one level further down
 pub record HasEntered (i : ℕ) (o p : Opened) : Type 0 where
@@ -33,8 +33,12 @@ pub record HasEntered (i : ℕ) (o p : Opened) : Type 0 where
   pub without : document_tree outer.document ≡ with_kids_at i no_children (document_tree o.block)
   pub above : p.above.items ≡ o.above.items ++ outer ∷ []
 
--- d taken apart along the path: with another node in the block it makes what d makes with that node at the path
-pub record IsOpened (path : List ℕ) (d : KdlDocument) (o : Opened) : Type 0 where
-  pub nodes : nodes_at path (nodes_of d) ≡ Some (nodes_of o.block)
+-- d taken apart along the path, but for the rest of it: a node changed in the block shows in the whole
+pub record IsOnTheWay (rest path : List ℕ) (d : KdlDocument) (o : Opened) : Type 0 where
+  pub nodes : nodes_at rest (nodes_of o.block) ≡ nodes_at path (nodes_of d)
   pub whole : plugged o.above.items (document_tree o.block) ≡ document_tree d
-  pub changed : (i : ℕ) (x : Node) → plugged o.above.items (changed_at (i ∷ []) (λ _. x) (document_tree o.block)) ≡ changed_at (path ++ i ∷ []) (λ _. x) (document_tree d)
+  pub changed : (i : ℕ) (x : Node) → plugged o.above.items (changed_at (rest ++ i ∷ []) (λ _. x) (document_tree o.block)) ≡ changed_at (path ++ i ∷ []) (λ _. x) (document_tree d)
+
+-- d taken apart along the whole path
+abbrev pub IsOpened : List ℕ → KdlDocument → Opened → Type 0
+IsOpened path d o = IsOnTheWay [] path d o
