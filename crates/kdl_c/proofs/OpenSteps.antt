@@ -165,3 +165,16 @@ pub next : (j i : ℕ) (q path : List ℕ) (d : KdlDocument) (o p : Opened) → 
 next j i q path d o p k e is w h =
     let whole : q ≡ j ∷ drop (i + 1) path = e ∙ drop_more path i 0 k ∙ ap (λ x. x ∷ drop (i + 1) path) (sym is) in
     goes_on j (drop (i + 1) path) path d o p (subst (λ r. IsOnTheWay r path d o) whole w) h
+
+-- a document that is lent another node in a place
+pub set_in : (d : KdlDocument) (v : Vec KdlNode Global) (i : ℕ) (m : KdlNode) → v ≡ held_nodes d → document_tree (with_nodes d (with_item v i m)) ≡ changed_at (i ∷ []) (λ _. node_tree m) (document_tree d)
+set_in d v i m e = ap (λ w. document_tree (with_nodes d (with_item w i m))) e ∙ node_set d i m
+
+pub same_in : (d : KdlDocument) (v : Vec KdlNode Global) (i : ℕ) (n m : KdlNode) → v ≡ held_nodes d → slice_get v.items i ≡ Some n → node_tree m ≡ node_tree n
+    → document_tree (with_nodes d (with_item v i m)) ≡ document_tree d
+same_in d v i n m e at same =
+    let f : Node → Node = λ _. node_tree m in
+    set_in d v i m e
+    ∙ ap (changed_at (i ∷ []) f) (document_tree_out d)
+    ∙ ap (around d) (nth_agree i (changed_below [] f) (λ x. x) (trees d) (node_tree n) (tree_there d i n (ap (λ w. slice_get w.items i) (sym e) ∙ at)) same ∙ nth_same i (listed_nodes (trees d)))
+    ∙ sym (document_tree_out d)

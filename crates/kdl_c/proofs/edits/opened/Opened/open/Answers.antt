@@ -7,4 +7,4 @@ loop-index-preserved c =
     let path = c.args.path.now in
     let i = c.loop-index.index-index in
     next (slice_index_or path i 0) i (drop i path) path c.args.document c.loop-index.opened c.enter.new.self c.loop-index-test.true refl refl
-        c.loop-index.invariant c.in_default.ensures.entered
+    c.loop-index.invariant c.in_default.ensures.entered
