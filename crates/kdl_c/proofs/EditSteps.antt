@@ -144,5 +144,5 @@ first_removed (j ∷ js) i none x y all = absurd (cc)
 
 -- what is not there has no tree
 pub nothing_there : {A B : Type 0} (f : A → B) (o : Option A) (p : Option B) → option_map f o ≡ p → is_some o ≡ false → p ≡ None
-nothing_there f None p e no = sym e
-nothing_there f (Some x) p e no = absurd (cc)
+nothing_there f None p e h = sym e
+nothing_there f (Some x) p e h = absurd (cc)
