@@ -1,5 +1,5 @@
 -- Edits: from what the changes make to what the calls say.
-use Rattle.std.proofs.Common.{◌≡◌, ℕ, List, [], ◌∷◌, ◌++◌, Option, None, Some, IfSome, IsSome, OnErr, OnOk, Result, Ok, Err, ap, ◌∙◌, sym, refl, subst, option_map, slice_get, String, Global, Bool, true, false, is_some, ◌-◌, ◌^◌}
+use Rattle.std.proofs.Common.{◌≡◌, ℕ, List, [], ◌∷◌, ◌++◌, Option, None, Some, IfErr, IfSome, IsSome, OnErr, OnOk, Result, Ok, Err, ap, ◌∙◌, sym, refl, subst, option_map, slice_get, String, Global, Bool, true, false, is_some, ◌-◌, ◌^◌}
 use Rattle.std.specs.Prelude.{option_and_then}
 use Rattle.kdl_text.specs.Chars.{Text}
 use Rattle.kdl_entry.specs.Laid.{LaidEntryText, LaidItem, item, laid_entry_text}
@@ -34,13 +34,36 @@ pub on_err : {T E P Q : Type 0} (r : Result T E) → (P → Q) → OnErr r P →
 on_err (Ok x) f h = h
 on_err (Err x) f h = f h
 
+pub if_err : {T E : Type 0} (r : Result T E) (P Q : E → Type 0) → ((e : E) → P e → Q e) → IfErr r P → IfErr r Q
+if_err (Ok x) P Q f h = h
+if_err (Err e) P Q f h = f e h
+
+-- the node at a path is that in the block at the end of the path above it
+there_at : (path above : List ℕ) (i : ℕ) (d w : KdlDocument) → path ≡ above ++ i ∷ [] → w ≡ d → (o : Option (List KdlNode)) → nodes_at above (nodes_of w) ≡ o
+    → node_at path (nodes_of d) ≡ option_and_then (λ ms. slice_get ms i) o
+there_at path above i d w whole same o at =
+    ap (node_at path) (ap nodes_of (sym same)) ∙ ap (λ p. node_at p (nodes_of w)) whole ∙ last_step above i (nodes_of w) ∙ ap (option_and_then (λ ms. slice_get ms i)) at
+
+pub absent_at : (path above : List ℕ) (i : ℕ) (d w : KdlDocument) (o : Opened) (P : KdlNode → Type 0) → path ≡ above ++ i ∷ [] → w ≡ d → IsOpened above w o
+    → IfSome (slice_get (nodes_of o.block) i) P → IfSome (node_at path (nodes_of d)) P
+absent_at path above i d w o P whole same h p =
+    subst (λ q. IfSome q P) (sym (there_at path above i d w whole same (Some (nodes_of o.block)) (sym h.nodes))) p
+
+none_some : (P : KdlNode → Type 0) (o : Option KdlNode) → o ≡ None → IfSome o P
+none_some P None e = tt
+none_some P (Some n) e = absurd (cc)
+
+pub not_opened : (path above : List ℕ) (i : ℕ) (d w : KdlDocument) (P : KdlNode → Type 0) → path ≡ above ++ i ∷ [] → w ≡ d → nodes_at above (nodes_of w) ≡ None
+    → IfSome (node_at path (nodes_of d)) P
+not_opened path above i d w P whole same none = none_some P (node_at path (nodes_of d)) (there_at path above i d w whole same None none)
+
 -- a change in the block at the end of a path
 pub done_at : (path above : List ℕ) (i : ℕ) (c : NodeChange) (d e w : KdlDocument) (o : Opened) (b : KdlDocument) → path ≡ above ++ i ∷ [] → w ≡ d → IsOpened above w o
     → IsDoneIn i c o.block b → document_tree e ≡ plugged o.above.items (document_tree b) → AtNode path (IsDone c) d e
 done_at path above i c d e w o b whole same h done closed = record {
   old = done.old;
   new = done.new;
-  there = ap (node_at path) (ap nodes_of (sym same)) ∙ ap (λ p. node_at p (nodes_of w)) whole ∙ last_step above i (nodes_of w) ∙ ap (option_and_then (λ ms. slice_get ms i)) (sym h.nodes) ∙ done.there;
+  there = there_at path above i d w whole same (Some (nodes_of o.block)) (sym h.nodes) ∙ done.there;
   related = done.done;
   rest = closed ∙ ap (plugged o.above.items) done.rest ∙ h.changed i (node_tree done.new)
       ∙ ap (λ p. changed_at p (λ _. node_tree done.new) (document_tree w)) (sym whole) ∙ ap (λ x. changed_at path (λ _. node_tree done.new) (document_tree x)) same;

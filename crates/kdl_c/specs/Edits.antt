@@ -1,14 +1,15 @@
 -- What each edit makes of a node, of an entry, or of a document.
 use Rattle.std.specs.List.{insert, remove}
-use Rattle.std.specs.Prelude.{◌≡◌, ◌<◌, ◌≤◌, ◌-◌, ◌^◌, ℕ, zero, suc, List, [], ◌∷◌, Option, None, Some, length, option_map, slice_get, true}
+use Rattle.std.specs.Prelude.{◌≡◌, ◌<◌, ◌≤◌, ◌-◌, ◌^◌, ℕ, zero, suc, List, [], ◌∷◌, Option, None, Some, IfSome, length, option_map, slice_get, true}
 use Rattle.kdl.specs.Words.{ChildPut, Entry, EntryData, EntryFormat, Value, IsPut, PrintsPut, PrintsWithout, Text, cleared, plain_identifier, said_with, said_without}
 use Rattle.kdl.specs.Words.{LaidEntryText, LaidNodeText, document_says, entry_tree, identifier_tree, node_says, node_tree}
-use Rattle.kdl.specs.Words.{block_of, entries_of, held_entries, held_nodes, nodes_of, with_children, with_entries, with_name, with_nodes, with_ty}
+use Rattle.kdl.specs.Words.{block_of, child_nodes, entries_of, held_entries, held_nodes, nodes_of, with_children, with_entries, with_name, with_nodes, with_ty}
 use Rattle.kdl.specs.declared.document.KdlDocument.{KdlDocument}
 use Rattle.kdl.specs.declared.node.KdlNode.{KdlNode}
 use Rattle.kdl_entry.specs.declared.entry.KdlEntry.{KdlEntry}
 use Rattle.kdl_entry.specs.declared.identifier.KdlIdentifier.{KdlIdentifier}
 use Rattle.kdl_c.specs.Changes.{AtEntry, AtNode}
+use Rattle.kdl_c.specs.Paths.{node_at}
 
 -- the text where the flag is not 0, else none
 abbrev pub text_if : ℕ → Text → Option Text
@@ -99,6 +100,16 @@ pub record FirstRemoved (i : ℕ) (d e : KdlDocument) : Type 0 where
   pub rest : e ≡ with_nodes d (held_nodes e)
   pub prints : PrintsWithout i taken d e
   pub says : document_says e ≡ said_without i (document_says d)
+
+-- no node is at the path, or its block has no node at i; for the empty path, the document has none
+abbrev pub NodeAbsent : List ℕ → ℕ → KdlDocument → Type 0
+NodeAbsent [] i d = length (nodes_of d) ≤ i
+NodeAbsent (j ∷ js) i d = IfSome (node_at (j ∷ js) (nodes_of d)) (λ n. length (child_nodes n) ≤ i)
+
+-- no node is at the path, or its block has fewer than i nodes; for the empty path, the document has fewer
+abbrev pub NoPlaceFor : List ℕ → ℕ → KdlDocument → Type 0
+NoPlaceFor [] i d = length (nodes_of d) < i
+NoPlaceFor (j ∷ js) i d = IfSome (node_at (j ∷ js) (nodes_of d)) (λ n. length (child_nodes n) < i)
 
 -- the node of the text t is inserted into the block of the node at the path, or into the document where that is empty
 abbrev pub NodeInserted : List ℕ → Text → ℕ → KdlDocument → KdlDocument → Type 0

@@ -54,6 +54,7 @@ impl Unread {
     pub fn status(self) -> u32
         ensures not_done { result ≡ 0 → ⊥ }
         ensures held { result ≡ 5 → ⊥ }
+        ensures found { result ≡ 6 → ⊥ }
         ensures faults { result ≡ 1 → self ≡ Faults }
     {
         match self {

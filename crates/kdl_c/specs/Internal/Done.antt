@@ -1,9 +1,9 @@
 -- What a change makes of a node.
 use Rattle.std.specs.List.{insert}
-use Rattle.std.specs.Prelude.{◌≡◌, ◌≤◌, ℕ, [], ◌∷◌, Option, Some, None, String, length, option_map, slice_get, slice_set}
+use Rattle.std.specs.Prelude.{◌≡◌, ◌≤◌, ◌<◌, ℕ, [], ◌∷◌, Option, Some, None, String, length, option_map, slice_get, slice_set}
 use Rattle.std.specs.declared.alloc.Global.{Global}
 use Rattle.kdl.specs.Words.{ChildPut, Entry, EntryFormat, IsPut, PrintsPut, document_says, node_says, said_with, document_tree, entry_tree, identifier_tree, node_tree, value_tree}
-use Rattle.kdl.specs.Words.{entries_of, held_entries, nodes_of, with_entries, with_name, with_ty}
+use Rattle.kdl.specs.Words.{child_nodes, entries_of, held_entries, nodes_of, with_entries, with_name, with_ty}
 use Rattle.kdl.specs.declared.document.KdlDocument.{KdlDocument}
 use Rattle.kdl.specs.declared.node.KdlNode.{KdlNode}
 use Rattle.kdl_entry.specs.declared.entry.KdlEntry.{KdlEntry}
@@ -31,6 +31,16 @@ pub record EntryPut (i : ℕ) (e : KdlEntry) (n m : KdlNode) : Type 0 where
   pub place : i ≤ length (entries_of n)
   pub entries : entries_of m ≡ insert (entries_of n) i e
   pub rest : m ≡ with_entries n (held_entries m)
+
+-- n has nothing to be changed at the index
+abbrev pub Lacks : NodeChange → KdlNode → Type 0
+Lacks (SetName w) n = ⊥
+Lacks (SetType w) n = ⊥
+Lacks (ChangeEntry i c) n = length (entries_of n) ≤ i
+Lacks (InsertEntry i e) n = length (entries_of n) < i
+Lacks (RemoveEntry i) n = length (entries_of n) ≤ i
+Lacks (InsertChild i x) n = length (child_nodes n) < i
+Lacks (RemoveChild i) n = length (child_nodes n) ≤ i
 
 -- m is n after the change
 abbrev pub IsDone : NodeChange → KdlNode → KdlNode → Type 0

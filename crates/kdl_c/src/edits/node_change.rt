@@ -1,10 +1,11 @@
 //! Changes of one node.
 
-ghost use Rattle.kdl.specs.Words.{ChildPut, node_tree};
+ghost use Rattle.kdl.specs.Words.{ChildPut, child_nodes, entries_of, node_tree};
 ghost use Rattle.kdl_c.specs.Changes.{AtEntry};
 ghost use Rattle.kdl_c.specs.Edits.{ChildRemoved, EntryRemoved};
-ghost use Rattle.kdl_c.specs.Internal.Done.{EntryPut, IsDone, changed_entry};
-ghost use Rattle.std.specs.Prelude.{◌≡◌, OnErr, OnOk};
+ghost use Rattle.kdl_c.specs.Internal.Done.{EntryPut, IsDone, Lacks, changed_entry};
+ghost use Rattle.kdl_c.specs.declared.status.Refused.TheVariants.{NotFound};
+ghost use Rattle.std.specs.Prelude.{◌≡◌, ◌<◌, ◌≤◌, IfErr, OnErr, OnOk, length};
 
 use crate::edits::entry_change::EntryChange;
 use crate::status::Refused;
@@ -35,6 +36,7 @@ impl NodeChange {
     pub fn make(self, alloc: Global, node: &mut KdlNode) -> Result<(), Refused>
         ensures done { OnOk result (IsDone self node.old node.new) }
         ensures refused { OnErr result (node_tree node.new ≡ node_tree node.old) }
+        ensures absent { IfErr result (λ r. r ≡ NotFound → Lacks self node.old) }
     {
         match self {
             NodeChange::SetName(name) => {
@@ -64,6 +66,7 @@ fn change_entry(
     ensures done { OnOk result
         (AtEntry index (λ e f. f ≡ changed_entry change e) node.old node.new) }
     ensures refused { OnErr result (node.new ≡ node.old) }
+    ensures absent { IfErr result (λ r. r ≡ NotFound → length (entries_of node.old) ≤ index) }
 {
     match node.entries_mut().get_mut(index) {
         Some(entry) => {
@@ -78,6 +81,7 @@ fn change_entry(
 fn insert_entry(node: &mut KdlNode, index: usize, entry: KdlEntry) -> Result<(), Refused>
     ensures done { OnOk result (EntryPut index entry node.old node.new) }
     ensures refused { OnErr result (node_tree node.new ≡ node_tree node.old) }
+    ensures absent { IfErr result (λ r. r ≡ NotFound → length (entries_of node.old) < index) }
 {
     let entries = node.entries_mut();
     if entries.len() < index {
@@ -93,6 +97,7 @@ fn insert_entry(node: &mut KdlNode, index: usize, entry: KdlEntry) -> Result<(),
 fn remove_entry(node: &mut KdlNode, index: usize) -> Result<(), Refused>
     ensures done { OnOk result (EntryRemoved index node.old node.new) }
     ensures refused { OnErr result (node_tree node.new ≡ node_tree node.old) }
+    ensures absent { IfErr result (λ r. r ≡ NotFound → length (entries_of node.old) ≤ index) }
 {
     let entries = node.entries_mut();
     if entries.len() <= index {
@@ -106,6 +111,7 @@ fn remove_entry(node: &mut KdlNode, index: usize) -> Result<(), Refused>
 fn insert_child(node: &mut KdlNode, index: usize, child: KdlNode) -> Result<(), Refused>
     ensures done { OnOk result (ChildPut index child node.old node.new) }
     ensures refused { OnErr result (node_tree node.new ≡ node_tree node.old) }
+    ensures absent { IfErr result (λ r. r ≡ NotFound → length (child_nodes node.old) < index) }
 {
     let count = match node.children() {
         Some(block) => block.nodes().len(),
@@ -124,6 +130,7 @@ fn insert_child(node: &mut KdlNode, index: usize, child: KdlNode) -> Result<(), 
 fn remove_child(node: &mut KdlNode, index: usize) -> Result<(), Refused>
     ensures done { OnOk result (ChildRemoved index node.old node.new) }
     ensures refused { OnErr result (node_tree node.new ≡ node_tree node.old) }
+    ensures absent { IfErr result (λ r. r ≡ NotFound → length (child_nodes node.old) ≤ index) }
 {
     match node.children_mut() {
         Some(block) if index < block.nodes().len() => {

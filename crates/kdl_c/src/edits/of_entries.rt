@@ -1,10 +1,11 @@
 //! Edits of the entries of a node.
 
-ghost use Rattle.kdl.specs.Words.{EntryData, IsEntryText, Value};
+ghost use Rattle.kdl.specs.Words.{EntryData, IsEntryText, Value, entries_of, nodes_of};
 ghost use Rattle.kdl_c.specs.Answers.{Each};
 ghost use Rattle.kdl_c.specs.Changes.{AtEntry, AtNode, SameTree};
 ghost use Rattle.kdl_c.specs.Edits.{EntryInserted, EntryRemoved, KeySet, TypeSetAt, ValueSet, plain_value, text_if};
-ghost use Rattle.std.specs.Prelude.{◌≡◌, IsNone, true};
+ghost use Rattle.kdl_c.specs.Paths.{node_at};
+ghost use Rattle.std.specs.Prelude.{◌≡◌, ◌<◌, ◌≤◌, ◌-◌, ◌^◌, IfSome, IsNone, length, true};
 ghost use Rattle.std.specs.Str.{chars};
 
 use crate::edits::at_path::change_held;
@@ -32,6 +33,8 @@ pub extern "C" fn kdl_set_value(
     ensures kept { (result ≡ 0 → ⊥)
         → Each SameTree document.old.held.document document.new.held.document }
     ensures missing { result ≡ 5 → IsNone document.old.held.document }
+    ensures absent { result ≡ 6 → IfSome document.old.held.document (λ d.
+        IfSome (node_at path.now (nodes_of d)) (λ n. length (entries_of n) ≤ index)) }
 {
     let (value, spelling) = match given::value(alloc, value) {
         Ok(value) => value,
@@ -58,6 +61,8 @@ pub extern "C" fn kdl_set_key(
     ensures kept { (result ≡ 0 → ⊥)
         → Each SameTree document.old.held.document document.new.held.document }
     ensures missing { result ≡ 5 → IsNone document.old.held.document }
+    ensures absent { result ≡ 6 → IfSome document.old.held.document (λ d.
+        IfSome (node_at path.now (nodes_of d)) (λ n. length (entries_of n) ≤ index)) }
 {
     let key = match given::identifier_if(alloc, has_key, key) {
         Ok(key) => key,
@@ -84,6 +89,8 @@ pub extern "C" fn kdl_set_type(
     ensures kept { (result ≡ 0 → ⊥)
         → Each SameTree document.old.held.document document.new.held.document }
     ensures missing { result ≡ 5 → IsNone document.old.held.document }
+    ensures absent { result ≡ 6 → IfSome document.old.held.document (λ d.
+        IfSome (node_at path.now (nodes_of d)) (λ n. (index ≡ 2 ^ 64 - 1 → ⊥) × (length (entries_of n) ≤ index))) }
 {
     let ty = match given::identifier_if(alloc, has_type, ty) {
         Ok(ty) => ty,
@@ -114,6 +121,8 @@ pub extern "C" fn kdl_insert_entry(
     ensures kept { (result ≡ 0 → ⊥)
         → Each SameTree document.old.held.document document.new.held.document }
     ensures missing { result ≡ 5 → IsNone document.old.held.document }
+    ensures absent { result ≡ 6 → IfSome document.old.held.document (λ d.
+        IfSome (node_at path.now (nodes_of d)) (λ n. length (entries_of n) < index)) }
 {
     let entry = match given::plain_entry(alloc, entry) {
         Ok(entry) => entry,
@@ -135,6 +144,8 @@ pub extern "C" fn kdl_remove_entry(
     ensures kept { (result ≡ 0 → ⊥)
         → Each SameTree document.old.held.document document.new.held.document }
     ensures missing { result ≡ 5 → IsNone document.old.held.document }
+    ensures absent { result ≡ 6 → IfSome document.old.held.document (λ d.
+        IfSome (node_at path.now (nodes_of d)) (λ n. length (entries_of n) ≤ index)) }
 {
     change_held(alloc, document, path, NodeChange::RemoveEntry(index))
 }

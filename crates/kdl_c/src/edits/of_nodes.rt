@@ -1,11 +1,13 @@
 //! Edits of nodes: their names, and nodes inserted and removed.
 
-ghost use Rattle.kdl.specs.Words.{IsNodeText, NodeData, node_tree, LaidNodeText};
+ghost use Rattle.kdl.specs.Words.{IsNodeText, NodeData, nodes_of};
 ghost use Rattle.kdl_c.specs.Answers.{Each};
 ghost use Rattle.kdl_c.specs.Changes.{AtNode, SameTree};
-ghost use Rattle.kdl_c.specs.Edits.{FirstInserted, FirstRemoved, NodeInserted, NodeNamed, NodeRemoved};
+ghost use Rattle.kdl_c.specs.Edits.{FirstRemoved, NoPlaceFor, NodeAbsent, NodeInserted, NodeNamed, NodeRemoved};
+ghost use Rattle.kdl_c.specs.Paths.{node_at};
+ghost use Rattle.kdl_c.specs.declared.status.Refused.TheVariants.{NotFound};
 ghost use Rattle.kdl_c.specs.Internal.Done.{NodePut};
-ghost use Rattle.std.specs.Prelude.{◌≡◌, IsNone, OnErr, OnOk, true};
+ghost use Rattle.std.specs.Prelude.{◌≡◌, ◌<◌, ◌≤◌, IfErr, IfSome, IsNone, OnErr, OnOk, length, true};
 ghost use Rattle.std.specs.Str.{chars};
 
 use crate::edits::at_path::change_held;
@@ -29,6 +31,8 @@ pub extern "C" fn kdl_set_name(
     ensures kept { (result ≡ 0 → ⊥)
         → Each SameTree document.old.held.document document.new.held.document }
     ensures missing { result ≡ 5 → IsNone document.old.held.document }
+    ensures absent { result ≡ 6 → IfSome document.old.held.document (λ d.
+        IsNone (node_at path.now (nodes_of d))) }
 {
     let name = match given::identifier(alloc, name) {
         Ok(name) => name,
@@ -55,6 +59,8 @@ pub extern "C" fn kdl_insert_node(
     ensures kept { (result ≡ 0 → ⊥)
         → Each SameTree document.old.held.document document.new.held.document }
     ensures missing { result ≡ 5 → IsNone document.old.held.document }
+    ensures absent { result ≡ 6 → IfSome document.old.held.document
+        (NoPlaceFor path.now index) }
 {
     let node = match given::node(alloc, node) {
         Ok(node) => node,
@@ -80,6 +86,8 @@ pub extern "C" fn kdl_remove_node(
     ensures kept { (result ≡ 0 → ⊥)
         → Each SameTree document.old.held.document document.new.held.document }
     ensures missing { result ≡ 5 → IsNone document.old.held.document }
+    ensures absent { result ≡ 6 → IfSome document.old.held.document
+        (NodeAbsent path.now index) }
 {
     if path.is_empty() {
         remove_first(alloc, document, index)
@@ -95,6 +103,8 @@ fn insert_first(alloc: Global, document: &mut Handle, index: usize, node: KdlNod
     ensures kept { (result ≡ 0 → ⊥)
         → Each SameTree document.old.held.document document.new.held.document }
     ensures missing { result ≡ 5 → IsNone document.old.held.document }
+    ensures absent { result ≡ 6 → IfSome document.old.held.document (λ d.
+        length (nodes_of d) < index) }
     ensures read { result ≡ 1 → ⊥ }
 {
     let Some(mut held) = document.take(alloc) else {
@@ -112,6 +122,7 @@ fn insert_first(alloc: Global, document: &mut Handle, index: usize, node: KdlNod
 fn insert_into(document: &mut KdlDocument, index: usize, node: KdlNode) -> Result<(), Refused>
     ensures done { OnOk result (NodePut index node document.old document.new) }
     ensures refused { OnErr result (SameTree document.old document.new) }
+    ensures absent { IfErr result (λ r. r ≡ NotFound → length (nodes_of document.old) < index) }
 {
     if document.nodes().len() < index {
         return Err(Refused::NotFound);
@@ -129,6 +140,8 @@ fn remove_first(alloc: Global, document: &mut Handle, index: usize) -> u32
     ensures kept { (result ≡ 0 → ⊥)
         → Each SameTree document.old.held.document document.new.held.document }
     ensures missing { result ≡ 5 → IsNone document.old.held.document }
+    ensures absent { result ≡ 6 → IfSome document.old.held.document (λ d.
+        length (nodes_of d) ≤ index) }
 {
     let Some(mut held) = document.take(alloc) else {
         return NO_DOCUMENT;
@@ -145,6 +158,7 @@ fn remove_first(alloc: Global, document: &mut Handle, index: usize) -> u32
 fn remove_from(document: &mut KdlDocument, index: usize) -> Result<(), Refused>
     ensures done { OnOk result (FirstRemoved index document.old document.new) }
     ensures refused { OnErr result (SameTree document.old document.new) }
+    ensures absent { IfErr result (λ r. r ≡ NotFound → length (nodes_of document.old) ≤ index) }
 {
     if document.nodes().len() <= index {
         return Err(Refused::NotFound);

@@ -2,10 +2,12 @@
 //!
 //! It goes down and up in loops and keeps the way in memory, so that no depth runs out of stack.
 
-ghost use Rattle.kdl.specs.Words.{document_tree};
+ghost use Rattle.kdl.specs.Words.{document_tree, nodes_of};
 ghost use Rattle.kdl_c.specs.Internal.Opened.{HasEntered, IsOpened, block_in, plugged, with_kids_at};
+ghost use Rattle.kdl_c.specs.Paths.{nodes_at};
+ghost use Rattle.kdl_c.specs.declared.status.Refused.TheVariants.{NotFound};
 ghost use Rattle.kdl_grammar.specs.Tree.{children, no_children};
-ghost use Rattle.std.specs.Prelude.{◌≡◌, IfErr, IfOk, OnErr, OnOk};
+ghost use Rattle.std.specs.Prelude.{◌≡◌, IfErr, IfOk, None, OnErr, OnOk};
 
 use crate::status::Refused;
 use kdl::KdlDocument;
@@ -58,6 +60,8 @@ impl Opened {
     ) -> Result<Opened, (KdlDocument, Refused)>
         ensures opened { IfOk result (λ o. IsOpened path.now document o) }
         ensures back { IfErr result (λ e. document_tree e.0 ≡ document_tree document) }
+        ensures absent { IfErr result (λ e. e.1 ≡ NotFound
+            → nodes_at path.now (nodes_of document) ≡ None) }
     {
         let mut opened = Opened {
             above: Vec::new(alloc),
@@ -76,6 +80,8 @@ impl Opened {
         ensures entered { OnOk result (HasEntered index self.old self.new) }
         ensures kept { OnErr result (plugged self.new.above.items (document_tree self.new.block)
             ≡ plugged self.old.above.items (document_tree self.old.block)) }
+        ensures absent { IfErr result (λ r. r ≡ NotFound
+            → block_in index self.old.block ≡ None) }
     {
         if self.above.reserve(1).is_err() {
             return Err(Refused::Memory);
