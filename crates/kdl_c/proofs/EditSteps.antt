@@ -14,15 +14,15 @@ use Rattle.kdl.specs.declared.document.KdlDocument.{KdlDocument}
 use Rattle.kdl.specs.declared.node.KdlNode.{KdlNode}
 use Rattle.kdl_c.specs.Answers.{Each}
 use Rattle.kdl_c.specs.Changes.{AtEntry, AtNode, SameTree, changed_at}
-use Rattle.kdl_c.specs.Edits.{ChildInserted, EntryInserted, EntryRemoved, ChildRemoved, FirstInserted, FirstRemoved, KeySet, NodeInserted, NodeNamed, NodeRemoved, NodeTyped, TypeSet, TypeSetAt, ValueSet, spelled_as, text_if}
-use Rattle.kdl_c.specs.Internal.Done.{EntryPut, IsDone, IsDoneIn, NodePut, changed_entry, respelled}
+use Rattle.kdl_c.specs.Edits.{ChildInserted, EntryInserted, ChildRemoved, FirstInserted, FirstRemoved, KeySet, NodeInserted, NodeNamed, NodeRemoved, TypeSet, TypeSetAt, ValueSet, spelled_as}
+use Rattle.kdl_c.specs.Internal.Done.{IsDone, IsDoneIn, NodePut, changed_entry, respelled}
 use Rattle.kdl_c.specs.Internal.Given.{IsCleared, IsSpelled}
 use Rattle.kdl_c.specs.Internal.Opened.{IsOpened, plugged}
 use Rattle.kdl_c.specs.Paths.{node_at, nodes_at}
 use Rattle.kdl_c.specs.declared.edits.entry_change.EntryChange.{EntryChange}
 use Rattle.kdl_c.specs.declared.edits.entry_change.EntryChange.TheVariants as change
 use Rattle.kdl_c.specs.declared.edits.node_change.NodeChange.{NodeChange}
-use Rattle.kdl_c.specs.declared.edits.node_change.NodeChange.TheVariants.{ChangeEntry, InsertChild, InsertEntry, RemoveChild, RemoveEntry, SetName, SetType}
+use Rattle.kdl_c.specs.declared.edits.node_change.NodeChange.TheVariants.{ChangeEntry, InsertChild, InsertEntry, RemoveChild, SetName, SetType}
 use Rattle.kdl_c.specs.declared.edits.opened.Opened.{Opened}
 use Rattle.kdl_c.proofs.PathSteps.{last_step}
 

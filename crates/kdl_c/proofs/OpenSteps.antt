@@ -1,17 +1,17 @@
 -- Documents taken apart along a path: what is put into a block shows in the tree of the whole.
-use Rattle.std.proofs.Common.{◌≡◌, ℕ, ◌+◌, ◌<◌, List, [], ◌∷◌, ◌++◌, Option, None, Some, ap, ◌∙◌, sym, refl, subst, length, drop, map, option_map, set, slice_get, slice_index_or, Vec, Global}
+use Rattle.std.proofs.Common.{◌≡◌, ℕ, ◌+◌, ◌<◌, List, [], ◌∷◌, ◌++◌, Option, None, Some, ap, ◌∙◌, sym, refl, subst, length, drop, map, option_map, slice_get, slice_index_or, Vec, Global}
 use Rattle.std.specs.Prelude.{option_and_then}
-use Rattle.std.proofs.lemmas.List.{drop_more, drop_all, map-set}
+use Rattle.std.proofs.lemmas.List.{drop_more, map-set}
 use Rattle.std.proofs.lemmas.Option.{slice_get-map}
 use Rattle.std.specs.Vec.{with_item}
 use Rattle.kdl_parts.specs.Formats.{document_format_tree}
-use Rattle.kdl_grammar.specs.Tree.{Children, Document, Node, Nodes, children, children_of, document, listed_nodes, no_children, node}
+use Rattle.kdl_grammar.specs.Tree.{Children, Document, Node, Nodes, children, children_of, document, listed_nodes, no_children}
 use Rattle.kdl.specs.Words.{block_of, document_tree, entries_of, held_entries, held_nodes, node_tree, nodes_of, with_children, with_entries, with_node, with_nodes}
 use Rattle.kdl.specs.declared.document.KdlDocument.{KdlDocument, out-KdlDocument}
 use Rattle.kdl.specs.declared.node.KdlNode.{KdlNode, out-KdlNode}
 use Rattle.kdl.specs.declared.document.KdlDocument.TheViews.{out-roll-KdlNode}
 use Rattle.kdl_entry.specs.declared.entry.KdlEntry.{KdlEntry}
-use Rattle.kdl.proofs.Trees.{document_of, document_tree_out, document_tree_roll, node_of, node_tree_out, node_tree_roll}
+use Rattle.kdl.proofs.Trees.{document_tree_out, document_tree_roll, node_tree_out, node_tree_roll}
 use Rattle.kdl_c.specs.Changes.{changed_at, changed_below, changed_nth}
 use Rattle.kdl_c.specs.Internal.Opened.{HasEntered, IsOnTheWay, block_in, plugged, with_kids, with_kids_at}
 use Rattle.kdl_c.specs.Paths.{block_nodes, nodes_at}

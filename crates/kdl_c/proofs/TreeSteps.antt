@@ -1,6 +1,6 @@
 -- Trees with one node changed.
-use Rattle.std.proofs.Common.{◌≡◌, ℕ, zero, suc, List, [], ◌∷◌, ◌++◌, Option, None, Some, ap, ◌∙◌, sym, refl, set, slice_get, map}
-use Rattle.kdl_grammar.specs.Tree.{Nodes, Node, Document, Children, children, document, first, no_children, node, none, listed_nodes}
+use Rattle.std.proofs.Common.{◌≡◌, ℕ, zero, suc, List, [], ◌∷◌, ◌++◌, None, Some, ap, ◌∙◌, sym, refl, set, slice_get}
+use Rattle.kdl_grammar.specs.Tree.{Nodes, Node, Document, Children, children, document, first, node, none, listed_nodes}
 use Rattle.kdl_c.specs.Changes.{changed_nth, changed_below, changed_at}
 use Rattle.kdl_c.specs.Internal.Opened.{with_kids, with_kids_at}
 

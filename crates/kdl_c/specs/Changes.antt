@@ -1,5 +1,5 @@
 -- Documents with one node changed, and all other nodes as they were.
-use Rattle.std.specs.Prelude.{◌≡◌, ℕ, zero, suc, List, [], ◌∷◌, Option, None, Some, option_map, slice_get, slice_set}
+use Rattle.std.specs.Prelude.{◌≡◌, ℕ, zero, suc, List, [], ◌∷◌, Some, slice_get, slice_set}
 use Rattle.kdl.specs.Words.{entries_of, held_entries, nodes_of, with_entries}
 use Rattle.kdl.specs.Words.{Document, Entry, Node, document_tree, entry_tree, node_tree}
 use Rattle.kdl.specs.declared.document.KdlDocument.{KdlDocument}

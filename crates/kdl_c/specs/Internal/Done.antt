@@ -1,14 +1,13 @@
 -- What a change makes of a node.
 use Rattle.std.specs.List.{insert}
-use Rattle.std.specs.Prelude.{◌≡◌, ◌≤◌, ◌<◌, ℕ, [], ◌∷◌, Option, Some, None, String, length, option_map, slice_get, slice_set}
+use Rattle.std.specs.Prelude.{◌≡◌, ◌≤◌, ◌<◌, ℕ, [], ◌∷◌, Some, String, length, option_map, slice_get}
 use Rattle.std.specs.declared.alloc.Global.{Global}
-use Rattle.kdl.specs.Words.{ChildPut, Entry, EntryFormat, IsPut, PrintsPut, document_says, node_says, said_with, document_tree, entry_tree, identifier_tree, node_tree, value_tree}
+use Rattle.kdl.specs.Words.{ChildPut, Entry, EntryFormat, IsPut, PrintsPut, document_says, node_says, said_with, document_tree, identifier_tree, node_tree, value_tree}
 use Rattle.kdl.specs.Words.{child_nodes, entries_of, held_entries, nodes_of, with_entries, with_name, with_ty}
 use Rattle.kdl.specs.declared.document.KdlDocument.{KdlDocument}
 use Rattle.kdl.specs.declared.node.KdlNode.{KdlNode}
 use Rattle.kdl_entry.specs.declared.entry.KdlEntry.{KdlEntry}
 use Rattle.kdl_value.specs.Tree.{text_of}
-use Rattle.kdl_value.specs.declared.value.KdlValue.{KdlValue}
 use Rattle.kdl_c.specs.Changes.{AtEntry, changed_at}
 use Rattle.kdl_c.specs.Edits.{ChildRemoved, EntryRemoved}
 use Rattle.kdl_c.specs.declared.edits.entry_change.EntryChange.{EntryChange}

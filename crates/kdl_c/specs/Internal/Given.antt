@@ -1,5 +1,5 @@
 -- What was read from a text that C gave.
-use Rattle.std.specs.Prelude.{◌≡◌, Option, None, Some, IfSome, String, true}
+use Rattle.std.specs.Prelude.{◌≡◌, None, IfSome, String, true}
 use Rattle.std.specs.declared.alloc.Global.{Global}
 use Rattle.kdl.specs.Words.{Entry, LaidEntryText, Text, cleared, value_tree}
 use Rattle.kdl_value.specs.Tree.{text_of}

@@ -1,5 +1,5 @@
 -- A document taken apart along a path.
-use Rattle.std.specs.Prelude.{◌≡◌, ℕ, zero, suc, List, [], ◌∷◌, ◌++◌, Option, Some, None, option_and_then, slice_get}
+use Rattle.std.specs.Prelude.{◌≡◌, ℕ, List, [], ◌∷◌, ◌++◌, Option, Some, option_and_then, slice_get}
 use Rattle.kdl.specs.Words.{Document, Node, block_of, document_tree, nodes_of}
 use Rattle.kdl.specs.declared.document.KdlDocument.{KdlDocument}
 use Rattle.kdl_grammar.specs.Tree.{Children, children, document, no_children, node}

@@ -1,6 +1,5 @@
 use Rattle.std.proofs.Common.{rules, ◌≡◌, length, refl, Some, slice_get}
 use Rattle.std.proofs.lemmas.Option.{slice_get_read}
-use Rattle.kdl_c.specs.Internal.Done.{IsDone}
 use Rattle.kdl_c.proofs.EditSteps.{on_err, on_ok}
 use Rattle.kdl_c.proofs.OpenSteps.{same_in, set_in}
 use Rattle.kdl.specs.Words.{nodes_of}

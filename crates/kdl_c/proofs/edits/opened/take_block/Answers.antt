@@ -1,4 +1,4 @@
-use Rattle.std.proofs.Common.{rules, ◌≡◌, ap, ◌∙◌, length, refl, None}
+use Rattle.std.proofs.Common.{rules, ap, length, refl, None}
 use Rattle.std.proofs.lemmas.Option.{slice_get_past, slice_get_read}
 use Rattle.kdl_grammar.specs.Tree.{no_children}
 use Rattle.kdl.specs.Words.{with_children}

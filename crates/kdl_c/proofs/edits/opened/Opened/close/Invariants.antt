@@ -1,4 +1,4 @@
-use Rattle.std.proofs.Common.{◌≡◌, length}
+use Rattle.std.proofs.Common.{◌≡◌}
 use Rattle.kdl.specs.Words.{document_tree}
 use Rattle.kdl_c.specs.Internal.Opened.{plugged}
 use Rattle.kdl_c.proofs.edits.opened.Opened.close.Given as goal

@@ -1,4 +1,4 @@
-use Rattle.std.proofs.Common.{rules, ◌≡◌, ◌++◌, [], ◌∷◌, ap, ◌∙◌, sym, refl, None, Some}
+use Rattle.std.proofs.Common.{rules, ◌≡◌, ap, ◌∙◌, refl, None}
 use Rattle.kdl.specs.Words.{document_tree}
 use Rattle.kdl_c.specs.Internal.Opened.{block_in, plugged}
 use Rattle.kdl_c.specs.declared.edits.opened.Above.{Above}
