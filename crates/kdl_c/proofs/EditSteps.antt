@@ -106,12 +106,12 @@ same_spelling (Some f) (Some g) s h e = ap (λ t. Some (record g { value_repr = 
 pub value_set : (path : List ℕ) (i : ℕ) (t : Text) (v : KdlValue) (s : String Global) → IsSpelled t v s → (x y : Option KdlDocument)
     → Each (AtNode path (IsDone (ChangeEntry i (change.SetValue v s)))) x y → Each (AtNode path (AtEntry i (ValueSet t))) x y
 value_set path i t v s h = each_entry path i (change.SetValue v s) (ValueSet t) (λ e. record {
-  given = h.given;
-  laid = h.laid;
-  no_key = h.no_key;
-  no_type = h.no_type;
-  is = ap (λ x. record e { value = x; format = option_map (respelled s) e.format }) h.value
-      ∙ ap (λ f. record e { value = h.given.value; format = f }) (same_spelling h.given.format e.format s (formed h.laid) h.spelling);
+  given = h.0;
+  laid = h.1;
+  no_key = h.2.no_key;
+  no_type = h.2.no_type;
+  is = ap (λ x. record e { value = x; format = option_map (respelled s) e.format }) h.2.value
+      ∙ ap (λ f. record e { value = h.0.value; format = f }) (same_spelling h.0.format e.format s (formed h.1) h.2.spelling);
 })
 
 pub key_set : (path : List ℕ) (i : ℕ) (o : Option Text) (k : Option KdlIdentifier) → option_map identifier_tree k ≡ option_map plain_identifier o → (x y : Option KdlDocument)

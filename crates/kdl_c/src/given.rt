@@ -2,7 +2,7 @@
 
 ghost use Rattle.kdl.specs.Words.{EntryData, IsEntryText, IsNodeText, LaidEntryText, LaidNodeText, NodeData, Value, entry_data, entry_tree, identifier_tree, node_tree, plain_identifier, value_tree};
 ghost use Rattle.kdl_c.specs.Edits.{plain_value, text_if};
-ghost use Rattle.kdl_c.specs.Internal.Given.{IsCleared, IsSpelled};
+ghost use Rattle.kdl_c.specs.Internal.Given.{IsCleared, IsPlain, IsSpelled};
 ghost use Rattle.kdl_value.specs.Tree.{text_of};
 ghost use Rattle.kdl_c.specs.declared.status.Unread.TheVariants.{Faults};
 ghost use Rattle.std.specs.Prelude.{◌≡◌, IfErr, IfOk, IfSome, option_map, true};
@@ -64,10 +64,21 @@ pub fn value(alloc: Global, text: &[u8]) -> Result<(KdlValue, String), Unread>
         → IsEntryText true (chars text.now) (plain_value v) → ⊥) }
 {
     let entry = entry(alloc, text)?;
+    let value = plain(alloc, &entry);
+    drop(entry);
+    value
+}
+
+/// The value of an entry that has neither a key nor a type, and its spelling.
+fn plain(alloc: Global, entry: &KdlEntry) -> Result<(KdlValue, String), Unread>
+    ensures plain { IfOk result (λ v. IsPlain (entry_tree entry.now) v.0 v.1) }
+    ensures refused { IfErr result (λ r. r ≡ Faults → (v : Value)
+        → plain_value v ≡ entry_data (entry_tree entry.now) → ⊥) }
+{
     if entry.name().is_some() || entry.ty().is_some() {
         return Err(Unread::Faults);
     }
-    match spelled(alloc, &entry) {
+    match spelled(alloc, entry) {
         Ok(value) => Ok(value),
         Err(_) => Err(Unread::Memory),
     }

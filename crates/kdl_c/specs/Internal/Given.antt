@@ -9,11 +9,13 @@ use Rattle.kdl_value.specs.declared.value.KdlValue.{KdlValue}
 abbrev pub IsCleared : Text → Entry → Type 0
 IsCleared t e = (x : Entry) × LaidEntryText true t x × (e ≡ cleared x)
 
+-- the entry is a value alone, v, with this spelling
+pub record IsPlain (e : Entry) (v : KdlValue) (s : String Global) : Type 0 where
+  pub no_key : e.name ≡ None
+  pub no_type : e.ty ≡ None
+  pub value : value_tree v ≡ e.value
+  pub spelling : IfSome e.format (λ f. text_of s ≡ f.value_repr)
+
 -- the text is a value, v, with this spelling
-pub record IsSpelled (t : Text) (v : KdlValue) (s : String Global) : Type 0 where
-  pub given : Entry
-  pub laid : LaidEntryText true t given
-  pub no_key : given.name ≡ None
-  pub no_type : given.ty ≡ None
-  pub value : value_tree v ≡ given.value
-  pub spelling : IfSome given.format (λ f. text_of s ≡ f.value_repr)
+abbrev pub IsSpelled : Text → KdlValue → String Global → Type 0
+IsSpelled t v s = (e : Entry) × LaidEntryText true t e × IsPlain e v s

@@ -73,7 +73,10 @@ fn change_entry(
             change.make(alloc, entry);
             Ok(())
         }
-        None => Err(Refused::NotFound),
+        None => {
+            drop(change);
+            Err(Refused::NotFound)
+        }
     }
 }
 
@@ -85,11 +88,15 @@ fn insert_entry(node: &mut KdlNode, index: usize, entry: KdlEntry) -> Result<(),
 {
     let entries = node.entries_mut();
     if entries.len() < index {
+        drop(entry);
         return Err(Refused::NotFound);
     }
     match entries.insert(index, entry) {
         Ok(()) => Ok(()),
-        Err(_) => Err(Refused::Memory),
+        Err(refused) => {
+            drop(refused.value);
+            Err(Refused::Memory)
+        }
     }
 }
 
@@ -118,11 +125,15 @@ fn insert_child(node: &mut KdlNode, index: usize, child: KdlNode) -> Result<(), 
         None => 0,
     };
     if count < index {
+        drop(child);
         return Err(Refused::NotFound);
     }
     match node.insert_child(index, child) {
         Ok(()) => Ok(()),
-        Err(_) => Err(Refused::Memory),
+        Err((child, _)) => {
+            drop(child);
+            Err(Refused::Memory)
+        }
     }
 }
 

@@ -108,6 +108,7 @@ fn insert_first(alloc: Global, document: &mut Handle, index: usize, node: KdlNod
     ensures read { result ≡ 1 → ⊥ }
 {
     let Some(mut held) = document.take(alloc) else {
+        drop(node);
         return NO_DOCUMENT;
     };
     let status = match insert_into(&mut held, index, node) {
@@ -125,11 +126,15 @@ fn insert_into(document: &mut KdlDocument, index: usize, node: KdlNode) -> Resul
     ensures absent { IfErr result (λ r. r ≡ NotFound → length (nodes_of document.old) < index) }
 {
     if document.nodes().len() < index {
+        drop(node);
         return Err(Refused::NotFound);
     }
     match document.insert_node(index, node) {
         Ok(()) => Ok(()),
-        Err(_) => Err(Refused::Memory),
+        Err((node, _)) => {
+            drop(node);
+            Err(Refused::Memory)
+        }
     }
 }
 
