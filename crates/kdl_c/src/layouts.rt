@@ -1,7 +1,7 @@
 //! Documents and texts laid out.
 
 ghost use Rattle.kdl.specs.Words.{CommentsStay, DocumentKeepsNoForm, DocumentLaidOut, IsDocument, Nodes, canonical_text, defaults, document_prints, document_says, document_tree};
-ghost use Rattle.kdl_c.specs.Answers.{Each};
+ghost use Rattle.kdl_c.specs.Answers.{Each, FormattedInto};
 ghost use Rattle.std.specs.Prelude.{◌≡◌, true};
 ghost use Rattle.std.specs.Str.{chars};
 
@@ -64,6 +64,9 @@ pub extern "C" fn kdl_format_text(
     out: &mut [u8],
     needed: &mut usize,
 ) -> u32
+    ensures written { result ≡ 0
+        → FormattedInto (chars text.now) out.old out.new needed.new }
+    ensures kept { (result ≡ 0 → ⊥) → out.new ≡ out.old }
     ensures refused { result ≡ 1 → (x : Nodes) → IsDocument true (chars text.now) x → ⊥ }
 {
     *needed = 0;
