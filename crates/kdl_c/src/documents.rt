@@ -3,7 +3,7 @@
 ghost use Rattle.kdl.specs.Words.{IsDocument, LaidDocument, Nodes, document_prints, document_says, document_tree};
 ghost use Rattle.kdl_c.specs.Answers.{printed_bytes};
 ghost use Rattle.std.specs.Prelude.{◌≡◌, ◌++◌, IfSome, IsNone, IsSome, None, drop, length, true};
-ghost use Rattle.std.specs.Str.{chars};
+ghost use Rattle.std.specs.Str.{IsUtf8, chars};
 
 use crate::status::{NO_DOCUMENT, NOT_UTF8, OK, OUT_OF_MEMORY, of_failure};
 use crate::text::put_text;
@@ -24,6 +24,7 @@ pub extern "C" fn kdl_parse(alloc: Global, text: &[u8], document: &mut Handle) -
         LaidDocument true (document_tree d) (chars text.now)) }
     ensures prints { result ≡ 0 → IfSome document.new.held.document (λ d.
         document_prints d ≡ chars text.now) }
+    ensures utf8 { result ≡ 2 → IsUtf8 text.now → ⊥ }
     ensures refused { result ≡ 1 → (x : Nodes) → IsDocument true (chars text.now) x → ⊥ }
     ensures kept { (result ≡ 0 → ⊥) → document.new.held.document ≡ document.old.held.document }
 {

@@ -3,7 +3,7 @@
 ghost use Rattle.kdl.specs.Words.{IsDocument, IsToldOf, Nodes};
 ghost use Rattle.kdl_c.specs.Rows.{AreTold};
 ghost use Rattle.std.specs.Prelude.{◌≡◌, ◌+◌, ◌<◌, ℕ, All, List, length, true};
-ghost use Rattle.std.specs.Str.{chars};
+ghost use Rattle.std.specs.Str.{IsUtf8, chars};
 
 use crate::status::{FAULTS, NOT_UTF8, OK, OUT_OF_MEMORY};
 use crate::text::put_string;
@@ -80,6 +80,7 @@ pub extern "C" fn kdl_faults(
     ensures some { result ≡ 1 → 0 < count.new }
     ensures told { result ≡ 1 → AreTold text.now out.new count.new strings.new string_len.new }
     ensures none { result ≡ 0 → count.new ≡ 0 }
+    ensures utf8 { result ≡ 2 → IsUtf8 text.now → ⊥ }
     ensures refused { result ≡ 1 → (x : Nodes) → IsDocument true (chars text.now) x → ⊥ }
 {
     *count = 0;

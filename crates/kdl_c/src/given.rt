@@ -4,9 +4,9 @@ ghost use Rattle.kdl.specs.Words.{EntryData, IsEntryText, IsNodeText, LaidEntryT
 ghost use Rattle.kdl_c.specs.Edits.{plain_value, text_if};
 ghost use Rattle.kdl_c.specs.Internal.Given.{IsCleared, IsPlain, IsSpelled};
 ghost use Rattle.kdl_value.specs.Tree.{text_of};
-ghost use Rattle.kdl_c.specs.declared.status.Unread.TheVariants.{Faults};
+ghost use Rattle.kdl_c.specs.declared.status.Unread.TheVariants.{Faults, NotUtf8};
 ghost use Rattle.std.specs.Prelude.{◌≡◌, IfErr, IfOk, IfSome, option_map, true};
-ghost use Rattle.std.specs.Str.{chars};
+ghost use Rattle.std.specs.Str.{IsUtf8, chars};
 
 use crate::status::Unread;
 use kdl::{KdlEntry, KdlIdentifier, KdlNode, KdlValue, ParseFailure};
@@ -17,6 +17,7 @@ pub fn node(alloc: Global, text: &[u8]) -> Result<KdlNode, Unread>
     ensures laid { IfOk result (λ n. LaidNodeText true (chars text.now) (node_tree n)) }
     ensures refused { IfErr result (λ r. r ≡ Faults → (x : NodeData)
         → IsNodeText true (chars text.now) x → ⊥) }
+    ensures utf8 { IfErr result (λ r. r ≡ NotUtf8 → IsUtf8 text.now → ⊥) }
 {
     let Ok(text) = std::str::from_utf8(text) else {
         return Err(Unread::NotUtf8);
@@ -35,6 +36,7 @@ fn entry(alloc: Global, text: &[u8]) -> Result<KdlEntry, Unread>
         → x ≡ entry_data (entry_tree e)) }
     ensures refused { IfErr result (λ r. r ≡ Faults → (x : EntryData)
         → IsEntryText true (chars text.now) x → ⊥) }
+    ensures utf8 { IfErr result (λ r. r ≡ NotUtf8 → IsUtf8 text.now → ⊥) }
 {
     let Ok(text) = std::str::from_utf8(text) else {
         return Err(Unread::NotUtf8);
@@ -51,6 +53,7 @@ pub fn plain_entry(alloc: Global, text: &[u8]) -> Result<KdlEntry, Unread>
     ensures cleared { IfOk result (λ e. IsCleared (chars text.now) (entry_tree e)) }
     ensures refused { IfErr result (λ r. r ≡ Faults → (x : EntryData)
         → IsEntryText true (chars text.now) x → ⊥) }
+    ensures utf8 { IfErr result (λ r. r ≡ NotUtf8 → IsUtf8 text.now → ⊥) }
 {
     let mut entry = entry(alloc, text)?;
     entry.clear_format();
@@ -62,6 +65,7 @@ pub fn value(alloc: Global, text: &[u8]) -> Result<(KdlValue, String), Unread>
     ensures spelled { IfOk result (λ v. IsSpelled (chars text.now) v.0 v.1) }
     ensures refused { IfErr result (λ r. r ≡ Faults → (v : Value)
         → IsEntryText true (chars text.now) (plain_value v) → ⊥) }
+    ensures utf8 { IfErr result (λ r. r ≡ NotUtf8 → IsUtf8 text.now → ⊥) }
 {
     let entry = entry(alloc, text)?;
     let value = plain(alloc, &entry);
@@ -74,6 +78,7 @@ fn plain(alloc: Global, entry: &KdlEntry) -> Result<(KdlValue, String), Unread>
     ensures plain { IfOk result (λ v. IsPlain (entry_tree entry.now) v.0 v.1) }
     ensures refused { IfErr result (λ r. r ≡ Faults → (v : Value)
         → plain_value v ≡ entry_data (entry_tree entry.now) → ⊥) }
+    ensures utf8 { IfErr result (λ r. r ≡ NotUtf8 → ⊥) }
 {
     if entry.name().is_some() || entry.ty().is_some() {
         return Err(Unread::Faults);
@@ -100,6 +105,7 @@ fn spelled(alloc: Global, entry: &KdlEntry) -> Result<(KdlValue, String), AllocE
 /// The identifier whose string the bytes are.
 pub fn identifier(alloc: Global, text: &[u8]) -> Result<KdlIdentifier, Unread>
     ensures plain { IfOk result (λ i. identifier_tree i ≡ plain_identifier (chars text.now)) }
+    ensures utf8 { IfErr result (λ r. r ≡ NotUtf8 → IsUtf8 text.now → ⊥) }
 {
     let Ok(text) = std::str::from_utf8(text) else {
         return Err(Unread::NotUtf8);
@@ -114,6 +120,7 @@ pub fn identifier(alloc: Global, text: &[u8]) -> Result<KdlIdentifier, Unread>
 pub fn identifier_if(alloc: Global, has: u32, text: &[u8]) -> Result<Option<KdlIdentifier>, Unread>
     ensures plain { IfOk result (λ o. option_map identifier_tree o
         ≡ option_map plain_identifier (text_if has (chars text.now))) }
+    ensures utf8 { IfErr result (λ r. r ≡ NotUtf8 → IsUtf8 text.now → ⊥) }
 {
     if has == 0 {
         return Ok(None);

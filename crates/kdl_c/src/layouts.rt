@@ -3,7 +3,7 @@
 ghost use Rattle.kdl.specs.Words.{CommentsStay, DocumentKeepsNoForm, DocumentLaidOut, IsDocument, Nodes, canonical_text, defaults, document_prints, document_says, document_tree};
 ghost use Rattle.kdl_c.specs.Answers.{Each, FormattedInto};
 ghost use Rattle.std.specs.Prelude.{◌≡◌, true};
-ghost use Rattle.std.specs.Str.{chars};
+ghost use Rattle.std.specs.Str.{IsUtf8, chars};
 
 use crate::status::{NO_DOCUMENT, NOT_UTF8, OK, OUT_OF_MEMORY, of_failure};
 use crate::text::put_text;
@@ -67,6 +67,7 @@ pub extern "C" fn kdl_format_text(
     ensures written { result ≡ 0
         → FormattedInto (chars text.now) out.old out.new needed.new }
     ensures kept { (result ≡ 0 → ⊥) → out.new ≡ out.old }
+    ensures utf8 { result ≡ 2 → IsUtf8 text.now → ⊥ }
     ensures refused { result ≡ 1 → (x : Nodes) → IsDocument true (chars text.now) x → ⊥ }
 {
     *needed = 0;

@@ -2,7 +2,7 @@
 
 ghost use Rattle.kdl_c.specs.Answers.{failure_status};
 ghost use Rattle.kdl_c.specs.declared.status.Refused.TheVariants.{NotFound};
-ghost use Rattle.kdl_c.specs.declared.status.Unread.TheVariants.{Faults};
+ghost use Rattle.kdl_c.specs.declared.status.Unread.TheVariants.{Faults, NotUtf8};
 ghost use Rattle.std.specs.Prelude.{◌≡◌};
 
 use kdl::ParseFailure;
@@ -56,6 +56,7 @@ impl Unread {
         ensures held { result ≡ 5 → ⊥ }
         ensures found { result ≡ 6 → ⊥ }
         ensures faults { result ≡ 1 → self ≡ Faults }
+        ensures utf8 { result ≡ 2 → self ≡ NotUtf8 }
     {
         match self {
             Unread::Faults => FAULTS,
@@ -80,6 +81,7 @@ impl Refused {
         ensures not_done { result ≡ 0 → ⊥ }
         ensures held { result ≡ 5 → ⊥ }
         ensures read { result ≡ 1 → ⊥ }
+        ensures utf8 { result ≡ 2 → ⊥ }
         ensures absent { result ≡ 6 → self ≡ NotFound }
     {
         match self {

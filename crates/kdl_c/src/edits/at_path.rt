@@ -76,6 +76,7 @@ pub fn change_held(alloc: Global, document: &mut Handle, path: &[usize], change:
         → Each SameTree document.old.held.document document.new.held.document }
     ensures missing { result ≡ 5 → IsNone document.old.held.document }
     ensures read { result ≡ 1 → ⊥ }
+    ensures utf8 { result ≡ 2 → ⊥ }
     ensures absent { result ≡ 6 → IfSome document.old.held.document (λ d.
         IfSome (node_at path.now (nodes_of d)) (Lacks change)) }
 {

@@ -6,7 +6,7 @@ ghost use Rattle.kdl_c.specs.Changes.{AtEntry, AtNode, SameTree};
 ghost use Rattle.kdl_c.specs.Edits.{EntryInserted, EntryRemoved, KeySet, TypeSetAt, ValueSet, plain_value, text_if};
 ghost use Rattle.kdl_c.specs.Paths.{node_at};
 ghost use Rattle.std.specs.Prelude.{◌≡◌, ◌<◌, ◌≤◌, ◌-◌, ◌^◌, IfSome, IsNone, length, true};
-ghost use Rattle.std.specs.Str.{chars};
+ghost use Rattle.std.specs.Str.{IsUtf8, chars};
 
 use crate::edits::at_path::change_held;
 use crate::edits::entry_change::EntryChange;
@@ -30,6 +30,7 @@ pub extern "C" fn kdl_set_value(
         document.old.held.document document.new.held.document }
     ensures refused { result ≡ 1 → (v : Value)
         → IsEntryText true (chars value.now) (plain_value v) → ⊥ }
+    ensures utf8 { result ≡ 2 → IsUtf8 value.now → ⊥ }
     ensures kept { (result ≡ 0 → ⊥)
         → Each SameTree document.old.held.document document.new.held.document }
     ensures missing { result ≡ 5 → IsNone document.old.held.document }
@@ -58,6 +59,7 @@ pub extern "C" fn kdl_set_key(
     ensures done { result ≡ 0
         → Each (AtNode path.now (AtEntry index (KeySet (text_if has_key (chars key.now)))))
         document.old.held.document document.new.held.document }
+    ensures utf8 { result ≡ 2 → IsUtf8 key.now → ⊥ }
     ensures kept { (result ≡ 0 → ⊥)
         → Each SameTree document.old.held.document document.new.held.document }
     ensures missing { result ≡ 5 → IsNone document.old.held.document }
@@ -86,6 +88,7 @@ pub extern "C" fn kdl_set_type(
     ensures done { result ≡ 0
         → Each (AtNode path.now (TypeSetAt index (text_if has_type (chars ty.now))))
         document.old.held.document document.new.held.document }
+    ensures utf8 { result ≡ 2 → IsUtf8 ty.now → ⊥ }
     ensures kept { (result ≡ 0 → ⊥)
         → Each SameTree document.old.held.document document.new.held.document }
     ensures missing { result ≡ 5 → IsNone document.old.held.document }
@@ -118,6 +121,7 @@ pub extern "C" fn kdl_insert_entry(
         document.old.held.document document.new.held.document }
     ensures refused { result ≡ 1 → (x : EntryData)
         → IsEntryText true (chars entry.now) x → ⊥ }
+    ensures utf8 { result ≡ 2 → IsUtf8 entry.now → ⊥ }
     ensures kept { (result ≡ 0 → ⊥)
         → Each SameTree document.old.held.document document.new.held.document }
     ensures missing { result ≡ 5 → IsNone document.old.held.document }

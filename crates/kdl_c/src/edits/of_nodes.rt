@@ -8,7 +8,7 @@ ghost use Rattle.kdl_c.specs.Paths.{node_at};
 ghost use Rattle.kdl_c.specs.declared.status.Refused.TheVariants.{NotFound};
 ghost use Rattle.kdl_c.specs.Internal.Done.{NodePut};
 ghost use Rattle.std.specs.Prelude.{◌≡◌, ◌<◌, ◌≤◌, IfErr, IfSome, IsNone, OnErr, OnOk, length, true};
-ghost use Rattle.std.specs.Str.{chars};
+ghost use Rattle.std.specs.Str.{IsUtf8, chars};
 
 use crate::edits::at_path::change_held;
 use crate::edits::node_change::NodeChange;
@@ -28,6 +28,7 @@ pub extern "C" fn kdl_set_name(
 ) -> u32
     ensures done { result ≡ 0 → Each (AtNode path.now (NodeNamed (chars name.now)))
         document.old.held.document document.new.held.document }
+    ensures utf8 { result ≡ 2 → IsUtf8 name.now → ⊥ }
     ensures kept { (result ≡ 0 → ⊥)
         → Each SameTree document.old.held.document document.new.held.document }
     ensures missing { result ≡ 5 → IsNone document.old.held.document }
@@ -56,6 +57,7 @@ pub extern "C" fn kdl_insert_node(
         document.old.held.document document.new.held.document }
     ensures refused { result ≡ 1 → (x : NodeData)
         → IsNodeText true (chars node.now) x → ⊥ }
+    ensures utf8 { result ≡ 2 → IsUtf8 node.now → ⊥ }
     ensures kept { (result ≡ 0 → ⊥)
         → Each SameTree document.old.held.document document.new.held.document }
     ensures missing { result ≡ 5 → IsNone document.old.held.document }
@@ -106,6 +108,7 @@ fn insert_first(alloc: Global, document: &mut Handle, index: usize, node: KdlNod
     ensures absent { result ≡ 6 → IfSome document.old.held.document (λ d.
         length (nodes_of d) < index) }
     ensures read { result ≡ 1 → ⊥ }
+    ensures utf8 { result ≡ 2 → ⊥ }
 {
     let Some(mut held) = document.take(alloc) else {
         drop(node);
