@@ -1,4 +1,4 @@
-//! The library `kdl` for C. Texts go in as bytes; texts come out into the caller's buffers; C keeps a document in a struct.
+//! The library `kdl` for C. Texts go in as bytes, and come out into the caller's buffers. C keeps a document in a struct.
 //!
 //! Each exported function states its meaning in its contract. `bindings/c/kdl.h` is the header for them.
 #![tactic(auto)]

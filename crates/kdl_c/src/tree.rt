@@ -12,9 +12,9 @@ use crate::status::{NO_DOCUMENT, NOT_FOUND, OK, OUT_OF_MEMORY, TOO_SMALL};
 use kdl_held::Handle;
 use std::alloc::Global;
 
-/// The whole document as rows: for each node its own row, a row for each entry, the rows of its children, and a row that
-/// ends its block, where it has one. `row_count` and `string_len` get the whole counts of rows and bytes. Where either is
-/// more than there is room for, the rows and strings are incomplete, and the status is `TOO_SMALL`.
+/// The whole document as rows: for each node its own row, a row for each entry, the rows of its children, and a row
+/// that ends its block, where it has one. `row_count` and `string_len` get the whole counts of rows and bytes. Where
+/// either is more than there is room for, the rows and strings are incomplete, and the status is `TOO_SMALL`.
 #[unsafe(no_mangle)]
 pub extern "C" fn kdl_tree(
     alloc: Global,

@@ -74,8 +74,8 @@ pub extern "C" fn kdl_set_key(
     change_held(alloc, document, path, change)
 }
 
-/// Sets the type of the entry at the index, and of the node where the index is `usize::MAX`, to a copy of the bytes, where
-/// `has_type` is not 0; else takes it away. It is printed in the library's spelling.
+/// Sets the type of the entry at the index, and of the node where the index is `usize::MAX`, to a copy of the bytes,
+/// where `has_type` is not 0; else takes it away. It is printed in the library's spelling.
 #[unsafe(no_mangle)]
 pub extern "C" fn kdl_set_type(
     alloc: Global,
@@ -107,8 +107,8 @@ pub extern "C" fn kdl_set_type(
     }
 }
 
-/// Inserts an entry, given as a text, before the entry at the index, or last where the index is their number. It is printed
-/// after one space, in the library's spelling.
+/// Inserts an entry, given as a text, before the entry at the index, or last where the index is their number. It is
+/// printed after one space, in the library's spelling.
 #[unsafe(no_mangle)]
 pub extern "C" fn kdl_insert_entry(
     alloc: Global,

@@ -42,9 +42,9 @@ pub extern "C" fn kdl_set_name(
     change_held(alloc, document, path, NodeChange::SetName(name))
 }
 
-/// Inserts a node, given as a text, into the block of the node at the path, or into the document where the path is empty:
-/// before the node at the index there, or last. It makes the block where there is none. Newlines that are missing between
-/// nodes are added, so that none joins another.
+/// Inserts a node, given as a text, into the block of the node at the path, or into the document where the path is
+/// empty: before the node at the index there, or last. It makes the block where there is none. Newlines that are
+/// missing between nodes are added, so that none joins another.
 #[unsafe(no_mangle)]
 pub extern "C" fn kdl_insert_node(
     alloc: Global,
