@@ -1,0 +1,12 @@
+-- What the calls return.
+pub mod Answers
+-- Nodes by the path to them.
+pub mod Paths
+-- Rows whose texts are in the strings that were written.
+pub mod Rows
+-- Documents with one node changed, and all other nodes as they were.
+pub mod Changes
+-- What each edit makes of a node, of an entry, or of a document.
+pub mod Edits
+-- Words of clauses that only this crate sees.
+pub mod Internal

@@ -1,0 +1,81 @@
+//! Documents read from a text, and printed.
+
+ghost use Rattle.kdl.specs.Words.{IsDocument, LaidDocument, Nodes, document_prints, document_says, document_tree};
+ghost use Rattle.kdl_c.specs.Answers.{printed_bytes};
+ghost use Rattle.std.specs.Prelude.{◌≡◌, ◌++◌, IfSome, IsNone, IsSome, None, drop, length, true};
+ghost use Rattle.std.specs.Str.{IsUtf8, chars};
+
+use crate::status::{NO_DOCUMENT, NOT_UTF8, OK, OUT_OF_MEMORY, of_failure};
+use crate::text::put_text;
+use kdl::KdlDocument;
+use kdl_held::Handle;
+use std::alloc::Global;
+
+/// Parses a text into `document`, and frees the document that was there. After a status that is not `OK`, `document`
+/// has what it had.
+#[unsafe(no_mangle)]
+pub extern "C" fn kdl_parse(alloc: Global, text: &[u8], document: &mut Handle) -> u32
+    ensures there { result ≡ 0 → IsSome document.new.held.document }
+    ensures found { result ≡ 0 → IfSome document.new.held.document (λ d.
+        IsDocument true (chars text.now) (document_says d)) }
+    ensures only { result ≡ 0 → IfSome document.new.held.document (λ d. (x : Nodes)
+        → IsDocument true (chars text.now) x → x ≡ document_says d) }
+    ensures laid { result ≡ 0 → IfSome document.new.held.document (λ d.
+        LaidDocument true (document_tree d) (chars text.now)) }
+    ensures prints { result ≡ 0 → IfSome document.new.held.document (λ d.
+        document_prints d ≡ chars text.now) }
+    ensures utf8 { result ≡ 2 → IsUtf8 text.now → ⊥ }
+    ensures refused { result ≡ 1 → (x : Nodes) → IsDocument true (chars text.now) x → ⊥ }
+    ensures kept { (result ≡ 0 → ⊥) → document.new.held.document ≡ document.old.held.document }
+{
+    let Ok(text) = std::str::from_utf8(text) else {
+        return NOT_UTF8;
+    };
+    match KdlDocument::parse(alloc, text) {
+        Err(failure) => of_failure(&failure),
+        Ok(parsed) => match Box::new(alloc, parsed) {
+            Err(_) => OUT_OF_MEMORY,
+            Ok(parsed) => {
+                document.put(parsed);
+                OK
+            }
+        },
+    }
+}
+
+/// Frees the document. A second call does nothing.
+#[unsafe(no_mangle)]
+pub extern "C" fn kdl_free(alloc: Global, document: &mut Handle)
+    ensures { document.new.held.document ≡ None }
+{
+    drop(document.take(alloc));
+}
+
+/// Prints the document into `out`, where it fits, and its length into `needed`.
+#[unsafe(no_mangle)]
+pub extern "C" fn kdl_print(
+    alloc: Global,
+    document: &mut Handle,
+    out: &mut [u8],
+    needed: &mut usize,
+) -> u32
+    ensures same { document.new.held.document ≡ document.old.held.document }
+    ensures printed { result ≡ 0 → IfSome document.old.held.document (λ d.
+        out.new ≡ printed_bytes d ++ drop (length (printed_bytes d)) out.old) }
+    ensures whole { result ≡ 0 → IfSome document.old.held.document (λ d.
+        needed.new ≡ length (printed_bytes d)) }
+    ensures small { result ≡ 4 → IfSome document.old.held.document (λ d.
+        needed.new ≡ length (printed_bytes d)) }
+    ensures missing { result ≡ 5 → IsNone document.old.held.document }
+{
+    *needed = 0;
+    let Some(held) = document.take(alloc) else {
+        return NO_DOCUMENT;
+    };
+    let status = match held.to_string(alloc) {
+        Err(_) => OUT_OF_MEMORY,
+        Ok(printed) => put_text(&printed, out, needed),
+    };
+    document.put(held);
+    status
+}

@@ -1,0 +1,87 @@
+//! Documents and texts laid out.
+
+ghost use Rattle.kdl.specs.Words.{CommentsStay, DocumentKeepsNoForm, DocumentLaidOut, IsDocument, Nodes, canonical_text, defaults, document_prints, document_says, document_tree};
+ghost use Rattle.kdl_c.specs.Answers.{Each, FormattedInto};
+ghost use Rattle.std.specs.Prelude.{◌≡◌, true};
+ghost use Rattle.std.specs.Str.{IsUtf8, chars};
+
+use crate::status::{NO_DOCUMENT, NOT_UTF8, OK, OUT_OF_MEMORY, of_failure};
+use crate::text::put_text;
+use kdl::KdlDocument;
+use kdl_held::Handle;
+use std::alloc::Global;
+
+/// Lays the document out, with its comments. Where memory runs out, some of it may be laid out; its data stay.
+#[unsafe(no_mangle)]
+pub extern "C" fn kdl_format(alloc: Global, document: &mut Handle) -> u32
+    ensures data { Each (λ d e. document_says e ≡ document_says d)
+        document.old.held.document document.new.held.document }
+    ensures formatted { result ≡ 0 → Each (λ d e. DocumentLaidOut defaults d e)
+        document.old.held.document document.new.held.document }
+    ensures derived { result ≡ 0 → Each (λ d e. DocumentKeepsNoForm d
+        → IsDocument true (document_prints e) (document_says d))
+        document.old.held.document document.new.held.document }
+    ensures comments { result ≡ 0 → Each (λ d e. DocumentKeepsNoForm d
+        → CommentsStay (document_tree d) (document_prints e))
+        document.old.held.document document.new.held.document }
+{
+    let Some(mut held) = document.take(alloc) else {
+        return NO_DOCUMENT;
+    };
+    let status = match held.autoformat() {
+        Err(_) => OUT_OF_MEMORY,
+        Ok(()) => OK,
+    };
+    document.put(held);
+    status
+}
+
+/// Lays the document out, without its comments. Where memory runs out, some of it may be laid out; its data stay.
+#[unsafe(no_mangle)]
+pub extern "C" fn kdl_strip(alloc: Global, document: &mut Handle) -> u32
+    ensures data { Each (λ d e. document_says e ≡ document_says d)
+        document.old.held.document document.new.held.document }
+    ensures prints { result ≡ 0 → Each (λ d e. DocumentKeepsNoForm d
+        → document_prints e ≡ canonical_text (document_says d))
+        document.old.held.document document.new.held.document }
+{
+    let Some(mut held) = document.take(alloc) else {
+        return NO_DOCUMENT;
+    };
+    let status = match held.autoformat_no_comments() {
+        Err(_) => OUT_OF_MEMORY,
+        Ok(()) => OK,
+    };
+    document.put(held);
+    status
+}
+
+/// Lays a text out, with its comments: what it prints goes into `out`, where it fits, and its length into `needed`.
+#[unsafe(no_mangle)]
+pub extern "C" fn kdl_format_text(
+    alloc: Global,
+    text: &[u8],
+    out: &mut [u8],
+    needed: &mut usize,
+) -> u32
+    ensures written { result ≡ 0
+        → FormattedInto (chars text.now) out.old out.new needed.new }
+    ensures kept { (result ≡ 0 → ⊥) → out.new ≡ out.old }
+    ensures utf8 { result ≡ 2 → IsUtf8 text.now → ⊥ }
+    ensures refused { result ≡ 1 → (x : Nodes) → IsDocument true (chars text.now) x → ⊥ }
+{
+    *needed = 0;
+    let Ok(text) = std::str::from_utf8(text) else {
+        return NOT_UTF8;
+    };
+    match KdlDocument::parse(alloc, text) {
+        Err(failure) => of_failure(&failure),
+        Ok(mut document) => match document.autoformat() {
+            Err(_) => OUT_OF_MEMORY,
+            Ok(()) => match document.to_string(alloc) {
+                Err(_) => OUT_OF_MEMORY,
+                Ok(printed) => put_text(&printed, out, needed),
+            },
+        },
+    }
+}

@@ -1,0 +1,293 @@
+//! The tree of a document as rows.
+
+ghost use Rattle.kdl.specs.Words.{node_tree, entry_tree};
+ghost use Rattle.kdl.specs.declared.node.KdlNode.{out-KdlNode};
+ghost use Rattle.kdl_c.specs.Rows.{AreWithin, IsWithin};
+ghost use Rattle.std.specs.Prelude.{◌≡◌, ◌≤◌, ◌+◌, IfOk, OnOk, is_some, length, slice_set};
+
+use crate::text::{Place, put_string};
+use kdl::{KdlDocument, KdlEntry, KdlIdentifier, KdlNode, KdlValue, SourceSpan};
+use std::alloc::{AllocError, Global};
+
+pub const NODE: u32 = 1;
+
+pub const ARGUMENT: u32 = 2;
+
+pub const PROPERTY: u32 = 3;
+
+/// The end of a block of children.
+pub const END: u32 = 4;
+
+pub const NO_VALUE: u32 = 0;
+
+pub const STRING: u32 = 1;
+
+/// A whole number that an `i64` holds: in `integer`.
+pub const INTEGER: u32 = 2;
+
+/// A whole number beyond that: as a text.
+pub const LARGE_INTEGER: u32 = 3;
+
+pub const FLOAT: u32 = 4;
+
+/// A boolean: 0 or 1 in `integer`.
+pub const BOOL: u32 = 5;
+
+pub const NULL: u32 = 6;
+
+/// A node, an argument, a property, or the end of a block. Each text is a place in the strings.
+#[repr(C)]
+#[derive(Clone, Copy)]
+pub struct KdlRow {
+    pub kind: u32,
+    pub value: u32,
+    pub has_type: u32,
+    pub has_block: u32,
+    pub integer: i64,
+    pub name_start: usize,
+    pub name_len: usize,
+    pub type_start: usize,
+    pub type_len: usize,
+    pub text_start: usize,
+    pub text_len: usize,
+    pub start: usize,
+    pub len: usize,
+}
+
+/// What a row says of a value.
+#[derive(Clone, Copy)]
+struct ValueParts {
+    value: u32,
+    integer: i64,
+    text: Place,
+}
+
+const NOWHERE: Place = Place { start: 0, len: 0 };
+
+fn put_identifier(identifier: Option<&KdlIdentifier>, strings: &mut [u8], used: &mut usize) -> Place
+    ensures more { used.old ≤ used.new }
+    ensures within { used.new ≤ length strings.old → result.start + result.len ≤ used.new }
+{
+    match identifier {
+        Some(identifier) => put_string(identifier.value(), strings, used),
+        None => NOWHERE,
+    }
+}
+
+fn flag(is: bool) -> u32 {
+    if is { 1 } else { 0 }
+}
+
+/// The row of a node.
+pub fn put_node(node: &KdlNode, strings: &mut [u8], used: &mut usize) -> KdlRow
+    ensures kind { result.kind ≡ 1 }
+    ensures start { result.start ≡ (out-KdlNode node.now).span.offset }
+    ensures len { result.len ≡ (out-KdlNode node.now).span.len }
+    ensures more { used.old ≤ used.new }
+    ensures within { used.new ≤ length strings.old → IsWithin used.new result }
+{
+    let name = put_string(node.name().value(), strings, used);
+    let ty = put_identifier(node.ty(), strings, used);
+    let span = node.span();
+    KdlRow {
+        kind: NODE,
+        value: NO_VALUE,
+        has_type: flag(node.ty().is_some()),
+        has_block: flag(node.children().is_some()),
+        integer: 0,
+        name_start: name.start,
+        name_len: name.len,
+        type_start: ty.start,
+        type_len: ty.len,
+        text_start: 0,
+        text_len: 0,
+        start: span.offset,
+        len: span.len,
+    }
+}
+
+fn put_integer(
+    alloc: Global,
+    number: i128,
+    strings: &mut [u8],
+    used: &mut usize,
+) -> Result<ValueParts, AllocError>
+    ensures more { used.old ≤ used.new }
+    ensures within { IfOk result (λ v. used.new ≤ length strings.old
+        → v.text.start + v.text.len ≤ used.new) }
+{
+    match i64::try_from(number) {
+        Ok(integer) => Ok(ValueParts {
+            value: INTEGER,
+            integer,
+            text: NOWHERE,
+        }),
+        Err(_) => {
+            let printed = number.to_string(alloc)?;
+            Ok(ValueParts {
+                value: LARGE_INTEGER,
+                integer: 0,
+                text: put_string(&printed, strings, used),
+            })
+        }
+    }
+}
+
+fn put_value(
+    alloc: Global,
+    value: &KdlValue,
+    strings: &mut [u8],
+    used: &mut usize,
+) -> Result<ValueParts, AllocError>
+    ensures more { used.old ≤ used.new }
+    ensures within { IfOk result (λ v. used.new ≤ length strings.old
+        → v.text.start + v.text.len ≤ used.new) }
+{
+    match value {
+        KdlValue::Integer(number) => put_integer(alloc, *number, strings, used),
+        KdlValue::String(text) => Ok(ValueParts {
+            value: STRING,
+            integer: 0,
+            text: put_string(text.as_str(), strings, used),
+        }),
+        KdlValue::Float(float) => Ok(ValueParts {
+            value: FLOAT,
+            integer: 0,
+            text: put_string(float.as_str(), strings, used),
+        }),
+        KdlValue::Bool(is) => Ok(ValueParts {
+            value: BOOL,
+            integer: if *is { 1 } else { 0 },
+            text: NOWHERE,
+        }),
+        KdlValue::Null => Ok(ValueParts {
+            value: NULL,
+            integer: 0,
+            text: NOWHERE,
+        }),
+    }
+}
+
+/// The row of an entry.
+pub fn put_entry(
+    alloc: Global,
+    entry: &KdlEntry,
+    strings: &mut [u8],
+    used: &mut usize,
+) -> Result<KdlRow, AllocError>
+    ensures start { IfOk result (λ r. r.start ≡ (entry_tree entry.now).span.offset) }
+    ensures len { IfOk result (λ r. r.len ≡ (entry_tree entry.now).span.len) }
+    ensures more { used.old ≤ used.new }
+    ensures within { IfOk result (λ r. used.new ≤ length strings.old → IsWithin used.new r) }
+{
+    let name = put_identifier(entry.name(), strings, used);
+    let ty = put_identifier(entry.ty(), strings, used);
+    let value = put_value(alloc, entry.value(), strings, used)?;
+    let span = entry.span();
+    Ok(KdlRow {
+        kind: if entry.name().is_some() {
+            PROPERTY
+        } else {
+            ARGUMENT
+        },
+        value: value.value,
+        has_type: flag(entry.ty().is_some()),
+        has_block: 0,
+        integer: value.integer,
+        name_start: name.start,
+        name_len: name.len,
+        type_start: ty.start,
+        type_len: ty.len,
+        text_start: value.text.start,
+        text_len: value.text.len,
+        start: span.offset,
+        len: span.len,
+    })
+}
+
+/// The row that ends a block.
+fn end_row() -> KdlRow
+    ensures within { IsWithin 0 result }
+{
+    KdlRow {
+        kind: END,
+        value: NO_VALUE,
+        has_type: 0,
+        has_block: 0,
+        integer: 0,
+        name_start: 0,
+        name_len: 0,
+        type_start: 0,
+        type_len: 0,
+        text_start: 0,
+        text_len: 0,
+        start: 0,
+        len: 0,
+    }
+}
+
+/// Writes a row after the others, where there is room, and counts it in any case.
+fn put_row(row: KdlRow, rows: &mut [KdlRow], count: &mut usize)
+    ensures more { count.old ≤ count.new }
+    ensures counted { count.new ≤ length rows.old → count.new ≡ count.old + 1 }
+    ensures written { count.new ≤ length rows.old → rows.new ≡ slice_set rows.old count.old row }
+{
+    if *count < rows.len() {
+        rows[*count] = row;
+    }
+    *count = count.saturating_add(1);
+}
+
+/// The rows of a node and of its entries.
+fn put_node_rows(
+    alloc: Global,
+    node: &KdlNode,
+    rows: &mut [KdlRow],
+    count: &mut usize,
+    strings: &mut [u8],
+    used: &mut usize,
+) -> Result<(), AllocError>
+    ensures within { OnOk result (AreWithin rows.old count.old strings.old used.old
+        → AreWithin rows.new count.new strings.new used.new) }
+{
+    put_row(put_node(node, strings, used), rows, count);
+    for entry in node.entries() {
+        put_row(put_entry(alloc, entry, strings, used)?, rows, count);
+    }
+    Ok(())
+}
+
+/// The rows of all nodes, over a stack in memory and without recursion, however deep their blocks are.
+pub fn put_tree(
+    alloc: Global,
+    document: &KdlDocument,
+    rows: &mut [KdlRow],
+    count: &mut usize,
+    strings: &mut [u8],
+    used: &mut usize,
+) -> Result<(), AllocError>
+    ensures within { OnOk result (AreWithin rows.old count.old strings.old used.old
+        → AreWithin rows.new count.new strings.new used.new) }
+{
+    let mut above: Vec<&[KdlNode]> = Vec::new(alloc);
+    let mut rest = document.nodes();
+    for _ in 0..u64::MAX {
+        if let Some((node, behind)) = rest.split_first() {
+            put_node_rows(alloc, node, rows, count, strings, used)?;
+            rest = match node.children() {
+                Some(block) => {
+                    above.push(behind)?;
+                    block.nodes()
+                }
+                None => behind,
+            };
+        } else {
+            let Some(behind) = above.pop() else {
+                return Ok(());
+            };
+            put_row(end_row(), rows, count);
+            rest = behind;
+        }
+    }
+    Err(AllocError)
+}
