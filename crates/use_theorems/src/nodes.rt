@@ -34,18 +34,28 @@ pub fn add(document: &mut KdlDocument, node: KdlNode) -> Result<(), AllocError>
     }
 }
 
-/// Pushes a node to the list of nodes of a document that was read, where the last one ends in `;` or a newline.
-pub fn push_to_list(alloc: Global, text: &str, node: KdlNode) -> Result<KdlDocument, ParseFailure>
+/// Pushes a node to the list of nodes itself, where the last one ends in `;` or a newline, and returns whether it did.
+pub fn push_to_list(document: &mut KdlDocument, node: KdlNode) -> bool
+    requires document { DocumentReadsBack document.old }
+    requires node { NodeEnds node }
+    ensures reads { DocumentReadsBack document.new }
+    ensures says { result ≡ true → document_says document.new ≡
+        said_with (length (nodes_of document.old)) (node_says node) (document_says document.old) }
+{
+    if !last_ends(document) {
+        return false;
+    }
+    pushed_reads_back(document, &node);
+    document.nodes_mut().push(node).is_ok()
+}
+
+/// The same in a document that was read.
+pub fn push_to_text(alloc: Global, text: &str, node: KdlNode) -> Result<KdlDocument, ParseFailure>
     requires { NodeEnds node }
     ensures { IfOk result DocumentReadsBack }
 {
     let mut document = KdlDocument::parse(alloc, text)?;
-    if last_ends(&document) {
-        pushed_reads_back(&document, &node);
-        let Ok(()) = document.nodes_mut().push(node) else {
-            return Err(ParseFailure::Memory);
-        };
-    }
+    push_to_list(&mut document, node);
     Ok(document)
 }
 
