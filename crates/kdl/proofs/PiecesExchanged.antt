@@ -8,7 +8,7 @@ use Rattle.kdl_entry.specs.Tree.{Entry, entry_tree}
 use Rattle.kdl_entry.specs.declared.entry.KdlEntry.{KdlEntry}
 use Rattle.kdl_grammar.specs.Print.{after_brace, before_block, before_brace, end_text, format_of, print_document, print_head, print_node, print_piece, print_pieces}
 use Rattle.kdl_grammar.specs.Tree.{Document, DocumentFormat, Head, node, children, children_of}
-use Rattle.kdl_parts.specs.Edits.{inserted, put_before, put_for, removed, replaced_place, under, without, IsInserted}
+use Rattle.kdl_parts.specs.Edits.{put_before, put_for, removed, replaced_place, under, without, IsInserted}
 use Rattle.kdl_parts.specs.EntryLists.{place_of, removed_place, sought, there}
 use Rattle.kdl_parts.specs.Formats.{document_format_tree}
 use Rattle.kdl_parts.specs.declared.key.NodeKey.{NodeKey}
@@ -17,7 +17,7 @@ use Rattle.kdl_parts.proofs.PrintedEntries.{print_pieces-append}
 use Rattle.kdl.specs.Bytes.{IsExchanged, IsExchangedInDocument, IsExchangedInNode, piece_of}
 use Rattle.kdl.specs.Change.{with_children, with_entries, with_node}
 use Rattle.kdl.specs.DocumentLookups.{is_node_named, node_named, node_place, nodes_of, with_node_named, with_node_there}
-use Rattle.kdl.specs.EditLaw.{document_before, document_behind, head_of, tail_of, text_before, text_behind, tree_entries}
+use Rattle.kdl.specs.EditLaw.{document_before, document_behind, head_of, tail_of, text_before, text_behind}
 use Rattle.kdl.specs.Fields.{document_format_of}
 use Rattle.kdl.specs.Lookups.{entries_of, found_entry, key_place, with_entry_there, with_found_entry}
 use Rattle.kdl.specs.Tree.{document_tree, head_tree as head, node_tree}

@@ -1,6 +1,6 @@
 -- What edits make of nodes and documents that read back.
-use Rattle.std.proofs.Common.{◌≡◌, ℕ, zero, suc, ◌+◌, ◌<◌, Bool, true, false, List, [], ◌∷◌, ◌++◌, map, length, take, drop, set, slice_get, position, Option, Some, None, IfSome, Result, Ok, Err, OnOk, OnErr, IfOk, option_map, option_and_then, Vec, Global, refl, sym, ap, subst, ◌∙◌, arith}
-use Rattle.std.proofs.lemmas.List.Elements.{All-append, All-cons, All-drop, All-map, All-nil, All-set, All-take}
+use Rattle.std.proofs.Common.{◌≡◌, ℕ, zero, suc, ◌+◌, Bool, true, false, List, [], ◌∷◌, ◌++◌, map, take, drop, set, slice_get, Option, Some, None, IfSome, Result, Ok, Err, OnOk, OnErr, IfOk, option_map, option_and_then, Vec, Global, sym, subst, ◌∙◌, arith}
+use Rattle.std.proofs.lemmas.List.Elements.{All-append, All-cons, All-drop, All-map, All-nil, All-take}
 use Rattle.std.proofs.lemmas.List.Sorted.{All-permutation}
 use Rattle.std.specs.List.{All, find, items_where_true, list_all}
 use Rattle.std.specs.List.Retain.{IsFiltered}
@@ -13,9 +13,8 @@ use Rattle.kdl_value.specs.Data.{Value}
 use Rattle.kdl_value.specs.WellFormed.{IsWellFormed}
 use Rattle.kdl_value.proofs.WellFormed.{text_scalars}
 use Rattle.kdl_entry.specs.Entries.{IsIdentifierText}
-use Rattle.kdl_entry.specs.Formless.{IsFormless}
 use Rattle.kdl_entry.specs.Print.{print_identifier}
-use Rattle.kdl_entry.specs.Tree.{Entry, Identifier, entry_tree, identifier_tree, no_span}
+use Rattle.kdl_entry.specs.Tree.{Identifier, entry_tree, identifier_tree, no_span}
 use Rattle.kdl_entry.specs.declared.entry.KdlEntry.{KdlEntry}
 use Rattle.kdl_entry.specs.declared.identifier.KdlIdentifier.{KdlIdentifier}
 use Rattle.kdl_entry.proofs.Laying.FormlessLaid.{formless_reads_back}
@@ -24,8 +23,8 @@ use Rattle.kdl_grammar.specs.Data as data'
 use Rattle.kdl_grammar.specs.Grammar.{IsDocument, no_gap}
 use Rattle.kdl_grammar.specs.Laid.{LaidDocument, LaidNodeText}
 use Rattle.kdl_grammar.specs.Print.{print_document, print_node, trailing_text}
-use Rattle.kdl_grammar.specs.ReadsBack.{Rests, Anything, TextEnd, BlockEnd, AddsNothing, IsGapBefore, last_rests, EntryReads, NodeReads, NodesRead, last_node, next_node, ContentReads, one_text, two_texts, with_nodes as content_nodes, BlockReads, block, DocumentReads}
-use Rattle.kdl_grammar.specs.Tree.{DocumentFormat, Document, document, Node, node, Nodes, none, first, children_of, document_data, node_data}
+use Rattle.kdl_grammar.specs.ReadsBack.{Rests, Anything, TextEnd, AddsNothing, IsGapBefore, last_rests, EntryReads, NodeReads, NodesRead, last_node, next_node, ContentReads, one_text, two_texts, with_nodes as content_nodes, BlockReads, block, DocumentReads}
+use Rattle.kdl_grammar.specs.Tree.{DocumentFormat, document, Node, node, Nodes, none, first, children_of, document_data, node_data}
 use Rattle.kdl_grammar.proofs.ReadingBack.Composing as composing
 use Rattle.kdl_grammar.proofs.ReadingBack.Composing.{node_before}
 use Rattle.kdl_grammar.proofs.ReadingBack.Entries.{formless_reads, new_reads, value_reads}
@@ -34,10 +33,9 @@ use Rattle.kdl_grammar.proofs.ReadingBack.Reads.{node_derived, reads_derived}
 use Rattle.kdl_parts.specs.Edits.{IsInserted, inserted, put_before, put_for, removed, under, without}
 use Rattle.kdl_parts.specs.EntryLists.{place_of, removed_place, sought}
 use Rattle.kdl_parts.specs.Formats.{document_format_tree}
-use Rattle.kdl_parts.specs.Written.{set_entry_there}
 use Rattle.kdl_parts.specs.declared.key.NodeKey.{NodeKey}
 use Rattle.kdl_parts.specs.declared.key.NodeKey.TheVariants.{Key, Index}
-use Rattle.kdl.specs.Change.{with_children, with_entries, with_node, with_nodes}
+use Rattle.kdl.specs.Change.{with_children, with_entries, with_node}
 use Rattle.kdl.specs.Cleared.{new_document, new_node}
 use Rattle.kdl.specs.DocumentLookups.{is_node_named, node_named, node_place, nodes_of, with_node_named, with_node_there}
 use Rattle.kdl.specs.Lookups.{entries_of, found_entry, key_place, with_entry_there, with_found_entry}
@@ -47,7 +45,7 @@ use Rattle.kdl.specs.declared.document.KdlDocument.{KdlDocument}
 use Rattle.kdl.specs.declared.document.KdlDocument.TheViews.{out-KdlDocument, out-KdlNode}
 use Rattle.kdl.specs.declared.node.KdlNode.{KdlNode}
 use Rattle.kdl.proofs.Finding.DocumentLookups.{found_there}
-use Rattle.kdl.proofs.Trees.{document_of, document_tree_out, document_tree_roll, node_of, node_tree_out, node_tree_roll}
+use Rattle.kdl.proofs.Trees.{document_tree_out, document_tree_roll, node_of, node_tree_out, node_tree_roll}
 
 -- entries
 

@@ -1,11 +1,11 @@
 -- Nodes put among others, and the newlines that are added there: at the end of a node, or of the text before the first one.
-use Rattle.std.specs.List.{insert, remove}
-use Rattle.std.specs.Prelude.{◌≡◌, ℕ, zero, suc, ◌+◌, ◌≤◌, List, [], ◌∷◌, ◌++◌, map, replicate, take, drop, Option, Some, None, option_map, unwrap_or, slice_get, slice_set}
+use Rattle.std.specs.List.{insert}
+use Rattle.std.specs.Prelude.{◌≡◌, ℕ, zero, suc, ◌+◌, ◌≤◌, List, [], ◌++◌, map, replicate, take, drop, Option, Some, None, option_map, unwrap_or, slice_get, slice_set}
 use Rattle.kdl_text.specs.Chars.{Text}
 use Rattle.kdl_entry.specs.Tree.{Entry}
 use Rattle.kdl_grammar.specs.Data as data'
 use Rattle.kdl_grammar.specs.Print.{before_block, end_text, leading_text, print_document, print_node, print_nodes, trailing_text}
-use Rattle.kdl_grammar.specs.Tree.{DocumentFormat, Head, Node, node, Children, NodeFormat, listed_nodes}
+use Rattle.kdl_grammar.specs.Tree.{DocumentFormat, Head, Node, node, NodeFormat, listed_nodes}
 use Rattle.kdl_parts.specs.Formats.{document_format_tree, empty_node_format, node_texts}
 use Rattle.kdl_parts.specs.declared.format.KdlNodeFormat.{KdlNodeFormat}
 use Rattle.kdl.specs.Change.{with_children, with_format}

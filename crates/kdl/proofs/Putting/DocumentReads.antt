@@ -1,33 +1,32 @@
 -- Documents and blocks that read back, with a node added.
-use Rattle.std.proofs.Common.{◌≡◌, ◌⊎◌, inl, inr, ℕ, zero, suc, ◌+◌, ◌<◌, ◌≤◌, Bool, true, false, List, [], ◌∷◌, ◌++◌, length, map, take, drop, set, ap, ◌∙◌, sym, refl, subst, arith, Option, Some, None, option_map, slice_get, if◌then◌else◌, ◌==◌, add-one}
+use Rattle.std.proofs.Common.{◌≡◌, ℕ, suc, ◌<◌, Bool, true, false, List, [], ◌∷◌, ◌++◌, length, map, set, ap, ◌∙◌, sym, refl, subst, arith, Option, Some, None, option_map, if◌then◌else◌, ◌==◌, add-one}
 use Rattle.std.proofs.lemmas.Bool.Decides.{nat_tests}
 use Rattle.std.proofs.lemmas.List.{append-nil, length-map, map-set}
 use Rattle.std.proofs.lemmas.Option.{slice_get-map}
 use Rattle.std.specs.List.{insert}
 use Rattle.kdl_text.specs.Chars.{Text}
-use Rattle.kdl_text.specs.Trivia.{Break, LineSpace, Slashdash, slashdash}
+use Rattle.kdl_text.specs.Trivia.{LineSpace, Slashdash, slashdash}
 use Rattle.kdl_text.specs.declared.span.SourceSpan.{SourceSpan}
 use Rattle.kdl_entry.specs.Internal.Tokens.{t_space, t_newline, t_bom}
 use Rattle.kdl_entry.proofs.Lexing.TokenUnique.{token_det}
 use Rattle.kdl_fmt.specs.Kept.{without_bom}
 use Rattle.kdl_grammar.specs.Grammar.{Gap, no_gap, line_space, dropped_node}
 use Rattle.kdl_grammar.specs.Print.{leading_text, trailing_text}
-use Rattle.kdl_grammar.specs.ReadsBack.{Rests, Anything, TextEnd, BlockEnd, MayFollow, AddsNothing, IsGapBefore, last_rests, NodeReads, NodesRead, no_node, last_node, next_node, ContentReads, one_text, two_texts, with_nodes, BlockReads, block, DocumentReads}
-use Rattle.kdl_grammar.specs.Tree.{DocumentFormat, Node, Nodes, none, first, document, listed_nodes}
+use Rattle.kdl_grammar.specs.ReadsBack.{Rests, Anything, TextEnd, BlockEnd, MayFollow, AddsNothing, last_rests, NodeReads, NodesRead, no_node, last_node, next_node, ContentReads, one_text, two_texts, with_nodes, BlockReads, block, DocumentReads}
+use Rattle.kdl_grammar.specs.Tree.{DocumentFormat, Node, Nodes, document, listed_nodes}
 use Rattle.kdl_grammar.proofs.ReadingBack.Composing.{ends_before, weaker}
 use Rattle.kdl_parts.specs.declared.format.KdlNodeFormat.{KdlNodeFormat}
 use Rattle.kdl.specs.DocumentLookups.{nodes_of}
-use Rattle.kdl.specs.Internal.Ends.{EndsAs, GapSays, IsLast, IsRestAt, LeadingEnded, PutBehind, PutFirst, ReadsIn, end_with, lead_with, led_with, rests_after}
+use Rattle.kdl.specs.Internal.Ends.{EndsAs, GapSays, IsRestAt, LeadingEnded, PutBehind, PutFirst, ReadsIn, end_with, lead_with, led_with, rests_after}
 use Rattle.kdl.specs.Nodes.{newlines, texts_around, trees}
 use Rattle.kdl.specs.ReadsBack.{NodeReadsBack}
 use Rattle.kdl.specs.Tree.{document_tree, node_tree}
 use Rattle.kdl.specs.declared.document.KdlDocument.{KdlDocument}
 use Rattle.kdl.specs.declared.document.KdlDocument.TheViews.{out-KdlDocument}
 use Rattle.kdl.specs.declared.ends.Rest.{Rest}
-use Rattle.kdl.specs.declared.ends.Rest.TheVariants as Rest
 use Rattle.kdl.specs.declared.node.KdlNode.{KdlNode}
 use Rattle.kdl.proofs.Putting.PutReads.{content_put, content_put_first}
-use Rattle.kdl.proofs.Putting.Puts.{insert_trees, span_kept, texts_kept}
+use Rattle.kdl.proofs.Putting.Puts.{insert_trees, texts_kept}
 use Rattle.kdl.proofs.Trees.{document_tree_out}
 
 -- before fewer rests

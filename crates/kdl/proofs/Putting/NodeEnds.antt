@@ -1,5 +1,5 @@
 -- Newlines at the ends of nodes.
-use Rattle.std.proofs.Common.{◌≡◌, ◌⊎◌, inl, inr, ℕ, zero, suc, ◌+◌, ◌-◌, ◌<◌, ◌≤◌, Bool, true, false, List, [], ◌∷◌, ◌++◌, ap, ◌∙◌, sym, refl, subst, append_assoc, arith, zero-add, replicate, Option, Some, None, option_map, unwrap_or, String, Global}
+use Rattle.std.proofs.Common.{◌≡◌, ◌⊎◌, inl, inr, ℕ, zero, suc, ◌+◌, ◌-◌, ◌<◌, ◌≤◌, Bool, true, false, List, [], ◌∷◌, ◌++◌, ap, ◌∙◌, sym, refl, subst, append_assoc, arith, zero-add, Option, Some, None, option_map, unwrap_or, String, Global}
 use Rattle.std.proofs.lemmas.List.{append-nil, replicate-append-replicate}
 use Rattle.std.proofs.lemmas.Str.{chars-nil}
 use Rattle.std.specs.Prelude.{string_bytes}
@@ -8,7 +8,7 @@ use Rattle.kdl_text.specs.Chars.{Text}
 use Rattle.kdl_value.specs.Tree.{text_of}
 use Rattle.kdl_fmt.specs.Kept.{without_bom}
 use Rattle.kdl_fmt.proofs.Texts.{newline_text, space_text}
-use Rattle.kdl_grammar.specs.Print.{end_text, print_head, print_pieces, print_tail, print_node, before_block, after_brace, before_brace, format_of, print_document, space_unless}
+use Rattle.kdl_grammar.specs.Print.{end_text, print_head, print_pieces, print_node, before_block, after_brace, before_brace, format_of, print_document, space_unless}
 use Rattle.kdl_grammar.specs.Tree.{DocumentFormat, Head, NodeFormat, Node, node, Children, no_children, children, children_of, node_data}
 use Rattle.kdl_entry.specs.Print.{print_identifier, print_type}
 use Rattle.kdl_entry.specs.Tree.{Entry}

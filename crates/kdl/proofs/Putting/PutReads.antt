@@ -1,5 +1,5 @@
 -- Documents that read back, with a node added or removed.
-use Rattle.std.proofs.Common.{◌≡◌, ◌⊎◌, inl, inr, ℕ, zero, suc, ◌+◌, ◌<◌, true, List, [], ◌∷◌, ◌++◌, length, map, take, drop, set, ap, ◌∙◌, sym, refl, subst, append_assoc, arith, Bool, false, is_some, unwrap_or, Option, Some, None, option_map, slice_get, Result, Ok, Err, IfOk}
+use Rattle.std.proofs.Common.{◌≡◌, ◌⊎◌, inl, inr, ℕ, zero, suc, ◌<◌, true, List, [], ◌∷◌, ◌++◌, length, map, take, drop, set, ap, ◌∙◌, sym, refl, subst, append_assoc, arith, Bool, false, is_some, unwrap_or, Option, Some, None, option_map, slice_get, Result, Ok, Err, IfOk}
 use Rattle.std.proofs.lemmas.List.{append-nil}
 use Rattle.std.proofs.lemmas.Option.{get_or_from_slice_get, slice_get_within, slice_get-map}
 use Rattle.std.specs.List.{insert, remove}
@@ -12,7 +12,7 @@ use Rattle.kdl_grammar.specs.Data as data'
 use Rattle.kdl_grammar.specs.Grammar.{Terminator, Gap, no_gap, AreNodes, last_gap}
 use Rattle.kdl_grammar.specs.Places.{BeforeChildren, AfterChildren}
 use Rattle.kdl_grammar.specs.Print.{leading_text, trailing_text}
-use Rattle.kdl_grammar.specs.ReadsBack.{Rests, Anything, TextEnd, BlockEnd, MayFollow, HeadReads, terminator_text, NodesEnd, Terminates, AddsNothing, IsGapBefore, BeforeTerminator, EndReads, last_rests, NodeReads, reads, ChildrenRead, no_block, a_block, NodesRead, no_node, last_node, next_node, ContentReads, one_text, two_texts, with_nodes, DocumentReads}
+use Rattle.kdl_grammar.specs.ReadsBack.{Rests, Anything, TextEnd, BlockEnd, MayFollow, HeadReads, terminator_text, Terminates, AddsNothing, IsGapBefore, BeforeTerminator, EndReads, last_rests, NodeReads, reads, ChildrenRead, no_block, a_block, NodesRead, last_node, next_node, ContentReads, one_text, two_texts, with_nodes, DocumentReads}
 use Rattle.kdl_grammar.specs.Tree.{DocumentFormat, NodeFormat, Head, Node, node, Children, no_children, children, children_of, Document, document, listed_nodes}
 use Rattle.kdl_grammar.proofs.Moving.Moves.{move_after, move_before, terminator_end}
 use Rattle.kdl_grammar.proofs.ReadingBack.Composing.{ends_before, node_before, nodes_append, nodes_drop, nodes_take, each_reads}
@@ -30,7 +30,6 @@ use Rattle.kdl.specs.Tree.{document_tree, head_tree, node_tree}
 use Rattle.kdl.specs.Change as change
 use Rattle.kdl.specs.Cleared.{new_document}
 use Rattle.kdl.specs.declared.ends.Rest.{Rest}
-use Rattle.kdl.specs.declared.ends.Rest.TheVariants as Rest
 use Rattle.kdl.specs.declared.document.KdlDocument.{KdlDocument}
 use Rattle.kdl.specs.declared.document.KdlDocument.TheViews.{out-KdlDocument, out-KdlNode}
 use Rattle.kdl.specs.declared.node.KdlNode.{KdlNode}

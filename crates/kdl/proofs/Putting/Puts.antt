@@ -1,5 +1,5 @@
 -- Nodes added to others: their trees, what is printed, and what is said.
-use Rattle.std.proofs.Common.{◌≡◌, ℕ, zero, suc, ◌+◌, ◌<◌, ◌≤◌, List, [], ◌∷◌, ◌++◌, length, map, take, drop, set, ap, ◌∙◌, sym, refl, subst, append_assoc, arith, Option, Some, None, option_map, slice_get, get_or, add-one, Result, Ok, Err, OnOk, Vec, Global}
+use Rattle.std.proofs.Common.{◌≡◌, ℕ, zero, suc, ◌+◌, ◌<◌, ◌≤◌, List, [], ◌∷◌, ◌++◌, length, map, take, drop, set, ap, ◌∙◌, sym, refl, append_assoc, arith, Option, Some, None, option_map, slice_get, get_or, add-one, Result, Ok, Err, OnOk, Vec, Global}
 use Rattle.std.proofs.lemmas.List.{append-nil, map-append, take-map, drop-map, map-set}
 use Rattle.std.proofs.lemmas.List.Edits.{get_or-insert_at, get_or-insert_below}
 use Rattle.std.proofs.lemmas.Option.{get_or_from_slice_get, slice_get-get_or, slice_get-map}
@@ -7,14 +7,14 @@ use Rattle.std.specs.Vec.{with_item}
 use Rattle.std.specs.List.{insert, remove}
 use Rattle.kdl_text.specs.Chars.{Text}
 use Rattle.kdl_grammar.specs.Data as data'
-use Rattle.kdl_grammar.specs.Print.{print_node, print_nodes, print_document, leading_text, trailing_text}
+use Rattle.kdl_grammar.specs.Print.{print_node, print_nodes, leading_text, trailing_text}
 use Rattle.kdl_grammar.specs.Tree.{DocumentFormat, Node, Nodes, document, document_data, listed_nodes, node_data, nodes_data}
 use Rattle.kdl_parts.specs.Formats.{document_format_tree, node_texts}
 use Rattle.kdl_parts.specs.declared.format.KdlNodeFormat.{KdlNodeFormat}
 use Rattle.kdl.specs.Change.{with_nodes}
 use Rattle.kdl.specs.DocumentLookups.{nodes_of}
 use Rattle.kdl.specs.Internal.Ends.{EndsAs, IsEnded, LeadingEnded, PutBehind, PutFirst, end_with, lead_with, led_with}
-use Rattle.kdl.specs.Nodes.{EndedAt, EndedBefore, IsPut, LeadsWith, PrintsPut, PrintsWithout, WithNewlines, format_or_printed, newlines, said_with, said_without, text_from, text_up_to, texts_around, trees}
+use Rattle.kdl.specs.Nodes.{EndedBefore, IsPut, LeadsWith, PrintsPut, PrintsWithout, WithNewlines, format_or_printed, newlines, said_with, said_without, text_from, text_up_to, texts_around, trees}
 use Rattle.kdl.specs.Tree.{document_prints, document_says, document_tree, head_tree, node_prints, node_says, node_tree, nodes_tree}
 use Rattle.kdl.specs.declared.document.KdlDocument.{KdlDocument}
 use Rattle.kdl.specs.declared.document.KdlDocument.TheViews.{out-KdlDocument, out-KdlNode, out-roll-KdlDocument, roll-KdlDocument}

@@ -1,6 +1,6 @@
 -- The newlines that nodes lack at their ends.
 use Rattle.std.specs.List.{insert}
-use Rattle.std.specs.Prelude.{◌≡◌, ◌⊎◌, ℕ, suc, Bool, true, false, ◌+◌, ◌<◌, ◌≤◌, List, [], ◌∷◌, ◌++◌, length, Option, Some, None, option_map, slice_get, slice_set, unwrap_or}
+use Rattle.std.specs.Prelude.{◌≡◌, ◌⊎◌, ℕ, suc, Bool, true, false, ◌+◌, ◌<◌, ◌≤◌, [], ◌∷◌, ◌++◌, length, Option, Some, None, option_map, slice_get, slice_set, unwrap_or}
 use Rattle.kdl_text.specs.Chars.{Text}
 use Rattle.kdl_fmt.specs.Kept.{without_bom}
 use Rattle.kdl_grammar.specs.Grammar.{Terminator, Gap}
@@ -19,7 +19,6 @@ use Rattle.kdl.specs.ReadsBack.{BlockReadsBack, DocumentReadsBack}
 use Rattle.kdl.specs.Tree.{head_tree, node_tree}
 use Rattle.kdl.specs.declared.document.KdlDocument.{KdlDocument, out-KdlDocument}
 use Rattle.kdl.specs.declared.ends.Rest.{Rest}
-use Rattle.kdl.specs.declared.ends.Rest.TheVariants as Rest
 use Rattle.kdl.specs.declared.node.KdlNode.{KdlNode, out-KdlNode}
 
 -- newlines at the end of a format: of its terminator, or of what is after that
