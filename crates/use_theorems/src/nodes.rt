@@ -47,11 +47,7 @@ pub fn append(document: &mut KdlDocument, node: KdlNode) -> Result<(), AllocErro
 
 /// Reads a text, and adds a node after it: where the text ends its last line, what is printed is the text, and then the
 /// node.
-pub fn append_to_text(
-    alloc: Global,
-    text: &str,
-    node: KdlNode,
-) -> Result<KdlDocument, ParseFailure>
+pub fn append_to_text(alloc: Global, text: &str, node: KdlNode) -> Result<KdlDocument, ParseFailure>
     ensures { IfOk result (λ out. ((d : KdlDocument)
         → LaidDocument true (document_tree d) (chars text.now) → NodesMayFollow d)
         → document_prints out ≡ chars text.now ++ node_prints node) }
