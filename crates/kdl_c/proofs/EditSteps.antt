@@ -1,28 +1,27 @@
 -- Edits: from what the changes make to what the calls say.
-use Rattle.std.proofs.Common.{◌≡◌, ℕ, List, [], ◌∷◌, ◌++◌, Option, None, Some, IfErr, IfSome, IsSome, OnErr, OnOk, Result, Ok, Err, ap, ◌∙◌, sym, refl, subst, option_map, slice_get, String, Global, Bool, true, false, is_some, ◌-◌, ◌^◌}
+use Rattle.std.proofs.Common.{◌≡◌, ℕ, List, [], ◌∷◌, ◌++◌, Option, None, Some, IfErr, IfSome, IsSome, OnErr, OnOk, Result, Ok, Err, ap, ◌∙◌, sym, refl, subst, option_map, slice_get, String, Global, Bool, true, false, is_some}
 use Rattle.std.specs.Prelude.{option_and_then}
 use Rattle.kdl_text.specs.Chars.{Text}
 use Rattle.kdl_entry.specs.Laid.{LaidEntryText, LaidItem, item, laid_entry_text}
 use Rattle.kdl_entry.specs.Tree.{Entry, EntryFormat, entry_tree, identifier_tree, plain_identifier}
-use Rattle.kdl_entry.specs.declared.entry.KdlEntry.{KdlEntry}
 use Rattle.kdl_entry.specs.declared.identifier.KdlIdentifier.{KdlIdentifier}
 use Rattle.kdl_text.specs.declared.span.SourceSpan.{SourceSpan}
 use Rattle.kdl_value.specs.Tree.{text_of}
 use Rattle.kdl_value.specs.declared.value.KdlValue.{KdlValue}
-use Rattle.kdl.specs.Words.{LaidNodeText, document_tree, node_tree, nodes_of}
+use Rattle.kdl.specs.Words.{document_tree, node_tree, nodes_of}
 use Rattle.kdl.specs.declared.document.KdlDocument.{KdlDocument}
 use Rattle.kdl.specs.declared.node.KdlNode.{KdlNode}
 use Rattle.kdl_c.specs.Answers.{Each}
-use Rattle.kdl_c.specs.Changes.{AtEntry, AtNode, SameTree, changed_at}
-use Rattle.kdl_c.specs.Edits.{ChildInserted, EntryInserted, ChildRemoved, FirstInserted, FirstRemoved, KeySet, NodeInserted, NodeNamed, NodeRemoved, TypeSet, TypeSetAt, ValueSet, spelled_as}
-use Rattle.kdl_c.specs.Internal.Done.{IsDone, IsDoneIn, NodePut, changed_entry, respelled}
-use Rattle.kdl_c.specs.Internal.Given.{IsCleared, IsSpelled}
+use Rattle.kdl_c.specs.Changes.{AtEntry, AtNode, changed_at}
+use Rattle.kdl_c.specs.Edits.{NodeNamed, ValueSet, spelled_as}
+use Rattle.kdl_c.specs.Internal.Done.{IsDone, IsDoneIn, changed_entry, respelled}
+use Rattle.kdl_c.specs.Internal.Given.{IsSpelled}
 use Rattle.kdl_c.specs.Internal.Opened.{IsOpened, plugged}
 use Rattle.kdl_c.specs.Paths.{node_at, nodes_at}
 use Rattle.kdl_c.specs.declared.edits.entry_change.EntryChange.{EntryChange}
 use Rattle.kdl_c.specs.declared.edits.entry_change.EntryChange.TheVariants as change
 use Rattle.kdl_c.specs.declared.edits.node_change.NodeChange.{NodeChange}
-use Rattle.kdl_c.specs.declared.edits.node_change.NodeChange.TheVariants.{ChangeEntry, InsertChild, InsertEntry, RemoveChild, SetName, SetType}
+use Rattle.kdl_c.specs.declared.edits.node_change.NodeChange.TheVariants.{ChangeEntry, SetName}
 use Rattle.kdl_c.specs.declared.edits.opened.Opened.{Opened}
 use Rattle.kdl_c.proofs.PathSteps.{last_step}
 
@@ -69,10 +68,6 @@ done_at path above i c d e w o b whole same h done closed = record {
       ∙ ap (λ p. changed_at p (λ _. node_tree done.new) (document_tree w)) (sym whole) ∙ ap (λ x. changed_at path (λ _. node_tree done.new) (document_tree x)) same;
 }
 
-pub each_same : (x : Option KdlDocument) → Each SameTree x x
-each_same None = refl
-each_same (Some d) = refl
-
 pub each_as : (R S : KdlDocument → KdlDocument → Type 0) → ((d e : KdlDocument) → R d e → S d e) → (x y : Option KdlDocument) → Each R x y → Each S x y
 each_as R S f None y h = h
 each_as R S f (Some d) None h = h
@@ -114,56 +109,9 @@ value_set path i t v s h = each_entry path i (change.SetValue v s) (ValueSet t) 
       ∙ ap (λ f. record e { value = h.0.value; format = f }) (same_spelling h.0.format e.format s (formed h.1) h.2.spelling);
 })
 
-pub key_set : (path : List ℕ) (i : ℕ) (o : Option Text) (k : Option KdlIdentifier) → option_map identifier_tree k ≡ option_map plain_identifier o → (x y : Option KdlDocument)
-    → Each (AtNode path (IsDone (ChangeEntry i (change.SetKey k)))) x y → Each (AtNode path (AtEntry i (KeySet o))) x y
-key_set path i o k h = each_entry path i (change.SetKey k) (KeySet o) (λ e. ap (λ x. record e { name = x }) h)
-
-entry_type_set : (path : List ℕ) (i : ℕ) (o : Option Text) (k : Option KdlIdentifier) → option_map identifier_tree k ≡ option_map plain_identifier o → (x y : Option KdlDocument)
-    → Each (AtNode path (IsDone (ChangeEntry i (change.SetType k)))) x y → Each (AtNode path (AtEntry i (TypeSet o))) x y
-entry_type_set path i o k h = each_entry path i (change.SetType k) (TypeSet o) (λ e. ap (λ x. record e { ty = x }) h)
-
-pub type_set : (path : List ℕ) (i : ℕ) (o : Option Text) (k : Option KdlIdentifier) → option_map identifier_tree k ≡ option_map plain_identifier o → (i ≡ 2 ^ 64 - 1 → ⊥) → (x y : Option KdlDocument)
-    → Each (AtNode path (IsDone (ChangeEntry i (change.SetType k)))) x y → Each (AtNode path (TypeSetAt i o)) x y
-type_set path i o k h other x y all =
-    each_at path (AtEntry i (TypeSet o)) (TypeSetAt i o) (λ n m r. ((λ e. absurd (other e)), (λ _. r))) x y (entry_type_set path i o k h x y all)
-
-pub node_type_set : (path : List ℕ) (i : ℕ) (o : Option Text) (k : Option KdlIdentifier) → option_map identifier_tree k ≡ option_map plain_identifier o → i ≡ 2 ^ 64 - 1 → (x y : Option KdlDocument)
-    → Each (AtNode path (IsDone (SetType k))) x y → Each (AtNode path (TypeSetAt i o)) x y
-node_type_set path i o k h last = each_at path (IsDone (SetType k)) (TypeSetAt i o) (λ n m r. ((λ _. (k, h, r)), (λ other. absurd (other last))))
-
-pub entry_inserted : (path : List ℕ) (i : ℕ) (t : Text) (e : KdlEntry) → IsCleared t (entry_tree e) → (x y : Option KdlDocument)
-    → Each (AtNode path (IsDone (InsertEntry i e))) x y → Each (AtNode path (EntryInserted t i)) x y
-entry_inserted path i t e h = each_at path (IsDone (InsertEntry i e)) (EntryInserted t i) (λ n m r. record {
-  given = h.0;
-  laid = h.1;
-  entry = e;
-  is = h.2;
-  place = r.place;
-  entries = r.entries;
-  rest = r.rest;
-})
-
 pub node_named : (path : List ℕ) (t : Text) (w : KdlIdentifier) → identifier_tree w ≡ plain_identifier t → (x y : Option KdlDocument)
     → Each (AtNode path (IsDone (SetName w))) x y → Each (AtNode path (NodeNamed t)) x y
 node_named path t w h = each_at path (IsDone (SetName w)) (NodeNamed t) (λ n m r. (w, h, r))
-
-pub child_inserted : (path : List ℕ) (i : ℕ) (t : Text) (n : KdlNode) → (path ≡ [] → ⊥) → LaidNodeText true t (node_tree n) → (x y : Option KdlDocument)
-    → Each (AtNode path (IsDone (InsertChild i n))) x y → Each (NodeInserted path t i) x y
-child_inserted [] i t n some h x y all = absurd (some refl)
-child_inserted (j ∷ js) i t n some h x y all = each_at (j ∷ js) (IsDone (InsertChild i n)) (ChildInserted t i) (λ k m r. (n, h, r)) x y all
-
-pub first_inserted : (path : List ℕ) (i : ℕ) (t : Text) (n : KdlNode) → path ≡ [] → LaidNodeText true t (node_tree n) → (x y : Option KdlDocument)
-    → Each (NodePut i n) x y → Each (NodeInserted path t i) x y
-first_inserted [] i t n none h = each_as (NodePut i n) (FirstInserted t i) (λ d e r. record { given = n; laid = h; put = r.put; prints = r.prints; says = r.says })
-first_inserted (j ∷ js) i t n none h = absurd (cc)
-
-pub child_removed : (path : List ℕ) (i : ℕ) → (path ≡ [] → ⊥) → (x y : Option KdlDocument) → Each (AtNode path (IsDone (RemoveChild i))) x y → Each (NodeRemoved path i) x y
-child_removed [] i some x y all = absurd (some refl)
-child_removed (j ∷ js) i some x y all = each_at (j ∷ js) (IsDone (RemoveChild i)) (ChildRemoved i) (λ n m r. r) x y all
-
-pub first_removed : (path : List ℕ) (i : ℕ) → path ≡ [] → (x y : Option KdlDocument) → Each (FirstRemoved i) x y → Each (NodeRemoved path i) x y
-first_removed [] i none x y all = all
-first_removed (j ∷ js) i none x y all = absurd (cc)
 
 -- what is not there has no tree
 pub nothing_there : {A B : Type 0} (f : A → B) (o : Option A) (p : Option B) → option_map f o ≡ p → is_some o ≡ false → p ≡ None

@@ -141,14 +141,7 @@ entries_with n v = ap (λ y. y.entries.items) (out-roll-KdlNode (record (out-Kdl
 pub own_entries : (n : KdlNode) (v : Vec KdlEntry Global) → with_entries n v ≡ with_entries n (held_entries (with_entries n v))
 own_entries n v = ap (with_entries n) (sym (ap (λ y. y.entries) (out-roll-KdlNode (record (out-KdlNode n) { entries = v }))))
 
--- a document before it is taken apart, and one level further down
-pub begins : (path : List ℕ) (d : KdlDocument) (o : Opened) → o.above.items ≡ [] → o.block ≡ d → IsOnTheWay path path d o
-begins path d o none is = record {
-  nodes = ap (λ b. nodes_at path (nodes_of b)) is;
-  whole = ap (λ m. plugged m (document_tree o.block)) none ∙ ap document_tree is;
-  changed = λ i x. ap (λ m. plugged m (changed_at (path ++ i ∷ []) (λ _. x) (document_tree o.block))) none ∙ ap (λ b. changed_at (path ++ i ∷ []) (λ _. x) (document_tree b)) is;
-}
-
+-- one level further down
 pub goes_on : (i : ℕ) (rest path : List ℕ) (d : KdlDocument) (o p : Opened) → IsOnTheWay (i ∷ rest) path d o → HasEntered i o p → IsOnTheWay rest path d p
 goes_on i rest path d o p w h = record {
   nodes = sym (ap (option_and_then (nodes_at rest)) (blocks (slice_get (nodes_of o.block) i) ∙ ap (option_map nodes_of) h.block)) ∙ w.nodes;
