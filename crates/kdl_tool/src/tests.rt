@@ -2,6 +2,7 @@
 
 use kdl::{KdlDiagnostic, KdlError, Severity, SourceSpan};
 use std::alloc::{AllocError, Global};
+use std::fmt::Debug;
 use std::io;
 use std::io::{ErrorKind, Read, Write};
 use std::process::Abort;
@@ -9,6 +10,19 @@ use std::rc::RcStr;
 use std::test::Fail;
 use tool::Outcome;
 use watched::Watched;
+
+/// The two values are equal; if not, the message shows both, and the case.
+pub fn equal<T: PartialEq + Debug, C: Debug>(rt: &impl Abort, found: &T, wanted: &T, case: &C) {
+    assert!(rt;
+        *found == *wanted,
+        "{found:?} in place of {wanted:?}: {case:?}"
+    );
+}
+
+/// The condition holds; if not, the message shows the case.
+pub fn holds(rt: &impl Abort, condition: bool, case: &str) {
+    assert!(rt; condition, "{case:?}");
+}
 
 /// Gives its bytes a few at a time, and may fail at one read.
 #[derive(Drop)]
@@ -116,24 +130,29 @@ fn two_faults(alloc: Global) -> Result<KdlError, AllocError> {
 
 /// The outcome has this status and this report. A writer that takes nothing, or fails, gets a beginning of it.
 fn reported(rt: &impl Abort, alloc: Global, outcome: &Outcome, status: u8, text: &str) {
-    assert_eq!(rt; outcome.status(), status, "{text}");
+    equal(rt, &outcome.status(), &status, &text);
     let mut sink = Sink::new(alloc, 1, NEVER);
     let mut writer = Watched::new(&mut sink);
-    assert!(rt; outcome.report(&mut writer), "{text}");
-    assert!(rt; !writer.failed(), "{text}");
-    assert_eq!(rt; sink.bytes.as_slice(), text.as_bytes());
+    holds(rt, outcome.report(&mut writer), text);
+    holds(rt, !writer.failed(), text);
+    equal(rt, &sink.bytes.as_slice(), &text.as_bytes(), &text);
     let mut full = Watched::new(Sink::new(alloc, 0, NEVER));
-    assert_eq!(rt; outcome.report(&mut full), text.is_empty());
-    assert_eq!(rt; full.failed(), !text.is_empty());
+    equal(rt, &outcome.report(&mut full), &text.is_empty(), &"report");
+    equal(rt, &full.failed(), &(!text.is_empty()), &"failed");
 }
 
 /// Of a report of more than three bytes, a writer that fails at the fourth has three.
 fn broken_off(rt: &impl Abort, alloc: Global, outcome: &Outcome, text: &str) {
     let mut broken = Sink::new(alloc, 1, 3);
     let mut writer = Watched::new(&mut broken);
-    assert!(rt; !outcome.report(&mut writer), "{text}");
-    assert!(rt; writer.failed(), "{text}");
-    assert_eq!(rt; Some(broken.bytes.as_slice()), text.as_bytes().get(..3));
+    holds(rt, !outcome.report(&mut writer), text);
+    holds(rt, writer.failed(), text);
+    equal(
+        rt,
+        &Some(broken.bytes.as_slice()),
+        &text.as_bytes().get(..3),
+        &text,
+    );
 }
 
 #[test]
@@ -184,41 +203,41 @@ fn each_report(rt: HostRuntime) {
 fn flags_of_a_reader(rt: HostRuntime) {
     let mut reader = Watched::new(Source::new(b"a", 1, 3));
     let mut one = [0u8; 1];
-    assert_eq!(rt; reader.read(&mut []).ok(), Some(0));
-    assert!(rt; !reader.ended(), "no room");
-    assert_eq!(rt; reader.read(&mut one).ok(), Some(1));
-    assert!(rt; !reader.ended(), "a byte");
-    assert_eq!(rt; reader.read(&mut one).ok(), Some(0));
-    assert!(rt; reader.ended(), "the end");
-    assert!(rt; !reader.failed());
-    assert_eq!(rt; reader.read(&mut one).ok(), None);
-    assert!(rt; reader.failed(), "interrupted");
-    assert!(rt; !reader.ended(), "the last read gave no answer");
-    assert_eq!(rt; reader.read(&mut one).ok(), Some(0));
-    assert!(rt; reader.ended());
-    assert!(rt; reader.failed(), "the flag stays");
+    equal(&rt, &reader.read(&mut []).ok(), &Some(0), &"read");
+    holds(&rt, !reader.ended(), "no room");
+    equal(&rt, &reader.read(&mut one).ok(), &Some(1), &"read");
+    holds(&rt, !reader.ended(), "a byte");
+    equal(&rt, &reader.read(&mut one).ok(), &Some(0), &"read");
+    holds(&rt, reader.ended(), "the end");
+    holds(&rt, !reader.failed(), "failed");
+    equal(&rt, &reader.read(&mut one).ok(), &None, &"read");
+    holds(&rt, reader.failed(), "interrupted");
+    holds(&rt, !reader.ended(), "the last read gave no answer");
+    equal(&rt, &reader.read(&mut one).ok(), &Some(0), &"read");
+    holds(&rt, reader.ended(), "ended");
+    holds(&rt, reader.failed(), "the flag stays");
 }
 
 #[test]
 fn flags_of_a_writer(rt: HostRuntime) {
     let mut writer = Watched::new(Sink::new(rt.alloc(), 1, 2));
-    assert_eq!(rt; writer.write(b"ab").ok(), Some(1));
-    assert_eq!(rt; writer.write(b"").ok(), Some(0));
-    assert!(rt; !writer.failed(), "no byte was there to take");
-    assert_eq!(rt; writer.write(b"b").ok(), None);
-    assert!(rt; writer.failed(), "interrupted");
-    assert_eq!(rt; writer.write(b"b").ok(), Some(1));
-    assert!(rt; writer.flush().is_ok());
-    assert!(rt; writer.failed(), "the flag stays");
-    assert!(rt; !writer.ended());
+    equal(&rt, &writer.write(b"ab").ok(), &Some(1), &"write");
+    equal(&rt, &writer.write(b"").ok(), &Some(0), &"write");
+    holds(&rt, !writer.failed(), "no byte was there to take");
+    equal(&rt, &writer.write(b"b").ok(), &None, &"write");
+    holds(&rt, writer.failed(), "interrupted");
+    equal(&rt, &writer.write(b"b").ok(), &Some(1), &"write");
+    holds(&rt, writer.flush().is_ok(), "flush");
+    holds(&rt, writer.failed(), "the flag stays");
+    holds(&rt, !writer.ended(), "ended");
 }
 
 #[test]
 fn flags_of_a_full_writer(rt: HostRuntime) {
     let mut full = Watched::new(Sink::new(rt.alloc(), 0, NEVER));
-    assert!(rt; full.flush().is_ok());
-    assert!(rt; full.flush().is_err());
-    assert!(rt; !full.failed(), "a flush is no write");
-    assert_eq!(rt; full.write(b"a").ok(), Some(0));
-    assert!(rt; full.failed(), "no byte was taken");
+    holds(&rt, full.flush().is_ok(), "flush");
+    holds(&rt, full.flush().is_err(), "a second flush");
+    holds(&rt, !full.failed(), "a flush is no write");
+    equal(&rt, &full.write(b"a").ok(), &Some(0), &"write");
+    holds(&rt, full.failed(), "no byte was taken");
 }

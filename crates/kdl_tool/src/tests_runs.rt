@@ -1,7 +1,7 @@
 //! Runs of the tool: what comes of words, over readers that give a few bytes at a time or fail, and writers that take a
 //! few or fail.
 
-use crate::tests::{NEVER, Sink, Source};
+use crate::tests::{NEVER, Sink, Source, equal, holds};
 use std::alloc::{AllocError, Global};
 use std::process::Abort;
 use std::test::Fail;
@@ -87,9 +87,9 @@ fn status_of(name: &str) -> u8 {
 /// The outcome has the status of its name, and this report.
 fn reports(rt: &impl Abort, alloc: Global, outcome: &Outcome, report: &str) {
     let mut told = Sink::new(alloc, 16, NEVER);
-    assert!(rt; outcome.report(&mut Watched::new(&mut told)));
-    assert_eq!(rt; told.bytes.as_slice(), report.as_bytes());
-    assert_eq!(rt; outcome.status(), status_of(name_of(outcome)), "{report}");
+    holds(rt, outcome.report(&mut Watched::new(&mut told)), report);
+    equal(rt, &told.bytes.as_slice(), &report.as_bytes(), &report);
+    equal(rt, &outcome.status(), &status_of(name_of(outcome)), &report);
 }
 
 /// Runs the tool, with a writer that takes so many bytes at a time and fails at the write of that number: what comes of
@@ -110,15 +110,15 @@ fn comes_of(
     let outcome = run(alloc, &words, &mut reader, &mut writer);
     let name = name_of(&outcome);
     let flags = (reader.failed(), reader.ended(), writer.failed());
-    assert_eq!(rt; name, wanted.outcome, "{line:?}");
+    equal(rt, &name, &wanted.outcome, &line);
     reports(rt, alloc, &outcome, wanted.report);
     drop(outcome);
     let is_usage = name == "Usage";
-    assert_eq!(rt; flags.0, name == "ReadFailed", "{line:?}");
-    assert_eq!(rt; flags.1, !(is_usage || name == "ReadFailed"), "{line:?}");
-    assert_eq!(rt; flags.2, name == "WriteFailed", "{line:?}");
-    assert_eq!(rt; source.reads == 0, is_usage, "{line:?}");
-    assert_eq!(rt; sink.bytes.as_slice(), wanted.output, "{line:?}");
+    equal(rt, &flags.0, &(name == "ReadFailed"), &line);
+    equal(rt, &flags.1, &(!(is_usage || name == "ReadFailed")), &line);
+    equal(rt, &flags.2, &(name == "WriteFailed"), &line);
+    equal(rt, &(source.reads == 0), &is_usage, &line);
+    equal(rt, &sink.bytes.as_slice(), &wanted.output, &line);
     Ok(())
 }
 
