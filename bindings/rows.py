@@ -1,8 +1,9 @@
 """The rows of crates/rows/data as cases for the tests of the bindings (docs/ROWS.md).
 
-    python3 rows.py FILE    writes each text that is read as a document, and the examples, for test
-                            programs in C: how many there are, and of each a line `KIND LENGTH STRIP
-                            FMT`, the text, and what it is laid out to without and with comments
+    python3 rows.py FILE [N]    writes each text, or each N-th, that is read as a document, and the
+                                examples, for test programs in C: how many there are, and of each a
+                                line `KIND LENGTH STRIP FMT`, the text, and what it is laid out to
+                                without and with comments
 
 KIND is `a` for an accepted text, `r` for a refused one, and `?` where the rows do not say. A length
 is in bytes, and -1 where the rows do not say.
@@ -131,8 +132,8 @@ def kind_of(case: Case) -> str:
     return "a" if any(re.fullmatch(told, it) for it in labels) else "?"
 
 
-def write(path: str) -> None:
-    """Writes the cases for programs in C: how many there are, and each text once."""
+def write(path: str, step: int) -> None:
+    """Writes each step-th of the cases for programs in C: how many there are, and each text once."""
     out = [b"a %d -1 -1\n" % len(text) + text for text in (it.read_bytes() for it in examples())]
     seen = set()
     for case in cases():
@@ -145,8 +146,9 @@ def write(path: str) -> None:
         lengths = [-1 if it is None else len(it) for it in parts]
         line = b"%s %d %d %d\n" % (kind_of(case).encode(), len(text), *lengths)
         out.append(b"".join([line, text, *(it or b"" for it in parts)]))
+    out = out[::step]
     pathlib.Path(path).write_bytes(b"%d\n" % len(out) + b"".join(out))
 
 
 if __name__ == "__main__":
-    write(sys.argv[1])
+    write(sys.argv[1], int([*sys.argv, "1"][2]))

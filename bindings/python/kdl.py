@@ -919,9 +919,11 @@ def _run_on(word: str, name: str, key: str, rewrites: bool) -> int:
             if value is missing:
                 print(f"{name}: no argument of a node {key}", file=sys.stderr)
                 return 1
-            document = Document(dumps([Node("-", [value])])[2:])
+            # as kdl-tool prints a value: after the name of a node, in the library's spelling
+            out = dumps([Node("a", [value])])[2:].encode()
         else:
             document.autoformat(comments=word == "fmt")
+            out = bytes(document)
     except KdlError as error:
         for fault in error.faults:
             sys.stderr.write(_told(name, text, fault))
@@ -929,7 +931,6 @@ def _run_on(word: str, name: str, key: str, rewrites: bool) -> int:
     except UnicodeDecodeError:
         print(f"{name}: not UTF-8", file=sys.stderr)
         return 1
-    out = bytes(document)
     if not rewrites:
         sys.stdout.buffer.write(out)
     elif out != text:
