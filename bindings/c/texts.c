@@ -54,24 +54,6 @@ static bool is_same(const struct kdl_row *a, const uint8_t *as, const struct kdl
            is_text(as + a->text_start, a->text_len, bs + b->text_start, b->text_len);
 }
 
-/* A document's rows, and their strings. */
-struct rows {
-    struct kdl_row *all;
-    uint8_t *strings;
-    size_t count;
-};
-
-static struct rows rows_of(struct kdl_document *d) {
-    struct rows made;
-    made.all = tree(d, &made.count, &made.strings);
-    return made;
-}
-
-static void drop(struct rows *rows) {
-    free(rows->all);
-    free(rows->strings);
-}
-
 /* Both documents have the same data. */
 static bool have_same_data(struct kdl_document *d, struct kdl_document *e) {
     struct rows a = rows_of(d), b = rows_of(e);
@@ -79,16 +61,15 @@ static bool have_same_data(struct kdl_document *d, struct kdl_document *e) {
     for (size_t i = 0; same && i < a.count; i++) {
         same = is_same(&a.all[i], a.strings, &b.all[i], b.strings);
     }
-    drop(&a);
-    drop(&b);
+    drop_rows(&a);
+    drop_rows(&b);
     return same;
 }
 
-/* The rows from `at` on are those of the block at the path, by calls for one node or entry each.
- * It returns the first row after the block. */
+/* The rows from `at` on are those of the block at the path, by calls for one node or entry each,
+ * which write their strings to `s`. It returns the first row after the block. */
 static size_t block(struct kdl_document *d, const struct rows *rows, size_t at, size_t *path,
-                    size_t depth) {
-    static uint8_t s[1 << 16];
+                    size_t depth, uint8_t *s) {
     struct kdl_row row;
     size_t count, entries, len, found;
     CHECK(kdl_node_count(d, path, depth, &count) == KDL_OK);
@@ -96,7 +77,7 @@ static size_t block(struct kdl_document *d, const struct rows *rows, size_t at, 
         const struct kdl_row *node = &rows->all[at++];
         path[depth] = i;
         CHECK(at <= rows->count);
-        CHECK(kdl_node(d, path, depth + 1, &entries, &row, s, sizeof s, &len) == KDL_OK);
+        CHECK(kdl_node(d, path, depth + 1, &entries, &row, s, rows->len, &len) == KDL_OK);
         CHECK(is_same(&row, s, node, rows->strings));
         CHECK(row.start == node->start && row.len == node->len);
         CHECK(kdl_find(d, path, depth, rows->strings + node->name_start, node->name_len, &found) ==
@@ -105,7 +86,7 @@ static size_t block(struct kdl_document *d, const struct rows *rows, size_t at, 
         for (size_t j = 0; j < entries; j++) {
             const struct kdl_row *entry = &rows->all[at++];
             CHECK(at <= rows->count);
-            CHECK(kdl_entry(d, path, depth + 1, j, &row, s, sizeof s, &len) == KDL_OK);
+            CHECK(kdl_entry(d, path, depth + 1, j, &row, s, rows->len, &len) == KDL_OK);
             CHECK(is_same(&row, s, entry, rows->strings));
             CHECK(row.start == entry->start && row.len == entry->len);
             if (entry->kind == KDL_PROPERTY) {
@@ -115,7 +96,7 @@ static size_t block(struct kdl_document *d, const struct rows *rows, size_t at, 
             }
         }
         if (node->has_block) {
-            at = block(d, rows, at, path, depth + 1);
+            at = block(d, rows, at, path, depth + 1, s);
             CHECK(at < rows->count && rows->all[at].kind == KDL_END);
             at++;
         }
@@ -138,9 +119,11 @@ static void rows_agree(struct kdl_document *d) {
     struct rows rows = rows_of(d);
     size_t *path = (size_t *)calloc(depth_of(&rows) + 2, sizeof *path);
     CHECK(path);
-    CHECK(block(d, &rows, 0, path, 0) == rows.count);
+    uint8_t *s = buffer(rows.len);
+    CHECK(block(d, &rows, 0, path, 0, s) == rows.count);
+    free(s);
     free(path);
-    drop(&rows);
+    drop_rows(&rows);
 }
 
 /* Lays the document out by the call, to a text with the same data that stays as it is when it is
@@ -204,8 +187,10 @@ static void refused(const struct text *text) {
         CHECK(!is_continued(text->bytes, text->len, it->start + it->len));
         CHECK(it->message_len > 0 && it->message_start + it->message_len <= len);
         CHECK(it->label_start + it->label_len <= len && it->help_start + it->help_len <= len);
-        CHECK(kdl_position(text->bytes, text->len, it->start, &line, &column) == KDL_OK);
-        CHECK(line >= 1 && column >= 1 && line - 1 <= it->start && column - 1 <= it->start);
+        if (i < 20) { /* each call reads the text from its start */
+            CHECK(kdl_position(text->bytes, text->len, it->start, &line, &column) == KDL_OK);
+            CHECK(line >= 1 && column >= 1 && line - 1 <= it->start && column - 1 <= it->start);
+        }
     }
     free(all);
     free(s);
@@ -315,7 +300,7 @@ static void edited(struct kdl_document *d) {
         row--;
     }
     depth = rows.count ? path_to(&rows, row, path) : 0;
-    drop(&rows);
+    drop_rows(&rows);
     uint8_t *before = printed(d, &len);
     uint32_t status;
     switch (below(8)) {
@@ -356,7 +341,7 @@ static size_t tried_number;
 static void told(void) {
     if (tried.bytes) {
         fprintf(stderr, "the text number %zu, in hexadecimal: ", tried_number);
-        for (size_t i = 0; i < tried.len; i++) {
+        for (size_t i = 0; i < tried.len && i < MOST; i++) {
             fprintf(stderr, "%02x", tried.bytes[i]);
         }
         fputc('\n', stderr);

@@ -349,7 +349,6 @@ def _faults_of(text: bytes, kind: int) -> List[Fault]:
     while True:
         rows = ctypes.create_string_buffer(room * packed.size)
         strings = ctypes.create_string_buffer(length)
-        call = _texts.kdl_faults_of
         begun = (kind, text) if packed is _fault else (text,)
         call = _texts.kdl_faults_of if packed is _fault else _texts.kdl_reports
         status = call(*begun, len(text), rows, room, count, strings, length, used)
@@ -358,7 +357,8 @@ def _faults_of(text: bytes, kind: int) -> List[Fault]:
         if count.value <= room and used.value <= length:
             break
         room, length = max(count.value, 1), max(used.value, 1)
-    part = lambda start, n: strings.raw[start : start + n].decode() if n else None
+    told = strings.raw
+    part = lambda start, n: told[start : start + n].decode() if n else None
     found = list(packed.iter_unpack(memoryview(rows)[: count.value * packed.size]))
     places = _positions(text, [it[0] for it in found])
     return [
@@ -370,14 +370,16 @@ def _faults_of(text: bytes, kind: int) -> List[Fault]:
 
 def _positions(text: bytes, offsets: List[int]) -> Dict[int, Tuple[int, int]]:
     """The line and column of each offset, each counted from the one before."""
-    found = {}
+    found, at, line, column, down, across = {}, 0, 1, 1, _size(), _size()
     base = ctypes.cast(text, _any).value or 0
-    at, line, column, more, further = 0, 1, 1, _size(), _size()
     for offset in sorted(set(offsets)):
-        _check(_texts.kdl_position(base + at, len(text) - at, offset - at, more, further), text)
-        column = further.value if more.value > 1 else column + further.value - 1
-        at, line = offset, line + more.value - 1
-        found[offset] = line, column
+        # A CR LF is one newline, and no part ends inside of it.
+        within = text[offset - 1 : offset + 1] == b"\r\n"
+        _check(_texts.kdl_position(base + at, offset - at + within, offset - at, down, across), text)
+        here = line + down.value - 1, across.value + (column - 1 if down.value == 1 else 0)
+        found[offset] = here
+        if not within:
+            at, (line, column) = offset, here
     return found
 
 
@@ -490,7 +492,7 @@ class Document:
         >>> document = Document.parse("a   0x10; b { c; } // d")
         >>> document.autoformat()
         >>> str(document)
-        'a 0x10\nb {\n    c\n} // d\n'
+        'a 16\nb {\n    c\n} // d\n'
         """
         self._nodes = None
         _check((_lib.kdl_format if comments else _lib.kdl_strip)(self._handle))
@@ -739,7 +741,7 @@ class Document:
         >>> document.autoformat()
         >>> print(document, end="")
         a {
-            c 0x2
+            c 2
         }
         b 1
         """
