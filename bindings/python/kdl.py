@@ -149,7 +149,9 @@ class KdlError(ValueError):
     """A text that is not KDL. `faults` lists its faults, in the order in which it is read."""
 
     def __init__(self, faults: List[Fault]) -> None:
-        super().__init__("; ".join(f"{it.line}:{it.column}: {it.message}" for it in faults))
+        told = [f"{it.line}:{it.column}: {it.message}" for it in faults[:3]]
+        more = [f"and {len(faults) - 3} more"] if len(faults) > 3 else []
+        super().__init__("; ".join(told + more))
         self.faults = faults
 
     def __reduce__(self) -> Any:

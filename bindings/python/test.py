@@ -94,7 +94,7 @@ def has_faults(case, faults, text):
     """Checks what the row says of the faults, and returns how many lines that were."""
     first, found = faults[0], 0
     as_line = lambda it: f"{it.start}..{it.end} {it.message}"
-    for it in faults:
+    for it in faults[:100]:
         assert 0 <= it.start <= it.end <= len(text), case
         text[: it.start].decode() + text[it.start : it.end].decode()
     for label, wanted in case.wanted:
