@@ -246,7 +246,7 @@ static void change(struct text *text, const struct text *bases, size_t count) {
         to = from;
     }
     switch (below(8)) {
-    case 0: splice(text, from, to, copy, 0); break;
+    case 0: splice(text, from, to, T("")); break;
     case 1: splice(text, from, to, T(piece)); break;
     case 2: case 3: case 4: splice(text, from, from, T(piece)); break;
     case 5:
@@ -383,14 +383,28 @@ static struct text read_text(FILE *file, long len) {
     return text;
 }
 
+/* The texts that changes are made of: the accepted ones first. */
+struct bases {
+    struct text *all;
+    size_t count, accepted;
+};
+
+static void keep(struct bases *bases, struct text text, bool is_accepted) {
+    bases->all[bases->count++] = text;
+    if (is_accepted) {
+        bases->all[bases->count - 1] = bases->all[bases->accepted];
+        bases->all[bases->accepted++] = text;
+    }
+}
+
 /* Tries the texts of the file, and keeps those that changes are made of. */
-static size_t try_file(const char *name, struct text **bases) {
+static struct bases try_file(const char *name) {
     FILE *file = fopen(name, "rb");
     CHECK(file);
-    size_t all = 0, kept = 0, texts;
+    size_t all = 0, texts;
     CHECK(fscanf(file, "%zu", &texts) == 1 && fgetc(file) == '\n');
-    *bases = (struct text *)calloc(texts, sizeof **bases);
-    CHECK(*bases);
+    struct bases bases = {(struct text *)calloc(texts, sizeof *bases.all), 0, 0};
+    CHECK(bases.all);
     char kind;
     long len, strip_len, fmt_len;
     while (fscanf(file, "%c %ld %ld %ld", &kind, &len, &strip_len, &fmt_len) == 4) {
@@ -406,35 +420,36 @@ static size_t try_file(const char *name, struct text **bases) {
         free(strip.bytes);
         free(fmt.bytes);
         if (text.len <= BASE && (kind != '?' || all % 8 == 0)) {
-            (*bases)[kept++] = text;
+            keep(&bases, text, is_accepted);
         } else {
             free(text.bytes);
         }
     }
     CHECK(feof(file) && all == texts);
     fclose(file);
-    return kept;
+    return bases;
 }
 
 int main(int argc, char **argv) {
     CHECK(argc == 3);
     atexit(told);
-    struct text *bases, made = {buffer(MOST), 0};
-    size_t count = try_file(argv[1], &bases), accepted_count = 0, n = strtoul(argv[2], NULL, 10);
+    struct bases bases = try_file(argv[1]);
+    struct text made = {buffer(MOST), 0};
+    size_t n = strtoul(argv[2], NULL, 10), accepted_count = 0;
     for (size_t i = 0; i < n; i++) {
-        const struct text *base = &bases[below(count)];
+        const struct text *base = &bases.all[below(i % 2 ? bases.count : bases.accepted)];
         memcpy(made.bytes, base->bytes, base->len);
         made.len = base->len;
         for (size_t changes = 1 + below(3); changes > 0; changes--) {
-            change(&made, bases, count);
+            change(&made, bases.all, bases.count);
         }
         tried_number = i;
         accepted_count += try_text(&made, NULL, NULL, i % 16 == 0);
     }
-    for (size_t i = 0; i < count; i++) {
-        free(bases[i].bytes);
+    for (size_t i = 0; i < bases.count; i++) {
+        free(bases.all[i].bytes);
     }
-    free(bases);
+    free(bases.all);
     free(made.bytes);
     if (n) {
         printf("%zu texts, %zu of them accepted\n", n, accepted_count);
