@@ -221,8 +221,9 @@ uint32_t kdl_remove_entry(struct kdl_document *document, const size_t *path, siz
                           size_t index);
 
 /* Inserts a node, given in KDL, before the one at the index of the document or of the node's
- * block, or as the last where `index` is their number. It gets the newlines that keep it apart
- * from its neighbours. A node without a block gets one. */
+ * block, or as the last where `index` is their number. A node without a block gets one. The text
+ * is inserted as it is, with its spaces and comments, and with newlines only where they keep it
+ * apart from its neighbours: to have a line of its own, "    port 8080\n" says so. */
 uint32_t kdl_insert_node(struct kdl_document *document, const size_t *path, size_t path_len,
                          size_t index, const uint8_t *node, size_t node_len);
 

@@ -605,10 +605,13 @@ class Document:
         _check(status)
         return index.value
 
-    def _node_count(self, path: Tuple[int, ...]) -> int:
+    def _node_count(self, path: Tuple[int, ...], without: int = 0) -> int:
+        """How many nodes the document or the node's block has, or that number without a block."""
         count = _size()
         status = _lib.kdl_node_count(self._handle, *_steps(path), count)
-        _check(status if status != _NOT_FOUND else _OK)
+        if status == _NOT_FOUND:
+            return without
+        _check(status)
         return count.value
 
     def _entry_count(self, path: Tuple[int, ...]) -> int:
@@ -735,21 +738,23 @@ class Document:
     def insert_node(self, path: Path, node: Union[Node, str], index: Optional[int] = None) -> None:
         r"""Inserts a node, or the node of a text in KDL, into the block of the node at the path, or
         into the document where the path is (): before the node at the index, or as the last. A
-        node without a block gets one.
+        node without a block gets one. A `Node` is laid out and indented; a text is inserted as it
+        is, with its spaces and comments.
 
-        >>> document = Document.parse("a\n")
-        >>> document.insert_node((), Node("b", [1]))
-        >>> document.insert_node("a", "c 0x2")
-        >>> document.autoformat()
-        >>> print(document, end="")
+        >>> document = Document.parse("a {\n    b 1 // one\n}\n")
+        >>> document.insert_node("a", Node("c", [2]))
+        >>> document.insert_node((), "/* three */ d 0x3")
+        >>> print(document)
         a {
+            b 1 // one
             c 2
         }
-        b 1
+        /* three */ d 0x3
         """
         at = self.find(path)
-        text = dumps([node]).rstrip("\n") if isinstance(node, Node) else node
-        place = _place(index, self._node_count(at))
+        count = self._node_count(at, -1)
+        place = _place(index, max(count, 0))
+        text = _indented(node, len(at), place, count) if isinstance(node, Node) else node
         self._edit(_lib.kdl_insert_node, at, place, text=_encoded(text), kind=_AS_NODE)
 
     def remove_node(self, path: Path) -> None:
@@ -778,6 +783,14 @@ def _place(index: Optional[int], count: int) -> int:
     if not -count <= operator.index(index) <= count:
         raise IndexError(f"no place at the index {index}")
     return index + count if index < 0 else index
+
+
+def _indented(node: Node, depth: int, place: int, count: int) -> str:
+    """The lines of a node for a place in a block at that depth, which has so many nodes, or -1 where
+    the block is yet to be made."""
+    lines = dumps([node])[:-1].replace("\n", "\n" + "    " * depth)
+    is_first = depth > 0 and place == 0 and count >= 0
+    return ("\n" if is_first else "") + "    " * depth + lines + ("" if is_first and count else "\n")
 
 
 def _spelled(value: Value) -> str:

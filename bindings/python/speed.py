@@ -54,11 +54,12 @@ def main():
     text, as_json = kdl.dumps(nodes), json.dumps(objects, indent=4)
     assert kdl.loads(text) == nodes and json.loads(as_json) == objects
     document = kdl.Document(text)
-    base = {"loads": least(lambda: json.loads(as_json)), "dumps": least(lambda: json.dumps(objects, indent=4))}
+    base = {"loads": least(lambda: json.loads(as_json)), "dumps": least(lambda: json.dumps(objects))}
     rows = [
         ("json.loads", "loads", len(as_json), base["loads"]),
         ("kdl.loads", "loads", len(text), least(lambda: kdl.loads(text))),
-        ("json.dumps", "dumps", len(as_json), base["dumps"]),
+        ("json.dumps", "dumps", len(json.dumps(objects)), base["dumps"]),
+        ("  with indent=4", "dumps", len(as_json), least(lambda: json.dumps(objects, indent=4))),
         ("kdl.dumps", "dumps", len(text), least(lambda: kdl.dumps(nodes))),
         ("Document.parse", "loads", len(text), least(lambda: kdl.Document(text))),
         ("str(document)", "dumps", len(text), least(lambda: str(document))),
