@@ -76,7 +76,7 @@ static void faults(void) {
 static void positions(void) {
     const char *text = "a\r\n\xc3\xa9 b\rc\xe2\x80\xa8" "d\n";
     static const size_t want[][3] = {
-        {0, 1, 1}, {1, 1, 2}, {3, 2, 1}, {5, 2, 2}, {6, 2, 3}, {7, 2, 4},
+        {0, 1, 1}, {1, 1, 2}, {2, 1, 3}, {3, 2, 1}, {5, 2, 2}, {6, 2, 3}, {7, 2, 4},
         {8, 3, 1}, {9, 3, 2}, {12, 4, 1}, {13, 4, 2}, {14, 5, 1},
     };
     size_t line, column;
