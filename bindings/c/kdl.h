@@ -1,0 +1,237 @@
+/* KDL 2 documents from C: the library `kdl`, proved in Rattle.
+ *
+ *     struct kdl_document document = {0};
+ *     if (kdl_parse(text, text_len, &document) == KDL_OK) {
+ *         ...
+ *         kdl_free(&document);
+ *     }
+ *
+ * Each call returns a status, `KDL_OK` or another constant of the enum below, except for kdl_free
+ * and kdl_version.
+ *
+ * Texts. A text is bytes of UTF-8 and a length, without a NUL. A call that writes a text takes a
+ * buffer of the caller, `room` bytes long, and sets `*needed` (or `*.._len`) to the whole length.
+ * Where that is more than `room`, it returns KDL_TOO_SMALL: call again with that much room. No
+ * call keeps a pointer that it was given, and none returns a pointer.
+ *
+ * Ownership. A `struct kdl_document` belongs to the caller and begins as {0}, without a document.
+ * kdl_parse puts a document in and frees the one before; kdl_free frees it, and may be called
+ * twice. What the struct holds belongs to the library: never write into it, never copy a struct
+ * that has a document, and free each one before its storage ends. The memory comes from the
+ * program's malloc, realloc and free, which have to align to 16 bytes.
+ *
+ * Threads. A call on a document takes the document out of the struct while it runs, even where it
+ * only reads: make one call at a time on each document. Different documents may be used on
+ * different threads at the same time. Make no call from a signal handler, nor in the forked child
+ * of a process with threads.
+ *
+ * Pointers. Each pointer is valid, aligned and, unless it is an input, shared with no other
+ * argument of the call, even where its length is 0: pass the address of any object then, never
+ * NULL. The bytes of an argument are at most PTRDIFF_MAX. No call checks any of this.
+ */
+#ifndef KDL_H
+#define KDL_H
+#include <stdbool.h>
+#include <stddef.h>
+#include <stdint.h>
+#ifdef __cplusplus
+extern "C" {
+#endif
+
+/* The number of this interface. A later library with the same calls and structs, or more of them,
+ * returns the same number or a larger one from kdl_version. */
+#define KDL_VERSION 1
+uint32_t kdl_version(void);
+
+/* Statuses. */
+enum {
+    KDL_OK = 0,
+    KDL_FAULTS = 1,        /* the text has faults: kdl_faults and kdl_reports list them */
+    KDL_NOT_UTF8 = 2,      /* the text is not UTF-8 */
+    KDL_OUT_OF_MEMORY = 3, /* a request for memory was refused */
+    KDL_TOO_SMALL = 4,     /* a buffer has too little room; the counts say how much it takes */
+    KDL_NO_DOCUMENT = 5,   /* the struct has no document */
+    KDL_NOT_FOUND = 6      /* no node is at the path, or no entry is at the index */
+};
+
+struct kdl_document { bool live; void *at; };
+
+/* ---- Documents ---- */
+
+/* Parses a text into `document`, and frees the document that was there. The document keeps every
+ * byte of the text. After another status than KDL_OK the struct has what it had before. */
+uint32_t kdl_parse(const uint8_t *text, size_t text_len, struct kdl_document *document);
+
+/* Frees the document. A struct without one stays as it is. */
+void kdl_free(struct kdl_document *document);
+
+/* Writes the text of the document: of a document that was only parsed, the text that was read. */
+uint32_t kdl_print(struct kdl_document *document, uint8_t *out, size_t room, size_t *needed);
+
+/* Lays the document out, with its comments. Its data stay as they are, also where memory runs out;
+ * then a part of the document may be laid out. */
+uint32_t kdl_format(struct kdl_document *document);
+
+/* The same without comments. Two documents print the same text then exactly where they have the
+ * same data. */
+uint32_t kdl_strip(struct kdl_document *document);
+
+/* Parses a text, and writes it as kdl_format lays it out. */
+uint32_t kdl_format_text(const uint8_t *text, size_t text_len,
+                         uint8_t *out, size_t room, size_t *needed);
+
+/* ---- Faults ---- */
+
+/* A fault: bytes start .. start + len of the text, and a message, in bytes of `strings`. */
+struct kdl_fault { size_t start, len, message_start, message_len; };
+
+/* Lists the faults of a text, in the order in which it is read: KDL_FAULTS where there are some,
+ * KDL_OK where there are none. `*count` and `*strings_len` are set to the whole counts. Where one
+ * of them is more than its room, the rest is missing: call again with that much room, and read
+ * nothing before. Each fault lies in the text, between characters. */
+uint32_t kdl_faults(const uint8_t *text, size_t text_len,
+                    struct kdl_fault *faults, size_t room, size_t *count,
+                    uint8_t *strings, size_t strings_room, size_t *strings_len);
+
+/* How kdl_faults_of reads a text: as the calls kdl_parse, kdl_insert_node, kdl_insert_entry and
+ * kdl_set_value do. */
+enum { KDL_AS_DOCUMENT = 0, KDL_AS_NODE = 1, KDL_AS_ENTRY = 2, KDL_AS_VALUE = 3 };
+
+/* The same of a text that is read as `kind` says. KDL_NOT_FOUND where there is no such kind. */
+uint32_t kdl_faults_of(uint32_t kind, const uint8_t *text, size_t text_len,
+                       struct kdl_fault *faults, size_t room, size_t *count,
+                       uint8_t *strings, size_t strings_room, size_t *strings_len);
+
+/* A fault with all that is said of it: its message, a label for its place, and a help. A label or
+ * help that it lacks has the length 0. */
+struct kdl_report {
+    size_t start, len;
+    size_t message_start, message_len;
+    size_t label_start, label_len;
+    size_t help_start, help_len;
+};
+
+/* As kdl_faults, with labels and helps. */
+uint32_t kdl_reports(const uint8_t *text, size_t text_len,
+                     struct kdl_report *reports, size_t room, size_t *count,
+                     uint8_t *strings, size_t strings_room, size_t *strings_len);
+
+/* The line and column of a byte of the text, both from 1, by the newlines of KDL (CR LF is one)
+ * and in characters. The end of the text has a position too. KDL_NOT_FOUND for an offset after the
+ * end or inside of a character, KDL_NOT_UTF8 for another text. */
+uint32_t kdl_position(const uint8_t *text, size_t text_len, size_t offset,
+                      size_t *line, size_t *column);
+
+/* ---- Reading ---- */
+
+/* Kinds of rows, and of values. */
+enum { KDL_NODE = 1, KDL_ARGUMENT = 2, KDL_PROPERTY = 3, KDL_END = 4 };
+enum {
+    KDL_NO_VALUE = 0,      /* of a node, and of an end */
+    KDL_STRING = 1,        /* its text */
+    KDL_INTEGER = 2,       /* in `integer` */
+    KDL_LARGE_INTEGER = 3, /* beyond 64 bits: its decimal text, of at most 40 bytes */
+    KDL_FLOAT = 4,         /* its text as it was spelled, without '_': 1.5e3, #inf, #-inf, #nan */
+    KDL_BOOL = 5,          /* 0 or 1 in `integer` */
+    KDL_NULL = 6
+};
+
+/* A node, an entry, or the end of a node's block. Each text is bytes of `strings`. */
+struct kdl_row {
+    uint32_t kind, value;
+    uint32_t has_type;     /* 1 where it has a type, which may be empty */
+    uint32_t has_block;    /* of a node: 1 where it has a block of children, which may be empty */
+    int64_t integer;
+    size_t name_start, name_len; /* the name of a node, or the key of a property */
+    size_t type_start, type_len;
+    size_t text_start, text_len;
+    size_t start, len;     /* its place in the text that was read, in bytes; 0, 0 of an end */
+};
+
+/* Writes the whole document as rows: each node, its entries, and, where it has a block, the rows
+ * of its children and an end. Both counts are set to the whole counts. After KDL_OK all is
+ * written; after KDL_TOO_SMALL read nothing but the counts. A text of n bytes has at most n rows,
+ * and at most n bytes of strings where its numbers fit into 64 bits; n / 6 rows and n bytes are a
+ * good first guess. */
+uint32_t kdl_tree(struct kdl_document *document,
+                  struct kdl_row *rows, size_t room, size_t *row_count,
+                  uint8_t *strings, size_t strings_room, size_t *strings_len);
+
+/* Paths. A path is indices from 0: of a node in the document, of a node in that one's block, and
+ * so on. The empty path is the document, where a call speaks of the nodes in a document or block:
+ * kdl_node_count, kdl_find, kdl_insert_node, kdl_remove_node. */
+
+/* How many nodes are in the document or in the node's block. KDL_NOT_FOUND for a node without a
+ * block. */
+uint32_t kdl_node_count(struct kdl_document *document, const size_t *path, size_t path_len,
+                        size_t *count);
+
+/* The row of a node, and how many entries it has. */
+uint32_t kdl_node(struct kdl_document *document, const size_t *path, size_t path_len,
+                  size_t *entry_count, struct kdl_row *row,
+                  uint8_t *strings, size_t strings_room, size_t *strings_len);
+
+/* The row of an entry. Arguments and properties are counted together, from 0. */
+uint32_t kdl_entry(struct kdl_document *document, const size_t *path, size_t path_len,
+                   size_t index, struct kdl_row *row,
+                   uint8_t *strings, size_t strings_room, size_t *strings_len);
+
+/* The index of the first node of that name in the document or in the node's block. */
+uint32_t kdl_find(struct kdl_document *document, const size_t *path, size_t path_len,
+                  const uint8_t *name, size_t name_len, size_t *index);
+
+/* The index of the last property of that key: the one that counts in KDL. */
+uint32_t kdl_find_entry(struct kdl_document *document, const size_t *path, size_t path_len,
+                        const uint8_t *name, size_t name_len, size_t *index);
+
+/* The row of the first argument of the first node of that name in the document. */
+uint32_t kdl_get(struct kdl_document *document, const uint8_t *name, size_t name_len,
+                 struct kdl_row *row, uint8_t *strings, size_t strings_room, size_t *strings_len);
+
+/* ---- Edits ---- */
+
+/* An edit changes what it says, and no other byte of the text. After another status than KDL_OK
+ * the document is as it was. */
+
+/* Sets the value of an entry, and its spelling, both from a text in KDL: "a b", 0x10, #true. The
+ * text is a value alone, without a key or a type. */
+uint32_t kdl_set_value(struct kdl_document *document, const size_t *path, size_t path_len,
+                       size_t index, const uint8_t *value, size_t value_len);
+
+/* Sets the key of an entry, or takes it away where `has_key` is 0. The key is the string itself,
+ * not its spelling. */
+uint32_t kdl_set_key(struct kdl_document *document, const size_t *path, size_t path_len,
+                     size_t index, uint32_t has_key, const uint8_t *key, size_t key_len);
+
+/* Sets the type of an entry, or of the node where `index` is SIZE_MAX; takes it away where
+ * `has_type` is 0. */
+uint32_t kdl_set_type(struct kdl_document *document, const size_t *path, size_t path_len,
+                      size_t index, uint32_t has_type, const uint8_t *type, size_t type_len);
+
+/* Sets the name of a node. */
+uint32_t kdl_set_name(struct kdl_document *document, const size_t *path, size_t path_len,
+                      const uint8_t *name, size_t name_len);
+
+/* Inserts an entry, given in KDL as 8080 or port=(u16)8080, before the one at the index, or as the
+ * last where `index` is their number. It is printed after one space, in the library's spelling. */
+uint32_t kdl_insert_entry(struct kdl_document *document, const size_t *path, size_t path_len,
+                          size_t index, const uint8_t *entry, size_t entry_len);
+
+uint32_t kdl_remove_entry(struct kdl_document *document, const size_t *path, size_t path_len,
+                          size_t index);
+
+/* Inserts a node, given in KDL, before the one at the index of the document or of the node's
+ * block, or as the last where `index` is their number. A node without a block gets one. The text
+ * is inserted as it is, with its spaces and comments, and with newlines only where they keep it
+ * apart from its neighbours: to have a line of its own, "    port 8080\n" says so. */
+uint32_t kdl_insert_node(struct kdl_document *document, const size_t *path, size_t path_len,
+                         size_t index, const uint8_t *node, size_t node_len);
+
+/* Removes the node at the index of the document or of the node's block. */
+uint32_t kdl_remove_node(struct kdl_document *document, const size_t *path, size_t path_len,
+                         size_t index);
+
+#ifdef __cplusplus
+}
+#endif
+#endif

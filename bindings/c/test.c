@@ -1,0 +1,456 @@
+/* Each call from C: what it writes and returns, with buffers of every size, on paths that lead
+ * nowhere, on a struct without a document, on deep blocks, and on six threads. */
+#include "check.h"
+#include <pthread.h>
+
+static const char *const sample =
+    "(t)a  0x10 \"k\" = #true // c\nb { c 99999999999999999999; }\n";
+
+static void documents(void) {
+    struct kdl_document d = none();
+    size_t len;
+    uint8_t out[64];
+    CHECK(kdl_version() == KDL_VERSION);
+    CHECK(kdl_parse((const uint8_t *)"\xff", 1, &d) == KDL_NOT_UTF8 && !d.live);
+    CHECK(kdl_parse(T("a }"), &d) == KDL_FAULTS && !d.live);
+    CHECK(kdl_parse(T(sample), &d) == KDL_OK && d.live);
+    prints(&d, sample);
+    /* what is refused leaves the document */
+    CHECK(kdl_parse(T("a }\nb #treu\n"), &d) == KDL_FAULTS && d.live);
+    CHECK(kdl_parse((const uint8_t *)"a \xc3", 3, &d) == KDL_NOT_UTF8 && d.live);
+    prints(&d, sample);
+    CHECK(kdl_format(&d) == KDL_OK);
+    prints(&d, "(t)a 16 k=#true // c\nb {\n    c 99999999999999999999\n}\n");
+    CHECK(kdl_strip(&d) == KDL_OK);
+    prints(&d, "(t)a 16 k=#true\nb {\n    c 99999999999999999999\n}\n");
+    /* another document in its place */
+    CHECK(kdl_parse(T("x"), &d) == KDL_OK);
+    prints(&d, "x");
+    kdl_free(&d);
+    CHECK(!d.live);
+    kdl_free(&d);
+    CHECK(kdl_format_text(T("a   0x1"), out, sizeof out, &len) == KDL_OK);
+    CHECK(is_text(out, len, T("a 1\n")));
+    CHECK(kdl_format_text(T("a }"), out, sizeof out, &len) == KDL_FAULTS && len == 0);
+    CHECK(kdl_format_text((const uint8_t *)"\x80", 1, out, sizeof out, &len) == KDL_NOT_UTF8);
+}
+
+static void faults(void) {
+    const char *text = "a }\nb #treu\n";
+    struct kdl_fault f[4];
+    size_t count, len;
+    uint8_t s[256];
+    CHECK(kdl_faults(T(text), f, 4, &count, s, sizeof s, &len) == KDL_FAULTS && count == 2);
+    CHECK(f[0].start == 2 && f[0].len == 1 && f[1].start == 6 && f[1].len == 5);
+    CHECK(is_text(s + f[1].message_start, f[1].message_len, T("Expected keyword")));
+    CHECK(kdl_faults(T(text), f, 0, &count, s, 0, &len) == KDL_FAULTS && count == 2 && len > 16);
+    CHECK(kdl_faults(T("a"), f, 4, &count, s, sizeof s, &len) == KDL_OK && !count && !len);
+    CHECK(kdl_faults(T(""), f, 4, &count, s, sizeof s, &len) == KDL_OK && !count && !len);
+    CHECK(kdl_faults((const uint8_t *)"\xff", 1, f, 4, &count, s, 9, &len) == KDL_NOT_UTF8);
+
+    struct kdl_report r[4];
+    CHECK(kdl_reports(T("{}"), r, 4, &count, s, sizeof s, &len) == KDL_FAULTS && count == 1);
+    CHECK(r[0].start == 0 && r[0].len == 1);
+    CHECK(is_text(s + r[0].message_start, r[0].message_len,
+                  T("Found child block instead of node name")));
+    CHECK(is_text(s + r[0].label_start, r[0].label_len, T("not node name")));
+    CHECK(r[0].help_len > 20 && r[0].help_start + r[0].help_len == len);
+    CHECK(kdl_reports(T("a"), r, 4, &count, s, sizeof s, &len) == KDL_OK && !count && !len);
+    CHECK(kdl_reports(T(text), r, 0, &count, s, 0, &len) == KDL_FAULTS && count == 2 && len > 16);
+
+    /* of what an edit is given */
+    CHECK(kdl_faults_of(KDL_AS_DOCUMENT, T(text), f, 4, &count, s, sizeof s, &len) == KDL_FAULTS);
+    CHECK(count == 2 && f[1].start == 6);
+    CHECK(kdl_faults_of(KDL_AS_NODE, T("a 1"), f, 4, &count, s, sizeof s, &len) == KDL_OK);
+    CHECK(kdl_faults_of(KDL_AS_NODE, T("a; b"), f, 4, &count, s, sizeof s, &len) == KDL_FAULTS);
+    CHECK(kdl_faults_of(KDL_AS_ENTRY, T("k=1"), f, 4, &count, s, sizeof s, &len) == KDL_OK);
+    CHECK(kdl_faults_of(KDL_AS_ENTRY, T("1 2"), f, 4, &count, s, sizeof s, &len) == KDL_FAULTS);
+    CHECK(count && f[0].start >= 1 && f[0].start + f[0].len <= 3);
+    CHECK(kdl_faults_of(KDL_AS_VALUE, T("0x10"), f, 4, &count, s, sizeof s, &len) == KDL_OK);
+    CHECK(kdl_faults_of(KDL_AS_VALUE, T("k=1"), f, 4, &count, s, sizeof s, &len) == KDL_FAULTS);
+    CHECK(count && f[0].start + f[0].len <= 3);
+    CHECK(kdl_faults_of(KDL_AS_VALUE, T("(t)1"), f, 4, &count, s, sizeof s, &len) == KDL_FAULTS);
+    CHECK(kdl_faults_of(4, T("a"), f, 4, &count, s, sizeof s, &len) == KDL_NOT_FOUND);
+}
+
+static void positions(void) {
+    const char *text = "a\r\n\xc3\xa9 b\rc\xe2\x80\xa8" "d\n";
+    static const size_t want[][3] = {
+        {0, 1, 1}, {1, 1, 2}, {2, 1, 3}, {3, 2, 1}, {5, 2, 2}, {6, 2, 3}, {7, 2, 4},
+        {8, 3, 1}, {9, 3, 2}, {12, 4, 1}, {13, 4, 2}, {14, 5, 1},
+    };
+    size_t line, column;
+    CHECK(strlen(text) == 14);
+    for (size_t i = 0; i < sizeof want / sizeof *want; i++) {
+        CHECK(kdl_position(T(text), want[i][0], &line, &column) == KDL_OK);
+        CHECK(line == want[i][1] && column == want[i][2]);
+    }
+    CHECK(kdl_position(T(text), 4, &line, &column) == KDL_NOT_FOUND);
+    CHECK(kdl_position(T(text), 11, &line, &column) == KDL_NOT_FOUND);
+    CHECK(kdl_position(T(text), 15, &line, &column) == KDL_NOT_FOUND);
+    CHECK(kdl_position(T(text), SIZE_MAX, &line, &column) == KDL_NOT_FOUND);
+    CHECK(kdl_position(T(""), 0, &line, &column) == KDL_OK && line == 1 && column == 1);
+    CHECK(kdl_position((const uint8_t *)"\xff", 1, 0, &line, &column) == KDL_NOT_UTF8);
+}
+
+static void reading(void) {
+    struct kdl_document d = none();
+    struct kdl_row row, rows[16];
+    size_t n, m, path[3] = {1, 0, 0};
+    uint8_t s[64];
+    CHECK(kdl_parse(T(sample), &d) == KDL_OK);
+    CHECK(kdl_node_count(&d, path, 0, &m) == KDL_OK && m == 2);
+    CHECK(kdl_node_count(&d, path, 1, &m) == KDL_OK && m == 1);
+    CHECK(kdl_node(&d, path, 2, &m, &row, s, sizeof s, &n) == KDL_OK && m == 1);
+    CHECK(row.kind == KDL_NODE && row.value == KDL_NO_VALUE && is_text(s, n, T("c")));
+    CHECK(!row.has_type && !row.has_block && row.start == 33 - 1);
+    CHECK(kdl_entry(&d, path, 2, 0, &row, s, sizeof s, &n) == KDL_OK);
+    CHECK(row.kind == KDL_ARGUMENT && row.value == KDL_LARGE_INTEGER);
+    CHECK(is_text(s + row.text_start, row.text_len, T("99999999999999999999")));
+    path[0] = 0;
+    CHECK(kdl_entry(&d, path, 1, 1, &row, s, sizeof s, &n) == KDL_OK && row.kind == KDL_PROPERTY);
+    CHECK(row.value == KDL_BOOL && row.integer == 1 && is_text(s, n, T("k")));
+    CHECK(kdl_tree(&d, rows, 16, &m, s, sizeof s, &n) == KDL_OK && m == 7 && n == 25);
+    CHECK(rows[0].has_type && s[rows[0].type_start] == 't' && rows[0].type_len == 1);
+    CHECK(rows[1].integer == 16 && rows[3].has_block && rows[6].kind == KDL_END);
+    /* look-ups */
+    CHECK(kdl_find(&d, path, 0, T("b"), &n) == KDL_OK && n == 1);
+    path[0] = 1;
+    CHECK(kdl_find(&d, path, 1, T("c"), &n) == KDL_OK && n == 0);
+    CHECK(kdl_find(&d, path, 1, T("b"), &n) == KDL_NOT_FOUND);
+    path[0] = 0;
+    CHECK(kdl_find_entry(&d, path, 1, T("k"), &n) == KDL_OK && n == 1);
+    CHECK(kdl_find_entry(&d, path, 1, T("x"), &n) == KDL_NOT_FOUND);
+    CHECK(kdl_get(&d, T("a"), &row, s, sizeof s, &n) == KDL_OK && row.integer == 16);
+    CHECK(kdl_get(&d, T("b"), &row, s, sizeof s, &n) == KDL_NOT_FOUND);
+    CHECK(kdl_get(&d, T("c"), &row, s, sizeof s, &n) == KDL_NOT_FOUND);
+    /* of two of a name the first node, and the last property */
+    CHECK(kdl_parse(T("n k=1 k=2 k=3 4; n 5"), &d) == KDL_OK);
+    CHECK(kdl_find(&d, path, 0, T("n"), &n) == KDL_OK && n == 0);
+    CHECK(kdl_find_entry(&d, path, 1, T("k"), &n) == KDL_OK && n == 2);
+    CHECK(kdl_get(&d, T("n"), &row, s, sizeof s, &n) == KDL_OK && row.integer == 4);
+    CHECK(row.kind == KDL_ARGUMENT && row.start == 14 && row.len == 1);
+    kdl_free(&d);
+}
+
+static void values(void) {
+    const char *text = "v \"a\\u{0}b\" \"\" -9223372036854775808 9223372036854775807 "
+                       "9223372036854775808 1_0.50e+3 #inf #-inf #nan #true #false #null (\"\")1";
+    static const uint32_t want[] = {
+        KDL_STRING, KDL_STRING, KDL_INTEGER, KDL_INTEGER, KDL_LARGE_INTEGER, KDL_FLOAT, KDL_FLOAT,
+        KDL_FLOAT, KDL_FLOAT, KDL_BOOL, KDL_BOOL, KDL_NULL, KDL_INTEGER,
+    };
+    static const char *const texts[] = {
+        0, "", 0, 0, "9223372036854775808", "10.50e+3", "#inf", "#-inf", "#nan",
+    };
+    struct kdl_document d = none();
+    CHECK(kdl_parse(T(text), &d) == KDL_OK);
+    struct rows rows = rows_of(&d);
+    CHECK(rows.count == 14);
+    for (size_t i = 0; i < 13; i++) {
+        const struct kdl_row *it = &rows.all[i + 1];
+        CHECK(it->kind == KDL_ARGUMENT && it->value == want[i]);
+        CHECK(it->has_type == (i == 12) && it->type_len == 0 && it->name_len == 0);
+        if (i < 9 && texts[i]) {
+            CHECK(is_text(rows.strings + it->text_start, it->text_len, T(texts[i])));
+        }
+    }
+    const struct kdl_row *it = rows.all;
+    CHECK(is_text(rows.strings + it[1].text_start, it[1].text_len, (const uint8_t *)"a\0b", 3));
+    CHECK(it[3].integer == INT64_MIN && it[4].integer == INT64_MAX);
+    CHECK(it[10].integer == 1 && it[11].integer == 0);
+    drop_rows(&rows);
+    kdl_free(&d);
+}
+
+static void edits(void) {
+    struct kdl_document d = none();
+    size_t path[3] = {0, 0, 0};
+    CHECK(kdl_parse(T(sample), &d) == KDL_OK);
+    CHECK(kdl_set_value(&d, path, 1, 0, T("0x_")) == KDL_FAULTS);
+    CHECK(kdl_set_value(&d, path, 1, 0, T("k=1")) == KDL_FAULTS);
+    CHECK(kdl_set_value(&d, path, 1, 0, T("(t)1")) == KDL_FAULTS);
+    CHECK(kdl_set_value(&d, path, 1, 0, (const uint8_t *)"\xff", 1) == KDL_NOT_UTF8);
+    CHECK(kdl_insert_entry(&d, path, 1, 0, T("a b")) == KDL_FAULTS);
+    CHECK(kdl_insert_node(&d, path, 0, 0, T("a; b")) == KDL_FAULTS);
+    prints(&d, sample);
+    CHECK(kdl_set_value(&d, path, 1, 0, T("0x11")) == KDL_OK);
+    prints(&d, "(t)a  0x11 \"k\" = #true // c\nb { c 99999999999999999999; }\n");
+    CHECK(kdl_insert_entry(&d, path, 1, 1, T("/* x */ p=(u8)0x20")) == KDL_OK);
+    prints(&d, "(t)a  0x11 p=(u8)32 \"k\" = #true // c\nb { c 99999999999999999999; }\n");
+    CHECK(kdl_remove_entry(&d, path, 1, 0) == KDL_OK);
+    prints(&d, "(t)a p=(u8)32 \"k\" = #true // c\nb { c 99999999999999999999; }\n");
+    CHECK(kdl_set_key(&d, path, 1, 0, 1, T("q r")) == KDL_OK);
+    CHECK(kdl_set_type(&d, path, 1, 0, 1, T("i8")) == KDL_OK);
+    CHECK(kdl_set_type(&d, path, 1, SIZE_MAX, 1, T("u")) == KDL_OK);
+    CHECK(kdl_set_name(&d, path, 1, T("a a")) == KDL_OK);
+    prints(&d, "(u)\"a a\" \"q r\"=(i8)32 \"k\" = #true // c\nb { c 99999999999999999999; }\n");
+    CHECK(kdl_set_key(&d, path, 1, 0, 0, T("")) == KDL_OK);
+    CHECK(kdl_set_type(&d, path, 1, 0, 0, T("")) == KDL_OK);
+    CHECK(kdl_set_type(&d, path, 1, SIZE_MAX, 0, T("")) == KDL_OK);
+    prints(&d, "\"a a\" 32 \"k\" = #true // c\nb { c 99999999999999999999; }\n");
+    CHECK(kdl_remove_node(&d, path, 0, 0) == KDL_OK);
+    prints(&d, "b { c 99999999999999999999; }\n");
+    kdl_free(&d);
+}
+
+/* Nodes that are inserted read back beside their neighbours. */
+static void nodes(void) {
+    static const char *const texts[] = {"", "a", "a\n", "a;b", "a // c", "a { b }", "a {b}", "a\\\n"};
+    static const char *const want[] = {"x 1", "a", "b"};
+    for (size_t i = 0; i < sizeof texts / sizeof *texts; i++) {
+        struct kdl_document d = none();
+        struct kdl_row row;
+        size_t n, len, count, at;
+        uint8_t s[16];
+        CHECK(kdl_parse(T(texts[i]), &d) == KDL_OK);
+        CHECK(kdl_node_count(&d, &n, 0, &count) == KDL_OK);
+        for (at = 0; at <= count; at++) {
+            CHECK(kdl_insert_node(&d, &at, 0, 2 * at, T(want[0])) == KDL_OK);
+        }
+        at = 0;
+        CHECK(kdl_insert_node(&d, &at, 0, 2 * count + 2, T("y")) == KDL_NOT_FOUND);
+        CHECK(kdl_insert_node(&d, &at, 1, 0, T("y { z }")) == KDL_OK); /* makes the block */
+        uint8_t *text = printed(&d, &len);
+        CHECK(kdl_parse(text, len, &d) == KDL_OK);
+        CHECK(kdl_node_count(&d, &n, 0, &n) == KDL_OK && n == 2 * count + 1);
+        for (at = 0; at <= count; at++) {
+            size_t place = 2 * at;
+            CHECK(kdl_node(&d, &place, 1, &n, &row, s, sizeof s, &len) == KDL_OK && n == 1);
+            CHECK(is_text(s, len, T("x")) && row.has_block == (at == 0));
+        }
+        size_t path[2] = {0, 0};
+        CHECK(kdl_node(&d, path, 2, &n, &row, s, sizeof s, &len) == KDL_OK && row.has_block);
+        free(text);
+        kdl_free(&d);
+    }
+}
+
+/* A call that writes, by its number: with so much room for rows or faults and for strings, into
+ * buffers of exactly that size. It returns the status, and the counts. */
+enum { WRITERS = 9 };
+static uint32_t writes(int which, struct kdl_document *d, size_t room, size_t bytes, size_t *count,
+                       size_t *len) {
+    const char *bad = "a }\nb #treu\n";
+    size_t path[1] = {0}, entries;
+    uint8_t *s = buffer(bytes);
+    void *rows = buffer(room * sizeof(struct kdl_row));
+    struct kdl_row row;
+    uint32_t status = KDL_OK;
+    *count = 0;
+    switch (which) {
+    case 0: status = kdl_print(d, s, bytes, len); break;
+    case 1: status = kdl_format_text(T(sample), s, bytes, len); break;
+    case 2: status = kdl_tree(d, (struct kdl_row *)rows, room, count, s, bytes, len); break;
+    case 3: status = kdl_node(d, path, 1, &entries, &row, s, bytes, len); break;
+    case 4: status = kdl_entry(d, path, 1, 1, &row, s, bytes, len); break;
+    case 5: status = kdl_get(d, T("s"), &row, s, bytes, len); break;
+    case 6: status = kdl_faults(T(bad), (struct kdl_fault *)rows, room, count, s, bytes, len); break;
+    case 7: status = kdl_reports(T(bad), (struct kdl_report *)rows, room, count, s, bytes, len); break;
+    default:
+        status = kdl_faults_of(KDL_AS_NODE, T(bad), (struct kdl_fault *)rows, room, count, s, bytes,
+                               len);
+    }
+    free(rows);
+    free(s);
+    return status;
+}
+
+static void rooms(void) {
+    struct kdl_document d = none();
+    CHECK(kdl_parse(T("(t)a  0x10 \"k\" = #true { b; }\ns \"long text\" // c\n"), &d) == KDL_OK);
+    for (int which = 0; which < WRITERS; which++) {
+        size_t count, len, all, whole;
+        uint32_t fits = which < 6 ? KDL_OK : KDL_FAULTS, small = which < 6 ? KDL_TOO_SMALL : KDL_FAULTS;
+        CHECK(writes(which, &d, 100, 1000, &all, &whole) == fits && whole > 0);
+        const size_t bytes[] = {0, 1, whole - 1, whole}, rows[] = {0, 1, all ? all - 1 : 0, all};
+        for (int i = 0; i < 16; i++) {
+            size_t room = rows[i / 4], size = bytes[i % 4];
+            uint32_t status = writes(which, &d, room, size, &count, &len);
+            CHECK(status == (room >= all && size >= whole ? fits : small));
+            CHECK(count == all && len == whole);
+        }
+    }
+    kdl_free(&d);
+}
+
+static void empties(void) {
+    struct kdl_document d = none();
+    struct kdl_row row;
+    size_t n, m, path[1] = {0};
+    uint8_t s[8];
+    CHECK(kdl_parse(T(""), &d) == KDL_OK && d.live);
+    prints(&d, "");
+    CHECK(kdl_tree(&d, &row, 0, &m, s, 0, &n) == KDL_OK && !m && !n);
+    CHECK(kdl_node_count(&d, path, 0, &m) == KDL_OK && !m);
+    CHECK(kdl_find(&d, path, 0, T(""), &n) == KDL_NOT_FOUND);
+    CHECK(kdl_remove_node(&d, path, 0, 0) == KDL_NOT_FOUND);
+    CHECK(kdl_insert_node(&d, path, 0, 0, T("")) == KDL_FAULTS);
+    CHECK(kdl_insert_node(&d, path, 0, 0, T("\"\"")) == KDL_OK);
+    CHECK(kdl_insert_entry(&d, path, 1, 0, T("")) == KDL_FAULTS);
+    CHECK(kdl_insert_entry(&d, path, 1, 0, T("\"\"=\"\"")) == KDL_OK);
+    CHECK(kdl_set_value(&d, path, 1, 0, T("")) == KDL_FAULTS);
+    CHECK(kdl_find(&d, path, 0, T(""), &n) == KDL_OK && n == 0);
+    CHECK(kdl_find_entry(&d, path, 1, T(""), &n) == KDL_OK && n == 0);
+    CHECK(kdl_set_type(&d, path, 1, 0, 1, T("")) == KDL_OK);
+    CHECK(kdl_entry(&d, path, 1, 0, &row, s, 0, &n) == KDL_OK && !n && row.has_type);
+    CHECK(row.kind == KDL_PROPERTY && row.value == KDL_STRING);
+    CHECK(kdl_format(&d) == KDL_OK);
+    prints(&d, "\"\" \"\"=(\"\")\"\"\n");
+    CHECK(kdl_format_text(T(""), s, sizeof s, &n) == KDL_OK && is_text(s, n, T("\n")));
+    kdl_free(&d);
+}
+
+/* Each call on a document with a path: it returns the status, and leaves the text. */
+enum { CALLS = 18, WITH_PATH = 12 };
+static uint32_t call(int which, struct kdl_document *d, const size_t *path, size_t len, size_t index) {
+    struct kdl_row row;
+    size_t n, m;
+    uint8_t s[64];
+    switch (which) {
+    case 0: return kdl_node(d, path, len, &m, &row, s, sizeof s, &n);
+    case 1: return kdl_entry(d, path, len, index, &row, s, sizeof s, &n);
+    case 2: return kdl_find_entry(d, path, len, T("no"), &n);
+    case 3: return kdl_set_value(d, path, len, index, T("1"));
+    case 4: return kdl_set_key(d, path, len, index, 1, T("x"));
+    case 5: return kdl_set_type(d, path, len, index, 1, T("x"));
+    case 6: return kdl_insert_entry(d, path, len, index, T("1"));
+    case 7: return kdl_remove_entry(d, path, len, index);
+    case 8: return kdl_set_name(d, path, len, T("x"));
+    case 9: return kdl_node_count(d, path, len, &n);
+    case 10: return kdl_remove_node(d, path, len, index);
+    case 11: return kdl_find(d, path, len, T("no"), &n);
+    case 12: return kdl_insert_node(d, path, len, index, T("x"));
+    case 13: return kdl_print(d, s, sizeof s, &n);
+    case 14: return kdl_format(d);
+    case 15: return kdl_strip(d);
+    case 16: return kdl_tree(d, &row, 1, &m, s, sizeof s, &n);
+    default: return kdl_get(d, T("no"), &row, s, sizeof s, &n);
+    }
+}
+
+static void nowhere(void) {
+    /* the last one's node is there, and has no block */
+    static const size_t paths[][3] = {{2, 0, 0}, {SIZE_MAX, 0, 0}, {0, 0, 0}, {1, 1, 0},
+                                      {1, SIZE_MAX, 0}, {1, 0, 0}, {1, 0, SIZE_MAX}};
+    static const size_t lens[] = {1, 1, 2, 2, 2, 3, 3};
+    struct kdl_document d = none();
+    size_t path[2] = {0, 0};
+    CHECK(kdl_parse(T(sample), &d) == KDL_OK);
+    for (int which = 0; which <= WITH_PATH; which++) {
+        for (size_t i = 0; i < sizeof lens / sizeof *lens; i++) {
+            CHECK(call(which, &d, paths[i], lens[i], 0) == KDL_NOT_FOUND);
+        }
+        /* an index beyond the last, of which a node has two; a block, one */
+        if (which >= 1 && which <= 7) {
+            CHECK(call(which, &d, path, 1, 3) == KDL_NOT_FOUND);
+            CHECK(which == 5 || call(which, &d, path, 1, SIZE_MAX) == KDL_NOT_FOUND);
+        }
+        if (which <= 8) { /* no document is a node */
+            CHECK(call(which, &d, path, 0, 0) == KDL_NOT_FOUND);
+        }
+        if (which == 10 || which == 12) {
+            CHECK(call(which, &d, path, 0, 3) == KDL_NOT_FOUND);
+            CHECK(call(which, &d, path, 0, SIZE_MAX) == KDL_NOT_FOUND);
+        }
+    }
+    path[0] = 0;
+    CHECK(kdl_remove_node(&d, path, 1, 0) == KDL_NOT_FOUND); /* without a block */
+    CHECK(kdl_node_count(&d, path, 1, &path[1]) == KDL_NOT_FOUND && path[1] == 0);
+    prints(&d, sample);
+    kdl_free(&d);
+}
+
+static void freed(void) {
+    struct kdl_document d = none();
+    size_t path[1] = {0};
+    for (int again = 0; again < 2; again++) {
+        for (int which = 0; which < CALLS; which++) {
+            CHECK(call(which, &d, path, 1, 0) == KDL_NO_DOCUMENT && !d.live);
+        }
+        CHECK(kdl_parse(T(sample), &d) == KDL_OK);
+        kdl_free(&d);
+        kdl_free(&d);
+    }
+}
+
+static void deep(void) {
+    const size_t depth = 200000;
+    struct kdl_document d = none();
+    struct kdl_row row;
+    size_t len, strings, *path = (size_t *)calloc(depth, sizeof *path);
+    uint8_t *text = buffer(3 * depth), s[4];
+    CHECK(path);
+    for (size_t i = 0; i < depth; i++) {
+        text[2 * i] = 'a';
+        text[2 * i + 1] = '{';
+        text[2 * depth + i] = '}';
+    }
+    CHECK(kdl_parse(text, 3 * depth, &d) == KDL_OK);
+    uint8_t *out = printed(&d, &len);
+    CHECK(is_text(out, len, text, 3 * depth));
+    free(out);
+    struct rows rows = rows_of(&d);
+    CHECK(rows.count == 2 * depth && rows.all[0].kind == KDL_NODE);
+    CHECK(rows.all[rows.count - 1].kind == KDL_END);
+    drop_rows(&rows);
+    CHECK(kdl_node(&d, path, depth, &len, &row, s, 4, &strings) == KDL_OK && row.has_block);
+    CHECK(kdl_insert_entry(&d, path, depth, 0, T("1")) == KDL_OK);
+    CHECK(kdl_remove_entry(&d, path, depth, 0) == KDL_OK);
+    out = printed(&d, &len);
+    CHECK(is_text(out, len, text, 3 * depth));
+    kdl_free(&d);
+    free(out);
+    free(path);
+    free(text);
+}
+
+static void *on_thread(void *number) {
+    struct kdl_document d = none();
+    struct kdl_fault fault;
+    char text[64], laid[64];
+    uint8_t s[64];
+    size_t n, m, path[2] = {0, 0};
+    snprintf(text, sizeof text, "a  %d { b  k=%d }", *(int *)number, *(int *)number + 1);
+    snprintf(laid, sizeof laid, "a %d {\n    b k=%d\n}\n", *(int *)number, *(int *)number + 1);
+    for (int i = 0; i < 2000; i++) {
+        CHECK(kdl_parse(T(text), &d) == KDL_OK);
+        CHECK(kdl_insert_entry(&d, path, 2, 0, T("9")) == KDL_OK);
+        CHECK(kdl_remove_entry(&d, path, 2, 0) == KDL_OK);
+        prints(&d, text);
+        CHECK(kdl_format(&d) == KDL_OK);
+        prints(&d, laid);
+        CHECK(kdl_faults(T("}"), &fault, 1, &m, s, sizeof s, &n) == KDL_FAULTS);
+    }
+    kdl_free(&d);
+    return NULL;
+}
+
+static void threads(void) {
+    pthread_t made[6];
+    int numbers[6];
+    for (int i = 0; i < 6; i++) {
+        numbers[i] = 1000 * i;
+        CHECK(pthread_create(&made[i], NULL, on_thread, &numbers[i]) == 0);
+    }
+    for (int i = 0; i < 6; i++) {
+        CHECK(pthread_join(made[i], NULL) == 0);
+    }
+}
+
+int main(void) {
+    documents();
+    faults();
+    positions();
+    reading();
+    values();
+    edits();
+    nodes();
+    rooms();
+    empties();
+    nowhere();
+    freed();
+    deep();
+    threads();
+    return 0;
+}

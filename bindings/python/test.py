@@ -1,0 +1,394 @@
+"""The module kdl on all rows of crates/rows/data that are documents, nodes and entries, on the
+examples, and from the command line. Prints nothing where all is well."""
+import copy
+import os
+import pathlib
+import pickle
+import re
+import subprocess
+import sys
+import tempfile
+import threading
+import time
+
+HERE = pathlib.Path(__file__).resolve().parent
+sys.path[:0] = [str(HERE), str(HERE.parent)]
+import kdl
+import rows
+from kdl import Document, Entry, Float, KdlError, Node
+
+
+def raises(error, call, *given, **named):
+    try:
+        call(*given, **named)
+    except error as raised:
+        return raised
+    raise AssertionError(f"{call} raises no {error}")
+
+
+# Rows
+
+
+def spelled(value):
+    """A value as the rows name it."""
+    if isinstance(value, bool):
+        return f"bool {str(value).lower()}"
+    if isinstance(value, Float):
+        return f"float {value.text}"
+    kinds = {str: f"string {value}", int: f"number {value}"}
+    return kinds.get(type(value), "null")
+
+
+def span(it):
+    return f"{it.span[0]}..{it.span[1]}"
+
+
+def field(nodes, label):
+    """The text of a field of the nodes: True where the label says that there is none of it and there
+    is none. KeyError where the module does not tell the field."""
+    words, at = label.split(" "), nodes
+    while len(words) > 1:
+        if isinstance(at, list) and words[0].isdigit():
+            at = at[int(words.pop(0)) - 1]
+        elif isinstance(at, Node) and words[0] == "block":
+            at = at.children
+            words.pop(0)
+        elif isinstance(at, Node) and words[0] == "entry":
+            at = at.entries[int(words[1]) - 1]
+            del words[:2]
+        else:
+            break
+    fields = {
+        list: {"nodes": len, "no nodes": lambda it: it == []},
+        Node: {
+            "name": lambda it: it.name, "type": lambda it: it.type, "span": span,
+            "entries": lambda it: len(it.entries), "no entries": lambda it: it.entries == [],
+            "no type": lambda it: it.type is None, "no block": lambda it: it.children is None,
+        },
+        Entry: {
+            "key": lambda it: it.name, "type": lambda it: it.type, "span": span,
+            "no key": lambda it: it.name is None, "no type": lambda it: it.type is None,
+            "value": lambda it: spelled(it.value),
+        },
+    }
+    return fields[type(at)][" ".join(words)](at)
+
+
+def has_fields(case, nodes, prefix=""):
+    """Checks each field that the row names and the module tells, and returns how many."""
+    found = 0
+    for label, text in case.wanted:
+        is_span = label.endswith("span") and prefix
+        if is_span or prefix and re.match("leading|trailing|before|after|terminator|whole", label):
+            continue
+        try:
+            told = field(nodes, prefix + label)
+        except KeyError:
+            continue
+        assert told is True if text is None else str(told) == text, (case.place, label, told, text)
+        found += 1
+    return found
+
+
+def has_faults(case, faults, text):
+    """Checks what the row says of the faults, and returns how many lines that were."""
+    first, found = faults[0], 0
+    as_line = lambda it: f"{it.start}..{it.end} {it.message}"
+    for it in faults[:100]:
+        assert 0 <= it.start <= it.end <= len(text), case
+        text[: it.start].decode() + text[it.start : it.end].decode()
+    for label, wanted in case.wanted:
+        told = {
+            "message": first.message, "label": first.label, "help": first.help,
+            "diagnostics": str(len(faults)),
+        }
+        if label in ("refused", "diagnostic") or label.startswith("diagnostic "):
+            if wanted is None:
+                continue
+            at = int(label[11:]) - 1 if label != "refused" else 0
+            assert as_line(faults[at]).startswith(wanted), (case.place, faults[at], wanted)
+        elif label in ("no label", "no help"):
+            assert told[label[3:]] is None, case
+        elif label in told and (label in ("message", "diagnostics") or case.call == "document"):
+            assert told[label] == wanted, (case.place, label, told[label], wanted)
+        else:
+            continue
+        found += 1
+    return found
+
+
+def document_holds(case):
+    text = case.text.encode()
+    kind = rows.kind_of(case)
+    try:
+        document = Document.parse(case.text)
+    except KdlError as error:
+        assert kind != "a", case
+        return has_faults(case, error.faults, text)
+    assert kind != "r", case
+    assert bytes(document) == text, case
+    nodes = document.nodes
+    found = has_fields(case, nodes)
+    for label, wanted in case.wanted:
+        if label.startswith("get ") or label == "no get":
+            name = wanted if wanted is not None and label == "no get" else label[4:]
+            missing = object()
+            value = document.get_arg(name, missing)
+            assert (value is missing) == (label == "no get"), case
+            if value is not missing:
+                assert kdl.dumps([Node("a", [value])]) == f"a {wanted}\n", case
+            found += 1
+        if label in ("fmt", "strip") and not case.is_set:
+            laid = Document(text)
+            laid.autoformat(comments=label == "fmt")
+            assert str(laid) == wanted, (case, str(laid))
+            assert label == "strip" or kdl.format_text(text) == wanted, case
+            found += 1
+    if kind == "a" and len(text) < 10000:
+        back = kdl.loads(kdl.dumps(nodes))
+        assert repr_of(back) == repr_of(nodes), case
+    return found
+
+
+def repr_of(nodes):
+    """All data of the nodes as one text."""
+    document = Document(kdl.dumps(nodes))
+    document.autoformat(comments=False)
+    return str(document)
+
+
+def node_holds(case):
+    """A node as a text for `insert_node`, and an entry as one for `insert_entry`."""
+    document = Document("a")
+    try:
+        if case.call == "node":
+            document.insert_node((), case.text, 0)
+        else:
+            document.insert_entry("a", case.text)
+    except KdlError as error:
+        assert rows.kind_of(case) != "a", case
+        assert str(document) == "a"
+        return has_faults(case, error.faults, case.text.encode())
+    assert rows.kind_of(case) != "r", case
+    nodes = document.nodes
+    assert kdl.loads(str(document)) == nodes or "nan" in str(document), case
+    return has_fields(case, nodes, "1 " if case.call == "node" else "1 entry 1 ")
+
+
+def all_rows():
+    """Each row that the module can try; C alone tries those of which no more is said than whether they
+    are accepted."""
+    found = {"document": 0, "node": 0, "entry": 0}
+    for case in rows.cases():
+        if case.call == "document" and {it for it, _ in case.wanted} - {"accepted", "refused"}:
+            found["document"] += document_holds(case)
+        elif case.call in ("node", "entry"):
+            found[case.call] += node_holds(case)
+    assert found["document"] > 5000 and found["node"] > 300 and found["entry"] > 500, found
+
+
+# Data
+
+
+def data():
+    odd = "".join(map(chr, [*range(1, 0x250), 0x2028, 0xFEFF, 0x202E, 0x1F600]))
+    nodes = [
+        Node("a b", [odd, "", "true", "1"], {"#x": -3, odd: None}, []),
+        Node("", type="", entries=[Entry(2**127 - 1, type=odd), Entry(-(2**127), "k"), Entry("\0")]),
+        Node("f", [1.0, 1e300, -0.0, 5e-324, Float("1.500"), 0.1, float("inf"), float("-inf")]),
+    ]
+    assert kdl.loads(kdl.dumps(nodes)) == nodes
+    assert kdl.loads(kdl.dumps([Node("n", [float("nan")])]))[0][0].text == "#nan"
+    assert kdl.loads(kdl.dumps([])) == [] and kdl.loads("") == []
+    raises(OverflowError, kdl.dumps, [Node("a", [2**127])])
+    raises(TypeError, kdl.dumps, [Node("a", [b"bytes"])])
+    raises(TypeError, kdl.dumps, [Node(1)])
+    raises(TypeError, kdl.loads, 1)
+    raises(UnicodeEncodeError, kdl.loads, "\ud800")
+    node = kdl.loads("(t)n 1 k=2 k=3 2 { c 4; c 5; }")[0]
+    assert (node.type, node.args, node.props, node.span) == ("t", [1, 2], {"k": 3}, (0, 30))
+    assert node["k"] == 3 and node[1] == 2 and node[-1] == 2 and node.get("x", 7) == node.get(5, 7) == 7
+    assert node.child("c").args == [4] and node.child("d") is None and node.child("c").child("d") is None
+    raises(IndexError, lambda: node[2])
+    raises(KeyError, lambda: node["x"])
+    same = lambda one, two: kdl.loads(one) == kdl.loads(two)
+    assert same("a 1 { b; }", "a 0x1 {b}") and not same("a 1", "a 1.0") and not same("a", "a {}")
+    assert not same("a 1", "a #true") and not same("a { b; }", "a { b {}; }") and same("a {}", "a { }")
+
+
+# Documents
+
+
+def edits():
+    text = '(t)a  0x10 "k" = #true // c\nb { c 99999999999999999999 1.50 #null "grün\\n"; }\n'
+    document = Document.parse(text)
+    assert str(document) == text and bytes(document) == text.encode()
+    a, b = document.nodes
+    assert (a.name, a.type, a.args, a.props, a.children, a.span) == ("a", "t", [16], {"k": True}, None, (0, 23))
+    assert b.children[0].args == [99999999999999999999, 1.5, None, "grün\n"]
+    assert b.children[0].entries[1].value.text == "1.50" and a.entries[0].span == (6, 10)
+    assert document["b"] is b and document[0] is a and document[-1] is b and document.get("x") is None
+    assert "a" in document and "x" not in document and len(document) == 2 and list(document) == [a, b]
+    assert document.node(["b", "c"]).args[0] == 99999999999999999999 and document.node(-1) is b
+    assert document.find(["b", 0]) == (1, 0) and document.find(()) == () and document.find(1) == (1,)
+    for error, path in ((KeyError, "x"), (KeyError, ["b", "x"]), (KeyError, ["a", "x"]), (IndexError, 2),
+                        (IndexError, [0, 0]), (IndexError, -3), (IndexError, 2**64), (TypeError, 1.5)):
+        raises(error, document.find, path)
+        raises(error, document.set_name, path, "n")
+        raises(error, document.insert_entry, path, "1")
+        raises(error, document.remove_node, path)
+        raises(error, document.node, path)
+    for index in (2, -3, 2**64, 2**64 - 1):
+        raises(IndexError, document.set_value, "a", index, 1)
+        raises(IndexError, document.set_type, "a", "t", index)
+        raises(IndexError, document.remove_entry, "a", index)
+    raises(IndexError, document.insert_entry, "a", "1", 3)
+    raises(IndexError, document.insert_node, (), "n", 3)
+    raises(IndexError, document.remove_node, ())
+    raises(IndexError, document.node, ())
+    raises(KeyError, document.set_value, "a", "x", 1)
+    assert str(document) == text
+    document.set_value(0, 0, "x y")
+    document.insert_entry(["b", "c"], "p=(u8)0x20", 0)
+    document.set_value(["b", "c"], -1, Float("2.50"))
+    changed = text.replace("0x10", '"x y"').replace("c 999", "c p=(u8)32 999").replace('"grün\\n"', "2.50")
+    assert str(document) == changed, str(document)
+    document.remove_entry(["b", "c"], "p")
+    document.insert_node((), Node("n", [1], {"k": 2}, [Node("m")]), 0)
+    document.insert_node(["b", "c"], "/* in */ d 0x1")
+    assert kdl.loads(str(document)) == document.nodes and document[0].child("m") is not None
+    assert document.node(["b", "c", "d"]).args == [1] and "d 0x1" in str(document)
+    document.remove_node("n")
+    document.remove_node("a")
+    document.remove_node([0, 0, 0])
+    document.autoformat()
+    assert str(document).startswith("b {\n    c 99999999999999999999 1.50 #null 2.50 {"), str(document)
+
+
+def errors():
+    text = 'name "web\nport #treu\nlimits {\n    cpu 0x\n'
+    error = raises(KdlError, Document.parse, text)
+    assert [it[:5] for it in error.faults] == [
+        (5, 9, 1, 6, "Unexpected newline in single-line quoted string"),
+        (15, 20, 2, 6, "Expected keyword"),
+        (38, 40, 4, 9, "Expected hexadecimal number"),
+        (28, 29, 3, 8, "No closing '}' for child block"),
+    ], error.faults
+    assert str(error).startswith("1:6: Unexpected newline") and error.faults[0].label
+    assert pickle.loads(pickle.dumps(error)).faults == error.faults
+    assert isinstance(error, ValueError)
+    document = Document("a 1")
+    for call, given, start in ((document.insert_entry, ("a", "b c"), 1), (document.insert_node, ((), "b; c"), 1),
+                               (document.set_spelling, ("a", 0, "k=1"), 0), (document.set_spelling, ("a", 0, ""), 0)):
+        fault = raises(KdlError, call, *given).faults[0]
+        assert fault.line == 1 and fault.column == fault.start + 1 >= start + 1 and fault.message, fault
+    assert str(document) == "a 1"
+    raises(UnicodeDecodeError, Document.parse, b"a \xff")
+    raises(UnicodeDecodeError, kdl.format_text, b"a \xff")
+    raises(UnicodeDecodeError, kdl.faults, b"\xc3")
+    many = kdl.faults("é }\r\n" * 3000)
+    assert len(many) == 3000 and many[-1][2:4] == (3000, 3), many[-1]
+    with Document("a") as closed:
+        pass
+    closed.close()
+    for call in (str, bytes, len, Document.autoformat, lambda it: it.nodes, lambda it: it.get_arg("a"),
+                 lambda it: it.find("a"), lambda it: it.set_name(0, "b"), lambda it: it.insert_node((), "a")):
+        assert "closed" in str(raises(ValueError, call, closed))
+
+
+def lives():
+    document = Document("a  1 // c\n")
+    for other in (copy.copy(document), copy.deepcopy(document), pickle.loads(pickle.dumps(document))):
+        other.remove_entry("a", 0)
+        assert str(other) == "a // c\n" and str(document) == "a  1 // c\n"
+    assert pickle.loads(pickle.dumps(kdl.loads("a 1.50 k=2 { b; }"))) == kdl.loads("a 1.50 k=2 { b; }")
+    assert copy.deepcopy(kdl.loads("a 1.50"))[0][0].text == "1.50"
+    for _ in range(50000):
+        Document.parse(b"a 1 { b }")
+    deep = 200000
+    nodes = kdl.loads("a{" * deep + "}" * deep)
+    depth = 0
+    while nodes:
+        nodes, depth = nodes[0].children, depth + 1
+    assert depth == deep
+
+
+def threads():
+    shared = Document("a 1; b 2 { c 3 }\n" * 200)
+    failed = []
+
+    def work():
+        try:
+            for _ in range(100):
+                own = Document("x y z { w }")
+                own.insert_entry("x", "1")
+                shared.insert_entry(0, "9", 0)
+                shared.remove_entry(0, 0)
+                bytes(shared), bytes(own), shared._tree(), kdl.faults("}")
+        except BaseException as error:
+            failed.append(error)
+
+    started = [threading.Thread(target=work) for _ in range(6)]
+    [it.start() for it in started]
+    [it.join() for it in started]
+    assert not failed and str(shared) == "a 1; b 2 { c 3 }\n" * 200, failed
+
+
+# The command line
+
+
+def ran(*words, given=b""):
+    environment = {**os.environ, "PYTHONPATH": str(HERE), "PYTHONIOENCODING": "utf-8"}
+    it = subprocess.run([sys.executable, "-m", "kdl", *words], input=given, capture_output=True, env=environment)
+    return it.returncode, it.stdout.decode(), it.stderr.decode()
+
+
+def command_line():
+    with tempfile.TemporaryDirectory() as room:
+        os.chdir(room)
+        files = {"a.kdl": "a   1 // é\nb { c \"x y\" }\n", "b.kdl": "a 1\n", "c.kdl": "é 1\n\té #treu x\n"}
+        for name, text in files.items():
+            pathlib.Path(name).write_text(text, encoding="utf-8")
+        laid = kdl.format_text(files["a.kdl"])
+        told = "c.kdl:2:4: Expected keyword\n\té #treu x\n\t  ^^^^^"
+        assert ran("check", "a.kdl", "b.kdl") == (0, "", "")
+        status, out, err = ran("check", "a.kdl", "c.kdl")
+        assert (status, out) == (1, "") and err.startswith(told), err
+        assert ran("fmt", "a.kdl", "b.kdl") == (0, laid + "a 1\n", "")
+        assert ran("fmt", "-", given=files["a.kdl"].encode()) == (0, laid, "")
+        os.chmod("a.kdl", 0o640)
+        before = {it: os.stat(it) for it in files}
+        time.sleep(0.01)
+        status, out, err = ran("fmt", "-w", *files)
+        assert (status, out) == (1, "") and err.startswith(told)
+        assert [pathlib.Path(it).read_text(encoding="utf-8") for it in files] == [laid, "a 1\n", files["c.kdl"]]
+        assert os.stat("b.kdl") == before["b.kdl"] and os.stat("c.kdl") == before["c.kdl"]
+        assert os.stat("a.kdl").st_mode == before["a.kdl"].st_mode and sorted(os.listdir()) == sorted(files)
+        assert ran("strip", "a.kdl") == (0, 'a 1\nb {\n    c "x y"\n}\n', "")
+        assert ran("get", "a", "a.kdl") == (0, "1\n", "") and ran("get", "a", "c.kdl")[0] == 1
+        assert ran("get", "b", "a.kdl") == (1, "", "a.kdl: no argument of a node b\n")
+        assert ran("get", "n", "-", given=b'n "x y"') == (0, '"x y"\n', "")
+        assert ran("check", "-", given=b"\xff") == (1, "", "-: not UTF-8\n")
+        for words in ((), ("check",), ("fmt",), ("fmt", "-w"), ("fmt", "-w", "-"), ("strip", "a", "b"), ("get", "a"), ("x", "a")):
+            status, out, err = ran(*words)
+            assert (status, out) == (2, "") and err.startswith("usage: "), words
+        assert ran("check", "none.kdl") == (3, "", "none.kdl: No such file or directory\n")
+        assert ran("--help")[0] == 0
+        os.chdir("/")
+
+
+def examples():
+    for path in rows.examples():
+        text = path.read_bytes()
+        document = Document.parse(text)
+        assert bytes(document) == text, path
+        nodes = document.nodes
+        document.autoformat(comments=False)
+        strip = bytes(document)
+        assert repr_of(nodes).encode() == strip and repr_of(document.nodes).encode() == strip, path
+        assert kdl.loads(kdl.format_text(text)) == document.nodes or b"#nan" in text, path
+
+
+if __name__ == "__main__":
+    for test in (data, edits, errors, lives, threads, examples, command_line, all_rows):
+        test()
