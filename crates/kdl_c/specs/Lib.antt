@@ -10,3 +10,7 @@ pub mod Changes
 pub mod Edits
 -- Words of clauses that only this crate sees.
 pub mod Internal
+-- Faults with all that is said of them.
+pub mod Reports
+-- Texts that are read as documents, nodes, entries or values.
+pub mod Reading

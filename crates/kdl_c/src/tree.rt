@@ -9,6 +9,7 @@ ghost use Rattle.std.specs.Prelude.{◌≡◌, ◌≤◌, ◌<◌, All, IfSome, 
 use crate::path::{node_at, nodes_at};
 use crate::row::{KdlRow, put_entry, put_node, put_tree};
 use crate::status::{NO_DOCUMENT, NOT_FOUND, OK, OUT_OF_MEMORY, TOO_SMALL};
+use kdl::KdlEntry;
 use kdl_held::Handle;
 use std::alloc::Global;
 
@@ -148,15 +149,31 @@ pub extern "C" fn kdl_entry(
         None => NOT_FOUND,
         Some(node) => match node.entries().get(index) {
             None => NOT_FOUND,
-            Some(entry) => match put_entry(alloc, entry, strings, string_len) {
-                Err(_) => OUT_OF_MEMORY,
-                Ok(found) => {
-                    *row = found;
-                    room(0, 0, strings.len(), *string_len)
-                }
-            },
+            Some(entry) => put_found(alloc, entry, row, strings, string_len),
         },
     };
     document.put(held);
     status
+}
+
+/// Writes the row of an entry that was found.
+pub fn put_found(
+    alloc: Global,
+    entry: &KdlEntry,
+    row: &mut KdlRow,
+    strings: &mut [u8],
+    string_len: &mut usize,
+) -> u32
+    ensures within { result ≡ 0 → IsWithin string_len.new row.new }
+    ensures strings { result ≡ 0 → string_len.new ≤ length strings.old }
+    ensures there { result ≡ 6 → ⊥ }
+    ensures held { result ≡ 5 → ⊥ }
+{
+    match put_entry(alloc, entry, strings, string_len) {
+        Err(_) => OUT_OF_MEMORY,
+        Ok(found) => {
+            *row = found;
+            room(0, 0, strings.len(), *string_len)
+        }
+    }
 }
