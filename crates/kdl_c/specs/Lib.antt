@@ -14,3 +14,5 @@ pub mod Internal
 pub mod Reports
 -- Texts that are read as documents, nodes, entries or values.
 pub mod Reading
+-- Lines and columns.
+pub mod Positions

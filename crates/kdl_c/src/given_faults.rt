@@ -1,6 +1,7 @@
 //! The faults of a text that is read as a document, a node, an entry or a value.
 
-ghost use Rattle.kdl_c.specs.Reading.{IsRead, Outcome};
+ghost use Rattle.kdl.specs.Words.{entry_tree};
+ghost use Rattle.kdl_c.specs.Reading.{IsRead, Outcome, is_alone};
 ghost use Rattle.kdl_c.specs.Rows.{AreTold};
 ghost use Rattle.std.specs.Prelude.{◌≡◌, ◌<◌, ◌≤◌, IsNone, IfSome};
 ghost use Rattle.std.specs.Str.{chars};
@@ -8,7 +9,7 @@ ghost use Rattle.std.specs.Str.{chars};
 use crate::faults::{KdlFault, put_faults};
 use crate::status::{FAULTS, NOT_FOUND, NOT_UTF8, OK, OUT_OF_MEMORY};
 use crate::text::put_string;
-use kdl::{KdlDocument, KdlEntry, KdlNode, ParseFailure};
+use kdl::{KdlDocument, KdlEntry, KdlError, KdlNode, ParseFailure};
 use std::alloc::Global;
 
 /// A text is read as a document.
@@ -30,8 +31,10 @@ pub enum Reading {
     Read,
     /// It is an entry with a key or a type, and not a value.
     NotValue,
-    /// It was not parsed.
-    Failed(ParseFailure),
+    /// It is refused.
+    Refused(KdlError),
+    /// Memory ran out.
+    Memory,
 }
 
 /// Reads a text as an entry.
@@ -39,7 +42,8 @@ fn read_entry(alloc: Global, text: &str) -> Reading
     ensures { Outcome 2 text.now result }
 {
     match KdlEntry::parse(alloc, text) {
-        Err(failure) => Reading::Failed(failure),
+        Err(ParseFailure::Syntax(error)) => Reading::Refused(error),
+        Err(ParseFailure::Memory) => Reading::Memory,
         Ok(_) => Reading::Read,
     }
 }
@@ -49,15 +53,23 @@ fn read_value(alloc: Global, text: &str) -> Reading
     ensures { Outcome 3 text.now result }
 {
     match KdlEntry::parse(alloc, text) {
-        Err(failure) => Reading::Failed(failure),
+        Err(ParseFailure::Syntax(error)) => Reading::Refused(error),
+        Err(ParseFailure::Memory) => Reading::Memory,
         Ok(entry) => {
-            if entry.name().is_some() || entry.ty().is_some() {
-                Reading::NotValue
-            } else {
+            if is_alone(&entry) {
                 Reading::Read
+            } else {
+                Reading::NotValue
             }
         }
     }
+}
+
+/// Whether the entry is a value without a key and a type.
+fn is_alone(entry: &KdlEntry) -> bool
+    ensures { result ≡ is_alone (entry_tree entry.now) }
+{
+    entry.name().is_none() && entry.ty().is_none()
 }
 
 /// Reads a text as a node.
@@ -65,7 +77,8 @@ fn read_node(alloc: Global, text: &str) -> Reading
     ensures { Outcome 1 text.now result }
 {
     match KdlNode::parse(alloc, text) {
-        Err(failure) => Reading::Failed(failure),
+        Err(ParseFailure::Syntax(error)) => Reading::Refused(error),
+        Err(ParseFailure::Memory) => Reading::Memory,
         Ok(_) => Reading::Read,
     }
 }
@@ -75,7 +88,8 @@ fn read_document(alloc: Global, text: &str) -> Reading
     ensures { Outcome 0 text.now result }
 {
     match KdlDocument::parse(alloc, text) {
-        Err(failure) => Reading::Failed(failure),
+        Err(ParseFailure::Syntax(error)) => Reading::Refused(error),
+        Err(ParseFailure::Memory) => Reading::Memory,
         Ok(_) => Reading::Read,
     }
 }
@@ -151,8 +165,8 @@ pub extern "C" fn kdl_faults_of(
             put_not_value(text, out, count, strings, string_len);
             FAULTS
         }
-        Reading::Failed(ParseFailure::Memory) => OUT_OF_MEMORY,
-        Reading::Failed(ParseFailure::Syntax(error)) => {
+        Reading::Memory => OUT_OF_MEMORY,
+        Reading::Refused(error) => {
             put_faults(&error.diagnostics, out, count, strings, string_len);
             FAULTS
         }

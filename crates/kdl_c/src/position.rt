@@ -1,31 +1,105 @@
 //! Lines and columns of a text.
 
+ghost use Rattle.kdl.specs.Words.{Text};
+ghost use Rattle.kdl_c.specs.Internal.Places.{IsAfter, Moved, column_of, line_of};
+ghost use Rattle.kdl_c.specs.Positions.{IsNoPosition, IsPosition};
+ghost use Rattle.kdl_text.specs.Chars.{begins};
+ghost use Rattle.std.specs.Prelude.{◌≡◌, ◌+◌, ◌<◌, ◌≤◌, ◌^◌, false};
+ghost use Rattle.std.specs.Str.{chars};
+
 use crate::status::{NOT_FOUND, NOT_UTF8, OK};
 use kdl_text::chars::is_newline_char;
 
-/// The line and the column after a text, both from 1. `joined` says whether a line feed follows the text: then a
-/// carriage return at its end is no newline yet.
-fn place_after(before: &str, joined: bool) -> (usize, usize) {
-    let mut line: usize = 1;
-    let mut column: usize = 1;
-    let mut returned = false;
-    for c in before.chars() {
-        if returned && c != '\n' {
-            line = line.saturating_add(1);
-            column = 1;
+/// A line and a column, both from 1. `returned` says that the character before is a carriage return: a newline ends
+/// there, unless a line feed follows.
+#[derive(Clone, Copy)]
+struct Place {
+    line: usize,
+    column: usize,
+    returned: bool,
+}
+
+impl Place {
+    /// The place where no line feed follows.
+    fn ended(self) -> Place
+        requires { line_of self false < 2 ^ 64 }
+        ensures line { result.line ≡ line_of self false }
+        ensures column { result.column ≡ column_of self false }
+        ensures returned { result.returned ≡ false }
+    {
+        if self.returned {
+            return Place {
+                line: self.line + 1,
+                column: 1,
+                returned: false,
+            };
         }
-        returned = c == '\r';
-        if is_newline_char(c) && !returned {
-            line = line.saturating_add(1);
-            column = 1;
-        } else {
-            column = column.saturating_add(1);
+        self
+    }
+
+    /// The place after one more character.
+    fn step(self, c: char) -> Place
+        requires line { line_of self false + 1 < 2 ^ 64 }
+        requires column { self.column + 1 < 2 ^ 64 }
+        requires least { 1 ≤ self.column }
+        ensures moved { (r : Text) → Moved self c r result }
+        ensures line { line_of result false ≤ line_of self false + 1 }
+        ensures column { result.column ≤ self.column + 1 }
+        ensures least { 1 ≤ result.column }
+    {
+        if c == '\n' {
+            return Place {
+                line: self.line + 1,
+                column: 1,
+                returned: false,
+            };
+        }
+        let place = self.ended();
+        if c == '\r' {
+            return Place {
+                line: place.line,
+                column: place.column + 1,
+                returned: true,
+            };
+        }
+        if is_newline_char(c) {
+            return Place {
+                line: place.line + 1,
+                column: 1,
+                returned: false,
+            };
+        }
+        Place {
+            line: place.line,
+            column: place.column + 1,
+            returned: false,
         }
     }
-    if returned && !joined {
-        (line.saturating_add(1), 1)
-    } else {
-        (line, column)
+}
+
+/// The place after a text.
+fn place_after(text: &str) -> Place
+    ensures after { (r : Text) → IsAfter (chars text.now) r result }
+    ensures line { line_of result false < 2 ^ 64 }
+{
+    let mut place = Place {
+        line: 1,
+        column: 1,
+        returned: false,
+    };
+    for c in text.chars() {
+        place = place.step(c);
+    }
+    place
+}
+
+/// Whether the text begins with a line feed.
+fn begins_with_feed(text: &str) -> bool
+    ensures { result ≡ begins 10 (chars text.now) }
+{
+    match text.chars().next() {
+        Some(c) => c == '\n',
+        None => false,
     }
 }
 
@@ -37,7 +111,10 @@ pub extern "C" fn kdl_position(
     offset: usize,
     line: &mut usize,
     column: &mut usize,
-) -> u32 {
+) -> u32
+    ensures found { result ≡ 0 → IsPosition (chars text.now) offset line.new column.new }
+    ensures missing { result ≡ 6 → IsNoPosition (chars text.now) offset }
+{
     *line = 0;
     *column = 0;
     let Ok(text) = std::str::from_utf8(text) else {
@@ -46,8 +123,11 @@ pub extern "C" fn kdl_position(
     let Some((before, after)) = text.split_at_checked(offset) else {
         return NOT_FOUND;
     };
-    let (at_line, at_column) = place_after(before, after.starts_with('\n'));
-    *line = at_line;
-    *column = at_column;
+    let mut place = place_after(before);
+    if !begins_with_feed(after) {
+        place = place.ended();
+    }
+    *line = place.line;
+    *column = place.column;
     OK
 }
