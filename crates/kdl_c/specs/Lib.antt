@@ -16,3 +16,5 @@ pub mod Reports
 pub mod Reading
 -- Lines and columns.
 pub mod Positions
+-- Texts laid out.
+pub mod LaidOut
