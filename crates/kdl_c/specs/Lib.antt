@@ -18,3 +18,5 @@ pub mod Reading
 pub mod Positions
 -- Texts laid out.
 pub mod LaidOut
+-- What rows say, read with the strings that were written.
+pub mod Says

@@ -1,10 +1,11 @@
 //! Nodes found by their name, entries by their key.
 
-ghost use Rattle.kdl.specs.Words.{argument_named, has_name, is_node_named, nodes_of, property_place};
+ghost use Rattle.kdl.specs.Words.{argument_named, entry_data, entry_tree, has_name, is_node_named, nodes_of, property_place};
 ghost use Rattle.kdl_c.specs.Paths.{node_at, nodes_at};
 ghost use Rattle.kdl_c.specs.Rows.{IsWithin};
+ghost use Rattle.kdl_c.specs.Says.{SaysEntry};
 ghost use Rattle.kdl_parts.specs.EntryLists.{last_place};
-ghost use Rattle.std.specs.Prelude.{◌≡◌, ◌≤◌, ◌<◌, IfSome, IsNone, IsSome, None, Some, length, option_and_then, option_map, position};
+ghost use Rattle.std.specs.Prelude.{◌≡◌, ◌≤◌, ◌<◌, IfSome, IsNone, IsSome, None, Some, length, option_and_then, option_map, position, take};
 
 use crate::path::{node_at, nodes_at};
 use crate::row::KdlRow;
@@ -76,6 +77,9 @@ pub extern "C" fn kdl_get(
         IsSome (argument_named name.now d)) }
     ensures missing { result ≡ 6 → IfSome document.old.held.document (λ d.
         IsNone (argument_named name.now d)) }
+    ensures says { result ≡ 0 → IfSome document.old.held.document (λ d.
+        IfSome (argument_named name.now d) (λ e.
+        SaysEntry (take string_len.new strings.new) row.new (entry_data (entry_tree e)))) }
     ensures within { result ≡ 0 → IsWithin string_len.new row.new }
     ensures strings { result ≡ 0 → string_len.new ≤ length strings.old }
     ensures same { document.new.held.document ≡ document.old.held.document }

@@ -1,10 +1,11 @@
 //! The rows of a document, all at once and one at a time.
 
-ghost use Rattle.kdl.specs.Words.{entries_of, nodes_of};
+ghost use Rattle.kdl.specs.Words.{entries_of, entry_data, entry_tree, node_says, nodes_of};
 ghost use Rattle.kdl.specs.declared.node.KdlNode.{out-KdlNode};
 ghost use Rattle.kdl_c.specs.Paths.{node_at, nodes_at};
 ghost use Rattle.kdl_c.specs.Rows.{IsWithin};
-ghost use Rattle.std.specs.Prelude.{◌≡◌, ◌≤◌, ◌<◌, All, IfSome, IsNone, length, take};
+ghost use Rattle.kdl_c.specs.Says.{SaysEntry, SaysNode};
+ghost use Rattle.std.specs.Prelude.{◌≡◌, ◌≤◌, ◌<◌, All, IfSome, IsNone, length, slice_get, take};
 
 use crate::path::{node_at, nodes_at};
 use crate::row::{KdlRow, put_entry, put_node, put_tree};
@@ -104,6 +105,9 @@ pub extern "C" fn kdl_node(
         IfSome (node_at path.now (nodes_of d)) (λ n.
         row.new.start ≡ (out-KdlNode n).span.offset)) }
     ensures within { result ≡ 0 → IsWithin string_len.new row.new }
+    ensures says { result ≡ 0 → IfSome document.old.held.document (λ d.
+        IfSome (node_at path.now (nodes_of d)) (λ n.
+        SaysNode (take string_len.new strings.new) row.new (node_says n))) }
     ensures same { document.new.held.document ≡ document.old.held.document }
     ensures strings { result ≡ 0 → string_len.new ≤ length strings.old }
 {
@@ -138,6 +142,9 @@ pub extern "C" fn kdl_entry(
     ensures there { result ≡ 0 → IfSome document.old.held.document (λ d.
         IfSome (node_at path.now (nodes_of d)) (λ n. index < length (entries_of n))) }
     ensures within { result ≡ 0 → IsWithin string_len.new row.new }
+    ensures says { result ≡ 0 → IfSome document.old.held.document (λ d.
+        IfSome (node_at path.now (nodes_of d)) (λ n. IfSome (slice_get (entries_of n) index) (λ e.
+        SaysEntry (take string_len.new strings.new) row.new (entry_data (entry_tree e))))) }
     ensures same { document.new.held.document ≡ document.old.held.document }
     ensures strings { result ≡ 0 → string_len.new ≤ length strings.old }
 {
@@ -166,6 +173,8 @@ pub fn put_found(
 ) -> u32
     ensures within { result ≡ 0 → IsWithin string_len.new row.new }
     ensures strings { result ≡ 0 → string_len.new ≤ length strings.old }
+    ensures says { result ≡ 0 → SaysEntry (take string_len.new strings.new) row.new
+        (entry_data (entry_tree entry.now)) }
     ensures there { result ≡ 6 → ⊥ }
     ensures held { result ≡ 5 → ⊥ }
 {
