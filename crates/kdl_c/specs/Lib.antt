@@ -20,3 +20,5 @@ pub mod Positions
 pub mod LaidOut
 -- What rows say, read with the strings that were written.
 pub mod Says
+-- What the rows of a document say, in order.
+pub mod Flat

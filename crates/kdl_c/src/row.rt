@@ -2,9 +2,10 @@
 
 ghost use Rattle.kdl.specs.Words.{entry_data, entry_tree, node_says, said_type, value_tree};
 ghost use Rattle.kdl.specs.declared.node.KdlNode.{out-KdlNode};
+ghost use Rattle.kdl_c.specs.Flat.{Item, RowsSay, head_items};
 ghost use Rattle.kdl_c.specs.Rows.{AreWithin, IsWithin};
 ghost use Rattle.kdl_c.specs.Says.{Grown, SaysEntry, SaysInteger, SaysKey, SaysNode, SaysType, SaysValue, flag_of};
-ghost use Rattle.std.specs.Prelude.{◌≡◌, ◌≤◌, ◌+◌, IfOk, OnOk, is_some, length, slice_set, take};
+ghost use Rattle.std.specs.Prelude.{◌≡◌, ◌≤◌, ◌+◌, ◌++◌, IfOk, List, OnOk, is_some, length, slice_set, take};
 
 use crate::text::{Place, put_string};
 use kdl::{KdlDocument, KdlEntry, KdlNode, KdlValue, SourceSpan};
@@ -283,6 +284,7 @@ pub fn put_entry(
 /// The row that ends a block.
 fn end_row() -> KdlRow
     ensures within { IsWithin 0 result }
+    ensures kind { result.kind ≡ 4 }
 {
     KdlRow {
         kind: END,
@@ -324,9 +326,14 @@ fn put_node_rows(
 ) -> Result<(), AllocError>
     ensures within { OnOk result (AreWithin rows.old count.old strings.old used.old
         → AreWithin rows.new count.new strings.new used.new) }
+    ensures says { OnOk result ((items : List Item)
+        → RowsSay rows.old count.old strings.old used.old items
+        → RowsSay rows.new count.new strings.new used.new
+        (items ++ head_items (node_says node.now))) }
 {
     put_row(put_node(node, strings, used), rows, count);
-    for entry in node.entries() {
+    let entries = node.entries();
+    for entry in entries {
         put_row(put_entry(alloc, entry, strings, used)?, rows, count);
     }
     Ok(())
