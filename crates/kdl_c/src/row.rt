@@ -1,8 +1,8 @@
 //! The tree of a document as rows.
 
-ghost use Rattle.kdl.specs.Words.{entry_data, entry_tree, node_says, said_type, value_tree};
+ghost use Rattle.kdl.specs.Words.{document_says, entry_data, entry_tree, node_says, said_type, value_tree};
 ghost use Rattle.kdl.specs.declared.node.KdlNode.{out-KdlNode};
-ghost use Rattle.kdl_c.specs.Flat.{Item, RowsSay, head_items};
+ghost use Rattle.kdl_c.specs.Flat.{Item, RowsSay, flattened, head_items};
 ghost use Rattle.kdl_c.specs.Rows.{AreWithin, IsWithin};
 ghost use Rattle.kdl_c.specs.Says.{Grown, SaysEntry, SaysInteger, SaysKey, SaysNode, SaysType, SaysValue, flag_of};
 ghost use Rattle.std.specs.Prelude.{◌≡◌, ◌≤◌, ◌+◌, ◌++◌, IfOk, List, OnOk, is_some, length, slice_set, take};
@@ -350,6 +350,8 @@ pub fn put_tree(
 ) -> Result<(), AllocError>
     ensures within { OnOk result (AreWithin rows.old count.old strings.old used.old
         → AreWithin rows.new count.new strings.new used.new) }
+    ensures says { count.old ≡ 0 → used.old ≡ 0 → OnOk result (RowsSay rows.new count.new
+        strings.new used.new (flattened (document_says document.now))) }
 {
     let mut above: Vec<&[KdlNode]> = Vec::new(alloc);
     let mut rest = document.nodes();
