@@ -1,7 +1,8 @@
 //! The rows of a document, all at once and one at a time.
 
-ghost use Rattle.kdl.specs.Words.{entries_of, entry_data, entry_tree, node_says, nodes_of};
+ghost use Rattle.kdl.specs.Words.{document_says, entries_of, entry_data, entry_tree, node_says, nodes_of};
 ghost use Rattle.kdl.specs.declared.node.KdlNode.{out-KdlNode};
+ghost use Rattle.kdl_c.specs.Flat.{SayAll, flattened};
 ghost use Rattle.kdl_c.specs.Paths.{node_at, nodes_at};
 ghost use Rattle.kdl_c.specs.Rows.{IsWithin};
 ghost use Rattle.kdl_c.specs.Says.{SaysEntry, SaysNode};
@@ -30,6 +31,9 @@ pub extern "C" fn kdl_tree(
     ensures rows { result ≡ 0 → row_count.new ≤ length rows.old }
     ensures within { result ≡ 0 → All (IsWithin string_len.new) (take row_count.new rows.new) }
     ensures strings { result ≡ 0 → string_len.new ≤ length strings.old }
+    ensures says { result ≡ 0 → IfSome document.old.held.document (λ d.
+        SayAll (take string_len.new strings.new) (take row_count.new rows.new)
+        (flattened (document_says d))) }
 {
     *row_count = 0;
     *string_len = 0;
