@@ -62,11 +62,11 @@ step_in rows rows' k k' ss ss' u u' n behind kids above x all s has here f = rec
   items = s.items ++ head_items n;
   say = f s.items s.say;
   left =
-  ap (λ (z : List Item). (s.items ++ head_items n) ++ z)
-  (ap (λ (z : List Item). z ++ closed (above ++ behind ∷ []) []) (ap listed here ∙ listed_said x) ∙ ap (λ (z : List Item). flattened x ++ z) (closed_push above behind []))
-  ∙ regroup_in s.items (head_items n) (flattened x) (listed behind) (closed above [])
-  ∙ ap (λ (z : List Item). s.items ++ ((z ++ listed behind) ++ closed above [])) (sym (first_items n (Some x) has))
-  ∙ s.left;
+      ap (λ (z : List Item). (s.items ++ head_items n) ++ z)
+      (ap (λ (z : List Item). z ++ closed (above ++ behind ∷ []) []) (ap listed here ∙ listed_said x) ∙ ap (λ (z : List Item). flattened x ++ z) (closed_push above behind []))
+      ∙ regroup_in s.items (head_items n) (flattened x) (listed behind) (closed above [])
+      ∙ ap (λ (z : List Item). s.items ++ ((z ++ listed behind) ++ closed above [])) (sym (first_items n (Some x) has))
+      ∙ s.left;
 }
 
 -- past a node without a block
@@ -77,8 +77,8 @@ step_on rows rows' k k' ss ss' u u' n behind above all s has f = record {
   items = s.items ++ head_items n;
   say = f s.items s.say;
   left = regroup_on s.items (head_items n) (listed behind) (closed above [])
-  ∙ ap (λ (z : List Item). s.items ++ ((z ++ listed behind) ++ closed above [])) (sym (first_items n None has))
-  ∙ s.left;
+      ∙ ap (λ (z : List Item). s.items ++ ((z ++ listed behind) ++ closed above [])) (sym (first_items n None has))
+      ∙ s.left;
 }
 
 -- out of a block

@@ -81,6 +81,7 @@ pub extern "C" fn kdl_faults(
     ensures told { result ≡ 1 → AreTold text.now out.new count.new strings.new string_len.new }
     ensures none { result ≡ 0 → count.new ≡ 0 }
     ensures refused { result ≡ 1 → (x : Nodes) → IsDocument true (chars text.now) x → ⊥ }
+    ensures accepted { result ≡ 0 → (x : Nodes) × IsDocument true (chars text.now) x }
 {
     *count = 0;
     *string_len = 0;

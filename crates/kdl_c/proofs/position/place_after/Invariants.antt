@@ -9,5 +9,5 @@ invariant-loop-c l = record {
   after : (r : Text) → IsAfter l.yielded r l.place;
   line : line_of l.place false ≤ length l.yielded + 1;
   column : l.place.column ≤ length l.yielded + 1;
-  least : 1 ≤ l.place.column
+  least : 1 ≤ l.place.column;
 }
