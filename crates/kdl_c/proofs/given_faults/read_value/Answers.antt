@@ -1,7 +1,7 @@
-use Rattle.std.proofs.Common.{rules, ◌≡◌, true, sym}
+use Rattle.std.proofs.Common.{rules, true, sym}
 use mathlib.Core.Path.{subst}
 use Rattle.std.specs.Str.{chars}
-use Rattle.kdl.specs.Words.{IsEntryText, EntryData, Tells, entry_data, entry_tree}
+use Rattle.kdl.specs.Words.{IsEntryText, EntryData, Tells, entry_tree}
 use Rattle.kdl_text.specs.Failures.{TellsOf}
 use Rattle.kdl_c.specs.Edits.{plain_value}
 use Rattle.kdl_c.proofs.ReadingSteps.{alone_data, not_alone}

@@ -1,5 +1,4 @@
-use Rattle.std.proofs.Common.{rules, ◌≡◌, drop, length, refl, sym, take, subst, true, false, None}
-use Rattle.std.proofs.lemmas.Str.{IsUtf8-take}
+use Rattle.std.proofs.Common.{rules, ◌≡◌, drop, length, sym, take, subst, true, false, None}
 use Rattle.std.specs.Str.{IsCharBoundary, IsUtf8, chars}
 use Rattle.kdl_text.specs.Chars.{begins}
 use Rattle.kdl_c.proofs.PositionSteps.{boundary, cut, not_there, position_at}
