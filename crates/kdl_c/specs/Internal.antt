@@ -5,3 +5,5 @@ pub mod Given
 pub mod Done
 -- A document taken apart along a path.
 pub mod Opened
+-- Places in a text that is read character by character.
+pub mod Places

@@ -10,3 +10,15 @@ pub mod Changes
 pub mod Edits
 -- Words of clauses that only this crate sees.
 pub mod Internal
+-- Faults with all that is said of them.
+pub mod Reports
+-- Texts that are read as documents, nodes, entries or values.
+pub mod Reading
+-- Lines and columns.
+pub mod Positions
+-- Texts laid out.
+pub mod LaidOut
+-- What rows say, read with the strings that were written.
+pub mod Says
+-- What the rows of a document say, in order.
+pub mod Flat

@@ -82,6 +82,7 @@ pub extern "C" fn kdl_faults(
     ensures none { result ≡ 0 → count.new ≡ 0 }
     ensures utf8 { result ≡ 2 → IsUtf8 text.now → ⊥ }
     ensures refused { result ≡ 1 → (x : Nodes) → IsDocument true (chars text.now) x → ⊥ }
+    ensures accepted { result ≡ 0 → (x : Nodes) × IsDocument true (chars text.now) x }
 {
     *count = 0;
     *string_len = 0;

@@ -1,15 +1,16 @@
 //! Documents and texts laid out.
 
-ghost use Rattle.kdl.specs.Words.{CommentsStay, DocumentKeepsNoForm, DocumentLaidOut, IsDocument, Nodes, canonical_text, defaults, document_prints, document_says, document_tree};
-ghost use Rattle.kdl_c.specs.Answers.{Each, FormattedInto};
-ghost use Rattle.std.specs.Prelude.{◌≡◌, true};
-ghost use Rattle.std.specs.Str.{IsUtf8, chars};
+ghost use Rattle.kdl.specs.Words.{CommentsStay, DocumentKeepsNoForm, DocumentLaidOut, IsDocument, Nodes, Text, canonical_text, defaults, document_prints, document_says, document_tree};
+ghost use Rattle.kdl_c.specs.Answers.{Each};
+ghost use Rattle.kdl_c.specs.LaidOut.{IsLaidOut, IsTextLaidOut};
+ghost use Rattle.std.specs.Prelude.{◌≡◌, ◌++◌, IfOk, drop, length, string_bytes, true};
+ghost use Rattle.std.specs.Str.{IsUtf8, chars, encode_utf8_all};
 
 use crate::status::{NO_DOCUMENT, NOT_UTF8, OK, OUT_OF_MEMORY, of_failure};
 use crate::text::put_text;
 use kdl::KdlDocument;
 use kdl_held::Handle;
-use std::alloc::Global;
+use std::alloc::{AllocError, Global};
 
 /// Lays the document out, with its comments. Where memory runs out, some of it may be laid out; its data stay.
 #[unsafe(no_mangle)]
@@ -64,11 +65,14 @@ pub extern "C" fn kdl_format_text(
     out: &mut [u8],
     needed: &mut usize,
 ) -> u32
-    ensures written { result ≡ 0
-        → FormattedInto (chars text.now) out.old out.new needed.new }
     ensures kept { (result ≡ 0 → ⊥) → out.new ≡ out.old }
     ensures utf8 { result ≡ 2 → IsUtf8 text.now → ⊥ }
     ensures refused { result ≡ 1 → (x : Nodes) → IsDocument true (chars text.now) x → ⊥ }
+    ensures written { result ≡ 0 → (p : Text) × IsTextLaidOut (chars text.now) p
+        × (out.new ≡ encode_utf8_all p ++ drop (length (encode_utf8_all p)) out.old)
+        × (needed.new ≡ length (encode_utf8_all p)) }
+    ensures small { result ≡ 4 → (p : Text) × IsTextLaidOut (chars text.now) p
+        × (needed.new ≡ length (encode_utf8_all p)) }
 {
     *needed = 0;
     let Ok(text) = std::str::from_utf8(text) else {
@@ -76,12 +80,18 @@ pub extern "C" fn kdl_format_text(
     };
     match KdlDocument::parse(alloc, text) {
         Err(failure) => of_failure(&failure),
-        Ok(mut document) => match document.autoformat() {
+        Ok(document) => match laid_out(alloc, document) {
             Err(_) => OUT_OF_MEMORY,
-            Ok(()) => match document.to_string(alloc) {
-                Err(_) => OUT_OF_MEMORY,
-                Ok(printed) => put_text(&printed, out, needed),
-            },
+            Ok(printed) => put_text(&printed, out, needed),
         },
     }
+}
+
+/// The text of a document after it is laid out with its comments.
+fn laid_out(alloc: Global, mut document: KdlDocument) -> Result<String, AllocError>
+    ensures { IfOk result (λ s. DocumentKeepsNoForm document → (p : Text) × IsLaidOut document p
+        × (string_bytes s ≡ encode_utf8_all p)) }
+{
+    document.autoformat()?;
+    document.to_string(alloc)
 }

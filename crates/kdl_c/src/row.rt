@@ -1,12 +1,14 @@
 //! The tree of a document as rows.
 
-ghost use Rattle.kdl.specs.Words.{node_tree, entry_tree};
+ghost use Rattle.kdl.specs.Words.{document_says, entry_data, entry_tree, node_says, said_type, value_tree};
 ghost use Rattle.kdl.specs.declared.node.KdlNode.{out-KdlNode};
+ghost use Rattle.kdl_c.specs.Flat.{Item, RowsSay, flattened, head_items};
 ghost use Rattle.kdl_c.specs.Rows.{AreWithin, IsWithin};
-ghost use Rattle.std.specs.Prelude.{◌≡◌, ◌≤◌, ◌+◌, IfOk, OnOk, is_some, length, slice_set};
+ghost use Rattle.kdl_c.specs.Says.{Grown, SaysEntry, SaysInteger, SaysKey, SaysNode, SaysType, SaysValue, flag_of};
+ghost use Rattle.std.specs.Prelude.{◌≡◌, ◌≤◌, ◌+◌, ◌++◌, IfOk, List, OnOk, is_some, length, slice_set, take};
 
 use crate::text::{Place, put_string};
-use kdl::{KdlDocument, KdlEntry, KdlIdentifier, KdlNode, KdlValue, SourceSpan};
+use kdl::{KdlDocument, KdlEntry, KdlNode, KdlValue, SourceSpan};
 use std::alloc::{AllocError, Global};
 
 pub const NODE: u32 = 1;
@@ -64,17 +66,82 @@ struct ValueParts {
 
 const NOWHERE: Place = Place { start: 0, len: 0 };
 
-fn put_identifier(identifier: Option<&KdlIdentifier>, strings: &mut [u8], used: &mut usize) -> Place
+/// A number of a row, and the place of its text.
+#[derive(Clone, Copy)]
+struct Part {
+    kind: u32,
+    place: Place,
+}
+
+/// The kind of an entry, and its key.
+fn put_key(entry: &KdlEntry, strings: &mut [u8], used: &mut usize) -> Part
     ensures more { used.old ≤ used.new }
-    ensures within { used.new ≤ length strings.old → result.start + result.len ≤ used.new }
+    ensures within { used.new ≤ length strings.old
+        → result.place.start + result.place.len ≤ used.new }
+    ensures grown { Grown strings.old used.old strings.new used.new }
+    ensures says { used.new ≤ length strings.old → SaysKey
+        (take used.new strings.new) result.kind result.place.start result.place.len
+        (entry_data (entry_tree entry.now)).key }
 {
-    match identifier {
-        Some(identifier) => put_string(identifier.value(), strings, used),
-        None => NOWHERE,
+    match entry.name() {
+        Some(identifier) => Part {
+            kind: PROPERTY,
+            place: put_string(identifier.value(), strings, used),
+        },
+        None => Part {
+            kind: ARGUMENT,
+            place: NOWHERE,
+        },
     }
 }
 
-fn flag(is: bool) -> u32 {
+/// Whether an entry has a type, and its type.
+fn put_type(entry: &KdlEntry, strings: &mut [u8], used: &mut usize) -> Part
+    ensures more { used.old ≤ used.new }
+    ensures within { used.new ≤ length strings.old
+        → result.place.start + result.place.len ≤ used.new }
+    ensures grown { Grown strings.old used.old strings.new used.new }
+    ensures says { used.new ≤ length strings.old → SaysType
+        (take used.new strings.new) result.kind result.place.start result.place.len
+        (entry_data (entry_tree entry.now)).ty }
+{
+    match entry.ty() {
+        Some(identifier) => Part {
+            kind: 1,
+            place: put_string(identifier.value(), strings, used),
+        },
+        None => Part {
+            kind: 0,
+            place: NOWHERE,
+        },
+    }
+}
+
+/// Whether a node has a type, and its type.
+fn put_node_type(node: &KdlNode, strings: &mut [u8], used: &mut usize) -> Part
+    ensures more { used.old ≤ used.new }
+    ensures within { used.new ≤ length strings.old
+        → result.place.start + result.place.len ≤ used.new }
+    ensures grown { Grown strings.old used.old strings.new used.new }
+    ensures says { used.new ≤ length strings.old → SaysType
+        (take used.new strings.new) result.kind result.place.start result.place.len
+        (said_type (node_says node.now)) }
+{
+    match node.ty() {
+        Some(identifier) => Part {
+            kind: 1,
+            place: put_string(identifier.value(), strings, used),
+        },
+        None => Part {
+            kind: 0,
+            place: NOWHERE,
+        },
+    }
+}
+
+fn flag(is: bool) -> u32
+    ensures { result ≡ flag_of is }
+{
     if is { 1 } else { 0 }
 }
 
@@ -85,20 +152,23 @@ pub fn put_node(node: &KdlNode, strings: &mut [u8], used: &mut usize) -> KdlRow
     ensures len { result.len ≡ (out-KdlNode node.now).span.len }
     ensures more { used.old ≤ used.new }
     ensures within { used.new ≤ length strings.old → IsWithin used.new result }
+    ensures grown { Grown strings.old used.old strings.new used.new }
+    ensures says { used.new ≤ length strings.old
+        → SaysNode (take used.new strings.new) result (node_says node.now) }
 {
     let name = put_string(node.name().value(), strings, used);
-    let ty = put_identifier(node.ty(), strings, used);
+    let ty = put_node_type(node, strings, used);
     let span = node.span();
     KdlRow {
         kind: NODE,
         value: NO_VALUE,
-        has_type: flag(node.ty().is_some()),
+        has_type: ty.kind,
         has_block: flag(node.children().is_some()),
         integer: 0,
         name_start: name.start,
         name_len: name.len,
-        type_start: ty.start,
-        type_len: ty.len,
+        type_start: ty.place.start,
+        type_len: ty.place.len,
         text_start: 0,
         text_len: 0,
         start: span.offset,
@@ -115,6 +185,9 @@ fn put_integer(
     ensures more { used.old ≤ used.new }
     ensures within { IfOk result (λ v. used.new ≤ length strings.old
         → v.text.start + v.text.len ≤ used.new) }
+    ensures grown { Grown strings.old used.old strings.new used.new }
+    ensures says { IfOk result (λ v. used.new ≤ length strings.old
+        → SaysInteger (take used.new strings.new) v.value v.integer v.text.start v.text.len number) }
 {
     match i64::try_from(number) {
         Ok(integer) => Ok(ValueParts {
@@ -142,6 +215,10 @@ fn put_value(
     ensures more { used.old ≤ used.new }
     ensures within { IfOk result (λ v. used.new ≤ length strings.old
         → v.text.start + v.text.len ≤ used.new) }
+    ensures grown { Grown strings.old used.old strings.new used.new }
+    ensures says { IfOk result (λ v. used.new ≤ length strings.old
+        → SaysValue (take used.new strings.new) v.value v.integer v.text.start v.text.len
+        (value_tree value.now)) }
 {
     match value {
         KdlValue::Integer(number) => put_integer(alloc, *number, strings, used),
@@ -157,7 +234,7 @@ fn put_value(
         }),
         KdlValue::Bool(is) => Ok(ValueParts {
             value: BOOL,
-            integer: if *is { 1 } else { 0 },
+            integer: i64::from(*is),
             text: NOWHERE,
         }),
         KdlValue::Null => Ok(ValueParts {
@@ -179,25 +256,24 @@ pub fn put_entry(
     ensures len { IfOk result (λ r. r.len ≡ (entry_tree entry.now).span.len) }
     ensures more { used.old ≤ used.new }
     ensures within { IfOk result (λ r. used.new ≤ length strings.old → IsWithin used.new r) }
+    ensures grown { Grown strings.old used.old strings.new used.new }
+    ensures says { IfOk result (λ r. used.new ≤ length strings.old
+        → SaysEntry (take used.new strings.new) r (entry_data (entry_tree entry.now))) }
 {
-    let name = put_identifier(entry.name(), strings, used);
-    let ty = put_identifier(entry.ty(), strings, used);
+    let name = put_key(entry, strings, used);
+    let ty = put_type(entry, strings, used);
     let value = put_value(alloc, entry.value(), strings, used)?;
     let span = entry.span();
     Ok(KdlRow {
-        kind: if entry.name().is_some() {
-            PROPERTY
-        } else {
-            ARGUMENT
-        },
+        kind: name.kind,
         value: value.value,
-        has_type: flag(entry.ty().is_some()),
+        has_type: ty.kind,
         has_block: 0,
         integer: value.integer,
-        name_start: name.start,
-        name_len: name.len,
-        type_start: ty.start,
-        type_len: ty.len,
+        name_start: name.place.start,
+        name_len: name.place.len,
+        type_start: ty.place.start,
+        type_len: ty.place.len,
         text_start: value.text.start,
         text_len: value.text.len,
         start: span.offset,
@@ -208,6 +284,7 @@ pub fn put_entry(
 /// The row that ends a block.
 fn end_row() -> KdlRow
     ensures within { IsWithin 0 result }
+    ensures kind { result.kind ≡ 4 }
 {
     KdlRow {
         kind: END,
@@ -249,9 +326,14 @@ fn put_node_rows(
 ) -> Result<(), AllocError>
     ensures within { OnOk result (AreWithin rows.old count.old strings.old used.old
         → AreWithin rows.new count.new strings.new used.new) }
+    ensures says { OnOk result ((items : List Item)
+        → RowsSay rows.old count.old strings.old used.old items
+        → RowsSay rows.new count.new strings.new used.new
+        (items ++ head_items (node_says node.now))) }
 {
     put_row(put_node(node, strings, used), rows, count);
-    for entry in node.entries() {
+    let entries = node.entries();
+    for entry in entries {
         put_row(put_entry(alloc, entry, strings, used)?, rows, count);
     }
     Ok(())
@@ -268,6 +350,8 @@ pub fn put_tree(
 ) -> Result<(), AllocError>
     ensures within { OnOk result (AreWithin rows.old count.old strings.old used.old
         → AreWithin rows.new count.new strings.new used.new) }
+    ensures says { count.old ≡ 0 → used.old ≡ 0 → OnOk result (RowsSay rows.new count.new
+        strings.new used.new (flattened (document_says document.now))) }
 {
     let mut above: Vec<&[KdlNode]> = Vec::new(alloc);
     let mut rest = document.nodes();

@@ -1,5 +1,6 @@
 //! Texts written into the caller's buffers.
 
+ghost use Rattle.kdl_c.specs.Says.{Grown, IsBytes};
 ghost use Rattle.std.specs.Prelude.{◌≡◌, ◌++◌, ◌≤◌, ◌+◌, ◌<◌, length, drop, take};
 
 use crate::status::{OK, TOO_SMALL};
@@ -37,6 +38,9 @@ pub fn put_string(text: &str, strings: &mut [u8], used: &mut usize) -> Place
     ensures fits { used.new ≤ length strings.old → used.new ≡ used.old + length text.now }
     ensures written { used.new ≤ length strings.old → strings.new ≡
         take used.old strings.old ++ text.now ++ drop used.new strings.old }
+    ensures grown { Grown strings.old used.old strings.new used.new }
+    ensures bytes { used.new ≤ length strings.old
+        → IsBytes (take used.new strings.new) result.start result.len text.now }
 {
     let bytes = text.as_bytes();
     let place = Place {

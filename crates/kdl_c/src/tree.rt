@@ -1,14 +1,17 @@
 //! The rows of a document, all at once and one at a time.
 
-ghost use Rattle.kdl.specs.Words.{entries_of, nodes_of};
+ghost use Rattle.kdl.specs.Words.{document_says, entries_of, entry_data, entry_tree, node_says, nodes_of};
 ghost use Rattle.kdl.specs.declared.node.KdlNode.{out-KdlNode};
+ghost use Rattle.kdl_c.specs.Flat.{SayAll, flattened};
 ghost use Rattle.kdl_c.specs.Paths.{node_at, nodes_at};
 ghost use Rattle.kdl_c.specs.Rows.{IsWithin};
-ghost use Rattle.std.specs.Prelude.{◌≡◌, ◌≤◌, ◌<◌, All, IfSome, IsNone, length, take};
+ghost use Rattle.kdl_c.specs.Says.{SaysEntry, SaysNode};
+ghost use Rattle.std.specs.Prelude.{◌≡◌, ◌≤◌, ◌<◌, All, IfSome, IsNone, length, slice_get, take};
 
 use crate::path::{node_at, nodes_at};
 use crate::row::{KdlRow, put_entry, put_node, put_tree};
 use crate::status::{NO_DOCUMENT, NOT_FOUND, OK, OUT_OF_MEMORY, TOO_SMALL};
+use kdl::KdlEntry;
 use kdl_held::Handle;
 use std::alloc::Global;
 
@@ -28,6 +31,9 @@ pub extern "C" fn kdl_tree(
     ensures rows { result ≡ 0 → row_count.new ≤ length rows.old }
     ensures within { result ≡ 0 → All (IsWithin string_len.new) (take row_count.new rows.new) }
     ensures strings { result ≡ 0 → string_len.new ≤ length strings.old }
+    ensures says { result ≡ 0 → IfSome document.old.held.document (λ d.
+        SayAll (take string_len.new strings.new) (take row_count.new rows.new)
+        (flattened (document_says d))) }
 {
     *row_count = 0;
     *string_len = 0;
@@ -103,6 +109,9 @@ pub extern "C" fn kdl_node(
         IfSome (node_at path.now (nodes_of d)) (λ n.
         row.new.start ≡ (out-KdlNode n).span.offset)) }
     ensures within { result ≡ 0 → IsWithin string_len.new row.new }
+    ensures says { result ≡ 0 → IfSome document.old.held.document (λ d.
+        IfSome (node_at path.now (nodes_of d)) (λ n.
+        SaysNode (take string_len.new strings.new) row.new (node_says n))) }
     ensures same { document.new.held.document ≡ document.old.held.document }
     ensures strings { result ≡ 0 → string_len.new ≤ length strings.old }
 {
@@ -137,6 +146,9 @@ pub extern "C" fn kdl_entry(
     ensures there { result ≡ 0 → IfSome document.old.held.document (λ d.
         IfSome (node_at path.now (nodes_of d)) (λ n. index < length (entries_of n))) }
     ensures within { result ≡ 0 → IsWithin string_len.new row.new }
+    ensures says { result ≡ 0 → IfSome document.old.held.document (λ d.
+        IfSome (node_at path.now (nodes_of d)) (λ n. IfSome (slice_get (entries_of n) index) (λ e.
+        SaysEntry (take string_len.new strings.new) row.new (entry_data (entry_tree e))))) }
     ensures same { document.new.held.document ≡ document.old.held.document }
     ensures strings { result ≡ 0 → string_len.new ≤ length strings.old }
 {
@@ -148,15 +160,33 @@ pub extern "C" fn kdl_entry(
         None => NOT_FOUND,
         Some(node) => match node.entries().get(index) {
             None => NOT_FOUND,
-            Some(entry) => match put_entry(alloc, entry, strings, string_len) {
-                Err(_) => OUT_OF_MEMORY,
-                Ok(found) => {
-                    *row = found;
-                    room(0, 0, strings.len(), *string_len)
-                }
-            },
+            Some(entry) => put_found(alloc, entry, row, strings, string_len),
         },
     };
     document.put(held);
     status
+}
+
+/// Writes the row of an entry that was found.
+pub fn put_found(
+    alloc: Global,
+    entry: &KdlEntry,
+    row: &mut KdlRow,
+    strings: &mut [u8],
+    string_len: &mut usize,
+) -> u32
+    ensures within { result ≡ 0 → IsWithin string_len.new row.new }
+    ensures strings { result ≡ 0 → string_len.new ≤ length strings.old }
+    ensures says { result ≡ 0 → SaysEntry (take string_len.new strings.new) row.new
+        (entry_data (entry_tree entry.now)) }
+    ensures there { result ≡ 6 → ⊥ }
+    ensures held { result ≡ 5 → ⊥ }
+{
+    match put_entry(alloc, entry, strings, string_len) {
+        Err(_) => OUT_OF_MEMORY,
+        Ok(found) => {
+            *row = found;
+            room(0, 0, strings.len(), *string_len)
+        }
+    }
 }
