@@ -1,7 +1,7 @@
 //! Documents that calls build: what they print reads back.
 
-ghost use Rattle.kdl.specs.Words.{IsDocument, NodeEnds, NodeReadsBack, Nodes, node_says, said_nodes, text_of};
-ghost use Rattle.std.specs.Prelude.{◌≡◌, [], ◌∷◌, IfOk, true};
+ghost use Rattle.kdl.specs.Words.{DocumentReadsBack, IsDocument, NodeEnds, NodeReadsBack, Nodes, document_says, node_says, said_nodes, text_of};
+ghost use Rattle.std.specs.Prelude.{◌≡◌, ◌++◌, [], ◌∷◌, IfOk, true};
 
 use crate::reads_back::printed;
 use kdl::{KdlDocument, KdlEntry, KdlIdentifier, KdlNode, KdlValue, NodeKey};
@@ -34,6 +34,21 @@ pub fn one_node(
     Ok(node)
 }
 
+/// Adds a node after the others: the document still reads back, and says the node last.
+fn add_last(document: &mut KdlDocument, node: KdlNode) -> Result<(), AllocError>
+    requires document { DocumentReadsBack document.old }
+    requires node { NodeReadsBack node }
+    ensures reads { IfOk result (λ _. DocumentReadsBack document.new) }
+    ensures says { IfOk result (λ _. said_nodes (document_says document.new) ≡
+        said_nodes (document_says document.old) ++ (node_says node ∷ [])) }
+{
+    pushed_is_said_last();
+    match document.push_node(node) {
+        Ok(()) => Ok(()),
+        Err((_, error)) => Err(error),
+    }
+}
+
 /// The text of a document of two nodes, built from nothing: it says these nodes, and no others.
 pub fn two_nodes(alloc: Global, one: KdlNode, other: KdlNode) -> Result<String, AllocError>
     requires one { NodeReadsBack one }
@@ -41,14 +56,9 @@ pub fn two_nodes(alloc: Global, one: KdlNode, other: KdlNode) -> Result<String, 
     ensures { IfOk result (λ out. (x : Nodes) × IsDocument true (text_of out) x
         × (said_nodes x ≡ node_says one ∷ node_says other ∷ [])) }
 {
-    pushed_is_said_last();
     let mut document = KdlDocument::new(alloc);
-    let Ok(()) = document.push_node(one) else {
-        return Err(AllocError);
-    };
-    let Ok(()) = document.push_node(other) else {
-        return Err(AllocError);
-    };
+    add_last(&mut document, one)?;
+    add_last(&mut document, other)?;
     printed(alloc, &document)
 }
 
