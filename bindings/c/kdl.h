@@ -9,10 +9,11 @@
  * Each call returns a status, `KDL_OK` or another constant of the enum below, except for kdl_free
  * and kdl_version.
  *
- * Texts. A text is bytes of UTF-8 and a length, without a NUL. A call that writes a text takes a
+ * Texts. A text is bytes of UTF-8 and a length; no NUL ends it. A call that writes a text takes a
  * buffer of the caller, `room` bytes long, and sets `*needed` (or `*.._len`) to the whole length.
- * Where that is more than `room`, it returns KDL_TOO_SMALL: call again with that much room. No
- * call keeps a pointer that it was given, and none returns a pointer.
+ * Where that is more than `room`, it returns KDL_TOO_SMALL: call again with that much room. The
+ * exceptions are kdl_faults, kdl_faults_of and kdl_reports: they return KDL_FAULTS, and the counts
+ * tell. No call keeps a pointer that it was given, and none returns a pointer.
  *
  * Ownership. A `struct kdl_document` belongs to the caller and begins as {0}, without a document.
  * kdl_parse puts a document in and frees the one before; kdl_free frees it, and may be called
@@ -25,9 +26,11 @@
  * different threads at the same time. Make no call from a signal handler, nor in the forked child
  * of a process with threads.
  *
- * Pointers. Each pointer is valid, aligned and, unless it is an input, shared with no other
- * argument of the call, even where its length is 0: pass the address of any object then, never
- * NULL. The bytes of an argument are at most PTRDIFF_MAX. No call checks any of this.
+ * Pointers. Each pointer is valid and aligned, even where its length is 0: pass the address of any
+ * object then, never NULL. No bytes that a call writes overlap bytes of another argument. A path of
+ * length 0 has no bytes, so `kdl_find(d, path, 0, .., &path[0])` is right. Begin a
+ * path as `size_t path[N] = {0};`, or compilers may warn. The bytes of an argument are at most
+ * PTRDIFF_MAX. No call checks any of this.
  */
 #ifndef KDL_H
 #define KDL_H
@@ -46,12 +49,14 @@ uint32_t kdl_version(void);
 /* Statuses. */
 enum {
     KDL_OK = 0,
-    KDL_FAULTS = 1,        /* the text has faults: kdl_faults and kdl_reports list them */
-    KDL_NOT_UTF8 = 2,      /* the text is not UTF-8 */
+    KDL_FAULTS = 1,        /* the text has faults: kdl_faults and kdl_reports list them; of a value,
+                              entry or node: kdl_faults_of */
+    KDL_NOT_UTF8 = 2,      /* the text is not UTF-8, or the name, key or type */
     KDL_OUT_OF_MEMORY = 3, /* a request for memory was refused */
     KDL_TOO_SMALL = 4,     /* a buffer has too little room; the counts say how much it takes */
     KDL_NO_DOCUMENT = 5,   /* the struct has no document */
-    KDL_NOT_FOUND = 6      /* no node is at the path, or no entry is at the index */
+    KDL_NOT_FOUND = 6      /* what the call names is not there: a node, block, entry, index, offset
+                              or kind */
 };
 
 struct kdl_document { bool live; void *at; };
@@ -85,10 +90,12 @@ uint32_t kdl_format_text(const uint8_t *text, size_t text_len,
 /* A fault: bytes start .. start + len of the text, and a message, in bytes of `strings`. */
 struct kdl_fault { size_t start, len, message_start, message_len; };
 
-/* Lists the faults of a text, in the order in which it is read: KDL_FAULTS where there are some,
- * KDL_OK where there are none. `*count` and `*strings_len` are set to the whole counts. Where one
- * of them is more than its room, the rest is missing: call again with that much room, and read
- * nothing before. Each fault lies in the text, between characters. */
+/* Lists the faults of a text, in the order in which they are found: KDL_FAULTS where there are
+ * some, KDL_OK where there are none. An unclosed block comes after the faults inside it: sort by
+ * `start` for the order of the text. `*count` and `*strings_len` are set to the whole counts. Where
+ * one of them is more than its room, the rest is missing: call again with that much room, and read
+ * nothing before. `start` and `start + len` are at most `text_len` and are not inside a character.
+ * After KDL_NOT_UTF8 and KDL_OUT_OF_MEMORY both counts are 0, and no fault is listed. */
 uint32_t kdl_faults(const uint8_t *text, size_t text_len,
                     struct kdl_fault *faults, size_t room, size_t *count,
                     uint8_t *strings, size_t strings_room, size_t *strings_len);
@@ -97,7 +104,8 @@ uint32_t kdl_faults(const uint8_t *text, size_t text_len,
  * kdl_set_value do. */
 enum { KDL_AS_DOCUMENT = 0, KDL_AS_NODE = 1, KDL_AS_ENTRY = 2, KDL_AS_VALUE = 3 };
 
-/* The same of a text that is read as `kind` says. KDL_NOT_FOUND where there is no such kind. */
+/* As kdl_faults, of a text that is read as `kind` says. KDL_NOT_FOUND where there is no such kind:
+ * both counts are 0 then. */
 uint32_t kdl_faults_of(uint32_t kind, const uint8_t *text, size_t text_len,
                        struct kdl_fault *faults, size_t room, size_t *count,
                        uint8_t *strings, size_t strings_room, size_t *strings_len);
@@ -117,8 +125,9 @@ uint32_t kdl_reports(const uint8_t *text, size_t text_len,
                      uint8_t *strings, size_t strings_room, size_t *strings_len);
 
 /* The line and column of a byte of the text, both from 1, by the newlines of KDL (CR LF is one)
- * and in characters. The end of the text has a position too. KDL_NOT_FOUND for an offset after the
- * end or inside of a character, KDL_NOT_UTF8 for another text. */
+ * and in characters: a BOM is one character, and the LF of a CR LF is a column of the line that it
+ * ends. The end of the text has a position too. KDL_NOT_FOUND for an offset after the end or inside
+ * of a character, KDL_NOT_UTF8 for another text. */
 uint32_t kdl_position(const uint8_t *text, size_t text_len, size_t offset,
                       size_t *line, size_t *column);
 
@@ -130,7 +139,8 @@ enum {
     KDL_NO_VALUE = 0,      /* of a node, and of an end */
     KDL_STRING = 1,        /* its text */
     KDL_INTEGER = 2,       /* in `integer` */
-    KDL_LARGE_INTEGER = 3, /* beyond 64 bits: its decimal text, of at most 40 bytes */
+    KDL_LARGE_INTEGER = 3, /* beyond 64 bits, within 128; a larger one is a fault. Its decimal text,
+                              of at most 40 bytes */
     KDL_FLOAT = 4,         /* its text as it was spelled, without '_': 1.5e3, #inf, #-inf, #nan */
     KDL_BOOL = 5,          /* 0 or 1 in `integer` */
     KDL_NULL = 6
@@ -145,7 +155,9 @@ struct kdl_row {
     size_t name_start, name_len; /* the name of a node, or the key of a property */
     size_t type_start, type_len;
     size_t text_start, text_len;
-    size_t start, len;     /* its place in the text that was read, in bytes; 0, 0 of an end */
+    size_t start, len;     /* its place in the text that it was read from, in bytes: of an inserted
+                              node or entry the whole text of that insert, and of what the node has
+                              the place in that text. Edits do not change it. 0, 0 of an end */
 };
 
 /* Writes the whole document as rows: each node, its entries, and, where it has a block, the rows
@@ -166,32 +178,38 @@ uint32_t kdl_tree(struct kdl_document *document,
 uint32_t kdl_node_count(struct kdl_document *document, const size_t *path, size_t path_len,
                         size_t *count);
 
-/* The row of a node, and how many entries it has. */
+/* The row of a node, and how many entries it has. After KDL_TOO_SMALL `*entry_count` and `*row` are
+ * set too; read nothing of `strings`. */
 uint32_t kdl_node(struct kdl_document *document, const size_t *path, size_t path_len,
                   size_t *entry_count, struct kdl_row *row,
                   uint8_t *strings, size_t strings_room, size_t *strings_len);
 
-/* The row of an entry. Arguments and properties are counted together, from 0. */
+/* The row of an entry. Arguments and properties are counted together, from 0. After KDL_TOO_SMALL
+ * `*row` is set too; read nothing of `strings`. */
 uint32_t kdl_entry(struct kdl_document *document, const size_t *path, size_t path_len,
                    size_t index, struct kdl_row *row,
                    uint8_t *strings, size_t strings_room, size_t *strings_len);
 
-/* The index of the first node of that name in the document or in the node's block. */
+/* The index of the first node of that name in the document or in the node's block. KDL_NOT_UTF8 for
+ * a name that is not UTF-8. */
 uint32_t kdl_find(struct kdl_document *document, const size_t *path, size_t path_len,
                   const uint8_t *name, size_t name_len, size_t *index);
 
-/* The index of the last property of that key: the one that counts in KDL. */
+/* The index of the last property of that key: the one that counts in KDL. KDL_NOT_UTF8 for a key
+ * that is not UTF-8. */
 uint32_t kdl_find_entry(struct kdl_document *document, const size_t *path, size_t path_len,
                         const uint8_t *name, size_t name_len, size_t *index);
 
-/* The row of the first argument of the first node of that name in the document. */
+/* The row of the first argument of the first node of that name in the document. KDL_NOT_UTF8 for a
+ * name that is not UTF-8. After KDL_TOO_SMALL `*row` is set too; read nothing of `strings`. */
 uint32_t kdl_get(struct kdl_document *document, const uint8_t *name, size_t name_len,
                  struct kdl_row *row, uint8_t *strings, size_t strings_room, size_t *strings_len);
 
 /* ---- Edits ---- */
 
 /* An edit changes what it says, and no other byte of the text. After another status than KDL_OK
- * the document is as it was. */
+ * the document is as it was. KDL_FAULTS where the text given is not exactly one value, entry or
+ * node. */
 
 /* Sets the value of an entry, and its spelling, both from a text in KDL: "a b", 0x10, #true. The
  * text is a value alone, without a key or a type. */
@@ -213,17 +231,21 @@ uint32_t kdl_set_name(struct kdl_document *document, const size_t *path, size_t 
                       const uint8_t *name, size_t name_len);
 
 /* Inserts an entry, given in KDL as 8080 or port=(u16)8080, before the one at the index, or as the
- * last where `index` is their number. It is printed after one space, in the library's spelling. */
+ * last where `index` is their number. It is printed after one space, in the library's spelling:
+ * 0x10 is inserted as 16. Call kdl_set_value after it for another spelling. */
 uint32_t kdl_insert_entry(struct kdl_document *document, const size_t *path, size_t path_len,
                           size_t index, const uint8_t *entry, size_t entry_len);
 
 uint32_t kdl_remove_entry(struct kdl_document *document, const size_t *path, size_t path_len,
                           size_t index);
 
-/* Inserts a node, given in KDL, before the one at the index of the document or of the node's
- * block, or as the last where `index` is their number. A node without a block gets one. The text
- * is inserted as it is, with its spaces and comments, and with newlines only where they keep it
- * apart from its neighbours: to have a line of its own, "    port 8080\n" says so. */
+/* Inserts a node, given in KDL, into the document or the node's block: before the one at the index,
+ * and before the comments and `/-` nodes in front of that one. Where `index` is their number, it is
+ * inserted after the last node and the newline or `;` that ends it, and before comments and `/-`
+ * nodes after that. The text is inserted as it is, with its spaces and comments. Newlines are added
+ * only where they keep it apart from its neighbours: to have a line of its own, "    port 8080\n"
+ * says so. A node without a block gets `{`, a newline, the text, a newline unless the text ends in
+ * one or in `;`, and `}`. No space is added before the `{`: `a` becomes `a{`. */
 uint32_t kdl_insert_node(struct kdl_document *document, const size_t *path, size_t path_len,
                          size_t index, const uint8_t *node, size_t node_len);
 

@@ -47,6 +47,7 @@ static void faults(void) {
     CHECK(kdl_faults(T("a"), f, 4, &count, s, sizeof s, &len) == KDL_OK && !count && !len);
     CHECK(kdl_faults(T(""), f, 4, &count, s, sizeof s, &len) == KDL_OK && !count && !len);
     CHECK(kdl_faults((const uint8_t *)"\xff", 1, f, 4, &count, s, 9, &len) == KDL_NOT_UTF8);
+    CHECK(!count && !len);
 
     struct kdl_report r[4];
     CHECK(kdl_reports(T("{}"), r, 4, &count, s, sizeof s, &len) == KDL_FAULTS && count == 1);
@@ -71,6 +72,7 @@ static void faults(void) {
     CHECK(count && f[0].start + f[0].len <= 3);
     CHECK(kdl_faults_of(KDL_AS_VALUE, T("(t)1"), f, 4, &count, s, sizeof s, &len) == KDL_FAULTS);
     CHECK(kdl_faults_of(4, T("a"), f, 4, &count, s, sizeof s, &len) == KDL_NOT_FOUND);
+    CHECK(!count && !len);
 }
 
 static void positions(void) {
@@ -113,6 +115,12 @@ static void reading(void) {
     CHECK(kdl_tree(&d, rows, 16, &m, s, sizeof s, &n) == KDL_OK && m == 7 && n == 25);
     CHECK(rows[0].has_type && s[rows[0].type_start] == 't' && rows[0].type_len == 1);
     CHECK(rows[1].integer == 16 && rows[3].has_block && rows[6].kind == KDL_END);
+    /* where the strings have too little room, the counts and the row */
+    CHECK(kdl_entry(&d, path, 1, 1, &row, s, 0, &n) == KDL_TOO_SMALL && n == 1);
+    CHECK(row.kind == KDL_PROPERTY && row.value == KDL_BOOL && row.integer == 1);
+    CHECK(row.name_len == 1);
+    CHECK(kdl_node(&d, path, 1, &m, &row, s, 1, &n) == KDL_TOO_SMALL && n == 2 && m == 2);
+    CHECK(row.kind == KDL_NODE && row.has_type && row.type_len == 1 && row.name_len == 1);
     /* look-ups */
     CHECK(kdl_find(&d, path, 0, T("b"), &n) == KDL_OK && n == 1);
     path[0] = 1;
@@ -130,6 +138,19 @@ static void reading(void) {
     CHECK(kdl_find_entry(&d, path, 1, T("k"), &n) == KDL_OK && n == 2);
     CHECK(kdl_get(&d, T("n"), &row, s, sizeof s, &n) == KDL_OK && row.integer == 4);
     CHECK(row.kind == KDL_ARGUMENT && row.start == 14 && row.len == 1);
+    CHECK(kdl_get(&d, (const uint8_t *)"\xff", 1, &row, s, sizeof s, &n) == KDL_NOT_UTF8);
+    CHECK(kdl_find(&d, path, 0, (const uint8_t *)"\xff", 1, &n) == KDL_NOT_UTF8);
+    CHECK(kdl_find_entry(&d, path, 1, (const uint8_t *)"\xff", 1, &n) == KDL_NOT_UTF8);
+    /* its place is in the text of its insert */
+    CHECK(kdl_insert_entry(&d, path, 1, 0, T(" k=0x10")) == KDL_OK);
+    CHECK(kdl_entry(&d, path, 1, 0, &row, s, sizeof s, &n) == KDL_OK);
+    CHECK(row.start == 0 && row.len == 7);
+    CHECK(kdl_entry(&d, path, 1, 1, &row, s, sizeof s, &n) == KDL_OK);
+    CHECK(row.start == 2 && row.len == 3);
+    prints(&d, "n k=16 k=1 k=2 k=3 4; n 5");
+    CHECK(kdl_parse(T("n long"), &d) == KDL_OK);
+    CHECK(kdl_get(&d, T("n"), &row, s, 0, &n) == KDL_TOO_SMALL && n == 4);
+    CHECK(row.kind == KDL_ARGUMENT && row.value == KDL_STRING && row.text_len == 4);
     kdl_free(&d);
 }
 

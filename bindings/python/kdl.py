@@ -55,8 +55,9 @@ __all__ = [
 
 #: What an entry may have: a string, a whole number, a `Float` or `float`, a boolean, or null.
 Value = Union[str, int, float, bool, None]
-#: Where a node is: a name (the first node of that name) or an index, in the document, then in that
-#: node's block, and so on. A single name or index may be given alone.
+#: Where a node is. A path is a name, an index, or a sequence of these, from the document down: a
+#: name is the first node of that name, an index counts all nodes from 0, and a negative one from
+#: the end. A str is one name: "a.b" is no path.
 Path = Union[str, int, Sequence[Union[str, int]]]
 
 _VERSION = 1
@@ -146,7 +147,9 @@ class Fault(NamedTuple):
 
 
 class KdlError(ValueError):
-    """A text that is not KDL. `faults` lists its faults, in the order in which it is read."""
+    """A text that is not KDL. `faults` lists its faults, in the order in which they are found: an
+    unclosed block comes after the faults inside it. Sort by `start` for the order of the text.
+    """
 
     def __init__(self, faults: List[Fault]) -> None:
         told = [f"{it.line}:{it.column}: {it.message}" for it in faults[:3]]
@@ -158,21 +161,35 @@ class KdlError(ValueError):
         return KdlError, (self.faults,)
 
 
+# A float in KDL. A point or an exponent sets it apart from a whole number.
+_FLOATS = re.compile(
+    r"#-?inf|#nan|[+-]?[0-9][0-9_]*(?=[.eE])(\.[0-9][0-9_]*)?([eE][+-]?[0-9][0-9_]*)?"
+)
+
+
 class Float(float):
     """A float that keeps its text, as the text in which it was read.
+
+    `ValueError` for a text that is no float in KDL. A float has a point or an exponent, with digits
+    on both sides, or is `#inf`, `#-inf` or `#nan`.
 
     >>> loads("price 1.50")[0][0].text
     '1.50'
     >>> print(dumps([Node("price", [Float("1.50"), Float("#inf")])]), end="")
     price 1.50 #inf
+    >>> Float("1")
+    Traceback (most recent call last):
+    ValueError: no float in KDL: '1'
     """
 
     __slots__ = ("text",)
     text: str
 
     def __new__(cls, text: str) -> Float:
-        known = {"#inf": "inf", "#-inf": "-inf", "#nan": "nan"}
-        self = float.__new__(cls, known.get(text, text))
+        if not _FLOATS.fullmatch(text):
+            raise ValueError(f"no float in KDL: {text!r}")
+        # Python takes no '_' at the end of digits.
+        self = float.__new__(cls, text.lstrip("#").replace("_", ""))
         self.text = text
         return self
 
@@ -183,7 +200,8 @@ class Float(float):
 class Entry:
     """An argument, whose `name` is None, or a property.
 
-    `span` is its (start, end) in the text that was read, in bytes, and no part of a comparison.
+    `span` is its (start, end) in the text that it was read from, in bytes, and no part of a
+    comparison.
 
     >>> Entry(8080, "port", type="u16")
     Entry(8080, 'port', type='u16')
@@ -215,14 +233,19 @@ class Node:
     """A node: a name, arguments, properties and children.
 
     `entries` has the arguments and properties in their order. `children` is a list, or None where
-    the node has no block. `span` is its (start, end) in the text that was read, in bytes, and no
-    part of a comparison.
+    the node has no block. `span` is its (start, end) in the text that it was read from, in bytes,
+    and no part of a comparison.
+
+    Its entries are the `entries` given, then an argument for each of `args`, then a property for
+    each of `props`. `args` is a list or another iterable of values, and no str.
 
     >>> node = Node("server", ["web"], {"port": 8080}, [Node("tls")])
     >>> node
     Node('server', entries=[Entry('web'), Entry(8080, 'port')], children=[...])
     >>> node == loads("server web port=8080 { tls; }")[0]
     True
+    >>> Node("a", [2], {"k": 3}, entries=[Entry(1)]).entries
+    [Entry(1), Entry(2), Entry(3, 'k')]
     """
 
     __slots__ = ("name", "type", "entries", "children", "span")
@@ -235,6 +258,8 @@ class Node:
     def __init__(self, name: str, args: Iterable[Value] = (), props: Optional[Dict[str, Value]] = None,
                  children: Optional[Iterable[Node]] = None, *, type: Optional[str] = None,
                  entries: Optional[Iterable[Entry]] = None) -> None:
+        if isinstance(args, (str, bytes, bytearray)):
+            raise TypeError("args is a list of values: [args] for one")
         self.name, self.type, self.span = name, type, (0, 0)
         self.entries = [] if entries is None else list(entries)
         self.entries += [Entry(it) for it in args]
@@ -255,8 +280,12 @@ class Node:
         """The value of the property of that key, or of the argument at that index."""
         return self.args[key] if isinstance(key, int) else self.props[key]
 
+    # Python would iterate by __getitem__, over the arguments: a node is no list of nodes.
+    __iter__ = None
+
     def get(self, key: Union[str, int], default: Any = None) -> Any:
-        """The same, or the default where there is no such property or argument."""
+        """The value of the property of that key, or of the argument at that index, or the default
+        where there is none."""
         try:
             return self[key]
         except LookupError:
@@ -334,7 +363,11 @@ def _written(call: Callable[..., int], room: int) -> Tuple[int, bytes]:
 
 
 def faults(text: Union[str, bytes]) -> List[Fault]:
-    """The faults of a text, in the order in which it is read; none where it is KDL.
+    """The faults of a text; none where it is KDL.
+
+    They are in the order in which they are found: an unclosed block comes after the faults inside
+    it. Sort by `start` for the order of the text. Raises `UnicodeDecodeError` for bytes that are
+    not UTF-8, and `UnicodeEncodeError` for a str with surrogates; both are `ValueError`.
 
     >>> faults("a 1")
     []
@@ -438,7 +471,12 @@ def _nodes_of(rows: memoryview, strings: bytes) -> List[Node]:
 class Document:
     r"""A document that keeps every byte of its form.
 
-    It is closed at the end of a `with` block, by `close`, or when it is no longer used.
+    `Document(text)` is the document of a text, as `Document.parse(text)` is, and without a text an
+    empty one. It is closed at the end of a `with` block, by `close`, or when it is no longer used.
+
+    A path says where a node is. It is a name, an index, or a sequence of these, from the document
+    down: a name is the first node of that name, an index counts all nodes from 0, and a negative
+    one from the end. A str is one name: "a.b" is no path.
 
     >>> with Document.parse("a  0x10 // ten\n") as document:
     ...     document["a"].args, str(document)
@@ -454,7 +492,10 @@ class Document:
 
     @classmethod
     def parse(cls, text: Union[str, bytes]) -> Document:
-        """The document of a text. Raises `KdlError` where it has faults."""
+        """The document of a text. Raises `KdlError` where it has faults, `UnicodeDecodeError` for
+        bytes that are not UTF-8, and `UnicodeEncodeError` for a str with surrogates; all are
+        `ValueError`.
+        """
         return cls(text)
 
     def close(self) -> None:
@@ -551,10 +592,12 @@ class Document:
         return next((it for it in self.nodes if it.name == name), None)
 
     def get_arg(self, name: str, default: Any = None) -> Any:
-        """The first argument of the first node of that name, or the default.
+        """The first argument of the first node of that name in the document, or the default where
+        there is no such node or it has no argument. `#null` is an argument: it gives None.
 
-        >>> Document.parse("name web; port 8080").get_arg("port")
-        8080
+        >>> document = Document.parse("port 8080; proxy #null")
+        >>> document.get_arg("port"), document.get_arg("proxy", 1), document.get_arg("x", 1)
+        (8080, None, 1)
         """
         row, key = ctypes.create_string_buffer(_row.size), name.encode()
         status, strings = _written(lambda *it: _lib.kdl_get(self._handle, key, len(key), row, *it), 64)
@@ -639,7 +682,9 @@ class Document:
 
     def set_value(self, path: Path, entry: Union[str, int], value: Value) -> None:
         """Sets the value of an entry: of the property of that key, or of the entry at that index
-        among all entries of the node. Its key, its type and what is around it stay.
+        among all entries of the node. Its key, its type and what is around it stay. The value is
+        written in the library's spelling (`0x1F90` becomes `9090`): see `set_spelling`.
+        `OverflowError` beyond 128 bits.
 
         >>> document = Document.parse("a 1 /* one */ (u8)0x2 k = 3")
         >>> document.set_value("a", 1, 4)
@@ -650,7 +695,9 @@ class Document:
         self.set_spelling(path, entry, _spelled(value))
 
     def set_spelling(self, path: Path, entry: Union[str, int], text: str) -> None:
-        """The same, with the value and its spelling from a text in KDL.
+        """Sets the value of an entry, and its spelling, both from a text in KDL. The entry is the
+        property of that key, or the entry at that index among all entries of the node. Its key, its
+        type and what is around it stay.
 
         >>> document = Document.parse("mode 0o644")
         >>> document.set_spelling("mode", 0, "0o755")
@@ -738,8 +785,12 @@ class Document:
     def insert_node(self, path: Path, node: Union[Node, str], index: Optional[int] = None) -> None:
         r"""Inserts a node, or the node of a text in KDL, into the block of the node at the path, or
         into the document where the path is (): before the node at the index, or as the last. A
-        node without a block gets one. A `Node` is laid out and indented; a text is inserted as it
-        is, with its spaces and comments.
+        node without a block gets one.
+
+        A `Node` is laid out and indented by 4 spaces for each level, with LF, whatever the
+        neighbours have. At index 0 of a block whose first node begins a line, an empty line follows
+        it; in an empty block that has a newline, an empty line is before it. A text is inserted as
+        it is, with its spaces and comments.
 
         >>> document = Document.parse("a {\n    b 1 // one\n}\n")
         >>> document.insert_node("a", Node("c", [2]))
@@ -835,7 +886,8 @@ def _spelled_entry(entry: Entry) -> str:
 
 
 def loads(text: Union[str, bytes]) -> List[Node]:
-    """The nodes of a text. Raises `KdlError` where it has faults.
+    """The nodes of a text. Raises `KdlError` where it has faults, `UnicodeDecodeError` for bytes
+    that are not UTF-8, and `UnicodeEncodeError` for a str with surrogates; all are `ValueError`.
 
     >>> loads("a 1 k=#true { b; }")
     [Node('a', entries=[Entry(1), Entry(True, 'k')], children=[...])]
@@ -868,7 +920,9 @@ def dumps(nodes: Iterable[Node]) -> str:
 
 
 def format_text(text: Union[str, bytes]) -> str:
-    r"""A text laid out, with its comments. Raises `KdlError` where it has faults.
+    r"""A text laid out, with its comments. Raises `KdlError` where it has faults,
+    `UnicodeDecodeError` for bytes that are not UTF-8, and `UnicodeEncodeError` for a str with
+    surrogates; all are `ValueError`.
 
     >>> format_text("a   1 // one")
     'a 1 // one\n'
@@ -879,12 +933,14 @@ def format_text(text: Union[str, bytes]) -> str:
     return out.decode()
 
 
-_USAGE = """usage: python -m kdl check FILE..       lists the faults of the files
+_USAGE = """usage: python -m kdl check FILE..       lists the faults of the files on standard error
        python -m kdl fmt [-w] FILE..    writes the files laid out, or with -w rewrites those that change
        python -m kdl strip FILE         writes the data of the file: one text for equal data
-       python -m kdl get NAME FILE      writes the first argument of the first node of that name
-A file - is standard input. The status is 0, or 1 where a file has faults or no such value, 2 for other
-words, and 3 where a file cannot be read or written or memory runs out."""
+       python -m kdl get NAME FILE      writes the first argument of the first node of that name, as
+                                        KDL writes it
+A file - is standard input, and ./-w is the file of that name. The status is 0, or 1 where a file
+has faults, is not UTF-8, or has no such value, 2 for wrong usage, and 3 where a file cannot be read
+or written or memory runs out."""
 
 
 def _shown(text: str) -> str:
@@ -945,8 +1001,8 @@ def _run_on(word: str, name: str, key: str, rewrites: bool) -> int:
         for fault in error.faults:
             sys.stderr.write(_told(name, text, fault))
         return 1
-    except UnicodeDecodeError:
-        print(f"{name}: not UTF-8", file=sys.stderr)
+    except UnicodeDecodeError as error:
+        print(f"{name}: not UTF-8 at byte {error.start}", file=sys.stderr)
         return 1
     if not rewrites:
         sys.stdout.buffer.write(out)
@@ -961,8 +1017,10 @@ def main(words: Sequence[str]) -> int:
     if word in ("-h", "--help"):
         print(_USAGE)
         return 0
-    rewrites = word == "fmt" and names[:1] == ["-w"]
-    key = names.pop(0) if rewrites or word == "get" and names else ""
+    rewrites = word == "fmt" and "-w" in names
+    if rewrites:
+        names = [it for it in names if it != "-w"]
+    key = names.pop(0) if word == "get" and names else ""
     is_one = word in ("strip", "get") and len(names) == 1
     if not (is_one or word in ("check", "fmt") and names) or rewrites and "-" in names:
         print(_USAGE, file=sys.stderr)

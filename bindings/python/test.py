@@ -209,11 +209,47 @@ def data():
     assert (node.type, node.args, node.props, node.span) == ("t", [1, 2], {"k": 3}, (0, 30))
     assert node["k"] == 3 and node[1] == 2 and node[-1] == 2 and node.get("x", 7) == node.get(5, 7) == 7
     assert node.child("c").args == [4] and node.child("d") is None and node.child("c").child("d") is None
+    # a node is no list of nodes, nor a text one of values
+    for given in (node, Node("a")):
+        raises(TypeError, iter, given)
+        raises(TypeError, kdl.dumps, given)
+        raises(TypeError, Node, "a", children=given)
+    for given in ("xyz", "", b"xyz", bytearray(b"xyz")):
+        raises(TypeError, Node, "a", given)
+    combined = Node("a", (it for it in (2, 3)), {"k": 4}, entries=[Entry(0, "j"), Entry(1)])
+    assert kdl.dumps([combined]) == "a j=0 1 2 3 k=4\n"
     raises(IndexError, lambda: node[2])
     raises(KeyError, lambda: node["x"])
     same = lambda one, two: kdl.loads(one) == kdl.loads(two)
     assert same("a 1 { b; }", "a 0x1 {b}") and not same("a 1", "a 1.0") and not same("a", "a {}")
     assert not same("a 1", "a #true") and not same("a { b; }", "a { b {}; }") and same("a {}", "a { }")
+
+
+def floats():
+    """A `Float` is what the library reads as a float, and keeps its value and its text."""
+    kept = "1.5 +1.5 -0.0 00.5 1e5 1E-5 1e+5 1.5e10 1e400 #inf #-inf #nan".split()
+    for text in (*kept, "1_0.5_0", "1.5_", "1_.5", "1__0.5e1_0_", "1_e5"):
+        read, = kdl.loads(f"a {text}")[0].args
+        for given in (Float(text), pickle.loads(pickle.dumps(Float(text)))):
+            assert type(read) is Float and repr(read) == repr(given) and given.text == text, text
+        assert read.text == text.replace("_", ""), text
+        back, = kdl.loads(kdl.dumps([Node("a", [Float(text)])]))[0].args
+        assert type(back) is Float and repr(back) == repr(read), text
+        document = Document("a 1 // c")
+        document.set_value("a", 0, Float(text))
+        assert str(document) == f"a {text} // c"
+    wrong = (
+        "1 -1 1_0 1. .5 -.5 1._5 1e 1e_5 1.5e 1.e5 _1.5 +-1.5 0x1.5 1,5 inf -inf nan Infinity #+inf #-nan ##inf "
+        "#true \u0663.5 1.\u0663 1.5e\u0663 \uff11.5 \u22121.5"
+    )
+    for text in wrong.split():
+        raises(ValueError, Float, text)
+        told = [] if kdl.faults(f"a {text}") else kdl.loads(f"a {text}")[0].args
+        assert not any(isinstance(it, float) for it in told), text
+    for text in ("", " 1.5", "1.5 ", "1.5\n", "1.5 2", "\n#inf", "1.5;", "1.5//"):
+        raises(ValueError, Float, text)
+    for given in (1, 1.5, b"1.5", None):
+        raises(TypeError, Float, given)
 
 
 # Documents
@@ -261,6 +297,14 @@ def edits():
     document.remove_node("n")
     document.remove_node("a")
     document.remove_node([0, 0, 0])
+    nothing = Document("a #null; b")
+    assert nothing.get_arg("a", 7) is None
+    assert nothing.get_arg("b", 7) == nothing.get_arg("c", 7) == 7
+    assert str(Document()) == "" and raises(KeyError, Document("a { b }").find, "a.b")
+    spelled_anew = Document("a 0x1F90")
+    spelled_anew.set_value("a", 0, 9090)
+    raises(OverflowError, spelled_anew.set_value, "a", 0, 2**127)
+    assert str(spelled_anew) == "a 9090"
     document.autoformat()
     assert str(document).startswith("b {\n    c 99999999999999999999 1.50 #null 2.50 {"), str(document)
 
@@ -283,9 +327,10 @@ def errors():
         fault = raises(KdlError, call, *given).faults[0]
         assert fault.line == 1 and fault.column == fault.start + 1 >= start + 1 and fault.message, fault
     assert str(document) == "a 1"
-    raises(UnicodeDecodeError, Document.parse, b"a \xff")
-    raises(UnicodeDecodeError, kdl.format_text, b"a \xff")
     raises(UnicodeDecodeError, kdl.faults, b"\xc3")
+    for call in (Document, Document.parse, kdl.loads, kdl.format_text, kdl.faults):
+        assert raises(UnicodeDecodeError, call, b"a \xff").start == 2
+        raises(UnicodeEncodeError, call, "a \ud800")
     many = kdl.faults("é }\r\n" * 3000)
     assert len(many) == 3000 and many[-1][2:4] == (3000, 3), many[-1]
     with Document("a") as closed:
@@ -368,12 +413,23 @@ def command_line():
         assert ran("get", "a", "a.kdl") == (0, "1\n", "") and ran("get", "a", "c.kdl")[0] == 1
         assert ran("get", "b", "a.kdl") == (1, "", "a.kdl: no argument of a node b\n")
         assert ran("get", "n", "-", given=b'n "x y"') == (0, '"x y"\n', "")
-        assert ran("check", "-", given=b"\xff") == (1, "", "-: not UTF-8\n")
-        for words in ((), ("check",), ("fmt",), ("fmt", "-w"), ("fmt", "-w", "-"), ("strip", "a", "b"), ("get", "a"), ("x", "a")):
+        assert ran("check", "-", given=b"a \xff") == (1, "", "-: not UTF-8 at byte 2\n")
+        pathlib.Path("-w").write_text("a   2")
+        for words in (("a.kdl", "-w"), ("a.kdl", "-w", "b.kdl")):
+            pathlib.Path("a.kdl").write_text(files["a.kdl"], encoding="utf-8")
+            assert ran("fmt", *words) == (0, "", "")
+            assert pathlib.Path("a.kdl").read_text(encoding="utf-8") == laid
+        assert pathlib.Path("-w").read_text() == "a   2" and ran("fmt", "./-w") == (0, "a 2\n", "")
+        for words in ((), ("check",), ("fmt",), ("fmt", "-w"), ("fmt", "-w", "-"), ("fmt", "-", "-w"), ("strip", "a", "b"), ("get", "a"), ("x", "a")):
             status, out, err = ran(*words)
             assert (status, out) == (2, "") and err.startswith("usage: "), words
         assert ran("check", "none.kdl") == (3, "", "none.kdl: No such file or directory\n")
         assert ran("--help")[0] == 0
+        # what the README shows
+        shown = (HERE.parent / "README.md").read_text(encoding="utf-8")
+        shown = shown.split("$ python -m kdl check service.kdl\n")[1].split("$ ")[0]
+        pathlib.Path("service.kdl").write_text("name web\nport #treu\n")
+        assert ran("check", "service.kdl") == (1, "", shown), shown
         os.chdir("/")
 
 
@@ -390,5 +446,5 @@ def examples():
 
 
 if __name__ == "__main__":
-    for test in (data, edits, errors, lives, threads, examples, command_line, all_rows):
+    for test in (data, floats, edits, errors, lives, threads, examples, command_line, all_rows):
         test()
