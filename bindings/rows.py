@@ -49,7 +49,7 @@ def line_of(line: str) -> Tuple[str, Optional[str]]:
 
 
 def decoded(notation: str, member: str = "", own: str = "") -> str:
-    """The text that the notation stands for."""
+    """The text that the notation means."""
     whole = re.sub("⟦([0-9]+):(.*?)⟧", lambda it: it[2] * int(it[1]), notation)
     fills = {**MARKS, "◊": member, "□": own}
     mark = lambda it: chr(int(it[1], 16)) if it[1] else fills[it[0]]
