@@ -1,6 +1,6 @@
--- Tokens: one at most, and what the lexer returns.
-pub mod Lexing
--- Pieces before another rest, and the ends of pieces.
+-- Slices of a text: what is between two places, and what it costs.
+pub mod Slicing
+-- Entries before another rest, and the ends of their pieces.
 pub mod Moving
 -- Entries and identifiers laid in a text: derived, printed, one at most.
 pub mod Laying
@@ -8,7 +8,5 @@ pub mod Laying
 pub mod Reading
 -- What `==` of identifiers and entries means, on trees.
 pub mod Equality
--- A whole number is one of 128 bits.
-pub mod Fitting
 -- The strings of identifiers in memory are of Unicode scalar values.
 pub mod WellFormed

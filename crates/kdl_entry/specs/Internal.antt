@@ -8,13 +8,9 @@ pub mod Counted
 pub mod EntryMachine
 -- The machine's state that a reader of an entry holds, and what its steps return.
 pub mod EntryReading
--- What the lexer hands out.
-pub mod Handed
 -- What the reader of identifier texts returns.
 pub mod IdentifierReading
 -- An item under way: the type and value of an entry after its key, or the type and name of a node, token by token.
 pub mod Items
 -- What is proved of the machine that reads entry texts.
 pub mod MachineLaws
--- Tokens, and the cut of a text into tokens.
-pub mod Tokens

@@ -1,7 +1,7 @@
 //! What a slashdash drops.
 
-ghost use Rattle.kdl_entry.specs.Internal.Handed.{Cuts, kind_view};
-ghost use Rattle.kdl_entry.specs.Internal.Tokens.{newline, semicolon, space};
+ghost use Rattle.kdl_lexer.specs.Internal.Handed.{Cuts, kind_view};
+ghost use Rattle.kdl_lexer.specs.Internal.Tokens.{newline, semicolon, space};
 ghost use Rattle.kdl_grammar.specs.Internal.Control.{at, finish};
 ghost use Rattle.kdl_items.specs.Internal.Passing.{follows_word, is_word, slashdash_in};
 ghost use Rattle.kdl_items.specs.Items.{ItemEnd};
@@ -17,7 +17,7 @@ use crate::item::{Item, Place};
 use crate::machine::{Machine, Phase, Spot};
 use crate::slices::cut;
 use crate::spaces::line;
-use kdl_entry::items::{LexFailure, Lexer, Token, TokenKind};
+use kdl_lexer::{LexFailure, Lexer, Token, TokenKind};
 use kdl_text::cursor::Steps;
 use std::alloc::{AllocError, Global};
 

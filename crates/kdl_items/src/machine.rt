@@ -1,13 +1,13 @@
 //! Which tokens may come after a slashdash, up to the end of what it drops. Nothing is built.
 
-ghost use Rattle.kdl_entry.specs.Internal.Handed.{kind_view};
+ghost use Rattle.kdl_lexer.specs.Internal.Handed.{kind_view};
 ghost use Rattle.kdl_grammar.specs.Internal.Control as control;
 ghost use Rattle.kdl_items.specs.Internal.Passing.{is_block, is_gap, is_over, is_word};
 ghost use Rattle.kdl_items.specs.Internal.Machine.{Moves, frame_view, machine_view, move_view, phase_view, spot_view};
 ghost use Rattle.kdl_items.specs.declared.machine.Phase.TheVariants.{InNode};
 ghost use Rattle.std.specs.Prelude.{◌≡◌, ◌∷◌, IfOk, List, MatchOption, Some, None, [], true, false, if◌then◌else◌};
 
-use kdl_entry::items::TokenKind;
+use kdl_lexer::TokenKind;
 use std::alloc::{AllocError, Global};
 
 /// A node before its block: directly after its name or an entry, after spaces there, or after a dropped block. The

@@ -4,7 +4,7 @@ use Rattle.kdl_text.specs.Chars.{Text}
 use Rattle.kdl_value.specs.Tree.{text_of}
 use Rattle.kdl_text.specs.Internal.Here.{first as first_char}
 use Rattle.kdl_text.specs.Trivia.{ValueEnd}
-use Rattle.kdl_entry.proofs.Moving.Puts.{same_piece}
+use Rattle.kdl_lexer.proofs.Moving.Puts.{same_piece}
 use Rattle.kdl_grammar.specs.Grammar.{Terminator}
 use Rattle.kdl_grammar.specs.Places.{BeforeChildren, AfterChildren}
 use Rattle.kdl_grammar.specs.ReadsBack.{Anything, TextEnd, BeforeTerminator, EndReads, NodeReads, reads, Terminates, terminator_text}

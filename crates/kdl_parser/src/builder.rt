@@ -17,8 +17,8 @@ mod steps;
 use self::content::content;
 use crate::node_parts::{DocumentParts, ParsedNode};
 use kdl_entry::items::item::{Item, TypeParts, text_between};
-use kdl_entry::items::{LexFailure, Lexer, Token, TokenKind, fault_at};
 use kdl_entry::{KdlEntry, KdlIdentifier};
+use kdl_lexer::{LexFailure, Lexer, Token, TokenKind, fault_at};
 use kdl_text::cursor::{Checkpoint, Piece};
 use std::alloc::Global;
 

@@ -12,8 +12,8 @@ ghost use Rattle.std.specs.Str.{chars};
 
 use crate::node_parts::{DocumentParts, ParsedNode};
 use crate::token_loop::build;
-use kdl_entry::items::{LexFailure, Lexer};
 use kdl_faults::{Whole, failure};
+use kdl_lexer::{LexFailure, Lexer};
 use kdl_text::cursor::Steps;
 use kdl_text::error::ParseFailure;
 use std::alloc::Global;

@@ -7,7 +7,7 @@ ghost use Rattle.kdl_text.specs.Spans.{InText};
 ghost use Rattle.std.specs.Prelude.{◌≡◌};
 ghost use Rattle.std.specs.Str.{chars};
 
-use kdl_entry::items::{LexFailure, Lexer, TokenKind, fault_at};
+use kdl_lexer::{LexFailure, Lexer, TokenKind, fault_at};
 use kdl_text::cursor::Steps;
 use kdl_text::span::SourceSpan;
 use std::alloc::Global;

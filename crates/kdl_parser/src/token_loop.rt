@@ -9,7 +9,7 @@ ghost use Rattle.std.specs.Prelude.{◌≡◌, ◌+◌, ◌≤◌};
 
 use crate::builder::Builder;
 use crate::node_parts::{DocumentParts, ParsedNode};
-use kdl_entry::items::{LexFailure, Lexer};
+use kdl_lexer::{LexFailure, Lexer};
 use kdl_text::cursor::Checkpoint;
 use std::alloc::Global;
 

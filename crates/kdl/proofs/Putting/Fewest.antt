@@ -3,14 +3,15 @@ use Rattle.std.proofs.Common.{◌≡◌, inl, ℕ, zero, suc, ◌+◌, ◌≤◌
 use Rattle.std.proofs.lemmas.List.{append-nil}
 use Rattle.kdl_text.specs.Bare.BareString.{bare as a_bare}
 use Rattle.kdl_text.specs.Chars.{Text, Newline}
-use Rattle.kdl_entry.specs.Internal.Tokens.{t_newline, t_space}
-use Rattle.kdl_entry.proofs.Lexing.TokenUnique.{token_det}
+use Rattle.kdl_lexer.specs.Internal.Tokens.{t_newline, t_space}
+use Rattle.kdl_lexer.proofs.Lexing.TokenUnique.{token_det}
 use Rattle.kdl_items.specs.Internal.Lacking.{letter}
 use Rattle.kdl_items.proofs.Lacking.SpaceEnds.{a_space}
 use Rattle.kdl_text.specs.Chars.Star.{none as no_star}
 use Rattle.kdl_text.specs.Trivia.{Break, LineComment, NodeSpace, ValueEnd, Ws}
 use Rattle.kdl_text.proofs.Spacing.ValueEnds.{value_end_no_identifier}
-use Rattle.kdl_entry.specs.Entries.{StringPiece, string as a_string', untyped}
+use Rattle.kdl_lexer.specs.Pieces.{StringPiece}
+use Rattle.kdl_entry.specs.Entries.{string as a_string', untyped}
 use Rattle.kdl_entry.proofs.Moving.EntryMoves.{punctuation_end}
 use Rattle.kdl_grammar.specs.Data as data'
 use Rattle.kdl_grammar.specs.Grammar.{Terminator, IsNode, named, no_gap, last_gap, braces}

@@ -7,7 +7,7 @@ use Rattle.kdl_text.specs.Chars.{Text, times}
 use Rattle.kdl_text.specs.Internal.Here.{first as first_char}
 use Rattle.kdl_text.specs.Trivia.{ValueEnd}
 use Rattle.kdl_text.specs.declared.span.SourceSpan.{SourceSpan}
-use Rattle.kdl_entry.proofs.Moving.Puts.{same_piece}
+use Rattle.kdl_lexer.proofs.Moving.Puts.{same_piece}
 use Rattle.kdl_grammar.specs.Data as data'
 use Rattle.kdl_grammar.specs.Grammar.{Terminator, Gap, no_gap, AreNodes, last_gap}
 use Rattle.kdl_grammar.specs.Places.{BeforeChildren, AfterChildren}

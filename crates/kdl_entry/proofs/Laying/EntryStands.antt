@@ -7,10 +7,9 @@ use Rattle.kdl_entry.specs.Formless.{formed_identifier, formed}
 use Rattle.kdl_entry.specs.Laid.{LaidIdentifier, spelled, LaidType, no_type, a_type, LaidKey, no_key, a_key, LaidItem, item, LaidEntry, laid_entry}
 use Rattle.kdl_entry.specs.Print.{print_entry}
 use Rattle.kdl_entry.specs.Tree.{Identifier, Entry, without_span, without_spans, unflagged, without_spans_and_flag}
-use Rattle.kdl_entry.proofs.Moving.EntryMoves.{move_item, move_leading, leading_end}
+use Rattle.kdl_entry.proofs.Moving.EntryMoves.{move_item, move_leading, leading_end, is_move}
 use Rattle.kdl_entry.proofs.Laying.FormedPrints.{formed_is}
 use Rattle.kdl_entry.proofs.Laying.LaidPrints.{entry_printed}
-use Rattle.kdl_entry.proofs.Moving.Puts.{is_move}
 use Rattle.kdl_entry.proofs.Laying.Respanned.{free_entry, same_entry}
 
 -- as it prints it is laid before every text with a value end

@@ -12,16 +12,16 @@ use Rattle.kdl_entry.specs.Internal.Building.{Stays}
 use Rattle.kdl_entry.specs.Internal.EntryMachine.{State, ahead, entry_slashdash, under, dropped, word, done, came, step, finish, Runs, stops, reads, AnswersEntry, given}
 use Rattle.kdl_entry.specs.Internal.EntryReading.{AnswersEntryText, EndsIn, Ended, Same, Stands, Stepped}
 use Rattle.kdl_value.specs.Data.{Value}
-use Rattle.kdl_entry.specs.Internal.Handed.{Cuts, one, spaces, NoToken, IsFaultAt, HandsOut, Lexed, kind_view}
+use Rattle.kdl_lexer.specs.Internal.Handed.{Cuts, one, spaces, NoToken, IsFaultAt, HandsOut, Lexed, kind_view}
 use Rattle.kdl_entry.specs.Internal.Items.{Stage, opened, named, closed, keyed, Item, Answer, TypeParts, KeyParts, named_at, closed_at, reopened, if_valued}
 use Rattle.kdl_entry.specs.Internal.Items as items
-use Rattle.kdl_entry.specs.Internal.Tokens.{Token, space, newline, slashdash, string, value, left, right, equals, BeginsToken, t_space}
+use Rattle.kdl_lexer.specs.Internal.Tokens.{Token, space, newline, slashdash, string, value, left, right, equals, BeginsToken, t_space}
 use Rattle.kdl_entry.specs.Tree.{Entry, Identifier, entry_tree}
 use Rattle.kdl_entry.specs.declared.entry.KdlEntry.{KdlEntry}
-use Rattle.kdl_entry.specs.declared.items.lexer.LexFailure.{LexFailure}
-use Rattle.kdl_entry.specs.declared.items.lexer.LexFailure.TheVariants.{Faulty, Memory}
-use Rattle.kdl_entry.specs.declared.items.lexer.Token.{Token as CodeToken}
-use Rattle.kdl_entry.proofs.Lexing.TokenUnique.{no_token, token_shorter}
+use Rattle.kdl_lexer.specs.declared.lexer.LexFailure.{LexFailure}
+use Rattle.kdl_lexer.specs.declared.lexer.LexFailure.TheVariants.{Faulty, Memory}
+use Rattle.kdl_lexer.specs.declared.lexer.Token.{Token as CodeToken}
+use Rattle.kdl_lexer.proofs.Lexing.TokenUnique.{no_token, token_shorter}
 use Rattle.kdl_entry.proofs.Reading.EntryLaws.{goes_on}
 
 module _ (whole : Text) where

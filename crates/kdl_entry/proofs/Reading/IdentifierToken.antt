@@ -8,26 +8,27 @@ use Rattle.kdl_text.specs.Internal.Reading.{Moves}
 use Rattle.kdl_text.specs.Spans.{InText, bytes}
 use Rattle.kdl_text.specs.Trivia.{ValueEnd}
 use Rattle.kdl_text.specs.Trivia.ValueEnd.{nothing}
-use Rattle.kdl_entry.specs.Entries.{StringPiece, IsString, string, IsIdentifierText}
-use Rattle.kdl_entry.specs.Internal.Handed.{Cuts, one, spaces, IsFaultAt, HandsOut, Lexed, kind_view}
+use Rattle.kdl_lexer.specs.Pieces.{StringPiece}
+use Rattle.kdl_entry.specs.Entries.{IsString, string, IsIdentifierText}
+use Rattle.kdl_lexer.specs.Internal.Handed.{Cuts, one, spaces, IsFaultAt, HandsOut, Lexed, kind_view}
 use Rattle.kdl_entry.specs.Internal.IdentifierReading.{AnswersIdentifierText}
 use Rattle.kdl_entry.specs.Internal.Items.{identifier_at}
 use Rattle.kdl_entry.specs.Laid.{LaidIdentifier, LaidIdentifierText, spelled}
 use Rattle.kdl_entry.specs.Places.{Is, between}
-use Rattle.kdl_entry.specs.Internal.Tokens as tokens
-use Rattle.kdl_entry.specs.Internal.Tokens.{BeginsToken, t_space, t_string}
+use Rattle.kdl_lexer.specs.Internal.Tokens as tokens
+use Rattle.kdl_lexer.specs.Internal.Tokens.{BeginsToken, t_space, t_string}
 use Rattle.kdl_value.specs.Tree.{text_of}
 use Rattle.kdl_entry.specs.Tree.{Identifier}
 use Rattle.kdl_text.specs.declared.span.SourceSpan.{SourceSpan}
-use Rattle.kdl_entry.specs.declared.items.lexer.LexFailure.{LexFailure}
-use Rattle.kdl_entry.specs.declared.items.lexer.LexFailure.TheVariants.{Faulty, Memory}
-use Rattle.kdl_entry.specs.declared.items.lexer.Token.{Token as CodeToken}
-use Rattle.kdl_entry.specs.declared.items.lexer.TokenKind.{TokenKind}
-use Rattle.kdl_entry.specs.declared.items.lexer.TokenKind.TheVariants.{String as StringKind}
-use Rattle.kdl_entry.proofs.Lexing.TokenUnique.{no_token, token_det}
+use Rattle.kdl_lexer.specs.declared.lexer.LexFailure.{LexFailure}
+use Rattle.kdl_lexer.specs.declared.lexer.LexFailure.TheVariants.{Faulty, Memory}
+use Rattle.kdl_lexer.specs.declared.lexer.Token.{Token as CodeToken}
+use Rattle.kdl_lexer.specs.declared.lexer.TokenKind.{TokenKind}
+use Rattle.kdl_lexer.specs.declared.lexer.TokenKind.TheVariants.{String as StringKind}
+use Rattle.kdl_lexer.proofs.Lexing.TokenUnique.{no_token, token_det}
 use Rattle.kdl_entry.proofs.Reading.EntryLoop.{bytes_before, char_in}
-use Rattle.kdl_entry.proofs.Lexing.Placing.{place}
-use Rattle.kdl_entry.proofs.Lexing.StringUnique.{string_end}
+use Rattle.kdl_entry.proofs.Slicing.Placing.{place}
+use Rattle.kdl_lexer.proofs.Lexing.StringUnique.{string_end}
 
 -- where a token was handed out, the text is an identifier only if the token is its string, and the text ends after it
 is_string : {t r v : Text} {k : tokens.Token} → Cuts t k r → IsIdentifierText true t v → (r ≡ []) × (k ≡ tokens.string v)

@@ -2,7 +2,7 @@
 use Rattle.std.specs.Prelude.{◌≡◌, ◌≤◌, Option, Some, None, option_map, Result, Ok, Err}
 use Rattle.kdl_text.specs.Internal.Here.{Here, Spot}
 use Rattle.kdl_text.specs.Spans.{raise}
-use Rattle.kdl_entry.specs.Internal.Handed.{IsFaultAt}
+use Rattle.kdl_lexer.specs.Internal.Handed.{IsFaultAt}
 use Rattle.kdl_entry.specs.Internal.Items as items
 use Rattle.kdl_entry.specs.Internal.Items.{Answer, goes, gives, refuses}
 use Rattle.kdl_value.specs.Tree.{value_tree, text_of}
@@ -13,8 +13,8 @@ use Rattle.kdl_entry.specs.declared.items.item.KeyParts.{KeyParts}
 use Rattle.kdl_entry.specs.declared.items.item.Stage.{Stage}
 use Rattle.kdl_entry.specs.declared.items.item.Stage.TheVariants.{Opened, Named, Closed, Keyed}
 use Rattle.kdl_entry.specs.declared.items.item.TypeParts.{TypeParts}
-use Rattle.kdl_entry.specs.declared.items.lexer.LexFailure.{LexFailure}
-use Rattle.kdl_entry.specs.declared.items.lexer.LexFailure.TheVariants.{Faulty, Memory}
+use Rattle.kdl_lexer.specs.declared.lexer.LexFailure.{LexFailure}
+use Rattle.kdl_lexer.specs.declared.lexer.LexFailure.TheVariants.{Faulty, Memory}
 
 -- a type in memory, as characters
 abbrev pub type_view : TypeParts → items.TypeParts

@@ -6,7 +6,7 @@ use Rattle.kdl_text.specs.Spans.{InText}
 use Rattle.kdl_entry.specs.Internal.Building.{item_view}
 use Rattle.kdl_entry.specs.Internal.EntryMachine as machine
 use Rattle.kdl_entry.specs.Internal.EntryMachine.{AnswersEntry, Runs, under, word, done}
-use Rattle.kdl_entry.specs.Internal.Handed.{IsFaultAt}
+use Rattle.kdl_lexer.specs.Internal.Handed.{IsFaultAt}
 use Rattle.kdl_value.specs.Tree.{text_of}
 use Rattle.kdl_entry.specs.Tree.{entry_tree}
 use Rattle.kdl_entry.specs.Tree as tree
@@ -14,8 +14,8 @@ use Rattle.kdl_entry.specs.declared.entry.KdlEntry.{KdlEntry}
 use Rattle.kdl_entry.specs.declared.items.entries.State.{State}
 use Rattle.kdl_entry.specs.declared.items.entries.State.TheVariants.{Start, EntrySlashdash, Under, Dropped, Pending, Done}
 use Rattle.kdl_entry.specs.declared.items.entries.Word.{Word}
-use Rattle.kdl_entry.specs.declared.items.lexer.LexFailure.{LexFailure}
-use Rattle.kdl_entry.specs.declared.items.lexer.LexFailure.TheVariants.{Faulty, Memory}
+use Rattle.kdl_lexer.specs.declared.lexer.LexFailure.{LexFailure}
+use Rattle.kdl_lexer.specs.declared.lexer.LexFailure.TheVariants.{Faulty, Memory}
 
 -- a string that may be a key, as characters
 abbrev pub word_view : Word → machine.Word

@@ -4,7 +4,7 @@ ghost use Rattle.kdl_entry.specs.Internal.Building.{item_view, Stays};
 ghost use Rattle.kdl_entry.specs.Internal.EntryMachine as machine;
 ghost use Rattle.kdl_entry.specs.Internal.EntryMachine.{argument_of, ended, finish, keyed_item, entry_by, opened_item, step, word_at};
 ghost use Rattle.kdl_entry.specs.Internal.EntryReading.{word_view, state_view, AnswersEntryText, Stands, Stepped, Ended};
-ghost use Rattle.kdl_entry.specs.Internal.Handed.{kind_view};
+ghost use Rattle.kdl_lexer.specs.Internal.Handed.{kind_view};
 ghost use Rattle.kdl_entry.specs.Places.{between};
 ghost use Rattle.kdl_value.specs.Tree.{text_of, value_tree};
 ghost use Rattle.kdl_entry.specs.Tree.{entry_tree, identifier_tree};
@@ -13,10 +13,10 @@ ghost use Rattle.std.specs.Prelude.{◌≡◌, [], Some, None, true, false, IfOk
 ghost use Rattle.std.specs.Str.{chars};
 
 use super::item::{Given, Item, empty, entry_from, piece_between, text_between};
-use super::lexer::{LexFailure, Lexer, Token, TokenKind, fault_at};
 use crate::entry::KdlEntry;
 use crate::identifier::{KdlIdentifier, sliced_identifier};
 use kdl_faults::{Whole, failure};
+use kdl_lexer::{LexFailure, Lexer, Token, TokenKind, fault_at};
 use kdl_text::cursor::{Checkpoint, Piece, Steps};
 use kdl_text::error::ParseFailure;
 use kdl_text::span::SourceSpan;

@@ -5,9 +5,9 @@ ghost use Rattle.std.specs.Prelude.{◌≡◌, ◌↔◌, IsTrue, []};
 ghost use Rattle.std.specs.Str.{chars};
 
 use super::item::identifier_between;
-use super::lexer::{LexFailure, Lexer, Token, TokenKind, fault_at};
 use crate::identifier::KdlIdentifier;
 use kdl_faults::{Whole, failure};
+use kdl_lexer::{LexFailure, Lexer, Token, TokenKind, fault_at};
 use kdl_text::cursor::{Checkpoint, Steps};
 use kdl_text::error::ParseFailure;
 use std::alloc::Global;

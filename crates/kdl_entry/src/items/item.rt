@@ -4,7 +4,7 @@
 
 ghost use Rattle.kdl_entry.specs.Internal.Building.{key_view, type_view, item_view, Did, Holds, Stays};
 ghost use Rattle.kdl_entry.specs.Internal.Counted.{Sliced, ItemSliced};
-ghost use Rattle.kdl_entry.specs.Internal.Handed.{kind_view};
+ghost use Rattle.kdl_lexer.specs.Internal.Handed.{kind_view};
 ghost use Rattle.kdl_entry.specs.Internal.Items as spec;
 ghost use Rattle.kdl_entry.specs.Internal.Items.{entry_at, identifier_at};
 ghost use Rattle.kdl_entry.specs.Places.{span_of, between};
@@ -14,9 +14,9 @@ ghost use Rattle.kdl_text.specs.Internal.Here.{Ahead};
 ghost use Rattle.kdl_text.specs.Spans.{bytes};
 ghost use Rattle.std.specs.Prelude.{◌≡◌, if◌then◌else◌, [], Some, None, true, false, IfOk, OnOk, option_map};
 
-use super::lexer::{LexFailure, Lexer, TokenKind, fault_at};
 use crate::entry::{KdlEntry, KdlEntryFormat};
 use crate::identifier::{KdlIdentifier, sliced_identifier};
+use kdl_lexer::{LexFailure, Lexer, TokenKind, fault_at};
 use kdl_text::cursor::{Checkpoint, Piece};
 use kdl_text::span::SourceSpan;
 use kdl_value::KdlValue;
@@ -87,7 +87,7 @@ pub struct Given {
 /// let text = piece_between(&mut lexer, &from, &to).to_string(alloc)?; // "ab"
 /// ```
 #[inline]
-#[tactic(auto, using(crate::proofs::Lexing::Between::is_between))]
+#[tactic(auto, using(crate::proofs::Slicing::Between::is_between))]
 pub fn piece_between<'a>(
     lexer: &mut Lexer<'a>,
     from: &Checkpoint<'a>,
@@ -176,7 +176,7 @@ pub fn identifier_between<'a>(
 /// ```
 /// let nothing = empty(alloc); // ""
 /// ```
-#[tactic(auto, using(crate::proofs::Lexing::Between::empty_text))]
+#[tactic(auto, using(crate::proofs::Slicing::Between::empty_text))]
 pub fn empty(alloc: Global) -> String
     ensures { text_of result ≡ [] }
 {
@@ -387,7 +387,7 @@ impl<'a> Item<'a> {
     }
 
     /// Goes on after the `)` of the type.
-    #[tactic(auto, using(crate::proofs::Lexing::SliceCost::ahead_fewer))]
+    #[tactic(auto, using(crate::proofs::Slicing::SliceCost::ahead_fewer))]
     fn close(
         &mut self,
         alloc: Global,
@@ -635,7 +635,7 @@ impl<'a> Item<'a> {
     }
 
     /// A token after the `=` of a property.
-    #[tactic(auto, using(crate::proofs::Lexing::SliceCost::ahead_fewer))]
+    #[tactic(auto, using(crate::proofs::Slicing::SliceCost::ahead_fewer))]
     fn at_keyed(
         &mut self,
         alloc: Global,

@@ -7,7 +7,7 @@ use Rattle.kdl_text.specs.Chars.{Text, is_space, is_newline_char, space as a_spa
 use Rattle.kdl_text.specs.Trivia.{LineComment, Ws}
 use Rattle.kdl_text.proofs.Spacing.SpaceUnique.{no_line_comment}
 use Rattle.kdl_entry.specs.Places.{between}
-use Rattle.kdl_entry.proofs.Lexing.Between.{is_between}
+use Rattle.kdl_entry.proofs.Slicing.Between.{is_between}
 use Rattle.kdl_entry.proofs.Moving.EntryEnds.{end_slashdash}
 use Rattle.kdl_items.specs.Items.{Item, comment, piece, line_end, EsclineItems, SpaceItems, Place, before_entry, before_block, behind_block, may_end, takes_blocks, spaced, PlaceItems}
 use Rattle.kdl_items.specs.Written.{line_text, tail, on_line}

@@ -1,8 +1,8 @@
 -- Without data and places the machine is the one that says which tokens may come; so what it returns is derived.
 use Rattle.std.proofs.Common.{◌≡◌, Bool, true, false, List, [], ◌∷◌, Option, Some, None, option_map, refl, sym, ap, subst, ◌∙◌}
 use Rattle.kdl_text.specs.Chars.{Text}
-use Rattle.kdl_entry.specs.Internal.Tokens.{Token, value, closing, bom, t_bom, Lexes, done, next}
-use Rattle.kdl_entry.proofs.Lexing.TokenUnique.{token_det}
+use Rattle.kdl_lexer.specs.Internal.Tokens.{Token, value, closing, bom, t_bom, Lexes, done, next}
+use Rattle.kdl_lexer.proofs.Lexing.TokenUnique.{token_det}
 use Rattle.kdl_grammar.specs.Data as data'
 use Rattle.kdl_grammar.specs.Grammar.{AreNodes, IsDocument}
 use Rattle.kdl_grammar.specs.Laid.{LaidDocument, LaidContent, with_bom}

@@ -10,11 +10,12 @@ use Rattle.kdl_text.specs.Trivia.LineSpace.{space as line_space, «break» as li
 use Rattle.kdl_text.specs.Trivia.Slashdash.{slashdash as a_slashdash}
 use Rattle.kdl_text.proofs.Looking.Stars.{snoc}
 use Rattle.kdl_entry.specs.Data.{Entry}
-use Rattle.kdl_entry.specs.Entries.{StringPiece, IsString, string as a_string', parens, untyped, typed, MaybeType, IsEntry}
+use Rattle.kdl_lexer.specs.Pieces.{StringPiece}
+use Rattle.kdl_entry.specs.Entries.{IsString, string as a_string', parens, untyped, typed, MaybeType, IsEntry}
 use Rattle.kdl_entry.specs.Places.{between}
-use Rattle.kdl_entry.specs.Internal.Tokens.{Token, slashdash, string, BeginsToken, t_space, t_newline, t_slashdash, t_string, t_value, t_left, t_right, t_opening, t_closing, t_equals, t_semicolon, t_bom, Lexes, done, next}
-use Rattle.kdl_entry.specs.Internal.Tokens as token'
-use Rattle.kdl_entry.proofs.Lexing.TokenUnique.{token_det, no_token}
+use Rattle.kdl_lexer.specs.Internal.Tokens.{Token, slashdash, string, BeginsToken, t_space, t_newline, t_slashdash, t_string, t_value, t_left, t_right, t_opening, t_closing, t_equals, t_semicolon, t_bom, Lexes, done, next}
+use Rattle.kdl_lexer.specs.Internal.Tokens as token'
+use Rattle.kdl_lexer.proofs.Lexing.TokenUnique.{token_det, no_token}
 use Rattle.kdl_grammar.specs.Data.{Children, Nodes}
 use Rattle.kdl_grammar.specs.Grammar.{Terminator, named, AfterName, kept_entry, dropped_entry, blocks, Blocks, dropped_block, block, no_block, Gap, no_gap, dropped_node, AreNodes, last_gap, node_then, IsBlock, braces}
 use Rattle.kdl_grammar.specs.Grammar.Gap.{line_space as gap_space}

@@ -6,12 +6,12 @@ use Rattle.kdl_text.specs.Spans.{bytes}
 use Rattle.kdl_text.specs.Trivia.{Break}
 use Rattle.kdl_text.proofs.Looking.MovesJoin.{bytes-append}
 use Rattle.kdl_text.proofs.Looking.Texts.{bytes-chars}
-use Rattle.kdl_entry.specs.Internal.Handed.{Cuts, one, kind_view}
+use Rattle.kdl_lexer.specs.Internal.Handed.{Cuts, one, kind_view}
 use Rattle.kdl_entry.specs.Places.{between}
-use Rattle.kdl_entry.specs.Internal.Tokens.{newline, semicolon, t_newline, t_semicolon, Token}
-use Rattle.kdl_entry.specs.declared.items.lexer.TokenKind.{TokenKind}
-use Rattle.kdl_entry.specs.declared.items.lexer.TokenKind.TheVariants.{Semicolon}
-use Rattle.kdl_entry.proofs.Lexing.Between.{is_between}
+use Rattle.kdl_lexer.specs.Internal.Tokens.{newline, semicolon, t_newline, t_semicolon, Token}
+use Rattle.kdl_lexer.specs.declared.lexer.TokenKind.{TokenKind}
+use Rattle.kdl_lexer.specs.declared.lexer.TokenKind.TheVariants.{Semicolon}
+use Rattle.kdl_entry.proofs.Slicing.Between.{is_between}
 use Rattle.kdl_items.specs.Items as items
 use Rattle.kdl_items.specs.Items.{Item, piece, ItemEnd, line_end, GapItems, PlaceItems, Place, behind_block}
 use Rattle.kdl_items.specs.Internal.Lacking.{HasOpenEnd}

@@ -2,7 +2,7 @@
 use Rattle.std.proofs.Common.{◌≡◌, ◌⊎◌, inl, inr, ℕ, suc, ◌==◌, Bool, true, false, List, [], ◌∷◌, ◌++◌, length, Option, Some, refl, sym, ap, ◌∙◌}
 use Rattle.std.proofs.lemmas.Bool.{eq-eqb, eqb-true}
 use Rattle.std.specs.Prelude.{option_to_list}
-use Rattle.kdl_entry.specs.Internal.Tokens.{Token}
+use Rattle.kdl_lexer.specs.Internal.Tokens.{Token}
 use Rattle.kdl_grammar.specs.Internal.Control as control
 use Rattle.kdl_items.specs.Internal.Machine.{spot_view, phase_view, frame_view, stacked, move_view}
 use Rattle.kdl_items.specs.declared.machine.Frame.{Frame}

@@ -6,10 +6,10 @@ use Rattle.kdl_text.specs.Chars.Star.{none as no_star, more}
 use Rattle.kdl_text.specs.Internal.Here.{Here}
 use Rattle.kdl_text.specs.Internal.Reading.{Moves}
 use Rattle.kdl_text.specs.Trivia.{NodeSpace}
-use Rattle.kdl_entry.specs.Internal.Handed.{Cuts, one, spaces, NoToken, kind_view, HandsOut}
-use Rattle.kdl_entry.specs.Internal.Tokens.{Token, space, t_space, BeginsToken}
-use Rattle.kdl_entry.specs.declared.items.lexer.Token.{Token as CodeToken}
-use Rattle.kdl_entry.proofs.Lexing.TokenUnique.{token_det, no_token}
+use Rattle.kdl_lexer.specs.Internal.Handed.{Cuts, one, spaces, NoToken, kind_view, HandsOut}
+use Rattle.kdl_lexer.specs.Internal.Tokens.{Token, space, t_space, BeginsToken}
+use Rattle.kdl_lexer.specs.declared.lexer.Token.{Token as CodeToken}
+use Rattle.kdl_lexer.proofs.Lexing.TokenUnique.{token_det, no_token}
 use Rattle.kdl_grammar.specs.Internal.Control.{fresh, spaced, later, gap, node_slashdash, type_open, type_name, type_done, in_node, property, entry_slashdash, block_slashdash, kept, kept_slashdash, Control, at, step}
 use Rattle.kdl_items.specs.Items.{Place, before_entry, before_block, behind_block}
 use Rattle.kdl_items.specs.Internal.Passing.{moved, is_over, is_block, is_word, follows_word, slashdash_in, PartPasses, over, word_ends, word_over, goes}

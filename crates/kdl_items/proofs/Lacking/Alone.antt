@@ -5,7 +5,7 @@ use Rattle.kdl_text.specs.Internal.Here.{first}
 use Rattle.kdl_text.specs.Trivia.{Line, LineComment, line as a_line, EscEnd, escline, NodeSpace, Break, LineSpace, Slashdash, ValueEnd}
 use Rattle.kdl_entry.specs.Places.{DroppedEntry, dropped as dropped_e}
 use Rattle.kdl_entry.proofs.Moving.EntryMoves.{move_spaces, move_slashdash, move_entry, punctuation_end, spaces_end}
-use Rattle.kdl_entry.proofs.Moving.Puts.{Put, stands, also, joined, same, same_piece}
+use Rattle.kdl_lexer.proofs.Moving.Puts.{Put, stands, also, joined, same, same_piece}
 use Rattle.kdl_grammar.specs.Data as data'
 use Rattle.kdl_grammar.specs.Grammar.{Terminator, IsNode, Gap, no_gap, line_space, dropped_node, AreNodes, last_gap}
 use Rattle.kdl_grammar.specs.Places.{DroppedBlock, dropped, AfterChildren, after, BeforeChildren, before}

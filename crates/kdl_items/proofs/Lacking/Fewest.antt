@@ -6,10 +6,11 @@ use Rattle.kdl_text.specs.Chars.{Text, is_identifier_char, is_space, is_newline_
 use Rattle.kdl_text.specs.Trivia.{Ws, NodeSpace, Break, LineSpace, Slashdash, slashdash, ValueEnd}
 use Rattle.kdl_text.proofs.Spacing.SpacePieces.{line_space_shorter}
 use Rattle.kdl_text.proofs.Spacing.SpaceUnique.{line_space_det}
-use Rattle.kdl_entry.specs.Entries.{StringPiece, string as a_string', parens, untyped, typed}
-use Rattle.kdl_entry.specs.Internal.Tokens as token'
-use Rattle.kdl_entry.specs.Internal.Tokens.{Token, BeginsToken, space, newline, t_space, t_newline, t_slashdash, t_string, t_left}
-use Rattle.kdl_entry.proofs.Lexing.TokenUnique.{token_det, no_token}
+use Rattle.kdl_lexer.specs.Pieces.{StringPiece}
+use Rattle.kdl_entry.specs.Entries.{string as a_string', parens, untyped, typed}
+use Rattle.kdl_lexer.specs.Internal.Tokens as token'
+use Rattle.kdl_lexer.specs.Internal.Tokens.{Token, BeginsToken, space, newline, t_space, t_newline, t_slashdash, t_string, t_left}
+use Rattle.kdl_lexer.proofs.Lexing.TokenUnique.{token_det, no_token}
 use Rattle.kdl_grammar.specs.Data.{Node, node, no_children, Nodes, none, first}
 use Rattle.kdl_grammar.specs.Grammar.{Terminator, IsNode, named, AfterName, Blocks, Gap, no_gap, line_space, dropped_node, AreNodes, last_gap, node_then}
 use Rattle.kdl_grammar.specs.Internal.Control.{Control, at, gap, node_slashdash, step, held}

@@ -3,7 +3,7 @@ use Rattle.std.proofs.Common.{◌≡◌, [], ◌∷◌, ◌++◌, refl, sym, ap,
 use Rattle.kdl_text.specs.Chars.{Text, Star, none, more, Space, space as a_space}
 use Rattle.kdl_text.specs.Internal.Here.{first}
 use Rattle.kdl_text.specs.Trivia.{BlockComment, Ws}
-use Rattle.kdl_entry.proofs.Moving.Puts.{Put, Move}
+use Rattle.kdl_lexer.proofs.Moving.Puts.{Put, Move}
 use Rattle.kdl_items.proofs.Rewriting.BeforeNewlines.{closed_block, closed_run}
 
 -- the text before a longer rest

@@ -4,7 +4,8 @@ use Rattle.kdl_text.specs.Bare.BareString.{bare as a_bare}
 use Rattle.kdl_text.specs.Chars.{Text, Star, none, more}
 use Rattle.kdl_text.specs.Trivia.{NodeSpace, slashdash, ValueEnd}
 use Rattle.kdl_text.proofs.Spacing.ValueEnds.{value_end_no_identifier}
-use Rattle.kdl_entry.specs.Entries.{StringPiece, string as a_string', untyped}
+use Rattle.kdl_lexer.specs.Pieces.{StringPiece}
+use Rattle.kdl_entry.specs.Entries.{string as a_string', untyped}
 use Rattle.kdl_entry.specs.Places.{DroppedEntry, dropped as dropped_e}
 use Rattle.kdl_entry.proofs.Moving.EntryMoves.{punctuation_end}
 use Rattle.kdl_grammar.specs.Data as nodes'

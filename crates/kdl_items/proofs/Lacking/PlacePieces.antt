@@ -7,8 +7,8 @@ use Rattle.kdl_text.specs.Spans.{bytes}
 use Rattle.kdl_text.specs.Trivia.{NodeSpace, Slashdash, slashdash, ValueEnd}
 use Rattle.kdl_entry.specs.Data.{Entry}
 use Rattle.kdl_entry.specs.Entries.{IsEntry}
-use Rattle.kdl_entry.specs.Internal.Tokens.{BeginsToken, t_slashdash}
-use Rattle.kdl_entry.specs.Internal.Tokens as token'
+use Rattle.kdl_lexer.specs.Internal.Tokens.{BeginsToken, t_slashdash}
+use Rattle.kdl_lexer.specs.Internal.Tokens as token'
 use Rattle.kdl_entry.specs.Places.{leading}
 use Rattle.kdl_entry.proofs.Moving.EntryMoves.{move_slashdash, move_entry, leading_end}
 use Rattle.kdl_grammar.specs.Data.{Nodes}

@@ -20,7 +20,7 @@ use Rattle.kdl_text.proofs.Spacing.SpaceReads.{moves_ran, spaces_ran}
 use Rattle.kdl_text.proofs.Spacing.SpaceUnique.{spaces_plus, space_det, block_det, esc_end_ws, slash_no_space, backslash_no_space}
 use Rattle.kdl_text.proofs.Spacing.SpacePieces.{star_end, end_length, space_end, space_shorter, block_shorter, newline_shorter, line_comment_shorter, node_space_shorter}
 use Rattle.kdl_entry.specs.Places.{between}
-use Rattle.kdl_entry.proofs.Lexing.Between.{is_between}
+use Rattle.kdl_entry.proofs.Slicing.Between.{is_between}
 use Rattle.kdl_items.specs.Items as items
 use Rattle.kdl_items.specs.Items.{line_end, comment, piece, EsclineItems, SpaceItems, LineSpaceItems}
 use Rattle.kdl_items.specs.Internal.Reading.{Cut, Run, Adds, item_view, items_view}

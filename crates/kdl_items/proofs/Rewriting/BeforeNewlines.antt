@@ -10,7 +10,7 @@ use Rattle.kdl_text.proofs.Spacing.ValueEnds.{space_ends}
 use Rattle.kdl_entry.specs.Data.{Entry}
 use Rattle.kdl_entry.proofs.Moving.EntryEnds.{end_spaces, end_slashdash, end_some, end_type}
 use Rattle.kdl_entry.proofs.Moving.EntryMoves.{move_space, move_spaces, move_plus, move_slashdash, move_string, move_maybe, move_entry, punctuation_end, spaces_end, spaces_dash}
-use Rattle.kdl_entry.proofs.Moving.Puts.{Put, stands, also, joined, same, begins_first}
+use Rattle.kdl_lexer.proofs.Moving.Puts.{Put, stands, also, joined, same, begins_first}
 use Rattle.kdl_grammar.specs.Data.{Node, Children, Nodes}
 use Rattle.kdl_grammar.specs.Grammar.{IsNode, named, AfterName, kept_entry, dropped_entry, Blocks, dropped_block, block as a_block, no_block, AfterBlock, dropped_later, no_more, IsBlock, braces}
 use Rattle.kdl_grammar.proofs.Moving.Moves.{move_nodes}

@@ -18,11 +18,12 @@ use Rattle.kdl_text.proofs.Looking.Ends.{End, here, also, then as behind, past, 
 use Rattle.kdl_text.proofs.Spacing.SpacePieces.{parts_end}
 use Rattle.kdl_value.specs.Data.{Value}
 use Rattle.kdl_entry.specs.Data.{Entry}
-use Rattle.kdl_entry.specs.Entries.{StringPiece, bare, quoted, raw, number, keyword, IsString, string, IsPlainValue, a_string, a_plain, IsValue, value, IsEntry, property, argument}
-use Rattle.kdl_entry.proofs.Lexing.TokenUnique.{end_of}
+use Rattle.kdl_lexer.specs.Pieces.{StringPiece, bare, quoted, raw, number, keyword}
+use Rattle.kdl_entry.specs.Entries.{IsString, string, IsPlainValue, a_string, a_plain, IsValue, value, IsEntry, property, argument}
+use Rattle.kdl_lexer.proofs.Lexing.TokenUnique.{end_of}
 use Rattle.kdl_entry.proofs.Moving.EntryEnds.{end_spaces, end_string, end_type}
-use Rattle.kdl_entry.proofs.Moving.LeafEnds.{integer_end, base_end, sign_end}
-use Rattle.kdl_entry.proofs.Moving.Puts.{Put}
+use Rattle.kdl_lexer.proofs.Moving.LeafEnds.{integer_end, base_end, sign_end}
+use Rattle.kdl_lexer.proofs.Moving.Puts.{Put}
 use Rattle.kdl_grammar.specs.Data.{Nodes}
 use Rattle.kdl_grammar.specs.Grammar.{IsBlock, braces}
 use Rattle.kdl_grammar.proofs.Moving.Moves.{move_nodes}

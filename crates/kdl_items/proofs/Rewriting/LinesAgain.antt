@@ -9,9 +9,9 @@ use Rattle.kdl_text.specs.Internal.Here.{first}
 use Rattle.kdl_text.specs.Trivia.{BlockComment, block as a_block, Line, LineComment, line as a_line, Ws, NodeSpace, Break, LineSpace, Slashdash, slashdash, ValueEnd}
 use Rattle.kdl_text.proofs.Spacing.SpaceUnique.{newline_begins, newline_no_space, slash_no_space, backslash_no_space}
 use Rattle.kdl_entry.specs.Places.{between}
-use Rattle.kdl_entry.proofs.Lexing.Between.{between_is, is_between}
+use Rattle.kdl_entry.proofs.Slicing.Between.{between_is, is_between}
 use Rattle.kdl_entry.proofs.Moving.EntryMoves.{move_spaces, move_slashdash, punctuation_end, spaces_end}
-use Rattle.kdl_entry.proofs.Moving.Puts.{Put, stands, also, joined, before}
+use Rattle.kdl_lexer.proofs.Moving.Puts.{Put, stands, also, joined, before}
 use Rattle.kdl_grammar.specs.Data.{Node}
 use Rattle.kdl_grammar.specs.Grammar.{Terminator, IsNode, Gap, line_space}
 use Rattle.kdl_items.specs.Items.{Item, comment, piece, line_end, EsclineItems, SpaceItems, LineSpaceItems, ItemEnd, EndsTight, GapItems, last_node}

@@ -5,9 +5,9 @@ use Rattle.kdl_text.specs.Trivia.{BlockComment, LineComment, Ws, EscEnd, escline
 use Rattle.kdl_entry.specs.Data.{Entry}
 use Rattle.kdl_entry.specs.Entries.{IsEntry}
 use Rattle.kdl_entry.specs.Places.{dropped as dropped_e, EntryLeading, leading, between}
-use Rattle.kdl_entry.proofs.Lexing.Between.{between_is, is_between}
+use Rattle.kdl_entry.proofs.Slicing.Between.{between_is, is_between}
 use Rattle.kdl_entry.proofs.Moving.EntryMoves.{move_slashdash, move_entry}
-use Rattle.kdl_entry.proofs.Moving.Puts.{joined}
+use Rattle.kdl_lexer.proofs.Moving.Puts.{joined}
 use Rattle.kdl_grammar.specs.Data.{Nodes}
 use Rattle.kdl_grammar.specs.Grammar.{IsBlock}
 use Rattle.kdl_grammar.specs.Places.{dropped as dropped_b, AfterChildren, after, BeforeChildren, before}

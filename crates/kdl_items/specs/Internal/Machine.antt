@@ -1,6 +1,6 @@
 -- What the fields of the machine after a slashdash represent.
 use Rattle.std.specs.Prelude.{◌≡◌, List, [], ◌∷◌, Option, Some, None}
-use Rattle.kdl_entry.specs.Internal.Tokens.{Token}
+use Rattle.kdl_lexer.specs.Internal.Tokens.{Token}
 use Rattle.kdl_grammar.specs.Internal.Control as c
 use Rattle.kdl_items.specs.declared.machine.Frame.{Frame}
 use Rattle.kdl_items.specs.declared.machine.Frame.TheVariants.{Node, Dropped, Later as LaterBlock}

@@ -1,7 +1,7 @@
 -- What the machine without data does after a slashdash, up to where what is dropped ends.
 use Rattle.std.specs.Prelude.{◌≡◌, Bool, true, false, ◌&&◌, not, [], Some}
 use Rattle.kdl_text.specs.Chars.{Text}
-use Rattle.kdl_entry.specs.Internal.Tokens.{Token, space, equals, BeginsToken}
+use Rattle.kdl_lexer.specs.Internal.Tokens.{Token, space, equals, BeginsToken}
 use Rattle.kdl_grammar.specs.Internal.Control.{Control, at, gap, in_node, fresh, spaced, later, entry_slashdash, block_slashdash, Phase, step, finish}
 use Rattle.kdl_items.specs.Items.{Place, takes_entries}
 

@@ -3,10 +3,10 @@ use Rattle.std.proofs.Common.{◌≡◌, ℕ, List, ◌+◌, ◌*◌, ◌≤◌,
 use Rattle.std.specs.Str.{chars, IsUtf8}
 use Rattle.kdl_text.specs.Chars.{Text, begins}
 use Rattle.kdl_text.specs.Spans.{bytes}
-use Rattle.kdl_entry.specs.Internal.Tokens.{Token, t_bom}
-use Rattle.kdl_entry.specs.declared.items.lexer.LexFailure.{LexFailure}
-use Rattle.kdl_entry.specs.declared.items.lexer.LexFailure.TheVariants.{Faulty, Memory}
-use Rattle.kdl_entry.proofs.Lexing.TokenUnique.{token_det}
+use Rattle.kdl_lexer.specs.Internal.Tokens.{Token, t_bom}
+use Rattle.kdl_lexer.specs.declared.lexer.LexFailure.{LexFailure}
+use Rattle.kdl_lexer.specs.declared.lexer.LexFailure.TheVariants.{Faulty, Memory}
+use Rattle.kdl_lexer.proofs.Lexing.TokenUnique.{token_det}
 use Rattle.kdl_text.proofs.Looking.Texts.{bytes-chars}
 use Rattle.kdl_grammar.specs.Data.{Nodes}
 use Rattle.kdl_grammar.specs.Former.{IsFormerDocument}

@@ -9,12 +9,12 @@ use Rattle.kdl_text.specs.Trivia.{NodeSpace}
 use Rattle.kdl_text.specs.declared.span.SourceSpan.{SourceSpan}
 use Rattle.kdl_text.proofs.Looking.MovesJoin.{bytes-append}
 use Rattle.kdl_entry.specs.Internal.Building.{Stays}
-use Rattle.kdl_entry.specs.Internal.Handed.{Cuts, one, spaces, NoToken, IsFaultAt, kind_view, HandsOut, Lexed}
-use Rattle.kdl_entry.specs.Internal.Tokens.{Token, t_space}
-use Rattle.kdl_entry.specs.declared.items.lexer.LexFailure.{LexFailure}
-use Rattle.kdl_entry.specs.declared.items.lexer.LexFailure.TheVariants.{Faulty, Memory}
-use Rattle.kdl_entry.specs.declared.items.lexer.Token.{Token as CodeToken}
-use Rattle.kdl_entry.proofs.Lexing.TokenUnique.{token_shorter}
+use Rattle.kdl_lexer.specs.Internal.Handed.{Cuts, one, spaces, NoToken, IsFaultAt, kind_view, HandsOut, Lexed}
+use Rattle.kdl_lexer.specs.Internal.Tokens.{Token, t_space}
+use Rattle.kdl_lexer.specs.declared.lexer.LexFailure.{LexFailure}
+use Rattle.kdl_lexer.specs.declared.lexer.LexFailure.TheVariants.{Faulty, Memory}
+use Rattle.kdl_lexer.specs.declared.lexer.Token.{Token as CodeToken}
+use Rattle.kdl_lexer.proofs.Lexing.TokenUnique.{token_shorter}
 use Rattle.kdl_parser.specs.Internal.Answered.{AnswersParts, Finished}
 use Rattle.kdl_grammar.specs.Internal.Machine.{State, step, finish, initial, Runs}
 use Rattle.kdl_parser.specs.Internal.Building.{state_view, held, Did, EndsIn, Placed}

@@ -4,7 +4,7 @@ use Rattle.kdl_text.specs.Chars.{Text}
 use Rattle.kdl_value.specs.Data.{Value}
 use Rattle.kdl_entry.specs.Internal.Items as items
 use Rattle.kdl_entry.specs.Internal.Items.{TypeParts, KeyParts, Stage, opened, named, closed, keyed, goes, gives, refuses}
-use Rattle.kdl_entry.specs.Internal.Tokens.{Token, space}
+use Rattle.kdl_lexer.specs.Internal.Tokens.{Token, space}
 use Rattle.kdl_entry.specs.Tree.{Identifier}
 use Rattle.kdl_grammar.specs.Internal.Machine.{Under, Frame, at, step, given}
 use Rattle.kdl_parser.specs.Internal.Building.{slot_of, item_phase, valued_at, item_answer, held}

@@ -2,7 +2,7 @@
 use Rattle.std.proofs.Common.{◌≡◌, [], Option, Some, None, sym, subst}
 use Rattle.kdl_text.specs.Chars.{Text}
 use Rattle.kdl_entry.specs.Places.{between}
-use Rattle.kdl_entry.proofs.Lexing.Between.{between_is}
+use Rattle.kdl_entry.proofs.Slicing.Between.{between_is}
 use Rattle.kdl_grammar.specs.Internal.Machine.{origin}
 use Rattle.kdl_grammar.specs.Internal.Machine as machine
 use Rattle.kdl_parser.specs.Internal.Building.{EndsIn}

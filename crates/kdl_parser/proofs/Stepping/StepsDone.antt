@@ -1,8 +1,8 @@
 -- What a step did that is refused at no token.
 use Rattle.std.proofs.Common.{◌≡◌, ℕ, Option, Some, option_map, Result, Ok, Err, OnOk, sym, ap, ◌∙◌, arith}
 use Rattle.kdl_text.specs.Internal.Here.{Here, Spot}
-use Rattle.kdl_entry.specs.declared.items.lexer.LexFailure.{LexFailure}
-use Rattle.kdl_entry.specs.declared.items.lexer.LexFailure.TheVariants.{Faulty, Memory}
+use Rattle.kdl_lexer.specs.declared.lexer.LexFailure.{LexFailure}
+use Rattle.kdl_lexer.specs.declared.lexer.LexFailure.TheVariants.{Faulty, Memory}
 use Rattle.kdl_grammar.specs.Internal.Machine.{State}
 use Rattle.kdl_grammar.specs.Tree.{Node, Document}
 use Rattle.kdl_parser.specs.Internal.Answered.{Finished}

@@ -9,15 +9,15 @@ use Rattle.kdl_text.proofs.Looking.Runs.{length-bytes}
 use Rattle.kdl_entry.specs.Internal.Building.{Stays}
 use Rattle.kdl_entry.specs.Internal.Counted.{Sliced}
 use Rattle.kdl_value.specs.Data.{Value}
-use Rattle.kdl_entry.specs.Internal.Handed.{HandsOut}
+use Rattle.kdl_lexer.specs.Internal.Handed.{HandsOut}
 use Rattle.kdl_entry.specs.Internal.Items as items
 use Rattle.kdl_entry.specs.Internal.Items.{goes, gives, opened, named, closed, keyed}
-use Rattle.kdl_entry.specs.Internal.Tokens.{Token, space, string, value, left, right}
+use Rattle.kdl_lexer.specs.Internal.Tokens.{Token, space, string, value, left, right}
 use Rattle.kdl_entry.specs.Tree.{Identifier}
-use Rattle.kdl_entry.specs.declared.items.lexer.LexFailure.{LexFailure}
-use Rattle.kdl_entry.specs.declared.items.lexer.LexFailure.TheVariants.{Faulty, Memory}
-use Rattle.kdl_entry.specs.declared.items.lexer.Token.{Token as CodeToken}
-use Rattle.kdl_entry.proofs.Lexing.SliceCost.{ahead_fewer}
+use Rattle.kdl_lexer.specs.declared.lexer.LexFailure.{LexFailure}
+use Rattle.kdl_lexer.specs.declared.lexer.LexFailure.TheVariants.{Faulty, Memory}
+use Rattle.kdl_lexer.specs.declared.lexer.Token.{Token as CodeToken}
+use Rattle.kdl_entry.proofs.Slicing.SliceCost.{ahead_fewer}
 use Rattle.kdl_parser.specs.Internal.Building.{valued_at}
 use Rattle.kdl_parser.specs.Internal.Counted.{up_to, item_unsliced, unsliced_at, SlicedOn, ReadOn}
 use Rattle.kdl_parser.specs.declared.builder.Phase.{Phase}

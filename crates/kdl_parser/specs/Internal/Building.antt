@@ -7,14 +7,14 @@ use Rattle.kdl_text.specs.Internal.Here.{Spot}
 use Rattle.kdl_entry.specs.Internal.Building.{type_view, item_view}
 use Rattle.kdl_value.specs.Data.{text}
 pub use Rattle.kdl_entry.specs.Internal.EntryReading.{EndsIn}
-use Rattle.kdl_entry.specs.Internal.Handed.{IsFaultAt}
+use Rattle.kdl_lexer.specs.Internal.Handed.{IsFaultAt}
 use Rattle.kdl_entry.specs.Internal.Items as items
 use Rattle.kdl_entry.specs.Internal.Items.{KeyParts, Stage, opened, named, closed, keyed, goes, gives, refuses, entry_at}
 use Rattle.kdl_entry.specs.Places.{span_of}
 use Rattle.kdl_value.specs.Tree.{text_of}
 use Rattle.kdl_entry.specs.Tree.{Identifier, identifier_tree, plain_identifier, Entry, entry_tree}
-use Rattle.kdl_entry.specs.declared.items.lexer.LexFailure.{LexFailure}
-use Rattle.kdl_entry.specs.declared.items.lexer.LexFailure.TheVariants.{Faulty, Memory}
+use Rattle.kdl_lexer.specs.declared.lexer.LexFailure.{LexFailure}
+use Rattle.kdl_lexer.specs.declared.lexer.LexFailure.TheVariants.{Faulty, Memory}
 use Rattle.kdl_grammar.specs.Internal.Machine as machine
 use Rattle.kdl_grammar.specs.Internal.Machine.{Slot, no_name, for_name, no_value, for_value, pending, at, State, with_entry, given}
 use Rattle.kdl_grammar.specs.Tree.{Node, Nodes}

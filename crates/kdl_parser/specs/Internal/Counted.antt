@@ -4,8 +4,8 @@ use Rattle.kdl_text.specs.Internal.Here.{Here}
 use Rattle.kdl_text.specs.Spans.{bytes, raise}
 use Rattle.kdl_entry.specs.Internal.Building.{stage_view}
 use Rattle.kdl_entry.specs.Internal.Counted.{Sliced}
-use Rattle.kdl_entry.specs.declared.items.lexer.LexFailure.{LexFailure}
-use Rattle.kdl_entry.specs.declared.items.lexer.LexFailure.TheVariants.{Faulty, Memory}
+use Rattle.kdl_lexer.specs.declared.lexer.LexFailure.{LexFailure}
+use Rattle.kdl_lexer.specs.declared.lexer.LexFailure.TheVariants.{Faulty, Memory}
 use Rattle.kdl_parser.specs.Internal.Building.{valued_at}
 use Rattle.kdl_parser.specs.declared.builder.Builder.{Builder}
 use Rattle.kdl_parser.specs.declared.builder.Phase.{Phase}

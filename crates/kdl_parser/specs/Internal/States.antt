@@ -11,13 +11,13 @@ use Rattle.kdl_value.specs.Data.{Value}
 use Rattle.kdl_value.specs.Tree.{text_of}
 use Rattle.kdl_entry.specs.Internal.Building.{item_view}
 use Rattle.kdl_entry.specs.Internal.Counted.{Sliced}
-use Rattle.kdl_entry.specs.Internal.Handed.{kind_view}
+use Rattle.kdl_lexer.specs.Internal.Handed.{kind_view}
 use Rattle.kdl_entry.specs.Internal.Items as items
 use Rattle.kdl_entry.specs.Internal.Items.{TypeParts, KeyParts}
 use Rattle.kdl_entry.specs.Places.{between}
 use Rattle.kdl_entry.specs.Tree.{plain_identifier}
-use Rattle.kdl_entry.specs.declared.items.lexer.LexFailure.{LexFailure}
-use Rattle.kdl_entry.specs.declared.items.lexer.TokenKind.{TokenKind}
+use Rattle.kdl_lexer.specs.declared.lexer.LexFailure.{LexFailure}
+use Rattle.kdl_lexer.specs.declared.lexer.TokenKind.{TokenKind}
 use Rattle.kdl_grammar.specs.Internal.Machine as machine
 use Rattle.kdl_grammar.specs.Internal.Machine.{State, at}
 use Rattle.kdl_grammar.specs.Tree.{Node, Nodes, Document, no_children}

@@ -20,9 +20,9 @@ ghost use Rattle.std.specs.Prelude.{◌≡◌, [], ◌∷◌, ◌++◌, Some, No
 
 use super::{Kept, Slot, Under, Waiting, WaitingWord};
 use crate::node_parts::{DocumentParts, NodeParts, ParsedNode};
-use kdl_entry::items::Lexer;
 use kdl_entry::items::item::{Given, Item, Stage, empty, entry_from, span_at, text_between};
 use kdl_entry::{KdlEntry, KdlValue};
+use kdl_lexer::Lexer;
 use kdl_text::cursor::Checkpoint;
 use kdl_text::span::SourceSpan;
 use std::alloc::{AllocError, Global};

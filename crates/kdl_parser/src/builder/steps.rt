@@ -21,8 +21,8 @@ use crate::node_parts::ParsedNode;
 use kdl_entry::items::item::{
     Given, empty, identifier_between, piece_between, span_at, text_between,
 };
-use kdl_entry::items::{LexFailure, Lexer, TokenKind, fault_at};
 use kdl_entry::{KdlIdentifier, KdlValue, sliced_identifier};
+use kdl_lexer::{LexFailure, Lexer, TokenKind, fault_at};
 use kdl_text::cursor::Checkpoint;
 use std::alloc::{AllocError, Global};
 use std::mem;

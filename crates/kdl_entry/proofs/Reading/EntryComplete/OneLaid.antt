@@ -12,7 +12,7 @@ use Rattle.kdl_entry.specs.Laid.{LaidIdentifier, spelled, LaidType, no_type, a_t
 use Rattle.kdl_entry.specs.Laws.{OneLaidIdentifier, OneLaidEntry}
 use Rattle.kdl_entry.specs.Places.{span_of, between}
 use Rattle.kdl_entry.specs.Tree.{Identifier, Entry}
-use Rattle.kdl_entry.proofs.Lexing.Between.{is_between}
+use Rattle.kdl_entry.proofs.Slicing.Between.{is_between}
 use Rattle.kdl_entry.proofs.Laying.LaidIsDerived.{string_of, type_of as maybe_type, item_of, entry_of}
 use Rattle.kdl_entry.proofs.Reading.EntryComplete.{read_value, read_item, built}
 use Rattle.kdl_entry.proofs.Reading.EntryLaws.{runs_det}

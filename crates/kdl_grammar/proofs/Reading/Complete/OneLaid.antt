@@ -12,7 +12,7 @@ use Rattle.kdl_entry.specs.Internal.Items.{identifier_at}
 use Rattle.kdl_entry.specs.Laid.{LaidType, no_type, a_type, no_key, a_key, LaidItem, item, laid_entry}
 use Rattle.kdl_entry.specs.Places.{Is, DroppedEntry, EntryLeading, leading as an_entry_leading, span_of, between}
 use Rattle.kdl_entry.specs.Tree.{Identifier, Entry}
-use Rattle.kdl_entry.proofs.Lexing.Between.{is_between}
+use Rattle.kdl_entry.proofs.Slicing.Between.{is_between}
 use Rattle.kdl_entry.proofs.Laying.LaidIsDerived.{string_of, type_of as maybe_type, item_of}
 use Rattle.kdl_entry.proofs.Reading.EntryComplete.OneLaid.{identifier_same, SameType}
 use Rattle.kdl_grammar.specs.Data as data'

@@ -3,7 +3,7 @@ use Rattle.std.specs.Str.{chars}
 use Rattle.kdl_text.specs.Chars.{Text}
 use Rattle.kdl_text.specs.Trivia.{LineComment}
 use Rattle.kdl_text.proofs.Spacing.SpaceUnique.{line_comment_det}
-use Rattle.kdl_entry.proofs.Lexing.Between.{is_between}
+use Rattle.kdl_entry.proofs.Slicing.Between.{is_between}
 use Rattle.kdl_items.specs.Items.{line_end}
 use Rattle.kdl_items.proofs.terminator.line_comment.Goals as goal
 use Rattle.kdl_items.proofs.terminator.line_comment.Goals.{in_default-via-in-Some+else-is_empty, in_default-via-in_default}

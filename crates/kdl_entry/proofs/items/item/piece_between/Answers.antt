@@ -1,4 +1,4 @@
-use Rattle.kdl_entry.proofs.Lexing.SliceCost.{piece_sliced}
+use Rattle.kdl_entry.proofs.Slicing.SliceCost.{piece_sliced}
 use Rattle.kdl_entry.proofs.items.item.piece_between.Goals as goal
 
 pub returns-clause-sliced : goal.returns-clause-sliced

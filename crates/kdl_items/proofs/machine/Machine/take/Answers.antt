@@ -1,4 +1,4 @@
-use Rattle.kdl_entry.specs.Internal.Handed.{kind_view}
+use Rattle.kdl_lexer.specs.Internal.Handed.{kind_view}
 use Rattle.kdl_items.proofs.Dropping.OpenBlocks.{opened, closed}
 use Rattle.kdl_items.proofs.machine.Machine.take.Goals as goal
 

@@ -1,6 +1,6 @@
 use Rattle.std.proofs.Common.{sym, subst}
 use Rattle.kdl_text.specs.Internal.Here.{Spot, Ahead}
-use Rattle.kdl_entry.proofs.Lexing.Between.{ahead_then}
+use Rattle.kdl_entry.proofs.Slicing.Between.{ahead_then}
 use Rattle.kdl_entry.proofs.items.item.Item.at_keyed.Goals as goal
 
 pub returns-in-Space-clause-from : goal.returns-in-Space-clause-from

@@ -1,4 +1,4 @@
-use Rattle.kdl_entry.proofs.Lexing.Between.{ahead_then}
+use Rattle.kdl_entry.proofs.Slicing.Between.{ahead_then}
 use Rattle.kdl_entry.proofs.items.item.Item.at_named.Goals as goal
 use Rattle.kdl_entry.proofs.items.item.Item.at_named.Goals.{in-Space, in-Right+in_ok-close-in-Right, in_default}
 

@@ -1,4 +1,4 @@
-use Rattle.kdl_entry.proofs.Lexing.Between.{ahead_then}
+use Rattle.kdl_entry.proofs.Slicing.Between.{ahead_then}
 use Rattle.kdl_entry.proofs.items.item.Item.at_opened.Goals as goal
 
 pub returns-in-Space-clause-from : goal.returns-in-Space-clause-from

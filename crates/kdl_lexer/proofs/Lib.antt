@@ -1,0 +1,6 @@
+-- Tokens: one at most, and what the lexer returns.
+pub mod Lexing
+-- Strings, numbers and keywords before another rest, and their ends.
+pub mod Moving
+-- A whole number is one of 128 bits.
+pub mod Fitting

@@ -1,0 +1,98 @@
+-- What the lexer hands out.
+use Rattle.std.specs.Prelude.{◌≡◌, ℕ, Bool, false, ◌||◌, ◌==◌, [], ◌∷◌, Option, Some, None, Result, Ok, Err}
+use Rattle.kdl_text.specs.Chars.{Text, Plus}
+use Rattle.kdl_text.specs.Internal.Here.{Here, Spot, first_len}
+use Rattle.kdl_text.specs.Internal.Reading.{Costs}
+use Rattle.kdl_text.specs.Trivia.{NodeSpace}
+use Rattle.kdl_text.specs.Internal.TriviaReading.{PieceCosts}
+use Rattle.kdl_text.specs.declared.span.SourceSpan.{SourceSpan}
+use Rattle.kdl_text.specs.declared.strings.StringFailure.{StringFailure}
+use Rattle.kdl_text.specs.declared.strings.StringFailure.TheVariants.{Fault as StringFaulty, Memory as StringMemory}
+use Rattle.kdl_value.specs.Tree.{value_tree, text_of}
+use Rattle.kdl_lexer.specs.Internal.Tokens as tokens
+use Rattle.kdl_lexer.specs.Internal.Tokens.{BeginsToken}
+use Rattle.kdl_lexer.specs.declared.lexer.TokenKind.{TokenKind}
+use Rattle.kdl_lexer.specs.declared.lexer.TokenKind.TheVariants.{Space, Newline, Slashdash, String, Value, Left, Right, Opening, Closing, Equals, Semicolon, Bom}
+use Rattle.kdl_lexer.specs.declared.lexer.Token.{Token}
+use Rattle.kdl_lexer.specs.declared.lexer.LexFailure.{LexFailure}
+use Rattle.kdl_lexer.specs.declared.lexer.LexFailure.TheVariants.{Faulty, Memory}
+
+-- the token k begins the text; a run of node-spaces may be read as one token
+pub data Cuts : Text → tokens.Token → Text → Type 0 where
+  one : {s r : Text} {k : tokens.Token} → BeginsToken s k r → Cuts s k r
+  spaces : {s r : Text} → Plus NodeSpace s r → Cuts s tokens.space r
+
+-- the token that a kind represents
+abbrev pub kind_view : TokenKind → tokens.Token
+kind_view Space = tokens.space
+kind_view Newline = tokens.newline
+kind_view Slashdash = tokens.slashdash
+kind_view (String s) = tokens.string (text_of s)
+kind_view (Value v) = tokens.value (value_tree v)
+kind_view Left = tokens.left
+kind_view Right = tokens.right
+kind_view Opening = tokens.opening
+kind_view Closing = tokens.closing
+kind_view Equals = tokens.equals
+kind_view Semicolon = tokens.semicolon
+kind_view Bom = tokens.bom
+
+-- the span of a fault at the place, which is the character there
+pub record IsFaultAt (place : Spot) (span : SourceSpan) : Type 0 where
+  pub offset : span.offset ≡ place.at
+  pub len : span.len ≡ first_len place.rest
+
+-- no token begins at s, which is not the end of the text
+pub record NoToken (s : Text) : Type 0 where
+  pub begun : s ≡ [] → ⊥
+  pub none : (r : Text) (k : tokens.Token) → BeginsToken s k r → ⊥
+
+-- the kind of the token that was read at s, before r; for a fault the character at the place is reported
+abbrev pub ReadsKind : Text → Spot → Result TokenKind LexFailure → Text → Type 0
+ReadsKind s place (Ok k) r = Cuts s (kind_view k) r
+ReadsKind s place (Err (Faulty span)) r = NoToken s × IsFaultAt place span
+ReadsKind s place (Err Memory) r = Unit {0}
+
+-- what it took: at most k steps for each byte, of which there is one at least; where none begins here, at most k for each byte that was read, and k more
+abbrev pub KindCosts : {A : Type 0} → ℕ → Result A LexFailure → Here → Here → Type 0
+KindCosts k (Ok x) old new = PieceCosts k old new
+KindCosts k (Err (Faulty span)) old new = Costs k k old new
+KindCosts k (Err Memory) old new = Unit {0}
+
+-- a string's fault is reported as one at the place, and running out of memory as itself
+abbrev pub Passes : Spot → StringFailure → LexFailure → Type 0
+Passes place (StringFaulty e) (Faulty span) = IsFaultAt place span
+Passes place StringMemory Memory = Unit {0}
+Passes place _ _ = ⊥
+
+-- `( ) { } = ;` and U+FEFF, each of which is a token
+abbrev pub is_single : ℕ → Bool
+is_single c = ((c == 40 || c == 41) || (c == 123 || c == 125)) || ((c == 61 || c == 59) || c == 0xFEFF)
+
+-- the kind of the token that the character c is, or that it is none by itself
+abbrev pub IsPunctuation : ℕ → Option TokenKind → Type 0
+IsPunctuation c (Some k) = (r : Text) → BeginsToken (c ∷ r) (kind_view k) r
+IsPunctuation c None = is_single c ≡ false
+
+-- a token is between two places
+pub record HandsOut (old : Here) (t : Token) (new : Here) : Type 0 where
+  pub cuts : Cuts old.rest (kind_view t.kind) new.rest
+  pub start_rest : t.start.rest ≡ old.rest
+  pub start_at : t.start.at ≡ old.at
+  pub end_rest : t.end.rest ≡ new.rest
+  pub end_at : t.end.at ≡ new.at
+
+-- what a call handed out
+abbrev pub Lexed : Here → Result (Option Token) LexFailure → Here → Type 0
+Lexed old (Ok (Some t)) new = HandsOut old t new
+Lexed old (Ok None) new = old.rest ≡ []
+Lexed old (Err (Faulty span)) new = NoToken old.rest × IsFaultAt (record { rest = old.rest; at = old.at }) span
+Lexed old (Err Memory) new = Unit {0}
+
+-- a token that was handed out took at most 24 steps for each byte, and at least one for each character; the end of the text one;
+-- where no token begins, each byte that was read took at most 24, and the fault itself 24
+abbrev pub LexCosts : Result (Option Token) LexFailure → Here → Here → Type 0
+LexCosts (Ok (Some t)) old new = Costs 24 0 old new
+LexCosts (Ok None) old new = Costs 24 1 old new
+LexCosts (Err (Faulty span)) old new = Costs 24 24 old new
+LexCosts (Err Memory) old new = Unit {0}

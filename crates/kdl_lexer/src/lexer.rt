@@ -1,0 +1,526 @@
+//! The lexer: the tokens of a text, one at a time.
+//!
+//! A token is known by its first character, and at most the one after it. A run of spaces is one token.
+
+ghost use Rattle.kdl_value.specs.Data as data';
+ghost use Rattle.kdl_lexer.specs.Pieces as spec;
+ghost use Rattle.kdl_lexer.specs.Internal.Handed.{Lexed, LexCosts, ReadsKind, KindCosts, IsFaultAt, Passes, IsPunctuation};
+ghost use Rattle.kdl_value.specs.Tree.{value_tree};
+ghost use Rattle.kdl_lexer.specs.declared.lexer.LexFailure.TheVariants.{Memory};
+ghost use Rattle.kdl_text.specs.Chars.{starts, is_identifier_char};
+ghost use Rattle.kdl_text.specs.Numbers as numbers;
+ghost use Rattle.kdl_text.specs.Numbers.{FloatText};
+ghost use Rattle.kdl_text.specs.Internal.Here.{Ahead, Ate, Stayed, looked, sliced, first, tail};
+ghost use Rattle.kdl_text.specs.Internal.Reading.{Moves};
+ghost use Rattle.std.specs.Prelude.{◌≡◌, ◌++◌, ◌==◌, ◌||◌, true, false, Some, None, IfOk};
+ghost use Rattle.std.specs.Str.{chars};
+
+use kdl_text::chars::{Class, is_digit, is_identifier_char, is_newline_char, is_sign, is_space};
+use kdl_text::cursor::{Checkpoint, Cursor, Piece, Steps, newline};
+use kdl_text::numbers::{Keyword, Number, NumberFailure, begins_number, read_keyword, read_number};
+use kdl_text::span::SourceSpan;
+use kdl_text::strings::{StringFailure, bare_string, quoted_string, raw_string};
+use kdl_text::trivia::{SlashRead, escline, slash};
+use kdl_value::{KdlValue, parsed_float};
+use std::alloc::{AllocError, AllocFailed, Global};
+use std::marker::Model;
+
+/// Why no token was handed out.
+#[derive(Clone, Copy)]
+pub enum LexFailure {
+    /// No token begins here: the span of the character at the place.
+    Faulty(SourceSpan),
+    /// A request for memory was refused.
+    Memory,
+}
+
+impl<T: Drop> From<AllocFailed<T>> for LexFailure {
+    ghost from_gives = { λ _ e. e ≡ Memory };
+
+    fn from(_: AllocFailed<T>) -> LexFailure {
+        LexFailure::Memory
+    }
+}
+
+impl From<AllocError> for LexFailure {
+    ghost from_gives = { λ _ e. e ≡ Memory };
+
+    fn from(_: AllocError) -> LexFailure {
+        LexFailure::Memory
+    }
+}
+
+/// What a token is.
+#[derive(Drop)]
+pub enum TokenKind {
+    /// A run of spaces, a block comment or an escline.
+    Space,
+    /// A newline, or a line comment with the newline that ends it.
+    Newline,
+    /// `/-`.
+    Slashdash,
+    /// A bare, quoted or raw string.
+    String(String),
+    /// A number or a keyword.
+    Value(KdlValue),
+    /// `(`.
+    Left,
+    /// `)`.
+    Right,
+    /// `{`.
+    Opening,
+    /// `}`.
+    Closing,
+    /// `=`.
+    Equals,
+    /// `;`.
+    Semicolon,
+    /// U+FEFF.
+    Bom,
+}
+
+/// A token, and where it begins and ends.
+#[derive(Drop)]
+pub struct Token<'a> {
+    pub kind: TokenKind,
+    pub start: Checkpoint<'a>,
+    pub end: Checkpoint<'a>,
+}
+
+/// The span of a fault at the place: the character there, and nothing at the end of the text.
+///
+/// ```
+/// let span = fault_at(&Lexer::new("é", Steps::new()).checkpoint()); // offset 0 and length 2
+/// ```
+pub fn fault_at(place: &Checkpoint) -> SourceSpan
+    ensures { IsFaultAt place.now result }
+{
+    place.char_span()
+}
+
+/// Why no string was read at the place.
+fn string_failure(place: &Checkpoint, failure: StringFailure) -> LexFailure
+    ensures { Passes place.now failure result }
+{
+    match failure {
+        StringFailure::Fault(_) => LexFailure::Faulty(fault_at(place)),
+        StringFailure::Memory => LexFailure::Memory,
+    }
+}
+
+/// The bare string that begins here, where no number does.
+#[tactic(auto, using(crate::proofs::Lexing::TokenReads::a_bare_here, crate::proofs::Lexing::TokenCost::bare_costs))]
+fn bare_token(
+    cursor: &mut Cursor,
+    alloc: Global,
+    start: &Checkpoint,
+) -> Result<TokenKind, LexFailure>
+    requires word { starts is_identifier_char cursor.old.rest ≡ true }
+    requires no_number { numbers.begins_number cursor.old.rest ≡ false }
+    ensures read { ReadsKind cursor.old.rest start.now result cursor.new.rest }
+    ensures moves { Moves cursor.old cursor.new }
+    ensures costs { KindCosts 20 result cursor.old cursor.new }
+{
+    match bare_string(cursor) {
+        Some(piece) => Ok(TokenKind::String(piece.to_string(alloc)?)),
+        None => Err(LexFailure::Faulty(fault_at(start))),
+    }
+}
+
+/// The quoted string that begins here.
+#[tactic(auto, using(crate::proofs::Lexing::TokenReads::a_quoted_here, crate::proofs::Lexing::TokenReads::no_quoted_here, crate::proofs::Lexing::TokenCost::quoted_costs))]
+fn quoted_token(
+    cursor: &mut Cursor,
+    alloc: Global,
+    start: &Checkpoint,
+) -> Result<TokenKind, LexFailure>
+    requires { first cursor.old.rest ≡ Some 34 }
+    ensures read { ReadsKind cursor.old.rest start.now result cursor.new.rest }
+    ensures moves { Moves cursor.old cursor.new }
+    ensures costs { KindCosts 22 result cursor.old cursor.new }
+{
+    match quoted_string(alloc, cursor) {
+        Ok(value) => Ok(TokenKind::String(value)),
+        Err(failure) => Err(string_failure(start, failure)),
+    }
+}
+
+/// The raw string that begins here, at a number sign with another or a quote after it.
+#[tactic(auto, using(crate::proofs::Lexing::TokenReads::a_raw_here, crate::proofs::Lexing::TokenReads::no_raw_here, crate::proofs::Lexing::TokenCost::raw_costs))]
+fn raw_token(
+    cursor: &mut Cursor,
+    alloc: Global,
+    start: &Checkpoint,
+) -> Result<TokenKind, LexFailure>
+    requires sign { first cursor.old.rest ≡ Some 35 }
+    requires second { starts (λ c. c == 34 || c == 35) (tail cursor.old.rest) ≡ true }
+    ensures read { ReadsKind cursor.old.rest start.now result cursor.new.rest }
+    ensures moves { Moves cursor.old cursor.new }
+    ensures costs { KindCosts 21 result cursor.old cursor.new }
+{
+    match raw_string(alloc, cursor) {
+        Ok(value) => Ok(TokenKind::String(value)),
+        Err(failure) => Err(string_failure(start, failure)),
+    }
+}
+
+/// The float of this text.
+fn float_of(alloc: Global, text: &str) -> Result<KdlValue, AllocError>
+    requires { FloatText (chars text.now) }
+    ensures { IfOk result (λ v. value_tree v ≡ data'.float (chars text.now)) }
+{
+    Ok(KdlValue::Float(parsed_float(String::from_str(alloc, text)?)))
+}
+
+/// The value of a keyword.
+fn keyword_value(alloc: Global, keyword: Keyword) -> Result<KdlValue, AllocError>
+    ensures { IfOk result (λ v. value_tree v ≡ spec.keyword_value keyword) }
+{
+    match keyword {
+        Keyword::True => Ok(KdlValue::Bool(true)),
+        Keyword::False => Ok(KdlValue::Bool(false)),
+        Keyword::Null => Ok(KdlValue::Null),
+        Keyword::Infinity => float_of(alloc, "#inf"),
+        Keyword::NegativeInfinity => float_of(alloc, "#-inf"),
+        Keyword::NotANumber => float_of(alloc, "#nan"),
+    }
+}
+
+/// The keyword that begins here, at a number sign with neither another nor a quote after it.
+fn keyword_token(
+    cursor: &mut Cursor,
+    alloc: Global,
+    start: &Checkpoint,
+) -> Result<TokenKind, LexFailure>
+    requires sign { first cursor.old.rest ≡ Some 35 }
+    requires second { starts (λ c. c == 34 || c == 35) (tail cursor.old.rest) ≡ false }
+    ensures read { ReadsKind cursor.old.rest start.now result cursor.new.rest }
+    ensures moves { Moves cursor.old cursor.new }
+    ensures costs { KindCosts 21 result cursor.old cursor.new }
+{
+    match read_keyword(cursor) {
+        Some(keyword) => Ok(TokenKind::Value(keyword_value(alloc, keyword)?)),
+        None => Err(LexFailure::Faulty(fault_at(start))),
+    }
+}
+
+/// Whether another number sign or a quote comes after the character here.
+fn looks_raw(cursor: &mut Cursor) -> bool
+    ensures result { result ≡ starts (λ c. c == 34 || c == 35) (tail cursor.old.rest) }
+    ensures stayed { Stayed 1 cursor.old cursor.new }
+{
+    matches!(cursor.look_second(), Some('"' | '#'))
+}
+
+/// The raw string or the keyword that begins with the number sign here.
+#[tactic(auto, using(crate::proofs::Lexing::TokenCost::one_look))]
+fn sign_token(
+    cursor: &mut Cursor,
+    alloc: Global,
+    start: &Checkpoint,
+) -> Result<TokenKind, LexFailure>
+    requires { first cursor.old.rest ≡ Some 35 }
+    ensures read { ReadsKind cursor.old.rest start.now result cursor.new.rest }
+    ensures moves { Moves cursor.old cursor.new }
+    ensures costs { KindCosts 22 result cursor.old cursor.new }
+{
+    if looks_raw(cursor) {
+        raw_token(cursor, alloc, start)
+    } else {
+        keyword_token(cursor, alloc, start)
+    }
+}
+
+/// The number that begins here.
+fn number_token(
+    cursor: &mut Cursor,
+    alloc: Global,
+    start: &Checkpoint,
+) -> Result<TokenKind, LexFailure>
+    requires { numbers.begins_number cursor.old.rest ≡ true }
+    ensures read { ReadsKind cursor.old.rest start.now result cursor.new.rest }
+    ensures moves { Moves cursor.old cursor.new }
+    ensures costs { KindCosts 20 result cursor.old cursor.new }
+{
+    match read_number(alloc, cursor) {
+        Ok(Number::Integer(n)) => Ok(TokenKind::Value(KdlValue::Integer(n))),
+        Ok(Number::Decimal(text)) => Ok(TokenKind::Value(KdlValue::Float(parsed_float(text)))),
+        Err(NumberFailure::Fault(_)) => Err(LexFailure::Faulty(fault_at(start))),
+        Err(NumberFailure::Memory) => Err(LexFailure::Memory),
+    }
+}
+
+/// The number or the bare string that begins with the sign here.
+fn signed_token(
+    cursor: &mut Cursor,
+    alloc: Global,
+    start: &Checkpoint,
+) -> Result<TokenKind, LexFailure>
+    requires { starts is_identifier_char cursor.old.rest ≡ true }
+    ensures read { ReadsKind cursor.old.rest start.now result cursor.new.rest }
+    ensures moves { Moves cursor.old cursor.new }
+    ensures costs { KindCosts 22 result cursor.old cursor.new }
+{
+    if begins_number(cursor) {
+        number_token(cursor, alloc, start)
+    } else {
+        bare_token(cursor, alloc, start)
+    }
+}
+
+/// The number or the bare string that begins with the identifier character c here.
+#[tactic(auto, using(crate::proofs::Lexing::TokenReads::word_here, crate::proofs::Lexing::TokenReads::digit_here, crate::proofs::Lexing::TokenReads::no_digit_here, crate::proofs::Lexing::TokenReads::few_costs))]
+fn word_token(
+    c: char,
+    cursor: &mut Cursor,
+    alloc: Global,
+    start: &Checkpoint,
+) -> Result<TokenKind, LexFailure>
+    requires first { first cursor.old.rest ≡ Some c }
+    requires word { is_identifier_char c ≡ true }
+    ensures read { ReadsKind cursor.old.rest start.now result cursor.new.rest }
+    ensures moves { Moves cursor.old cursor.new }
+    ensures costs { KindCosts 22 result cursor.old cursor.new }
+{
+    if is_digit(c) {
+        number_token(cursor, alloc, start)
+    } else if is_sign(c) {
+        signed_token(cursor, alloc, start)
+    } else {
+        bare_token(cursor, alloc, start)
+    }
+}
+
+/// The comment or the `/-` that begins with the slash here.
+#[tactic(auto, using(crate::proofs::Lexing::TokenReads::a_block_here, crate::proofs::Lexing::TokenReads::a_line_here, crate::proofs::Lexing::TokenReads::a_dash_here))]
+fn slash_token(cursor: &mut Cursor, start: &Checkpoint) -> Result<TokenKind, LexFailure>
+    requires { first cursor.old.rest ≡ Some 47 }
+    ensures read { ReadsKind cursor.old.rest start.now result cursor.new.rest }
+    ensures moves { Moves cursor.old cursor.new }
+    ensures costs { KindCosts 22 result cursor.old cursor.new }
+{
+    match slash(cursor) {
+        SlashRead::Block => Ok(TokenKind::Space),
+        SlashRead::Line => Ok(TokenKind::Newline),
+        SlashRead::Dash => Ok(TokenKind::Slashdash),
+        SlashRead::Unclosed => Err(LexFailure::Faulty(fault_at(start))),
+        SlashRead::Other => Err(LexFailure::Faulty(fault_at(start))),
+    }
+}
+
+/// The escline that begins with the backslash here.
+#[tactic(auto, using(crate::proofs::Lexing::TokenReads::an_escline_here))]
+fn escline_token(cursor: &mut Cursor, start: &Checkpoint) -> Result<TokenKind, LexFailure>
+    requires { first cursor.old.rest ≡ Some 92 }
+    ensures read { ReadsKind cursor.old.rest start.now result cursor.new.rest }
+    ensures moves { Moves cursor.old cursor.new }
+    ensures costs { KindCosts 22 result cursor.old cursor.new }
+{
+    if escline(cursor) {
+        Ok(TokenKind::Space)
+    } else {
+        Err(LexFailure::Faulty(fault_at(start)))
+    }
+}
+
+/// The kind of a token that is this character alone.
+fn sign_kind(c: char) -> Option<TokenKind>
+    ensures { IsPunctuation c result }
+{
+    match c {
+        '(' => Some(TokenKind::Left),
+        ')' => Some(TokenKind::Right),
+        '{' => Some(TokenKind::Opening),
+        '}' => Some(TokenKind::Closing),
+        '=' => Some(TokenKind::Equals),
+        ';' => Some(TokenKind::Semicolon),
+        '\u{feff}' => Some(TokenKind::Bom),
+        _ => None,
+    }
+}
+
+/// What token begins with the character c here, which is none of `" # / \`.
+#[tactic(auto, using(crate::proofs::Lexing::TokenReads::spaces_here, crate::proofs::Lexing::TokenReads::skip_moves, crate::proofs::Lexing::TokenReads::newline_here, crate::proofs::Lexing::TokenReads::newline_costs, crate::proofs::Lexing::TokenReads::punctuation_here, crate::proofs::Lexing::TokenReads::take_moves, crate::proofs::Lexing::TokenReads::punctuation_costs))]
+fn plain_token(
+    c: char,
+    cursor: &mut Cursor,
+    alloc: Global,
+    start: &Checkpoint,
+) -> Result<TokenKind, LexFailure>
+    requires first { first cursor.old.rest ≡ Some c }
+    requires plain { ((c == 34 || c == 35) || (c == 47 || c == 92)) ≡ false }
+    ensures read { ReadsKind cursor.old.rest start.now result cursor.new.rest }
+    ensures moves { Moves cursor.old cursor.new }
+    ensures costs { KindCosts 22 result cursor.old cursor.new }
+{
+    if is_identifier_char(c) {
+        return word_token(c, cursor, alloc, start);
+    }
+    if is_space(c) {
+        cursor.skip(Class::Space);
+        return Ok(TokenKind::Space);
+    }
+    if is_newline_char(c) {
+        let _ = newline(cursor);
+        return Ok(TokenKind::Newline);
+    }
+    match sign_kind(c) {
+        Some(kind) => {
+            let _ = cursor.take();
+            Ok(kind)
+        }
+        None => Err(LexFailure::Faulty(fault_at(start))),
+    }
+}
+
+/// What token begins with the character c here. The cursor goes past the token.
+fn token_kind(
+    c: char,
+    cursor: &mut Cursor,
+    alloc: Global,
+    start: &Checkpoint,
+) -> Result<TokenKind, LexFailure>
+    requires { first cursor.old.rest ≡ Some c }
+    ensures read { ReadsKind cursor.old.rest start.now result cursor.new.rest }
+    ensures moves { Moves cursor.old cursor.new }
+    ensures costs { KindCosts 22 result cursor.old cursor.new }
+{
+    match c {
+        '"' => quoted_token(cursor, alloc, start),
+        '#' => sign_token(cursor, alloc, start),
+        '/' => slash_token(cursor, start),
+        '\\' => escline_token(cursor, start),
+        _ => plain_token(c, cursor, alloc, start),
+    }
+}
+
+/// The tokens of a text, one at a time.
+#[derive(Drop)]
+pub struct Lexer<'a> {
+    cursor: Cursor<'a>,
+}
+
+impl<'a> Model for Lexer<'a> {
+    ghost use Rattle.kdl_text.specs.Internal.Here.{Here};
+
+    ghost Value = { Here };
+
+    ghost view = { λ l. l.cursor };
+}
+
+impl<'a> Lexer<'a> {
+    /// A lexer at the start of the text, on the given count of steps.
+    ///
+    /// ```
+    /// let mut lexer = Lexer::new("a=1", Steps::new());
+    /// while let Some(token) = lexer.next(alloc)? {
+    ///     let kind = token.kind; // the string `a`, the `=`, the value 1
+    /// }
+    /// ```
+    pub fn new(text: &'a str, steps: Steps) -> Self
+        ensures { result ≡ record { rest = chars text.now; at = 0; steps = steps } }
+    {
+        Lexer {
+            cursor: Cursor::new(text, steps),
+        }
+    }
+
+    /// The count of steps, where the lexer is done.
+    ///
+    /// ```
+    /// let mut lexer = Lexer::new("a", Steps::new());
+    /// let token = lexer.next(alloc)?;
+    /// let count = lexer.into_steps().count(); // at least 1, at most 24
+    /// ```
+    pub fn into_steps(self) -> Steps
+        ensures { result ≡ self.entry.steps }
+    {
+        self.cursor.into_steps()
+    }
+
+    /// Where the lexer is.
+    ///
+    /// ```
+    /// let mut lexer = Lexer::new("ab=1", Steps::new());
+    /// let start = lexer.checkpoint();
+    /// let token = lexer.next(alloc)?; // after it the lexer is elsewhere, and `start` where it was taken
+    /// ```
+    pub fn checkpoint(&self) -> Checkpoint<'a>
+        ensures rest { result.rest ≡ self.now.rest }
+        ensures at { result.at ≡ self.now.at }
+    {
+        self.cursor.checkpoint()
+    }
+
+    /// Goes past a U+FEFF, where one is here, and returns whether it did. A step.
+    ///
+    /// ```
+    /// let mut lexer = Lexer::new("\u{feff}a", Steps::new());
+    /// let has_bom = lexer.eat_bom(); // true, and the string `a` is the next token
+    /// ```
+    pub fn eat_bom(&mut self) -> bool
+        ensures { Ate 0xFEFF result self.old self.new }
+    {
+        self.cursor.eat('\u{feff}')
+    }
+
+    /// Counts a look at the token that was handed out last. A step.
+    ///
+    /// ```
+    /// let mut lexer = Lexer::new("a", Steps::new());
+    /// lexer.count_look();
+    /// let count = lexer.into_steps().count(); // 1
+    /// ```
+    pub fn count_look(&mut self)
+        ensures { self.new ≡ looked self.old }
+    {
+        self.cursor.count_look();
+    }
+
+    /// The text from one place to another after it. A step for each of its bytes.
+    ///
+    /// ```
+    /// let mut lexer = Lexer::new("ab=1", Steps::new());
+    /// let from = lexer.checkpoint();
+    /// let token = lexer.next(alloc)?;
+    /// let to = lexer.checkpoint();
+    /// let text = lexer.slice_between(&from, &to).to_string(alloc)?; // "ab"
+    /// ```
+    pub fn slice_between(&mut self, from: &Checkpoint<'a>, to: &Checkpoint<'a>) -> Piece<'a>
+        requires { Ahead from.now to.now }
+        ensures result { from.now.rest ≡ result ++ to.now.rest }
+        ensures moved { self.new ≡ sliced result self.old }
+    {
+        self.cursor.slice_between(from, to)
+    }
+
+    /// The token here, which the lexer goes past; `None` at the end of the text.
+    ///
+    /// A fault where no token begins here, with the span of the character here; `Memory` where the memory for
+    /// the token's value is missing. A token takes at most 24 steps for each of its bytes, and the end of the text one;
+    /// where no token begins, each byte that was read takes at most 24, and the fault itself 24.
+    ///
+    /// ```
+    /// let mut lexer = Lexer::new("a }", Steps::new());
+    /// let name = lexer.next(alloc)?; // the string `a`, with where it begins and ends
+    /// let spaces = lexer.next(alloc)?; // the run of spaces
+    /// let closing = lexer.next(alloc)?; // the `}`: whether it may be here is for the caller to know
+    /// let none = lexer.next(alloc)?; // `None`: the end of the text
+    /// ```
+    pub fn next(&mut self, alloc: Global) -> Result<Option<Token<'a>>, LexFailure>
+        ensures lexed { Lexed self.old result self.new }
+        ensures moves { Moves self.old self.new }
+        ensures costs { LexCosts result self.old self.new }
+    {
+        let start = self.cursor.checkpoint();
+        let Some(c) = self.cursor.look() else {
+            return Ok(None);
+        };
+        let kind = token_kind(c, &mut self.cursor, alloc, &start)?;
+        Ok(Some(Token {
+            kind,
+            start,
+            end: self.cursor.checkpoint(),
+        }))
+    }
+}
