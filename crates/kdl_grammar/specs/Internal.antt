@@ -1,7 +1,5 @@
 -- What only proofs and contracts inside the crates need: no contract of a public call of `kdl` speaks of it.
 
--- The machine without data: which tokens may come.
-pub mod Control
 -- What is proved of the machine that builds the tree, and of the tokens of a document.
 pub mod MachineLaws
 -- The machine that builds the tree: it goes over the tokens of a text once, with a stack of open blocks.

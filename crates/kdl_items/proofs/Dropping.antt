@@ -1,6 +1,6 @@
 -- What a slashdash drops.
 
--- After a slashdash between nodes: what the machine passes over is the dropped node.
+-- After a slashdash between nodes: what the control passes over is the dropped node.
 pub mod DroppedNodes
 -- One part at most, and where no `=` follows.
 pub mod NoEquals
@@ -12,7 +12,5 @@ pub mod DroppedPieces
 pub mod PartLoop
 -- The loop that passes over a dropped node.
 pub mod NodeLoop
--- Where the grammar derives a piece, the machine goes on over it.
+-- Where the grammar derives a piece, the control goes on over it.
 pub mod Paths
--- The open blocks of the machine, the last one at the end.
-pub mod OpenBlocks

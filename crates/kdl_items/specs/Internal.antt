@@ -2,11 +2,9 @@
 
 -- How the results of the readers of what a text lacks relate to the text.
 pub mod Lacking
--- What the fields of the machine after a slashdash represent.
-pub mod Machine
 -- How the results of the readers of what a slashdash drops relate to the text after the `/-`.
 pub mod Passed
--- What the machine without data does after a slashdash, up to where what is dropped ends.
+-- What the control does after a slashdash, up to where what is dropped ends.
 pub mod Passing
 -- How the results of the readers of items relate to the text.
 pub mod Reading

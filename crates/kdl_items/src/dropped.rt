@@ -2,11 +2,11 @@
 
 ghost use Rattle.kdl_lexer.specs.Internal.Handed.{Cuts, kind_view};
 ghost use Rattle.kdl_lexer.specs.Internal.Tokens.{newline, semicolon, space};
-ghost use Rattle.kdl_grammar.specs.Internal.Control.{at, finish};
-ghost use Rattle.kdl_items.specs.Internal.Passing.{follows_word, is_word, slashdash_in};
+ghost use Rattle.kdl_control.specs.Internal.Control.{at, finish, is_word};
+ghost use Rattle.kdl_items.specs.Internal.Passing.{follows_word, slashdash_in};
 ghost use Rattle.kdl_items.specs.Items.{ItemEnd};
 ghost use Rattle.kdl_items.specs.Internal.Lacking.{HasOpenEnd};
-ghost use Rattle.kdl_items.specs.Internal.Machine.{machine_view, phase_view};
+ghost use Rattle.kdl_control.specs.Internal.Views.{control_view, phase_view};
 ghost use Rattle.kdl_items.specs.Internal.Passed.{Before, BehindPart, AnswersDroppedNode, AnswersDroppedPart, PlaceTakesHeld, of_spaces};
 ghost use Rattle.kdl_items.specs.Internal.Reading.{TakesHeld, place_view};
 ghost use Rattle.kdl_text.specs.Chars.{Text};
@@ -14,9 +14,9 @@ ghost use Rattle.std.specs.Prelude.{◌≡◌, ◌⊎◌, ◌∷◌, IfOk, Match
 ghost use Rattle.std.specs.Str.{chars};
 
 use crate::item::{Item, Place};
-use crate::machine::{Machine, Phase, Spot};
 use crate::slices::cut;
 use crate::spaces::line;
+use kdl_control::{Control, Phase, Spot};
 use kdl_lexer::{LexFailure, Lexer, Token, TokenKind};
 use kdl_text::cursor::Steps;
 use std::alloc::{AllocError, Global};
@@ -51,11 +51,11 @@ fn follows_word(kind: &TokenKind) -> bool
 }
 
 /// Whether a string that ends what is dropped comes before the token.
-fn ends_word(machine: &Machine, kind: &TokenKind) -> bool
+fn ends_word(control: &Control, kind: &TokenKind) -> bool
     ensures { result ≡
-        (is_word (machine_view machine.now) && not (follows_word (kind_view kind.now))) }
+        (is_word (control_view control.now) && not (follows_word (kind_view kind.now))) }
 {
-    machine.is_word() && !follows_word(kind)
+    control.is_word() && !follows_word(kind)
 }
 
 /// Where the last token that is no space ends: this one, or an earlier one.
@@ -98,12 +98,12 @@ fn node_end(text: &str, token: &Token) -> NodeEnd
 }
 
 /// The end of a node where the text ends: node-spaces come after it. None where the node can't end.
-fn last_end(machine: &Machine, last: usize) -> Option<NodeEnd>
-    ensures { MatchOption result (finish (machine_view machine.now) ≡ false)
-        (λ e. (finish (machine_view machine.now) ≡ true) × (e.item ≡ last) × (e.behind ≡ last)
+fn last_end(control: &Control, last: usize) -> Option<NodeEnd>
+    ensures { MatchOption result (finish (control_view control.now) ≡ false)
+        (λ e. (finish (control_view control.now) ≡ true) × (e.item ≡ last) × (e.behind ≡ last)
         × (e.is_open ≡ true)) }
 {
-    if machine.may_end() {
+    if control.may_end() {
         Some(NodeEnd {
             item: last,
             behind: last,
@@ -115,11 +115,11 @@ fn last_end(machine: &Machine, last: usize) -> Option<NodeEnd>
 }
 
 /// The end of an entry that is a string, where it may end.
-fn word_end(machine: &Machine, last: usize) -> Option<PartEnd>
-    ensures { MatchOption result (is_word (machine_view machine.now) ≡ false)
-        (λ e. (is_word (machine_view machine.now) ≡ true) × (e.at ≡ last) × (e.is_block ≡ false)) }
+fn word_end(control: &Control, last: usize) -> Option<PartEnd>
+    ensures { MatchOption result (is_word (control_view control.now) ≡ false)
+        (λ e. (is_word (control_view control.now) ≡ true) × (e.at ≡ last) × (e.is_block ≡ false)) }
 {
-    if machine.is_word() {
+    if control.is_word() {
         Some(PartEnd {
             at: last,
             is_block: false,
@@ -134,19 +134,19 @@ pub(crate) fn pass_node(alloc: Global, text: &str) -> Result<Option<NodeEnd>, Al
     ensures { IfOk result (λ o. AnswersDroppedNode (chars text.now) o) }
 {
     let mut lexer = Lexer::new(text, Steps::new());
-    let mut machine = Machine::new(alloc, Phase::NodeSlashdash);
+    let mut control = Control::new(alloc, Phase::NodeSlashdash);
     let mut last = 0;
     'tokens: loop {
         let token = match lexer.next(alloc) {
             Ok(Some(token)) => token,
-            Ok(None) => return Ok(last_end(&machine, last)),
+            Ok(None) => return Ok(last_end(&control, last)),
             Err(LexFailure::Faulty(_)) => return Ok(None),
             Err(LexFailure::Memory) => return Err(AllocError),
         };
-        if !machine.take(&token.kind)? {
+        if !control.take(&token.kind)? {
             return Ok(None);
         }
-        if machine.is_between_nodes() {
+        if control.is_between_nodes() {
             return Ok(Some(node_end(text, &token)));
         }
         last = end_behind(&token, last);
@@ -205,24 +205,24 @@ pub(crate) fn pass_part(
     ensures { IfOk result (λ o. AnswersDroppedPart (place_view place) (chars text.now) o) }
 {
     let mut lexer = Lexer::new(text, Steps::new());
-    let mut machine = Machine::new(alloc, slashdash_phase(place));
+    let mut control = Control::new(alloc, slashdash_phase(place));
     let mut last = 0;
     'tokens: loop {
         let token = match lexer.next(alloc) {
             Ok(Some(token)) => token,
-            Ok(None) => return Ok(word_end(&machine, last)),
+            Ok(None) => return Ok(word_end(&control, last)),
             Err(LexFailure::Faulty(_)) => return Ok(None),
             Err(LexFailure::Memory) => return Err(AllocError),
         };
-        if ends_word(&machine, &token.kind) {
-            return Ok(word_end(&machine, last));
+        if ends_word(&control, &token.kind) {
+            return Ok(word_end(&control, last));
         }
-        if !machine.take(&token.kind)? {
+        if !control.take(&token.kind)? {
             return Ok(None);
         }
         last = end_behind(&token, last);
         drop(token);
-        if let Some(is_block) = machine.over() {
+        if let Some(is_block) = control.over() {
             return Ok(Some(PartEnd { at: last, is_block }));
         }
     }

@@ -6,7 +6,6 @@ mod dropped;
 mod ends;
 mod item;
 mod lacks;
-mod machine;
 mod places;
 mod slices;
 mod spaces;

@@ -1,4 +1,4 @@
--- After a slashdash between nodes: what the machine without data passes over is the node that is dropped, and no other.
+-- After a slashdash between nodes: what the control passes over is the node that is dropped, and no other.
 use Rattle.std.proofs.Common.{◌≡◌, ◌↔◌, ◌⊎◌, inl, inr, ◌≤◌, true, false, List, [], ◌∷◌, Some, refl, sym, ap, subst, ◌∙◌, length, arith}
 use Rattle.kdl_text.specs.Chars.{Text, Star, plus}
 use Rattle.kdl_text.specs.Chars.Star.{none as no_star, more}
@@ -11,13 +11,13 @@ use Rattle.kdl_lexer.specs.Internal.Tokens.{Token, newline, semicolon, BeginsTok
 use Rattle.kdl_lexer.proofs.Lexing.TokenUnique.{token_det, no_token}
 use Rattle.kdl_grammar.specs.Data.{Node, Nodes}
 use Rattle.kdl_grammar.specs.Grammar.{Terminator, IsNode, named, no_gap, line_space, dropped_node, AreNodes, last_gap, node_then}
-use Rattle.kdl_grammar.specs.Internal.Control.{gap, node_slashdash, Control, at, step, finish, held, accepts}
+use Rattle.kdl_control.specs.Internal.Control.{gap, node_slashdash, Control, at, step, finish, held, accepts, is_gap}
 use Rattle.kdl_grammar.proofs.Reading.Sound.{derives}
 use Rattle.kdl_items.specs.Items.{Item, piece, EsclineItems, SpaceItems, LineSpaceItems, ItemEnd, EndsTight, GapItems}
-use Rattle.kdl_items.specs.Internal.Passing.{moved, is_gap, NodeEnd, returned, ended, NodePasses, returns, ends, goes}
+use Rattle.kdl_items.specs.Internal.Passing.{moved, NodeEnd, returned, ended, NodePasses, returns, ends, goes}
 use Rattle.kdl_items.proofs.Dropping.Paths.{Tail, before_block, behind_block, at_brace, halts_nodes, Back, Here, ToGap, over_node, drop_node, tail_spaces}
 
--- the machine passes over a text in one way at most
+-- the control passes over a text in one way at most
 pub passes_det : {c : Control} {last s : Text} {e e' : NodeEnd} → NodePasses c last s e → NodePasses c last s e' → e ≡ e'
 passes_det (returns t f) (returns u g) = let d = token_det t u in cc
 passes_det (returns t f) (ends z g) = absurd (no_token t)
@@ -106,7 +106,7 @@ gap_accepted (GapItems.dropped_node (slashdash {s = s} ls) x e g) =
 gap_accepted (GapItems.last_node (slashdash {s = s} ls) x tight ss g) =
     one_more t_slashdash refl (drop_node (λ c last s. Accepted c s) all_over ls x all_here (λ c w q x' ws. tail_spaces (λ c last s. Accepted c s) all_over {last = w} q ss all_here (λ c' q'. ([], done, tail_finish q'))) s)
 
--- what the machine passes over may come before what may come between nodes
+-- what the control passes over may come before what may come between nodes
 returned_accepted : {c : Control} {last s u v : Text} {k : Token} → NodePasses c last s (returned k u v) → Accepted (at gap []) v → Accepted c s
 returned_accepted (returns t e) a = one_more t e a
 returned_accepted (goes t e g p) a = one_more t e (returned_accepted p a)
@@ -115,7 +115,7 @@ ended_accepted : {c : Control} {last s w : Text} → NodePasses c last s (ended 
 ended_accepted (ends g e) = ([], done, e)
 ended_accepted (goes t e g p) = one_more t e (ended_accepted p)
 
--- over a node with its terminator the machine passes
+-- over a node with its terminator the control passes
 pub passes_node : {t t' u v e : Text} {x : Node} → Star LineSpace t t' → IsNode true t' u x → ItemEnd u v e → (k : Token) × NodePasses (at node_slashdash []) t t (returned k u v)
 passes_node {t = t} ls x (ItemEnd.semicolon {r = r}) =
     let e = returned semicolon (59 ∷ r) r in
@@ -201,7 +201,7 @@ module _ {t u v e : Text} {k : Token} (p : NodePasses (at node_slashdash []) t t
               GapItems.dropped_node (slashdash ls) (subst (λ (z : Text). IsNode true t' z y) a x) i g
           by_end (inr z) = let q = passes_last ls (subst (λ (z : Text). IsNode true t' z y) z x) no_star in let d = passes_det q.3 p in cc
 
--- a node that the machine passes over to its terminator is dropped: the items are this piece, and those after the terminator
+-- a node that the control passes over to its terminator is dropped: the items are this piece, and those after the terminator
 pub node_returned : {t u v e : Text} {k : Token} → NodePasses (at node_slashdash []) t t (returned k u v) → ItemEnd u v e → (is : List Item) → GapItems (47 ∷ 45 ∷ t) is ↔ ((js : List Item) × (is ≡ piece (between (47 ∷ 45 ∷ t) e) ∷ js) × GapItems v js)
 node_returned {t = t} p i is = (λ g. returned_on p i (dash_items g), λ w. subst (λ (z : List Item). GapItems (47 ∷ 45 ∷ t) z) (sym w.1) (returned_back p i w.2))
 

@@ -1,4 +1,4 @@
--- What a slashdash drops in a place of a node: the machine's passing over it says what it is, and where it ends.
+-- What a slashdash drops in a place of a node: the control's passing over it says what it is, and where it ends.
 use Rattle.std.proofs.Common.{◌≡◌, ◌↔◌, Bool, true, false, List, [], ◌∷◌, Option, Some, refl, sym, ap, subst, ◌∙◌}
 use Rattle.kdl_text.specs.Chars.{Text, is_identifier_char, is_space, is_newline_char, is_banned, is_punctuation, starts, Star, Plus, plus}
 use Rattle.kdl_text.specs.Chars.Star.{none as no_star, more}
@@ -19,11 +19,11 @@ use Rattle.kdl_lexer.proofs.Lexing.TokenUnique.{token_det, no_token}
 use Rattle.kdl_grammar.specs.Data.{Children, Nodes}
 use Rattle.kdl_grammar.specs.Grammar.{Terminator, named, AfterName, kept_entry, dropped_entry, blocks, Blocks, dropped_block, block, no_block, Gap, no_gap, dropped_node, AreNodes, last_gap, node_then, IsBlock, braces}
 use Rattle.kdl_grammar.specs.Grammar.Gap.{line_space as gap_space}
-use Rattle.kdl_grammar.specs.Internal.Control.{Control, at, Spot, fresh, spaced, later, Phase, gap, node_slashdash, type_open, type_name, type_done, in_node, property, entry_slashdash, block_slashdash, kept, kept_slashdash, Frame, in_dropped, spaced_of, slashdash_at, step, held, accepts}
+use Rattle.kdl_control.specs.Internal.Control.{Control, at, Spot, fresh, spaced, later, Phase, gap, node_slashdash, type_open, type_name, type_done, in_node, property, entry_slashdash, block_slashdash, kept, kept_slashdash, Frame, in_dropped, spaced_of, slashdash_at, step, held, accepts, is_over, is_block, is_word}
 use Rattle.kdl_grammar.proofs.Reading.Sound.{derives}
 use Rattle.kdl_items.specs.Items as items
 use Rattle.kdl_items.specs.Items.{Item, piece, Place, before_entry, before_block, behind_block, takes_entries, takes_blocks, PlaceItems}
-use Rattle.kdl_items.specs.Internal.Passing.{moved, is_over, is_block, is_word, PartPasses, over, word_ends, word_over, goes, slashdash_phase, slashdash_in}
+use Rattle.kdl_items.specs.Internal.Passing.{moved, PartPasses, over, word_ends, word_over, goes, slashdash_phase, slashdash_in}
 use Rattle.kdl_items.proofs.Dropping.Paths.{Back, over_part, drop_entry, drop_block}
 use Rattle.kdl_items.proofs.Listing.SpaceItems.{space_of}
 use Rattle.kdl_items.proofs.Dropping.NoEquals.{passes_det, Quiet, name_quiet, place_quiet}
@@ -43,7 +43,7 @@ value_passes : {s : Text} → Quiet s → (b : Bool) → PartPasses (at (in_node
 value_passes q true = word_passes q
 value_passes q false = over refl
 
--- the machine passes over an entry, and over a block
+-- the control passes over an entry, and over a block
 pub entry_passes : {s t u : Text} {e : Entry} → Star LineSpace s t → IsEntry true t u e → Quiet u → (last : Text) → PartPasses (at entry_slashdash []) last s false u
 entry_passes {u = u} ls i q last = drop_entry (λ c last s. PartPasses c last s false u) (over_part false u) ls i (value_passes q) last
 
@@ -69,7 +69,7 @@ entry_accepted {s = s} ls i f = drop_entry (λ c last s. Accepted c s) accepted_
 block_accepted : {s t u : Text} {xs : Nodes} → Star LineSpace s t → IsBlock true t u xs → Accepted (at (in_node later) []) u → (b : Bool) → Accepted (at (slashdash_phase b) []) s
 block_accepted {s = s} ls i a b = drop_block (λ c last s. Accepted c s) accepted_back ls i a b s
 
--- where the machine may be in a place: after a dropped block entries come no more
+-- where the control may be in a place: after a dropped block entries come no more
 abbrev fits : Place → Spot → Bool
 fits behind_block q = true
 fits p later = false
@@ -215,7 +215,7 @@ word_behind {c = c} x directly f = word_accepted c x f
 word_behind x (spaces (plus n ss)) f = spaces_off ss (token_off (t_space n) refl (f (fresh true) refl))
 word_behind x (other o w) f = absurd cc
 
--- where the machine passes over a part, and what comes after it is accepted, all is accepted
+-- where the control passes over a part, and what comes after it is accepted, all is accepted
 passes_accepted : {c : Control} {last s u : Text} {b : Bool} → PartPasses c last s b u → Behind c last s → ((q : Spot) → ends_in b q ≡ true → Accepted (at (in_node q) []) u) → Accepted c s
 passes_accepted (over {c = c} x) h f = subst (λ (z : Text). Accepted c z) (over_here x h) (over_accepted c x f)
 passes_accepted (word_ends {c = c} x) h f = word_accepted c x (λ q e. text_ends q)

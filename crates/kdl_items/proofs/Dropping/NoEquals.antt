@@ -1,4 +1,4 @@
--- The machine passes over one part at most; and where no `=` follows.
+-- The control passes over one part at most; and where no `=` follows.
 use Rattle.std.proofs.Common.{◌≡◌, Bool, true, false, ◌&&◌, not, List, [], Option, refl, sym, ap, subst, ◌∙◌}
 use Rattle.kdl_text.specs.Chars.{Text, Star, plus}
 use Rattle.kdl_text.specs.Chars.Star.{none as no_star, more}
@@ -12,9 +12,9 @@ use Rattle.kdl_lexer.specs.Internal.Tokens.{Token, BeginsToken, t_newline, t_sla
 use Rattle.kdl_lexer.proofs.Lexing.TokenUnique.{token_det, no_token}
 use Rattle.kdl_grammar.specs.Data.{Children, Nodes}
 use Rattle.kdl_grammar.specs.Grammar.{Terminator, AfterName, kept_entry, dropped_entry, blocks, Blocks, dropped_block, block, no_block, IsBlock, braces}
-use Rattle.kdl_grammar.specs.Internal.Control.{Control, at, fresh, later, in_node}
+use Rattle.kdl_control.specs.Internal.Control.{Control, at, fresh, later, in_node, is_over, is_word}
 use Rattle.kdl_items.specs.Items.{Item, Place, PlaceItems}
-use Rattle.kdl_items.specs.Internal.Passing.{moved, is_over, is_word, follows_word, PartPasses, over, word_ends, word_over, goes}
+use Rattle.kdl_items.specs.Internal.Passing.{moved, follows_word, PartPasses, over, word_ends, word_over, goes}
 use Rattle.kdl_items.proofs.Listing.SpaceItems.{space_of}
 
 -- a string that may be a key is not over
@@ -28,7 +28,7 @@ and_not true true x y z = cc
 and_not true false x y z = cc
 and_not false b x y z = cc
 
--- the machine passes over one part at most
+-- the control passes over one part at most
 pub passes_det : {c : Control} {last s e e' : Text} {b b' : Bool} → PartPasses c last s b e → PartPasses c last s b' e' → (b ≡ b') × (e ≡ e')
 passes_det (over x) (over y) = (refl, refl)
 passes_det {c = c} (over x) (word_ends w) = absurd (over_word c x w)

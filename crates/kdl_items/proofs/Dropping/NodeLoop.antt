@@ -11,10 +11,10 @@ use Rattle.kdl_lexer.specs.Internal.Handed.{Cuts, one, spaces, NoToken, kind_vie
 use Rattle.kdl_lexer.specs.Internal.Tokens.{Token, space, newline, semicolon, slashdash, string, value, left, right, opening, closing, equals, bom, t_space, BeginsToken}
 use Rattle.kdl_lexer.specs.declared.lexer.Token.{Token as CodeToken}
 use Rattle.kdl_lexer.proofs.Lexing.TokenUnique.{token_det, token_shorter, no_token}
-use Rattle.kdl_grammar.specs.Internal.Control.{fresh, spaced, later, gap, node_slashdash, type_open, type_name, type_done, in_node, property, entry_slashdash, block_slashdash, kept, kept_slashdash, in_block, in_dropped, in_later, Control, at, step, finish, held}
+use Rattle.kdl_control.specs.Internal.Control.{fresh, spaced, later, gap, node_slashdash, type_open, type_name, type_done, in_node, property, entry_slashdash, block_slashdash, kept, kept_slashdash, in_block, in_dropped, in_later, Control, at, step, finish, held, is_gap}
 use Rattle.kdl_items.specs.Items.{ItemEnd}
 use Rattle.kdl_items.specs.Internal.Lacking.{HasOpenEnd}
-use Rattle.kdl_items.specs.Internal.Passing.{moved, is_gap, NodeEnd, returned, ended, NodePasses, returns, ends, goes}
+use Rattle.kdl_items.specs.Internal.Passing.{moved, NodeEnd, returned, ended, NodePasses, returns, ends, goes}
 use Rattle.kdl_items.specs.Internal.Passed.{Before, EndsAt, AnswersDroppedNode, of_spaces}
 use Rattle.kdl_items.specs.declared.dropped.NodeEnd.{NodeEnd as CodeEnd}
 
@@ -26,7 +26,7 @@ Of P (Some d) = P d
 pub there : (P : Control → Type 0) {o : Option Control} {d : Control} → o ≡ Some d → Of P o → P d
 there P e x = subst (Of P) e x
 
--- after a space the machine takes more of them, and stays what it is
+-- after a space the control takes more of them, and stays what it is
 space_turn : (c : Control) → is_gap c ≡ false → Of (λ d. (is_gap d ≡ false) × (step d space ≡ Some d)) (step c space)
 space_turn (at gap fs) g = (g, refl)
 space_turn (at node_slashdash fs) g = (refl, refl)
@@ -116,7 +116,7 @@ cut_turn {c = c} {d = d} g (spaces (plus n m)) f h e =
     let y = (there (λ d. (is_gap d ≡ false) × (step d space ≡ Some d)) f (space_turn c g)).1 in
     (λ p. run_back y h m (turn_back (t_space n) f h p), λ p. goes (t_space n) f h (run_there y h m p))
 
--- where a token is refused the machine passes over nothing
+-- where a token is refused the control passes over nothing
 no_turn : {c : Control} {last s r : Text} {k : Token} {e : NodeEnd} → BeginsToken s k r → step c k ≡ None → NodePasses c last s e → ⊥
 no_turn t f (returns u h) = let x = token_det t u in cc
 no_turn t f (ends z h) = no_token t
@@ -154,7 +154,7 @@ pub cut_shorter : {s r : Text} {k : Token} → Cuts s k r → length r < length 
 cut_shorter (one t) = token_shorter t
 cut_shorter (spaces (plus n m)) = omega (arith, token_shorter (t_space n), spaces_shorter m)
 
--- the lexer is in the text t, over which the machine passes as from here on; the last token that is no node-space ended after so many bytes
+-- the lexer is in the text t, over which the control passes as from here on; the last token that is no node-space ended after so many bytes
 pub record NodeGoes (here : Here) (c : Control) (t : Text) (last : ℕ) : Type 0 where
   pub behind : Text
   pub same : (e : NodeEnd) → NodePasses (at node_slashdash []) t t e ↔ NodePasses c behind here.rest e

@@ -10,14 +10,14 @@ use Rattle.kdl_lexer.specs.Internal.Handed.{Cuts, one, spaces, NoToken, kind_vie
 use Rattle.kdl_lexer.specs.Internal.Tokens.{Token, space, t_space, BeginsToken}
 use Rattle.kdl_lexer.specs.declared.lexer.Token.{Token as CodeToken}
 use Rattle.kdl_lexer.proofs.Lexing.TokenUnique.{token_det, no_token}
-use Rattle.kdl_grammar.specs.Internal.Control.{fresh, spaced, later, gap, node_slashdash, type_open, type_name, type_done, in_node, property, entry_slashdash, block_slashdash, kept, kept_slashdash, Control, at, step}
+use Rattle.kdl_control.specs.Internal.Control.{fresh, spaced, later, gap, node_slashdash, type_open, type_name, type_done, in_node, property, entry_slashdash, block_slashdash, kept, kept_slashdash, Control, at, step, is_over, is_block, is_word}
 use Rattle.kdl_items.specs.Items.{Place, before_entry, before_block, behind_block}
-use Rattle.kdl_items.specs.Internal.Passing.{moved, is_over, is_block, is_word, follows_word, slashdash_in, PartPasses, over, word_ends, word_over, goes}
+use Rattle.kdl_items.specs.Internal.Passing.{moved, follows_word, slashdash_in, PartPasses, over, word_ends, word_over, goes}
 use Rattle.kdl_items.specs.Internal.Passed.{Before, AnswersDroppedPart, of_spaces}
 use Rattle.kdl_items.specs.declared.dropped.PartEnd.{PartEnd}
 use Rattle.kdl_items.proofs.Dropping.NodeLoop.{Of, there, then_before, moved_before}
 
--- after a space the machine takes more of them, and nothing ends there
+-- after a space the control takes more of them, and nothing ends there
 space_turn : (c : Control) → is_over c ≡ false → Of (λ d. (is_over d ≡ false) × (step d space ≡ Some d)) (step c space)
 space_turn (at gap fs) o = (refl, refl)
 space_turn (at node_slashdash fs) o = (refl, refl)
@@ -69,7 +69,7 @@ cut_turn {c = c} o w (spaces (plus n m)) f b u =
     let y = there (λ d. (is_over d ≡ false) × (step d space ≡ Some d)) f (space_turn c o) in
     (λ p. run_back y.1 y.0 m (turn_back o w (t_space n) f p), λ p. goes o w (t_space n) f (run_there y.1 y.0 m p))
 
--- where a token is refused the machine passes over nothing
+-- where a token is refused the control passes over nothing
 no_turn : {c : Control} {last s r u : Text} {k : Token} {b : Bool} → is_over c ≡ false → (is_word c && not (follows_word k)) ≡ false → BeginsToken s k r → step c k ≡ None → PartPasses c last s b u → ⊥
 no_turn o w t f (over x) = cc
 no_turn o w t f (word_ends x) = no_token t
@@ -95,7 +95,7 @@ word_turn : {c : Control} {last s r : Text} {k : Token} → is_word c ≡ true �
 word_turn x (one t) h = word_over x t h
 word_turn x (spaces n) h = absurd cc
 
--- the lexer is in the text t after `/-` in the place, over which the machine passes as from here on; the last token that is no node-space ended after so many bytes
+-- the lexer is in the text t after `/-` in the place, over which the control passes as from here on; the last token that is no node-space ended after so many bytes
 pub record PartGoes (p : Place) (here : Here) (c : Control) (t : Text) (last : ℕ) : Type 0 where
   pub behind : Text
   pub same : (b : Bool) (u : Text) → PartPasses (slashdash_in p) t t b u ↔ PartPasses c behind here.rest b u

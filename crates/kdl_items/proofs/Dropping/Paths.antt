@@ -1,5 +1,5 @@
--- Where the grammar derives a piece, the machine without data goes on over it.
--- `P c last s` says something of the machine before the text s, where the last token that is no node-space ended before `last`.
+-- Where the grammar derives a piece, the control goes on over it.
+-- `P c last s` says something of the control before the text s, where the last token that is no node-space ended before `last`.
 use Rattle.std.proofs.Common.{◌≡◌, Bool, true, false, ◌&&◌, not, List, [], ◌∷◌, Option, Some, refl, sym, ap, subst, ◌∙◌}
 use Rattle.kdl_text.specs.Chars.{Text, Star, plus}
 use Rattle.kdl_text.specs.Chars.Star.{none as no_star, more}
@@ -11,8 +11,8 @@ use Rattle.kdl_lexer.specs.Internal.Tokens.{Token, space, newline, string, value
 use Rattle.kdl_lexer.proofs.Lexing.TokenUnique.{token_det, no_token}
 use Rattle.kdl_grammar.specs.Data.{Node, Children, Nodes}
 use Rattle.kdl_grammar.specs.Grammar.{Terminator, IsNode, named, AfterName, kept_entry, dropped_entry, Blocks, AfterBlock, dropped_later, no_more, Gap, no_gap, line_space, dropped_node, AreNodes, last_gap, node_then, IsBlock, braces}
-use Rattle.kdl_grammar.specs.Internal.Control.{Spot, fresh, spaced, later, Phase, gap, node_slashdash, type_open, type_name, type_done, in_node, property, entry_slashdash, block_slashdash, kept, kept_slashdash, Frame, in_block, in_dropped, in_later, Control, at, popped, spaced_of, slashdash_at, step}
-use Rattle.kdl_items.specs.Internal.Passing.{moved, is_gap, NodeEnd, NodePasses, is_over, is_word, follows_word, PartPasses, slashdash_phase}
+use Rattle.kdl_control.specs.Internal.Control.{Spot, fresh, spaced, later, Phase, gap, node_slashdash, type_open, type_name, type_done, in_node, property, entry_slashdash, block_slashdash, kept, kept_slashdash, Frame, in_block, in_dropped, in_later, Control, at, popped, spaced_of, slashdash_at, step, is_gap, is_over, is_word}
+use Rattle.kdl_items.specs.Internal.Passing.{moved, NodeEnd, NodePasses, follows_word, PartPasses, slashdash_phase}
 
 -- after the name of a node
 pub data Tail (fs : List Frame) : Control → Type 0 where
@@ -262,7 +262,7 @@ module _ (P : Control → Text → Text → Type 0) (over : Back P) where
       let h : HereAt P fs block_slashdash = λ d last s r k t e g x. back t e g refl refl x in
       lines block_slashdash h refl refl refl ls (block i block_slashdash h in_dropped (at (in_node later) fs) refl refl refl x) last
 
--- the machine's passing over what a slashdash drops is such a P: in a node
+-- the control's passing over what a slashdash drops is such a P: in a node
 pub over_part : (b : Bool) (e : Text) → Back (λ c last s. PartPasses c last s b e)
 over_part b e c d last s r k t f g o w x = PartPasses.goes o w t f x
 

@@ -13,12 +13,12 @@ use Rattle.kdl_lexer.specs.Internal.Tokens.{Token, BeginsToken, space, newline, 
 use Rattle.kdl_lexer.proofs.Lexing.TokenUnique.{token_det, no_token}
 use Rattle.kdl_grammar.specs.Data.{Node, node, no_children, Nodes, none, first}
 use Rattle.kdl_grammar.specs.Grammar.{Terminator, IsNode, named, AfterName, Blocks, Gap, no_gap, line_space, dropped_node, AreNodes, last_gap, node_then}
-use Rattle.kdl_grammar.specs.Internal.Control.{Control, at, gap, node_slashdash, step, held}
+use Rattle.kdl_control.specs.Internal.Control.{Control, at, gap, node_slashdash, step, held, is_gap}
 use Rattle.kdl_grammar.specs.ReadsBack.{AddsNothing, Anything, Terminates}
 use Rattle.kdl_items.specs.Items.{ItemEnd}
 use Rattle.kdl_items.specs.Lacks.{newlines, GapLacks}
 use Rattle.kdl_items.specs.Internal.Lacking.{letter, Fewest, GapAnswer}
-use Rattle.kdl_items.specs.Internal.Passing.{moved, is_gap, returned, NodePasses, returns, goes}
+use Rattle.kdl_items.specs.Internal.Passing.{moved, returned, NodePasses, returns, goes}
 use Rattle.kdl_items.proofs.Dropping.DroppedNodes.{passes_det, passes_last, passes_node, item_end, no_dash_space, no_dash_node, tail_gap}
 use Rattle.kdl_items.proofs.Dropping.NodeLoop.{gap_turn, turn_back}
 use Rattle.kdl_items.proofs.Dropping.Paths.{Back, Here, Halt, at_end, halts, no_node, drop_node}
@@ -134,7 +134,7 @@ nodes_off_node {b} {v = v} {xs = xs} m x i ds = go (dash_nodes ds)
             subst (λ (c : Text). AreNodes true c [] xs) a es
         by_end (inr k) = let d = passes_det (passes_last ls (subst (λ (c : Text). IsNode true t' c y) k z) no_star).3 (passes_node (dash_lines m) x i).1 in absurd cc
 
--- a letter after a dropped node is part of it: the machine returns to no gap
+-- a letter after a dropped node is part of it: the control returns to no gap
 abbrev NoReturn : Control → Text → Text → Type 0
 NoReturn c last s = (k : Token) (u v : Text) → NodePasses c last s (returned k u v) → ⊥
 

@@ -14,7 +14,7 @@ use Rattle.kdl_entry.proofs.Moving.EntryMoves.{move_spaces, move_slashdash, spac
 use Rattle.kdl_grammar.specs.Data as nodes'
 use Rattle.kdl_grammar.specs.Data.{Node, Nodes}
 use Rattle.kdl_grammar.specs.Grammar.{Terminator, IsNode, Gap, no_gap, line_space, dropped_node, AreNodes, last_gap, node_then}
-use Rattle.kdl_grammar.specs.Internal.Control.{Control, at, node_slashdash}
+use Rattle.kdl_control.specs.Internal.Control.{Control, at, node_slashdash}
 use Rattle.kdl_grammar.specs.ReadsBack.{NodesEnd, AddsNothing}
 use Rattle.kdl_grammar.proofs.Moving.Moves.{terminator_end}
 use Rattle.kdl_grammar.proofs.ReadingBack.Closing.{behind_lf}

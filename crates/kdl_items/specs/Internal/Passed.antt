@@ -5,7 +5,7 @@ use Rattle.std.specs.Str.{chars}
 use Rattle.kdl_text.specs.Chars.{Text}
 use Rattle.kdl_text.specs.Spans.{bytes}
 use Rattle.kdl_lexer.specs.Internal.Tokens.{Token, space}
-use Rattle.kdl_grammar.specs.Internal.Control.{at, node_slashdash}
+use Rattle.kdl_control.specs.Internal.Control.{at, node_slashdash}
 use Rattle.kdl_items.specs.Internal.Lacking.{HasOpenEnd}
 use Rattle.kdl_items.specs.Internal.Passing as passing
 use Rattle.kdl_items.specs.Internal.Passing.{NodePasses, PartPasses, returned, ended, slashdash_in}

@@ -1,8 +1,8 @@
--- What the machine without data does after a slashdash, up to where what is dropped ends.
+-- What the control does after a slashdash, up to where what is dropped ends.
 use Rattle.std.specs.Prelude.{◌≡◌, Bool, true, false, ◌&&◌, not, [], Some}
 use Rattle.kdl_text.specs.Chars.{Text}
 use Rattle.kdl_lexer.specs.Internal.Tokens.{Token, space, equals, BeginsToken}
-use Rattle.kdl_grammar.specs.Internal.Control.{Control, at, gap, in_node, fresh, spaced, later, entry_slashdash, block_slashdash, Phase, step, finish}
+use Rattle.kdl_control.specs.Internal.Control.{Control, at, gap, entry_slashdash, block_slashdash, Phase, step, finish, is_gap, is_over, is_block, is_word}
 use Rattle.kdl_items.specs.Items.{Place, takes_entries}
 
 -- where the last token that is no node-space ends
@@ -10,38 +10,16 @@ abbrev pub moved : Token → Text → Text → Text
 moved space last r = last
 moved _ last r = r
 
--- between the nodes of the place again
-abbrev pub is_gap : Control → Bool
-is_gap (at gap []) = true
-is_gap _ = false
-
 -- a node that is dropped ends with the terminator, a token that is in a text before another, or with the place: then node-spaces come after it
 pub data NodeEnd : Type 0 where
   returned : Token → Text → Text → NodeEnd
   ended : Text → NodeEnd
 
--- the machine goes on over the text s, in which the last token that is no node-space ended before `last`
+-- the control goes on over the text s, in which the last token that is no node-space ended before `last`
 pub data NodePasses : Control → Text → Text → NodeEnd → Type 0 where
   returns : {c : Control} {last s r : Text} {k : Token} → BeginsToken s k r → step c k ≡ Some (at gap []) → NodePasses c last s (returned k s r)
   ends : {c : Control} {last : Text} → is_gap c ≡ false → finish c ≡ true → NodePasses c last [] (ended last)
   goes : {c d : Control} {last s r : Text} {k : Token} {e : NodeEnd} → BeginsToken s k r → step c k ≡ Some d → is_gap d ≡ false → NodePasses d (moved k last r) r e → NodePasses c last s e
-
--- what is dropped in a node ends directly after a value or a block
-abbrev pub is_over : Control → Bool
-is_over (at (in_node (fresh false)) []) = true
-is_over (at (in_node later) []) = true
-is_over _ = false
-
--- it is a block
-abbrev pub is_block : Control → Bool
-is_block (at (in_node later) []) = true
-is_block _ = false
-
--- a string may be a key: it ends where no `=` follows
-abbrev pub is_word : Control → Bool
-is_word (at (in_node (fresh true)) []) = true
-is_word (at (in_node (spaced true)) []) = true
-is_word _ = false
 
 abbrev pub follows_word : Token → Bool
 follows_word space = true

@@ -1,43 +1,68 @@
-//! Which tokens may come after a slashdash, up to the end of what it drops. Nothing is built.
+//! Which token may come where, and the open blocks.
 
+ghost use Rattle.kdl_control.specs.Internal.Control as control;
+ghost use Rattle.kdl_control.specs.Internal.Control.{is_block, is_gap, is_over, is_word};
+ghost use Rattle.kdl_control.specs.Internal.Views.{Moves, control_view, frame_view, move_view, owner_view, phase_view, spot_view, word_view};
+ghost use Rattle.kdl_control.specs.declared.control.Phase.TheVariants.{InNode};
 ghost use Rattle.kdl_lexer.specs.Internal.Handed.{kind_view};
-ghost use Rattle.kdl_grammar.specs.Internal.Control as control;
-ghost use Rattle.kdl_items.specs.Internal.Passing.{is_block, is_gap, is_over, is_word};
-ghost use Rattle.kdl_items.specs.Internal.Machine.{Moves, frame_view, machine_view, move_view, phase_view, spot_view};
-ghost use Rattle.kdl_items.specs.declared.machine.Phase.TheVariants.{InNode};
 ghost use Rattle.std.specs.Prelude.{◌≡◌, ◌∷◌, IfOk, List, MatchOption, Some, None, [], true, false, if◌then◌else◌};
 
 use kdl_lexer::TokenKind;
 use std::alloc::{AllocError, Global};
 
-/// A node before its block: directly after its name or an entry, after spaces there, or after a dropped block. The
-/// flag: a string is there that may be a key.
+/// What a type is written before: the name of a node, or a value.
 #[derive(Clone, Copy)]
-pub(crate) enum Spot {
-    Fresh(bool),
-    Spaced(bool),
+pub enum Owner {
+    Name,
+    Value,
+}
+
+/// What comes directly before, or before spaces: a string that may be a key, or something else.
+#[derive(Clone, Copy)]
+pub enum Word {
+    MayBeKey,
+    NoKey,
+}
+
+/// A node before its block: directly after its name or an entry, after spaces there, or after a
+/// dropped block.
+#[derive(Clone, Copy)]
+pub enum Spot {
+    Fresh(Word),
+    Spaced(Word),
     Later,
 }
 
-/// Where in the grammar the machine is. The flag of a type: it is that of a value, and not of a node.
+/// Where in the grammar the control is.
 #[derive(Clone, Copy)]
-pub(crate) enum Phase {
+pub enum Phase {
+    /// Between nodes.
     Gap,
+    /// Between nodes, after `/-`.
     NodeSlashdash,
-    TypeOpen(bool),
-    TypeName(bool),
-    TypeDone(bool),
+    /// After the `(` of a type.
+    TypeOpen(Owner),
+    /// After the name of a type.
+    TypeName(Owner),
+    /// After the `)` of a type.
+    TypeDone(Owner),
+    /// In a node, before its block.
     InNode(Spot),
+    /// After the `=` of a property.
     Property,
+    /// After `/-` in a node, where an entry or a block may follow.
     EntrySlashdash,
+    /// After `/-` in a node, where a block may follow.
     BlockSlashdash,
+    /// After a node's block.
     Kept,
+    /// After `/-` there.
     KeptSlashdash,
 }
 
 /// An open block: of a node, or one that is dropped before or after it.
 #[derive(Clone, Copy)]
-pub(crate) enum Frame {
+pub enum Frame {
     Node,
     Dropped,
     Later,
@@ -59,8 +84,8 @@ fn in_gap(kind: &TokenKind) -> Move
     match kind {
         TokenKind::Space | TokenKind::Newline => Move::To(Phase::Gap),
         TokenKind::Slashdash => Move::To(Phase::NodeSlashdash),
-        TokenKind::String(_) => Move::To(Phase::InNode(Spot::Fresh(false))),
-        TokenKind::Left => Move::To(Phase::TypeOpen(false)),
+        TokenKind::String(_) => Move::To(Phase::InNode(Spot::Fresh(Word::NoKey))),
+        TokenKind::Left => Move::To(Phase::TypeOpen(Owner::Name)),
         TokenKind::Closing => Move::Close,
         _ => Move::Refuse,
     }
@@ -72,42 +97,45 @@ fn in_node_slashdash(kind: &TokenKind) -> Move
 {
     match kind {
         TokenKind::Space | TokenKind::Newline => Move::To(Phase::NodeSlashdash),
-        TokenKind::String(_) => Move::To(Phase::InNode(Spot::Fresh(false))),
-        TokenKind::Left => Move::To(Phase::TypeOpen(false)),
+        TokenKind::String(_) => Move::To(Phase::InNode(Spot::Fresh(Word::NoKey))),
+        TokenKind::Left => Move::To(Phase::TypeOpen(Owner::Name)),
         _ => Move::Refuse,
     }
 }
 
 /// After the `(` of a type.
-fn in_type(valued: bool, kind: &TokenKind) -> Move
-    ensures { Moves (control.type_open valued) (kind_view kind.now) result }
+fn in_type(owner: Owner, kind: &TokenKind) -> Move
+    ensures { Moves (control.type_open (owner_view owner)) (kind_view kind.now) result }
 {
     match kind {
-        TokenKind::Space => Move::To(Phase::TypeOpen(valued)),
-        TokenKind::String(_) => Move::To(Phase::TypeName(valued)),
+        TokenKind::Space => Move::To(Phase::TypeOpen(owner)),
+        TokenKind::String(_) => Move::To(Phase::TypeName(owner)),
         _ => Move::Refuse,
     }
 }
 
 /// After the name of a type.
-fn behind_type_name(valued: bool, kind: &TokenKind) -> Move
-    ensures { Moves (control.type_name valued) (kind_view kind.now) result }
+fn behind_type_name(owner: Owner, kind: &TokenKind) -> Move
+    ensures { Moves (control.type_name (owner_view owner)) (kind_view kind.now) result }
 {
     match kind {
-        TokenKind::Space => Move::To(Phase::TypeName(valued)),
-        TokenKind::Right => Move::To(Phase::TypeDone(valued)),
+        TokenKind::Space => Move::To(Phase::TypeName(owner)),
+        TokenKind::Right => Move::To(Phase::TypeDone(owner)),
         _ => Move::Refuse,
     }
 }
 
 /// After the `)` of a type.
-fn behind_type(valued: bool, kind: &TokenKind) -> Move
-    ensures { Moves (control.type_done valued) (kind_view kind.now) result }
+fn behind_type(owner: Owner, kind: &TokenKind) -> Move
+    ensures { Moves (control.type_done (owner_view owner)) (kind_view kind.now) result }
 {
     match kind {
-        TokenKind::Space => Move::To(Phase::TypeDone(valued)),
-        TokenKind::String(_) => Move::To(Phase::InNode(Spot::Fresh(false))),
-        TokenKind::Value(_) if valued => Move::To(Phase::InNode(Spot::Fresh(false))),
+        TokenKind::Space => Move::To(Phase::TypeDone(owner)),
+        TokenKind::String(_) => Move::To(Phase::InNode(Spot::Fresh(Word::NoKey))),
+        TokenKind::Value(_) => match owner {
+            Owner::Value => Move::To(Phase::InNode(Spot::Fresh(Word::NoKey))),
+            Owner::Name => Move::Refuse,
+        },
         _ => Move::Refuse,
     }
 }
@@ -118,8 +146,10 @@ fn in_property(kind: &TokenKind) -> Move
 {
     match kind {
         TokenKind::Space => Move::To(Phase::Property),
-        TokenKind::String(_) | TokenKind::Value(_) => Move::To(Phase::InNode(Spot::Fresh(false))),
-        TokenKind::Left => Move::To(Phase::TypeOpen(true)),
+        TokenKind::String(_) | TokenKind::Value(_) => Move::To(Phase::InNode(Spot::Fresh(
+            Word::NoKey,
+        ))),
+        TokenKind::Left => Move::To(Phase::TypeOpen(Owner::Value)),
         _ => Move::Refuse,
     }
 }
@@ -129,7 +159,7 @@ fn spaced(spot: Spot) -> Spot
     ensures { spot_view result ≡ control.spaced_of (spot_view spot) }
 {
     match spot {
-        Spot::Fresh(key) | Spot::Spaced(key) => Spot::Spaced(key),
+        Spot::Fresh(word) | Spot::Spaced(word) => Spot::Spaced(word),
         Spot::Later => Spot::Later,
     }
 }
@@ -158,11 +188,11 @@ fn in_node(spot: Spot, kind: &TokenKind) -> Move
             Spot::Later => Move::To(Phase::BlockSlashdash),
             _ => Move::To(Phase::EntrySlashdash),
         },
-        TokenKind::String(_) => entry(spot, Phase::InNode(Spot::Fresh(true))),
-        TokenKind::Value(_) => entry(spot, Phase::InNode(Spot::Fresh(false))),
-        TokenKind::Left => entry(spot, Phase::TypeOpen(true)),
+        TokenKind::String(_) => entry(spot, Phase::InNode(Spot::Fresh(Word::MayBeKey))),
+        TokenKind::Value(_) => entry(spot, Phase::InNode(Spot::Fresh(Word::NoKey))),
+        TokenKind::Left => entry(spot, Phase::TypeOpen(Owner::Value)),
         TokenKind::Equals => match spot {
-            Spot::Fresh(true) | Spot::Spaced(true) => Move::To(Phase::Property),
+            Spot::Fresh(Word::MayBeKey) | Spot::Spaced(Word::MayBeKey) => Move::To(Phase::Property),
             _ => Move::Refuse,
         },
         _ => Move::Refuse,
@@ -175,9 +205,9 @@ fn in_entry_slashdash(kind: &TokenKind) -> Move
 {
     match kind {
         TokenKind::Space | TokenKind::Newline => Move::To(Phase::EntrySlashdash),
-        TokenKind::String(_) => Move::To(Phase::InNode(Spot::Fresh(true))),
-        TokenKind::Value(_) => Move::To(Phase::InNode(Spot::Fresh(false))),
-        TokenKind::Left => Move::To(Phase::TypeOpen(true)),
+        TokenKind::String(_) => Move::To(Phase::InNode(Spot::Fresh(Word::MayBeKey))),
+        TokenKind::Value(_) => Move::To(Phase::InNode(Spot::Fresh(Word::NoKey))),
+        TokenKind::Left => Move::To(Phase::TypeOpen(Owner::Value)),
         TokenKind::Opening => Move::Open(Frame::Dropped),
         _ => Move::Refuse,
     }
@@ -225,9 +255,9 @@ fn token_move(phase: Phase, kind: &TokenKind) -> Move
     match phase {
         Phase::Gap => in_gap(kind),
         Phase::NodeSlashdash => in_node_slashdash(kind),
-        Phase::TypeOpen(valued) => in_type(valued, kind),
-        Phase::TypeName(valued) => behind_type_name(valued, kind),
-        Phase::TypeDone(valued) => behind_type(valued, kind),
+        Phase::TypeOpen(owner) => in_type(owner, kind),
+        Phase::TypeName(owner) => behind_type_name(owner, kind),
+        Phase::TypeDone(owner) => behind_type(owner, kind),
         Phase::InNode(spot) => in_node(spot, kind),
         Phase::Property => in_property(kind),
         Phase::EntrySlashdash => in_entry_slashdash(kind),
@@ -242,7 +272,7 @@ fn may_be_key(spot: Spot) -> bool
     ensures { result ≡ is_word (control.at (control.in_node (spot_view spot)) []) }
 {
     match spot {
-        Spot::Fresh(key) | Spot::Spaced(key) => key,
+        Spot::Fresh(word) | Spot::Spaced(word) => matches!(word, Word::MayBeKey),
         Spot::Later => false,
     }
 }
@@ -258,27 +288,35 @@ fn behind_block(frame: Frame) -> Phase
     }
 }
 
-/// The phase, and the blocks that are open.
+/// The control: the phase, and the open blocks. It goes over tokens, and builds nothing.
 #[derive(Drop)]
-pub(crate) struct Machine {
+pub struct Control {
     phase: Phase,
     frames: Vec<Frame>,
 }
 
-impl Machine {
-    /// A machine in a phase, with no block open.
-    pub(crate) fn new(alloc: Global, phase: Phase) -> Self
-        ensures { machine_view result ≡ control.at (phase_view phase) [] }
+impl Control {
+    /// The control in a phase, with no block open.
+    ///
+    /// ```
+    /// let control = Control::new(alloc, Phase::Gap); // a node may begin here
+    /// ```
+    pub fn new(alloc: Global, phase: Phase) -> Self
+        ensures { control_view result ≡ control.at (phase_view phase) [] }
     {
-        Machine {
+        Control {
             phase,
             frames: Vec::new(alloc),
         }
     }
 
     /// Whether it is between nodes, with no block open.
-    pub(crate) fn is_between_nodes(&self) -> bool
-        ensures { result ≡ is_gap (machine_view self.now) }
+    ///
+    /// ```
+    /// let between = Control::new(alloc, Phase::NodeSlashdash).is_between_nodes(); // false
+    /// ```
+    pub fn is_between_nodes(&self) -> bool
+        ensures { result ≡ is_gap (control_view self.now) }
     {
         match self.phase {
             Phase::Gap => self.frames.is_empty(),
@@ -287,8 +325,12 @@ impl Machine {
     }
 
     /// Whether the text may end here.
-    pub(crate) fn may_end(&self) -> bool
-        ensures { result ≡ control.finish (machine_view self.now) }
+    ///
+    /// ```
+    /// let ends = Control::new(alloc, Phase::Kept).may_end(); // true
+    /// ```
+    pub fn may_end(&self) -> bool
+        ensures { result ≡ control.finish (control_view self.now) }
     {
         match self.phase {
             Phase::Gap | Phase::InNode(_) | Phase::Kept => self.frames.is_empty(),
@@ -296,9 +338,16 @@ impl Machine {
         }
     }
 
-    /// Whether a string comes before, or before spaces, that ends what is dropped where no `=` follows.
-    pub(crate) fn is_word(&self) -> bool
-        ensures { result ≡ is_word (machine_view self.now) }
+    /// Whether a string comes directly before, or before spaces, that ends what is dropped where
+    /// no `=` follows.
+    ///
+    /// ```
+    /// let mut control = Control::new(alloc, Phase::EntrySlashdash);
+    /// let taken = control.take(&TokenKind::String(name))?; // true
+    /// let word = control.is_word(); // true: an `=` may follow
+    /// ```
+    pub fn is_word(&self) -> bool
+        ensures { result ≡ is_word (control_view self.now) }
     {
         if !self.frames.is_empty() {
             return false;
@@ -310,25 +359,38 @@ impl Machine {
     }
 
     /// Whether an entry or a block ends directly before, and whether it is a block.
-    pub(crate) fn over(&self) -> Option<bool>
-        ensures { MatchOption result (is_over (machine_view self.now) ≡ false)
-            (λ b. (is_over (machine_view self.now) ≡ true)
-            × (b ≡ is_block (machine_view self.now))) }
+    ///
+    /// ```
+    /// let mut control = Control::new(alloc, Phase::EntrySlashdash);
+    /// let before = control.over(); // `None`
+    /// let taken = control.take(&TokenKind::Value(KdlValue::Null))?; // true
+    /// let behind = control.over(); // `Some(false)`: an entry
+    /// ```
+    pub fn over(&self) -> Option<bool>
+        ensures { MatchOption result (is_over (control_view self.now) ≡ false)
+            (λ b. (is_over (control_view self.now) ≡ true)
+            × (b ≡ is_block (control_view self.now))) }
     {
         if !self.frames.is_empty() {
             return None;
         }
         match self.phase {
-            Phase::InNode(Spot::Fresh(false)) => Some(false),
+            Phase::InNode(Spot::Fresh(Word::NoKey)) => Some(false),
             Phase::InNode(Spot::Later) => Some(true),
             _ => None,
         }
     }
 
     /// Goes on by a token. False: it may not come here.
-    pub(crate) fn take(&mut self, kind: &TokenKind) -> Result<bool, AllocError>
-        ensures { IfOk result (λ b. control.step (machine_view self.old) (kind_view kind.now) ≡
-            (if b then Some (machine_view self.new) else None)) }
+    ///
+    /// ```
+    /// let mut control = Control::new(alloc, Phase::Gap);
+    /// let name = control.take(&TokenKind::String(name))?; // true: a node begins
+    /// let equals = control.take(&TokenKind::Equals)?; // false: a name is no key
+    /// ```
+    pub fn take(&mut self, kind: &TokenKind) -> Result<bool, AllocError>
+        ensures { IfOk result (λ b. control.step (control_view self.old) (kind_view kind.now) ≡
+            (if b then Some (control_view self.new) else None)) }
     {
         match token_move(self.phase, kind) {
             Move::To(phase) => self.phase = phase,

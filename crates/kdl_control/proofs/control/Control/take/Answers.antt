@@ -1,6 +1,6 @@
 use Rattle.kdl_lexer.specs.Internal.Handed.{kind_view}
-use Rattle.kdl_items.proofs.Dropping.OpenBlocks.{opened, closed}
-use Rattle.kdl_items.proofs.machine.Machine.take.Goals as goal
+use Rattle.kdl_control.proofs.OpenBlocks.{opened, closed}
+use Rattle.kdl_control.proofs.control.Control.take.Goals as goal
 
 pub returns-in_ok-push-in-Open : goal.returns-in_ok-push-in-Open
 returns-in_ok-push-in-Open c =

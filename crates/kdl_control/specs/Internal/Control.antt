@@ -1,4 +1,4 @@
--- The machine without data: which tokens may come, in the present language.
+-- The control grammar: which tokens may come, in the present language.
 use Rattle.std.specs.Prelude.{Bool, true, false, List, [], ◌∷◌, Option, Some, None}
 use Rattle.kdl_lexer.specs.Internal.Tokens.{Token, space, newline, slashdash, string, value, left, right, opening, closing, equals, semicolon}
 
@@ -28,7 +28,7 @@ pub data Frame : Type 0 where
   in_dropped : Frame
   in_later : Frame
 
--- where in the grammar the machine is, and the open blocks, the innermost first
+-- the phase, and the open blocks, the innermost first
 pub data Control : Type 0 where
   at : Phase → List Frame → Control
 
@@ -67,7 +67,7 @@ abbrev pub for_value : Bool → Control → Option Control
 for_value true c = Some c
 for_value false c = None
 
--- where the machine is after the token; nowhere, where the token may not come
+-- the control after the token; none where the token may not come
 abbrev pub step : Control → Token → Option Control
 step (at gap fs) space = Some (at gap fs)
 step (at gap fs) newline = Some (at gap fs)
@@ -135,3 +135,25 @@ held f (Some c) = f c
 abbrev pub accepts : Control → List Token → Bool
 accepts c [] = finish c
 accepts c (k ∷ ks) = held (λ c'. accepts c' ks) (step c k)
+
+-- between nodes, with no block open
+abbrev pub is_gap : Control → Bool
+is_gap (at gap []) = true
+is_gap _ = false
+
+-- what is dropped in a node ends directly after a value or a block
+abbrev pub is_over : Control → Bool
+is_over (at (in_node (fresh false)) []) = true
+is_over (at (in_node later) []) = true
+is_over _ = false
+
+-- it is a block
+abbrev pub is_block : Control → Bool
+is_block (at (in_node later) []) = true
+is_block _ = false
+
+-- a string may be a key: it ends where no `=` follows
+abbrev pub is_word : Control → Bool
+is_word (at (in_node (fresh true)) []) = true
+is_word (at (in_node (spaced true)) []) = true
+is_word _ = false

@@ -1,18 +1,19 @@
--- The blocks that the machine after a slashdash has open, kept in a row with the last one at its end.
+-- The open blocks, kept in a row with the last one at its end.
 use Rattle.std.proofs.Common.{◌≡◌, ◌⊎◌, inl, inr, ℕ, suc, ◌==◌, Bool, true, false, List, [], ◌∷◌, ◌++◌, length, Option, Some, refl, sym, ap, ◌∙◌}
 use Rattle.std.proofs.lemmas.Bool.{eq-eqb, eqb-true}
 use Rattle.std.specs.Prelude.{option_to_list}
 use Rattle.kdl_lexer.specs.Internal.Tokens.{Token}
-use Rattle.kdl_grammar.specs.Internal.Control as control
-use Rattle.kdl_items.specs.Internal.Machine.{spot_view, phase_view, frame_view, stacked, move_view}
-use Rattle.kdl_items.specs.declared.machine.Frame.{Frame}
-use Rattle.kdl_items.specs.declared.machine.Move.{Move}
-use Rattle.kdl_items.specs.declared.machine.Move.TheVariants.{Open, Close}
-use Rattle.kdl_items.specs.Internal.Passing.{is_gap, is_over, is_word}
-use Rattle.kdl_items.specs.declared.machine.Phase.{Phase}
-use Rattle.kdl_items.specs.declared.machine.Phase.TheVariants.{Gap, InNode, Kept}
-use Rattle.kdl_items.specs.declared.machine.Spot.{Spot}
-use Rattle.kdl_items.specs.declared.machine.Spot.TheVariants.{Fresh, Spaced}
+use Rattle.kdl_control.specs.Internal.Control as control
+use Rattle.kdl_control.specs.Internal.Views.{spot_view, phase_view, frame_view, stacked, move_view}
+use Rattle.kdl_control.specs.declared.control.Frame.{Frame}
+use Rattle.kdl_control.specs.declared.control.Move.{Move}
+use Rattle.kdl_control.specs.declared.control.Move.TheVariants.{Open, Close}
+use Rattle.kdl_control.specs.Internal.Control.{is_gap, is_over, is_word}
+use Rattle.kdl_control.specs.declared.control.Phase.{Phase}
+use Rattle.kdl_control.specs.declared.control.Phase.TheVariants.{Gap, InNode, Kept}
+use Rattle.kdl_control.specs.declared.control.Spot.{Spot}
+use Rattle.kdl_control.specs.declared.control.Spot.TheVariants.{Fresh, Spaced}
+use Rattle.kdl_control.specs.declared.control.Word.TheVariants.{MayBeKey, NoKey}
 
 -- one more open block is on top
 stacked_pushed : (acc : List control.Frame) (fs : List Frame) (f : Frame) → stacked acc (fs ++ (f ∷ [])) ≡ frame_view f ∷ stacked acc fs
@@ -52,8 +53,8 @@ where_open P h [] n e f = let x = eq-eqb n 0 e in absurd cc
 where_open P h (g ∷ gs) n e f = under P h (frame_view g) [] gs
 
 over_open : (p : Phase) (x : control.Frame) (xs : List control.Frame) → is_over (control.at (phase_view p) (x ∷ xs)) ≡ false
-over_open (InNode (Fresh true)) x xs = refl
-over_open (InNode (Fresh false)) x xs = refl
+over_open (InNode (Fresh MayBeKey)) x xs = refl
+over_open (InNode (Fresh NoKey)) x xs = refl
 over_open _ x xs = refl
 
 pub gap_closed : (p : Phase) (fs : List Frame) (n : ℕ) → p ≡ Gap → n ≡ length fs → (n == 0) ≡ is_gap (control.at (phase_view p) (stacked [] fs))
@@ -68,8 +69,8 @@ pub not_over : (p : Phase) (fs : List Frame) (n : ℕ) → n ≡ length fs → f
 not_over p fs n l e = where_open (λ (zs : List control.Frame). is_over (control.at (phase_view p) zs)) (over_open p) fs n l e
 
 word_open : (p : Phase) (x : control.Frame) (xs : List control.Frame) → is_word (control.at (phase_view p) (x ∷ xs)) ≡ false
-word_open (InNode (Fresh true)) x xs = refl
-word_open (InNode (Spaced true)) x xs = refl
+word_open (InNode (Fresh MayBeKey)) x xs = refl
+word_open (InNode (Spaced MayBeKey)) x xs = refl
 word_open _ x xs = refl
 
 pub no_word : (p : Phase) (fs : List Frame) (n : ℕ) → n ≡ length fs → false ≡ (n == 0) → false ≡ is_word (control.at (phase_view p) (stacked [] fs))

@@ -1,0 +1,2 @@
+-- The open blocks, the last one at the end.
+pub mod OpenBlocks

@@ -1,0 +1,2 @@
+-- What only proofs and contracts inside the crates need.
+pub mod Internal
