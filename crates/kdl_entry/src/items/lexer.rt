@@ -507,6 +507,7 @@ impl<'a> Lexer<'a> {
     /// let closing = lexer.next(alloc)?; // the `}`: whether it may be here is for the caller to know
     /// let none = lexer.next(alloc)?; // `None`: the end of the text
     /// ```
+    #[inline(always)]
     pub fn next(&mut self, alloc: Global) -> Result<Option<Token<'a>>, LexFailure>
         ensures lexed { Lexed self.old result self.new }
         ensures moves { Moves self.old self.new }
