@@ -232,6 +232,7 @@ fn sign_token(
 }
 
 /// The number that begins here.
+#[inline(always)]
 fn number_token(
     cursor: &mut Cursor,
     alloc: Global,
