@@ -109,6 +109,7 @@ fn string_failure(place: &Checkpoint, failure: StringFailure) -> LexFailure
 }
 
 /// The bare string that begins here, where no number does.
+#[inline(always)]
 #[tactic(auto, using(crate::proofs::Lexing::TokenReads::a_bare_here, crate::proofs::Lexing::TokenCost::bare_costs))]
 fn bare_token(
     cursor: &mut Cursor,
