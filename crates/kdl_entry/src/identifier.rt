@@ -206,7 +206,7 @@ impl KdlIdentifier {
 /// let span = SourceSpan { offset: 0, len: 2 };
 /// let name = sliced_identifier(alloc, String::from_str(alloc, "ab")?, &piece, span)?; // prints "ab"
 /// ```
-#[inline]
+#[inline(always)]
 pub fn sliced_identifier(
     alloc: Global,
     value: String,

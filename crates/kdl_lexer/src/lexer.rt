@@ -109,6 +109,7 @@ fn string_failure(place: &Checkpoint, failure: StringFailure) -> LexFailure
 }
 
 /// The bare string that begins here, where no number does.
+#[inline(always)]
 #[tactic(auto, using(crate::proofs::Lexing::TokenReads::a_bare_here, crate::proofs::Lexing::TokenCost::bare_costs))]
 fn bare_token(
     cursor: &mut Cursor,
@@ -232,6 +233,7 @@ fn sign_token(
 }
 
 /// The number that begins here.
+#[inline(always)]
 fn number_token(
     cursor: &mut Cursor,
     alloc: Global,
@@ -507,6 +509,7 @@ impl<'a> Lexer<'a> {
     /// let closing = lexer.next(alloc)?; // the `}`: whether it may be here is for the caller to know
     /// let none = lexer.next(alloc)?; // `None`: the end of the text
     /// ```
+    #[inline(always)]
     pub fn next(&mut self, alloc: Global) -> Result<Option<Token<'a>>, LexFailure>
         ensures lexed { Lexed self.old result self.new }
         ensures moves { Moves self.old self.new }

@@ -479,7 +479,7 @@ impl<'a> Cursor<'a> {
 
     /// Goes past the longest run of characters of a class. A step for each, and one for the
     /// character after them.
-    #[inline]
+    #[inline(always)]
     pub fn skip(&mut self, class: Class)
         ensures { Skips (in_class class) self.old self.new }
     {

@@ -154,6 +154,7 @@ fn has_bare_form(word: &Piece, cursor: &mut Cursor) -> bool
 
 /// Goes past the longest run of identifier characters, and gives it where it is a bare string
 /// (KDL 2.0.0, Identifier String). None: no bare string begins here.
+#[inline(always)]
 pub fn bare_string<'a>(cursor: &mut Cursor<'a>) -> Option<Piece<'a>>
     ensures found { IfSome result (λ p. BareString cursor.old.rest cursor.new.rest p) }
     ensures only { (r w : Text) → BareString cursor.old.rest r w
