@@ -1,5 +1,6 @@
 -- Nodes that end by themselves, since they end in `;` or a newline.
-use Rattle.std.proofs.Common.{◌≡◌, inl, inr, ℕ, true, [], ◌∷◌, ◌++◌, Some, option_map, refl, ap, ◌∙◌, sym, subst}
+use Rattle.std.proofs.Common.{◌≡◌, inl, inr, ℕ, true, [], ◌∷◌, ◌++◌, Option, Some, None, option_map, refl, ap, ◌∙◌, sym, subst}
+use Rattle.std.proofs.lemmas.List.{append-nil}
 use Rattle.kdl_text.specs.Chars.{Text}
 use Rattle.kdl_value.specs.Tree.{text_of}
 use Rattle.kdl_text.specs.Internal.Here.{first as first_char}
@@ -19,7 +20,7 @@ use Rattle.kdl.specs.Tree.{document_tree, head_tree}
 use Rattle.kdl.specs.declared.node.KdlNode.{KdlNode}
 use Rattle.kdl.specs.declared.document.KdlDocument.TheViews.{out-KdlNode}
 use Rattle.kdl.proofs.Trees.{node_tree_out}
-use Rattle.kdl_laws.specs.Pushed.{EndsLine}
+use Rattle.kdl_laws.specs.Pushed.{EndsLine, IsLineEnded}
 
 -- a place before a terminator, before another text that begins alike
 place_moves : (k : Children) (b u x : Text) → BeforeTerminator k (b ++ u) u → first_char x ≡ first_char u → ValueEnd true x → BeforeTerminator k (b ++ x) x
@@ -64,3 +65,13 @@ line_ends n f s e x =
     let X = out-KdlNode n in
     let k = children_of (option_map document_tree X.children) in
     subst (NodeReads Anything) (sym (node_tree_out n)) (node_anywhere (head_tree X) k (node_format_tree f) (ap (option_map node_format_tree) s) e (subst (NodeReads TextEnd) (node_tree_out n) x))
+
+-- a node that ends in `;` or a newline, with no text after it
+ended_of : (n : KdlNode) (o : Option KdlNodeFormat) → node_format_of n ≡ o → IsLineEnded o → NodeReadsBack n → NodeEnds n
+ended_of n None s h = absurd h
+ended_of n (Some f) s h =
+    let all : text_of f.terminator ++ text_of f.trailing ≡ text_of f.terminator = ap (λ (t : Text). text_of f.terminator ++ t) h.0 ∙ append-nil (text_of f.terminator) in
+    line_ends n f s (subst EndsLine (sym all) h.1)
+
+pub line_ended : (n : KdlNode) → IsLineEnded (node_format_of n) → NodeReadsBack n → NodeEnds n
+line_ended n h = ended_of n (node_format_of n) refl h

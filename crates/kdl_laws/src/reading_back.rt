@@ -12,7 +12,7 @@ ghost use Rattle.kdl_entry.specs.Tree.{Entry, Identifier, entry_tree, plain_entr
 ghost use Rattle.kdl_entry.specs.declared.entry.KdlEntry.{KdlEntry};
 ghost use Rattle.kdl_grammar.specs.Data.{Nodes, first, none};
 ghost use Rattle.kdl_grammar.specs.Grammar.{IsDocument};
-ghost use Rattle.kdl_laws.specs.Pushed.{EndsLine, LastEnds};
+ghost use Rattle.kdl_laws.specs.Pushed.{EndsLine, IsLineEnded, LastEnds};
 ghost use Rattle.kdl_parts.specs.Edits.{under};
 ghost use Rattle.kdl_parts.specs.EntryLists.{Sought, property};
 ghost use Rattle.kdl_text.specs.Chars.{Text};
@@ -20,7 +20,7 @@ ghost use Rattle.kdl_value.specs.Data.{Value};
 ghost use Rattle.kdl_value.specs.Tree.{text_of};
 ghost use Rattle.kdl_value.specs.WellFormed.{IsWellFormed};
 ghost use Rattle.std.specs.List.{All};
-ghost use Rattle.std.specs.Prelude.{◌≡◌, ◌++◌, [], ◌∷◌, IsSome, IsTrue, List, None, Some, String, Vec, chars, length, string_bytes, true, ℕ};
+ghost use Rattle.std.specs.Prelude.{◌≡◌, ◌++◌, [], ◌∷◌, IsSome, IsSomeAnd, IsTrue, List, None, Some, String, Vec, chars, length, slice_get, string_bytes, true, ◌-◌, ◌↔◌, ℕ};
 ghost use Rattle.std.specs.Str.{encode_utf8_all};
 ghost use Rattle.std.specs.declared.alloc.Global.{Global};
 
@@ -83,18 +83,27 @@ pub fn ended_reads_back()
 
 /// Whether the text is one `;` or one newline.
 fn is_line_end(text: &str) -> bool
-    ensures { IsTrue result → EndsLine (chars text.now) }
+    ensures { IsTrue result ↔ EndsLine (chars text.now) }
 {
     text == ";" || text == "\n"
 }
 
+/// Whether the terminator is one `;` or one newline, with no text after that.
+fn is_line_ended(format: &kdl::KdlNodeFormat) -> bool
+    ensures { IsTrue result ↔ IsLineEnded (Some format.now) }
+{
+    format.trailing.as_str().is_empty() && is_line_end(&format.terminator)
+}
+
 /// Whether the terminator of a node is one `;` or one newline, with no text after that. Then the node ends by itself,
 /// where it reads back.
+#[tactic(auto, using(crate::proofs::EndedNodes::line_ended))]
 pub fn ends_line(node: &kdl::KdlNode) -> bool
-    ensures { IsTrue result → NodeReadsBack node.now → NodeEnds node.now }
+    ensures exact { IsTrue result ↔ IsLineEnded (node_format_of node.now) }
+    ensures ends { IsTrue result → NodeReadsBack node.now → NodeEnds node.now }
 {
     match node.format() {
-        Some(format) => format.trailing.as_str().is_empty() && is_line_end(&format.terminator),
+        Some(format) => is_line_ended(format),
         None => false,
     }
 }
@@ -102,7 +111,8 @@ pub fn ends_line(node: &kdl::KdlNode) -> bool
 /// Whether a document has nodes, and the last one ends in `;` or a newline: it ends by itself, where the document reads
 /// back.
 pub fn last_ends(document: &kdl::KdlDocument) -> bool
-    ensures { IsTrue result → DocumentReadsBack document.now → LastEnds document.now }
+    ensures exact { IsTrue result ↔ IsSomeAnd (slice_get (nodes_of document.now) (length (nodes_of document.now) - 1)) (λ n. IsLineEnded (node_format_of n)) }
+    ensures ends { IsTrue result → DocumentReadsBack document.now → LastEnds document.now }
 {
     match document.nodes().last() {
         Some(node) => ends_line(node),

@@ -1,6 +1,8 @@
-use Rattle.std.proofs.Common.{◌≡◌, inl, inr, ap, chars, codes, refl, sym, ◌∙◌}
+use Rattle.std.proofs.Common.{◌≡◌, List, inl, inr, ap, chars, codes, refl, sym, true, ℕ, ◌∙◌}
 use Rattle.std.proofs.lemmas.Slice.Eq.{bytes_eq-Decides}
-use Rattle.std.proofs.lemmas.Str.{chars-encodes}
+use Rattle.std.proofs.lemmas.Str.{chars-encodes, encodes-chars}
+use Rattle.std.specs.Str.{IsUtf8, encode_utf8_all}
+use Rattle.kdl_laws.specs.Pushed.{EndsLine}
 use Rattle.kdl_laws.proofs.reading_back.is_line_end.Goals as goal
 
 semicolon : chars (codes ";") ≡ codes ";"
@@ -11,8 +13,21 @@ newline : chars (codes "\n") ≡ codes "\n"
 unfolding lib.Utf8.encode
 newline = chars-encodes (codes "\n") refl
 
+-- the bytes of a text that is one `;`, or one newline
+semicolon_bytes : (bs : List ℕ) → IsUtf8 bs → chars bs ≡ codes ";" → bs ≡ codes ";"
+unfolding lib.Utf8.encode
+semicolon_bytes bs u e = sym (encodes-chars bs u) ∙ ap encode_utf8_all e
+
+newline_bytes : (bs : List ℕ) → IsUtf8 bs → chars bs ≡ codes "\n" → bs ≡ codes "\n"
+unfolding lib.Utf8.encode
+newline_bytes bs u e = sym (encodes-chars bs u) ∙ ap encode_utf8_all e
+
 pub returns-then-eq : goal.returns-then-eq
-returns-then-eq c h = inl (ap chars ((bytes_eq-Decides c.args.text.now (codes ";")).0 (sym c.eq.ensures ∙ h)) ∙ semicolon)
+returns-then-eq c = (λ h. inl (ap chars ((bytes_eq-Decides c.args.text.now (codes ";")).0 (sym c.eq.ensures ∙ h)) ∙ semicolon), λ e. c.if-eq.true)
 
 pub returns-else-eq : goal.returns-else-eq
-returns-else-eq c h = inr (ap chars ((bytes_eq-Decides c.args.text.now (codes "\n")).0 (sym c.eq-else-eq.ensures ∙ h)) ∙ newline)
+returns-else-eq c = (λ h. inr (ap chars ((bytes_eq-Decides c.args.text.now (codes "\n")).0 (sym c.eq-else-eq.ensures ∙ h)) ∙ newline), back)
+  where
+    back : EndsLine (chars c.args.text.now) → c.eq-else-eq.result ≡ true
+    back (inl e) = let same : c.eq.result ≡ true = c.eq.ensures ∙ (bytes_eq-Decides c.args.text.now (codes ";")).1 (semicolon_bytes c.args.text.now c.args.text.utf8 e) in absurd (cc)
+    back (inr e) = c.eq-else-eq.ensures ∙ (bytes_eq-Decides c.args.text.now (codes "\n")).1 (newline_bytes c.args.text.now c.args.text.utf8 e)
