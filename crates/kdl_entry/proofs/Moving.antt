@@ -8,6 +8,8 @@ pub mod EntryMoves
 pub mod PieceMoves
 -- Strings come before another rest too.
 pub mod StringMoves
+-- Spaces, comments and breaks come before each rest that begins with no LF.
+pub mod FarMoves
 -- What follows a piece of an entry is an end of the text.
 pub mod EntryEnds
 -- What follows a number or a keyword is an end of the text.

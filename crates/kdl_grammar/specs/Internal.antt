@@ -2,6 +2,8 @@
 
 -- The machine without data: which tokens may come.
 pub mod Control
+-- How far it goes in a text.
+pub mod Going
 -- What is proved of the machine that builds the tree, and of the tokens of a document.
 pub mod MachineLaws
 -- The machine that builds the tree: it goes over the tokens of a text once, with a stack of open blocks.
