@@ -1,4 +1,4 @@
--- Fronts of texts that no token begins, whatever follows them.
+-- Fronts of texts that no token begins, or none that may come, whatever follows them; and open pieces, which go on to a token.
 
 -- A backslash, spaces and comments, and what ends no escline.
 pub mod Esclines
@@ -6,3 +6,9 @@ pub mod Esclines
 pub mod Words
 -- Strings up to a place where nothing goes on with them.
 pub mod Strings
+-- Strings of many lines up to such a place.
+pub mod ManyLines
+-- What follows a string, a number or a keyword and is no value end.
+pub mod ValueEnds
+-- Comments and strings that the end of the text leaves open, which go on to a token.
+pub mod OpenPieces

@@ -1,6 +1,6 @@
 -- Which texts begin a document.
-use Rattle.std.proofs.Common.{◌≡◌, ◌≢◌, List, true, false, [], ◌∷◌, ◌++◌, length, take, refl, sym, ap, subst, ◌∙◌, append_assoc, arith}
-use Rattle.std.proofs.lemmas.List.{append_cancel_right}
+use Rattle.std.proofs.Common.{◌≡◌, ◌≢◌, List, true, false, [], ◌∷◌, ◌++◌, length, take, Some, refl, sym, ap, subst, ◌∙◌, append_assoc, arith}
+use Rattle.std.proofs.lemmas.List.{append_cancel_right, append-nil}
 use Rattle.std.specs.Prelude.{IsTrue}
 use Rattle.kdl_text.specs.Chars.{Text, begins}
 use Rattle.kdl_text.specs.Internal.Here.{first}
@@ -9,12 +9,12 @@ use Rattle.kdl_entry.specs.Internal.Tokens.{Token, BeginsToken, t_bom, Lexes, do
 use Rattle.kdl_entry.proofs.Lexing.TokenUnique.{no_token}
 use Rattle.kdl_entry.proofs.Moving.Puts.{begins_first}
 use Rattle.kdl_grammar.specs.Data.{Nodes}
-use Rattle.kdl_grammar.specs.GoingOn.{Derived, Viable, Alive, DeadAtToken, DeadAtFront, RefusedAtPiece, DerivedAtEnd}
+use Rattle.kdl_grammar.specs.GoingOn.{Derived, Viable, Alive, AliveInToken, DeadAtToken, DeadAtFront, RefusedAtPiece, DerivedAtEnd}
 use Rattle.kdl_grammar.specs.Grammar.{AreNodes, IsDocument}
-use Rattle.kdl_grammar.specs.Internal.Control.{Control, at, gap, accepts, finish}
-use Rattle.kdl_grammar.specs.Internal.Going.{Goes, Reaches, no_bom, behind_bom}
+use Rattle.kdl_grammar.specs.Internal.Control.{Control, at, gap, accepts, finish, step}
+use Rattle.kdl_grammar.specs.Internal.Going.{Goes, here, goes, Reaches, no_bom, behind_bom}
 use Rattle.kdl_grammar.proofs.Reading.Erased.{accepted_nodes}
-use Rattle.kdl_grammar.proofs.Reading.Refusing.{rest_of, dead_nodes, refused_here, refuses_two, front_first}
+use Rattle.kdl_grammar.proofs.Reading.Refusing.{near_goes, rest_of, dead_nodes, refused_here, refuses_two, front_first}
 use Rattle.kdl_grammar.proofs.Reading.Sound.{derives}
 use Rattle.kdl_grammar.proofs.Reading.Viable.{reads, viable, goes_length}
 
@@ -44,6 +44,36 @@ alive p r c g = go (went p r g refl)
         let same : v.before ≡ q = append_cancel_right v.before q r (sym v.text) in
         let d : IsDocument true (0xFEFF ∷ (q ++ v.behind)) v.nodes = IsDocument.behind_bom (subst (λ (z : Text). AreNodes true (z ++ v.behind) [] v.nodes) same v.derived) in
         (v.behind, (v.nodes, subst (λ (z : Text). IsDocument true (z ++ v.behind) v.nodes) (sym e) d))
+
+-- one token more
+behind : {c d e : Control} {s r t : Text} {k : Token} → Goes c s d r → BeginsToken r k t → step d k ≡ Some e → Goes c s e t
+behind here b f = goes b f here
+behind (goes x y g) b f = goes x y (behind g b f)
+
+pub alive_in_token : AliveInToken
+alive_in_token p r u c d k some g b f = longer (alive (p ++ (r ++ u)) [] d (go (went p r g refl)))
+  where
+    first_more : (r : Text) → r ≢ [] → first (r ++ u) ≡ first r
+    first_more [] h = absurd (h refl)
+    first_more (x ∷ r) h = refl
+
+    over : (q : Text) → Goes (at gap []) (q ++ r) c r → Goes (at gap []) ((q ++ (r ++ u)) ++ []) d []
+    over q g =
+        let y = near_goes (r ++ u) (first_more r some) g in
+        let same : y.at.piece ≡ q = append_cancel_right y.at.piece q r (sym (y.at.here ∙ y.at.text r)) in
+        let text : y.at.put (r ++ u) ≡ (q ++ (r ++ u)) ++ [] = y.at.text (r ++ u) ∙ ap (λ (z : Text). z ++ (r ++ u)) same ∙ sym (append-nil (q ++ (r ++ u))) in
+        subst (λ (z : Text). Goes (at gap []) z d []) text (behind y.there b f)
+
+    no_bom_more : (q : Text) → begins 0xFEFF (q ++ r) ≡ false → begins 0xFEFF ((q ++ (r ++ u)) ++ []) ≡ false
+    no_bom_more [] h = ap (begins 0xFEFF) (append-nil (r ++ u)) ∙ begins_first 0xFEFF (r ++ u) r (first_more r some) ∙ h
+    no_bom_more (x ∷ q) h = h
+
+    go : Went p r c → Reaches ((p ++ (r ++ u)) ++ []) d []
+    go (plain h g) = no_bom (no_bom_more p h) (over p g)
+    go (marked {q = q} e g) = subst (λ (z : Text). Reaches ((z ++ (r ++ u)) ++ []) d []) (sym e) (behind_bom (over q g))
+
+    longer : Viable (p ++ (r ++ u)) → Viable (p ++ r)
+    longer (w, x) = (u ++ w, subst (λ (z : Text). Derived z) (ap (λ (z : Text). z ++ w) (sym (append_assoc p r u)) ∙ append_assoc (p ++ r) u w) x)
 
 -- U+FEFF comes before no nodes but once
 no_bom_nodes : {s : Text} {xs : Nodes} → AreNodes true (0xFEFF ∷ s) [] xs → ⊥

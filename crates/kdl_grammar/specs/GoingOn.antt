@@ -1,5 +1,5 @@
 -- Which texts begin a document, and what is proved of that.
-use Rattle.std.specs.Prelude.{◌≡◌, ◌≢◌, ◌↔◌, IsTrue, true, [], ◌++◌, None, take}
+use Rattle.std.specs.Prelude.{◌≡◌, ◌≢◌, ◌↔◌, IsTrue, true, [], ◌++◌, Some, None, take}
 use Rattle.kdl_text.specs.Chars.{Text}
 use Rattle.kdl_entry.specs.Internal.Tokens.{Token, BeginsToken}
 use Rattle.kdl_entry.specs.Internal.Handed.{NoToken}
@@ -23,6 +23,10 @@ Dead t = (u : Text) → Derived (t ++ u) → ⊥
 -- what the machine goes over begins a document
 abbrev pub Alive : Type 0
 Alive = (p r : Text) (c : Control) → Reaches (p ++ r) c r → Viable p
+
+-- and so do that and the rest of the text, where this goes on to a token that may come
+abbrev pub AliveInToken : Type 0
+AliveInToken = (p r u : Text) (c d : Control) (k : Token) → r ≢ [] → Reaches (p ++ r) c r → BeginsToken (r ++ u) k [] → step c k ≡ Some d → Viable (p ++ r)
 
 -- where it refuses a token, no document begins with what it went over and the first two characters from there
 abbrev pub DeadAtToken : Type 0

@@ -1,5 +1,5 @@
 -- Strings up to a place where nothing goes on with them begin no token, whatever follows them.
-use Rattle.std.proofs.Common.{◌≡◌, ◌≢◌, ℕ, Bool, true, false, ◌==◌, List, [], ◌∷◌, ◌++◌, None, refl, sym, ap, subst, ◌∙◌, append_assoc}
+use Rattle.std.proofs.Common.{◌≡◌, ◌≢◌, ℕ, true, false, ◌==◌, List, [], ◌∷◌, ◌++◌, None, refl, sym, ap, subst, ◌∙◌, append_assoc}
 use Rattle.std.proofs.lemmas.List.{append_cancel_right}
 use Rattle.std.specs.List.{list_all}
 use Rattle.kdl_text.specs.Chars.{Text, begins, is_identifier_char, is_literal, is_space, is_newline_char, is_banned, is_punctuation}
@@ -7,11 +7,11 @@ use Rattle.kdl_text.specs.MultiLine.{IsQuoted, multi_line}
 use Rattle.kdl_text.specs.Strings.{StringUnit, IsUnit, one_literal, one_letter, one_number, one_gap, AreUnits, body, quoted as quoted_text, HexNumber, is_hex, is_escaped_space, letter_escape}
 use Rattle.kdl_text.proofs.Numeric.DecimalUnique.{number_begins}
 use Rattle.kdl_text.proofs.Quoted.BareReads.{bare_begins}
-use Rattle.kdl_text.proofs.Quoted.StringUnique.{is_quoted_begins, is_raw_begins}
+use Rattle.kdl_text.proofs.Quoted.StringUnique.{is_raw_begins}
 use Rattle.kdl_text.proofs.Quoted.UnitUnique.{unit_det, unit_no_quote, unit_front, run_same, backslash, blank_u}
 use Rattle.kdl_value.specs.Data.{Value}
 use Rattle.kdl_entry.specs.Entries.{StringPiece, bare, quoted, raw, PlainPiece, number, keyword}
-use Rattle.kdl_entry.specs.Internal.Tokens.{Token, BeginsToken}
+use Rattle.kdl_entry.specs.Internal.Tokens.{BeginsToken}
 use Rattle.kdl_entry.proofs.Lexing.StringUnique.{begins_piece, quote_identifier, quote_sign, keyword_front}
 use Rattle.kdl_entry.proofs.Lexing.TokenFronts.{BeginsNone}
 use Rattle.kdl_entry.proofs.Lexing.TokenUnique.{no_piece}
@@ -68,17 +68,17 @@ units_meet {r = r} {vs = v ∷ vs} (AreUnits.more x xs) stuck (AreUnits.more y y
     let (same, ends) = unit_det x y in
     units_meet xs stuck (subst (λ (z : Text). AreUnits z (34 ∷ r) vs) (sym ends) ys)
 
-quote_piece : begins_piece 34 ≡ true
+pub quote_piece : begins_piece 34 ≡ true
 unfolding is_identifier_char is_space is_newline_char is_banned is_punctuation
 quote_piece = refl
 
 -- no number and no keyword begins with a quote
-quote_no_plain : {s r : Text} {v : Value} → PlainPiece (34 ∷ s) r v → ⊥
+pub quote_no_plain : {s r : Text} {v : Value} → PlainPiece (34 ∷ s) r v → ⊥
 quote_no_plain (number y f) = let h = number_begins y in cc
 quote_no_plain {s = s} (keyword y f) = quote_sign (34 ∷ s) refl (keyword_front y)
 
 -- nor do these strings
-quote_no_other : {s r v : Text} → ((IsQuoted (34 ∷ s) r v) → ⊥) → StringPiece (34 ∷ s) r v → ⊥
+pub quote_no_other : {s r v : Text} → ((IsQuoted (34 ∷ s) r v) → ⊥) → StringPiece (34 ∷ s) r v → ⊥
 quote_no_other {s = s} none (bare y) = quote_identifier (34 ∷ s) refl (bare_begins y)
 quote_no_other none (quoted y) = none y
 quote_no_other {s = s} none (raw y) = quote_sign (34 ∷ s) refl (is_raw_begins y)
@@ -89,11 +89,15 @@ no_quoted run stuck h (IsQuoted.on_one_line f (quoted_text (body vs e))) = let x
 no_quoted AreUnits.none stuck h (IsQuoted.on_many_lines (multi_line b)) = cc
 no_quoted (AreUnits.more x xs) stuck h (IsQuoted.on_many_lines (multi_line b)) = unit_no_quote x
 
+pub no_quote_there : (g u : Text) → g ≢ [] → begins 34 g ≡ false → begins 34 (g ++ u) ≡ false
+no_quote_there [] u some h = absurd (some refl)
+no_quote_there (c ∷ g) u some h = h
+
 -- a quote, units, and a front that no unit and no quote begins
 pub quoted_front : (p g t : Text) {us : List StringUnit} → AreUnits (p ++ (g ++ t)) (g ++ t) us → g ≢ [] → begins 34 g ≡ false → BeginsNoUnit g → BeginsNone (34 ∷ (p ++ g))
 quoted_front p g t {us = us} run some no_quote stuck u r k b =
     no_piece 34 (p ++ (g ++ u)) quote_piece
-    (λ x v. quote_no_other (no_quoted there (λ w y. stuck u w y) (no_quote_there g some no_quote)))
+    (λ x v. quote_no_other (no_quoted there (λ w y. stuck u w y) (no_quote_there g u some no_quote)))
     (λ x v. quote_no_plain) r k (subst (λ (z : Text). BeginsToken (34 ∷ z) k r) (append_assoc p g u) b)
   where
     there : AreUnits (p ++ (g ++ u)) (g ++ u) us
@@ -101,7 +105,3 @@ quoted_front p g t {us = us} run some no_quote stuck u r k b =
         let m = move_units run in
         let same : m.at.piece ≡ p = append_cancel_right m.at.piece p (g ++ t) (sym (m.at.here ∙ m.at.text (g ++ t))) in
         subst (λ (z : Text). AreUnits z (g ++ u) us) (m.at.text (g ++ u) ∙ ap (λ (z : Text). z ++ (g ++ u)) same) (m.there (g ++ u) (front_first g u t some))
-
-    no_quote_there : (g : Text) → g ≢ [] → begins 34 g ≡ false → begins 34 (g ++ u) ≡ false
-    no_quote_there [] some h = absurd (some refl)
-    no_quote_there (c ∷ g) some h = h

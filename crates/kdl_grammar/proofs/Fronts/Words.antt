@@ -1,5 +1,5 @@
 -- A word of identifier characters, and a character after it that is none: where no token begins with them before one rest, none does before another.
-use Rattle.std.proofs.Common.{◌≡◌, ℕ, zero, suc, ◌<◌, ◌≤◌, Bool, true, false, ◌&&◌, ◌||◌, ◌==◌, [], ◌∷◌, ◌++◌, Option, Some, None, refl, sym, ap, subst, ◌∙◌, append_assoc, arith}
+use Rattle.std.proofs.Common.{◌≡◌, ℕ, zero, suc, ◌<◌, ◌≤◌, Bool, true, false, ◌||◌, ◌==◌, [], ◌∷◌, ◌++◌, Some, None, refl, sym, ap, subst, ◌∙◌, append_assoc, arith}
 use Rattle.std.proofs.lemmas.Bool.{and_parts}
 use Rattle.std.proofs.lemmas.Bool.Decides.{nat_tests}
 use Rattle.std.proofs.lemmas.List.{append_cancel_right}
@@ -8,7 +8,7 @@ use Rattle.std.specs.List.{list_all}
 use Rattle.std.specs.Prelude.{if◌then◌else◌}
 use Rattle.kdl_text.specs.Chars.{Text, within, starts, times, is_number_sign, is_identifier_char, is_space, is_newline_char, is_banned, is_punctuation}
 use Rattle.kdl_text.specs.Bare.{BareString, bare as bare_text, is_bare, bare_form}
-use Rattle.kdl_text.specs.Numbers.{Sign, is_digit_of, base_of, base_prefix, BasePrefix, Digits, Integer, integer, is_exponent_letter, whole, Fraction, Exponent, DecimalPart, part, decimal, IsNumber, is_whole, is_decimal, NumberValue, IsKeyword, keyword as a_keyword, keyword_text}
+use Rattle.kdl_text.specs.Numbers.{Sign, is_digit_of, base_of, base_prefix, BasePrefix, Digits, Integer, integer, is_exponent_letter, whole, Fraction, Exponent, part, decimal, IsNumber, is_whole, is_decimal, NumberValue, IsKeyword, keyword as a_keyword, keyword_text}
 use Rattle.kdl_text.specs.declared.numbers.Keyword.{Keyword}
 use Rattle.kdl_text.specs.declared.numbers.Keyword.TheVariants.{True, False, Null, Infinity, NegativeInfinity, NotANumber}
 use Rattle.kdl_text.proofs.Numeric.DecimalUnique.{number_begins}

@@ -40,9 +40,9 @@ near t_equals u e = near_token t_equals tt u e
 near t_semicolon u e = near_token t_semicolon tt u e
 near t_bom u e = near_token t_bom tt u e
 
-record Carried (c : Control) (s : Text) (d : Control) (r u : Text) : Type 0 where
-  at : Put s r
-  there : Goes c (at.put u) d u
+pub record Carried (c : Control) (s : Text) (d : Control) (r u : Text) : Type 0 where
+  pub at : Put s r
+  pub there : Goes c (at.put u) d u
 
 -- what the machine goes over it goes over before each such rest
 module _ {d : Control} {r : Text} (u : Text) (same : first u ≡ first r) where
@@ -53,7 +53,7 @@ module _ {d : Control} {r : Text} (u : Text) (same : first u ≡ first r) where
       let m = near x (y.at.put u) z in
       record { at = joined m.at y.at; there = goes m.there e y.there }
 
-  near_goes : {c : Control} {s : Text} → Goes c s d r → Carried c s d r u
+  pub near_goes : {c : Control} {s : Text} → Goes c s d r → Carried c s d r u
   near_goes here = record { at = stands; there = here }
   near_goes (goes x e g) = nearer x e g (near_goes g)
 

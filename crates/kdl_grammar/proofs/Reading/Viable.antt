@@ -244,7 +244,7 @@ behind_value (at kept fs) v d e = absurd cc
 behind_value (at kept_slashdash fs) v d e = absurd cc
 
 -- there only what ends a value may follow
-next_end : (c : Control) (k : Token) (d : Control) → worded c ≡ true → step c k ≡ Some d → is_end k ≡ true
+pub next_end : (c : Control) (k : Token) (d : Control) → worded c ≡ true → step c k ≡ Some d → is_end k ≡ true
 next_end (at (in_node (fresh b)) fs) (string v) d w e = absurd cc
 next_end (at (in_node (fresh b)) fs) (value v) d w e = absurd cc
 next_end (at (in_node (fresh b)) fs) left d w e = absurd cc

@@ -1,11 +1,18 @@
 //! Which texts begin a document: what the machine without data goes over does, and what it refuses does not.
 
-ghost use Rattle.kdl_grammar.specs.GoingOn.{Alive, DeadAtFront, DeadAtToken, DerivedAtEnd, RefusedAtPiece};
+ghost use Rattle.kdl_grammar.specs.GoingOn.{Alive, AliveInToken, DeadAtFront, DeadAtToken, DerivedAtEnd, RefusedAtPiece};
 
 /// What the machine goes over begins a document.
 #[tactic(auto, using(crate::proofs::GoingOn::alive))]
 pub fn alive()
     ensures { Alive }
+{}
+
+/// What the machine goes over begins a document together with the rest of the text, where this goes on to a token that
+/// may come.
+#[tactic(auto, using(crate::proofs::GoingOn::alive_in_token))]
+pub fn alive_in_token()
+    ensures { AliveInToken }
 {}
 
 /// Where the machine refuses a token, no document begins with what it went over and the first two characters from
