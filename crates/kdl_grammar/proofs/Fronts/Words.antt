@@ -145,7 +145,7 @@ bare_all : (w : Text) → is_bare w ≡ true → list_all is_identifier_char w �
 unfolding is_bare
 bare_all w h = (and_parts (list_all is_identifier_char w) (bare_form w) h).0
 
-keyword_word : (k : Keyword) → keyword_text k ≡ 35 ∷ word k
+pub keyword_word : (k : Keyword) → keyword_text k ≡ 35 ∷ word k
 keyword_word True = refl
 keyword_word False = refl
 keyword_word Null = refl
@@ -181,7 +181,7 @@ sign_piece : begins_piece 35 ≡ true
 unfolding is_identifier_char is_space is_newline_char is_banned is_punctuation
 sign_piece = refl
 
-piece_or : (c : ℕ) → is_identifier_char c ≡ true → begins_piece c ≡ true
+pub piece_or : (c : ℕ) → is_identifier_char c ≡ true → begins_piece c ≡ true
 piece_or c h = rw h refl
 
 shifted : (w : Text) (c : ℕ) (u : Text) → (w ++ (c ∷ [])) ++ u ≡ w ++ (c ∷ u)

@@ -165,12 +165,12 @@ Fits (string v) u = (starts is_identifier_char u ≡ false) × (begins 34 u ≡ 
 Fits (value v) u = starts is_identifier_char u ≡ false
 Fits _ u = Unit {0}
 
--- the token stands before u as it does before r
+-- the token comes before u as it does before r
 pub record Moved (s r : Text) (k : Token) (u : Text) : Type 0 where
   pub at : Put s r
   pub there : BeginsToken (at.put u) k u
 
--- or behind a line feed
+-- or with an LF after it
 record Last (s r : Text) (k : Token) (u : Text) : Type 0 where
   at : Put s r
   glue : Text
@@ -206,7 +206,7 @@ near_token t_equals f u e = record { at = also 61 stands; there = t_equals }
 near_token t_semicolon f u e = record { at = also 59 stands; there = t_semicolon }
 near_token t_bom f u e = record { at = also 0xFEFF stands; there = t_bom }
 
--- behind a string, a number or a keyword
+-- after a string, a number or a keyword
 abbrev pub worded : Control → Bool
 worded (at (in_node (fresh b)) fs) = true
 worded (at (type_name b) fs) = true
