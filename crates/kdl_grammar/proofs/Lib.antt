@@ -10,3 +10,7 @@ pub mod Examples
 pub mod LawProofs
 -- What reads back wherever it may be: derived, composed, found where a tree is laid.
 pub mod ReadingBack
+-- Which texts begin a document.
+pub mod GoingOn
+-- Fronts of texts that no token begins, whatever follows them.
+pub mod Fronts

@@ -8,3 +8,7 @@ pub mod Sound
 pub mod Erased
 -- Where no token begins before the end of the text, the text is no document.
 pub mod NoToken
+-- From each place that the machine reaches some text goes on to a document.
+pub mod Viable
+-- After a token that it refuses no document goes on.
+pub mod Refusing

@@ -2,6 +2,7 @@
 
 ghost use Rattle.kdl_grammar.specs.Laws.{OneDocument, OneNode, OneLaidDocument, OneLaidNode, LaidIsDerived, LaidNodeIsDerived, NodesAreLaid, FormerIsKept, ReadsBack, EditedIsLaid};
 
+pub mod going_on;
 pub mod machine;
 
 /// No text can be read as two documents.

@@ -7,6 +7,7 @@ pub mod entries;
 pub mod equal;
 pub mod errors;
 pub mod formats;
+pub mod going_on;
 pub mod items;
 pub mod keys;
 pub mod layout;

@@ -2,6 +2,8 @@
 
 -- A text begins with one token at most.
 pub mod TokenUnique
+-- The first two characters of a token tell which tokens are refused with it.
+pub mod TokenFronts
 -- What the readers of tokens cost.
 pub mod TokenCost
 -- From what the readers return to the tokens of the whole language.

@@ -8,3 +8,5 @@ pub mod PieceMoves
 pub mod StringMoves
 -- What follows a number or a keyword is an end of the text.
 pub mod LeafEnds
+-- Spaces, comments and breaks come before each rest that begins with no LF.
+pub mod FarMoves

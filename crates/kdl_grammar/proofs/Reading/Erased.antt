@@ -102,6 +102,10 @@ module _ (whole : Text) where
   pub lexed_runs : {d : Document} {s : Text} → Runs whole d (initial s) s → (ks : List Token) × Lexes s ks
   lexed_runs a = let b = accepted a in (b.tokens, b.lexed)
 
+-- nodes are cut into tokens that may come in this order
+pub accepted_nodes : {s : Text} {x : data'.Nodes} → AreNodes true s [] x → (ks : List Token) × Lexes s ks × (c.accepts (c.at c.gap []) ks ≡ true)
+accepted_nodes {s = s} n = let a = accepted s (placed s n).runs in (a.tokens, a.lexed, a.accepts)
+
 -- U+FEFF ends what the machine reads from between nodes
 no_bom_here : {whole s : Text} {d : Document} {l : Option Nodes} {fs : List Frame} {from : Text} → Runs whole d (at gap l fs from) (0xFEFF ∷ s) → ⊥
 no_bom_here {whole = whole} {s = s} {l = l} {fs = fs} {from = from} (reads {r = r} t e a) =

@@ -55,7 +55,7 @@ keyword_front {r = r} {k = k} (a_keyword e n) = ap (starts (λ c. c == 35)) e �
     go NotANumber = refl
 
 -- no character is an identifier character and a quote, or a number sign, or both of these
-quote_identifier : (s : Text) → starts (λ c. c == 34) s ≡ true → starts is_identifier_char s ≡ true → ⊥
+pub quote_identifier : (s : Text) → starts (λ c. c == 34) s ≡ true → starts is_identifier_char s ≡ true → ⊥
 quote_identifier [] h k = cc
 quote_identifier (c ∷ s) h k = no_quote c k (eqb-true c 34 h)
 
@@ -67,11 +67,11 @@ quote_no_identifier : is_identifier_char 34 ≡ false
 unfolding is_identifier_char Rattle.kdl_text.specs.Chars.is_space Rattle.kdl_text.specs.Chars.is_newline_char Rattle.kdl_text.specs.Chars.is_banned Rattle.kdl_text.specs.Chars.is_punctuation
 quote_no_identifier = refl
 
-sign_identifier : (s : Text) → starts (λ c. c == 35) s ≡ true → starts is_identifier_char s ≡ true → ⊥
+pub sign_identifier : (s : Text) → starts (λ c. c == 35) s ≡ true → starts is_identifier_char s ≡ true → ⊥
 sign_identifier [] h k = cc
 sign_identifier (c ∷ s) h k = let e : is_identifier_char c ≡ is_identifier_char 35 = ap is_identifier_char (eqb-true c 35 h) in let m = sign_punctuation in cc
 
-quote_sign : (s : Text) → starts (λ c. c == 34) s ≡ true → starts (λ c. c == 35) s ≡ true → ⊥
+pub quote_sign : (s : Text) → starts (λ c. c == 34) s ≡ true → starts (λ c. c == 35) s ≡ true → ⊥
 quote_sign [] h k = cc
 quote_sign (c ∷ s) h k = let a : c ≡ 34 = eqb-true c 34 h in let b : c ≡ 35 = eqb-true c 35 k in absurd cc
 
@@ -109,7 +109,7 @@ string_number {s = s} (raw x) n = sign_identifier s (is_raw_begins x) (number_fr
 string_number {s = s} (quoted x) n = quote_identifier s (is_quoted_begins x) (number_front s (number_begins n))
 
 -- after the first number sign of a raw string is another one, or a quote
-raw_second : (n : ℕ) (b : Text) → 0 < n → (c : ℕ) (t : Text) → times n 35 ++ 34 ∷ b ≡ 35 ∷ c ∷ t → is_identifier_char c ≡ false
+pub raw_second : (n : ℕ) (b : Text) → 0 < n → (c : ℕ) (t : Text) → times n 35 ++ 34 ∷ b ≡ 35 ∷ c ∷ t → is_identifier_char c ≡ false
 raw_second zero b h c t e = absurd (omega arith)
 raw_second (suc zero) b h c t e = let d : 34 ≡ c = cc in ap is_identifier_char (sym d) ∙ quote_no_identifier
 raw_second (suc (suc n)) b h c t e = let d : 35 ≡ c = cc in ap is_identifier_char (sym d) ∙ sign_punctuation

@@ -21,7 +21,7 @@ use Rattle.kdl_lexer.specs.Internal.Tokens.{Token, space, newline, slashdash, st
 use Rattle.kdl_lexer.proofs.Lexing.StringUnique.{begins_piece, string_det, string_begins, string_end, string_shorter, string_or_plain, plain_det, plain_begins, plain_end, plain_shorter}
 
 -- the kinds of tokens, as their first two characters tell them; strings, numbers and keywords are of one kind
-data Kind : Type 0 where
+pub data Kind : Type 0 where
   k_space : Kind
   k_newline : Kind
   k_slashdash : Kind
@@ -42,11 +42,11 @@ sign : ℕ → Text → Kind
 sign c s =
     cond (c == 47) (slash s) (cond (c == 92) k_space (cond (c == 40) k_left (cond (c == 41) k_right (cond (c == 123) k_opening (cond (c == 125) k_closing (cond (c == 61) k_equals (cond (c == 59) k_semicolon k_bom)))))))
 
-kind : Text → Kind
+pub kind : Text → Kind
 kind [] = k_bom
 kind (c ∷ s) = cond (is_space c) k_space (cond (is_newline_char c) k_newline (cond (begins_piece c) k_piece (sign c s)))
 
-kind_of : Token → Kind
+unfoldable pub kind_of : Token → Kind
 kind_of space = k_space
 kind_of newline = k_newline
 kind_of slashdash = k_slashdash
@@ -86,7 +86,7 @@ lf : is_newline_char 13 ≡ true
 unfolding is_newline_char
 lf = refl
 
-kind_is : {s r : Text} {k : Token} → BeginsToken s k r → kind s ≡ kind_of k
+pub kind_is : {s r : Text} {k : Token} → BeginsToken s k r → kind s ≡ kind_of k
 unfolding kind kind_of sign slash is_space is_newline_char is_identifier_char is_banned is_punctuation
 kind_is (t_space (ws (ws_space (space_char x)))) = rw x refl
 kind_is (t_space (ws (ws_comment (block p)))) = refl
@@ -104,6 +104,16 @@ kind_is t_closing = refl
 kind_is t_equals = refl
 kind_is t_semicolon = refl
 kind_is t_bom = refl
+
+-- no more of the text tells its kind
+pub kind_front : (c d : ℕ) (s u : Text) → kind (c ∷ d ∷ s) ≡ kind (c ∷ d ∷ u)
+unfolding kind sign slash
+kind_front c d s u = refl
+
+-- nor more than the first character, where it is no slash
+pub kind_first : (c : ℕ) (s u : Text) → (c == 47) ≡ false → kind (c ∷ s) ≡ kind (c ∷ u)
+unfolding kind sign
+kind_first c s u h = rw h refl
 
 same : {s r t : Text} {k j : Token} → BeginsToken s k r → BeginsToken s j t → kind_of k ≡ kind_of j → (r ≡ t) × (k ≡ j)
 unfolding kind_of

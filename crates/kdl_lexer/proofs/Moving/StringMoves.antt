@@ -1,4 +1,4 @@
--- Strings in each spelling come before each rest that begins with no identifier character and no quote.
+-- Strings in each spelling come before each rest that begins with no identifier character and no quote, and before each rest that begins with the same character, or is none.
 use Rattle.std.proofs.Common.{◌≡◌, ℕ, ◌≤◌, Bool, true, false, ◌&&◌, ◌==◌, List, [], ◌∷◌, ◌++◌, length, refl, sym, ap, ◌∙◌, append_assoc, length-append, arith}
 use Rattle.std.proofs.lemmas.Bool.Decides.{nat_tests}
 use Rattle.kdl_text.specs.Chars.{Text, begins, begins_two, begins_with, times, starts, is_identifier_char, is_space, is_newline_char, Newline, crlf, one}
@@ -63,14 +63,14 @@ hex_there : {t r : Text} {c : ℕ} (x : HexNumber t r c) (u : Text) → HexNumbe
 unfolding move_hex
 hex_there x u = record { digits = x.digits; text = refl; all = x.all; some = x.some; few = x.few; value = x.value; scalar = x.scalar }
 
-move_unit : {t r : Text} {u : StringUnit} → IsUnit t r u → Move (λ s r. IsUnit s r u) t r
+pub move_unit : {t r : Text} {u : StringUnit} → IsUnit t r u → Move (λ s r. IsUnit s r u) t r
 move_unit (one_literal {c = c} x) = record { at = also c stands; there = λ u e. one_literal x }
 move_unit (one_letter {e = l} x) = record { at = also 92 (also l stands); there = λ u e. one_letter x }
 move_unit (one_number x) = record { at = also 92 (also 117 (also 123 (move_hex x))); there = λ u e. one_number (hex_there x u) }
 move_unit {r = r} (one_gap {e = l} x y) =
     record { at = also 92 (also l (before y.run y.text)); there = λ u e. one_gap x (record { run = y.run; text = refl; all = y.all; stops = starts_first is_escaped_space u r e ∙ y.stops }) }
 
-move_units : {t r : Text} {us : List StringUnit} → AreUnits t r us → Move (λ s r. AreUnits s r us) t r
+pub move_units : {t r : Text} {us : List StringUnit} → AreUnits t r us → Move (λ s r. AreUnits s r us) t r
 move_units AreUnits.none = record { at = stands; there = λ u e. AreUnits.none }
 move_units (AreUnits.more x xs) =
     let m = move_unit x in let k = move_units xs in
@@ -232,3 +232,32 @@ pub move_piece : {s r v : Text} → StringPiece s r v → MoveString (λ s r. St
 move_piece (bare x) = let m = move_bare x in record { at = m.at; full = m.full; there = λ u e n. bare (m.there u e n) }
 move_piece (quoted x) = let m = move_is_quoted x in record { at = m.at; full = m.full; there = λ u e n. quoted (m.there u e n) }
 move_piece (raw x) = let m = move_is_raw x in record { at = m.at; full = m.full; there = λ u e n. raw (m.there u) }
+
+-- before a rest that begins with the same character, or is none
+one_first : (u r : Text) → first u ≡ first r → begins_with (34 ∷ []) u ≡ begins_with (34 ∷ []) r
+one_first [] [] e = refl
+one_first [] (d ∷ r) e = cc
+one_first (c ∷ u) [] e = cc
+one_first (c ∷ u) (d ∷ r) e = let f : c ≡ d = cc in ap (λ (z : ℕ). (z == 34) && true) f
+
+two_first : (p u r : Text) → first u ≡ first r → begins_with (34 ∷ 34 ∷ []) (p ++ 34 ∷ r) ≡ false → begins_with (34 ∷ 34 ∷ []) (p ++ 34 ∷ u) ≡ false
+two_first [] u r e h = one_first u r e ∙ h
+two_first (c ∷ []) u r e h = h
+two_first (c ∷ d ∷ p) u r e h = h
+
+-- the text after the first quote begins with no two quotes there either
+not_three_first : {t r v : Text} (q : QuotedString t r v) → begins_with (34 ∷ 34 ∷ 34 ∷ []) t ≡ false
+    → (u : Text) → first u ≡ first r → begins_with (34 ∷ 34 ∷ 34 ∷ []) ((move_quoted q).at.put u) ≡ false
+unfolding move_quoted
+not_three_first {r = r} (quoted_text (body us e)) h u n =
+    let m = move_units us in
+    ap (begins_with (34 ∷ 34 ∷ [])) (m.at.text (34 ∷ u)) ∙ two_first m.at.piece u r n (ap (begins_with (34 ∷ 34 ∷ [])) (sym (m.at.text (34 ∷ r)) ∙ sym m.at.here) ∙ h)
+
+first_quoted : {s r v : Text} → IsQuoted s r v → Move (λ s r. IsQuoted s r v) s r
+first_quoted (IsQuoted.on_one_line h q) = let m = move_quoted q in record { at = m.at; there = λ u e. IsQuoted.on_one_line (not_three_first q h u e) (m.there u) }
+first_quoted (IsQuoted.on_many_lines q) = let m = move_multi_line q in record { at = m.at; there = λ u e. IsQuoted.on_many_lines (m.there u) }
+
+pub move_piece_first : {s r v : Text} → StringPiece s r v → Move (λ s r. StringPiece s r v) s r
+move_piece_first {r = r} (bare (bare_text {w = w} e h n)) = record { at = before w e; there = λ u x. bare (bare_text refl h (starts_first is_identifier_char u r x ∙ n)) }
+move_piece_first (quoted x) = let m = first_quoted x in record { at = m.at; there = λ u e. quoted (m.there u e) }
+move_piece_first (raw x) = let m = move_is_raw x in record { at = m.at; there = λ u e. raw (m.there u) }

@@ -1,0 +1,153 @@
+-- Which texts begin a document.
+use Rattle.std.proofs.Common.{◌≡◌, ◌≢◌, List, true, false, [], ◌∷◌, ◌++◌, length, take, Some, refl, sym, ap, subst, ◌∙◌, append_assoc, arith}
+use Rattle.std.proofs.lemmas.List.{append_cancel_right, append-nil}
+use Rattle.std.specs.Prelude.{IsTrue}
+use Rattle.kdl_text.specs.Chars.{Text, begins}
+use Rattle.kdl_text.specs.Internal.Here.{first}
+use Rattle.kdl_lexer.specs.Internal.Handed.{NoToken}
+use Rattle.kdl_lexer.specs.Internal.Tokens.{Token, BeginsToken, t_bom, Lexes, done, next}
+use Rattle.kdl_lexer.proofs.Lexing.TokenUnique.{no_token}
+use Rattle.kdl_lexer.proofs.Moving.Puts.{begins_first}
+use Rattle.kdl_grammar.specs.Data.{Nodes}
+use Rattle.kdl_grammar.specs.GoingOn.{Derived, Viable, Alive, AliveInToken, DeadAtToken, DeadAtFront, RefusedAtPiece, DerivedAtEnd}
+use Rattle.kdl_grammar.specs.Grammar.{AreNodes, IsDocument}
+use Rattle.kdl_control.specs.Internal.Control.{Control, at, gap, accepts, finish, step}
+use Rattle.kdl_grammar.specs.Internal.Going.{Goes, here, goes, Reaches, no_bom, behind_bom}
+use Rattle.kdl_grammar.proofs.Reading.Erased.{accepted_nodes}
+use Rattle.kdl_grammar.proofs.Reading.Refusing.{near_goes, rest_of, dead_nodes, refused_here, refuses_two, front_first}
+use Rattle.kdl_grammar.proofs.Reading.Sound.{derives}
+use Rattle.kdl_grammar.proofs.Reading.Viable.{reads, viable, goes_length}
+
+-- what the machine went over in a text that is p before r: p, or p without the U+FEFF that begins it
+data Went (p r : Text) (c : Control) : Type 0 where
+  plain : begins 0xFEFF (p ++ r) ≡ false → Goes (at gap []) (p ++ r) c r → Went p r c
+  marked : {q : Text} → p ≡ 0xFEFF ∷ q → Goes (at gap []) (q ++ r) c r → Went p r c
+
+went : (p r : Text) {t : Text} {c : Control} → Reaches t c r → t ≡ p ++ r → Went p r c
+went p r {c = c} (no_bom h g) e = plain (ap (begins 0xFEFF) (sym e) ∙ h) (subst (λ (z : Text). Goes (at gap []) z c r) e g)
+went [] r (behind_bom g) e = absurd (omega (arith, goes_length g, ap length e))
+went (d ∷ p) r {c = c} (behind_bom {t = t} g) e =
+    let a : d ≡ 0xFEFF = cc in
+    let b : t ≡ p ++ r = cc in
+    marked (ap (λ z. z ∷ p) a) (subst (λ (z : Text). Goes (at gap []) z c r) b g)
+
+pub alive : Alive
+alive p r c g = go (went p r g refl)
+  where
+    go : Went p r c → Viable p
+    go (plain h g) =
+        let v = viable g in
+        let same : v.before ≡ p = append_cancel_right v.before p r (sym v.text) in
+        (v.behind, (v.nodes, IsDocument.no_bom (subst (λ (z : Text). AreNodes true (z ++ v.behind) [] v.nodes) same v.derived)))
+    go (marked {q = q} e g) =
+        let v = viable g in
+        let same : v.before ≡ q = append_cancel_right v.before q r (sym v.text) in
+        let d : IsDocument true (0xFEFF ∷ (q ++ v.behind)) v.nodes = IsDocument.behind_bom (subst (λ (z : Text). AreNodes true (z ++ v.behind) [] v.nodes) same v.derived) in
+        (v.behind, (v.nodes, subst (λ (z : Text). IsDocument true (z ++ v.behind) v.nodes) (sym e) d))
+
+-- one token more
+behind : {c d e : Control} {s r t : Text} {k : Token} → Goes c s d r → BeginsToken r k t → step d k ≡ Some e → Goes c s e t
+behind here b f = goes b f here
+behind (goes x y g) b f = goes x y (behind g b f)
+
+pub alive_in_token : AliveInToken
+alive_in_token p r u c d k some g b f = longer (alive (p ++ (r ++ u)) [] d (go (went p r g refl)))
+  where
+    first_more : (r : Text) → r ≢ [] → first (r ++ u) ≡ first r
+    first_more [] h = absurd (h refl)
+    first_more (x ∷ r) h = refl
+
+    over : (q : Text) → Goes (at gap []) (q ++ r) c r → Goes (at gap []) ((q ++ (r ++ u)) ++ []) d []
+    over q g =
+        let y = near_goes (r ++ u) (first_more r some) g in
+        let same : y.at.piece ≡ q = append_cancel_right y.at.piece q r (sym (y.at.here ∙ y.at.text r)) in
+        let text : y.at.put (r ++ u) ≡ (q ++ (r ++ u)) ++ [] = y.at.text (r ++ u) ∙ ap (λ (z : Text). z ++ (r ++ u)) same ∙ sym (append-nil (q ++ (r ++ u))) in
+        subst (λ (z : Text). Goes (at gap []) z d []) text (behind y.there b f)
+
+    no_bom_more : (q : Text) → begins 0xFEFF (q ++ r) ≡ false → begins 0xFEFF ((q ++ (r ++ u)) ++ []) ≡ false
+    no_bom_more [] h = ap (begins 0xFEFF) (append-nil (r ++ u)) ∙ begins_first 0xFEFF (r ++ u) r (first_more r some) ∙ h
+    no_bom_more (x ∷ q) h = h
+
+    go : Went p r c → Reaches ((p ++ (r ++ u)) ++ []) d []
+    go (plain h g) = no_bom (no_bom_more p h) (over p g)
+    go (marked {q = q} e g) = subst (λ (z : Text). Reaches ((z ++ (r ++ u)) ++ []) d []) (sym e) (behind_bom (over q g))
+
+    longer : Viable (p ++ (r ++ u)) → Viable (p ++ r)
+    longer (w, x) = (u ++ w, subst (λ (z : Text). Derived z) (ap (λ (z : Text). z ++ w) (sym (append_assoc p r u)) ∙ append_assoc (p ++ r) u w) x)
+
+-- U+FEFF comes before no nodes but once
+no_bom_nodes : {s : Text} {xs : Nodes} → AreNodes true (0xFEFF ∷ s) [] xs → ⊥
+no_bom_nodes n = let (ks, l, a) = accepted_nodes n in refused_here (at gap []) t_bom refl l a
+
+-- a document without U+FEFF before it, or with it
+data Parts (t : Text) : Type 0 where
+  nodes : {xs : Nodes} → AreNodes true t [] xs → Parts t
+  bom_nodes : {s : Text} {xs : Nodes} → t ≡ 0xFEFF ∷ s → AreNodes true s [] xs → Parts t
+
+parts : {t : Text} {xs : Nodes} → IsDocument true t xs → Parts t
+parts (IsDocument.no_bom n) = nodes n
+parts (IsDocument.behind_bom n) = bom_nodes refl n
+
+bom_first : (s t : Text) {u : Text} → first s ≡ first t → begins 0xFEFF t ≡ false → s ≡ 0xFEFF ∷ u → ⊥
+bom_first s t e h f = let x : begins 0xFEFF s ≡ false = begins_first 0xFEFF s t e ∙ h in let y : begins 0xFEFF s ≡ true = ap (begins 0xFEFF) f in cc
+
+-- before or after p, a front that is not empty hides what follows it
+deep_first : (p f u r : Text) → f ≢ [] → first (p ++ (f ++ u)) ≡ first (p ++ (f ++ r))
+deep_first [] f u r some = front_first f u r some
+deep_first (c ∷ p) f u r some = refl
+
+pub dead_at_front : DeadAtFront
+dead_at_front p f r c some g n u (xs, d) = go (went p (f ++ r) g refl) (parts (subst (λ (z : Text). IsDocument true z xs) (append_assoc p f u) d))
+  where
+    go : Went p (f ++ r) c → Parts (p ++ (f ++ u)) → ⊥
+    go (plain h g) (nodes m) = dead_nodes p f r some g n u m
+    go (plain h g) (bom_nodes e m) = bom_first (p ++ (f ++ u)) (p ++ (f ++ r)) (deep_first p f u r some) h e
+    go (marked {q = q} e g) (nodes {xs = ys} m) = no_bom_nodes (subst (λ (z : Text). AreNodes true (z ++ (f ++ u)) [] ys) e m)
+    go (marked {q = q} e g) (bom_nodes {s = s} {xs = ys} e' m) =
+        let same : 0xFEFF ∷ (q ++ (f ++ u)) ≡ 0xFEFF ∷ s = ap (λ (z : Text). z ++ (f ++ u)) (sym e) ∙ e' in
+        let x : s ≡ q ++ (f ++ u) = cc in
+        dead_nodes q f r some g n u (subst (λ (z : Text). AreNodes true z [] ys) x m)
+
+two_parts : (r : Text) → (q : Text) × (r ≡ take 2 r ++ q)
+two_parts [] = ([], refl)
+two_parts (c ∷ []) = ([], refl)
+two_parts (c ∷ d ∷ r) = (r, refl)
+
+two_some : (r : Text) → r ≢ [] → take 2 r ≢ []
+two_some [] h e = h e
+two_some (c ∷ []) h e = cc
+two_some (c ∷ d ∷ r) h e = cc
+
+pub dead_at_token : DeadAtToken
+dead_at_token p r s c k g b n =
+    let (q, e) = two_parts r in
+    let some : r ≢ [] = λ x. no_token (subst (λ (z : Text). BeginsToken z k s) x b) in
+    dead_at_front p (take 2 r) q c (two_some r some) (subst (λ (z : Text). Reaches (p ++ z) c z) e g) (refuses_two c b n)
+
+-- a document goes on with tokens that may come, wherever the machine is
+data Ahead (c : Control) (r : Text) : Type 0 where
+  ahead : {ks : List Token} → Lexes r ks → accepts c ks ≡ true → Ahead c r
+
+ahead_of : {t : Text} {c : Control} {r : Text} → Reaches t c r → Derived t → Ahead c r
+ahead_of (no_bom h g) (xs, IsDocument.no_bom m) = let x = rest_of g m in ahead x.lexed x.accepted
+ahead_of (no_bom h g) (xs, IsDocument.behind_bom m) = cc
+ahead_of (behind_bom g) (xs, IsDocument.no_bom m) = absurd (no_bom_nodes m)
+ahead_of (behind_bom g) (xs, IsDocument.behind_bom m) = let x = rest_of g m in ahead x.lexed x.accepted
+
+stuck : {c : Control} {r : Text} → NoToken r → Ahead c r → ⊥
+stuck n (ahead done a) = n.begun refl
+stuck n (ahead (next {r = r} {k = k} b l) a) = n.none r k b
+
+pub refused_at_piece : RefusedAtPiece
+refused_at_piece p r c g n d = stuck n (ahead_of g d)
+
+pub derived_at_end : DerivedAtEnd
+derived_at_end t c g = (λ d. forth (ahead_of g d) refl, λ h. back g h)
+  where
+    forth : {r : Text} → Ahead c r → r ≡ [] → IsTrue (finish c)
+    forth (ahead done a) e = a
+    forth (ahead (next {r = r'} {k = k} b l) a) e = absurd (no_token (subst (λ (z : Text). BeginsToken z k r') e b))
+
+    back : {t : Text} → Reaches t c [] → IsTrue (finish c) → Derived t
+    back (no_bom h g) f = let x = reads g done f in let (xs, n) = derives x.lexed x.accepted in (xs, IsDocument.no_bom n)
+    back (behind_bom g) f = let x = reads g done f in let (xs, n) = derives x.lexed x.accepted in (xs, IsDocument.behind_bom n)

@@ -1,0 +1,176 @@
+-- After a token that the machine without data refuses no document goes on.
+use Rattle.std.proofs.Common.{◌≡◌, ◌≢◌, true, false, List, [], ◌∷◌, ◌++◌, take, Some, None, refl, sym, ap, subst, ◌∙◌, arith}
+use Rattle.std.proofs.lemmas.List.{append_cancel_right}
+use Rattle.kdl_text.specs.Chars.{Text, starts, is_identifier_char}
+use Rattle.kdl_text.specs.Numbers.{whole, part, decimal, is_whole, is_decimal, keyword as a_keyword}
+use Rattle.kdl_text.specs.Internal.Here.{first}
+use Rattle.kdl_lexer.specs.Pieces.{PlainPiece, number, keyword}
+use Rattle.kdl_lexer.specs.Internal.Tokens.{Token, space, newline, slashdash, string, value, left, right, opening, closing, equals, semicolon, bom, BeginsToken, t_space, t_newline, t_slashdash, t_string, t_value, t_left, t_right, t_opening, t_closing, t_equals, t_semicolon, t_bom, Lexes, done, next}
+use Rattle.kdl_lexer.proofs.Lexing.TokenFronts.{RefusedWith, refused_with}
+use Rattle.kdl_lexer.proofs.Lexing.TokenUnique.{token_det, no_token, token_shorter}
+use Rattle.kdl_lexer.proofs.Moving.PieceMoves.{move_plain_piece}
+use Rattle.kdl_lexer.proofs.Moving.Puts.{Put, stands, joined, starts_first}
+use Rattle.kdl_lexer.proofs.Moving.StringMoves.{move_piece_first}
+use Rattle.kdl_value.specs.Data.{Value}
+use Rattle.kdl_grammar.specs.Data.{Nodes}
+use Rattle.kdl_grammar.specs.Grammar.{AreNodes}
+use Rattle.kdl_control.specs.Internal.Control.{fresh, spaced, later, gap, node_slashdash, type_open, type_name, type_done, in_node, property, entry_slashdash, block_slashdash, kept, kept_slashdash, Control, at, step, held, accepts}
+use Rattle.kdl_grammar.specs.Internal.Going.{Goes, here, goes, RefusesFront}
+use Rattle.kdl_grammar.proofs.Reading.Erased.{accepted_nodes}
+use Rattle.kdl_grammar.proofs.Reading.Viable.{Moved, near_token, goes_length, full_of, Reads}
+
+-- no identifier character comes after a number or a keyword
+plain_stops : {s r : Text} {v : Value} → PlainPiece s r v → starts is_identifier_char r ≡ false
+plain_stops (number (is_whole (whole a b d e f g)) q) = e
+plain_stops (number (is_decimal (decimal p a i (part x y z e) f g)) q) = e
+plain_stops (keyword (a_keyword e n) q) = n
+
+-- each token comes before each rest that begins with the same character, or is none
+near : {s r : Text} {k : Token} → BeginsToken s k r → (u : Text) → first u ≡ first r → Moved s r k u
+near (t_string p) u e = let m = move_piece_first p in record { at = m.at; there = t_string (m.there u e) }
+near {r = r} (t_value p) u e = let m = move_plain_piece p in record { at = m.at; there = t_value (m.there u (starts_first is_identifier_char u r e ∙ plain_stops p)) }
+near (t_space m) u e = near_token (t_space m) tt u e
+near (t_newline m) u e = near_token (t_newline m) tt u e
+near t_slashdash u e = near_token t_slashdash tt u e
+near t_left u e = near_token t_left tt u e
+near t_right u e = near_token t_right tt u e
+near t_opening u e = near_token t_opening tt u e
+near t_closing u e = near_token t_closing tt u e
+near t_equals u e = near_token t_equals tt u e
+near t_semicolon u e = near_token t_semicolon tt u e
+near t_bom u e = near_token t_bom tt u e
+
+pub record Carried (c : Control) (s : Text) (d : Control) (r u : Text) : Type 0 where
+  pub at : Put s r
+  pub there : Goes c (at.put u) d u
+
+-- what the machine goes over it goes over before each such rest
+module _ {d : Control} {r : Text} (u : Text) (same : first u ≡ first r) where
+  nearer : {c c' : Control} {s t : Text} {k : Token} → BeginsToken s k t → step c k ≡ Some c' → Goes c' t d r → Carried c' t d r u → Carried c s d r u
+  nearer x e here y = let m = near x u same in record { at = m.at; there = goes m.there e here }
+  nearer x e (goes x' e' g) y =
+      let z = full_of y.at (omega (arith, token_shorter x', goes_length g)) u in
+      let m = near x (y.at.put u) z in
+      record { at = joined m.at y.at; there = goes m.there e y.there }
+
+  pub near_goes : {c : Control} {s : Text} → Goes c s d r → Carried c s d r u
+  near_goes here = record { at = stands; there = here }
+  near_goes (goes x e g) = nearer x e g (near_goes g)
+
+-- what is accepted from one state is accepted from the other, after what is between them
+pub follow : {c d : Control} {s r : Text} → Goes c s d r → {ks : List Token} → Lexes s ks → accepts c ks ≡ true → Reads d r
+follow here {ks = ks} l a = record { tokens = ks; lexed = l; accepted = a }
+follow (goes b e g) done a = absurd (no_token b)
+follow {c = c} (goes b e g) (next {ks = ks} b' l) a =
+    let x = token_det b b' in
+    follow g (subst (λ (z : Text). Lexes z ks) (sym x.0) l) (ap (held (λ c'. accepts c' ks)) (sym e) ∙ ap (λ (z : Token). held (λ c'. accepts c' ks) (step c z)) x.1 ∙ a)
+
+no_string : (c : Control) (v : Text) (w : Text) → step c (string v) ≡ None → step c (string w) ≡ None
+no_string (at gap fs) v w e = absurd cc
+no_string (at node_slashdash fs) v w e = absurd cc
+no_string (at (type_open b) fs) v w e = absurd cc
+no_string (at (type_name b) fs) v w e = refl
+no_string (at (type_done true) fs) v w e = absurd cc
+no_string (at (type_done false) fs) v w e = absurd cc
+no_string (at (in_node (fresh b)) fs) v w e = refl
+no_string (at (in_node (spaced b)) fs) v w e = absurd cc
+no_string (at (in_node later) fs) v w e = refl
+no_string (at property fs) v w e = absurd cc
+no_string (at entry_slashdash fs) v w e = absurd cc
+no_string (at block_slashdash fs) v w e = refl
+no_string (at kept fs) v w e = refl
+no_string (at kept_slashdash fs) v w e = refl
+
+no_value : (c : Control) (v : Text) (w : Value) → step c (string v) ≡ None → step c (value w) ≡ None
+no_value (at gap fs) v w e = absurd cc
+no_value (at node_slashdash fs) v w e = absurd cc
+no_value (at (type_open b) fs) v w e = absurd cc
+no_value (at (type_name b) fs) v w e = refl
+no_value (at (type_done true) fs) v w e = absurd cc
+no_value (at (type_done false) fs) v w e = absurd cc
+no_value (at (in_node (fresh b)) fs) v w e = refl
+no_value (at (in_node (spaced b)) fs) v w e = absurd cc
+no_value (at (in_node later) fs) v w e = refl
+no_value (at property fs) v w e = absurd cc
+no_value (at entry_slashdash fs) v w e = absurd cc
+no_value (at block_slashdash fs) v w e = refl
+no_value (at kept fs) v w e = refl
+no_value (at kept_slashdash fs) v w e = refl
+
+no_other : (c : Control) (v : Value) (w : Value) → step c (value v) ≡ None → step c (value w) ≡ None
+no_other (at gap fs) v w e = refl
+no_other (at node_slashdash fs) v w e = refl
+no_other (at (type_open b) fs) v w e = refl
+no_other (at (type_name b) fs) v w e = refl
+no_other (at (type_done true) fs) v w e = absurd cc
+no_other (at (type_done false) fs) v w e = refl
+no_other (at (in_node (fresh b)) fs) v w e = refl
+no_other (at (in_node (spaced b)) fs) v w e = absurd cc
+no_other (at (in_node later) fs) v w e = refl
+no_other (at property fs) v w e = absurd cc
+no_other (at entry_slashdash fs) v w e = absurd cc
+no_other (at block_slashdash fs) v w e = refl
+no_other (at kept fs) v w e = refl
+no_other (at kept_slashdash fs) v w e = refl
+
+refused_too : (c : Control) (k j : Token) → RefusedWith k j → step c k ≡ None → step c j ≡ None
+refused_too c (string v) (string w) a e = no_string c v w e
+refused_too c (string v) (value w) a e = no_value c v w e
+refused_too c (value v) (value w) a e = no_other c v w e
+refused_too c space j a e = ap (step c) (sym a) ∙ e
+refused_too c newline j a e = ap (step c) (sym a) ∙ e
+refused_too c slashdash j a e = ap (step c) (sym a) ∙ e
+refused_too c left j a e = ap (step c) (sym a) ∙ e
+refused_too c right j a e = ap (step c) (sym a) ∙ e
+refused_too c opening j a e = ap (step c) (sym a) ∙ e
+refused_too c closing j a e = ap (step c) (sym a) ∙ e
+refused_too c equals j a e = ap (step c) (sym a) ∙ e
+refused_too c semicolon j a e = ap (step c) (sym a) ∙ e
+refused_too c bom j a e = ap (step c) (sym a) ∙ e
+refused_too c (string v) _ a e = absurd a
+refused_too c (value v) _ a e = absurd a
+
+-- nothing is accepted that begins with a refused token
+pub refused_here : (d : Control) {u v : Text} {k : Token} {ks : List Token} → BeginsToken u k v → step d k ≡ None → Lexes u ks → accepts d ks ≡ true → ⊥
+refused_here d b n done a = no_token b
+refused_here d b n (next {k = j} {ks = ks} b' l) a =
+    let y = token_det b b' in
+    let z : held (λ c. accepts c ks) (step d j) ≡ false = ap (held (λ c. accepts c ks)) (ap (step d) (sym y.1) ∙ n) in
+    absurd cc
+
+-- nor what begins with a front of refused tokens alone
+refused_front : (d : Control) (f u : Text) {ks : List Token} → (f ++ u ≢ []) → RefusesFront d f → Lexes (f ++ u) ks → accepts d ks ≡ true → ⊥
+refused_front d f u some n l a = go (f ++ u) refl l a
+  where
+    go : (s : Text) → s ≡ f ++ u → {js : List Token} → Lexes s js → accepts d js ≡ true → ⊥
+    go s e done a' = some (sym e)
+    go s e (next {r = r} {k = k} {ks = js} b l') a' =
+        let h = n u r k (subst (λ (z : Text). BeginsToken z k r) e b) in
+        let z : held (λ c. accepts c js) (step d k) ≡ false = ap (held (λ c. accepts c js)) h in
+        absurd cc
+
+-- the text that the machine goes over to the end is accepted from there on, where it is derived
+pub rest_of : {t r : Text} {c : Control} → Goes (at gap []) t c r → {xs : Nodes} → AreNodes true t [] xs → Reads c r
+rest_of g n = let (ks, l, a) = accepted_nodes n in follow g l a
+
+-- what follows a front that is not empty does not change its first character
+pub front_first : (f u r : Text) → f ≢ [] → first (f ++ u) ≡ first (f ++ r)
+front_first [] u r some = absurd (some refl)
+front_first (c ∷ f) u r some = refl
+
+-- no nodes begin with what the machine went over and such a front
+pub dead_nodes : (p f r : Text) {d : Control} → f ≢ [] → Goes (at gap []) (p ++ (f ++ r)) d (f ++ r) → RefusesFront d f → (u : Text) {xs : Nodes} → AreNodes true (p ++ (f ++ u)) [] xs → ⊥
+dead_nodes p f r {d = d} some g n u {xs = xs} m =
+    let y = near_goes (f ++ u) (front_first f u r some) g in
+    let same : y.at.piece ≡ p = append_cancel_right y.at.piece p (f ++ r) (sym (y.at.here ∙ y.at.text (f ++ r))) in
+    let m' : AreNodes true (y.at.put (f ++ u)) [] xs = subst (λ (z : Text). AreNodes true z [] xs) (sym (y.at.text (f ++ u) ∙ ap (λ (z : Text). z ++ (f ++ u)) same)) m in
+    let q = rest_of y.there m' in
+    refused_front d f u (λ e. some (front_empty f u e)) n q.lexed q.accepted
+  where
+    front_empty : (f u : Text) → f ++ u ≡ [] → f ≡ []
+    front_empty [] u e = refl
+    front_empty (c ∷ f) u e = cc
+
+-- the first two characters of a refused token are such a front
+pub refuses_two : {r s : Text} (d : Control) {k : Token} → BeginsToken r k s → step d k ≡ None → RefusesFront d (take 2 r)
+refuses_two {r = r} d {k = k} b n u t j b' = refused_too d k j (refused_with r u b b') n
