@@ -29,5 +29,5 @@ pub returns-else-eq : goal.returns-else-eq
 returns-else-eq c = (λ h. inr (ap chars ((bytes_eq-Decides c.args.text.now (codes "\n")).0 (sym c.eq-else-eq.ensures ∙ h)) ∙ newline), back)
   where
     back : EndsLine (chars c.args.text.now) → c.eq-else-eq.result ≡ true
-    back (inl e) = let same : c.eq.result ≡ true = c.eq.ensures ∙ (bytes_eq-Decides c.args.text.now (codes ";")).1 (semicolon_bytes c.args.text.now c.args.text.utf8 e) in absurd (cc)
-    back (inr e) = c.eq-else-eq.ensures ∙ (bytes_eq-Decides c.args.text.now (codes "\n")).1 (newline_bytes c.args.text.now c.args.text.utf8 e)
+    back (inl e) = let same : c.eq.result ≡ true = c.eq.ensures ∙ (bytes_eq-Decides c.args.text.now (codes ";")).1 (semicolon_bytes c.args.text.now c.utf8.text e) in absurd (cc)
+    back (inr e) = c.eq-else-eq.ensures ∙ (bytes_eq-Decides c.args.text.now (codes "\n")).1 (newline_bytes c.args.text.now c.utf8.text e)
