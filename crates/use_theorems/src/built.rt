@@ -3,11 +3,10 @@
 ghost use Rattle.kdl.specs.Words.{DocumentReadsBack, IsDocument, NodeEnds, NodeReadsBack, Nodes, document_says, node_says, said_nodes, text_of};
 ghost use Rattle.std.specs.Prelude.{◌≡◌, ◌++◌, [], ◌∷◌, IfOk, true};
 
-use crate::reads_back::printed;
-use kdl::{KdlDocument, KdlEntry, KdlIdentifier, KdlNode, KdlValue, NodeKey};
-use kdl_laws::reading_back::{ended_reads_back, new_entries_are_unformed};
+use crate::reads_back::{add_argument, insert_property, printed};
+use kdl::{KdlDocument, KdlIdentifier, KdlNode, KdlValue};
+use kdl_laws::reading_back::ended_reads_back;
 use kdl_laws::said::pushed_is_said_last;
-use kdl_laws::values::values_are_well_formed;
 use std::alloc::{AllocError, Global};
 
 /// A new node with an argument and a property. It reads back before any text.
@@ -20,17 +19,9 @@ pub fn one_node(
 ) -> Result<KdlNode, AllocError>
     ensures { IfOk result NodeEnds }
 {
-    values_are_well_formed(&one);
-    values_are_well_formed(&other);
-    new_entries_are_unformed();
-    let key = NodeKey::from_text(alloc, property)?;
     let mut node = KdlNode::new(KdlIdentifier::from_text(alloc, name)?)?;
-    let Ok(_) = node.push(KdlEntry::new(one)) else {
-        return Err(AllocError);
-    };
-    let Ok(_) = node.insert(key, KdlEntry::new(other)) else {
-        return Err(AllocError);
-    };
+    add_argument(&mut node, one)?;
+    insert_property(alloc, &mut node, property, other)?;
     Ok(node)
 }
 

@@ -1,10 +1,10 @@
 //! What look-ups find after layout.
 
-ghost use Rattle.kdl.specs.Words.{IsDocument, Nodes, argument_named, arguments_of, document_says, found_value, node_named, node_says, said_arg, value_of};
-ghost use Rattle.std.specs.Prelude.{◌≡◌, ◌↔◌, IfOk, chars, option_map, true};
+ghost use Rattle.kdl.specs.Words.{argument_named, arguments_of, document_says, node_named, node_says, said_arg, value_of};
+ghost use Rattle.std.specs.Prelude.{◌≡◌, chars, option_map};
 
-use kdl::{KdlDocument, KdlNode, NodeKey, ParseFailure};
-use std::alloc::{AllocError, Global};
+use kdl::KdlDocument;
+use std::alloc::AllocError;
 
 /// Lays the document out: each look-up finds what it found.
 pub fn tidy(document: &mut KdlDocument, name: &str) -> Result<(), AllocError>
@@ -18,37 +18,4 @@ pub fn tidy(document: &mut KdlDocument, name: &str) -> Result<(), AllocError>
         said_arg (chars name.now) (document_says document.old) }
 {
     document.autoformat()
-}
-
-/// The same without comments.
-pub fn tidy_all(document: &mut KdlDocument, name: &str) -> Result<(), AllocError>
-    ensures argument { value_of (argument_named name.now document.new) ≡
-        value_of (argument_named name.now document.old) }
-    ensures arguments { arguments_of (node_named name.now document.new) ≡
-        arguments_of (node_named name.now document.old) }
-    ensures node { option_map node_says (node_named name.now document.new) ≡
-        option_map node_says (node_named name.now document.old) }
-{
-    document.autoformat_no_comments()
-}
-
-/// Lays the node out: each key finds what it found.
-pub fn tidy_node(node: &mut KdlNode) -> Result<(), AllocError>
-    ensures { (key : NodeKey) → found_value key node.new ≡ found_value key node.old }
-{
-    node.autoformat()
-}
-
-/// Whether two texts are documents that say the same.
-pub fn same_configuration(alloc: Global, one: &str, other: &str) -> Result<bool, ParseFailure>
-    ensures { IfOk result (λ b. (b ≡ true) ↔ ((x : Nodes)
-        × IsDocument true (chars one.now) x × IsDocument true (chars other.now) x)) }
-{
-    let mut a = KdlDocument::parse(alloc, one)?;
-    let mut b = KdlDocument::parse(alloc, other)?;
-    a.autoformat_no_comments()?;
-    b.autoformat_no_comments()?;
-    let one = a.to_string(alloc)?;
-    let other = b.to_string(alloc)?;
-    Ok(one == other)
 }

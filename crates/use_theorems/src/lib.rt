@@ -7,7 +7,6 @@ pub mod equal;
 pub mod finds;
 pub mod layout;
 pub mod loans;
-pub mod nodes;
 pub mod port;
 pub mod reads_back;
 pub mod said;

@@ -1,57 +1,10 @@
 //! What look-ups find after a value is written through a loan.
 
-ghost use Rattle.kdl.specs.Words.{IsArgumentSet, IsSet, IsSetIn, value_tree};
-ghost use Rattle.std.specs.Prelude.{◌≡◌, IfOk, IfSome, true};
+ghost use Rattle.kdl.specs.Words.{IsSet, value_tree};
+ghost use Rattle.std.specs.Prelude.{IfOk};
 
-use kdl::{KdlDocument, KdlNode, KdlValue, NodeKey};
-use std::alloc::{AllocError, Global};
-
-/// Writes the value of a property, and returns whether the property is there.
-pub fn write_property(
-    alloc: Global,
-    node: &mut KdlNode,
-    name: &str,
-    value: KdlValue,
-) -> Result<bool, AllocError>
-    ensures { IfOk result (λ there.
-        there ≡ true → IsSet name.now (value_tree value) node.old node.new) }
-{
-    let key = NodeKey::from_text(alloc, name)?;
-    let Some(place) = node.get_mut(key) else {
-        return Ok(false);
-    };
-    *place = value;
-    Ok(true)
-}
-
-/// Writes the value of an argument, and returns whether the argument is there.
-pub fn write_argument(node: &mut KdlNode, index: usize, value: KdlValue) -> bool
-    ensures { result ≡ true → IsArgumentSet index (value_tree value) node.old node.new }
-{
-    let Some(place) = node.get_mut(NodeKey::Index(index)) else {
-        return false;
-    };
-    *place = value;
-    true
-}
-
-/// Writes the value of a property through the loan of its entry, and returns whether the property is there.
-pub fn write_entry(
-    alloc: Global,
-    node: &mut KdlNode,
-    name: &str,
-    value: KdlValue,
-) -> Result<bool, AllocError>
-    ensures { IfOk result (λ there.
-        there ≡ true → IsSet name.now (value_tree value) node.old node.new) }
-{
-    let key = NodeKey::from_text(alloc, name)?;
-    let Some(entry) = node.entry_mut(key) else {
-        return Ok(false);
-    };
-    entry.set_value(value);
-    Ok(true)
-}
+use kdl::{KdlNode, KdlValue};
+use std::alloc::AllocError;
 
 /// Writes the value of a property, or pushes the property where there is none of that name.
 pub fn put_property(node: &mut KdlNode, name: &str, value: KdlValue) -> Result<(), AllocError>
@@ -59,29 +12,4 @@ pub fn put_property(node: &mut KdlNode, name: &str, value: KdlValue) -> Result<(
 {
     *node.get_or_null_mut(name)? = value;
     Ok(())
-}
-
-/// Writes the first argument of the first node of that name, and returns whether it is there.
-pub fn write_setting(document: &mut KdlDocument, name: &str, value: KdlValue) -> bool
-    ensures { result ≡ true → IsSetIn name.now (value_tree value) document.old document.new }
-{
-    let Some(place) = document.get_arg_mut(name) else {
-        return false;
-    };
-    *place = value;
-    true
-}
-
-/// Writes a setting and looks it up: the look-up finds the value.
-pub fn write_and_get<'a>(
-    document: &'a mut KdlDocument,
-    name: &str,
-    value: KdlValue,
-) -> Option<&'a KdlValue>
-    ensures { IfSome result (λ v. value_tree v.now ≡ value_tree value) }
-{
-    if !write_setting(document, name, value) {
-        return None;
-    }
-    document.get_arg(name)
 }

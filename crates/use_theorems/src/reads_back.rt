@@ -1,13 +1,11 @@
 //! Edited documents: what they print reads back.
 
 ghost use Rattle.kdl.specs.ReadsBack.{DocumentReadsBack, ReadsAs, respelled};
-ghost use Rattle.kdl.specs.Words.{IsDocument, Nodes, document_says, entry_tree, print_value, text_of, value_tree};
+ghost use Rattle.kdl.specs.Words.{IsDocument, document_says, entry_tree, print_value, text_of, value_tree};
 ghost use Rattle.std.specs.Prelude.{◌≡◌, IfOk, true};
 
-use kdl::{KdlDocument, KdlEntry, KdlIdentifier, KdlNode, KdlValue, NodeKey, ParseFailure};
-use kdl_laws::reading_back::{
-    named_entries_are_unformed, new_entries_are_unformed, printed_reads_back,
-};
+use kdl::{KdlDocument, KdlEntry, KdlNode, KdlValue, NodeKey};
+use kdl_laws::reading_back::{new_entries_are_unformed, printed_reads_back};
 use kdl_laws::values::values_are_well_formed;
 use std::alloc::{AllocError, Global};
 
@@ -20,24 +18,34 @@ pub fn printed(alloc: Global, document: &KdlDocument) -> Result<String, AllocErr
     Ok(document.to_string(alloc)?)
 }
 
-/// An argument more in the first node of a name.
-pub fn push_argument(
-    document: &mut KdlDocument,
-    name: &str,
-    value: KdlValue,
-) -> Result<(), AllocError>
-    requires { DocumentReadsBack document.old }
-    ensures { DocumentReadsBack document.new }
+/// A new argument at the end of a node: it reads back as before.
+pub fn add_argument(node: &mut KdlNode, value: KdlValue) -> Result<(), AllocError>
+    ensures { ReadsAs node.old node.new }
 {
     values_are_well_formed(&value);
     new_entries_are_unformed();
-    let Some(node) = document.get_mut(name) else {
-        return Ok(());
-    };
-    let Ok(_) = node.push(KdlEntry::new(value)) else {
-        return Err(AllocError);
-    };
-    Ok(())
+    match node.push(KdlEntry::new(value)) {
+        Ok(()) => Ok(()),
+        Err(_) => Err(AllocError),
+    }
+}
+
+/// A property with a new entry in a node: it reads back as before.
+pub fn insert_property(
+    alloc: Global,
+    node: &mut KdlNode,
+    name: &str,
+    value: KdlValue,
+) -> Result<(), AllocError>
+    ensures { ReadsAs node.old node.new }
+{
+    values_are_well_formed(&value);
+    new_entries_are_unformed();
+    let key = NodeKey::from_text(alloc, name)?;
+    match node.insert(key, KdlEntry::new(value)) {
+        Ok(_) => Ok(()),
+        Err(_) => Err(AllocError),
+    }
 }
 
 /// A property in the first node of a name.
@@ -51,34 +59,22 @@ pub fn set_property(
     requires { DocumentReadsBack document.old }
     ensures { DocumentReadsBack document.new }
 {
-    values_are_well_formed(&value);
-    new_entries_are_unformed();
-    let key = NodeKey::from_text(alloc, property)?;
     let Some(node) = document.get_mut(name) else {
         return Ok(());
     };
-    let Ok(_) = node.insert(key, KdlEntry::new(value)) else {
-        return Err(AllocError);
-    };
-    Ok(())
+    insert_property(alloc, node, property, value)
 }
 
-/// The first property of that name taken out of the first node of a name.
-pub fn remove_property(
-    alloc: Global,
-    document: &mut KdlDocument,
-    name: &str,
-    property: &str,
-) -> Result<(), AllocError>
-    requires { DocumentReadsBack document.old }
-    ensures { DocumentReadsBack document.new }
+/// A new entry in the place of the first argument of a node: it reads back as before.
+pub fn replace_first(node: &mut KdlNode, value: KdlValue)
+    ensures { ReadsAs node.old node.new }
 {
-    let key = NodeKey::from_text(alloc, property)?;
-    let Some(node) = document.get_mut(name) else {
-        return Ok(());
+    values_are_well_formed(&value);
+    new_entries_are_unformed();
+    let Some(entry) = node.entry_mut(NodeKey::Index(0)) else {
+        return;
     };
-    node.remove(key);
-    Ok(())
+    *entry = KdlEntry::new(value);
 }
 
 /// Three edits of a node: a property is removed, an argument pushed and the first argument replaced.
@@ -91,40 +87,10 @@ pub fn edit(
 ) -> Result<(), AllocError>
     ensures { ReadsAs node.old node.new }
 {
-    values_are_well_formed(&one);
-    values_are_well_formed(&other);
-    new_entries_are_unformed();
     node.remove(NodeKey::from_text(alloc, property)?);
-    let Ok(_) = node.push(KdlEntry::new(one)) else {
-        return Err(AllocError);
-    };
-    let Some(entry) = node.entry_mut(NodeKey::Index(0)) else {
-        return Ok(());
-    };
-    *entry = KdlEntry::new(other);
+    add_argument(node, one)?;
+    replace_first(node, other);
     Ok(())
-}
-
-/// A property with a type more in a node.
-pub fn push_typed(
-    alloc: Global,
-    node: &mut KdlNode,
-    name: &str,
-    ty: &str,
-    value: KdlValue,
-) -> Result<(), AllocError>
-    ensures { ReadsAs node.old node.new }
-{
-    values_are_well_formed(&value);
-    new_entries_are_unformed();
-    named_entries_are_unformed();
-    let mut entry = KdlEntry::new(value);
-    entry.set_name(Some(KdlIdentifier::from_text(alloc, name)?));
-    entry.set_ty(KdlIdentifier::from_text(alloc, ty)?);
-    match node.push(entry) {
-        Ok(()) => Ok(()),
-        Err((_, error)) => Err(error),
-    }
 }
 
 /// The same edits of the first child of a name.
@@ -191,20 +157,6 @@ pub fn set_argument(document: &mut KdlDocument, name: &str, value: KdlValue, spe
         return;
     };
     respell(entry, value, spelling);
-}
-
-/// A text, with an argument more in the first node of a name, is a document.
-pub fn push_in_text(
-    alloc: Global,
-    text: &str,
-    name: &str,
-    value: KdlValue,
-) -> Result<String, ParseFailure>
-    ensures { IfOk result (λ out. (x : Nodes) × IsDocument true (text_of out) x) }
-{
-    let mut document = KdlDocument::parse(alloc, text)?;
-    push_argument(&mut document, name, value)?;
-    Ok(printed(alloc, &document)?)
 }
 
 /// The properties of these names, of value true, in the first node of a name.

@@ -2,6 +2,10 @@ use Rattle.std.proofs.Common.{◌≡◌, Some, ap, chars, refl, rules, subst, �
 use Rattle.kdl.specs.Words.{Entry, IsExchanged, IsSet, Sought, document_prints, entry_tree, piece_of, plain_entry, plain_identifier, print_piece, property, sought, under, value_tree, with_node_named}
 use Rattle.use_theorems.proofs.port.set_in.Goals as goal
 
+pub returns-clause-reads : goal.returns-clause-reads
+returns-clause-reads c =
+    c.in-Some.ensures.reads _ (c.insert.ensures.reads_unformed (c.new_entries_are_unformed.ensures.named _ _ _ _ c.in_ok-key.ensures.sought c.new.ensures.tree c.values_are_well_formed.ensures)) c.requires
+
 pub returns-clause-sets : goal.returns-clause-sets
 returns-clause-sets c has =
     let set : IsSet c.args.name.now (value_tree c.args.value) c.in-Some.found.now c.insert.new.self = search rules in

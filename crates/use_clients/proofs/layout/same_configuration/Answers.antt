@@ -5,7 +5,7 @@ use Rattle.std.specs.Prelude.{chars}
 use lib.Utf8.{encodes}
 use Rattle.kdl.specs.Words.{IsDocument, Nodes, document_says, without_comments}
 use Rattle.kdl_laws.proofs.TwoLayouts.{same_texts}
-use Rattle.use_theorems.proofs.layout.same_configuration.Goals as goal
+use Rattle.use_clients.proofs.layout.same_configuration.Goals as goal
 
 -- the printed texts are the same exactly where the data are, and the strings exactly where the texts are
 pub returns : goal.returns

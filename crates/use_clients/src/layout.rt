@@ -1,0 +1,40 @@
+//! What look-ups find after layout.
+
+ghost use Rattle.kdl.specs.Words.{IsDocument, Nodes, argument_named, arguments_of, found_value, node_named, node_says, value_of};
+ghost use Rattle.std.specs.Prelude.{◌≡◌, ◌↔◌, IfOk, chars, option_map, true};
+
+use kdl::{KdlDocument, KdlNode, NodeKey, ParseFailure};
+use std::alloc::{AllocError, Global};
+
+/// Lays the document out without comments: each look-up finds what it found.
+pub fn tidy_all(document: &mut KdlDocument, name: &str) -> Result<(), AllocError>
+    ensures argument { value_of (argument_named name.now document.new) ≡
+        value_of (argument_named name.now document.old) }
+    ensures arguments { arguments_of (node_named name.now document.new) ≡
+        arguments_of (node_named name.now document.old) }
+    ensures node { option_map node_says (node_named name.now document.new) ≡
+        option_map node_says (node_named name.now document.old) }
+{
+    document.autoformat_no_comments()
+}
+
+/// Lays the node out: each key finds what it found.
+pub fn tidy_node(node: &mut KdlNode) -> Result<(), AllocError>
+    ensures { (key : NodeKey) → found_value key node.new ≡ found_value key node.old }
+{
+    node.autoformat()
+}
+
+/// Whether two texts are documents that say the same.
+pub fn same_configuration(alloc: Global, one: &str, other: &str) -> Result<bool, ParseFailure>
+    ensures { IfOk result (λ b. (b ≡ true) ↔ ((x : Nodes)
+        × IsDocument true (chars one.now) x × IsDocument true (chars other.now) x)) }
+{
+    let mut a = KdlDocument::parse(alloc, one)?;
+    let mut b = KdlDocument::parse(alloc, other)?;
+    a.autoformat_no_comments()?;
+    b.autoformat_no_comments()?;
+    let one = a.to_string(alloc)?;
+    let other = b.to_string(alloc)?;
+    Ok(one == other)
+}

@@ -1,0 +1,10 @@
+//! More of what a caller proves of small programs over `kdl`, with the clauses that their users write.
+#![tactic(auto)]
+
+pub mod finds;
+pub mod layout;
+pub mod loans;
+pub mod nodes;
+pub mod reads_back;
+pub mod said;
+pub mod spans;

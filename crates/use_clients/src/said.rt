@@ -1,0 +1,65 @@
+//! What look-ups find in a document that was read.
+
+ghost use Rattle.kdl.specs.Words.{IsDocument, Nodes, integer_value, said_arg, said_dash_args, said_name, said_node, said_nodes, text_of};
+ghost use Rattle.std.specs.Prelude.{◌≡◌, IfOk, chars, is_some, option_and_then, option_map, slice_get, true};
+
+use kdl::{KdlDocument, ParseFailure};
+use std::alloc::Global;
+
+/// The whole number at a name in a text: the one that the text's data, which there are, say at that name.
+pub fn number_at(alloc: Global, text: &str, name: &str) -> Result<Option<i128>, ParseFailure>
+    ensures { IfOk result (λ o. (x : Nodes) × IsDocument true (chars text.now) x
+        × (o ≡ option_and_then integer_value (said_arg (chars name.now) x))) }
+{
+    let document = KdlDocument::parse(alloc, text)?;
+    match document.get_arg(name) {
+        Some(value) => Ok(value.as_integer()),
+        None => Ok(None),
+    }
+}
+
+/// The same, of whatever data the grammar derives.
+pub fn number_said(alloc: Global, text: &str, name: &str) -> Result<Option<i128>, ParseFailure>
+    ensures { IfOk result (λ o. (x : Nodes) → IsDocument true (chars text.now) x
+        → o ≡ option_and_then integer_value (said_arg (chars name.now) x)) }
+{
+    let document = KdlDocument::parse(alloc, text)?;
+    match document.get_arg(name) {
+        Some(value) => Ok(value.as_integer()),
+        None => Ok(None),
+    }
+}
+
+/// Whether a text has a node of that name.
+pub fn has_node(alloc: Global, text: &str, name: &str) -> Result<bool, ParseFailure>
+    ensures { IfOk result (λ b. (x : Nodes) → IsDocument true (chars text.now) x
+        → b ≡ is_some (said_node (chars name.now) x)) }
+{
+    let document = KdlDocument::parse(alloc, text)?;
+    Ok(document.get(name).is_some())
+}
+
+/// The first whole number of a list: of the nodes named `-` in the block of the first node of a name.
+pub fn first_item(alloc: Global, text: &str, name: &str) -> Result<Option<i128>, ParseFailure>
+    ensures { IfOk result (λ o. (x : Nodes) → IsDocument true (chars text.now) x
+        → o ≡ option_and_then integer_value
+        (slice_get (said_dash_args (chars name.now) x) 0)) }
+{
+    let document = KdlDocument::parse(alloc, text)?;
+    match document.iter_dash_args(name).next() {
+        Some(value) => Ok(value.as_integer()),
+        None => Ok(None),
+    }
+}
+
+/// The name of the first node of a text, where it has one.
+pub fn first_name(alloc: Global, text: &str) -> Result<Option<String>, ParseFailure>
+    ensures { IfOk result (λ o. (x : Nodes) → IsDocument true (chars text.now) x
+        → option_map text_of o ≡ option_map said_name (slice_get (said_nodes x) 0)) }
+{
+    let document = KdlDocument::parse(alloc, text)?;
+    match document.nodes().first() {
+        Some(node) => Ok(Some(String::from_str(alloc, node.name().value())?)),
+        None => Ok(None),
+    }
+}

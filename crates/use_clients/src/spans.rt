@@ -1,0 +1,25 @@
+//! The piece of a refused text that a diagnostic points at.
+
+ghost use Rattle.kdl.specs.Words.{Tells};
+
+use kdl::{KdlDocument, KdlError, ParseFailure};
+use kdl_laws::spans::spans_are_pieces;
+use std::alloc::{AllocError, Global};
+
+/// The piece of the text at the first fault.
+pub fn first_piece<'a>(text: &'a str, error: &KdlError) -> &'a str
+    requires { Tells text.now error.now }
+{
+    spans_are_pieces(text, error);
+    let at = error.diagnostics[0].span;
+    &text[at.offset..at.offset + at.len]
+}
+
+/// The piece of the text at the first fault, none where the text is a document.
+pub fn refusal<'a>(alloc: Global, text: &'a str) -> Result<Option<&'a str>, AllocError> {
+    match KdlDocument::parse(alloc, text) {
+        Ok(_) => Ok(None),
+        Err(ParseFailure::Syntax(error)) => Ok(Some(first_piece(text, &error))),
+        Err(ParseFailure::Memory) => Err(AllocError),
+    }
+}
