@@ -5,7 +5,7 @@ use crate::fault::{Fault, Teller};
 use crate::line::Line;
 use std::alloc::AllocError;
 
-/// The texts in place of `◊` and of `□`, and who is told where there is none.
+/// The texts in place of `◊` and of `□`, and what reports that there is none.
 #[derive(Clone, Copy)]
 pub struct Fills<'a> {
     pub tell: &'a Teller<'a>,

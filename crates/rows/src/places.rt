@@ -66,7 +66,7 @@ fn margin<'a>(format: &'a mut KdlDocumentFormat, name: &str) -> Option<&'a mut S
     }
 }
 
-/// A text to be set in a place, and who is told where the place is missing.
+/// A text to be set in a place, and what reports that the place is missing.
 #[derive(Clone, Copy)]
 pub struct Setting<'a> {
     pub tell: &'a Teller<'a>,
