@@ -94,21 +94,21 @@ pub comment_item : {s r : Text} → LineComment s r → (z : Text) × (between s
 comment_item (a_line {s = z} l) = (z, ap (between (47 ∷ 47 ∷ z)) (slash_end z) ∙ sym (is_between (47 ∷ 47 ∷ z) (line_end z) (comment_part z) (comment_cut z)))
 
 -- the same rest, or the rest after LF
-data Over : Text → Text → Type 0 where
+pub data Over : Text → Text → Type 0 where
   over : {r : Text} → Over r r
   line : {r : Text} → Over (10 ∷ r) r
 
 -- a dropped node before LF
-data DroppedLine : Text → Text → Type 0 where
+pub data DroppedLine : Text → Text → Type 0 where
   dropped : {s t u v r : Text} {x : Node} → Slashdash s t → IsNode true t u x → ItemEnd u v (10 ∷ r) → Over v r → DroppedLine s r
 
 -- the item on a line
-data Standing : Item → Type 0 where
+pub data Standing : Item → Type 0 where
   line_comment : (s : Text) → Standing (comment (comment_part s))
   block_comment : {t : Text} → ((r : Text) → BlockComment (t ++ r) r) → line_text t ≡ t → Standing (piece t)
   dropped_node : {t : Text} → ((r : Text) → DroppedLine (line_text t ++ (10 ∷ r)) r) → Standing (piece t)
 
-abbrev AreStanding : List Item → Type 0
+abbrev pub AreStanding : List Item → Type 0
 AreStanding [] = Unit {0}
 AreStanding (i ∷ is) = Standing i × AreStanding is
 
@@ -202,14 +202,14 @@ line_space_items (LineSpaceItems.space d) = space_items d
 line_space_items (LineSpaceItems.newline n) = tt
 line_space_items (LineSpaceItems.line l) = (comment_stands l, tt)
 
-gap_items : {s : Text} {is : List Item} → GapItems s is → AreStanding is
+pub gap_items : {s : Text} {is : List Item} → GapItems s is → AreStanding is
 gap_items GapItems.none = tt
 gap_items (GapItems.space {is = is} {js = js} d g) = standing_join is js (line_space_items d) (gap_items g)
 gap_items (GapItems.dropped_node m n e g) = (node_ended m n e, gap_items g)
 gap_items (last_node m n tight ss g) = (node_last m n tight ss, gap_items g)
 
 -- one line
-newline_items : {r : Text} {js : List Item} → GapItems r js → GapItems (10 ∷ r) js
+pub newline_items : {r : Text} {js : List Item} → GapItems r js → GapItems (10 ∷ r) js
 newline_items {r = r} g = GapItems.space (LineSpaceItems.newline (a_newline r)) g
 
 over_items : {v r : Text} {js : List Item} → Over v r → GapItems r js → GapItems v js
@@ -219,7 +219,7 @@ over_items Over.line g = newline_items g
 dropped_items : {s r : Text} {js : List Item} → DroppedLine s r → GapItems r js → GapItems s (piece (between s (10 ∷ r)) ∷ js)
 dropped_items (DroppedLine.dropped m n e o) g = GapItems.dropped_node m n e (over_items o g)
 
-one_line : {i : Item} → Standing i → {r : Text} {js : List Item} → GapItems r js → GapItems (line_text (item_text i) ++ (10 ∷ r)) (on_line i ∷ js)
+pub one_line : {i : Item} → Standing i → {r : Text} {js : List Item} → GapItems r js → GapItems (line_text (item_text i) ++ (10 ∷ r)) (on_line i ∷ js)
 one_line (Standing.line_comment s) {r} {js} g =
     subst (λ (z : Text). GapItems (z ++ (10 ∷ r)) (comment z ∷ js)) (sym (comment_kept s))
     (subst (λ (t : Text). GapItems (comment_part s ++ (10 ∷ r)) (comment t ∷ js)) (comment_text s r) (GapItems.space (LineSpaceItems.line (comment_again s r)) g))
@@ -244,19 +244,19 @@ item_terminator (ItemEnd.line (Break.comment l)) = Terminator.comment l
 dropped_gap : {s t r : Text} → DroppedLine s t → Gap true t r → Gap true s r
 dropped_gap (DroppedLine.dropped m n e o) g = Gap.dropped_node m n (item_terminator e) (over_gap o g)
 
-one_gap : {i : Item} → Standing i → {t r : Text} → Gap true t r → Gap true (line_text (item_text i) ++ (10 ∷ t)) r
+pub one_gap : {i : Item} → Standing i → {t r : Text} → Gap true t r → Gap true (line_text (item_text i) ++ (10 ∷ t)) r
 one_gap (Standing.line_comment s) {t} {r} g = subst (λ (z : Text). Gap true (z ++ (10 ∷ t)) r) (sym (comment_kept s)) (line_space (LineSpace.«break» (Break.comment (comment_again s t))) g)
 one_gap (Standing.block_comment f e) {t} g = rw e (line_space (LineSpace.space (NodeSpace.ws (Ws.comment (f (10 ∷ t))))) (newline_gap g))
 one_gap (Standing.dropped_node f) {t} g = dropped_gap (f t) g
 
 -- spaces before a line
-spaces_before : (before : Text) → list_all is_space before ≡ true → {r : Text} {js : List Item} → GapItems r js → GapItems (before ++ r) js
+pub spaces_before : (before : Text) → list_all is_space before ≡ true → {r : Text} {js : List Item} → GapItems r js → GapItems (before ++ r) js
 spaces_before [] ok g = g
 spaces_before (c ∷ cs) ok g =
     let (here, others) = and_parts (is_space c) (list_all is_space cs) ok in
     GapItems.space (LineSpaceItems.space (SpaceItems.space (a_space here))) (spaces_before cs others g)
 
-spaces_gap : (before : Text) → list_all is_space before ≡ true → {t r : Text} → Gap true t r → Gap true (before ++ t) r
+pub spaces_gap : (before : Text) → list_all is_space before ≡ true → {t r : Text} → Gap true t r → Gap true (before ++ t) r
 spaces_gap [] ok g = g
 spaces_gap (c ∷ cs) ok g =
     let (here, others) = and_parts (is_space c) (list_all is_space cs) ok in
