@@ -2,6 +2,8 @@
 pub mod Keeping
 -- What layout makes: one thing, its text, and that it reads back.
 pub mod Formatting
+-- Blank lines that stay between nodes and comments.
+pub mod Spacing
 -- A loop that changes the elements of a list one by one.
 pub mod Loops
 -- Texts of one or four characters, and the formats of lines.

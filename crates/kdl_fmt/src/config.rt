@@ -31,6 +31,19 @@ pub struct FormatConfig<'a> {
     pub entry_autoformate_keep: bool,
 }
 
+/// How to lay out a document and keep blank lines, by `autoformat_layout` of documents and nodes.
+///
+/// ```
+/// let layout = Layout { config: FormatConfig::default(), blank_lines: 1 };
+/// ```
+#[derive(Clone, Copy, Debug, PartialEq, Eq)]
+pub struct Layout<'a> {
+    /// How each line is laid out.
+    pub config: FormatConfig<'a>,
+    /// How many blank lines stay, at most, between two nodes or comments.
+    pub blank_lines: usize,
+}
+
 impl Default for FormatConfig<'_> {
     ghost is_default = { λ c. settings c ≡ defaults };
 

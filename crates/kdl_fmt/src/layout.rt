@@ -1,12 +1,15 @@
 //! Layout of the texts around nodes and documents, and of entries.
 
 ghost use Rattle.kdl_entry.specs.Tree.{cleared, entry_data, entry_tree, identifier_tree, unspelled};
+ghost use Rattle.kdl_fmt.specs.Blank.{empty_lines};
 ghost use Rattle.kdl_fmt.specs.Config.{indentation, settings};
 ghost use Rattle.kdl_fmt.specs.Formatted.{newline_if_none, or_empty, or_empty_document};
 ghost use Rattle.kdl_fmt.specs.Kept.{KeptBefore, KeptBeforeBlock, KeptEnd, KeptLines, KeptTail, WrittenUnless, last_place, without_bom};
 ghost use Rattle.kdl_fmt.specs.Plain.{newline_if};
+ghost use Rattle.kdl_fmt.specs.Spaced.{IsSpacedBraced, IsSpacedContent, IsSpacedLine, Passes, PassesFormat, PassesNodes, SpacedLines, Spaces, SpacesContent};
 ghost use Rattle.kdl_fmt.specs.WellFormed.{AreWellFormedEntries, IsWellFormedEntry};
-ghost use Rattle.kdl_fmt.specs.WithComments.{AreFormattedEntries, ContentTexts, IsBraced, IsContent, IsFormattedEntry, IsLine, behind};
+ghost use Rattle.kdl_fmt.specs.WithComments.{AreFormattedEntries, IsFormattedEntry, behind};
+ghost use Rattle.kdl_fmt.specs.declared.blank.Before.TheVariants.{Nothing};
 ghost use Rattle.kdl_grammar.specs.Tree.{Nodes};
 ghost use Rattle.kdl_items.specs.Items.{GapItems};
 ghost use Rattle.kdl_items.specs.Internal.Reading.{place_view};
@@ -18,10 +21,13 @@ ghost use Rattle.kdl_value.specs.Tree.{text_of, value_tree};
 ghost use Rattle.kdl_value.specs.WellFormed.{IsWellFormed};
 ghost use Rattle.std.specs.Int.{w128};
 ghost use Rattle.std.specs.List.{repeat};
-ghost use Rattle.std.specs.Prelude.{◌≡◌, ◌+◌, ◌++◌, ◌∷◌, [], ℕ, FitsSigned, IfOk, MatchOption, OnOk, Some, map, option_map};
+ghost use Rattle.std.specs.Prelude.{◌≡◌, ◌+◌, ◌++◌, ◌∷◌, [], ℕ, FitsSigned, IfOk, MatchOption, OnOk, Some, is_none, map, option_map, unwrap_or};
 ghost use Rattle.std.specs.Str.{chars};
 
-use crate::config::FormatConfig;
+use crate::blank::{
+    Before, past_items, past_node, past_written, push_empty_lines, push_spaced_lines,
+};
+use crate::config::{FormatConfig, Layout};
 use kdl_entry::{KdlEntry, KdlEntryFormat, KdlIdentifier, KdlValue};
 use kdl_items::{Place, gap_items, line_comment, place_items, push_lines, push_tail, push_text};
 use kdl_parts::{KdlDocumentFormat, KdlNodeFormat};
@@ -95,6 +101,52 @@ fn kept_lines(
         push_lines(&mut out, before, &items)?;
     }
     Ok(out)
+}
+
+/// What is kept of a text between nodes where blank lines stay: a line for each item, after the blank lines before it.
+fn spaced_lines(
+    alloc: Global,
+    layout: &Layout,
+    margin: &str,
+    before: &mut Before,
+    place: &str,
+) -> Result<String, AllocError>
+    ensures { IfOk result (λ t. (level : ℕ)
+        → chars margin.now ≡ indentation (settings layout.now.config) level
+        → Spaces layout.now.blank_lines (settings layout.now.config) level
+        before.old (chars place.now) (text_of t) before.new) }
+{
+    let mut out = String::new(alloc);
+    let Some(items) = gap_items(alloc, place)? else {
+        return Ok(out);
+    };
+    if layout.config.no_comments {
+        *before = past_items(*before, place, &items)?;
+        return Ok(out);
+    }
+    let number = layout.blank_lines;
+    *before = push_spaced_lines(&mut out, number, margin, *before, place, &items)?;
+    Ok(out)
+}
+
+/// What is kept of a text between nodes after what comes before it.
+fn lines_between(
+    alloc: Global,
+    layout: &Layout,
+    margin: &str,
+    before: &mut Before,
+    place: &str,
+) -> Result<String, AllocError>
+    ensures { IfOk result (λ t. (level : ℕ)
+        → chars margin.now ≡ indentation (settings layout.now.config) level
+        → SpacedLines layout.now.blank_lines (settings layout.now.config) level
+        before.old (chars place.now) (text_of t) before.new) }
+{
+    if layout.blank_lines == 0 {
+        kept_lines(alloc, &layout.config, margin, place)
+    } else {
+        spaced_lines(alloc, layout, margin, before, place)
+    }
 }
 
 /// What is kept of a text in a node: each item after a space.
@@ -268,22 +320,48 @@ fn line_end(
     Ok((last, end))
 }
 
-/// The texts around the parts of a node on a line of its own. Memory of the texts that were there serves again.
+/// What is kept of the text before a node, and the blank lines before it.
+fn before_node(
+    alloc: Global,
+    layout: &Layout,
+    margin: &str,
+    before: Before,
+    place: &str,
+) -> Result<String, AllocError>
+    ensures { IfOk result (λ t. (level : ℕ)
+        → chars margin.now ≡ indentation (settings layout.now.config) level
+        → (lines : Text) × (at_node : Before)
+        × SpacedLines layout.now.blank_lines (settings layout.now.config) level
+        before (chars place.now) lines at_node
+        × (text_of t ≡ lines ++ empty_lines layout.now.blank_lines at_node)) }
+{
+    let mut at_node = before;
+    let mut lines = lines_between(alloc, layout, margin, &mut at_node, place)?;
+    push_empty_lines(&mut lines, layout.blank_lines, at_node)?;
+    Ok(lines)
+}
+
+/// The texts around the parts of a node on a line of its own, and what comes before the thing after it. Memory of the
+/// texts that were there serves again.
 fn line_format(
     old: KdlNodeFormat,
     alloc: Global,
-    config: &FormatConfig,
-    before: &str,
+    layout: &Layout,
+    margin: &str,
     has_block: bool,
-) -> Result<KdlNodeFormat, AllocError>
-    ensures { IfOk result (λ f. (level : ℕ)
-        → chars before.now ≡ indentation (settings config.now) level
-        → IsLine (settings config.now) level has_block (node_format_tree old)
-        (Some (node_format_tree f))) }
+    before: Before,
+) -> Result<(KdlNodeFormat, Before), AllocError>
+    ensures { IfOk result (λ (f, next). (level : ℕ)
+        → chars margin.now ≡ indentation (settings layout.now.config) level
+        → IsSpacedLine layout.now.blank_lines (settings layout.now.config) level has_block
+        before (node_format_tree old) (Some (node_format_tree f))
+        × PassesFormat layout.now.blank_lines (settings layout.now.config)
+        (node_format_tree old) next) }
 {
+    let config = &layout.config;
     let mut format = KdlNodeFormat::new(alloc);
-    let kept = kept_lines(alloc, config, before, old.leading.as_str())?;
-    format.leading = behind(alloc, kept, old.leading, before)?;
+    let kept = before_node(alloc, layout, margin, before, old.leading.as_str())?;
+    format.leading = behind(alloc, kept, old.leading, margin)?;
     format.before_children = before_children(alloc, config, has_block, old.before_children)?;
     let last = kept_tail(
         alloc,
@@ -291,11 +369,12 @@ fn line_format(
         last_place(has_block),
         old.before_terminator.as_str(),
     )?;
+    let mut next = past_node(old.terminator.as_str());
     let (last, end) = line_end(alloc, config, last, old.terminator)?;
     format.before_terminator = last;
     format.terminator = end;
-    format.trailing = kept_lines(alloc, config, before, old.trailing.as_str())?;
-    Ok(format)
+    format.trailing = lines_between(alloc, layout, margin, &mut next, old.trailing.as_str())?;
+    Ok((format, next))
 }
 
 /// The format that is there, taken out, or one of empty texts.
@@ -308,23 +387,66 @@ fn taken(format: &mut Option<KdlNodeFormat>, alloc: Global) -> KdlNodeFormat
     }
 }
 
-/// Sets the texts around the parts of a node on a line of its own: the indentation before it, a space before its
-/// children, and a newline after it; with the comments that are kept.
+/// Sets the texts around the parts of a node on a line of its own: the blank lines and the indentation before it, a
+/// space before its children, and a newline after it; with the comments that are kept. Returns what comes before the
+/// thing after the node.
 pub fn lay_out_line(
     format: &mut Option<KdlNodeFormat>,
     alloc: Global,
-    config: &FormatConfig,
-    before: &str,
+    layout: &Layout,
+    margin: &str,
     has_block: bool,
-) -> Result<(), AllocError>
-    ensures { OnOk result ((level : ℕ) → chars before.now ≡ indentation (settings config.now) level
-        → IsLine (settings config.now) level has_block
-        (or_empty (node_texts format.old)) (node_texts format.new)) }
+    before: Before,
+) -> Result<Before, AllocError>
+    ensures { IfOk result (λ next. (level : ℕ)
+        → chars margin.now ≡ indentation (settings layout.now.config) level
+        → IsSpacedLine layout.now.blank_lines (settings layout.now.config) level has_block
+        before (or_empty (node_texts format.old)) (node_texts format.new)
+        × PassesFormat layout.now.blank_lines (settings layout.now.config)
+        (or_empty (node_texts format.old)) next) }
 {
     let old = taken(format, alloc);
-    let line = line_format(old, alloc, config, before, has_block)?;
+    let (line, next) = line_format(old, alloc, layout, margin, has_block, before)?;
     *format = Some(line);
-    Ok(())
+    Ok(next)
+}
+
+/// What comes before the thing after a node that is not laid out.
+pub fn behind_line(
+    format: &Option<KdlNodeFormat>,
+    alloc: Global,
+    layout: &Layout,
+) -> Result<Before, AllocError>
+    ensures { IfOk result (λ next. PassesFormat layout.now.blank_lines
+        (settings layout.now.config) (or_empty (node_texts format.now)) next) }
+{
+    match format {
+        Some(format) if layout.blank_lines != 0 => {
+            let before = past_node(format.terminator.as_str());
+            past_text(alloc, layout, before, format.trailing.as_str())
+        }
+        _ => Ok(past_node("")),
+    }
+}
+
+/// What comes before the thing after a text between nodes.
+fn past_text(
+    alloc: Global,
+    layout: &Layout,
+    before: Before,
+    place: &str,
+) -> Result<Before, AllocError>
+    ensures { IfOk result (λ b.
+        Passes layout.now.config.no_comments before (chars place.now) b) }
+{
+    let Some(items) = gap_items(alloc, place)? else {
+        return Ok(before);
+    };
+    if layout.config.no_comments {
+        past_items(before, place, &items)
+    } else {
+        past_written(before, place, &items)
+    }
 }
 
 /// A newline after a text, where it is asked for.
@@ -370,43 +492,108 @@ fn kept_at(
     Ok(out)
 }
 
-/// What is kept of the texts around the nodes of a document at a level.
-fn kept_content(
+/// The same after what comes before it, where blank lines stay. Of an empty text it takes no memory.
+fn lines_at(
     alloc: Global,
-    config: &FormatConfig,
-    format: &Option<KdlDocumentFormat>,
+    layout: &Layout,
     level: usize,
-) -> Result<(String, String), AllocError>
-    ensures { IfOk result (λ (a, b). ContentTexts (settings config.now) level
-        (or_empty_document (document_texts format.now)) (text_of a) (text_of b)) }
+    before: &mut Before,
+    place: &str,
+) -> Result<String, AllocError>
+    ensures { IfOk result (λ t.
+        SpacedLines layout.now.blank_lines (settings layout.now.config) level
+        before.old (chars place.now) (text_of t) before.new) }
 {
-    match format {
-        Some(format) => {
-            let leading = kept_at(alloc, config, level, without_bom(format.leading.as_str()))?;
-            let trailing = kept_at(alloc, config, level, format.trailing.as_str())?;
-            Ok((leading, trailing))
-        }
-        None => Ok((String::new(alloc), String::new(alloc))),
+    if layout.blank_lines == 0 {
+        return kept_at(alloc, &layout.config, level, place);
     }
+    if place.is_empty() {
+        return Ok(String::new(alloc));
+    }
+    let indentation = indentation(alloc, &layout.config, level)?;
+    spaced_lines(alloc, layout, indentation.as_str(), before, place)
+}
+
+/// What is kept of the text before the nodes of a document at a level, and what comes before the first one.
+fn content_leading(
+    alloc: Global,
+    layout: &Layout,
+    level: usize,
+    format: &Option<KdlDocumentFormat>,
+) -> Result<(String, Before), AllocError>
+    ensures { IfOk result (λ (t, b).
+        SpacedLines layout.now.blank_lines (settings layout.now.config) level Nothing
+        (without_bom (or_empty_document (document_texts format.now)).leading) (text_of t) b) }
+{
+    let mut first = Before::Nothing;
+    let place = match format {
+        Some(format) => without_bom(format.leading.as_str()),
+        None => "",
+    };
+    let leading = lines_at(alloc, layout, level, &mut first, place)?;
+    Ok((leading, first))
+}
+
+/// What is kept of the text after the nodes, where this comes before it.
+fn content_trailing(
+    alloc: Global,
+    layout: &Layout,
+    level: usize,
+    last: Before,
+    format: &Option<KdlDocumentFormat>,
+) -> Result<String, AllocError>
+    ensures { IfOk result (λ t. (b : Before)
+        × SpacedLines layout.now.blank_lines (settings layout.now.config) level last
+        (or_empty_document (document_texts format.now)).trailing (text_of t) b) }
+{
+    let mut last = last;
+    let place = match format {
+        Some(format) => format.trailing.as_str(),
+        None => "",
+    };
+    lines_at(alloc, layout, level, &mut last, place)
+}
+
+/// What is kept of the texts around the nodes of a document at a level, and what comes before the first node. `last` is
+/// what comes before the text after the last node, where there are nodes.
+fn spaced_content(
+    alloc: Global,
+    layout: &Layout,
+    level: usize,
+    format: &Option<KdlDocumentFormat>,
+    last: Option<Before>,
+) -> Result<(String, String, Before), AllocError>
+    ensures { IfOk result (λ (before, behind, b). (ns : Nodes)
+        → ((b : Before) → PassesNodes layout.now.blank_lines (settings layout.now.config) b ns
+        (unwrap_or last b))
+        → SpacesContent layout.now.blank_lines (settings layout.now.config) level ns
+        (or_empty_document (document_texts format.now)) b (text_of before) (text_of behind)) }
+{
+    let (leading, first) = content_leading(alloc, layout, level, format)?;
+    let trailing = content_trailing(alloc, layout, level, last.unwrap_or(first), format)?;
+    Ok((leading, trailing, first))
 }
 
 /// Sets the texts around the nodes of a document at a level: the comments that are kept, after the indentation, and a
-/// newline where there are no nodes.
+/// newline where there are no nodes. Returns what comes before the first node; `last` is what comes before the text
+/// after the last one, where there are nodes.
 pub fn lay_out_content(
     format: &mut Option<KdlDocumentFormat>,
     alloc: Global,
-    config: &FormatConfig,
+    layout: &Layout,
     level: usize,
-    is_empty: bool,
-) -> Result<(), AllocError>
-    ensures { OnOk result ((ns : Nodes) → newline_if is_empty ≡ newline_if_none ns
-        → IsContent (settings config.now) level ns
-        (or_empty_document (document_texts format.old)) (document_texts format.new)) }
+    last: Option<Before>,
+) -> Result<Before, AllocError>
+    ensures { IfOk result (λ b. (ns : Nodes) → newline_if (is_none last) ≡ newline_if_none ns
+        → ((b : Before) → PassesNodes layout.now.blank_lines (settings layout.now.config) b ns
+        (unwrap_or last b))
+        → IsSpacedContent layout.now.blank_lines (settings layout.now.config) level ns
+        (or_empty_document (document_texts format.old)) b (document_texts format.new)) }
 {
-    let (leading, mut trailing) = kept_content(alloc, config, format, level)?;
-    newline_if(&mut trailing, is_empty)?;
+    let (leading, mut trailing, first) = spaced_content(alloc, layout, level, format, last)?;
+    newline_if(&mut trailing, last.is_none())?;
     *format = Some(KdlDocumentFormat { leading, trailing });
-    Ok(())
+    Ok(first)
 }
 
 /// Sets the same between the braces of a node: a newline after the first one, and the node's indentation before the
@@ -414,23 +601,25 @@ pub fn lay_out_content(
 pub fn lay_out_braces(
     format: &mut Option<KdlDocumentFormat>,
     alloc: Global,
-    config: &FormatConfig,
+    layout: &Layout,
     inner: usize,
-    before: &str,
-    is_empty: bool,
-) -> Result<(), AllocError>
-    ensures { OnOk result ((level : ℕ) (ns : Nodes) → inner ≡ level + 1
-        → chars before.now ≡ indentation (settings config.now) level
-        → newline_if is_empty ≡ newline_if_none ns
-        → IsBraced (settings config.now) level ns
-        (or_empty_document (document_texts format.old)) (document_texts format.new)) }
+    margin: &str,
+    last: Option<Before>,
+) -> Result<Before, AllocError>
+    ensures { IfOk result (λ b. (level : ℕ) (ns : Nodes) → inner ≡ level + 1
+        → chars margin.now ≡ indentation (settings layout.now.config) level
+        → newline_if (is_none last) ≡ newline_if_none ns
+        → ((b : Before) → PassesNodes layout.now.blank_lines (settings layout.now.config) b ns
+        (unwrap_or last b))
+        → IsSpacedBraced layout.now.blank_lines (settings layout.now.config) level ns
+        (or_empty_document (document_texts format.old)) b (document_texts format.new)) }
 {
-    let (kept, mut trailing) = kept_content(alloc, config, format, inner)?;
+    let (kept, mut trailing, first) = spaced_content(alloc, layout, inner, format, last)?;
     let mut leading = String::new(alloc);
     push_text(&mut leading, "\n")?;
     push_text(&mut leading, kept.as_str())?;
-    newline_if(&mut trailing, is_empty)?;
-    push_text(&mut trailing, before)?;
+    newline_if(&mut trailing, last.is_none())?;
+    push_text(&mut trailing, margin)?;
     *format = Some(KdlDocumentFormat { leading, trailing });
-    Ok(())
+    Ok(first)
 }

@@ -2,7 +2,9 @@
 //! entries.
 #![tactic(auto)]
 
+mod blank;
 mod config;
 pub mod layout;
 
-pub use config::{FormatConfig, FormatConfigBuilder, is_kdl_space};
+pub use blank::Before;
+pub use config::{FormatConfig, FormatConfigBuilder, Layout, is_kdl_space};

@@ -50,7 +50,7 @@ laid_entry s e e' keep m f =
 abbrev a_head : Option Identifier → Identifier → List Entry → Option NodeFormat → SourceSpan → Head
 a_head ty name es f span = record { ty = ty; name = name; entries = es; format = f; span = span }
 
-same_head : (h k : Head) → k.ty ≡ h.ty → k.name ≡ h.name → k.entries ≡ h.entries → k.format ≡ h.format → k.span ≡ h.span → k ≡ h
+pub same_head : (h k : Head) → k.ty ≡ h.ty → k.name ≡ h.name → k.entries ≡ h.entries → k.format ≡ h.format → k.span ≡ h.span → k ≡ h
 same_head h k a b c d e =
     ap (λ (x : Option Identifier). a_head x k.name k.entries k.format k.span) a
     ∙ ap (λ (x : Identifier). a_head h.ty x k.entries k.format k.span) b
@@ -84,7 +84,7 @@ entry_stays s keep e e' e'' f m g =
     b.2 ∙ ap (λ (x : Text). behind x (cleared (behind a.0 (cleared e)))) (before_stays s.no_comments e (entry_leading e.format) a.0 b.0 a.1 b.1)
     ∙ ap (behind a.0) (cleared_behind a.0 e) ∙ sym a.2
 
-entries_stay : (s : Settings) → s.entry_autoformate_keep ≡ false → (es es' es'' : List Entry) → AreFormattedEntries s es es' → EntriesKeepNone es → AreFormattedEntries s es' es'' → es'' ≡ es'
+pub entries_stay : (s : Settings) → s.entry_autoformate_keep ≡ false → (es es' es'' : List Entry) → AreFormattedEntries s es es' → EntriesKeepNone es → AreFormattedEntries s es' es'' → es'' ≡ es'
 entries_stay s keep [] [] [] f m g = refl
 entries_stay s keep [] [] (z ∷ zs) f m g = absurd g
 entries_stay s keep [] (y ∷ ys) zs f m g = absurd f

@@ -1,4 +1,4 @@
--- What is laid out with its comments reads back as what it says.
+-- What is laid out with its comments and blank lines reads back as what it says.
 use Rattle.std.proofs.Common.{◌≡◌, ℕ, ◌+◌, Bool, true, false, ◌||◌, List, [], ◌∷◌, ◌++◌, map, refl, subst, ap, ◌∙◌, Option, Some, None, option_map, append_assoc, append-nil}
 use Rattle.std.specs.List.{list_all}
 use Rattle.kdl_text.specs.Chars.{Text, is_space, Star}
@@ -22,9 +22,14 @@ use Rattle.kdl_fmt.specs.Config.{Settings, indentation}
 use Rattle.kdl_fmt.specs.Formatted.{with_keep_if, or_empty, or_empty_document, newline_if_none, in_braces, EntriesKeepNone, NodeKeepsNone, ChildrenKeepNone, DocumentKeepsNone, NodesKeepNone}
 use Rattle.kdl_fmt.specs.Kept.{last_place, without_bom, entry_leading, is_kept_format, KeptBefore}
 use Rattle.kdl_fmt.specs.WellFormed.{AreScalars, AreWellFormedEntries, IsWellFormedNode, AreWellFormedChildren, AreWellFormed}
-use Rattle.kdl_fmt.specs.WithComments.{behind, IsFormattedEntry, AreFormattedEntries, NodeTexts, KeepsTexts, line_of, content_of, ContentTexts, has_block, IsFormattedNode, IsFormattedChildren, AreFormattedNodes, IsFormattedDocument}
+use Rattle.kdl_fmt.specs.Blank.{past_node}
+use Rattle.kdl_fmt.specs.Spaced.{SpacesTexts, SpacesContent, IsSpacedNode, IsSpacedChildren, AreSpacedNodes, IsSpacedDocument}
+use Rattle.kdl_fmt.specs.WithComments.{behind, IsFormattedEntry, AreFormattedEntries, NodeTexts, line_of, content_of, has_block}
+use Rattle.kdl_fmt.specs.declared.blank.Before.{Before}
+use Rattle.kdl_fmt.specs.declared.blank.Before.TheVariants.{Nothing}
+use Rattle.kdl_fmt.proofs.Spacing.Lines.{before_gap, lines_gap}
 use Rattle.kdl_fmt.proofs.EntryTexts.{name_of, type_text, key_text, type_joined, key_joined, no_format, piece_text}
-use Rattle.kdl_fmt.proofs.Keeping.KeptPlaces.{space_ends, newline_gap, gap_nodes, indentation_gap, kept_gap, Tail, tail_of, tail_ends, tail_spaced, LineEnd, line_end_of, line_terminator, last_text, last_ends}
+use Rattle.kdl_fmt.proofs.Keeping.KeptPlaces.{space_ends, newline_gap, gap_nodes, indentation_gap, Tail, tail_of, tail_ends, tail_spaced, LineEnd, line_end_of, line_terminator, last_text, last_ends}
 
 type_reads : (o : Option Identifier) (r : Text) → AreScalars (name_of o) → MaybeType true (type_text o ++ r) r (name_of o)
 type_reads None r ok = untyped
@@ -80,7 +85,7 @@ empty_gap : (ns : Nodes) {t r : Text} → Gap true t r → Gap true (newline_if_
 empty_gap none g = newline_gap g
 empty_gap (first n ns) g = g
 
-module _ (s : Settings) (ok : list_all is_space s.indent ≡ true) (no_keep : s.entry_autoformate_keep ≡ false) where
+module _ (number : ℕ) (s : Settings) (ok : list_all is_space s.indent ≡ true) (no_keep : s.entry_autoformate_keep ≡ false) where
   -- what is kept before an entry, and the entry
   entry_text : (e e' : Entry) → IsFormattedEntry s e e' → is_kept_format e.format ≡ false
       → (t : Text) × Tail (before_entry false) t × ((r : Text) → print_piece e' ++ r ≡ t ++ (32 ∷ (key_text e.name ++ (type_text e.ty ++ (print_value e.value ++ r)))))
@@ -111,79 +116,79 @@ module _ (s : Settings) (ok : list_all is_space s.indent ≡ true) (no_keep : s.
   entries_read (e ∷ es) [] f m w h d = absurd f
 
   -- what is kept around the parts of a node
-  last_tail : (level : ℕ) (has : Bool) (f : NodeFormat) (t : NodeTexts) → KeepsTexts s level has f t → Tail (last_place has) t.last
-  last_tail level has f t k = tail_of s.no_comments (last_place has) f.before_terminator t.last k.last
+  last_tail : (level : ℕ) (has : Bool) (b : Before) (f : NodeFormat) (t : NodeTexts) → SpacesTexts number s level has b f t → Tail (last_place has) t.last
+  last_tail level has b f t k = tail_of s.no_comments (last_place has) f.before_terminator t.last k.last
 
-  block_tail : (level : ℕ) (f : NodeFormat) (t : NodeTexts) → KeepsTexts s level true f t → Tail before_block t.before_block
-  block_tail level f t k = tail_of s.no_comments before_block f.before_children t.before_block k.before_block
+  block_tail : (level : ℕ) (b : Before) (f : NodeFormat) (t : NodeTexts) → SpacesTexts number s level true b f t → Tail before_block t.before_block
+  block_tail level b f t k = tail_of s.no_comments before_block f.before_children t.before_block k.before_block
 
-  line_end : (level : ℕ) (has : Bool) (f : NodeFormat) (t : NodeTexts) → KeepsTexts s level has f t → LineEnd t.space t.comment
-  line_end level has f t k = line_end_of s.no_comments f.terminator t.space t.comment k.end
+  line_end : (level : ℕ) (has : Bool) (b : Before) (f : NodeFormat) (t : NodeTexts) → SpacesTexts number s level has b f t → LineEnd t.space t.comment
+  line_end level has b f t k = line_end_of s.no_comments f.terminator t.space t.comment k.end
 
-  content_gap : (level : ℕ) (f : DocumentFormat) (a b : Text) → ContentTexts s level f a b → (t : Text) → Gap true (a ++ t) t
-  content_gap level f a b k t = kept_gap s ok level (without_bom f.leading) a k.leading no_gap
+  content_gap : (level : ℕ) (ns : Nodes) (f : DocumentFormat) (b : Before) (x y : Text) → SpacesContent number s level ns f b x y → (t : Text) → Gap true (x ++ t) t
+  content_gap level ns f b x y k t = lines_gap s ok number level Nothing b (without_bom f.leading) x k.leading no_gap
 
-  content_end : (level : ℕ) (f : DocumentFormat) (a b : Text) → ContentTexts s level f a b → {t r : Text} → Gap true t r → Gap true (b ++ t) r
-  content_end level f a b k g = kept_gap s ok level f.trailing b k.trailing g
+  content_end : (level : ℕ) (ns : Nodes) (f : DocumentFormat) (b : Before) (x y : Text) → SpacesContent number s level ns f b x y → {t r : Text} → Gap true t r → Gap true (y ++ t) r
+  content_end level ns f b x y k g = lines_gap s ok number level k.last k.behind_it f.trailing y k.trailing g
 
-  children_end : (level depth : ℕ) (h : Head) (f : NodeFormat) (t : NodeTexts) (k k' : Children) → h.format ≡ Some (line_of (indentation s level) t) → IsFormattedChildren s level k k'
-      → KeepsTexts s level (has_block k) f t → (r : Text) → ValueEnd true (print_tail h k' depth ++ r)
-  children_end level depth h f t no_children no_children line c kept r =
-      rw (plain_text h (indentation s level) t line depth r) (last_ends (last_tail level false f t kept) (line_end level false f t kept) (t.behind ++ r))
-  children_end level depth h f t (children (document g span ns)) (children (document g' span' ns')) line (c, same, nodes, fits) kept r =
-      rw (block_text h (indentation s level) t line g' span' ns ns' c.0 c.1 depth r c.3) (tail_ends (block_tail level f t kept) _ (space_ends _))
-  children_end level depth h f t no_children (children d') line c kept r = absurd c
-  children_end level depth h f t (children (document g span ns)) no_children line c kept r = absurd c
+  children_end : (level depth : ℕ) (b : Before) (h : Head) (f : NodeFormat) (t : NodeTexts) (k k' : Children) → h.format ≡ Some (line_of (indentation s level) t) → IsSpacedChildren number s level k k'
+      → SpacesTexts number s level (has_block k) b f t → (r : Text) → ValueEnd true (print_tail h k' depth ++ r)
+  children_end level depth b h f t no_children no_children line c kept r =
+      rw (plain_text h (indentation s level) t line depth r) (last_ends (last_tail level false b f t kept) (line_end level false b f t kept) (t.behind ++ r))
+  children_end level depth b h f t (children (document g span ns)) (children (document g' span' ns')) line (b', c, same, nodes, fits) kept r =
+      rw (block_text h (indentation s level) t line g' span' ns ns' c.0 c.1 depth r c.3) (tail_ends (block_tail level b f t kept) _ (space_ends _))
+  children_end level depth b h f t no_children (children d') line c kept r = absurd c
+  children_end level depth b h f t (children (document g span ns)) no_children line c kept r = absurd c
 
   mutual
-    children_read : (level depth : ℕ) (h : Head) (f : NodeFormat) (t : NodeTexts) (k k' : Children) → h.format ≡ Some (line_of (indentation s level) t) → IsFormattedChildren s level k k'
-        → KeepsTexts s level (has_block k) f t → ChildrenKeepNone k → AreWellFormedChildren (children_data k) → (r : Text)
+    children_read : (level depth : ℕ) (b : Before) (h : Head) (f : NodeFormat) (t : NodeTexts) (k k' : Children) → h.format ≡ Some (line_of (indentation s level) t) → IsSpacedChildren number s level k k'
+        → SpacesTexts number s level (has_block k) b f t → ChildrenKeepNone k → AreWellFormedChildren (children_data k) → (r : Text)
         → AfterName true (print_tail h k' depth ++ r) (t.comment ++ (10 ∷ (t.behind ++ r))) [] (children_data k)
-    children_read level depth h f t no_children no_children line c kept m w r =
-        rw (plain_text h (indentation s level) t line depth r) (plain_of (last_text false (last_tail level false f t kept) (line_end level false f t kept) (t.behind ++ r)))
-    children_read level depth h f t (children (document g span ns)) (children (document g' span' ns')) line (c, same, nodes, fits) kept m w r =
+    children_read level depth b h f t no_children no_children line c kept m w r =
+        rw (plain_text h (indentation s level) t line depth r) (plain_of (last_text false (last_tail level false b f t kept) (line_end level false b f t kept) (t.behind ++ r)))
+    children_read level depth b h f t (children (document g span ns)) (children (document g' span' ns')) line (b', c, same, nodes, fits) kept m w r =
         rw (block_text h (indentation s level) t line g' span' ns ns' c.0 c.1 depth r c.3)
-        (braced_of (tail_spaced before_block (block_tail level f t kept) _)
-        (braces (gap_nodes (newline_gap (content_gap (level + 1) (or_empty_document g) c.0 c.1 c.2 _))
-        (nodes_read (level + 1) (depth + 1) ns ns' nodes m w (content_end (level + 1) (or_empty_document g) c.0 c.1 c.2 (empty_gap ns (indentation_gap s ok level no_gap))))))
-        (later_of (last_text true (last_tail level true f t kept) (line_end level true f t kept) (t.behind ++ r))))
-    children_read level depth h f t no_children (children d') line c kept m w r = absurd c
-    children_read level depth h f t (children (document g span ns)) no_children line c kept m w r = absurd c
+        (braced_of (tail_spaced before_block (block_tail level b f t kept) _)
+        (braces (gap_nodes (newline_gap (content_gap (level + 1) ns (or_empty_document g) b' c.0 c.1 c.2 _))
+        (nodes_read (level + 1) (depth + 1) b' ns ns' nodes m w (content_end (level + 1) ns (or_empty_document g) b' c.0 c.1 c.2 (empty_gap ns (indentation_gap s ok level no_gap))))))
+        (later_of (last_text true (last_tail level true b f t kept) (line_end level true b f t kept) (t.behind ++ r))))
+    children_read level depth b h f t no_children (children d') line c kept m w r = absurd c
+    children_read level depth b h f t (children (document g span ns)) no_children line c kept m w r = absurd c
 
     -- a node before nodes
-    node_reads : (level depth : ℕ) (n n' : Node) → IsFormattedNode s level n n' → NodeKeepsNone n → IsWellFormedNode (node_data n) → {r q : Text} {xs : data'.Nodes} → AreNodes true r q xs
+    node_reads : (level depth : ℕ) (b : Before) (n n' : Node) → IsSpacedNode number s level b n n' → NodeKeepsNone n → IsWellFormedNode (node_data n) → {r q : Text} {xs : data'.Nodes} → AreNodes true r q xs
         → AreNodes true (print_node n' depth ++ r) q (data'.first (node_data n) xs)
-    node_reads level depth (node h k) (node h' k') (f, c) m w {r = r} d =
+    node_reads level depth b (node h k) (node h' k') (f, c) m w {r = r} d =
         let (t, kept, line) = f.format in
         let i = indentation s level in
         rw (node_text h' i t line h.ty h.name f.ty f.name depth (print_pieces h'.entries) (print_tail h' k' depth) r)
-        (node_then (kept_gap s ok level (or_empty h.format).leading t.before kept.before (indentation_gap s ok level no_gap))
-        (let last = children_end level depth h' (or_empty h.format) t k k' line c kept r in
+        (node_then (before_gap s ok number level (has_block k) b (or_empty h.format) t kept (indentation_gap s ok level no_gap))
+        (let last = children_end level depth b h' (or_empty h.format) t k k' line c kept r in
         named (type_reads h.ty _ w.0) (printed_string h.name.value _ w.1 (entries_end h.entries h'.entries f.entries m.0 _ last))
-        (entries_read h.entries h'.entries f.entries m.0 w.2 last (children_read level depth h' (or_empty h.format) t k k' line c kept m.1 w.3 r)))
-        (line_terminator (line_end level (has_block k) (or_empty h.format) t kept) (t.behind ++ r)) (gap_nodes (kept_gap s ok level (or_empty h.format).trailing t.behind kept.behind no_gap) d))
+        (entries_read h.entries h'.entries f.entries m.0 w.2 last (children_read level depth b h' (or_empty h.format) t k k' line c kept m.1 w.3 r)))
+        (line_terminator (line_end level (has_block k) b (or_empty h.format) t kept) (t.behind ++ r)) (gap_nodes (lines_gap s ok number level (past_node (or_empty h.format).terminator) kept.behind_it (or_empty h.format).trailing t.behind kept.behind no_gap) d))
 
-    nodes_read : (level depth : ℕ) (ns ns' : Nodes) → AreFormattedNodes s level ns ns' → NodesKeepNone ns → AreWellFormed (nodes_data ns) → {t r : Text} → Gap true t r
+    nodes_read : (level depth : ℕ) (b : Before) (ns ns' : Nodes) → AreSpacedNodes number s level b ns ns' → NodesKeepNone ns → AreWellFormed (nodes_data ns) → {t r : Text} → Gap true t r
         → AreNodes true (print_nodes ns' depth ++ t) r (nodes_data ns)
-    nodes_read level depth none none f m w g = last_gap g
-    nodes_read level depth (first n ns) (first n' ns') f m w {t = t} g =
-        rw (append_assoc (print_node n' depth) (print_nodes ns' depth) t) (node_reads level depth n n' f.0 m.0 w.0 (nodes_read level depth ns ns' f.1 m.1 w.1 g))
-    nodes_read level depth none (first n' ns') f m w g = absurd f
-    nodes_read level depth (first n ns) none f m w g = absurd f
+    nodes_read level depth b none none f m w g = last_gap g
+    nodes_read level depth b (first n ns) (first n' ns') f m w {t = t} g =
+        rw (append_assoc (print_node n' depth) (print_nodes ns' depth) t) (node_reads level depth b n n' f.1 m.0 w.0 (nodes_read level depth f.0 ns ns' f.3 m.1 w.1 g))
+    nodes_read level depth b none (first n' ns') f m w g = absurd f
+    nodes_read level depth b (first n ns) none f m w g = absurd f
 
   -- the text is a document with what the document says
-  pub document_derived : (level depth : ℕ) (d d' : Document) → IsFormattedDocument s level d d' → DocumentKeepsNone d → AreWellFormed (document_data d)
+  pub document_derived : (level depth : ℕ) (d d' : Document) → IsSpacedDocument number s level d d' → DocumentKeepsNone d → AreWellFormed (document_data d)
       → IsDocument true (print_document d' depth) (document_data d)
-  document_derived level depth (document f span ns) (document f' span' ns') (c, same, nodes) m w =
+  document_derived level depth (document f span ns) (document f' span' ns') (b, c, same, nodes) m w =
       IsDocument.no_bom (subst (λ (t : Text). AreNodes true t [] (nodes_data ns)) (document_joined f' ns' c.3)
-      (gap_nodes (content_gap level (or_empty_document f) c.0 c.1 c.2 _) (nodes_read level depth ns ns' nodes m w (content_end level (or_empty_document f) c.0 c.1 c.2 (empty_gap ns no_gap)))))
+      (gap_nodes (content_gap level ns (or_empty_document f) b c.0 c.1 c.2 _) (nodes_read level depth b ns ns' nodes m w (content_end level ns (or_empty_document f) b c.0 c.1 c.2 (empty_gap ns no_gap)))))
     where
       document_joined : (f' : Option DocumentFormat) (ns' : Nodes) → f' ≡ Some (content_of ns c.0 c.1)
           → c.0 ++ (print_nodes ns' depth ++ (c.1 ++ (newline_if_none ns ++ []))) ≡ print_document (document f' span' ns') depth
       document_joined f' ns' e = rw e (simp (append_assoc, append-nil))
 
   -- the text of a node is a document with that node
-  pub node_derived : (level depth : ℕ) (n n' : Node) → IsFormattedNode s level n n' → NodeKeepsNone n → IsWellFormedNode (node_data n)
+  pub node_derived : (level depth : ℕ) (b : Before) (n n' : Node) → IsSpacedNode number s level b n n' → NodeKeepsNone n → IsWellFormedNode (node_data n)
       → IsDocument true (print_node n' depth) (data'.first (node_data n) data'.none)
-  node_derived level depth n n' f m w =
-      IsDocument.no_bom (subst (λ (t : Text). AreNodes true t [] (data'.first (node_data n) data'.none)) (append-nil (print_node n' depth)) (node_reads level depth n n' f m w (last_gap no_gap)))
+  node_derived level depth b n n' f m w =
+      IsDocument.no_bom (subst (λ (t : Text). AreNodes true t [] (data'.first (node_data n) data'.none)) (append-nil (print_node n' depth)) (node_reads level depth b n n' f m w (last_gap no_gap)))

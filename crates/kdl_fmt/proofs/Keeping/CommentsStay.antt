@@ -21,8 +21,13 @@ use Rattle.kdl_fmt.specs.Config.{Settings, indentation}
 use Rattle.kdl_fmt.specs.Formatted.{or_empty, or_empty_document, newline_if_none, in_braces, NodeKeepsNone, ChildrenKeepNone, DocumentKeepsNone, NodesKeepNone}
 use Rattle.kdl_fmt.specs.Kept.{last_place, without_bom}
 use Rattle.kdl_fmt.specs.WellFormed.{IsWellFormedNode, AreWellFormedChildren, AreWellFormed}
-use Rattle.kdl_fmt.specs.WithComments.{NodeTexts, KeepsTexts, line_of, content_of, ContentTexts, has_block, IsFormattedNode, IsFormattedChildren, AreFormattedNodes, IsFormattedDocument}
-use Rattle.kdl_fmt.proofs.Keeping.GapFronts.{Front, nothing, joined, alone, here, newline, newline_if, indented, kept_front, gap_without_bom}
+use Rattle.kdl_fmt.specs.Blank.{past_node}
+use Rattle.kdl_fmt.specs.Spaced.{SpacesTexts, SpacesContent, IsSpacedNode, IsSpacedChildren, AreSpacedNodes, IsSpacedDocument}
+use Rattle.kdl_fmt.specs.WithComments.{NodeTexts, line_of, content_of, has_block}
+use Rattle.kdl_fmt.specs.declared.blank.Before.{Before}
+use Rattle.kdl_fmt.specs.declared.blank.Before.TheVariants.{Nothing}
+use Rattle.kdl_fmt.proofs.Spacing.Lines.{before_front, lines_front}
+use Rattle.kdl_fmt.proofs.Keeping.GapFronts.{Front, nothing, joined, alone, here, newline, newline_if, indented, gap_without_bom}
 use Rattle.kdl_fmt.proofs.Keeping.KeptItems.{KeptIn, kept_in, kept_end, kept_last}
 use Rattle.kdl_fmt.proofs.EntryTexts.{type_text}
 use Rattle.kdl_fmt.proofs.Formatting.LaidEntries.{identifier_at, identifier_laid, type_laid, entries_laid}
@@ -133,32 +138,33 @@ block_lists p a b c = simp (map-append, append_assoc, append-nil)
 content_lists : (a b c : List Item) → map on_line a ++ map on_line b ++ (map on_line c ++ []) ≡ map on_line (a ++ b ++ c)
 content_lists a b c = simp (map-append, append_assoc, append-nil)
 
-module _ (s : Settings) (ok : list_all is_space s.indent ≡ true) (no_keep : s.entry_autoformate_keep ≡ false) (with : s.no_comments ≡ false) (whole : Text) where
+module _ (number : ℕ) (s : Settings) (ok : list_all is_space s.indent ≡ true) (no_keep : s.entry_autoformate_keep ≡ false) (with : s.no_comments ≡ false) (whole : Text) where
   -- what is kept of the texts around nodes
-  content_front : (level : ℕ) (f : DocumentFormat) (a b : Text) → ContentTexts s level f a b → {is : List Item} → ItemsIn (GapItems (without_bom f.leading)) is → Front a (map on_line is)
-  content_front level f a b k i = kept_front s ok with level (without_bom f.leading) a k.leading i
+  content_front : (level : ℕ) (ns : Nodes) (f : DocumentFormat) (b : Before) (x y : Text) → SpacesContent number s level ns f b x y → {is : List Item} → ItemsIn (GapItems (without_bom f.leading)) is
+      → Front x (map on_line is)
+  content_front level ns f b x y k i = lines_front s ok with number level Nothing b (without_bom f.leading) x k.leading i
 
-  content_end : (level : ℕ) (f : DocumentFormat) (a b : Text) → ContentTexts s level f a b → {is : List Item} → ItemsIn (GapItems f.trailing) is → Front b (map on_line is)
-  content_end level f a b k i = kept_front s ok with level f.trailing b k.trailing i
+  content_end : (level : ℕ) (ns : Nodes) (f : DocumentFormat) (b : Before) (x y : Text) → SpacesContent number s level ns f b x y → {is : List Item} → ItemsIn (GapItems f.trailing) is → Front y (map on_line is)
+  content_end level ns f b x y k i = lines_front s ok with number level k.last k.behind_it f.trailing y k.trailing i
 
-  last_in : (level : ℕ) (has : Bool) (f : NodeFormat) (t : NodeTexts) → KeepsTexts s level has f t → {is : List Item} → ItemsIn (PlaceItems (last_place has) f.before_terminator) is
+  last_in : (level : ℕ) (has : Bool) (b : Before) (f : NodeFormat) (t : NodeTexts) → SpacesTexts number s level has b f t → {is : List Item} → ItemsIn (PlaceItems (last_place has) f.before_terminator) is
       → KeptIn (last_place has) t.last (map on_line is)
-  last_in level has f t k i = kept_in s.no_comments with f.before_terminator t.last k.last i
+  last_in level has b f t k i = kept_in s.no_comments with f.before_terminator t.last k.last i
 
-  block_in : (level : ℕ) (f : NodeFormat) (t : NodeTexts) → KeepsTexts s level true f t → {is : List Item} → ItemsIn (PlaceItems before_block f.before_children) is → KeptIn before_block t.before_block (map on_line is)
-  block_in level f t k i = kept_in s.no_comments with f.before_children t.before_block k.before_block i
+  block_in : (level : ℕ) (b : Before) (f : NodeFormat) (t : NodeTexts) → SpacesTexts number s level true b f t → {is : List Item} → ItemsIn (PlaceItems before_block f.before_children) is → KeptIn before_block t.before_block (map on_line is)
+  block_in level b f t k i = kept_in s.no_comments with f.before_children t.before_block k.before_block i
 
-  line_end : (level : ℕ) (has : Bool) (f : NodeFormat) (t : NodeTexts) → KeepsTexts s level has f t → LineEnd t.space t.comment
-  line_end level has f t k = line_end_of s.no_comments f.terminator t.space t.comment k.end
+  line_end : (level : ℕ) (has : Bool) (b : Before) (f : NodeFormat) (t : NodeTexts) → SpacesTexts number s level has b f t → LineEnd t.space t.comment
+  line_end level has b f t k = line_end_of s.no_comments f.terminator t.space t.comment k.end
 
   mutual
-    children_laid : (level depth : ℕ) (h : Head) (f : NodeFormat) (t : NodeTexts) (k k' : Children) → h.format ≡ Some (line_of (indentation s level) t) → IsFormattedChildren s level k k'
-        → KeepsTexts s level (has_block k) f t → ChildrenKeepNone k → AreWellFormedChildren (children_data k) → {is js : List Item} → ChildrenItems f.before_children k is
+    children_laid : (level depth : ℕ) (b : Before) (h : Head) (f : NodeFormat) (t : NodeTexts) (k k' : Children) → h.format ≡ Some (line_of (indentation s level) t) → IsSpacedChildren number s level k k'
+        → SpacesTexts number s level (has_block k) b f t → ChildrenKeepNone k → AreWellFormedChildren (children_data k) → {is js : List Item} → ChildrenItems f.before_children k is
         → ItemsIn (PlaceItems (last_place (has_block k)) f.before_terminator) js → (r : Text)
         → ChildrenLaid whole (print_tail h k' depth ++ r) ((t.comment ++ (10 ∷ [])) ++ (t.behind ++ r)) (map on_line is) (map on_line js)
-    children_laid level depth h f t no_children no_children line c kept m w ChildrenItems.no_block i r =
-        let end = line_end level false f t kept in
-        let last = last_in level false f t kept i in
+    children_laid level depth b h f t no_children no_children line c kept m w ChildrenItems.no_block i r =
+        let end = line_end level false b f t kept in
+        let last = last_in level false b f t kept i in
         let rest = t.behind ++ r in
         let e = last_joined t.last t.space t.comment rest in
         rw (plain_text h (indentation s level) t line depth r)
@@ -175,16 +181,16 @@ module _ (s : Settings) (ok : list_all is_space s.indent ≡ true) (no_keep : s.
           behind = ItemsIn.items (kept_last s.no_comments with false f.terminator t.space t.comment t.last kept.end last);
           ends = subst (ValueEnd true) e (last_ends last.stands end rest);
         })
-    children_laid level depth h f t (children (document g span ns)) (children (document g' span' ns')) line (c, same, nodes, fits) kept m w (block {is = is} {js = ks} i (of_document {a = a} {b = b} {c = d} ia ib id)) j r =
-        let end = line_end level true f t kept in
-        let last = last_in level true f t kept j in
-        let before = block_in level f t kept i in
+    children_laid level depth b h f t (children (document g span ns)) (children (document g' span' ns')) line (b', c, same, nodes, fits) kept m w (block {is = is} {js = ks} i (of_document {a = a} {b = e'} {c = d} ia ib id)) j r =
+        let end = line_end level true b f t kept in
+        let last = last_in level true b f t kept j in
+        let before = block_in level b f t kept i in
         let rest = t.behind ++ r in
         let e = last_joined t.last t.space t.comment rest in
         let after = (t.last ++ t.space) ++ ((t.comment ++ (10 ∷ [])) ++ rest) in
         let behind = c.1 ++ newline_if_none ns ++ indentation s level in
-        let x = nodes_laid (level + 1) (depth + 1) ns ns' nodes m w ib (joined newline (content_front (level + 1) (or_empty_document g) c.0 c.1 c.2 ia)) (behind ++ (125 ∷ after)) in
-        let y = content_laid x (joined (joined (content_end (level + 1) (or_empty_document g) c.0 c.1 c.2 id) (newline_if ns)) (indented s ok level)) in
+        let x = nodes_laid (level + 1) (depth + 1) b' ns ns' nodes m w ib (joined newline (content_front (level + 1) ns (or_empty_document g) b' c.0 c.1 c.2 ia)) (behind ++ (125 ∷ after)) in
+        let y = content_laid x (joined (joined (content_end (level + 1) ns (or_empty_document g) b' c.0 c.1 c.2 id) (newline_if ns)) (indented s ok level)) in
         rw (block_text h (indentation s level) t line g' span' ns ns' c.0 c.1 depth r c.3)
         (record {
           tree = children y.tree;
@@ -196,18 +202,18 @@ module _ (s : Settings) (ok : list_all is_space s.indent ≡ true) (no_keep : s.
                     (subst (λ (x : Text). AfterChildren (t.last ++ (t.space ++ (t.comment ++ (10 ∷ rest)))) x) (sym (append_assoc t.comment (10 ∷ []) rest)) (last_text true last.stands end rest));
                 text = refl;
               });
-          inside = subst (λ (l : List Item). ChildrenItems (t.before_block ++ (32 ∷ [])) (children y.tree) l) (block_lists (map on_line is) a b d ∙ sym (map-append on_line is (a ++ b ++ d)))
+          inside = subst (λ (l : List Item). ChildrenItems (t.before_block ++ (32 ∷ [])) (children y.tree) l) (block_lists (map on_line is) a e' d ∙ sym (map-append on_line is (a ++ e' ++ d)))
               (block (ItemsIn.items before.spaced) y.items);
           behind = ItemsIn.items (kept_last s.no_comments with true f.terminator t.space t.comment t.last kept.end last);
           ends = tail_ends before.stands _ (space_ends _);
         })
-    children_laid level depth h f t no_children (children d') line c kept m w i j r = absurd c
-    children_laid level depth h f t (children (document g span ns)) no_children line c kept m w i j r = absurd c
+    children_laid level depth b h f t no_children (children d') line c kept m w i j r = absurd c
+    children_laid level depth b h f t (children (document g span ns)) no_children line c kept m w i j r = absurd c
 
     -- a node after a gap
-    node_laid : (level depth : ℕ) (n n' : Node) → IsFormattedNode s level n n' → NodeKeepsNone n → IsWellFormedNode (node_data n) → {is : List Item} → NodeItems n is
+    node_laid : (level depth : ℕ) (before : Before) (n n' : Node) → IsSpacedNode number s level before n n' → NodeKeepsNone n → IsWellFormedNode (node_data n) → {is : List Item} → NodeItems n is
         → {p : Text} {ps : List Item} → Front p ps → (r : Text) → NodeLaid whole (p ++ (print_node n' depth ++ r)) r (ps ++ map on_line is)
-    node_laid level depth (node h k) (node h' k') (f, c) m w (of_node {a = a} {b = b} {c = ci} {d = d} {e = e} {f = g} ia ib ic id ie ig) {p} {ps} front r =
+    node_laid level depth before (node h k) (node h' k') (f, c) m w (of_node {a = a} {b = b} {c = ci} {d = d} {e = e} {f = g} ia ib ic id ie ig) {p} {ps} front r =
         let (t, kept, line) = f.format in
         let i = indentation s level in
         let format = or_empty h.format in
@@ -215,8 +221,8 @@ module _ (s : Settings) (ok : list_all is_space s.indent ≡ true) (no_keep : s.
         let tail = print_tail h' k' depth ++ r in
         let v = t.behind ++ r in
         let end = t.comment ++ (10 ∷ []) in
-        let lines = joined (kept_front s ok with level format.leading t.before kept.before ia) (indented s ok level) in
-        let x = children_laid level depth h' format t k k' line c kept m.1 w.3 ic id r in
+        let lines = joined (before_front s ok with number level has before format t kept ia) (indented s ok level) in
+        let x = children_laid level depth before h' format t k k' line c kept m.1 w.3 ic id r in
         let y = entries_laid s no_keep with whole h.entries h'.entries f.entries m.0 w.2 ib tail x.ends in
         let pieces = print_pieces h'.entries ++ tail in
         let named = identifier_at whole h.name.value pieces in
@@ -231,19 +237,19 @@ module _ (s : Settings) (ok : list_all is_space s.indent ≡ true) (no_keep : s.
           later = map on_line g;
           laid = λ ns. a_node {leading = leading} {end = end} {t = start} {u = end ++ v} {v = v} (record { is = front.gap (lines.gap Gap.no_gap); text = sym (append_assoc p (t.before ++ i) start) })
               (laid_node ty.1 (identifier_laid whole h.name.value pieces w.1 y.ends) y.laid x.laid)
-              (record { is = subst (λ (z : Text). Terminator z v) (sym (append_assoc t.comment (10 ∷ []) v)) (line_terminator (line_end level has format t kept) v); text = refl }) refl ns;
+              (record { is = subst (λ (z : Text). Terminator z v) (sym (append_assoc t.comment (10 ∷ []) v)) (line_terminator (line_end level has before format t kept) v); text = refl }) refl ns;
           items = of_node (ItemsIn.items (alone (joined front lines))) y.items x.inside x.behind (kept_end s.no_comments with format.terminator t.space t.comment kept.end ie) (ItemsIn.items GapItems.none);
-          front = kept_front s ok with level format.trailing t.behind kept.behind ig;
+          front = lines_front s ok with number level (past_node format.terminator) kept.behind_it format.trailing t.behind kept.behind ig;
           same = node_same ps a b ci d e g;
         })
 
-    nodes_laid : (level depth : ℕ) (ns ns' : Nodes) → AreFormattedNodes s level ns ns' → NodesKeepNone ns → AreWellFormed (nodes_data ns) → {is : List Item} → NodesItems ns is
+    nodes_laid : (level depth : ℕ) (before : Before) (ns ns' : Nodes) → AreSpacedNodes number s level before ns ns' → NodesKeepNone ns → AreWellFormed (nodes_data ns) → {is : List Item} → NodesItems ns is
         → {p : Text} {ps : List Item} → Front p ps → (t : Text) → NodesLaid whole (p ++ (print_nodes ns' depth ++ t)) t (ps ++ map on_line is)
-    nodes_laid level depth none none f m w NodesItems.no_node {p} {ps} front t =
+    nodes_laid level depth before none none f m w NodesItems.no_node {p} {ps} front t =
         record { tree = none; pending = p; own = []; later = ps; laid = no_node; items = NodesItems.no_node; front = front; same = sym (append-nil ps) }
-    nodes_laid level depth (first n ns) (first n' ns') f m w (NodesItems.a_node {is = is} {js = js} i k) {p} {ps} front t =
-        let x = node_laid level depth n n' f.0 m.0 w.0 i front (print_nodes ns' depth ++ t) in
-        let y = nodes_laid level depth ns ns' f.1 m.1 w.1 k x.front t in
+    nodes_laid level depth before (first n ns) (first n' ns') f m w (NodesItems.a_node {is = is} {js = js} i k) {p} {ps} front t =
+        let x = node_laid level depth before n n' f.1 m.0 w.0 i front (print_nodes ns' depth ++ t) in
+        let y = nodes_laid level depth f.0 ns ns' f.3 m.1 w.1 k x.front t in
         rw (append_assoc (print_node n' depth) (print_nodes ns' depth) t)
         (record {
           tree = first x.tree y.tree;
@@ -256,16 +262,16 @@ module _ (s : Settings) (ok : list_all is_space s.indent ≡ true) (no_keep : s.
           same = append_assoc x.own y.own y.later ∙ ap (λ (l : List Item). x.own ++ l) y.same ∙ sym (append_assoc x.own x.later (map on_line js)) ∙ ap (λ (l : List Item). l ++ map on_line js) x.same
               ∙ append_assoc ps (map on_line is) (map on_line js) ∙ ap (λ (l : List Item). ps ++ l) (sym (map-append on_line is js));
         })
-    nodes_laid level depth none (first n' ns') f m w i front t = absurd f
-    nodes_laid level depth (first n ns) none f m w i front t = absurd f
+    nodes_laid level depth before none (first n' ns') f m w i front t = absurd f
+    nodes_laid level depth before (first n ns) none f m w i front t = absurd f
 
   -- the content of a document that is laid out
-  document_content : (level depth : ℕ) (d d' : Document) (is : List Item) → DocumentItems d is → IsFormattedDocument s level d d' → DocumentKeepsNone d → AreWellFormed (document_data d)
+  document_content : (level depth : ℕ) (d d' : Document) (is : List Item) → DocumentItems d is → IsSpacedDocument number s level d d' → DocumentKeepsNone d → AreWellFormed (document_data d)
       → ContentLaid whole (print_document d' depth) [] (map on_line is)
-  document_content level depth (document f span ns) (document f' span' ns') _ (of_document {a = a} {b = b} {c = d} ia ib id) (c, same, nodes) m w =
+  document_content level depth (document f span ns) (document f' span' ns') _ (of_document {a = a} {b = b} {c = d} ia ib id) (before, c, same, nodes) m w =
       let behind = c.1 ++ newline_if_none ns in
-      let x = nodes_laid level depth ns ns' nodes m w ib (content_front level (or_empty_document f) c.0 c.1 c.2 ia) (behind ++ []) in
-      let y = content_laid x (joined (content_end level (or_empty_document f) c.0 c.1 c.2 id) (newline_if ns)) in
+      let x = nodes_laid level depth before ns ns' nodes m w ib (content_front level ns (or_empty_document f) before c.0 c.1 c.2 ia) (behind ++ []) in
+      let y = content_laid x (joined (content_end level ns (or_empty_document f) before c.0 c.1 c.2 id) (newline_if ns)) in
       subst (λ (l : List Item). ContentLaid whole (print_document (document f' span' ns') depth) [] l) (content_lists a b d)
       (subst (λ (t : Text). ContentLaid whole t [] (map on_line a ++ map on_line b ++ (map on_line d ++ []))) (document_joined f' ns' c.3) y)
     where
@@ -274,26 +280,26 @@ module _ (s : Settings) (ok : list_all is_space s.indent ≡ true) (no_keep : s.
       document_joined f' ns' e = rw e (simp (append_assoc, append-nil))
 
   -- a node that is laid out, as the content of a document
-  node_content : (level depth : ℕ) (n n' : Node) (is : List Item) → NodeItems n is → IsFormattedNode s level n n' → NodeKeepsNone n → IsWellFormedNode (node_data n)
+  node_content : (level depth : ℕ) (before : Before) (n n' : Node) (is : List Item) → NodeItems n is → IsSpacedNode number s level before n n' → NodeKeepsNone n → IsWellFormedNode (node_data n)
       → ContentLaid whole (print_node n' depth) [] (map on_line is)
-  node_content level depth n n' is i f m w =
-      let x = node_laid level depth n n' f m w i nothing [] in
+  node_content level depth before n n' is i f m w =
+      let x = node_laid level depth before n n' f m w i nothing [] in
       subst (λ (l : List Item). ContentLaid whole (print_node n' depth) [] l) (ap (λ (l : List Item). l ++ x.later) (append-nil x.own) ∙ x.same)
       (subst (λ (t : Text). ContentLaid whole t [] (x.own ++ [] ++ x.later)) (append-nil (print_node n' depth))
       (content_of_nodes whole (print_node n' depth ++ []) [] x.pending (x.laid no_node) (NodesItems.a_node x.items NodesItems.no_node) x.front))
 
 -- each item of the document is one of the laid text, as it is on a line, in the same order
-pub comments_stay : (s : Settings) → list_all is_space s.indent ≡ true → s.entry_autoformate_keep ≡ false → s.no_comments ≡ false → (level depth : ℕ) → (d d' e : Document) → (is : List Item)
-    → DocumentItems d is → IsFormattedDocument s level d d' → DocumentKeepsNone d → AreWellFormed (document_data d) → LaidDocument true e (print_document d' depth) → DocumentItems e (map on_line is)
-comments_stay s ok no_keep with level depth d d' e is i f m w laid =
+pub comments_stay : (number : ℕ) (s : Settings) → list_all is_space s.indent ≡ true → s.entry_autoformate_keep ≡ false → s.no_comments ≡ false → (level depth : ℕ) → (d d' e : Document) → (is : List Item)
+    → DocumentItems d is → IsSpacedDocument number s level d d' → DocumentKeepsNone d → AreWellFormed (document_data d) → LaidDocument true e (print_document d' depth) → DocumentItems e (map on_line is)
+comments_stay number s ok no_keep with level depth d d' e is i f m w laid =
     let t = print_document d' depth in
-    let x = document_content s ok no_keep with t level depth d d' is i f m w in
+    let x = document_content number s ok no_keep with t level depth d d' is i f m w in
     subst (λ (y : Document). DocumentItems y (map on_line is)) (one_laid_document t x.tree e (LaidDocument.no_bom x.laid) laid) x.items
 
 -- the same for a node that is printed alone
-pub node_comments_stay : (s : Settings) → list_all is_space s.indent ≡ true → s.entry_autoformate_keep ≡ false → s.no_comments ≡ false → (level depth : ℕ) → (n n' : Node) → (e : Document) → (is : List Item)
-    → NodeItems n is → IsFormattedNode s level n n' → NodeKeepsNone n → IsWellFormedNode (node_data n) → LaidDocument true e (print_node n' depth) → DocumentItems e (map on_line is)
-node_comments_stay s ok no_keep with level depth n n' e is i f m w laid =
+pub node_comments_stay : (number : ℕ) (s : Settings) → list_all is_space s.indent ≡ true → s.entry_autoformate_keep ≡ false → s.no_comments ≡ false → (level depth : ℕ) → (before : Before) (n n' : Node) → (e : Document) → (is : List Item)
+    → NodeItems n is → IsSpacedNode number s level before n n' → NodeKeepsNone n → IsWellFormedNode (node_data n) → LaidDocument true e (print_node n' depth) → DocumentItems e (map on_line is)
+node_comments_stay number s ok no_keep with level depth before n n' e is i f m w laid =
     let t = print_node n' depth in
-    let x = node_content s ok no_keep with t level depth n n' is i f m w in
+    let x = node_content number s ok no_keep with t level depth before n n' is i f m w in
     subst (λ (y : Document). DocumentItems y (map on_line is)) (one_laid_document t x.tree e (LaidDocument.no_bom x.laid) laid) x.items

@@ -1,0 +1,205 @@
+-- What is counted in the lines that are written, and that they are written again.
+use Rattle.std.proofs.Common.{◌≡◌, ℕ, zero, suc, ◌+◌, ◌-◌, ◌==◌, Bool, true, false, List, [], ◌∷◌, ◌++◌, length, drop, map, refl, sym, ap, ◌∙◌, append_assoc, append-nil, arith}
+use Rattle.std.proofs.Math.Seq.{drop-append_seam}
+use Rattle.std.proofs.lemmas.Bool.Decides.{nat_tests}
+use Rattle.std.proofs.lemmas.Bool.{and_parts}
+use Rattle.std.specs.List.{list_all}
+use Rattle.std.specs.Prelude.{if◌then◌else◌, min, max}
+use Rattle.kdl_text.specs.Chars.{Text, is_space, is_newline_char, times}
+use Rattle.kdl_text.specs.Trivia.{BlockComment, block as a_block, slashdash}
+use Rattle.kdl_items.specs.Items.{Item, comment, piece, GapItems}
+use Rattle.kdl_items.specs.Written.{item_text, line_text, on_line}
+use Rattle.kdl_items.proofs.Rewriting.LinesAgain.{AreStanding, Standing, DroppedLine, gap_items, line_text_again}
+use Rattle.kdl_fmt.specs.Blank.{after_item, blank_lines, empty_lines, from_item, newlines, past_item, past_items, read, spaced_lines}
+use Rattle.kdl_fmt.specs.declared.blank.Before.{Before}
+use Rattle.kdl_fmt.specs.declared.blank.Before.TheVariants.{Nothing, Thing}
+
+-- a space is no slash and no newline
+space_no_slash : (c : ℕ) → is_space c ≡ true → (c == 47) ≡ false
+unfolding is_space
+space_no_slash c h = grind (arith, nat_tests)
+
+space_no_newline : (c : ℕ) → is_space c ≡ true → is_newline_char c ≡ false
+unfolding is_space is_newline_char
+space_no_newline c h = grind (arith, nat_tests)
+
+-- what comes after spaces: nothing, or an item
+abbrev pub IsEnd : Text → Type 0
+IsEnd [] = Unit {0}
+IsEnd (c ∷ s) = c ≡ 47
+
+pub spaces_count : (p : ℕ) (ind r : Text) → list_all is_space ind ≡ true → IsEnd r → newlines p (ind ++ r) ≡ 0
+spaces_count p [] [] ok e = refl
+spaces_count p [] (c ∷ r) ok e = rw e refl
+spaces_count p (c ∷ ind) r ok e =
+    let (here, others) = and_parts (is_space c) (list_all is_space ind) ok in
+    rw (space_no_slash c here, space_no_newline c here) (spaces_count (if p == 92 then p else c) ind r others e)
+
+pub spaces_from : (ind r : Text) → list_all is_space ind ≡ true → IsEnd r → from_item (ind ++ r) ≡ r
+spaces_from [] [] ok e = refl
+spaces_from [] (c ∷ r) ok e = rw e refl
+spaces_from (c ∷ ind) r ok e =
+    let (here, others) = and_parts (is_space c) (list_all is_space ind) ok in
+    rw (space_no_slash c here) (spaces_from ind r others e)
+
+-- LF before a text
+lf_first : (r : Text) → newlines 32 (10 ∷ r) ≡ 1 + newlines 10 r
+unfolding is_newline_char
+lf_first r = refl
+
+lf_again : (r : Text) → newlines 10 (10 ∷ r) ≡ 1 + newlines 10 r
+unfolding is_newline_char
+lf_again r = refl
+
+lf_or_space : (r : Text) → newlines 10 r ≡ newlines 32 r
+lf_or_space [] = refl
+lf_or_space (c ∷ r) = refl
+
+pub lines_count : (k : ℕ) (r : Text) → newlines 32 (times k 10 ++ r) ≡ k + newlines 32 r
+lines_count zero r = omega arith
+lines_count (suc k) r = lf_first (times k 10 ++ r) ∙ ap (λ (n : ℕ). 1 + n) (lf_or_space (times k 10 ++ r) ∙ lines_count k r) ∙ omega arith
+
+pub lines_from : (k : ℕ) (r : Text) → from_item (times k 10 ++ r) ≡ from_item r
+lines_from zero r = refl
+lines_from (suc k) r = lines_from k r
+
+-- what comes before a thing once the document is laid out: each line is ended
+abbrev pub again : Before → Before
+again Nothing = Nothing
+again (Thing most n) = Thing 0 1
+
+pub again_read : (s : Text) (b : Before) → again (read s b) ≡ again b
+again_read s Nothing = refl
+again_read s (Thing most n) = refl
+
+again_item : (b : Before) → again (past_item true b) ≡ again b
+again_item Nothing = refl
+again_item (Thing most n) = refl
+
+pub again_past : (b : Before) (s : Text) (is : List Item) → again (past_items true b s is) ≡ again b
+again_past b s [] = again_read s b
+again_past b s (i ∷ is) = again_past (past_item true (read s b)) (after_item i s) is ∙ again_item (read s b) ∙ again_read s b
+
+-- the blank lines that are written before a thing are counted again
+count_again : (number x n : ℕ) → n ≡ min number x → min number (max 0 (1 + n - 1)) ≡ min number x
+count_again number x n e = omega (arith, e)
+
+pub lines_again : (number : ℕ) (b : Before) (r : Text) → newlines 32 r ≡ 0 → empty_lines number (read (empty_lines number b ++ r) (again b)) ≡ empty_lines number b
+lines_again number Nothing r h = refl
+lines_again number (Thing most n) r h =
+    let k = min number (max most (n - 1)) in
+    let e : newlines 32 (times k 10 ++ r) ≡ k = lines_count k r ∙ ap (λ (m : ℕ). k + m) h ∙ omega arith in
+    ap (λ (m : ℕ). times m 10) (count_again number (max most (n - 1)) (newlines 32 (times k 10 ++ r)) e)
+
+-- an item on a line begins with a slash
+block_begins : {s r : Text} → BlockComment s r → (x : Text) × (s ≡ 47 ∷ x)
+block_begins (a_block {s = s} b) = (42 ∷ s, refl)
+
+dropped_begins : {s r : Text} → DroppedLine s r → (x : Text) × (s ≡ 47 ∷ x)
+dropped_begins (DroppedLine.dropped (slashdash {s = s} l) n e o) = (45 ∷ s, refl)
+
+abbrev first_char : Text → ℕ
+first_char [] = 0
+first_char (c ∷ s) = c
+
+begins_before : (t x : Text) → t ++ (10 ∷ []) ≡ 47 ∷ x → (y : Text) × (t ≡ 47 ∷ y)
+begins_before [] x e = let h : 10 ≡ 47 = ap first_char e in absurd (omega (arith, h))
+begins_before (c ∷ t) x e = (t, ap (λ (d : ℕ). d ∷ t) (ap first_char e))
+
+pub line_slash : (i : Item) → Standing i → (x : Text) × (line_text (item_text i) ≡ 47 ∷ x)
+line_slash _ (Standing.line_comment s) = (_, refl)
+line_slash _ (Standing.block_comment {t = t} f e) = let b = block_begins (f []) in (b.0, e ∙ sym (append-nil t) ∙ b.1)
+line_slash _ (Standing.dropped_node {t = t} f) = let d = dropped_begins (f []) in begins_before (line_text t) d.0 d.1
+
+-- the text of an item on a line is that of the line
+pub on_line_text : (i : Item) → item_text (on_line i) ≡ line_text (item_text i)
+on_line_text (comment t) = refl
+on_line_text (piece t) = refl
+
+-- after LF it counts one newline more
+read_line : (x : Text) → read (10 ∷ x) (Thing 0 0) ≡ read x (Thing 0 1)
+read_line x =
+    let e : newlines 32 (10 ∷ x) ≡ 1 + newlines 32 x = lf_first x ∙ ap (λ (n : ℕ). 1 + n) (lf_or_space x) in
+    let h : 0 + newlines 32 (10 ∷ x) ≡ 1 + newlines 32 x = omega (arith, e) in
+    ap (Thing 0) h
+
+spaced_line : (number : ℕ) (ind x : Text) (is : List Item) → spaced_lines number ind (Thing 0 0) (10 ∷ x) is ≡ spaced_lines number ind (Thing 0 1) x is
+spaced_line number ind x [] = refl
+spaced_line number ind x (i ∷ is) =
+    ap (λ (b : Before). (empty_lines number b ++ ind ++ line_text (item_text i) ++ (10 ∷ [])) ++ spaced_lines number ind (Thing 0 0) (after_item i x) is) (read_line x)
+
+past_line : (x : Text) (is : List Item) → past_items false (Thing 0 0) (10 ∷ x) is ≡ past_items false (Thing 0 1) x is
+past_line x [] = read_line x
+past_line x (i ∷ is) = refl
+
+-- before anything else it counts none
+pub spaced_first : (number : ℕ) (ind x : Text) (is : List Item) → spaced_lines number ind Nothing (10 ∷ x) is ≡ spaced_lines number ind Nothing x is
+spaced_first number ind x [] = refl
+spaced_first number ind x (i ∷ is) = refl
+
+pub past_first : (out : Bool) (x : Text) (is : List Item) → past_items out Nothing (10 ∷ x) is ≡ past_items out Nothing x is
+past_first out x [] = refl
+past_first out x (i ∷ is) = refl
+
+-- a line, and what comes after it
+line_joined : (e b l m r : Text) → ((e ++ b ++ l ++ (10 ∷ [])) ++ m) ++ r ≡ e ++ (b ++ (l ++ (10 ∷ (m ++ r))))
+line_joined e b l m r = simp append_assoc
+
+module _ (number : ℕ) (ind : Text) (ok : list_all is_space ind ≡ true) where
+  -- the text from its first item on, and after it
+  from_line : (e : Before) (l x r : Text) → l ≡ 47 ∷ x → from_item (empty_lines number e ++ (ind ++ (l ++ r))) ≡ l ++ r
+  from_line e l x r h =
+      lines_from (min number (blank_lines e)) (ind ++ (l ++ r))
+      ∙ rw h (spaces_from ind (47 ∷ (x ++ r)) ok refl)
+
+  none_before : (l x r : Text) → l ≡ 47 ∷ x → newlines 32 (ind ++ (l ++ r)) ≡ 0
+  none_before l x r h = rw h (spaces_count 32 ind (47 ∷ (x ++ r)) ok refl)
+
+  after_line : (i : Item) (e : Before) (x r : Text) → line_text (item_text i) ≡ 47 ∷ x → after_item (on_line i) (empty_lines number e ++ (ind ++ (line_text (item_text i) ++ r))) ≡ r
+  after_line i e x r h =
+      ap (λ (t : Text). drop (length (item_text (on_line i))) t) (from_line e (line_text (item_text i)) x r h)
+      ∙ ap (λ (t : Text). drop (length t) (line_text (item_text i) ++ r)) (on_line_text i)
+      ∙ drop-append_seam (line_text (item_text i)) r
+
+  read_again : (b : Before) (s l x r : Text) → l ≡ 47 ∷ x → empty_lines number (read (empty_lines number (read s b) ++ (ind ++ (l ++ r))) (again b)) ≡ empty_lines number (read s b)
+  read_again b s l x r h =
+      ap (λ (c : Before). empty_lines number (read (empty_lines number (read s b) ++ (ind ++ (l ++ r))) c)) (sym (again_read s b))
+      ∙ lines_again number (read s b) (ind ++ (l ++ r)) (none_before l x r h)
+
+  same_text : (i : Item) → line_text (item_text (on_line i)) ≡ line_text (item_text i)
+  same_text i = ap line_text (on_line_text i) ∙ line_text_again (item_text i)
+
+  all_again : (b : Before) (s : Text) (is : List Item) → AreStanding is → (r : Text) → spaced_lines number ind (again b) (spaced_lines number ind b s is ++ r) (map on_line is) ≡ spaced_lines number ind b s is
+  all_again b s [] a r = refl
+  all_again b s (i ∷ is) a r =
+      let l = line_text (item_text i) in
+      let slash = line_slash i a.0 in
+      let e = empty_lines number (read s b) in
+      let more = spaced_lines number ind (Thing 0 0) (after_item i s) is in
+      let rest = 10 ∷ (more ++ r) in
+      let text = e ++ (ind ++ (l ++ rest)) in
+      let js = map on_line is in
+      ap (λ (t : Text). spaced_lines number ind (again b) t (on_line i ∷ js)) (line_joined e ind l more r)
+      ∙ ap (λ (t : Text). (t ++ ind ++ line_text (item_text (on_line i)) ++ (10 ∷ [])) ++ spaced_lines number ind (Thing 0 0) (after_item (on_line i) text) js) (read_again b s l slash.0 rest slash.1)
+      ∙ ap (λ (t : Text). (e ++ ind ++ t ++ (10 ∷ [])) ++ spaced_lines number ind (Thing 0 0) (after_item (on_line i) text) js) (same_text i)
+      ∙ ap (λ (t : Text). (e ++ ind ++ l ++ (10 ∷ [])) ++ spaced_lines number ind (Thing 0 0) t js) (after_line i (read s b) slash.0 rest slash.1)
+      ∙ ap (λ (t : Text). (e ++ ind ++ l ++ (10 ∷ [])) ++ t) (spaced_line number ind (more ++ r) js ∙ all_again (Thing 0 0) (after_item i s) is a.1 r)
+
+  all_passed : (b : Before) (s : Text) (is : List Item) → AreStanding is → (r : Text) → past_items false (again b) (spaced_lines number ind b s is ++ r) (map on_line is) ≡ read r (again (past_items false b s is))
+  all_passed b s [] a r = ap (read r) (sym (again_read s b))
+  all_passed b s (i ∷ is) a r =
+      let l = line_text (item_text i) in
+      let slash = line_slash i a.0 in
+      let e = empty_lines number (read s b) in
+      let more = spaced_lines number ind (Thing 0 0) (after_item i s) is in
+      let rest = 10 ∷ (more ++ r) in
+      let js = map on_line is in
+      ap (λ (t : Text). past_items false (again b) t (on_line i ∷ js)) (line_joined e ind l more r)
+      ∙ ap (λ (t : Text). past_items false (Thing 0 0) t js) (after_line i (read s b) slash.0 rest slash.1)
+      ∙ past_line (more ++ r) js ∙ all_passed (Thing 0 0) (after_item i s) is a.1 r
+
+  pub spaced_again : (b : Before) (s : Text) {p : Text} (is : List Item) → GapItems p is → (r : Text) → spaced_lines number ind (again b) (spaced_lines number ind b s is ++ r) (map on_line is) ≡ spaced_lines number ind b s is
+  spaced_again b s is d r = all_again b s is (gap_items d) r
+
+  pub passed_again : (b : Before) (s : Text) {p : Text} (is : List Item) → GapItems p is → (r : Text) → past_items false (again b) (spaced_lines number ind b s is ++ r) (map on_line is) ≡ read r (again (past_items false b s is))
+  passed_again b s is d r = all_passed b s is (gap_items d) r

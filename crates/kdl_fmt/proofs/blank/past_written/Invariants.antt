@@ -1,0 +1,11 @@
+use Rattle.std.proofs.Common.{◌≡◌, drop, false}
+use denote.Text.{Utf8}
+use denote.Shadow.{shadow}
+use Rattle.std.specs.Str.{chars}
+use Rattle.kdl_items.specs.Internal.Reading.{items_view}
+use Rattle.kdl_fmt.specs.Blank.{past_items}
+use Rattle.kdl_fmt.proofs.blank.past_written.Given as goal
+
+-- the rest, with the items that are left, comes to the same
+abbrev pub invariant-loop-item : goal.invariant-loop-item
+invariant-loop-item l = shadow (Utf8 l.rest) × (past_items false l.before (chars l.rest) (items_view (drop l.item-index l.items)) ≡ past_items false l.initial.before (chars l.initial.rest) (items_view l.items))
