@@ -1,0 +1,64 @@
+//! The faults of a text, as rows.
+
+ghost use Rattle.kdl.specs.Words.{IsToldOf};
+ghost use Rattle.kdl_rows.specs.Rows.{AreTold};
+ghost use Rattle.std.specs.Prelude.{◌≡◌, ◌+◌, ℕ, All, List, length};
+
+use kdl::KdlDiagnostic;
+use kdl_calls::text::put_string;
+
+/// A fault: the bytes of the text that it concerns, and the place of its message in the strings.
+#[repr(C)]
+#[derive(Clone, Copy)]
+pub struct KdlFault {
+    pub start: usize,
+    pub len: usize,
+    pub message_start: usize,
+    pub message_len: usize,
+}
+
+/// Writes the row of a fault at its index, where there is room, and its message after the other strings.
+fn put_fault(
+    fault: &KdlDiagnostic,
+    at: usize,
+    out: &mut [KdlFault],
+    strings: &mut [u8],
+    used: &mut usize,
+)
+    ensures told { (text : List ℕ) → IsToldOf text fault.now
+        → AreTold text out.old at strings.old used.old
+        → AreTold text out.new (at + 1) strings.new used.new }
+{
+    let message = match &fault.message {
+        Some(message) => message.as_str(),
+        None => "",
+    };
+    let place = put_string(message, strings, used);
+    let row = KdlFault {
+        start: fault.span.offset,
+        len: fault.span.len,
+        message_start: place.start,
+        message_len: place.len,
+    };
+    if at < out.len() {
+        out[at] = row;
+    }
+}
+
+/// Writes as many faults as there is room for, and counts all.
+pub fn put_faults(
+    found: &[KdlDiagnostic],
+    out: &mut [KdlFault],
+    count: &mut usize,
+    strings: &mut [u8],
+    used: &mut usize,
+)
+    ensures counted { count.new ≡ length found.now }
+    ensures told { (text : List ℕ) → All (IsToldOf text) found.now
+        → AreTold text out.new count.new strings.new used.new }
+{
+    for at in 0..found.len() {
+        put_fault(&found[at], at, out, strings, used);
+    }
+    *count = found.len();
+}
