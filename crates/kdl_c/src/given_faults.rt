@@ -1,10 +1,11 @@
 //! The faults of a text that is read as a document, a node, an entry or a value.
 
 ghost use Rattle.kdl.specs.Words.{entry_tree};
-ghost use Rattle.kdl_c.specs.Reading.{IsRead, Outcome, is_alone};
+ghost use Rattle.kdl_c.specs.Listed.{AreListed, Fault, ListsNothing};
+ghost use Rattle.kdl_c.specs.Reading.{AreFaultsAs, IsRead, Outcome, is_alone, not_value};
 ghost use Rattle.kdl_c.specs.Rows.{AreTold};
-ghost use Rattle.std.specs.Prelude.{◌≡◌, ◌<◌, ◌≤◌, IsNone, IfSome};
-ghost use Rattle.std.specs.Str.{chars};
+ghost use Rattle.std.specs.Prelude.{◌≡◌, ◌<◌, ◌≤◌, ◌∷◌, [], IsNone, IfSome, List};
+ghost use Rattle.std.specs.Str.{IsUtf8, chars};
 
 use crate::faults::{KdlFault, put_faults};
 use crate::status::{FAULTS, NOT_FOUND, NOT_UTF8, OK, OUT_OF_MEMORY};
@@ -118,7 +119,10 @@ fn put_not_value(
 )
     ensures counted { count.new ≡ 1 }
     ensures told { AreTold text.now out.new count.new strings.new used.new }
+    ensures listed { AreListed (not_value text.now ∷ [])
+        out.old out.new count.new strings.old strings.new used.new }
 {
+    *used = 0;
     let place = put_string("Expected value without key or type", strings, used);
     let row = KdlFault {
         start: 0,
@@ -146,7 +150,12 @@ pub extern "C" fn kdl_faults_of(
 ) -> u32
     ensures some { result ≡ 1 → 0 < count.new }
     ensures told { result ≡ 1 → AreTold text.now out.new count.new strings.new string_len.new }
+    ensures listed { result ≡ 1 → (fs : List Fault) × AreFaultsAs kind text.now fs
+        × AreListed fs out.old out.new count.new strings.old strings.new string_len.new }
     ensures none { result ≡ 0 → count.new ≡ 0 }
+    ensures nothing { (result ≡ 1 → ⊥) → ListsNothing
+        out.old out.new count.new strings.old strings.new string_len.new }
+    ensures utf8 { result ≡ 2 → IsUtf8 text.now → ⊥ }
     ensures refused { result ≡ 1 → IsRead kind (chars text.now) → ⊥ }
     ensures accepted { result ≡ 0 → IsRead kind (chars text.now) }
     ensures kinds { result ≡ 6 → 4 ≤ kind }

@@ -1,12 +1,13 @@
 //! The faults of a text with all that is said of them.
 
 ghost use Rattle.kdl.specs.Words.{IsDocument, IsToldOf, Nodes};
+ghost use Rattle.kdl_c.specs.Listed.{AreReportsListed, AreFaultsOf, Fault, HasPut, ListsNothing, fault_of, report_row, words_of};
 ghost use Rattle.kdl_c.specs.Reports.{AreReported};
-ghost use Rattle.std.specs.Prelude.{◌≡◌, ◌+◌, ◌<◌, ◌≤◌, ℕ, All, List, length, true};
-ghost use Rattle.std.specs.Str.{chars};
+ghost use Rattle.std.specs.Prelude.{◌≡◌, ◌+◌, ◌++◌, ◌<◌, ◌∷◌, [], ℕ, All, List, length, map, slice_set, true};
+ghost use Rattle.std.specs.Str.{IsUtf8, chars};
 
 use crate::status::{FAULTS, NOT_UTF8, OK, OUT_OF_MEMORY};
-use crate::text::{Place, put_string};
+use crate::text::put_words;
 use kdl::{KdlDiagnostic, KdlDocument, ParseFailure};
 use std::alloc::Global;
 
@@ -25,17 +26,6 @@ pub struct KdlReport {
     pub help_len: usize,
 }
 
-/// Writes what there is after the other strings, and an empty string where there is nothing.
-fn put_words(words: Option<&String>, strings: &mut [u8], used: &mut usize) -> Place
-    ensures more { used.old ≤ used.new }
-    ensures within { used.new ≤ length strings.old → result.start + result.len ≤ used.new }
-{
-    match words {
-        Some(words) => put_string(words.as_str(), strings, used),
-        None => put_string("", strings, used),
-    }
-}
-
 /// Writes the report of a fault at its index, where there is room, and its words after the other strings.
 fn put_report(
     fault: &KdlDiagnostic,
@@ -47,6 +37,10 @@ fn put_report(
     ensures told { (text : List ℕ) → IsToldOf text fault.now
         → AreReported text out.old at strings.old used.old
         → AreReported text out.new (at + 1) strings.new used.new }
+    ensures row { out.new ≡ slice_set out.old at (report_row used.old (fault_of fault.now)) }
+    ensures put { (before : List ℕ) (ts : List (List ℕ)) → HasPut before ts strings.old used.old
+        → HasPut before (ts ++ words_of fault.now.message ∷ words_of fault.now.label
+        ∷ words_of fault.now.help ∷ []) strings.new used.new }
 {
     let message = put_words(fault.message.as_ref(), strings, used);
     let label = put_words(fault.label.as_ref(), strings, used);
@@ -66,7 +60,7 @@ fn put_report(
     }
 }
 
-/// Writes as many reports as there is room for, and counts all.
+/// Writes as many reports as there is room for, their words from the beginning of the strings, and counts all.
 fn put_reports(
     found: &[KdlDiagnostic],
     out: &mut [KdlReport],
@@ -77,7 +71,10 @@ fn put_reports(
     ensures counted { count.new ≡ length found.now }
     ensures told { (text : List ℕ) → All (IsToldOf text) found.now
         → AreReported text out.new count.new strings.new used.new }
+    ensures listed { AreReportsListed (map fault_of found.now)
+        out.old out.new count.new strings.old strings.new used.new }
 {
+    *used = 0;
     for at in 0..found.len() {
         put_report(&found[at], at, out, strings, used);
     }
@@ -85,7 +82,7 @@ fn put_reports(
 }
 
 /// The faults of a text with all that is said of them, in the order of reading: as many as `out` has room for, their words
-/// in `strings`, the whole count and the whole length. Returns `FAULTS` where there are any, and `OK` where there are none.
+/// in `strings` up to the first that has no room, the whole count and the whole length. Returns `FAULTS` where there are any, and `OK` where there are none.
 #[unsafe(no_mangle)]
 pub extern "C" fn kdl_reports(
     alloc: Global,
@@ -97,7 +94,12 @@ pub extern "C" fn kdl_reports(
 ) -> u32
     ensures some { result ≡ 1 → 0 < count.new }
     ensures told { result ≡ 1 → AreReported text.now out.new count.new strings.new string_len.new }
+    ensures listed { result ≡ 1 → (fs : List Fault) × AreFaultsOf text.now fs
+        × AreReportsListed fs out.old out.new count.new strings.old strings.new string_len.new }
     ensures none { result ≡ 0 → count.new ≡ 0 }
+    ensures nothing { (result ≡ 1 → ⊥) → ListsNothing
+        out.old out.new count.new strings.old strings.new string_len.new }
+    ensures utf8 { result ≡ 2 → IsUtf8 text.now → ⊥ }
     ensures refused { result ≡ 1 → (x : Nodes) → IsDocument true (chars text.now) x → ⊥ }
     ensures accepted { result ≡ 0 → (x : Nodes) × IsDocument true (chars text.now) x }
 {
