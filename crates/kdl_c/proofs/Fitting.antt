@@ -1,5 +1,5 @@
 -- Strings put into a buffer one after another, as far as there is room.
-use Rattle.std.proofs.Common.{arith, ◌≡◌, ℕ, suc, ◌+◌, ◌-◌, ◌<◌, ◌≤◌, ◌++◌, ◌^◌, List, [], ◌∷◌, ap, ◌∙◌, sym, refl, min, length, length-append, length-drop, length-take, take, take_at, take_all, drop, drop_at, drop-drop, append-nil, append_assoc, inl, inr, le-leb, slice_set}
+use Rattle.std.proofs.Common.{arith, ◌≡◌, ℕ, ◌+◌, ◌-◌, ◌<◌, ◌≤◌, ◌++◌, ◌^◌, List, [], ◌∷◌, ap, ◌∙◌, sym, refl, length, length-append, length-drop, length-take, take, take_at, take_all, drop, drop_at, drop-drop, append-nil, inl, inr, le-leb, slice_set}
 use Rattle.std.specs.List.{concat}
 use Rattle.std.proofs.lemmas.Bool.Decides.{leb_tells, nat_tests}
 use Rattle.std.proofs.lemmas.List.Folds.{concat-append}

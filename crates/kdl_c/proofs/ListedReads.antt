@@ -1,13 +1,12 @@
 -- What the rows say, read with the strings that were written.
-use Rattle.std.proofs.Common.{arith, ◌≡◌, ℕ, ◌+◌, ◌-◌, ◌<◌, ◌≤◌, ◌++◌, ◌^◌, List, [], ◌∷◌, ap, ◌∙◌, sym, refl, min, length, length-append, take, take_at, drop, drop_at, append-nil, append_assoc, le-leb}
+use Rattle.std.proofs.Common.{arith, ◌≡◌, ℕ, ◌+◌, ◌-◌, ◌<◌, ◌≤◌, ◌++◌, ◌^◌, List, [], ◌∷◌, ap, ◌∙◌, sym, refl, length, length-append, take, take_at, drop, drop_at, append-nil, append_assoc, le-leb}
 use Rattle.std.specs.Prelude.{All, zip}
 use Rattle.std.specs.List.{concat}
-use Rattle.std.proofs.lemmas.List.Elements.{All-cons, All-nil}
+use Rattle.std.proofs.lemmas.List.Elements.{All-cons}
 use Rattle.std.proofs.lemmas.List.Folds.{concat-append}
 use mathlib.Core.Path.{subst}
 use Rattle.kdl_text.specs.Spans.{raise}
 use Rattle.kdl_c.specs.Listed.{Fault, HasBytes, SaysFault, SaysReport, all_words, fault_row, fault_rows, fitting, messages, over, report_row, report_rows}
-use Rattle.kdl_c.specs.Says.{IsBytes}
 use Rattle.kdl_c.specs.declared.faults.KdlFault.{KdlFault}
 use Rattle.kdl_c.specs.declared.reports.KdlReport.{KdlReport}
 use Rattle.kdl_c.proofs.Fitting.{fit_short, over_length, over_short}

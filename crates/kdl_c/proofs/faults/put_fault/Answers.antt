@@ -1,4 +1,4 @@
-use Rattle.std.proofs.Common.{rules, arith, ℕ, ap, ◌∙◌, refl, ◌≡◌, ◌++◌, ◌∷◌, [], length, slice_set}
+use Rattle.std.proofs.Common.{rules, ℕ, ap, ◌∙◌, refl, ◌≡◌, ◌++◌, ◌∷◌, [], length, slice_set}
 use mathlib.Core.Path.{subst}
 use Rattle.kdl_c.specs.Listed.{HasPut, fault_of, fault_row, words_of}
 use Rattle.kdl_c.specs.declared.faults.KdlFault.{KdlFault}

@@ -1,4 +1,4 @@
-use Rattle.std.proofs.Common.{rules, ap, ◌≡◌, List, ℕ, length, map, sym, take, take_all, arith, ◌+◌}
+use Rattle.std.proofs.Common.{rules, ◌≡◌, List, ℕ, length, map, sym, take, take_all, arith, ◌+◌}
 use mathlib.Core.Path.{subst}
 use Rattle.kdl.specs.Words.{IsToldOf}
 use Rattle.kdl_c.specs.Listed.{AreListed, Fault, fault_of}

@@ -1,7 +1,7 @@
 use Rattle.std.proofs.Common.{rules, arith, ℕ, List, ap, ◌∙◌, refl, ◌≡◌, ◌≤◌, ◌++◌, ◌∷◌, [], sym, append_assoc, length, slice_set}
 use mathlib.Core.Path.{subst}
 use Rattle.kdl_text.specs.Spans.{raise}
-use Rattle.kdl_c.specs.Listed.{HasPut, fault_of, report_row, words_of}
+use Rattle.kdl_c.specs.Listed.{HasPut, fault_of, words_of}
 use Rattle.kdl_c.specs.declared.reports.KdlReport.{KdlReport}
 use Rattle.kdl_c.proofs.ListedSteps.{same_report}
 use Rattle.kdl_c.proofs.ReportSteps.{reported_more}
