@@ -1,10 +1,11 @@
 //! The faults of a text, as rows.
 
 ghost use Rattle.kdl.specs.Words.{IsDocument, Nodes};
-ghost use Rattle.kdl_rows.specs.Reading.{IsRead};
+ghost use Rattle.kdl_rows.specs.Listed.{AreFaultsOf, AreListed, AreReportsListed, Fault, ListsNothing};
+ghost use Rattle.kdl_rows.specs.Reading.{AreFaultsAs, IsRead};
 ghost use Rattle.kdl_rows.specs.Reports.{AreReported};
 ghost use Rattle.kdl_rows.specs.Rows.{AreTold};
-ghost use Rattle.std.specs.Prelude.{◌≡◌, ◌<◌, ◌≤◌, true};
+ghost use Rattle.std.specs.Prelude.{◌≡◌, ◌<◌, ◌≤◌, List, true};
 ghost use Rattle.std.specs.Str.{IsUtf8, chars};
 
 use kdl::{KdlDocument, ParseFailure};
@@ -14,8 +15,9 @@ use kdl_rows::given_faults::{Reading, put_not_value, read};
 use kdl_rows::reports::{KdlReport, put_reports};
 use std::alloc::Global;
 
-/// The faults of a text, in the order of reading: as many as `out` has room for, their messages in `strings`, the whole
-/// count and the whole length. Returns `FAULTS` where there are any, and `OK` where there are none.
+/// The faults of a text, in the order of reading: as many as `out` has room for, their messages in `strings` up to the
+/// first that has no room, the whole count and the whole length. Returns `FAULTS` where there are any, and `OK` where
+/// there are none.
 #[unsafe(no_mangle)]
 pub extern "C" fn kdl_faults(
     alloc: Global,
@@ -27,7 +29,11 @@ pub extern "C" fn kdl_faults(
 ) -> u32
     ensures some { result ≡ 1 → 0 < count.new }
     ensures told { result ≡ 1 → AreTold text.now out.new count.new strings.new string_len.new }
+    ensures listed { result ≡ 1 → (fs : List Fault) × AreFaultsOf text.now fs
+        × AreListed fs out.old out.new count.new strings.old strings.new string_len.new }
     ensures none { result ≡ 0 → count.new ≡ 0 }
+    ensures nothing { (result ≡ 1 → ⊥) → ListsNothing
+        out.old out.new count.new strings.old strings.new string_len.new }
     ensures utf8 { result ≡ 2 → IsUtf8 text.now → ⊥ }
     ensures refused { result ≡ 1 → (x : Nodes) → IsDocument true (chars text.now) x → ⊥ }
     ensures accepted { result ≡ 0 → (x : Nodes) × IsDocument true (chars text.now) x }
@@ -61,7 +67,12 @@ pub extern "C" fn kdl_faults_of(
 ) -> u32
     ensures some { result ≡ 1 → 0 < count.new }
     ensures told { result ≡ 1 → AreTold text.now out.new count.new strings.new string_len.new }
+    ensures listed { result ≡ 1 → (fs : List Fault) × AreFaultsAs kind text.now fs
+        × AreListed fs out.old out.new count.new strings.old strings.new string_len.new }
     ensures none { result ≡ 0 → count.new ≡ 0 }
+    ensures nothing { (result ≡ 1 → ⊥) → ListsNothing
+        out.old out.new count.new strings.old strings.new string_len.new }
+    ensures utf8 { result ≡ 2 → IsUtf8 text.now → ⊥ }
     ensures refused { result ≡ 1 → IsRead kind (chars text.now) → ⊥ }
     ensures accepted { result ≡ 0 → IsRead kind (chars text.now) }
     ensures kinds { result ≡ 6 → 4 ≤ kind }
@@ -89,7 +100,8 @@ pub extern "C" fn kdl_faults_of(
 }
 
 /// The faults of a text with all that is said of them, in the order of reading: as many as `out` has room for, their words
-/// in `strings`, the whole count and the whole length. Returns `FAULTS` where there are any, and `OK` where there are none.
+/// in `strings` up to the first that has no room, the whole count and the whole length. Returns `FAULTS` where there are
+/// any, and `OK` where there are none.
 #[unsafe(no_mangle)]
 pub extern "C" fn kdl_reports(
     alloc: Global,
@@ -101,7 +113,12 @@ pub extern "C" fn kdl_reports(
 ) -> u32
     ensures some { result ≡ 1 → 0 < count.new }
     ensures told { result ≡ 1 → AreReported text.now out.new count.new strings.new string_len.new }
+    ensures listed { result ≡ 1 → (fs : List Fault) × AreFaultsOf text.now fs
+        × AreReportsListed fs out.old out.new count.new strings.old strings.new string_len.new }
     ensures none { result ≡ 0 → count.new ≡ 0 }
+    ensures nothing { (result ≡ 1 → ⊥) → ListsNothing
+        out.old out.new count.new strings.old strings.new string_len.new }
+    ensures utf8 { result ≡ 2 → IsUtf8 text.now → ⊥ }
     ensures refused { result ≡ 1 → (x : Nodes) → IsDocument true (chars text.now) x → ⊥ }
     ensures accepted { result ≡ 0 → (x : Nodes) × IsDocument true (chars text.now) x }
 {

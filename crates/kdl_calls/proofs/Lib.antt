@@ -10,3 +10,5 @@ pub mod EditSteps
 pub mod PositionSteps
 -- Texts in the strings that were written, once more are written.
 pub mod SaysSteps
+-- Strings put into a buffer one after another, as far as there is room.
+pub mod Fitting

@@ -4,6 +4,8 @@ pub mod Answers
 pub mod Paths
 -- What rows say, read with the strings that were written.
 pub mod Says
+-- Strings written one after another, as far as there is room.
+pub mod Strings
 -- Lines and columns.
 pub mod Positions
 -- Texts laid out.

@@ -1,7 +1,9 @@
 //! Texts written into the caller's buffers.
 
+ghost use Rattle.kdl_calls.specs.Strings.{HasPut, words_of};
 ghost use Rattle.kdl_calls.specs.Says.{Grown, IsBytes};
-ghost use Rattle.std.specs.Prelude.{◌≡◌, ◌++◌, ◌≤◌, ◌+◌, ◌<◌, length, drop, take};
+ghost use Rattle.std.specs.Prelude.{◌≡◌, ◌++◌, ◌≤◌, ◌+◌, ◌<◌, ◌∷◌, [], ℕ, List, length, drop, option_copied, take};
+ghost use Rattle.kdl_text.specs.Spans.{raise};
 
 use crate::status::{OK, TOO_SMALL};
 
@@ -42,6 +44,10 @@ pub fn put_string(text: &str, strings: &mut [u8], used: &mut usize) -> Place
     ensures grown { Grown strings.old used.old strings.new used.new }
     ensures bytes { used.new ≤ length strings.old
         → IsBytes (take used.new strings.new) result.start result.len text.now }
+    ensures counted { used.new ≡ raise used.old (length text.now) }
+    ensures kept { length strings.old < used.new → strings.new ≡ strings.old }
+    ensures put { (before : List ℕ) (ts : List (List ℕ)) → HasPut before ts strings.old used.old
+        → HasPut before (ts ++ text.now ∷ []) strings.new used.new }
 {
     let bytes = text.as_bytes();
     let place = Place {
@@ -55,4 +61,20 @@ pub fn put_string(text: &str, strings: &mut [u8], used: &mut usize) -> Place
         room.copy_from_slice(bytes);
     }
     place
+}
+
+/// Writes what there is after the other strings, and an empty string where there is nothing.
+pub fn put_words(words: Option<&String>, strings: &mut [u8], used: &mut usize) -> Place
+    ensures start { result.start ≡ used.old }
+    ensures len { result.len ≡ length (words_of (option_copied words.entry)) }
+    ensures counted { used.new ≡ raise used.old (length (words_of (option_copied words.entry))) }
+    ensures more { used.old ≤ used.new }
+    ensures within { used.new ≤ length strings.old → result.start + result.len ≤ used.new }
+    ensures put { (before : List ℕ) (ts : List (List ℕ)) → HasPut before ts strings.old used.old
+        → HasPut before (ts ++ words_of (option_copied words.entry) ∷ []) strings.new used.new }
+{
+    match words {
+        Some(words) => put_string(words.as_str(), strings, used),
+        None => put_string("", strings, used),
+    }
 }

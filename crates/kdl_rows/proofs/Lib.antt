@@ -8,3 +8,7 @@ pub mod FlatTree
 pub mod ReportSteps
 -- Entries that are values alone, and whole texts.
 pub mod ReadingSteps
+-- What the rows say, read with the strings that were written.
+pub mod ListedReads
+-- One fault more, after those that are listed.
+pub mod ListedSteps

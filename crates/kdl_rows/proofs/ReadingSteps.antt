@@ -1,5 +1,5 @@
 -- Entries that are values alone, and whole texts.
-use Rattle.std.proofs.Common.{◌≡◌, ◌&&◌, ℕ, List, [], ◌++◌, Option, None, Some, append-nil, option_map, ap, sym, refl, length, true, false}
+use Rattle.std.proofs.Common.{◌≡◌, ◌&&◌, ℕ, List, [], Option, None, Some, append-nil, option_map, ap, sym, refl, length, true, false}
 use Rattle.std.specs.Prelude.{is_none}
 use Rattle.std.specs.Str.{IsUtf8, chars}
 use Rattle.kdl.specs.Words.{EntryData, Identifier, InText, Value}

@@ -4,5 +4,7 @@ pub mod Rows
 pub mod Flat
 -- Faults with all that is said of them.
 pub mod Reports
+-- What is written of the faults of a text: their rows, and the strings that the rows name.
+pub mod Listed
 -- Texts that are read as documents, nodes, entries or values.
 pub mod Reading

@@ -1,11 +1,13 @@
 //! The faults of a text, as rows.
 
 ghost use Rattle.kdl.specs.Words.{IsToldOf};
+ghost use Rattle.kdl_calls.specs.Strings.{HasPut, words_of};
+ghost use Rattle.kdl_rows.specs.Listed.{AreListed, fault_of, fault_row};
 ghost use Rattle.kdl_rows.specs.Rows.{AreTold};
-ghost use Rattle.std.specs.Prelude.{◌≡◌, ◌+◌, ℕ, All, List, length};
+ghost use Rattle.std.specs.Prelude.{◌≡◌, ◌+◌, ◌++◌, ◌∷◌, [], ℕ, All, List, length, map, slice_set};
 
 use kdl::KdlDiagnostic;
-use kdl_calls::text::put_string;
+use kdl_calls::text::put_words;
 
 /// A fault: the bytes of the text that it concerns, and the place of its message in the strings.
 #[repr(C)]
@@ -28,12 +30,11 @@ fn put_fault(
     ensures told { (text : List ℕ) → IsToldOf text fault.now
         → AreTold text out.old at strings.old used.old
         → AreTold text out.new (at + 1) strings.new used.new }
+    ensures row { out.new ≡ slice_set out.old at (fault_row used.old (fault_of fault.now)) }
+    ensures put { (before : List ℕ) (ts : List (List ℕ)) → HasPut before ts strings.old used.old
+        → HasPut before (ts ++ words_of fault.now.message ∷ []) strings.new used.new }
 {
-    let message = match &fault.message {
-        Some(message) => message.as_str(),
-        None => "",
-    };
-    let place = put_string(message, strings, used);
+    let place = put_words(fault.message.as_ref(), strings, used);
     let row = KdlFault {
         start: fault.span.offset,
         len: fault.span.len,
@@ -45,7 +46,7 @@ fn put_fault(
     }
 }
 
-/// Writes as many faults as there is room for, and counts all.
+/// Writes as many faults as there is room for, their messages from the beginning of the strings, and counts all.
 pub fn put_faults(
     found: &[KdlDiagnostic],
     out: &mut [KdlFault],
@@ -56,7 +57,10 @@ pub fn put_faults(
     ensures counted { count.new ≡ length found.now }
     ensures told { (text : List ℕ) → All (IsToldOf text) found.now
         → AreTold text out.new count.new strings.new used.new }
+    ensures listed { AreListed (map fault_of found.now)
+        out.old out.new count.new strings.old strings.new used.new }
 {
+    *used = 0;
     for at in 0..found.len() {
         put_fault(&found[at], at, out, strings, used);
     }

@@ -1,9 +1,10 @@
 //! The faults of a text that is read as a document, a node, an entry or a value.
 
 ghost use Rattle.kdl.specs.Words.{entry_tree};
-ghost use Rattle.kdl_rows.specs.Reading.{Outcome, is_alone};
+ghost use Rattle.kdl_rows.specs.Listed.{AreListed};
+ghost use Rattle.kdl_rows.specs.Reading.{Outcome, is_alone, not_value};
 ghost use Rattle.kdl_rows.specs.Rows.{AreTold};
-ghost use Rattle.std.specs.Prelude.{◌≡◌, ◌≤◌, IsNone, IfSome};
+ghost use Rattle.std.specs.Prelude.{◌≡◌, ◌≤◌, ◌∷◌, [], IsNone, IfSome};
 
 use crate::faults::KdlFault;
 use kdl::{KdlDocument, KdlEntry, KdlError, KdlNode, ParseFailure};
@@ -116,7 +117,10 @@ pub fn put_not_value(
 )
     ensures counted { count.new ≡ 1 }
     ensures told { AreTold text.now out.new count.new strings.new used.new }
+    ensures listed { AreListed (not_value text.now ∷ [])
+        out.old out.new count.new strings.old strings.new used.new }
 {
+    *used = 0;
     let place = put_string("Expected value without key or type", strings, used);
     let row = KdlFault {
         start: 0,

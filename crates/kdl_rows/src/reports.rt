@@ -1,11 +1,13 @@
 //! The faults of a text with all that is said of them.
 
 ghost use Rattle.kdl.specs.Words.{IsToldOf};
+ghost use Rattle.kdl_calls.specs.Strings.{HasPut, words_of};
+ghost use Rattle.kdl_rows.specs.Listed.{AreReportsListed, fault_of, report_row};
 ghost use Rattle.kdl_rows.specs.Reports.{AreReported};
-ghost use Rattle.std.specs.Prelude.{◌≡◌, ◌+◌, ◌≤◌, ℕ, All, List, length};
+ghost use Rattle.std.specs.Prelude.{◌≡◌, ◌+◌, ◌++◌, ◌∷◌, [], ℕ, All, List, length, map, slice_set};
 
 use kdl::KdlDiagnostic;
-use kdl_calls::text::{Place, put_string};
+use kdl_calls::text::put_words;
 
 /// A fault with all that is said of it: the bytes of the text that it concerns, and the places of its message, of the
 /// label of its place and of its help in the strings. What a fault lacks has the length 0.
@@ -22,17 +24,6 @@ pub struct KdlReport {
     pub help_len: usize,
 }
 
-/// Writes what there is after the other strings, and an empty string where there is nothing.
-fn put_words(words: Option<&String>, strings: &mut [u8], used: &mut usize) -> Place
-    ensures more { used.old ≤ used.new }
-    ensures within { used.new ≤ length strings.old → result.start + result.len ≤ used.new }
-{
-    match words {
-        Some(words) => put_string(words.as_str(), strings, used),
-        None => put_string("", strings, used),
-    }
-}
-
 /// Writes the report of a fault at its index, where there is room, and its words after the other strings.
 fn put_report(
     fault: &KdlDiagnostic,
@@ -44,6 +35,10 @@ fn put_report(
     ensures told { (text : List ℕ) → IsToldOf text fault.now
         → AreReported text out.old at strings.old used.old
         → AreReported text out.new (at + 1) strings.new used.new }
+    ensures row { out.new ≡ slice_set out.old at (report_row used.old (fault_of fault.now)) }
+    ensures put { (before : List ℕ) (ts : List (List ℕ)) → HasPut before ts strings.old used.old
+        → HasPut before (ts ++ words_of fault.now.message ∷ words_of fault.now.label
+        ∷ words_of fault.now.help ∷ []) strings.new used.new }
 {
     let message = put_words(fault.message.as_ref(), strings, used);
     let label = put_words(fault.label.as_ref(), strings, used);
@@ -63,7 +58,7 @@ fn put_report(
     }
 }
 
-/// Writes as many reports as there is room for, and counts all.
+/// Writes as many reports as there is room for, their words from the beginning of the strings, and counts all.
 pub fn put_reports(
     found: &[KdlDiagnostic],
     out: &mut [KdlReport],
@@ -74,7 +69,10 @@ pub fn put_reports(
     ensures counted { count.new ≡ length found.now }
     ensures told { (text : List ℕ) → All (IsToldOf text) found.now
         → AreReported text out.new count.new strings.new used.new }
+    ensures listed { AreReportsListed (map fault_of found.now)
+        out.old out.new count.new strings.old strings.new used.new }
 {
+    *used = 0;
     for at in 0..found.len() {
         put_report(&found[at], at, out, strings, used);
     }

@@ -1,7 +1,7 @@
-use Rattle.std.proofs.Common.{rules, true, sym}
+use Rattle.std.proofs.Common.{rules, true, refl, sym}
 use mathlib.Core.Path.{subst}
 use Rattle.std.specs.Str.{chars}
-use Rattle.kdl.specs.Words.{IsEntryText, EntryData, Tells, entry_tree}
+use Rattle.kdl.specs.Words.{IsEntryText, EntryData, Tells, entry_data, entry_tree}
 use Rattle.kdl_text.specs.Failures.{TellsOf}
 use Rattle.kdl_calls.specs.Edits.{plain_value}
 use Rattle.kdl_rows.proofs.ReadingSteps.{alone_data, not_alone}
@@ -12,7 +12,7 @@ returns-in-Err-Syntax c =
     let t = c.args.text.now in
     let tells : Tells t c.in-Err-Syntax.error = subst (TellsOf t) c.in-Err-Syntax.field-0-is c.in-Err-Syntax.ensures.told in
     let refused : (x : EntryData) → IsEntryText true (chars t) x → ⊥ = search rules in
-    (tells, λ w. refused (plain_value w.0) w.1)
+    (tells, λ w. refused (plain_value w.0) w.1, λ _ w. refused w.0 w.1)
 
 pub returns-then-is_alone : goal.returns-then-is_alone
 returns-then-is_alone c =
@@ -22,4 +22,4 @@ returns-then-is_alone c =
 pub returns : goal.returns
 returns c =
     let e = entry_tree c.in-Ok.entry in
-    λ w. not_alone e.name e.ty e.value w.0 (search rules) (sym (c.in-Ok.ensures.only (plain_value w.0) w.1))
+    (refl, (entry_data e, c.in-Ok.ensures.found), λ w. not_alone e.name e.ty e.value w.0 (search rules) (sym (c.in-Ok.ensures.only (plain_value w.0) w.1)))
