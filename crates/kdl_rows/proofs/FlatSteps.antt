@@ -1,12 +1,11 @@
 -- Rows that say items, once a row more is written.
-use Rattle.std.proofs.Common.{arith, ◌≡◌, ◌+◌, ◌++◌, ◌<◌, ◌≤◌, ℕ, ℤ, List, [], ◌∷◌, Option, None, Some, append_assoc, append-nil, ap, ◌∙◌, sym, refl, get_or, length, map, slice_set, take, take_all}
+use Rattle.std.proofs.Common.{arith, ◌≡◌, ◌+◌, ◌++◌, ◌<◌, ◌≤◌, ℕ, ℤ, List, [], ◌∷◌, Option, None, Some, append_assoc, ap, ◌∙◌, sym, get_or, length, map, slice_set, take, take_all}
 use Rattle.std.proofs.lemmas.List.{map-append, take_more, take_more_set}
 use mathlib.Core.Path.{subst}
-use Rattle.kdl.specs.Words.{EntryData, NodeData, Nodes, Text, Value, said_children, said_entries, said_nodes, said_type}
-use Rattle.kdl_grammar.specs.Data as data'
+use Rattle.kdl.specs.Words.{EntryData, NodeData, Text, Value, said_entries, said_type}
 use Rattle.kdl_value.specs.Data.{text, integer, float, truth, null}
-use Rattle.kdl_rows.specs.Flat.{Item, RowsSay, SayAll, SaysItem, block_items, end_item, entry_item, flattened, head_items, node_item, node_items}
-use Rattle.kdl_calls.specs.Says.{Grown, SaysEntry, SaysKey, SaysNode, SaysType, SaysValue}
+use Rattle.kdl_rows.specs.Flat.{Item, RowsSay, SayAll, SaysItem, end_item, entry_item, head_items, node_item}
+use Rattle.kdl_calls.specs.Says.{Grown, SaysKey, SaysType, SaysValue}
 use Rattle.kdl_calls.specs.declared.row.KdlRow.{KdlRow}
 use Rattle.kdl_entry.specs.declared.entry.KdlEntry.{KdlEntry}
 use Rattle.kdl_calls.proofs.SaysSteps.{bytes_kept, text_kept}
