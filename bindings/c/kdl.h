@@ -92,10 +92,12 @@ struct kdl_fault { size_t start, len, message_start, message_len; };
 
 /* Lists the faults of a text, in the order in which they are found: KDL_FAULTS where there are
  * some, KDL_OK where there are none. An unclosed block comes after the faults inside it: sort by
- * `start` for the order of the text. `*count` and `*strings_len` are set to the whole counts. Where
- * one of them is more than its room, the rest is missing: call again with that much room, and read
- * nothing before. `start` and `start + len` are at most `text_len` and are not inside a character.
- * After KDL_NOT_UTF8 and KDL_OUT_OF_MEMORY both counts are 0, and no fault is listed. */
+ * `start` for the order of the text. `start` and `start + len` are at most `text_len` and are not
+ * inside a character. `*count` and `*strings_len` are set to the whole counts. Where one of them is
+ * more than its room, the rest is missing: call again with that much room. What is there is right:
+ * the first `room` faults, and the strings up to the first that does not fit, so that a message is
+ * there where `message_start + message_len` is at most `strings_room`. After another status than
+ * KDL_FAULTS both counts are 0, and no fault and no string is written. */
 uint32_t kdl_faults(const uint8_t *text, size_t text_len,
                     struct kdl_fault *faults, size_t room, size_t *count,
                     uint8_t *strings, size_t strings_room, size_t *strings_len);
@@ -119,7 +121,8 @@ struct kdl_report {
     size_t help_start, help_len;
 };
 
-/* As kdl_faults, with labels and helps. */
+/* As kdl_faults, with labels and helps: the strings are the message, label and help of the first
+ * fault, then those of the second, and so on. */
 uint32_t kdl_reports(const uint8_t *text, size_t text_len,
                      struct kdl_report *reports, size_t room, size_t *count,
                      uint8_t *strings, size_t strings_room, size_t *strings_len);

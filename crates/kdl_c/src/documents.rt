@@ -1,13 +1,13 @@
 //! Documents read from a text, and printed.
 
 ghost use Rattle.kdl.specs.Words.{IsDocument, LaidDocument, Nodes, document_prints, document_says, document_tree};
-ghost use Rattle.kdl_c.specs.Answers.{printed_bytes};
+ghost use Rattle.kdl_calls.specs.Answers.{printed_bytes};
 ghost use Rattle.std.specs.Prelude.{◌≡◌, ◌++◌, IfSome, IsNone, IsSome, None, drop, length, true};
 ghost use Rattle.std.specs.Str.{IsUtf8, chars};
 
-use crate::status::{NO_DOCUMENT, NOT_UTF8, OK, OUT_OF_MEMORY, of_failure};
-use crate::text::put_text;
 use kdl::KdlDocument;
+use kdl_calls::status::{NO_DOCUMENT, NOT_UTF8, OK, OUT_OF_MEMORY, of_failure};
+use kdl_calls::text::put_text;
 use kdl_held::Handle;
 use std::alloc::Global;
 
@@ -67,6 +67,7 @@ pub extern "C" fn kdl_print(
     ensures small { result ≡ 4 → IfSome document.old.held.document (λ d.
         needed.new ≡ length (printed_bytes d)) }
     ensures missing { result ≡ 5 → IsNone document.old.held.document }
+    ensures parses_nothing { result ≡ 1 → ⊥ }
 {
     *needed = 0;
     let Some(held) = document.take(alloc) else {

@@ -1,16 +1,17 @@
 //! Documents and texts laid out.
 
 ghost use Rattle.kdl.specs.Words.{CommentsStay, DocumentKeepsNoForm, DocumentLaidOut, IsDocument, Nodes, Text, canonical_text, defaults, document_prints, document_says, document_tree};
-ghost use Rattle.kdl_c.specs.Answers.{Each};
-ghost use Rattle.kdl_c.specs.LaidOut.{IsLaidOut, IsTextLaidOut};
-ghost use Rattle.std.specs.Prelude.{◌≡◌, ◌++◌, IfOk, drop, length, string_bytes, true};
+ghost use Rattle.kdl_calls.specs.Answers.{Each};
+ghost use Rattle.kdl_calls.specs.LaidOut.{IsTextLaidOut};
+ghost use Rattle.std.specs.Prelude.{◌≡◌, ◌++◌, drop, length, true};
 ghost use Rattle.std.specs.Str.{IsUtf8, chars, encode_utf8_all};
 
-use crate::status::{NO_DOCUMENT, NOT_UTF8, OK, OUT_OF_MEMORY, of_failure};
-use crate::text::put_text;
 use kdl::KdlDocument;
+use kdl_calls::laid_out::{format, laid_out, strip};
+use kdl_calls::status::{NO_DOCUMENT, NOT_UTF8, OUT_OF_MEMORY, of_failure};
+use kdl_calls::text::put_text;
 use kdl_held::Handle;
-use std::alloc::{AllocError, Global};
+use std::alloc::Global;
 
 /// Lays the document out, with its comments. Where memory runs out, some of it may be laid out; its data stay.
 #[unsafe(no_mangle)]
@@ -25,14 +26,12 @@ pub extern "C" fn kdl_format(alloc: Global, document: &mut Handle) -> u32
     ensures comments { result ≡ 0 → Each (λ d e. DocumentKeepsNoForm d
         → CommentsStay (document_tree d) (document_prints e))
         document.old.held.document document.new.held.document }
+    ensures parses_nothing { result ≡ 1 → ⊥ }
 {
     let Some(mut held) = document.take(alloc) else {
         return NO_DOCUMENT;
     };
-    let status = match held.autoformat() {
-        Err(_) => OUT_OF_MEMORY,
-        Ok(()) => OK,
-    };
+    let status = format(&mut held);
     document.put(held);
     status
 }
@@ -45,14 +44,12 @@ pub extern "C" fn kdl_strip(alloc: Global, document: &mut Handle) -> u32
     ensures prints { result ≡ 0 → Each (λ d e. DocumentKeepsNoForm d
         → document_prints e ≡ canonical_text (document_says d))
         document.old.held.document document.new.held.document }
+    ensures parses_nothing { result ≡ 1 → ⊥ }
 {
     let Some(mut held) = document.take(alloc) else {
         return NO_DOCUMENT;
     };
-    let status = match held.autoformat_no_comments() {
-        Err(_) => OUT_OF_MEMORY,
-        Ok(()) => OK,
-    };
+    let status = strip(&mut held);
     document.put(held);
     status
 }
@@ -85,13 +82,4 @@ pub extern "C" fn kdl_format_text(
             Ok(printed) => put_text(&printed, out, needed),
         },
     }
-}
-
-/// The text of a document after it is laid out with its comments.
-fn laid_out(alloc: Global, mut document: KdlDocument) -> Result<String, AllocError>
-    ensures { IfOk result (λ s. DocumentKeepsNoForm document → (p : Text) × IsLaidOut document p
-        × (string_bytes s ≡ encode_utf8_all p)) }
-{
-    document.autoformat()?;
-    document.to_string(alloc)
 }

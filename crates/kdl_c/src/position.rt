@@ -1,107 +1,11 @@
 //! Lines and columns of a text.
 
-ghost use Rattle.kdl.specs.Words.{Text};
-ghost use Rattle.kdl_c.specs.Internal.Places.{IsAfter, Moved, column_of, line_of};
-ghost use Rattle.kdl_c.specs.Positions.{IsNoPosition, IsPosition};
-ghost use Rattle.kdl_text.specs.Chars.{begins};
-ghost use Rattle.std.specs.Prelude.{◌≡◌, ◌+◌, ◌<◌, ◌≤◌, ◌^◌, false};
+ghost use Rattle.kdl_calls.specs.Positions.{IsNoPosition, IsPosition};
+ghost use Rattle.std.specs.Prelude.{◌≡◌};
 ghost use Rattle.std.specs.Str.{chars};
 
-use crate::status::{NOT_FOUND, NOT_UTF8, OK};
-use kdl_text::chars::is_newline_char;
-
-/// A line and a column, both from 1. `returned` says that the character before is a carriage return: a newline ends
-/// there, unless a line feed follows.
-#[derive(Clone, Copy)]
-struct Place {
-    line: usize,
-    column: usize,
-    returned: bool,
-}
-
-impl Place {
-    /// The place where no line feed follows.
-    fn ended(self) -> Place
-        requires { line_of self false < 2 ^ 64 }
-        ensures line { result.line ≡ line_of self false }
-        ensures column { result.column ≡ column_of self false }
-        ensures returned { result.returned ≡ false }
-    {
-        if self.returned {
-            return Place {
-                line: self.line + 1,
-                column: 1,
-                returned: false,
-            };
-        }
-        self
-    }
-
-    /// The place after one more character.
-    fn step(self, c: char) -> Place
-        requires line { line_of self false + 1 < 2 ^ 64 }
-        requires column { self.column + 1 < 2 ^ 64 }
-        requires least { 1 ≤ self.column }
-        ensures moved { (r : Text) → Moved self c r result }
-        ensures line { line_of result false ≤ line_of self false + 1 }
-        ensures column { result.column ≤ self.column + 1 }
-        ensures least { 1 ≤ result.column }
-    {
-        if c == '\n' {
-            return Place {
-                line: self.line + 1,
-                column: 1,
-                returned: false,
-            };
-        }
-        let place = self.ended();
-        if c == '\r' {
-            return Place {
-                line: place.line,
-                column: place.column + 1,
-                returned: true,
-            };
-        }
-        if is_newline_char(c) {
-            return Place {
-                line: place.line + 1,
-                column: 1,
-                returned: false,
-            };
-        }
-        Place {
-            line: place.line,
-            column: place.column + 1,
-            returned: false,
-        }
-    }
-}
-
-/// The place after a text.
-fn place_after(text: &str) -> Place
-    ensures after { (r : Text) → IsAfter (chars text.now) r result }
-    ensures line { line_of result false < 2 ^ 64 }
-{
-    let mut place = Place {
-        line: 1,
-        column: 1,
-        returned: false,
-    };
-    for c in text.chars() {
-        place = place.step(c);
-    }
-    place
-}
-
-/// Whether the text begins with a line feed.
-fn begins_with_feed(text: &str) -> bool
-    ensures { result ≡ begins 10 (chars text.now) }
-{
-    match text.chars().next() {
-        Some(c) => c == '\n',
-        None => false,
-    }
-}
+use kdl_calls::place;
+use kdl_calls::status::{NOT_FOUND, NOT_UTF8, OK};
 
 /// The line and the column of a byte of the text, both from 1: lines by KDL's newlines, of which CR LF is one, and columns
 /// in characters. The end of the text has a place too. `NOT_FOUND` for an offset after the end or inside of a character.
@@ -114,19 +18,16 @@ pub extern "C" fn kdl_position(
 ) -> u32
     ensures found { result ≡ 0 → IsPosition (chars text.now) offset line.new column.new }
     ensures missing { result ≡ 6 → IsNoPosition (chars text.now) offset }
+    ensures parses_nothing { result ≡ 1 → ⊥ }
 {
     *line = 0;
     *column = 0;
     let Ok(text) = std::str::from_utf8(text) else {
         return NOT_UTF8;
     };
-    let Some((before, after)) = text.split_at_checked(offset) else {
+    let Some(place) = place::position(text, offset) else {
         return NOT_FOUND;
     };
-    let mut place = place_after(before);
-    if !begins_with_feed(after) {
-        place = place.ended();
-    }
     *line = place.line;
     *column = place.column;
     OK

@@ -1,17 +1,17 @@
 //! Edits of the entries of a node.
 
 ghost use Rattle.kdl.specs.Words.{EntryData, IsEntryText, Value, entries_of, nodes_of};
-ghost use Rattle.kdl_c.specs.Answers.{Each};
-ghost use Rattle.kdl_c.specs.Changes.{AtEntry, AtNode, SameTree};
-ghost use Rattle.kdl_c.specs.Edits.{EntryInserted, EntryRemoved, KeySet, TypeSetAt, ValueSet, plain_value, text_if};
-ghost use Rattle.kdl_c.specs.Paths.{node_at};
+ghost use Rattle.kdl_calls.specs.Answers.{Each};
+ghost use Rattle.kdl_calls.specs.Changes.{AtEntry, AtNode, SameTree};
+ghost use Rattle.kdl_calls.specs.Edits.{EntryInserted, EntryRemoved, KeySet, TypeSetAt, ValueSet, plain_value, text_if};
+ghost use Rattle.kdl_calls.specs.Paths.{node_at};
 ghost use Rattle.std.specs.Prelude.{◌≡◌, ◌<◌, ◌≤◌, ◌-◌, ◌^◌, IfSome, IsNone, length, true};
 ghost use Rattle.std.specs.Str.{IsUtf8, chars};
 
-use crate::edits::at_path::change_held;
-use crate::edits::entry_change::EntryChange;
-use crate::edits::node_change::NodeChange;
-use crate::given;
+use kdl_calls::at_path::change_held;
+use kdl_calls::entry_change::EntryChange;
+use kdl_calls::given;
+use kdl_calls::node_change::NodeChange;
 use kdl_held::Handle;
 use std::alloc::Global;
 
@@ -65,6 +65,7 @@ pub extern "C" fn kdl_set_key(
     ensures missing { result ≡ 5 → IsNone document.old.held.document }
     ensures absent { result ≡ 6 → IfSome document.old.held.document (λ d.
         IfSome (node_at path.now (nodes_of d)) (λ n. length (entries_of n) ≤ index)) }
+    ensures parses_nothing { result ≡ 1 → ⊥ }
 {
     let key = match given::identifier_if(alloc, has_key, key) {
         Ok(key) => key,
@@ -94,6 +95,7 @@ pub extern "C" fn kdl_set_type(
     ensures missing { result ≡ 5 → IsNone document.old.held.document }
     ensures absent { result ≡ 6 → IfSome document.old.held.document (λ d.
         IfSome (node_at path.now (nodes_of d)) (λ n. (index ≡ 2 ^ 64 - 1 → ⊥) × (length (entries_of n) ≤ index))) }
+    ensures parses_nothing { result ≡ 1 → ⊥ }
 {
     let ty = match given::identifier_if(alloc, has_type, ty) {
         Ok(ty) => ty,
@@ -150,6 +152,7 @@ pub extern "C" fn kdl_remove_entry(
     ensures missing { result ≡ 5 → IsNone document.old.held.document }
     ensures absent { result ≡ 6 → IfSome document.old.held.document (λ d.
         IfSome (node_at path.now (nodes_of d)) (λ n. length (entries_of n) ≤ index)) }
+    ensures parses_nothing { result ≡ 1 → ⊥ }
 {
     change_held(alloc, document, path, NodeChange::RemoveEntry(index))
 }

@@ -1,20 +1,17 @@
 //! Edits of nodes: their names, and nodes inserted and removed.
 
 ghost use Rattle.kdl.specs.Words.{IsNodeText, NodeData, nodes_of};
-ghost use Rattle.kdl_c.specs.Answers.{Each};
-ghost use Rattle.kdl_c.specs.Changes.{AtNode, SameTree};
-ghost use Rattle.kdl_c.specs.Edits.{FirstRemoved, NoPlaceFor, NodeAbsent, NodeInserted, NodeNamed, NodeRemoved};
-ghost use Rattle.kdl_c.specs.Paths.{node_at};
-ghost use Rattle.kdl_c.specs.declared.status.Refused.TheVariants.{NotFound};
-ghost use Rattle.kdl_c.specs.Internal.Done.{NodePut};
-ghost use Rattle.std.specs.Prelude.{◌≡◌, ◌<◌, ◌≤◌, IfErr, IfSome, IsNone, OnErr, OnOk, length, true};
+ghost use Rattle.kdl_calls.specs.Answers.{Each};
+ghost use Rattle.kdl_calls.specs.Changes.{AtNode, SameTree};
+ghost use Rattle.kdl_calls.specs.Edits.{NoPlaceFor, NodeAbsent, NodeInserted, NodeNamed, NodeRemoved};
+ghost use Rattle.kdl_calls.specs.Paths.{node_at};
+ghost use Rattle.std.specs.Prelude.{◌≡◌, IfSome, IsNone, true};
 ghost use Rattle.std.specs.Str.{IsUtf8, chars};
 
-use crate::edits::at_path::change_held;
-use crate::edits::node_change::NodeChange;
-use crate::given;
-use crate::status::{NO_DOCUMENT, OK, Refused};
-use kdl::{KdlDocument, KdlNode};
+use kdl_calls::at_path::change_held;
+use kdl_calls::first::{insert_first, remove_first};
+use kdl_calls::given;
+use kdl_calls::node_change::NodeChange;
 use kdl_held::Handle;
 use std::alloc::Global;
 
@@ -34,6 +31,7 @@ pub extern "C" fn kdl_set_name(
     ensures missing { result ≡ 5 → IsNone document.old.held.document }
     ensures absent { result ≡ 6 → IfSome document.old.held.document (λ d.
         IsNone (node_at path.now (nodes_of d))) }
+    ensures parses_nothing { result ≡ 1 → ⊥ }
 {
     let name = match given::identifier(alloc, name) {
         Ok(name) => name,
@@ -90,87 +88,11 @@ pub extern "C" fn kdl_remove_node(
     ensures missing { result ≡ 5 → IsNone document.old.held.document }
     ensures absent { result ≡ 6 → IfSome document.old.held.document
         (NodeAbsent path.now index) }
+    ensures parses_nothing { result ≡ 1 → ⊥ }
 {
     if path.is_empty() {
         remove_first(alloc, document, index)
     } else {
         change_held(alloc, document, path, NodeChange::RemoveChild(index))
     }
-}
-
-/// Inserts the node into the document that C keeps.
-fn insert_first(alloc: Global, document: &mut Handle, index: usize, node: KdlNode) -> u32
-    ensures done { result ≡ 0 → Each (NodePut index node)
-        document.old.held.document document.new.held.document }
-    ensures kept { (result ≡ 0 → ⊥)
-        → Each SameTree document.old.held.document document.new.held.document }
-    ensures missing { result ≡ 5 → IsNone document.old.held.document }
-    ensures absent { result ≡ 6 → IfSome document.old.held.document (λ d.
-        length (nodes_of d) < index) }
-    ensures read { result ≡ 1 → ⊥ }
-    ensures utf8 { result ≡ 2 → ⊥ }
-{
-    let Some(mut held) = document.take(alloc) else {
-        drop(node);
-        return NO_DOCUMENT;
-    };
-    let status = match insert_into(&mut held, index, node) {
-        Ok(()) => OK,
-        Err(refused) => refused.status(),
-    };
-    document.put(held);
-    status
-}
-
-/// Inserts the node before the one at the index, or last.
-fn insert_into(document: &mut KdlDocument, index: usize, node: KdlNode) -> Result<(), Refused>
-    ensures done { OnOk result (NodePut index node document.old document.new) }
-    ensures refused { OnErr result (SameTree document.old document.new) }
-    ensures absent { IfErr result (λ r. r ≡ NotFound → length (nodes_of document.old) < index) }
-{
-    if document.nodes().len() < index {
-        drop(node);
-        return Err(Refused::NotFound);
-    }
-    match document.insert_node(index, node) {
-        Ok(()) => Ok(()),
-        Err((node, _)) => {
-            drop(node);
-            Err(Refused::Memory)
-        }
-    }
-}
-
-/// Removes a node from the document that C keeps.
-fn remove_first(alloc: Global, document: &mut Handle, index: usize) -> u32
-    ensures done { result ≡ 0 → Each (FirstRemoved index)
-        document.old.held.document document.new.held.document }
-    ensures kept { (result ≡ 0 → ⊥)
-        → Each SameTree document.old.held.document document.new.held.document }
-    ensures missing { result ≡ 5 → IsNone document.old.held.document }
-    ensures absent { result ≡ 6 → IfSome document.old.held.document (λ d.
-        length (nodes_of d) ≤ index) }
-{
-    let Some(mut held) = document.take(alloc) else {
-        return NO_DOCUMENT;
-    };
-    let status = match remove_from(&mut held, index) {
-        Ok(()) => OK,
-        Err(refused) => refused.status(),
-    };
-    document.put(held);
-    status
-}
-
-/// Removes the node at the index.
-fn remove_from(document: &mut KdlDocument, index: usize) -> Result<(), Refused>
-    ensures done { OnOk result (FirstRemoved index document.old document.new) }
-    ensures refused { OnErr result (SameTree document.old document.new) }
-    ensures absent { IfErr result (λ r. r ≡ NotFound → length (nodes_of document.old) ≤ index) }
-{
-    if document.nodes().len() <= index {
-        return Err(Refused::NotFound);
-    }
-    drop(document.remove_node(index));
-    Ok(())
 }

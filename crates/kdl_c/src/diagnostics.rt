@@ -1,0 +1,138 @@
+//! The faults of a text, as rows.
+
+ghost use Rattle.kdl.specs.Words.{IsDocument, Nodes};
+ghost use Rattle.kdl_rows.specs.Listed.{AreFaultsOf, AreListed, AreReportsListed, Fault, ListsNothing};
+ghost use Rattle.kdl_rows.specs.Reading.{AreFaultsAs, IsRead};
+ghost use Rattle.kdl_rows.specs.Reports.{AreReported};
+ghost use Rattle.kdl_rows.specs.Rows.{AreTold};
+ghost use Rattle.std.specs.Prelude.{◌≡◌, ◌<◌, ◌≤◌, List, true};
+ghost use Rattle.std.specs.Str.{IsUtf8, chars};
+
+use kdl::{KdlDocument, ParseFailure};
+use kdl_calls::status::{FAULTS, NOT_FOUND, NOT_UTF8, OK, OUT_OF_MEMORY};
+use kdl_rows::faults::{KdlFault, put_faults};
+use kdl_rows::given_faults::{Reading, put_not_value, read};
+use kdl_rows::reports::{KdlReport, put_reports};
+use std::alloc::Global;
+
+/// The faults of a text, in the order of reading: as many as `out` has room for, their messages in `strings` up to the
+/// first that has no room, the whole count and the whole length. Returns `FAULTS` where there are any, and `OK` where
+/// there are none.
+#[unsafe(no_mangle)]
+pub extern "C" fn kdl_faults(
+    alloc: Global,
+    text: &[u8],
+    out: &mut [KdlFault],
+    count: &mut usize,
+    strings: &mut [u8],
+    string_len: &mut usize,
+) -> u32
+    ensures some { result ≡ 1 → 0 < count.new }
+    ensures told { result ≡ 1 → AreTold text.now out.new count.new strings.new string_len.new }
+    ensures listed { result ≡ 1 → (fs : List Fault) × AreFaultsOf text.now fs
+        × AreListed fs out.old out.new count.new strings.old strings.new string_len.new }
+    ensures none { result ≡ 0 → count.new ≡ 0 }
+    ensures nothing { (result ≡ 1 → ⊥) → ListsNothing
+        out.old out.new count.new strings.old strings.new string_len.new }
+    ensures utf8 { result ≡ 2 → IsUtf8 text.now → ⊥ }
+    ensures refused { result ≡ 1 → (x : Nodes) → IsDocument true (chars text.now) x → ⊥ }
+    ensures accepted { result ≡ 0 → (x : Nodes) × IsDocument true (chars text.now) x }
+{
+    *count = 0;
+    *string_len = 0;
+    let Ok(text) = std::str::from_utf8(text) else {
+        return NOT_UTF8;
+    };
+    match KdlDocument::parse(alloc, text) {
+        Err(ParseFailure::Memory) => OUT_OF_MEMORY,
+        Err(ParseFailure::Syntax(error)) => {
+            put_faults(&error.diagnostics, out, count, strings, string_len);
+            FAULTS
+        }
+        Ok(_) => OK,
+    }
+}
+
+/// The faults of a text that is read as `kind` says, as the calls that take such a text do: 0 for a document, 1 for a
+/// node, 2 for an entry and 3 for a value. Writes them as `kdl_faults` does. `NOT_FOUND` for another kind.
+#[unsafe(no_mangle)]
+pub extern "C" fn kdl_faults_of(
+    alloc: Global,
+    kind: u32,
+    text: &[u8],
+    out: &mut [KdlFault],
+    count: &mut usize,
+    strings: &mut [u8],
+    string_len: &mut usize,
+) -> u32
+    ensures some { result ≡ 1 → 0 < count.new }
+    ensures told { result ≡ 1 → AreTold text.now out.new count.new strings.new string_len.new }
+    ensures listed { result ≡ 1 → (fs : List Fault) × AreFaultsAs kind text.now fs
+        × AreListed fs out.old out.new count.new strings.old strings.new string_len.new }
+    ensures none { result ≡ 0 → count.new ≡ 0 }
+    ensures nothing { (result ≡ 1 → ⊥) → ListsNothing
+        out.old out.new count.new strings.old strings.new string_len.new }
+    ensures utf8 { result ≡ 2 → IsUtf8 text.now → ⊥ }
+    ensures refused { result ≡ 1 → IsRead kind (chars text.now) → ⊥ }
+    ensures accepted { result ≡ 0 → IsRead kind (chars text.now) }
+    ensures kinds { result ≡ 6 → 4 ≤ kind }
+{
+    *count = 0;
+    *string_len = 0;
+    let Ok(text) = std::str::from_utf8(text) else {
+        return NOT_UTF8;
+    };
+    let Some(reading) = read(alloc, kind, text) else {
+        return NOT_FOUND;
+    };
+    match reading {
+        Reading::Read => OK,
+        Reading::NotValue => {
+            put_not_value(text, out, count, strings, string_len);
+            FAULTS
+        }
+        Reading::Memory => OUT_OF_MEMORY,
+        Reading::Refused(error) => {
+            put_faults(&error.diagnostics, out, count, strings, string_len);
+            FAULTS
+        }
+    }
+}
+
+/// The faults of a text with all that is said of them, in the order of reading: as many as `out` has room for, their words
+/// in `strings` up to the first that has no room, the whole count and the whole length. Returns `FAULTS` where there are
+/// any, and `OK` where there are none.
+#[unsafe(no_mangle)]
+pub extern "C" fn kdl_reports(
+    alloc: Global,
+    text: &[u8],
+    out: &mut [KdlReport],
+    count: &mut usize,
+    strings: &mut [u8],
+    string_len: &mut usize,
+) -> u32
+    ensures some { result ≡ 1 → 0 < count.new }
+    ensures told { result ≡ 1 → AreReported text.now out.new count.new strings.new string_len.new }
+    ensures listed { result ≡ 1 → (fs : List Fault) × AreFaultsOf text.now fs
+        × AreReportsListed fs out.old out.new count.new strings.old strings.new string_len.new }
+    ensures none { result ≡ 0 → count.new ≡ 0 }
+    ensures nothing { (result ≡ 1 → ⊥) → ListsNothing
+        out.old out.new count.new strings.old strings.new string_len.new }
+    ensures utf8 { result ≡ 2 → IsUtf8 text.now → ⊥ }
+    ensures refused { result ≡ 1 → (x : Nodes) → IsDocument true (chars text.now) x → ⊥ }
+    ensures accepted { result ≡ 0 → (x : Nodes) × IsDocument true (chars text.now) x }
+{
+    *count = 0;
+    *string_len = 0;
+    let Ok(text) = std::str::from_utf8(text) else {
+        return NOT_UTF8;
+    };
+    match KdlDocument::parse(alloc, text) {
+        Err(ParseFailure::Memory) => OUT_OF_MEMORY,
+        Err(ParseFailure::Syntax(error)) => {
+            put_reports(&error.diagnostics, out, count, strings, string_len);
+            FAULTS
+        }
+        Ok(_) => OK,
+    }
+}

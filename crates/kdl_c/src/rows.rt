@@ -1,0 +1,158 @@
+//! The rows of a document, all at once and one at a time.
+
+ghost use Rattle.kdl.specs.Words.{document_says, entries_of, entry_data, entry_tree, node_says, nodes_of};
+ghost use Rattle.kdl.specs.declared.node.KdlNode.{out-KdlNode};
+ghost use Rattle.kdl_rows.specs.Flat.{SayAll, flattened};
+ghost use Rattle.kdl_calls.specs.Paths.{node_at, nodes_at};
+ghost use Rattle.kdl_calls.specs.Says.{IsWithin, SaysEntry, SaysNode};
+ghost use Rattle.std.specs.Prelude.{◌≡◌, ◌≤◌, ◌<◌, All, IfSome, IsNone, length, slice_get, take};
+
+use kdl_calls::path::{node_at, nodes_at};
+use kdl_calls::row::{KdlRow, put_found, put_node};
+use kdl_calls::status::{NO_DOCUMENT, NOT_FOUND, OK, OUT_OF_MEMORY, room};
+use kdl_held::Handle;
+use kdl_rows::tree::put_tree;
+use std::alloc::Global;
+
+/// The whole document as rows: for each node its own row, a row for each entry, the rows of its children, and a row
+/// that ends its block, where it has one. `row_count` and `string_len` get the whole counts of rows and bytes. Where
+/// either is more than there is room for, the rows and strings are incomplete, and the status is `TOO_SMALL`.
+#[unsafe(no_mangle)]
+pub extern "C" fn kdl_tree(
+    alloc: Global,
+    document: &mut Handle,
+    rows: &mut [KdlRow],
+    row_count: &mut usize,
+    strings: &mut [u8],
+    string_len: &mut usize,
+) -> u32
+    ensures same { document.new.held.document ≡ document.old.held.document }
+    ensures rows { result ≡ 0 → row_count.new ≤ length rows.old }
+    ensures within { result ≡ 0 → All (IsWithin string_len.new) (take row_count.new rows.new) }
+    ensures strings { result ≡ 0 → string_len.new ≤ length strings.old }
+    ensures says { result ≡ 0 → IfSome document.old.held.document (λ d.
+        SayAll (take string_len.new strings.new) (take row_count.new rows.new)
+        (flattened (document_says d))) }
+    ensures parses_nothing { result ≡ 1 → ⊥ }
+{
+    *row_count = 0;
+    *string_len = 0;
+    let Some(held) = document.take(alloc) else {
+        return NO_DOCUMENT;
+    };
+    let status = match put_tree(alloc, &held, rows, row_count, strings, string_len) {
+        Err(_) => OUT_OF_MEMORY,
+        Ok(()) => room(rows.len(), *row_count, strings.len(), *string_len),
+    };
+    document.put(held);
+    status
+}
+
+/// How many nodes the block of the node at the path has, or the document where the path is empty.
+#[unsafe(no_mangle)]
+pub extern "C" fn kdl_node_count(
+    alloc: Global,
+    document: &mut Handle,
+    path: &[usize],
+    count: &mut usize,
+) -> u32
+    ensures counted { result ≡ 0 → IfSome document.old.held.document (λ d.
+        IfSome (nodes_at path.now (nodes_of d)) (λ ns. count.new ≡ length ns)) }
+    ensures missing { result ≡ 6 → IfSome document.old.held.document (λ d.
+        IsNone (nodes_at path.now (nodes_of d))) }
+    ensures same { document.new.held.document ≡ document.old.held.document }
+    ensures parses_nothing { result ≡ 1 → ⊥ }
+{
+    *count = 0;
+    let Some(held) = document.take(alloc) else {
+        return NO_DOCUMENT;
+    };
+    let status = match nodes_at(&held, path) {
+        None => NOT_FOUND,
+        Some(nodes) => {
+            *count = nodes.len();
+            OK
+        }
+    };
+    document.put(held);
+    status
+}
+
+/// The row of the node at the path, and how many entries it has.
+#[unsafe(no_mangle)]
+pub extern "C" fn kdl_node(
+    alloc: Global,
+    document: &mut Handle,
+    path: &[usize],
+    entries: &mut usize,
+    row: &mut KdlRow,
+    strings: &mut [u8],
+    string_len: &mut usize,
+) -> u32
+    ensures counted { result ≡ 0 → IfSome document.old.held.document (λ d.
+        IfSome (node_at path.now (nodes_of d)) (λ n. entries.new ≡ length (entries_of n))) }
+    ensures missing { result ≡ 6 → IfSome document.old.held.document (λ d.
+        IsNone (node_at path.now (nodes_of d))) }
+    ensures start { result ≡ 0 → IfSome document.old.held.document (λ d.
+        IfSome (node_at path.now (nodes_of d)) (λ n.
+        row.new.start ≡ (out-KdlNode n).span.offset)) }
+    ensures within { result ≡ 0 → IsWithin string_len.new row.new }
+    ensures says { result ≡ 0 → IfSome document.old.held.document (λ d.
+        IfSome (node_at path.now (nodes_of d)) (λ n.
+        SaysNode (take string_len.new strings.new) row.new (node_says n))) }
+    ensures same { document.new.held.document ≡ document.old.held.document }
+    ensures strings { result ≡ 0 → string_len.new ≤ length strings.old }
+    ensures parses_nothing { result ≡ 1 → ⊥ }
+{
+    *entries = 0;
+    *string_len = 0;
+    let Some(held) = document.take(alloc) else {
+        return NO_DOCUMENT;
+    };
+    let status = match node_at(&held, path) {
+        None => NOT_FOUND,
+        Some(node) => {
+            *entries = node.len();
+            *row = put_node(node, strings, string_len);
+            room(0, 0, strings.len(), *string_len)
+        }
+    };
+    document.put(held);
+    status
+}
+
+/// The row of an entry of the node at the path.
+#[unsafe(no_mangle)]
+pub extern "C" fn kdl_entry(
+    alloc: Global,
+    document: &mut Handle,
+    path: &[usize],
+    index: usize,
+    row: &mut KdlRow,
+    strings: &mut [u8],
+    string_len: &mut usize,
+) -> u32
+    ensures there { result ≡ 0 → IfSome document.old.held.document (λ d.
+        IfSome (node_at path.now (nodes_of d)) (λ n. index < length (entries_of n))) }
+    ensures within { result ≡ 0 → IsWithin string_len.new row.new }
+    ensures says { result ≡ 0 → IfSome document.old.held.document (λ d.
+        IfSome (node_at path.now (nodes_of d)) (λ n. IfSome (slice_get (entries_of n) index) (λ e.
+        SaysEntry (take string_len.new strings.new) row.new (entry_data (entry_tree e))))) }
+    ensures same { document.new.held.document ≡ document.old.held.document }
+    ensures strings { result ≡ 0 → string_len.new ≤ length strings.old }
+    ensures parses_nothing { result ≡ 1 → ⊥ }
+{
+    *string_len = 0;
+    let Some(held) = document.take(alloc) else {
+        return NO_DOCUMENT;
+    };
+    let status = match node_at(&held, path) {
+        None => NOT_FOUND,
+        Some(node) => match node.entries().get(index) {
+            None => NOT_FOUND,
+            Some(entry) => put_found(alloc, entry, row, strings, string_len),
+        },
+    };
+    document.put(held);
+    status
+}

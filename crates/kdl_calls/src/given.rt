@@ -1,0 +1,131 @@
+//! Nodes, entries, values and names, of the texts that C gives.
+
+ghost use Rattle.kdl.specs.Words.{EntryData, IsEntryText, IsNodeText, LaidEntryText, LaidNodeText, NodeData, Value, entry_data, entry_tree, identifier_tree, node_tree, plain_identifier, value_tree};
+ghost use Rattle.kdl_calls.specs.Edits.{plain_value, text_if};
+ghost use Rattle.kdl_calls.specs.Internal.Given.{IsCleared, IsPlain, IsSpelled};
+ghost use Rattle.kdl_value.specs.Tree.{text_of};
+ghost use Rattle.kdl_calls.specs.declared.status.Unread.TheVariants.{Faults, NotUtf8};
+ghost use Rattle.std.specs.Prelude.{◌≡◌, IfErr, IfOk, IfSome, option_map, true};
+ghost use Rattle.std.specs.Str.{IsUtf8, chars};
+
+use crate::status::Unread;
+use kdl::{KdlEntry, KdlIdentifier, KdlNode, KdlValue, ParseFailure};
+use std::alloc::{AllocError, Global};
+
+/// The node of a text.
+pub fn node(alloc: Global, text: &[u8]) -> Result<KdlNode, Unread>
+    ensures laid { IfOk result (λ n. LaidNodeText true (chars text.now) (node_tree n)) }
+    ensures refused { IfErr result (λ r. r ≡ Faults → (x : NodeData)
+        → IsNodeText true (chars text.now) x → ⊥) }
+    ensures utf8 { IfErr result (λ r. r ≡ NotUtf8 → IsUtf8 text.now → ⊥) }
+{
+    let Ok(text) = std::str::from_utf8(text) else {
+        return Err(Unread::NotUtf8);
+    };
+    match KdlNode::parse(alloc, text) {
+        Ok(node) => Ok(node),
+        Err(ParseFailure::Syntax(_)) => Err(Unread::Faults),
+        Err(ParseFailure::Memory) => Err(Unread::Memory),
+    }
+}
+
+/// The entry of a text.
+fn entry(alloc: Global, text: &[u8]) -> Result<KdlEntry, Unread>
+    ensures laid { IfOk result (λ e. LaidEntryText true (chars text.now) (entry_tree e)) }
+    ensures only { IfOk result (λ e. (x : EntryData) → IsEntryText true (chars text.now) x
+        → x ≡ entry_data (entry_tree e)) }
+    ensures refused { IfErr result (λ r. r ≡ Faults → (x : EntryData)
+        → IsEntryText true (chars text.now) x → ⊥) }
+    ensures utf8 { IfErr result (λ r. r ≡ NotUtf8 → IsUtf8 text.now → ⊥) }
+{
+    let Ok(text) = std::str::from_utf8(text) else {
+        return Err(Unread::NotUtf8);
+    };
+    match KdlEntry::parse(alloc, text) {
+        Ok(entry) => Ok(entry),
+        Err(ParseFailure::Syntax(_)) => Err(Unread::Faults),
+        Err(ParseFailure::Memory) => Err(Unread::Memory),
+    }
+}
+
+/// The entry of a text, without its format and spellings: in a node it is printed after one space.
+pub fn plain_entry(alloc: Global, text: &[u8]) -> Result<KdlEntry, Unread>
+    ensures cleared { IfOk result (λ e. IsCleared (chars text.now) (entry_tree e)) }
+    ensures refused { IfErr result (λ r. r ≡ Faults → (x : EntryData)
+        → IsEntryText true (chars text.now) x → ⊥) }
+    ensures utf8 { IfErr result (λ r. r ≡ NotUtf8 → IsUtf8 text.now → ⊥) }
+{
+    let mut entry = entry(alloc, text)?;
+    entry.clear_format();
+    Ok(entry)
+}
+
+/// The value of a text that is an entry without a key and a type, and its spelling.
+pub fn value(alloc: Global, text: &[u8]) -> Result<(KdlValue, String), Unread>
+    ensures spelled { IfOk result (λ v. IsSpelled (chars text.now) v.0 v.1) }
+    ensures refused { IfErr result (λ r. r ≡ Faults → (v : Value)
+        → IsEntryText true (chars text.now) (plain_value v) → ⊥) }
+    ensures utf8 { IfErr result (λ r. r ≡ NotUtf8 → IsUtf8 text.now → ⊥) }
+{
+    let entry = entry(alloc, text)?;
+    let value = plain(alloc, &entry);
+    drop(entry);
+    value
+}
+
+/// The value of an entry that has neither a key nor a type, and its spelling.
+fn plain(alloc: Global, entry: &KdlEntry) -> Result<(KdlValue, String), Unread>
+    ensures plain { IfOk result (λ v. IsPlain (entry_tree entry.now) v.0 v.1) }
+    ensures refused { IfErr result (λ r. r ≡ Faults → (v : Value)
+        → plain_value v ≡ entry_data (entry_tree entry.now) → ⊥) }
+    ensures utf8 { IfErr result (λ r. r ≡ NotUtf8 → ⊥) }
+{
+    if entry.name().is_some() || entry.ty().is_some() {
+        return Err(Unread::Faults);
+    }
+    match spelled(alloc, entry) {
+        Ok(value) => Ok(value),
+        Err(_) => Err(Unread::Memory),
+    }
+}
+
+/// A copy of the value of an entry, and of its spelling.
+fn spelled(alloc: Global, entry: &KdlEntry) -> Result<(KdlValue, String), AllocError>
+    ensures value { IfOk result (λ v. value_tree v.0 ≡ (entry_tree entry.now).value) }
+    ensures spelling { IfOk result (λ v. IfSome (entry_tree entry.now).format (λ f.
+        text_of v.1 ≡ f.value_repr)) }
+{
+    let spelling = match entry.format() {
+        Some(format) => format.value_repr.clone()?,
+        None => entry.value().to_string(alloc)?,
+    };
+    Ok((entry.value().clone()?, spelling))
+}
+
+/// The identifier whose string the bytes are.
+pub fn identifier(alloc: Global, text: &[u8]) -> Result<KdlIdentifier, Unread>
+    ensures plain { IfOk result (λ i. identifier_tree i ≡ plain_identifier (chars text.now)) }
+    ensures utf8 { IfErr result (λ r. r ≡ NotUtf8 → IsUtf8 text.now → ⊥) }
+    ensures parses_nothing { IfErr result (λ r. r ≡ Faults → ⊥) }
+{
+    let Ok(text) = std::str::from_utf8(text) else {
+        return Err(Unread::NotUtf8);
+    };
+    match KdlIdentifier::from_text(alloc, text) {
+        Ok(identifier) => Ok(identifier),
+        Err(_) => Err(Unread::Memory),
+    }
+}
+
+/// The same where the flag is not 0, else none.
+pub fn identifier_if(alloc: Global, has: u32, text: &[u8]) -> Result<Option<KdlIdentifier>, Unread>
+    ensures plain { IfOk result (λ o. option_map identifier_tree o
+        ≡ option_map plain_identifier (text_if has (chars text.now))) }
+    ensures utf8 { IfErr result (λ r. r ≡ NotUtf8 → IsUtf8 text.now → ⊥) }
+    ensures parses_nothing { IfErr result (λ r. r ≡ Faults → ⊥) }
+{
+    if has == 0 {
+        return Ok(None);
+    }
+    Ok(Some(identifier(alloc, text)?))
+}

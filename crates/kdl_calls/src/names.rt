@@ -1,0 +1,70 @@
+//! Nodes found by their name, entries by their key.
+
+ghost use Rattle.kdl.specs.Words.{argument_named, has_name, is_node_named};
+ghost use Rattle.kdl_parts.specs.EntryLists.{last_place};
+ghost use Rattle.std.specs.Prelude.{◌≡◌, None, Some, option_map, position};
+
+use crate::status::{NOT_FOUND, OK};
+use kdl::{KdlDocument, KdlEntry, KdlNode, NodeKey};
+
+/// Whether the node has that name.
+fn is_named(node: &KdlNode, name: &str) -> bool
+    ensures { result ≡ is_node_named name.now node.now }
+{
+    node.name().value() == name
+}
+
+/// The index of the first node of that name.
+pub fn first_named(nodes: &[KdlNode], name: &str) -> Option<usize>
+    ensures { result ≡ position (is_node_named name.now) nodes.now }
+{
+    nodes.iter().position(|node| is_named(node, name))
+}
+
+/// Whether the entry is a property of that name.
+fn is_property(entry: &KdlEntry, name: &str) -> bool
+    ensures { result ≡ has_name name.now entry.now }
+{
+    match entry.name() {
+        Some(key) => key.value() == name,
+        None => false,
+    }
+}
+
+/// The index of the last property of that name.
+pub fn last_property(entries: &[KdlEntry], name: &str) -> Option<usize>
+    ensures { result ≡ last_place (has_name name.now) entries.now }
+{
+    let mut found = None;
+    for (index, entry) in entries.iter().enumerate() {
+        if is_property(entry, name) {
+            found = Some(index);
+        }
+    }
+    found
+}
+
+/// The first argument of the first node of that name.
+pub fn first_argument<'a>(document: &'a KdlDocument, name: &str) -> Option<&'a KdlEntry>
+    ensures { option_map (λ e. e.now) result ≡ argument_named name.now document.now }
+{
+    match document.get(name) {
+        Some(node) => node.entry(NodeKey::Index(0)),
+        None => None,
+    }
+}
+
+/// Writes the index where there is one.
+pub fn put_index(found: Option<usize>, index: &mut usize) -> u32
+    ensures found { result ≡ 0 → found ≡ Some index.new }
+    ensures missing { result ≡ 6 → found ≡ None }
+    ensures either { (result ≡ 0 → ⊥) → result ≡ 6 }
+{
+    match found {
+        None => NOT_FOUND,
+        Some(at) => {
+            *index = at;
+            OK
+        }
+    }
+}

@@ -1,0 +1,40 @@
+//! Nodes by the path to them: the index among the nodes of the document, then among those of each block below.
+
+ghost use Rattle.kdl.specs.Words.{nodes_of};
+ghost use Rattle.kdl_calls.specs.Paths.{node_at, nodes_at};
+ghost use Rattle.std.specs.Prelude.{◌≡◌, option_map};
+
+use kdl::{KdlDocument, KdlNode};
+
+/// The nodes in the block of the node at the path, or in the document where the path is empty.
+pub fn nodes_at<'a>(document: &'a KdlDocument, path: &[usize]) -> Option<&'a [KdlNode]>
+    ensures { option_map (λ ns. ns.now) result ≡ nodes_at path.now (nodes_of document.now) }
+{
+    let mut nodes = document.nodes();
+    for index in path {
+        let Some(node) = nodes.get(*index) else {
+            return None;
+        };
+        let Some(block) = node.children() else {
+            return None;
+        };
+        nodes = block.nodes();
+    }
+    Some(nodes)
+}
+
+/// The node at the path.
+pub fn node_at<'a>(document: &'a KdlDocument, path: &[usize]) -> Option<&'a KdlNode>
+    ensures { option_map (λ n. n.now) result ≡ node_at path.now (nodes_of document.now) }
+{
+    let Some((last, above)) = path.split_last() else {
+        return None;
+    };
+    let Some(nodes) = nodes_at(document, above) else {
+        return None;
+    };
+    let Some(node) = nodes.get(*last) else {
+        return None;
+    };
+    Some(node)
+}

@@ -1,0 +1,38 @@
+-- Texts that are read as documents, nodes, entries or values.
+use Rattle.std.specs.Prelude.{◌≡◌, ◌&&◌, ◌⊎◌, ℕ, zero, suc, Bool, List, [], ◌∷◌, codes, is_none, length, true}
+use Rattle.std.specs.Str.{chars}
+use Rattle.kdl.specs.Words.{Entry, EntryData, IsDocument, IsEntryText, IsNodeText, NodeData, Nodes, Tells, Text, Value}
+use Rattle.kdl_calls.specs.Edits.{plain_value}
+use Rattle.kdl_rows.specs.Listed.{AreFaultsOf, Fault}
+use Rattle.kdl_rows.specs.declared.given_faults.Reading.{Reading}
+use Rattle.kdl_rows.specs.declared.given_faults.Reading.TheVariants.{Read, NotValue, Refused, Memory}
+
+-- the text is a document, a node, an entry, or a value, for the kinds 0 to 3; no text is of another kind
+abbrev pub IsRead : ℕ → Text → Type 0
+IsRead zero t = (x : Nodes) × IsDocument true t x
+IsRead (suc zero) t = (x : NodeData) × IsNodeText true t x
+IsRead (suc (suc zero)) t = (x : EntryData) × IsEntryText true t x
+IsRead (suc (suc (suc zero))) t = (v : Value) × IsEntryText true t (plain_value v)
+IsRead (suc (suc (suc (suc _)))) t = ⊥
+
+-- what came of reading the text as the kind says: a text that was read is of the kind, and one that is refused is not;
+-- where a value is read, a text that is not one is an entry, and one that is refused is none
+abbrev pub Outcome : ℕ → List ℕ → Reading → Type 0
+Outcome kind s Read = IsRead kind (chars s)
+Outcome kind s NotValue = (kind ≡ 3) × IsRead 2 (chars s) × (IsRead kind (chars s) → ⊥)
+Outcome kind s (Refused e) = Tells s e × (IsRead kind (chars s) → ⊥) × (kind ≡ 3 → IsRead 2 (chars s) → ⊥)
+Outcome kind s Memory = Unit {0}
+
+-- the fault of an entry with a key or a type, where a value is read: the whole text
+abbrev pub not_value : List ℕ → Fault
+not_value text = record { span = record { offset = 0; len = length text }; message = codes "Expected value without key or type"; label = []; help = [] }
+
+-- the faults of a text that is read as the kind says: those of an error of it, or that of an entry that is no value
+abbrev pub AreFaultsAs : ℕ → List ℕ → List Fault → Type 0
+AreFaultsAs kind text fs =
+    (AreFaultsOf text fs × (kind ≡ 3 → IsRead 2 (chars text) → ⊥))
+    ⊎ ((kind ≡ 3) × IsRead 2 (chars text) × (fs ≡ not_value text ∷ []))
+
+-- the entry has neither a key nor a type
+abbrev pub is_alone : Entry → Bool
+is_alone e = is_none e.name && is_none e.ty

@@ -1,0 +1,135 @@
+//! The faults of a text that is read as a document, a node, an entry or a value.
+
+ghost use Rattle.kdl.specs.Words.{entry_tree};
+ghost use Rattle.kdl_rows.specs.Listed.{AreListed};
+ghost use Rattle.kdl_rows.specs.Reading.{Outcome, is_alone, not_value};
+ghost use Rattle.kdl_rows.specs.Rows.{AreTold};
+ghost use Rattle.std.specs.Prelude.{◌≡◌, ◌≤◌, ◌∷◌, [], IsNone, IfSome};
+
+use crate::faults::KdlFault;
+use kdl::{KdlDocument, KdlEntry, KdlError, KdlNode, ParseFailure};
+use kdl_calls::text::put_string;
+use std::alloc::Global;
+
+/// A text is read as a document.
+pub const AS_DOCUMENT: u32 = 0;
+
+/// A text is read as one node.
+pub const AS_NODE: u32 = 1;
+
+/// A text is read as one entry.
+pub const AS_ENTRY: u32 = 2;
+
+/// A text is read as a value: an entry without a key and a type.
+pub const AS_VALUE: u32 = 3;
+
+/// What came of reading a text.
+#[derive(Drop)]
+pub enum Reading {
+    /// It is what it was read as.
+    Read,
+    /// It is an entry with a key or a type, and not a value.
+    NotValue,
+    /// It is refused.
+    Refused(KdlError),
+    /// Memory ran out.
+    Memory,
+}
+
+/// Reads a text as an entry.
+fn read_entry(alloc: Global, text: &str) -> Reading
+    ensures { Outcome 2 text.now result }
+{
+    match KdlEntry::parse(alloc, text) {
+        Err(ParseFailure::Syntax(error)) => Reading::Refused(error),
+        Err(ParseFailure::Memory) => Reading::Memory,
+        Ok(_) => Reading::Read,
+    }
+}
+
+/// Reads a text as a value.
+fn read_value(alloc: Global, text: &str) -> Reading
+    ensures { Outcome 3 text.now result }
+{
+    match KdlEntry::parse(alloc, text) {
+        Err(ParseFailure::Syntax(error)) => Reading::Refused(error),
+        Err(ParseFailure::Memory) => Reading::Memory,
+        Ok(entry) => {
+            if is_alone(&entry) {
+                Reading::Read
+            } else {
+                Reading::NotValue
+            }
+        }
+    }
+}
+
+/// Whether the entry is a value without a key and a type.
+fn is_alone(entry: &KdlEntry) -> bool
+    ensures { result ≡ is_alone (entry_tree entry.now) }
+{
+    entry.name().is_none() && entry.ty().is_none()
+}
+
+/// Reads a text as a node.
+fn read_node(alloc: Global, text: &str) -> Reading
+    ensures { Outcome 1 text.now result }
+{
+    match KdlNode::parse(alloc, text) {
+        Err(ParseFailure::Syntax(error)) => Reading::Refused(error),
+        Err(ParseFailure::Memory) => Reading::Memory,
+        Ok(_) => Reading::Read,
+    }
+}
+
+/// Reads a text as a document.
+fn read_document(alloc: Global, text: &str) -> Reading
+    ensures { Outcome 0 text.now result }
+{
+    match KdlDocument::parse(alloc, text) {
+        Err(ParseFailure::Syntax(error)) => Reading::Refused(error),
+        Err(ParseFailure::Memory) => Reading::Memory,
+        Ok(_) => Reading::Read,
+    }
+}
+
+/// Reads a text as the kind says, where there is such a kind.
+pub fn read(alloc: Global, kind: u32, text: &str) -> Option<Reading>
+    ensures some { IfSome result (λ r. Outcome kind text.now r) }
+    ensures none { IsNone result → 4 ≤ kind }
+{
+    match kind {
+        AS_DOCUMENT => Some(read_document(alloc, text)),
+        AS_NODE => Some(read_node(alloc, text)),
+        AS_ENTRY => Some(read_entry(alloc, text)),
+        AS_VALUE => Some(read_value(alloc, text)),
+        _ => None,
+    }
+}
+
+/// Writes the fault of an entry that is not a value: the whole text.
+pub fn put_not_value(
+    text: &str,
+    out: &mut [KdlFault],
+    count: &mut usize,
+    strings: &mut [u8],
+    used: &mut usize,
+)
+    ensures counted { count.new ≡ 1 }
+    ensures told { AreTold text.now out.new count.new strings.new used.new }
+    ensures listed { AreListed (not_value text.now ∷ [])
+        out.old out.new count.new strings.old strings.new used.new }
+{
+    *used = 0;
+    let place = put_string("Expected value without key or type", strings, used);
+    let row = KdlFault {
+        start: 0,
+        len: text.len(),
+        message_start: place.start,
+        message_len: place.len,
+    };
+    if !out.is_empty() {
+        out[0] = row;
+    }
+    *count = 1;
+}
