@@ -28,7 +28,7 @@ pub use Rattle.kdl_laws.specs.Errors.{Diagnostic, Failure, Refusal, diagnostic_t
 -- Pieces of a text: those of a diagnostic, and of an entry.
 pub use Rattle.kdl_laws.specs.Pieces.{IsPiece, IsPieceOf, said_entry_in}
 -- Documents to whose list of nodes a node can be pushed.
-pub use Rattle.kdl_laws.specs.Pushed.{LastEnds}
+pub use Rattle.kdl_laws.specs.Pushed.{IsLineEnded, LastEnds}
 -- What a document says with another value for an argument, and texts with another piece.
 pub use Rattle.kdl_laws.specs.ArgumentSet.{HasInstead, with_said_arg}
 -- What layout makes of a text.
