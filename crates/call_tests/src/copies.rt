@@ -18,14 +18,18 @@ fn is_copy<T: PartialEq + Debug + Drop>(rt: &impl Abort, copy: Option<T>, source
     equal(rt, &copy, source);
 }
 
+fn value_is_copied(rt: &impl Abort, value: KdlValue) {
+    is_copy(rt, value.clone().ok(), &value);
+}
+
 #[test]
 fn floats_and_values(rt: HostRuntime) {
     let alloc = rt.alloc();
     let float = float(&rt, alloc, "1.03e2");
     is_copy(&rt, float.clone().ok(), &float);
-    for value in &[KdlValue::from(float), KdlValue::from(-7), KdlValue::Null] {
-        is_copy(&rt, value.clone().ok(), value);
-    }
+    value_is_copied(&rt, KdlValue::from(float));
+    value_is_copied(&rt, KdlValue::from(-7));
+    value_is_copied(&rt, KdlValue::Null);
 }
 
 /// An identifier with a spelling and a span.

@@ -1,6 +1,6 @@
 //! Blocks at any depth are read, printed, copied, laid out, cleared of their formats and dropped on an ordinary stack.
 
-use crate::reading::{node_text, prints, read};
+use crate::reading::{holds, node_text, one_of, prints, read, says};
 use kdl::{FormatConfig, KdlDocument, KdlNode};
 use std::alloc::Global;
 use std::process::Abort;
@@ -18,12 +18,14 @@ fn nested(rt: &impl Abort, alloc: Global, depth: usize) -> String {
     text
 }
 
-/// A copy of the one node of the document.
-fn node_of(rt: &impl Abort, document: &KdlDocument) -> KdlNode {
-    let [node] = document.nodes() else {
-        panic!(rt; "not one node");
-    };
-    node.clone().expect(rt, "memory")
+/// A copy of the document, which is dropped.
+fn copied(rt: &impl Abort, document: KdlDocument) -> KdlDocument {
+    document.clone().expect(rt, "memory")
+}
+
+/// A copy of the one node of the document, which is dropped.
+fn node_copied(rt: &impl Abort, document: KdlDocument) -> KdlNode {
+    one_of(rt, document.nodes()).clone().expect(rt, "memory")
 }
 
 #[test]
@@ -32,11 +34,9 @@ fn deep_blocks(rt: HostRuntime) {
     let text = nested(&rt, alloc, DEPTH);
     let document = read(&rt, alloc, &text);
     prints(&rt, alloc, &document, &text);
-    let copy = document.clone().expect(&rt, "memory");
-    drop(document);
+    let copy = copied(&rt, document);
     prints(&rt, alloc, &copy, &text);
-    let node = node_of(&rt, &copy);
-    drop(copy);
+    let node = node_copied(&rt, copy);
     prints(&rt, alloc, &node, &text);
 }
 
@@ -44,13 +44,10 @@ fn deep_blocks(rt: HostRuntime) {
 fn below<'a>(rt: &impl Abort, document: &'a KdlDocument, depth: usize) -> &'a [KdlNode] {
     let mut nodes = document.nodes();
     for _ in 0..depth {
-        let [node] = nodes else {
-            panic!(rt; "not one node");
-        };
-        let Some(children) = node.children() else {
-            panic!(rt; "no block");
-        };
-        assert!(rt; node.format().is_none() && children.format().is_none());
+        let node = one_of(rt, nodes);
+        let children = node.children().expect(rt, "no block");
+        holds(rt, node.format().is_none(), "no format");
+        holds(rt, children.format().is_none(), "no format");
         nodes = children.nodes();
     }
     nodes
@@ -58,10 +55,9 @@ fn below<'a>(rt: &impl Abort, document: &'a KdlDocument, depth: usize) -> &'a [K
 
 /// The one node below so many blocks is `b`, and has no format.
 fn ends_cleared(rt: &impl Abort, document: &KdlDocument, depth: usize) {
-    let [b] = below(rt, document, depth) else {
-        panic!(rt; "not one node");
-    };
-    assert!(rt; b.name().value() == "b" && b.format().is_none());
+    let b = one_of(rt, below(rt, document, depth));
+    says(rt, b.name().value(), "b");
+    holds(rt, b.format().is_none(), "no format");
 }
 
 #[test]
@@ -80,9 +76,7 @@ fn deep_blocks_of_a_node_cleared(rt: HostRuntime) {
     let text = nested(&rt, alloc, CLEARED_DEPTH);
     let mut node = node_text(&rt, alloc, &text);
     node.clear_format_recursive();
-    let Some(children) = node.children() else {
-        panic!(rt; "no block");
-    };
+    let children = node.children().expect(&rt, "no block");
     ends_cleared(&rt, children, CLEARED_DEPTH - 1);
     drop(node);
 }

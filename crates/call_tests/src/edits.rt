@@ -1,6 +1,8 @@
 //! Entries of a node put in, taken out, kept and sorted, and what the node prints then.
 
-use crate::reading::{equal, holds, identifier, is_absent, is_whole, node, prints, says, string};
+use crate::reading::{
+    equal, holds, identifier, is_absent, is_whole, node, prints, says, string, succeeds,
+};
 use call_contracts::callers::{
     insert_argument, insert_first, property, remove_argument, set_typed,
 };
@@ -32,13 +34,8 @@ pub fn sets(
     text: &str,
 ) {
     let key = NodeKey::Key(identifier(rt, alloc, name));
-    match node.insert(key, KdlEntry::new(value)) {
-        Ok(old) => {
-            old_prints(rt, alloc, old.as_ref(), text);
-            drop(old);
-        }
-        Err(_) => panic!(rt; "memory"),
-    }
+    let old = node.insert(key, KdlEntry::new(value)).expect(rt, "memory");
+    old_prints(rt, alloc, old.as_ref(), text);
 }
 
 /// Takes out the first property of that name, which prints this text.
@@ -50,10 +47,7 @@ pub fn takes(rt: &impl Abort, alloc: Global, node: &mut KdlNode, name: &str, tex
 
 /// Puts an argument after the other entries.
 pub fn add(rt: &impl Abort, node: &mut KdlNode, value: KdlValue) {
-    match node.push(KdlEntry::new(value)) {
-        Ok(()) => (),
-        Err(_) => panic!(rt; "memory"),
-    }
+    succeeds(rt, node.push(KdlEntry::new(value)));
 }
 
 /// Puts a property after the other entries.
@@ -65,26 +59,18 @@ pub fn add_property(
     value: KdlValue,
 ) {
     let key = identifier(rt, alloc, name);
-    match node.push(KdlEntry::new_prop(key, value)) {
-        Ok(()) => (),
-        Err(_) => panic!(rt; "memory"),
-    }
+    succeeds(rt, node.push(KdlEntry::new_prop(key, value)));
 }
 
 /// Puts the value before all arguments.
 fn add_first(rt: &impl Abort, node: &mut KdlNode, value: KdlValue) {
-    let inserted = insert_first(node, value);
-    holds(rt, inserted.is_ok(), "memory");
-    drop(inserted);
+    succeeds(rt, insert_first(node, value));
 }
 
 /// Puts the value before the argument at the index, a place that is there.
 fn add_argument(rt: &impl Abort, node: &mut KdlNode, index: usize, value: KdlValue) {
-    match insert_argument(node, index, value) {
-        Ok(true) => (),
-        Ok(false) => panic!(rt; "no such place"),
-        Err(_) => panic!(rt; "memory"),
-    }
+    let inserted = insert_argument(node, index, value);
+    holds(rt, inserted.expect(rt, "memory"), "no such place");
 }
 
 #[test]
@@ -153,9 +139,7 @@ fn sets_typed(
 ) {
     let key = identifier(rt, alloc, name);
     let ty = KdlIdentifier::from_text(alloc, ty).expect(rt, "memory");
-    let inserted = set_typed(node, key, ty, value);
-    holds(rt, inserted.is_ok(), "memory");
-    drop(inserted);
+    succeeds(rt, set_typed(node, key, ty, value));
 }
 
 #[test]
@@ -243,17 +227,12 @@ fn entries_are_sorted(rt: HostRuntime) {
 
 /// The entry of a text.
 pub fn entry(rt: &impl Abort, alloc: Global, text: &str) -> KdlEntry {
-    match KdlEntry::parse(alloc, text) {
-        Ok(entry) => entry,
-        Err(_) => panic!(rt; "{text:?} is refused"),
-    }
+    KdlEntry::parse(alloc, text).expect(rt, "no entry")
 }
 
 /// Puts the entry of the text in the place of the one there.
 pub fn exchange(rt: &impl Abort, alloc: Global, node: &mut KdlNode, at: usize, text: &str) {
-    let Some(place) = node.entries_mut().get_mut(at) else {
-        panic!(rt; "no entry");
-    };
+    let place = node.entries_mut().get_mut(at).expect(rt, "no entry");
     *place = entry(rt, alloc, text);
 }
 

@@ -7,17 +7,23 @@ use crate::reading::{
 use kdl::{KdlEntry, KdlIdentifier, KdlNode, KdlValue, SourceSpan};
 use std::alloc::Global;
 use std::cmp::Ordering;
+use std::fmt::Debug;
+use std::hash::Hash;
 use std::process::Abort;
 
 const ELSEWHERE: SourceSpan = SourceSpan { offset: 40, len: 2 };
+
+/// Both are equal, and so are their hashes.
+fn are_one<T: PartialEq + Debug + Hash>(rt: &impl Abort, a: &T, b: &T) {
+    equal(rt, a, b);
+    equal(rt, &hash_of(a), &hash_of(b));
+}
 
 /// The first entry of the node of a text.
 fn entry(rt: &impl Abort, alloc: Global, text: &str) -> KdlEntry {
     let node = node(rt, alloc, text);
     let entry = node.entries().first().expect(rt, "no entry");
-    let entry = entry.clone().expect(rt, "memory");
-    drop(node);
-    entry
+    entry.clone().expect(rt, "memory")
 }
 
 #[test]
@@ -29,9 +35,8 @@ fn floats_by_their_texts(rt: HostRuntime) {
     equal(&rt, &short.cmp(&long), &Ordering::Less);
     drop(short);
     let again = float(&rt, alloc, "103.0");
-    equal(&rt, &again, &long);
+    are_one(&rt, &again, &long);
     equal(&rt, &again.cmp(&long), &Ordering::Equal);
-    equal(&rt, &hash_of(&again), &hash_of(&long));
     drop(again);
     drop(long);
     equal(&rt, &float(&rt, alloc, "#nan"), &float(&rt, alloc, "#nan"));
@@ -49,13 +54,23 @@ fn kinds(rt: &impl Abort, alloc: Global) -> Vec<KdlValue> {
     .expect(rt, "memory")
 }
 
+/// The values are equal, and so are their hashes, or they differ, and so do these.
+fn compare_as(rt: &impl Abort, a: &KdlValue, b: &KdlValue, is_same: bool) {
+    equal(rt, &(a == b), &is_same);
+    equal(rt, &(hash_of(a) == hash_of(b)), &is_same);
+}
+
+/// The value equals the one at the index and no other, and so do their hashes.
+fn equals_one(rt: &impl Abort, value: &KdlValue, index: usize, values: &[KdlValue]) {
+    for (at, other) in values.iter().enumerate() {
+        compare_as(rt, value, other, at == index);
+    }
+}
+
 /// Each value equals itself and no other, and so do their hashes.
 fn differ_in_kind(rt: &impl Abort, values: &[KdlValue]) {
-    for (i, a) in values.iter().enumerate() {
-        for (j, b) in values.iter().enumerate() {
-            equal(rt, &(a == b), &(i == j));
-            equal(rt, &(hash_of(a) == hash_of(b)), &(i == j));
-        }
+    for (index, value) in values.iter().enumerate() {
+        equals_one(rt, value, index, values);
     }
 }
 
@@ -78,8 +93,7 @@ fn identifiers_by_value_and_spelling(rt: HostRuntime) {
     let name = identifier(&rt, alloc, "a");
     let mut other = identifier(&rt, alloc, "a");
     other.set_span(ELSEWHERE);
-    equal(&rt, &other, &name);
-    equal(&rt, &hash_of(&other), &hash_of(&name));
+    are_one(&rt, &other, &name);
     other.set_repr(text(&rt, alloc, "\"a\""));
     differ(&rt, &other, &name);
     other.clear_format();
@@ -92,16 +106,7 @@ fn identifiers_by_value_and_spelling(rt: HostRuntime) {
 
 /// The identifier that the text is.
 fn bare_word(rt: &impl Abort, alloc: Global, text: &str) -> KdlIdentifier {
-    match KdlIdentifier::parse(alloc, text) {
-        Ok(name) => name,
-        Err(failure) => panic!(rt; "{text:?}: {failure}"),
-    }
-}
-
-/// Both are equal, and so are their hashes.
-fn are_one(rt: &impl Abort, a: &KdlIdentifier, b: &KdlIdentifier) {
-    equal(rt, a, b);
-    equal(rt, &hash_of(a), &hash_of(b));
+    KdlIdentifier::parse(alloc, text).expect(rt, text)
 }
 
 #[test]
@@ -133,11 +138,9 @@ fn entries_by_their_spellings(rt: HostRuntime) {
     differ(&rt, &hexadecimal, &decimal);
     hexadecimal.clear_format();
     decimal.clear_format();
-    equal(&rt, &hexadecimal, &decimal);
-    equal(&rt, &hash_of(&hexadecimal), &hash_of(&decimal));
+    are_one(&rt, &hexadecimal, &decimal);
     decimal.set_span(ELSEWHERE);
-    equal(&rt, &hexadecimal, &decimal);
-    equal(&rt, &hash_of(&hexadecimal), &hash_of(&decimal));
+    are_one(&rt, &hexadecimal, &decimal);
     drop(hexadecimal);
     drop(decimal);
 }
@@ -148,8 +151,7 @@ fn nodes_by_their_leading_texts(rt: HostRuntime) {
     let first = node(&rt, alloc, "n 1");
     let mut same = node(&rt, alloc, "n 1");
     same.set_span(ELSEWHERE);
-    equal(&rt, &same, &first);
-    equal(&rt, &hash_of(&same), &hash_of(&first));
+    are_one(&rt, &same, &first);
     drop(same);
     let other = node(&rt, alloc, "\nn 1");
     differ(&rt, &other, &first);

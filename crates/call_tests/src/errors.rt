@@ -1,26 +1,45 @@
 //! What the error types print.
 
-use crate::reading::prints;
-use kdl::{FloatFailure, KdlDiagnostic, KdlDocument, KdlEntry, ParseFailure, Severity, SourceSpan};
+use crate::reading::{equal, holds, prints, says};
+use kdl::{
+    FloatFailure, KdlDiagnostic, KdlDocument, KdlEntry, KdlError, ParseFailure, Severity,
+    SourceSpan,
+};
+use std::alloc::Global;
+use std::process::Abort;
 use std::rc::RcStr;
 use std::test::Fail;
+
+/// The failure, and the error in it, print that no document is read, and each diagnostic prints the text.
+fn failure_prints(rt: &impl Abort, alloc: Global, failure: &ParseFailure, text: &str) {
+    prints(rt, alloc, failure, "Failed to parse KDL document");
+    match failure {
+        ParseFailure::Syntax(error) => error_prints(rt, alloc, error, text),
+        ParseFailure::Memory => holds(rt, false, "memory"),
+    }
+}
+
+/// The same for the error.
+fn error_prints(rt: &impl Abort, alloc: Global, error: &KdlError, text: &str) {
+    prints(rt, alloc, error, "Failed to parse KDL document");
+    for diagnostic in &error.diagnostics {
+        prints(rt, alloc, diagnostic, text);
+    }
+}
 
 #[test]
 fn errors_print(rt: HostRuntime) {
     let alloc = rt.alloc();
-    let Err(ParseFailure::Syntax(error)) = KdlEntry::parse(alloc, ";") else {
-        panic!(rt; "not refused");
-    };
-    prints(&rt, alloc, &error, "Failed to parse KDL document");
-    for diagnostic in &error.diagnostics {
-        prints(&rt, alloc, diagnostic, "Expected end of document");
-    }
-    let failure = ParseFailure::Syntax(error);
-    prints(&rt, alloc, &failure, "Failed to parse KDL document");
+    let failure = KdlEntry::parse(alloc, ";").err().expect(&rt, "not refused");
+    failure_prints(&rt, alloc, &failure, "Expected end of document");
+}
+
+#[test]
+fn failures_without_an_error_print(rt: HostRuntime) {
+    let alloc = rt.alloc();
     prints(&rt, alloc, &ParseFailure::Memory, "out of memory");
     prints(&rt, alloc, &FloatFailure::NotAFloat, "not a KDL float");
     prints(&rt, alloc, &FloatFailure::Memory, "out of memory");
-    drop(failure);
 }
 
 #[test]
@@ -35,7 +54,7 @@ fn a_diagnostic_without_a_message(rt: HostRuntime) {
         severity: Severity::default(),
     };
     prints(&rt, alloc, &diagnostic, "Unexpected error");
-    assert_eq!(rt; diagnostic.severity, Severity::Error);
+    equal(&rt, &diagnostic.severity, &Severity::Error);
     drop(diagnostic);
 }
 
@@ -54,7 +73,7 @@ fn want_of_memory_or_the_text(rt: HostRuntime) -> Result<(), Fail> {
     let text =
         "\nhello 1 2 3\n\n// Comment\nworld prop=string-value {\n    child 1\n    child #inf\n}\n";
     if let Some(printed) = printed(&rt, text)? {
-        assert_eq!(rt; printed.as_str(), text);
+        says(&rt, printed.as_str(), text);
     }
     Ok(())
 }

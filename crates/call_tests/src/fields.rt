@@ -1,7 +1,9 @@
 //! The parts of nodes and documents, set and changed in place, and what built ones print.
 
 use crate::hash_of;
-use crate::reading::{differ, equal, holds, identifier, prints, read, says, text};
+use crate::reading::{
+    differ, equal, holds, identifier, node_text, one_of, prints, read, says, text,
+};
 use kdl::{KdlDocument, KdlDocumentFormat, KdlNode, KdlNodeFormat, SourceSpan};
 use std::alloc::Global;
 use std::process::Abort;
@@ -79,16 +81,16 @@ fn a_new_node(rt: HostRuntime) {
 
 /// A format with a digit in each place.
 fn digits(rt: &impl Abort, alloc: Global) -> KdlNodeFormat {
-    let mut format = KdlNodeFormat::new(alloc);
-    format.leading = text(rt, alloc, "0");
-    format.before_ty_name = text(rt, alloc, "1");
-    format.after_ty_name = text(rt, alloc, "2");
-    format.after_ty = text(rt, alloc, "3");
-    format.before_children = text(rt, alloc, "4");
-    format.before_terminator = text(rt, alloc, "5");
-    format.terminator = text(rt, alloc, "6");
-    format.trailing = text(rt, alloc, "7");
-    format
+    KdlNodeFormat {
+        leading: text(rt, alloc, "0"),
+        before_ty_name: text(rt, alloc, "1"),
+        after_ty_name: text(rt, alloc, "2"),
+        after_ty: text(rt, alloc, "3"),
+        before_children: text(rt, alloc, "4"),
+        before_terminator: text(rt, alloc, "5"),
+        terminator: text(rt, alloc, "6"),
+        trailing: text(rt, alloc, "7"),
+    }
 }
 
 #[test]
@@ -214,9 +216,7 @@ fn formats_are_dropped_at_each_depth(rt: HostRuntime) {
     let mut document = read(&rt, alloc, "a { b; }");
     document.clear_format_recursive();
     document_prints(&rt, alloc, &document, "a {\n    b}");
-    let [a] = document.nodes() else {
-        panic!(rt; "not one node");
-    };
+    let a = one_of(&rt, document.nodes());
     equal(&rt, &a.span(), &SourceSpan { offset: 0, len: 8 });
     drop(document);
     let text = "// x\n(\"t\")\"a\" {\n(\"u\")\"b\" 0b11 k=1_0 {} // y\n}\n";
@@ -291,25 +291,40 @@ fn the_nodes_of_a_document(rt: HostRuntime) {
 fn a_parsed_node_in_a_new_document(rt: HostRuntime) {
     let alloc = rt.alloc();
     let source = "\n  // indented comment\n  \"formatted\" 1 /* comment */ \\\n    2;\n";
-    let node = KdlNode::parse(alloc, source).expect(&rt, "no node");
-    let document = document_with(&rt, alloc, node);
+    let document = document_with(&rt, alloc, node_text(&rt, alloc, source));
     document_prints(&rt, alloc, &document, source);
     drop(document);
+}
+
+/// Gives the node and its type another span.
+fn move_node(node: &mut KdlNode) {
+    node.set_span(ELSEWHERE);
+    if let Some(ty) = node.ty_mut() {
+        ty.set_span(ELSEWHERE);
+    }
+}
+
+/// Gives the document and its nodes another span.
+fn move_block(document: &mut KdlDocument) {
+    document.set_span(ELSEWHERE);
+    for node in document.nodes_mut().iter_mut() {
+        move_node(node);
+    }
 }
 
 /// Gives the document, its nodes' names and blocks, and what is in these another span.
 fn move_elsewhere(document: &mut KdlDocument) {
     document.set_span(ELSEWHERE);
-    for a in document.nodes_mut().iter_mut() {
-        a.name_mut().set_span(ELSEWHERE);
-        let children = a.ensure_children();
-        children.set_span(ELSEWHERE);
-        for b in children.nodes_mut().iter_mut() {
-            b.set_span(ELSEWHERE);
-            if let Some(ty) = b.ty_mut() {
-                ty.set_span(ELSEWHERE);
-            }
-        }
+    for node in document.nodes_mut().iter_mut() {
+        node.name_mut().set_span(ELSEWHERE);
+        move_block(node.ensure_children());
+    }
+}
+
+/// The names of the nodes have the other span.
+fn have_moved(rt: &impl Abort, nodes: &[KdlNode]) {
+    for node in nodes {
+        equal(rt, &node.name().span(), &ELSEWHERE);
     }
 }
 
@@ -318,10 +333,7 @@ fn is_copied(rt: &impl Abort, document: &KdlDocument) {
     let copy = document.clone().expect(rt, "memory");
     equal(rt, &copy, document);
     equal(rt, &copy.span(), &ELSEWHERE);
-    for node in copy.nodes() {
-        equal(rt, &node.name().span(), &ELSEWHERE);
-    }
-    drop(copy);
+    have_moved(rt, copy.nodes());
 }
 
 #[test]

@@ -7,26 +7,27 @@ use std::process::Abort;
 
 /// The text lacks so many newlines as a gap; `None`: it is no gap.
 fn gap(rt: &impl Abort, alloc: Global, text: &str, lacks: Option<usize>) {
-    match gap_lacks(alloc, text) {
-        Ok(found) => equal(rt, &found, &lacks),
-        Err(_) => panic!(rt; "memory"),
+    let found = gap_lacks(alloc, text).expect(rt, "memory");
+    equal(rt, &found, &lacks);
+}
+
+/// The same for each row.
+fn gaps(rt: &impl Abort, alloc: Global, rows: &[(&str, Option<usize>)]) {
+    for (text, lacks) in rows {
+        gap(rt, alloc, text, *lacks);
     }
 }
 
 /// The text lacks so many newlines as a terminator and a gap; `None`: it is no such text.
 fn terminator(rt: &impl Abort, alloc: Global, text: &str, lacks: Option<usize>) {
-    match terminator_lacks(alloc, text) {
-        Ok(found) => equal(rt, &found, &lacks),
-        Err(_) => panic!(rt; "memory"),
-    }
+    let found = terminator_lacks(alloc, text).expect(rt, "memory");
+    equal(rt, &found, &lacks);
 }
 
 /// The text lacks a newline, or lacks none, as the one before a terminator; `None`: it can't be there.
 fn place(rt: &impl Abort, alloc: Global, place: Place, text: &str, lacks: Option<bool>) {
-    match place_lacks(alloc, place, text) {
-        Ok(found) => equal(rt, &found, &lacks),
-        Err(_) => panic!(rt; "memory"),
-    }
+    let found = place_lacks(alloc, place, text).expect(rt, "memory");
+    equal(rt, &found, &lacks);
 }
 
 const GAPS: &[(&str, Option<usize>)] = &[
@@ -45,9 +46,7 @@ const GAPS: &[(&str, Option<usize>)] = &[
 
 #[test]
 fn gaps_lack_the_newlines_of_their_last_piece(rt: HostRuntime) {
-    for (text, lacks) in GAPS {
-        gap(&rt, rt.alloc(), text, *lacks);
-    }
+    gaps(&rt, rt.alloc(), GAPS);
 }
 
 const GAPS_WITH_NODES: &[(&str, Option<usize>)] = &[
@@ -67,9 +66,7 @@ const GAPS_WITH_NODES: &[(&str, Option<usize>)] = &[
 
 #[test]
 fn gaps_lack_the_terminator_of_a_dropped_node(rt: HostRuntime) {
-    for (text, lacks) in GAPS_WITH_NODES {
-        gap(&rt, rt.alloc(), text, *lacks);
-    }
+    gaps(&rt, rt.alloc(), GAPS_WITH_NODES);
 }
 
 const TERMINATORS: &[(&str, Option<usize>)] = &[

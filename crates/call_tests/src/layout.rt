@@ -3,7 +3,7 @@
 
 use crate::edits::{add, add_property, exchange};
 use crate::fields::{built, document_of, push};
-use crate::reading::{equal, holds, prints, read, string, text};
+use crate::reading::{equal, holds, one_of, prints, read, says, string, text};
 use kdl::{
     FormatConfig, FormatConfigBuilder, KdlDocument, KdlEntry, KdlEntryFormat, KdlNode,
     KdlNodeFormat, KdlValue, ParseFailure, is_kdl_space,
@@ -44,44 +44,54 @@ fn config(indent_level: usize, indent: &str, no_comments: bool) -> FormatConfig<
     }
 }
 
+/// The builder builds a configuration with these fields.
+fn builds(
+    rt: &impl Abort,
+    builder: FormatConfigBuilder<'_>,
+    indent_level: usize,
+    indent: &str,
+    no_comments: bool,
+) {
+    let wanted = config(indent_level, indent, no_comments);
+    equal(rt, &builder.build(), &wanted);
+}
+
 #[test]
 fn configurations(rt: HostRuntime) {
     let defaults = config(0, "    ", false);
-    let other = FormatConfig::builder()
+    equal(&rt, &FormatConfig::default(), &defaults);
+    builds(&rt, FormatConfig::builder(), 0, "    ", false);
+    builds(&rt, FormatConfigBuilder::new(), 0, "    ", false);
+    builds(&rt, FormatConfigBuilder::default(), 0, "    ", false);
+}
+
+/// A builder of another configuration.
+fn other_builder() -> FormatConfigBuilder<'static> {
+    FormatConfig::builder()
         .indent_level(12)
         .indent(" \t")
-        .no_comments(true);
-    let cases = [
-        (FormatConfig::default(), defaults),
-        (FormatConfig::builder().build(), defaults),
-        (FormatConfigBuilder::new().build(), defaults),
-        (FormatConfigBuilder::default().build(), defaults),
-        (other.build(), config(12, " \t", true)),
-        (other.maybe_indent_level(None).build(), other.build()),
-        (other.maybe_indent(None).build(), other.build()),
-        (other.maybe_no_comments(None).build(), other.build()),
-        (
-            other.maybe_indent_level(Some(3)).build(),
-            config(3, " \t", true),
-        ),
-        (other.maybe_indent(Some("")).build(), config(12, "", true)),
-        (
-            other.maybe_no_comments(Some(false)).build(),
-            config(12, " \t", false),
-        ),
-        (
-            other.indent_level(4).indent_level(5).build(),
-            config(5, " \t", true),
-        ),
-        (other.indent("a").indent("b").build(), config(12, "b", true)),
-        (
-            other.no_comments(true).no_comments(false).build(),
-            config(12, " \t", false),
-        ),
-    ];
-    for (found, wanted) in &cases {
-        equal(&rt, found, wanted);
-    }
+        .no_comments(true)
+}
+
+#[test]
+fn fields_of_a_configuration_set_or_left(rt: HostRuntime) {
+    let other = other_builder();
+    builds(&rt, other, 12, " \t", true);
+    builds(&rt, other.maybe_indent_level(None), 12, " \t", true);
+    builds(&rt, other.maybe_indent(None), 12, " \t", true);
+    builds(&rt, other.maybe_no_comments(None), 12, " \t", true);
+    builds(&rt, other.maybe_indent_level(Some(3)), 3, " \t", true);
+    builds(&rt, other.maybe_indent(Some("")), 12, "", true);
+    builds(&rt, other.maybe_no_comments(Some(false)), 12, " \t", false);
+}
+
+#[test]
+fn fields_of_a_configuration_set_twice(rt: HostRuntime) {
+    let other = other_builder();
+    builds(&rt, other.indent_level(4).indent_level(5), 5, " \t", true);
+    builds(&rt, other.indent("a").indent("b"), 12, "b", true);
+    let other = other.no_comments(true).no_comments(false);
+    builds(&rt, other, 12, " \t", false);
 }
 
 /// Texts of the 18 spaces.
@@ -181,37 +191,86 @@ const BROKEN_NODES: [(usize, Place, &str); 4] = [
     (2, Place::Trailing, ")"),
 ];
 
+/// Puts the text into the place in the format of the node at the index.
+fn break_at(
+    rt: &impl Abort,
+    alloc: Global,
+    document: &mut KdlDocument,
+    (index, place, broken): (usize, Place, &str),
+) {
+    let node = document.nodes_mut().get_mut(index).expect(rt, "no node");
+    break_in_node(rt, alloc, node, place, broken);
+}
+
+/// The same document with broken formats.
+fn broken_document(rt: &impl Abort, alloc: Global) -> KdlDocument {
+    let mut document = built_document(rt, alloc);
+    for broken in &BROKEN_NODES {
+        break_at(rt, alloc, &mut document, *broken);
+    }
+    document
+}
+
+/// The same document without formats.
+fn formless_document(rt: &impl Abort, alloc: Global) -> KdlDocument {
+    let mut document = built_document(rt, alloc);
+    document.clear_format_recursive();
+    document
+}
+
 /// Checks the document as it is built, with broken formats, and without formats.
 fn becomes_built(rt: &impl Abort, alloc: Global, no_comments: bool) {
-    let mut document = built_document(rt, alloc);
-    lays_out(rt, alloc, &mut document, no_comments, BUILT);
-    document = built_document(rt, alloc);
-    for (index, place, broken) in &BROKEN_NODES {
-        let node = document.nodes_mut().get_mut(*index).expect(rt, "no node");
-        break_in_node(rt, alloc, node, *place, broken);
-    }
-    lays_out(rt, alloc, &mut document, no_comments, BUILT);
-    document = built_document(rt, alloc);
-    document.clear_format_recursive();
-    lays_out(rt, alloc, &mut document, no_comments, BUILT);
-    document = KdlDocument::new(alloc);
+    lays_out(
+        rt,
+        alloc,
+        &mut built_document(rt, alloc),
+        no_comments,
+        BUILT,
+    );
+    lays_out(
+        rt,
+        alloc,
+        &mut broken_document(rt, alloc),
+        no_comments,
+        BUILT,
+    );
+    lays_out(
+        rt,
+        alloc,
+        &mut formless_document(rt, alloc),
+        no_comments,
+        BUILT,
+    );
+}
+
+/// A new document prints nothing, and a newline once it is laid out.
+fn becomes_a_newline(rt: &impl Abort, alloc: Global, no_comments: bool) {
+    let mut document = KdlDocument::new(alloc);
     prints(rt, alloc, &document, "");
     lays_out(rt, alloc, &mut document, no_comments, "\n");
 }
 
 #[test]
 fn a_built_document(rt: HostRuntime) {
-    becomes_built(&rt, rt.alloc(), true);
-    becomes_built(&rt, rt.alloc(), false);
+    for no_comments in [true, false] {
+        becomes_built(&rt, rt.alloc(), no_comments);
+        becomes_a_newline(&rt, rt.alloc(), no_comments);
+    }
 }
 
 /// The entry has the leading text and the spelling of the value, no other text, and no flag.
 fn is_kept(rt: &impl Abort, alloc: Global, entry: &KdlEntry, leading: &str, value_repr: &str) {
-    let mut wanted = KdlEntryFormat::new(alloc);
-    wanted.leading = text(rt, alloc, leading);
-    wanted.value_repr = text(rt, alloc, value_repr);
+    let wanted = format_of(rt, alloc, leading, value_repr);
     let format = entry.format().expect(rt, "no format");
     equal(rt, format, &wanted);
+}
+
+/// A format with that leading text and that spelling of the value, and no other text.
+fn format_of(rt: &impl Abort, alloc: Global, leading: &str, value_repr: &str) -> KdlEntryFormat {
+    let mut format = KdlEntryFormat::new(alloc);
+    format.leading.push_str(leading).expect(rt, "memory");
+    format.value_repr.push_str(value_repr).expect(rt, "memory");
+    format
 }
 
 /// An entry with a text in each place, and its leading text and its spelling.
@@ -221,20 +280,49 @@ const LEADING: &str = " \\\n ";
 
 const REPR: &str = "0x10";
 
-/// Checks a flagged entry, which keeps its form once.
-fn keeps_its_form(rt: &impl Abort, alloc: Global, no_comments: bool) {
-    let mut document = read(rt, alloc, "n 1 0x2");
+/// The document of the text, with the entry in the place of the first one of its one node.
+fn exchanged(rt: &impl Abort, alloc: Global, text: &str) -> KdlDocument {
+    let mut document = read(rt, alloc, text);
     for node in document.nodes_mut().iter_mut() {
         exchange(rt, alloc, node, 0, ENTRY);
-        let entry = node.entries_mut().first_mut().expect(rt, "no entry");
-        entry.keep_format();
     }
+    document
+}
+
+/// Flags the first entry of the node.
+fn flag_first(rt: &impl Abort, node: &mut KdlNode) {
+    let entry = node.entries_mut().first_mut().expect(rt, "no entry");
+    entry.keep_format();
+}
+
+/// Flags the first entry of each node.
+fn flag(rt: &impl Abort, document: &mut KdlDocument) {
+    for node in document.nodes_mut().iter_mut() {
+        flag_first(rt, node);
+    }
+}
+
+/// The first entry of the one node of the document has kept its form.
+fn first_is_kept(rt: &impl Abort, alloc: Global, document: &KdlDocument) {
+    let node = one_of(rt, document.nodes());
+    let entry = node.entries().first().expect(rt, "no entry");
+    is_kept(rt, alloc, entry, LEADING, REPR);
+}
+
+/// The last entry of the one node of the document has no format.
+fn last_has_no_format(rt: &impl Abort, document: &KdlDocument) {
+    let node = one_of(rt, document.nodes());
+    let entry = node.entries().last().expect(rt, "no entry");
+    holds(rt, entry.format().is_none(), "a format");
+}
+
+/// Checks a flagged entry, which keeps its form once.
+fn keeps_its_form(rt: &impl Abort, alloc: Global, no_comments: bool) {
+    let mut document = exchanged(rt, alloc, "n 1 0x2");
+    flag(rt, &mut document);
     let kept = "n \\\n k=(u)0x10 2\n";
     lays_out(rt, alloc, &mut document, no_comments, kept);
-    for node in document.nodes() {
-        let entry = node.entries().first().expect(rt, "no entry");
-        is_kept(rt, alloc, entry, LEADING, REPR);
-    }
+    first_is_kept(rt, alloc, &document);
     lays_out(rt, alloc, &mut document, no_comments, "n k=(u)16 2\n");
 }
 
@@ -256,24 +344,24 @@ fn becomes(
     prints(rt, alloc, document, text);
 }
 
+/// Puts the number after the other entries of each node.
+fn add_to_each(rt: &impl Abort, document: &mut KdlDocument, number: i128) {
+    for node in document.nodes_mut().iter_mut() {
+        add(rt, node, KdlValue::from(number));
+    }
+}
+
 /// Checks a document whose entries are all flagged by the configuration: it prints the text as often as it is laid out
 /// so, and the canonical one when it is laid out without flags.
 fn keeps_all(rt: &impl Abort, alloc: Global, no_comments: bool, kept: &str, canonical: &str) {
-    let mut document = read(rt, alloc, "n 1 ( u )0x2 /*x*/ 3.0 {\n  m\t#\"a\"# // c\n}");
-    for node in document.nodes_mut().iter_mut() {
-        exchange(rt, alloc, node, 0, ENTRY);
-        add(rt, node, KdlValue::from(5));
-    }
+    let mut document = exchanged(rt, alloc, "n 1 ( u )0x2 /*x*/ 3.0 {\n  m\t#\"a\"# // c\n}");
+    add_to_each(rt, &mut document, 5);
     let mut config = config(0, "    ", no_comments);
     config.entry_autoformate_keep = true;
     becomes(rt, alloc, &mut document, &config, kept);
     becomes(rt, alloc, &mut document, &config, kept);
-    for node in document.nodes() {
-        let entry = node.entries().first().expect(rt, "no entry");
-        is_kept(rt, alloc, entry, LEADING, REPR);
-        let entry = node.entries().last().expect(rt, "no entry");
-        holds(rt, entry.format().is_none(), "a format");
-    }
+    first_is_kept(rt, alloc, &document);
+    last_has_no_format(rt, &document);
     lays_out(rt, alloc, &mut document, no_comments, canonical);
 }
 
@@ -285,6 +373,11 @@ fn all_entries_keep_their_form(rt: HostRuntime) {
     let kept = "n \\\n k=(u)0x10 (u)0x2 /*x*/ 3.0 5 {\n    m\t#\"a\"# // c\n}\n";
     let laid_out = "n k=(u)16 (u)2 /*x*/ 3.0 5 {\n    m a // c\n}\n";
     keeps_all(&rt, rt.alloc(), false, kept, laid_out);
+}
+
+/// The document of the text prints the other one once it is laid out as the configuration says.
+fn text_becomes(rt: &impl Abort, alloc: Global, source: &str, config: &FormatConfig, text: &str) {
+    becomes(rt, alloc, &mut read(rt, alloc, source), config, text);
 }
 
 /// The text is not laid out as the configuration says, and says then what it said.
@@ -305,9 +398,9 @@ fn levels_without_bound(rt: HostRuntime) {
     let alloc = rt.alloc();
     let bare = config(usize::MAX, "", true);
     let wide = config(usize::MAX, "    ", true);
-    becomes(&rt, alloc, &mut read(&rt, alloc, "a"), &bare, "a\n");
-    becomes(&rt, alloc, &mut read(&rt, alloc, "// c"), &bare, "\n");
-    becomes(&rt, alloc, &mut read(&rt, alloc, "// c"), &wide, "\n");
+    text_becomes(&rt, alloc, "a", &bare, "a\n");
+    text_becomes(&rt, alloc, "// c", &bare, "\n");
+    text_becomes(&rt, alloc, "// c", &wide, "\n");
     is_not_laid_out(&rt, alloc, "b 0x1; a {}", &bare, "b 1\na {\n\n}\n");
     is_not_laid_out(&rt, alloc, "b 0x1; a {}", &wide, "b 1\na {\n\n}\n");
 }
@@ -317,10 +410,10 @@ fn levels_without_bound_with_comments(rt: HostRuntime) {
     let alloc = rt.alloc();
     let bare = config(usize::MAX, "", false);
     let wide = config(usize::MAX, "    ", false);
-    becomes(&rt, alloc, &mut read(&rt, alloc, ""), &wide, "\n");
-    becomes(&rt, alloc, &mut read(&rt, alloc, "a"), &bare, "a\n");
-    let mut document = read(&rt, alloc, "// c\na 0x1 // d\n/-e");
-    becomes(&rt, alloc, &mut document, &bare, "// c\na 1 // d\n/-e\n");
+    text_becomes(&rt, alloc, "", &wide, "\n");
+    text_becomes(&rt, alloc, "a", &bare, "a\n");
+    let source = "// c\na 0x1 // d\n/-e";
+    text_becomes(&rt, alloc, source, &bare, "// c\na 1 // d\n/-e\n");
     is_not_laid_out(&rt, alloc, "a {}", &bare, "a {\n\n}\n");
     is_not_laid_out(&rt, alloc, "/*x*/ a /-1 {}", &bare, "a {\n\n}\n");
     is_not_laid_out(&rt, alloc, "/*x*/ a /-1", &wide, "a\n");
@@ -339,15 +432,25 @@ fn an_indent_that_is_no_space(rt: HostRuntime) {
     }
 }
 
+/// The entries have the same spans.
+fn entries_have_the_spans(rt: &impl Abort, entries: &[KdlEntry], others: &[KdlEntry]) {
+    for (entry, other) in entries.iter().zip(others) {
+        equal(rt, &entry.span(), &other.span());
+    }
+}
+
+/// The nodes, their names and their entries have the same spans.
+fn node_has_the_spans(rt: &impl Abort, node: &KdlNode, other: &KdlNode) {
+    equal(rt, &node.span(), &other.span());
+    equal(rt, &node.name().span(), &other.name().span());
+    entries_have_the_spans(rt, node.entries(), other.entries());
+}
+
 /// The documents and their nodes, and the names and entries of these, have the same spans.
 fn has_the_spans(rt: &impl Abort, document: &KdlDocument, other: &KdlDocument) {
     equal(rt, &document.span(), &other.span());
     for (node, other) in document.nodes().iter().zip(other.nodes()) {
-        equal(rt, &node.span(), &other.span());
-        equal(rt, &node.name().span(), &other.name().span());
-        for (entry, other) in node.entries().iter().zip(other.entries()) {
-            equal(rt, &entry.span(), &other.span());
-        }
+        node_has_the_spans(rt, node, other);
     }
 }
 
@@ -394,8 +497,9 @@ fn want_of_memory_or_the_texts(rt: HostRuntime) -> Result<(), Fail> {
     let canonical =
         "hello 1 2 3\nworld prop=string-value {\n    child 1\n    child 2\n    child #inf\n}\n";
     if let Some((first, second)) = laid_out(&rt, text)? {
-        assert!(rt; first.as_str() == laid || first.as_str() == canonical);
-        assert_eq!(rt; second.as_str(), canonical);
+        let is_either = first.as_str() == laid || first.as_str() == canonical;
+        holds(&rt, is_either, first.as_str());
+        says(&rt, second.as_str(), canonical);
     }
     Ok(())
 }

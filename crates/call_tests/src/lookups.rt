@@ -81,7 +81,7 @@ fn names_find_the_last_and_places_count_arguments(rt: HostRuntime) {
     let last = node.entry(key(&rt, alloc, "x")).expect(&rt, "no entry");
     prints(&rt, alloc, last, " \"x\"=2");
     is_absent(&rt, node.entry(NodeKey::Index(2)));
-    assert_eq!(rt; node.argument_count(), 2);
+    equal(&rt, &node.argument_count(), &2);
     drop(node);
 }
 

@@ -1,6 +1,6 @@
 //! Nodes are added and removed: what is printed then, and that it reads back.
 
-use crate::reading::{equal, identifier, node_text, prints, read, says, text};
+use crate::reading::{equal, holds, identifier, node_text, prints, read, says, succeeds, text};
 use kdl::{KdlDocument, KdlNode};
 use std::alloc::Global;
 use std::process::Abort;
@@ -13,51 +13,52 @@ struct Row<'a>(&'a str, &'a str);
 fn names(rt: &impl Abort, alloc: Global, nodes: &[KdlNode]) -> String {
     let mut all = text(rt, alloc, "");
     for node in nodes {
-        all.push_str(node.name().value()).expect(rt, "memory");
-        all.push(' ').expect(rt, "memory");
+        add(rt, &mut all, node.name().value());
     }
     all
+}
+
+/// Adds the name and a space to the text.
+fn add(rt: &impl Abort, all: &mut String, name: &str) {
+    all.push_str(name).expect(rt, "memory");
+    all.push(' ').expect(rt, "memory");
+}
+
+/// The nodes have the same names.
+fn have_the_names(rt: &impl Abort, alloc: Global, found: &[KdlNode], wanted: &[KdlNode]) {
+    let found = names(rt, alloc, found);
+    let wanted = names(rt, alloc, wanted);
+    says(rt, found.as_str(), wanted.as_str());
 }
 
 /// The document prints the text, which is a document of nodes of the same names.
 fn reads_back(rt: &impl Abort, alloc: Global, document: &KdlDocument, printed: &str) {
     prints(rt, alloc, document, printed);
     let again = read(rt, alloc, printed);
-    let found = names(rt, alloc, again.nodes());
-    let wanted = names(rt, alloc, document.nodes());
-    says(rt, found.as_str(), wanted.as_str());
-    drop(found);
-    drop(wanted);
-    drop(again);
+    have_the_names(rt, alloc, again.nodes(), document.nodes());
+}
+
+/// The nodes in the block of the node, which is there.
+fn children<'a>(rt: &impl Abort, node: &'a KdlNode) -> &'a [KdlNode] {
+    node.children().expect(rt, "no children").nodes()
 }
 
 /// The node prints the text, which is a node with children of the same names.
 fn node_reads_back(rt: &impl Abort, alloc: Global, node: &KdlNode, printed: &str) {
     prints(rt, alloc, node, printed);
     let again = node_text(rt, alloc, printed);
-    let (Some(found), Some(wanted)) = (again.children(), node.children()) else {
-        panic!(rt; "no children");
-    };
-    let found = names(rt, alloc, found.nodes());
-    let wanted = names(rt, alloc, wanted.nodes());
-    says(rt, found.as_str(), wanted.as_str());
-    drop(found);
-    drop(wanted);
-    drop(again);
+    have_the_names(rt, alloc, children(rt, &again), children(rt, node));
 }
 
 /// Puts the node in at the index.
 fn put(rt: &impl Abort, document: &mut KdlDocument, index: usize, node: KdlNode) {
     let count = document.nodes().len();
-    let put = if index < count {
-        document.insert_node(index, node)
+    if index < count {
+        succeeds(rt, document.insert_node(index, node));
     } else {
-        document.push_node(node)
-    };
-    match put {
-        Ok(()) => equal(rt, &document.nodes().len(), &(count + 1)),
-        Err(_) => panic!(rt; "memory"),
+        succeeds(rt, document.push_node(node));
     }
+    equal(rt, &document.nodes().len(), &count.saturating_add(1));
 }
 
 /// The document of the text becomes the printed one where the node of that text is put in at the index.
@@ -66,7 +67,6 @@ fn puts(rt: &impl Abort, alloc: Global, before: &str, index: usize, new: &str, p
     let node = node_text(rt, alloc, new);
     put(rt, &mut document, index, node);
     reads_back(rt, alloc, &document, printed);
-    drop(document);
 }
 
 /// The same for each row, with `b`.
@@ -202,19 +202,21 @@ const NEW_NODES: &[Row] = &[
     Row("b { d; } // x", "b { d; } // x\n"),
 ];
 
+/// The two texts, one after the other.
+fn joined(rt: &impl Abort, alloc: Global, first: &str, second: &str) -> String {
+    let mut all = text(rt, alloc, first);
+    all.push_str(second).expect(rt, "memory");
+    all
+}
+
 /// A new node of each form, put after `a` and before it: the second text of a row is what it prints before `a`.
 #[test]
 fn new_nodes_of_each_form(rt: HostRuntime) {
-    let alloc = rt.alloc();
     for Row(new, ended) in NEW_NODES {
-        let mut last = text(&rt, alloc, "a\n");
-        last.push_str(new).expect(&rt, "memory");
-        puts(&rt, alloc, "a", 1, new, &last);
-        drop(last);
-        let mut first = text(&rt, alloc, ended);
-        first.push('a').expect(&rt, "memory");
-        puts(&rt, alloc, "a", 0, new, &first);
-        drop(first);
+        let last = joined(&rt, rt.alloc(), "a\n", new);
+        puts(&rt, rt.alloc(), "a", 1, new, last.as_str());
+        let first = joined(&rt, rt.alloc(), ended, "a");
+        puts(&rt, rt.alloc(), "a", 0, new, first.as_str());
     }
 }
 
@@ -262,13 +264,10 @@ fn put_child(rt: &impl Abort, node: &mut KdlNode, index: usize, child: KdlNode) 
         Some(children) => children.nodes().len(),
         None => 0,
     };
-    let put = if index < count {
-        node.insert_child(index, child)
+    if index < count {
+        succeeds(rt, node.insert_child(index, child));
     } else {
-        node.push_child(child)
-    };
-    if put.is_err() {
-        panic!(rt; "memory");
+        succeeds(rt, node.push_child(child));
     }
 }
 
@@ -368,12 +367,11 @@ fn children_without_a_format(rt: HostRuntime) {
 
 /// Takes out the node at the index, which prints the text.
 fn takes(rt: &impl Abort, alloc: Global, document: &mut KdlDocument, index: usize, printed: &str) {
-    if index < document.nodes().len() {
+    let is_there = index < document.nodes().len();
+    holds(rt, is_there, printed);
+    if is_there {
         let node = document.remove_node(index);
         prints(rt, alloc, &node, printed);
-        drop(node);
-    } else {
-        panic!(rt; "no such node");
     }
 }
 

@@ -25,6 +25,11 @@ pub fn holds(rt: &impl Abort, condition: bool, text: &str) {
     assert!(rt; condition, "{text:?}");
 }
 
+/// The call did not fail. What it returned is dropped.
+pub fn succeeds<T: Drop, E: Drop>(rt: &impl Abort, outcome: Result<T, E>) {
+    assert!(rt; outcome.is_ok(), "failed");
+}
+
 /// The text, owned.
 pub fn text(rt: &impl Abort, alloc: Global, text: &str) -> String {
     String::from_str(alloc, text).expect(rt, "memory")
@@ -38,15 +43,16 @@ pub fn read(rt: &impl Abort, alloc: Global, text: &str) -> KdlDocument {
     }
 }
 
-/// A copy of the one node of a document.
+/// The one node of the list.
+pub fn one_of<'a>(rt: &impl Abort, nodes: &'a [KdlNode]) -> &'a KdlNode {
+    equal(rt, &nodes.len(), &1);
+    nodes.first().expect(rt, "no node")
+}
+
+/// A copy of the one node of the document of a text.
 pub fn node(rt: &impl Abort, alloc: Global, text: &str) -> KdlNode {
     let document = read(rt, alloc, text);
-    let [node] = document.nodes() else {
-        panic!(rt; "not one node");
-    };
-    let node = node.clone().expect(rt, "memory");
-    drop(document);
-    node
+    one_of(rt, document.nodes()).clone().expect(rt, "memory")
 }
 
 /// The node that the text is.
@@ -89,6 +95,12 @@ pub fn is_text(rt: &impl Abort, value: Option<&KdlValue>, text: &str) {
     equal(rt, &value.as_string(), &Some(text));
 }
 
+/// The value is there, and equals the other.
+pub fn is_value(rt: &impl Abort, value: Option<&KdlValue>, wanted: &KdlValue) {
+    let value = value.expect(rt, "no value");
+    equal(rt, value, wanted);
+}
+
 /// There is no such item.
 pub fn is_absent<T>(rt: &impl Abort, item: Option<&T>) {
     assert!(rt; item.is_none());
@@ -98,5 +110,4 @@ pub fn is_absent<T>(rt: &impl Abort, item: Option<&T>) {
 pub fn prints(rt: &impl Abort, alloc: Global, item: &impl Display, text: &str) {
     let printed = item.to_string(alloc).expect(rt, "memory");
     says(rt, printed.as_str(), text);
-    drop(printed);
 }

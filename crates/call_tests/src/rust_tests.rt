@@ -5,8 +5,8 @@ use crate::edits::{add, entry, sets, takes, takes_argument};
 use crate::fields::{built, push};
 use crate::lookups::{set_first, set_property};
 use crate::reading::{
-    differ, equal, float, holds, identifier, is_absent, is_text, is_whole, node_text, prints, read,
-    says, string, text,
+    differ, equal, float, holds, identifier, is_absent, is_text, is_value, is_whole, node_text,
+    prints, read, says, string, succeeds, text,
 };
 use call_contracts::callers::property;
 use kdl::{KdlDocument, KdlEntry, KdlNode, KdlValue, NodeKey, SourceSpan};
@@ -73,10 +73,10 @@ fn first_argument(node: &KdlNode) -> Option<&KdlValue> {
 
 /// Writes the value of the first argument, by its index.
 fn write_first(rt: &impl Abort, node: &mut KdlNode, value: KdlValue) {
-    if node.get(NodeKey::Index(0)).is_some() {
+    let is_there = node.get(NodeKey::Index(0)).is_some();
+    holds(rt, is_there, "no argument");
+    if is_there {
         set_first(node, value);
-    } else {
-        panic!(rt; "no argument");
     }
 }
 
@@ -101,8 +101,8 @@ fn values_by_index_and_by_name(rt: HostRuntime) {
     is_whole(&rt, property(&foo, "foo"), 1);
     write_first(&rt, &mut foo, KdlValue::from(false));
     write(&rt, &mut foo, "foo", KdlValue::Null);
-    equal(&rt, &first_argument(&foo), &Some(&KdlValue::from(false)));
-    equal(&rt, &property(&foo, "foo"), &Some(&KdlValue::Null));
+    is_value(&rt, first_argument(&foo), &KdlValue::from(false));
+    is_value(&rt, property(&foo, "foo"), &KdlValue::Null);
     list(&rt, alloc, &mut foo, "x", KdlValue::from(1));
     list(&rt, alloc, &mut foo, "x", KdlValue::from(2));
     is_whole(&rt, property(&foo, "x"), 2);
@@ -195,7 +195,7 @@ fn has_foo(rt: &impl Abort, document: &KdlDocument) {
 /// The node of that name has a property of that name, which is null.
 fn has_null(rt: &impl Abort, document: &KdlDocument, name: &str, key: &str) {
     let node = document.get(name).expect(rt, "no node");
-    equal(rt, &property(node, key), &Some(&KdlValue::Null));
+    is_value(rt, property(node, key), &KdlValue::Null);
 }
 
 /// The node of that name prints the text.
@@ -217,8 +217,7 @@ fn a_document_is_looked_up(rt: HostRuntime) {
     is_text(&rt, document.get_arg("another"), "node");
     has_null(&rt, &document, "null_id", "null_prop");
     has_null(&rt, &document, "true_id", "true_prop");
-    let found = document.get_arg("+false");
-    equal(&rt, &found, &Some(&KdlValue::from(true)));
+    is_value(&rt, document.get_arg("+false"), &KdlValue::from(true));
     let bar = "\n         bar \"indented\" // trailing whitespace after this\t\n";
     has_node(&rt, alloc, &document, "bar", bar);
     has_node(
@@ -235,9 +234,7 @@ fn a_document_is_looked_up(rt: HostRuntime) {
 /// Adds a node whose entry was read by itself.
 fn add_new(rt: &impl Abort, alloc: Global, document: &mut KdlDocument) {
     let mut new = node_text(rt, alloc, "new\n");
-    let pushed = new.push(entry(rt, alloc, " \"blah\"=0xDEADbeef"));
-    holds(rt, pushed.is_ok(), "memory");
-    drop(pushed);
+    succeeds(rt, new.push(entry(rt, alloc, " \"blah\"=0xDEADbeef")));
     push(rt, document, new);
 }
 
@@ -275,7 +272,7 @@ fn examples_of_arguments(rt: HostRuntime) {
     let mut args = document.iter_dash_args("foo");
     is_whole(&rt, args.next(), 1);
     is_whole(&rt, args.next(), 2);
-    equal(&rt, &args.next(), &Some(&KdlValue::from(false)));
+    is_value(&rt, args.next(), &KdlValue::from(false));
     is_absent(&rt, args.next());
     drop(document);
     let document = read(&rt, alloc, "foo 1 2 3\nbar #false");

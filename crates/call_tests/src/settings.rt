@@ -1,6 +1,6 @@
 //! One setting of a file that people keep is changed, and all else stays as it is, byte for byte.
 
-use crate::reading::{holds, identifier, prints, read};
+use crate::reading::{identifier, prints, read, succeeds};
 use kdl::{KdlDocument, KdlEntry, KdlNode, KdlValue, NodeKey};
 use std::alloc::Global;
 use std::process::Abort;
@@ -8,9 +8,7 @@ use std::process::Abort;
 /// Gives the node a property of that name, in the place of the last one there.
 fn put(rt: &impl Abort, alloc: Global, node: &mut KdlNode, name: &str, value: KdlValue) {
     let key = NodeKey::Key(identifier(rt, alloc, name));
-    let inserted = node.insert(key, KdlEntry::new(value));
-    holds(rt, inserted.is_ok(), "memory");
-    drop(inserted);
+    succeeds(rt, node.insert(key, KdlEntry::new(value)));
 }
 
 /// Gives each node of that name the port.

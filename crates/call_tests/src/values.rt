@@ -1,22 +1,29 @@
 //! Values, identifiers and entries: printed texts, the order of values, and their parts.
 
-use crate::reading::{equal, float, identifier, prints, string, text};
+use crate::reading::{
+    differ, equal, float, holds, identifier, is_text, is_whole, prints, string, text,
+};
 use kdl::{KdlEntry, KdlEntryFormat, KdlIdentifier, KdlValue};
 use std::alloc::Global;
 use std::cmp::Ordering;
 use std::process::Abort;
 
+/// The value prints the text.
+fn value_prints(rt: &impl Abort, alloc: Global, value: KdlValue, text: &str) {
+    prints(rt, alloc, &value, text);
+}
+
 #[test]
 fn printed_values(rt: HostRuntime) {
     let alloc = rt.alloc();
-    prints(&rt, alloc, &KdlValue::from(-17), "-17");
+    value_prints(&rt, alloc, KdlValue::from(-17), "-17");
     let least = "-170141183460469231731687303715884105728";
-    prints(&rt, alloc, &KdlValue::from(i128::MIN), least);
-    prints(&rt, alloc, &KdlValue::from(true), "#true");
-    prints(&rt, alloc, &KdlValue::from(false), "#false");
-    prints(&rt, alloc, &KdlValue::Null, "#null");
-    prints(&rt, alloc, &KdlValue::from(None), "#null");
-    prints(&rt, alloc, &KdlValue::from(Some(KdlValue::from(1))), "1");
+    value_prints(&rt, alloc, KdlValue::from(i128::MIN), least);
+    value_prints(&rt, alloc, KdlValue::from(true), "#true");
+    value_prints(&rt, alloc, KdlValue::from(false), "#false");
+    value_prints(&rt, alloc, KdlValue::Null, "#null");
+    value_prints(&rt, alloc, KdlValue::from(None), "#null");
+    value_prints(&rt, alloc, KdlValue::from(Some(KdlValue::from(1))), "1");
 }
 
 /// Values in their order.
@@ -34,12 +41,22 @@ fn ascending(rt: &impl Abort, alloc: Global) -> Vec<KdlValue> {
     .expect(rt, "memory")
 }
 
+/// The first value compares so with the second.
+fn compares(rt: &impl Abort, a: &KdlValue, b: &KdlValue, wanted: Ordering) {
+    equal(rt, &a.cmp(b), &wanted);
+    equal(rt, &(a == b), &(wanted == Ordering::Equal));
+}
+
+/// The value compares with each of the values as its index does with theirs.
+fn compares_with_each(rt: &impl Abort, index: usize, value: &KdlValue, values: &[KdlValue]) {
+    for (at, other) in values.iter().enumerate() {
+        compares(rt, value, other, index.cmp(&at));
+    }
+}
+
 fn check_ordered_values(rt: &impl Abort, values: &[KdlValue]) {
-    for (i, a) in values.iter().enumerate() {
-        for (j, b) in values.iter().enumerate() {
-            assert_eq!(rt; a.cmp(b), i.cmp(&j));
-            assert_eq!(rt; a == b, i == j);
-        }
+    for (index, value) in values.iter().enumerate() {
+        compares_with_each(rt, index, value, values);
     }
 }
 
@@ -48,7 +65,7 @@ fn ordered_values(rt: HostRuntime) {
     let alloc = rt.alloc();
     check_ordered_values(&rt, ascending(&rt, alloc).as_slice());
     let b = string(&rt, alloc, "b");
-    assert_eq!(rt; b.cmp(&string(&rt, alloc, "ab")), Ordering::Greater);
+    compares(&rt, &b, &string(&rt, alloc, "ab"), Ordering::Greater);
 }
 
 /// The kinds of a value: a string, a whole number, a float, a boolean, null.
@@ -62,37 +79,37 @@ fn kinds(value: &KdlValue) -> [bool; 5] {
     ]
 }
 
-/// The value is of this kind alone.
-fn is_of(rt: &impl Abort, value: &KdlValue, wanted: &[bool; 5]) {
-    equal(rt, &kinds(value), wanted);
+/// The value is of the kind at the index alone.
+fn is_of(rt: &impl Abort, value: KdlValue, index: usize) {
+    for (at, is_kind) in kinds(&value).iter().enumerate() {
+        equal(rt, is_kind, &(at == index));
+    }
 }
 
 #[test]
 fn kinds_of_values(rt: HostRuntime) {
-    let text = string(&rt, rt.alloc(), "a");
-    is_of(&rt, &text, &[true, false, false, false, false]);
-    equal(&rt, &text.as_string(), &Some("a"));
-    drop(text);
-    let decimal = KdlValue::from(float(&rt, rt.alloc(), "3.0"));
-    is_of(&rt, &decimal, &[false, false, true, false, false]);
-    drop(decimal);
-    is_of(&rt, &KdlValue::from(3), &[false, true, false, false, false]);
-    is_of(
-        &rt,
-        &KdlValue::from(true),
-        &[false, false, false, true, false],
-    );
-    is_of(&rt, &KdlValue::Null, &[false, false, false, false, true]);
-    equal(&rt, &KdlValue::from(3).as_integer(), &Some(3));
+    let alloc = rt.alloc();
+    is_text(&rt, Some(&string(&rt, alloc, "a")), "a");
+    is_of(&rt, string(&rt, alloc, "a"), 0);
+    is_of(&rt, KdlValue::from(3), 1);
+    is_of(&rt, KdlValue::from(float(&rt, alloc, "3.0")), 2);
+    is_of(&rt, KdlValue::from(true), 3);
+    is_of(&rt, KdlValue::Null, 4);
+    is_whole(&rt, Some(&KdlValue::from(3)), 3);
     equal(&rt, &KdlValue::from(true).as_bool(), &Some(true));
 }
 
+/// The identifier prints so many bytes.
+fn has_length(rt: &impl Abort, alloc: Global, name: &KdlIdentifier, length: usize) {
+    equal(rt, &name.len(alloc).expect(rt, "memory"), &length);
+}
+
 fn check_identifiers(rt: &impl Abort, alloc: Global, name: &mut KdlIdentifier) {
-    assert_eq!(rt; name.len(alloc).expect(rt, "memory"), 2);
+    has_length(rt, alloc, name, 2);
     name.set_repr(text(rt, alloc, "\"\\u{e9}\""));
-    assert_eq!(rt; name.len(alloc).expect(rt, "memory"), 8);
+    has_length(rt, alloc, name, 8);
     name.autoformat();
-    assert!(rt; name.repr().is_none());
+    holds(rt, name.repr().is_none(), "no spelling");
 }
 
 #[test]
@@ -100,7 +117,7 @@ fn identifiers(rt: HostRuntime) {
     let alloc = rt.alloc();
     check_identifiers(&rt, alloc, &mut identifier(&rt, alloc, "\u{e9}"));
     let is_empty = identifier(&rt, alloc, "").is_empty(alloc);
-    assert!(rt; !is_empty.expect(&rt, "memory"));
+    holds(&rt, !is_empty.expect(&rt, "memory"), "two quotes");
 }
 
 /// The texts around `k=(t)1`.
@@ -127,8 +144,9 @@ fn property(rt: &impl Abort, alloc: Global) -> KdlEntry {
 /// The entry prints the text, and has its length.
 fn entry_prints(rt: &impl Abort, alloc: Global, entry: &KdlEntry, text: &str) {
     prints(rt, alloc, entry, text);
-    assert_eq!(rt; entry.len(alloc).expect(rt, "memory"), text.len());
-    assert_eq!(rt; entry.is_empty(alloc).expect(rt, "memory"), text.is_empty());
+    equal(rt, &entry.len(alloc).expect(rt, "memory"), &text.len());
+    let is_empty = entry.is_empty(alloc).expect(rt, "memory");
+    equal(rt, &is_empty, &text.is_empty());
 }
 
 fn check_entries(rt: &impl Abort, alloc: Global, entry: &mut KdlEntry) {
@@ -149,13 +167,13 @@ fn entries(rt: HostRuntime) {
 }
 
 fn check_formats_count(rt: &impl Abort, entry: &mut KdlEntry, other: &mut KdlEntry) {
-    assert!(rt; *entry == *other);
+    equal(rt, entry, other);
     entry.keep_format();
     entry.autoformat();
     entry.autoformat();
-    assert!(rt; *entry != *other);
+    differ(rt, entry, other);
     other.clear_format();
-    assert!(rt; *entry == *other);
+    equal(rt, entry, other);
 }
 
 #[test]
