@@ -83,7 +83,8 @@ pub use Rattle.kdl_fmt.specs.Formatted.{DocumentKeepsNone, DocumentLevelsFit, No
 pub use Rattle.kdl.specs.Layout.{DocumentKeepsNoForm, NodeKeepsNoForm}
 -- What it makes, with comments and without, and what stays.
 pub use Rattle.kdl_fmt.specs.WithComments.{IsFormattedDocument, IsFormattedNode}
-pub use Rattle.kdl.specs.Layout.{DocumentLaidOut, NodeLaidOut}
+pub use Rattle.kdl.specs.Layout.{DocumentLaidOut, DocumentSpaced, NodeLaidOut, NodeSpaced}
+pub use Rattle.kdl_fmt.specs.Spaced.{IsSpacedDocument, IsSpacedNode}
 pub use Rattle.kdl_fmt.specs.Formatted.{formatted_document}
 pub use Rattle.kdl.specs.Layout.{document_bare, node_bare, plain_document, plain_node}
 pub use Rattle.kdl_fmt.specs.Comments.{CommentsStay}

@@ -1,28 +1,34 @@
 //! How nodes are laid out: over a stack in memory and without recursion, however deep their blocks are.
 
-ghost use Rattle.kdl.specs.Internal.Laid.{GoesOn, IsUnderWay, Laid, whole};
-ghost use Rattle.kdl.specs.Tree.{node_tree};
-ghost use Rattle.kdl_fmt.specs.Config.{Settings, indentation, settings};
+ghost use Rattle.kdl.specs.Internal.Laid.{AreLaid, GoesOn, IsUnderWay, whole};
+ghost use Rattle.kdl.specs.Tree.{node_tree, nodes_tree};
+ghost use Rattle.kdl_fmt.specs.Config.{indentation, settings};
 ghost use Rattle.kdl_fmt.specs.Formatted.{bare_node};
+ghost use Rattle.kdl_fmt.specs.Plain.{newline_if};
+ghost use Rattle.kdl_fmt.specs.Spaced.{PassesNodes};
+ghost use Rattle.kdl_fmt.specs.declared.blank.Before.{Before};
+ghost use Rattle.kdl_fmt.specs.declared.config.Layout.{Layout};
+ghost use Rattle.kdl_fmt.specs.Formatted.{newline_if_none};
 ghost use Rattle.kdl_grammar.specs.Tree.{Node};
 ghost use Rattle.kdl_value.specs.Tree.{text_of};
-ghost use Rattle.std.specs.List.{AllZip};
-ghost use Rattle.std.specs.Prelude.{◌≡◌, ◌+◌, ◌<◌, ◌≤◌, ◌++◌, ◌∷◌, [], ℕ, IfOk, List, OnOk, map, vec_len, vec_capacity};
+ghost use Rattle.std.specs.Prelude.{◌≡◌, ◌+◌, ◌<◌, ◌≤◌, ◌++◌, ◌∷◌, [], ℕ, IfOk, List, OnOk, is_none, map, unwrap_or, vec_len, vec_capacity};
 
 use crate::node::KdlNode;
-use kdl_fmt::FormatConfig;
 use kdl_fmt::layout::indentation;
+use kdl_fmt::{Before, Layout};
 use std::alloc::AllocError;
 use std::mem;
 
 /// The nodes of a block that is being laid out: those before `at` are laid out. In a block above, that at `at` is laid
-/// out but for its own block, whose nodes are taken out.
+/// out but for its own block, whose nodes are taken out. `next` is what comes before the next node, which is not laid
+/// out.
 #[derive(Drop)]
 struct Block {
     nodes: Vec<KdlNode>,
     at: usize,
     level: usize,
     before: String,
+    next: Before,
 }
 
 /// The blocks that are being laid out: the innermost one, and those above it.
@@ -34,27 +40,27 @@ struct Blocks {
 
 impl Blocks {
     /// The level of the next node's block, and the indentation there; makes room for one more block above.
-    fn next_level(&mut self, config: &FormatConfig) -> Result<(usize, String), AllocError>
+    fn next_level(&mut self, layout: &Layout) -> Result<(usize, String), AllocError>
         ensures above { self.new.above.items ≡ self.old.above.items }
         ensures inner { self.new.inner ≡ self.old.inner }
         ensures room { OnOk result (vec_len self.new.above < vec_capacity self.new.above) }
         ensures level { IfOk result (λ (l, before). (l ≡ self.old.inner.level + 1)
-            × (text_of before ≡ indentation (settings config.now) l)) }
+            × (text_of before ≡ indentation (settings layout.now.config) l)) }
     {
         let Some(level) = self.inner.level.checked_add(1) else {
             return Err(AllocError);
         };
-        let before = indentation(*self.above.allocator(), config, level)?;
+        let before = indentation(*self.above.allocator(), &layout.config, level)?;
         self.above.reserve(1)?;
         Ok((level, before))
     }
 
     /// Lays out the next node, but not the nodes in its block. These are next, or else what follows the node.
-    fn lay_out_next(&mut self, config: &FormatConfig) -> Result<(), AllocError>
+    fn lay_out_next(&mut self, layout: &Layout) -> Result<(), AllocError>
         requires { self.old.inner.at < vec_len self.old.inner.nodes }
         ensures kept { map bare_node (whole self.new.above.items self.new.inner) ≡
             map bare_node (whole self.old.above.items self.old.inner) }
-        ensures goes_on { OnOk result (GoesOn (settings config.now)
+        ensures goes_on { OnOk result (GoesOn layout.now
             self.old.above.items self.old.inner self.new.above.items self.new.inner) }
     {
         let Block {
@@ -62,14 +68,16 @@ impl Blocks {
             at,
             level,
             before,
+            next,
         } = &mut self.inner;
         let node = &mut nodes[*at];
-        node.lay_out_own(config, *level, before.as_str())?;
+        let (behind, first) = node.lay_out_own(layout, *level, before.as_str(), *next)?;
+        *next = behind;
         if !node.has_nodes() {
             *at += 1;
             return Ok(());
         }
-        let (level, before) = self.next_level(config)?;
+        let (level, before) = self.next_level(layout)?;
         let alloc = *self.above.allocator();
         let at = self.inner.at;
         let nodes = self.inner.nodes[at].exchange_nodes(Vec::new(alloc));
@@ -78,6 +86,7 @@ impl Blocks {
             at: 0,
             level,
             before,
+            next: first,
         };
         let outer = mem::replace(&mut self.inner, block);
         self.above.push_reserved(outer);
@@ -88,8 +97,8 @@ impl Blocks {
     fn leave(&mut self, outer: Block)
         ensures whole { whole self.new.above.items self.new.inner ≡
             whole (self.old.above.items ++ outer ∷ []) self.old.inner }
-        ensures goes_on { vec_len self.old.inner.nodes ≤ self.old.inner.at → (s : Settings)
-            → GoesOn s (self.old.above.items ++ outer ∷ []) self.old.inner
+        ensures goes_on { vec_len self.old.inner.nodes ≤ self.old.inner.at → (l : Layout)
+            → GoesOn l (self.old.above.items ++ outer ∷ []) self.old.inner
             self.new.above.items self.new.inner }
         ensures above { self.new.above ≡ self.old.above }
     {
@@ -102,18 +111,17 @@ impl Blocks {
     }
 
     /// Lays out all that is left.
-    fn lay_out(&mut self, config: &FormatConfig) -> Result<(), AllocError>
+    fn lay_out(&mut self, layout: &Layout) -> Result<(), AllocError>
         ensures kept { map bare_node (whole self.new.above.items self.new.inner) ≡
             map bare_node (whole self.old.above.items self.old.inner) }
-        ensures laid { OnOk result ((level : ℕ) (olds : List Node)
-            → IsUnderWay (settings config.now) level olds self.old.above.items self.old.inner
+        ensures laid { OnOk result ((level : ℕ) (c : Before) (olds : List Node)
+            → IsUnderWay layout.now level c olds self.old.above.items self.old.inner
             → (self.new.above.items ≡ [])
-            × AllZip (Laid (settings config.now) level) olds
-            (map node_tree self.new.inner.nodes.items)) }
+            × AreLaid layout.now level c olds (map node_tree self.new.inner.nodes.items)) }
     {
         'steps: loop {
             if self.inner.at < self.inner.nodes.len() {
-                self.lay_out_next(config)?;
+                self.lay_out_next(layout)?;
             } else if let Some(outer) = self.above.pop() {
                 self.leave(outer);
             } else {
@@ -135,28 +143,44 @@ impl Blocks {
             at: _,
             level: _,
             before: _,
+            next: _,
         } = inner;
         nodes
     }
 }
 
-/// Lays out nodes at a level. Where there are none the level does not matter. Fails where memory runs out, or where
-/// a level would pass `usize`: then each node is in its place, and some of them are laid out.
+/// What comes before the text after the nodes, which are not laid out; none where there are no nodes.
+pub(crate) fn behind_nodes(nodes: &[KdlNode], layout: &Layout) -> Result<Option<Before>, AllocError>
+    ensures end { IfOk result (λ o. newline_if (is_none o) ≡ newline_if_none (nodes_tree nodes.now)) }
+    ensures passes { IfOk result (λ o. (b : Before)
+        → PassesNodes layout.now.blank_lines (settings layout.now.config) b
+        (nodes_tree nodes.now) (unwrap_or o b)) }
+{
+    match nodes.last() {
+        Some(node) => Ok(Some(node.behind(layout)?)),
+        None => Ok(None),
+    }
+}
+
+/// Lays out nodes at a level, the first one after what comes before it. Where there are none the level does not matter.
+/// Fails where memory runs out, or where a level would pass `usize`: then each node is in its place, and some of them
+/// are laid out.
 pub(crate) fn lay_out_nodes(
     nodes: &mut Vec<KdlNode>,
-    config: &FormatConfig,
+    layout: &Layout,
     level: usize,
+    first: Before,
 ) -> Result<(), AllocError>
     ensures kept { map bare_node (map node_tree nodes.new.items) ≡
         map bare_node (map node_tree nodes.old.items) }
-    ensures laid { OnOk result (AllZip (Laid (settings config.now) level)
+    ensures laid { OnOk result (AreLaid layout.now level first
         (map node_tree nodes.old.items) (map node_tree nodes.new.items)) }
 {
     if nodes.is_empty() {
         return Ok(());
     }
     let alloc = *nodes.allocator();
-    let before = indentation(alloc, config, level)?;
+    let before = indentation(alloc, &layout.config, level)?;
     let mut blocks = Blocks {
         above: Vec::new(alloc),
         inner: Block {
@@ -164,9 +188,10 @@ pub(crate) fn lay_out_nodes(
             at: 0,
             level,
             before,
+            next: first,
         },
     };
-    let outcome = blocks.lay_out(config);
+    let outcome = blocks.lay_out(layout);
     *nodes = blocks.into_nodes();
     outcome
 }

@@ -3,7 +3,9 @@
 use crate::dump::Dump;
 use crate::fault::Fault;
 use crate::places::Setting;
-use kdl::{FormatConfig, KdlDocument, KdlEntry, KdlIdentifier, KdlNode, KdlValue, ParseFailure};
+use kdl::{
+    FormatConfig, KdlDocument, KdlEntry, KdlIdentifier, KdlNode, KdlValue, Layout, ParseFailure,
+};
 use kdl_faults::Whole;
 use std::alloc::{AllocError, Global};
 
@@ -119,6 +121,27 @@ impl Item {
         match self {
             Item::Document(document) => document.autoformat_config(&config),
             Item::Node(node) => node.autoformat_config(&config),
+            _ => Ok(()),
+        }
+    }
+
+    /// Lays out a document or a node at that level, with no more than so many blank lines between two nodes or comments.
+    pub fn lay_out_spaced(
+        &mut self,
+        level: Option<usize>,
+        no_comments: bool,
+        blank_lines: usize,
+    ) -> Result<(), AllocError> {
+        let layout = Layout {
+            config: FormatConfig::builder()
+                .maybe_indent_level(level)
+                .no_comments(no_comments)
+                .build(),
+            blank_lines,
+        };
+        match self {
+            Item::Document(document) => document.autoformat_layout(&layout),
+            Item::Node(node) => node.autoformat_layout(&layout),
             _ => Ok(()),
         }
     }

@@ -9,20 +9,22 @@ use crate::line::{Call, Line};
 use crate::places::Setting;
 use kdl_faults::Whole;
 
-/// An expected line of layout: its text, where it says what is printed, whether comments are left out, and whether the
-/// first entry of the first node is flagged to keep its form.
+/// An expected line of layout: its text, where it says what is printed, whether comments are left out, whether the
+/// first entry of the first node is flagged to keep its form, and how many blank lines stay, where the line says it.
 #[derive(Clone, Copy)]
 pub struct Asked<'a> {
     line: &'a str,
     text: Option<&'a str>,
     no_comments: bool,
     is_kept: bool,
+    blank_lines: Option<usize>,
 }
 
 impl<'a> Asked<'a> {
     /// What the line asks for, if it is one of layout.
     pub fn of(line: &'a str) -> Option<Asked<'a>> {
         let Line { label, text } = Line::of(line);
+        let (label, blank_lines) = counted(label);
         let (no_comments, is_kept) = match (label, text) {
             ("fmt", Some(_)) | ("fmts", None) => (false, false),
             ("strip", Some(_)) | ("strips", None) => (true, false),
@@ -35,8 +37,19 @@ impl<'a> Asked<'a> {
             text,
             no_comments,
             is_kept,
+            blank_lines,
         })
     }
+}
+
+/// The label without the number at its end, as in `fmt 1`, and the number.
+fn counted(label: &str) -> (&str, Option<usize>) {
+    if let Some((before, number)) = label.split_once(' ') {
+        if let Ok(number) = number.parse::<usize>() {
+            return (before, Some(number));
+        }
+    }
+    (label, None)
 }
 
 /// The text laid out prints what is wanted, which has the same data. Laid out again it prints the same, and so does what
@@ -93,6 +106,10 @@ fn put_place(case: &Case<'_>, item: &mut Item, place: &str, notation: &str) -> R
 /// Lays out the item as the line and the row's settings say.
 fn lay_out(case: &Case<'_>, asked: Asked<'_>, item: &mut Item) -> Result<(), Fault> {
     let level = level(case)?;
+    if let Some(blank_lines) = asked.blank_lines {
+        item.lay_out_spaced(level, asked.no_comments, blank_lines)?;
+        return Ok(());
+    }
     match case.row.setting("indent") {
         Some(indent) => {
             let indent = case.fills.decoded(indent)?;

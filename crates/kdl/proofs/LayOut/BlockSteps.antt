@@ -1,17 +1,18 @@
 -- Blocks that are laid out, step by step.
 use Rattle.std.proofs.Common.{◌≡◌, ℕ, zero, suc, ◌+◌, ◌<◌, ◌≤◌, List, [], ◌∷◌, ◌++◌, length, map, drop, set, get_or, Option, None, Some, option_map, refl, sym, ap, ◌∙◌, subst, arith, add-one, Vec, Global, Result, Ok, Err, IfOk}
-use Rattle.std.specs.List.{AllZip}
 use Rattle.std.specs.Prelude.{MatchOption}
 use Rattle.std.proofs.lemmas.List.{append-nil, drop_more, drop_all, drop-set-lt, get_or-set_same}
 use Rattle.kdl_value.specs.Tree.{text_of}
-use Rattle.kdl_fmt.specs.Config.{Settings, indentation}
+use Rattle.kdl_fmt.specs.Config.{indentation, settings}
+use Rattle.kdl_fmt.specs.declared.blank.Before.{Before}
+use Rattle.kdl_fmt.specs.declared.config.Layout.{Layout}
 use Rattle.kdl_fmt.specs.Formatted.{bare_node, bare_children, bare_nodes}
 use Rattle.kdl_grammar.specs.Tree.{Node, node, children, children_of, document, listed_nodes}
 use Rattle.kdl_parts.specs.Formats.{document_format_tree}
 use Rattle.kdl.specs.Change.{with_nodes}
 use Rattle.kdl.specs.Internal.Count.{count_left}
 use Rattle.kdl.specs.Iterators.{child_nodes, nodes_in}
-use Rattle.kdl.specs.Internal.Laid.{filled_block, filled, with_at, outermost, whole, Laid, Partly, PartlyOpen, LaidBut, IsAtLevel, IsUnderWay, GoesOn}
+use Rattle.kdl.specs.Internal.Laid.{filled_block, filled, with_at, outermost, whole, Laid, PassesAt, AreLaid, Partly, PartlyOpen, LaidBut, IsAtLevel, IsUnderWay, GoesOn}
 use Rattle.kdl.specs.Tree.{head_tree, node_tree, document_tree}
 use Rattle.kdl.specs.declared.node.KdlNode.{KdlNode}
 use Rattle.kdl.specs.declared.document.KdlDocument.{KdlDocument}
@@ -60,11 +61,11 @@ node_below n m o e f =
     ∙ ap (λ k. node (head_tree (out-KdlNode n)) k) (f (map node_tree (nodes_in o)))
 
 -- it is laid out where these are
-pub laid_below : {E : Type 0} (r : Result (Unit {0}) E) (s : Settings) (level : ℕ) (n n' m : KdlNode) (o : Option KdlDocument) → node_tree m ≡ filled n' (map node_tree (nodes_in o)) → child_nodes n' ≡ child_nodes n
-    → LaidBut s level (node_tree n) (map node_tree (child_nodes n)) n' → IfOk r (λ _. AllZip (Laid s (level + 1)) (map node_tree (child_nodes n')) (map node_tree (nodes_in o)))
-    → IfOk r (λ _. Laid s level (node_tree n) (node_tree m))
-laid_below (Ok u) s level n n' m o e b l z = rw e (l (map node_tree (nodes_in o)) (subst (λ x. AllZip (Laid s (level + 1)) (map node_tree x) (map node_tree (nodes_in o))) b z))
-laid_below (Err x) s level n n' m o e b l z = z
+pub laid_below : {E : Type 0} (r : Result (Unit {0}) E) (l : Layout) (level : ℕ) (c first : Before) (n n' m : KdlNode) (o : Option KdlDocument) → node_tree m ≡ filled n' (map node_tree (nodes_in o)) → child_nodes n' ≡ child_nodes n
+    → LaidBut l level c (node_tree n) first (map node_tree (child_nodes n)) n' → IfOk r (λ _. AreLaid l (level + 1) first (map node_tree (child_nodes n')) (map node_tree (nodes_in o)))
+    → IfOk r (λ _. Laid l level c (node_tree n) (node_tree m))
+laid_below (Ok u) l level c first n n' m o e b f z = rw e (f (map node_tree (nodes_in o)) (subst (λ x. AreLaid l (level + 1) first (map node_tree x) (map node_tree (nodes_in o))) b z))
+laid_below (Err x) l level c first n n' m o e b f z = z
 
 -- what stays in a block
 bared : (ns : List Node) → bare_nodes (listed_nodes ns) ≡ listed_nodes (map bare_node ns)
@@ -117,128 +118,127 @@ with_at_none f (n ∷ ns) zero h = absurd (omega arith)
 with_at_none f (n ∷ ns) (suc i) h = ap (λ x. node_tree n ∷ x) (with_at_none f ns i (omega arith))
 
 -- how far the nodes are laid out
-module _ (s : Settings) (level : ℕ) where
-  pub partly_none : (ns : List KdlNode) → Partly s level (map node_tree ns) ns 0
-  partly_none [] = tt
-  partly_none (n ∷ ns) = (refl, partly_none ns)
+module _ (l : Layout) (level : ℕ) where
+  pub partly_all : (c next : Before) (olds : List Node) (ns : List KdlNode) (i : ℕ) → length ns ≤ i → Partly l level c olds ns i next → AreLaid l level c olds (map node_tree ns)
+  partly_all c next olds [] zero h p = subst (λ (x : List Node). AreLaid l level c x []) p.1 tt
+  partly_all c next olds (n ∷ ns) zero h p = absurd (omega arith)
+  partly_all c next [] [] (suc i) h p = absurd p
+  partly_all c next [] (n ∷ ns) (suc i) h p = absurd p
+  partly_all c next (o ∷ olds) [] (suc i) h p = absurd p
+  partly_all c next (o ∷ olds) (n ∷ ns) (suc i) h p = (p.0, p.1, p.2, partly_all p.0 next olds ns i (omega arith) p.3)
 
-  pub partly_all : (olds : List Node) (ns : List KdlNode) (i : ℕ) → length ns ≤ i → Partly s level olds ns i → AllZip (Laid s level) olds (map node_tree ns)
-  partly_all [] [] i h p = tt
-  partly_all [] (n ∷ ns) i h p = absurd p
-  partly_all (o ∷ olds) [] i h p = absurd p
-  partly_all (o ∷ olds) (n ∷ ns) zero h p = absurd (omega arith)
-  partly_all (o ∷ olds) (n ∷ ns) (suc i) h p = (p.0, partly_all olds ns i (omega arith) p.1)
+  pub partly_next : (c next next' : Before) (olds : List Node) (ns : List KdlNode) (i : ℕ) (m d : KdlNode) → i < length ns → Laid l level next (node_tree (get_or ns i d)) (node_tree m) → PassesAt l (node_tree (get_or ns i d)) next'
+      → Partly l level c olds ns i next → Partly l level c olds (set ns i m) (suc i) next'
+  partly_next c next next' olds [] i m d h w q p = absurd (omega arith)
+  partly_next c next next' olds (n ∷ ns) zero m d h w q p =
+      subst (λ (x : List Node). Partly l level c x (m ∷ ns) 1 next') p.1 (next', subst (λ (x : Before). Laid l level x (node_tree n) (node_tree m)) p.0 w, q, (refl, refl))
+  partly_next c next next' [] (n ∷ ns) (suc i) m d h w q p = absurd p
+  partly_next c next next' (o ∷ olds) (n ∷ ns) (suc i) m d h w q p = (p.0, p.1, p.2, partly_next p.0 next next' olds ns i m d (omega arith) w q p.3)
 
-  pub partly_next : (olds : List Node) (ns : List KdlNode) (i : ℕ) (m d : KdlNode) → i < length ns → Laid s level (node_tree (get_or ns i d)) (node_tree m) → Partly s level olds ns i
-      → Partly s level olds (set ns i m) (suc i)
-  partly_next [] [] i m d h l p = absurd (omega arith)
-  partly_next [] (n ∷ ns) i m d h l p = absurd p
-  partly_next (o ∷ olds) [] i m d h l p = absurd p
-  partly_next (o ∷ olds) (n ∷ ns) zero m d h l p = (subst (λ x. Laid s level x (node_tree m)) p.0 l, p.1)
-  partly_next (o ∷ olds) (n ∷ ns) (suc i) m d h l p = (p.0, partly_next olds ns i m d (omega arith) l p.1)
+  pub partly_open : (Open : Before → Node → KdlNode → Type 0) (c next next' : Before) (olds : List Node) (ns : List KdlNode) (i : ℕ) (m d : KdlNode) → i < length ns → Open next (node_tree (get_or ns i d)) m → PassesAt l (node_tree (get_or ns i d)) next'
+      → Partly l level c olds ns i next → PartlyOpen l level c Open olds (set ns i m) i next'
+  partly_open Open c next next' olds [] i m d h w q p = absurd (omega arith)
+  partly_open Open c next next' olds (n ∷ ns) zero m d h w q p = subst (λ (x : List Node). PartlyOpen l level c Open x (m ∷ ns) 0 next') p.1 (subst (λ (x : Before). Open x (node_tree n) m) p.0 w, q, refl)
+  partly_open Open c next next' [] (n ∷ ns) (suc i) m d h w q p = absurd p
+  partly_open Open c next next' (o ∷ olds) (n ∷ ns) (suc i) m d h w q p = (p.0, p.1, p.2, partly_open Open p.0 next next' olds ns i m d (omega arith) w q p.3)
 
-  pub partly_open : (Open : Node → KdlNode → Type 0) (olds : List Node) (ns : List KdlNode) (i : ℕ) (m d : KdlNode) → i < length ns → Open (node_tree (get_or ns i d)) m → Partly s level olds ns i
-      → PartlyOpen s level Open olds (set ns i m) i
-  partly_open Open [] [] i m d h l p = absurd (omega arith)
-  partly_open Open [] (n ∷ ns) i m d h l p = absurd p
-  partly_open Open (o ∷ olds) [] i m d h l p = absurd p
-  partly_open Open (o ∷ olds) (n ∷ ns) zero m d h l p = (subst (λ x. Open x m) p.0 l, p.1)
-  partly_open Open (o ∷ olds) (n ∷ ns) (suc i) m d h l p = (p.0, partly_open Open olds ns i m d (omega arith) l p.1)
+  pub partly_closed : (Open : Before → Node → KdlNode → Type 0) (c next : Before) (olds : List Node) (ns : List KdlNode) (i : ℕ) (m d : KdlNode) → ((x : Before) (o : Node) → Open x o (get_or ns i d) → Laid l level x o (node_tree m))
+      → PartlyOpen l level c Open olds ns i next → Partly l level c olds (set ns i m) (suc i) next
+  partly_closed Open c next [] [] i m d f p = absurd p
+  partly_closed Open c next [] (n ∷ ns) i m d f p = absurd p
+  partly_closed Open c next (o ∷ olds) [] i m d f p = absurd p
+  partly_closed Open c next (o ∷ olds) (n ∷ ns) zero m d f p = (next, f c o p.0, p.1, (refl, p.2))
+  partly_closed Open c next (o ∷ olds) (n ∷ ns) (suc i) m d f p = (p.0, p.1, p.2, partly_closed Open p.0 next olds ns i m d f p.3)
 
-  pub partly_closed : (Open : Node → KdlNode → Type 0) (olds : List Node) (ns : List KdlNode) (i : ℕ) (m d : KdlNode) → ((o : Node) → Open o (get_or ns i d) → Laid s level o (node_tree m))
-      → PartlyOpen s level Open olds ns i → Partly s level olds (set ns i m) (suc i)
-  partly_closed Open [] [] i m d l p = absurd p
-  partly_closed Open [] (n ∷ ns) i m d l p = absurd p
-  partly_closed Open (o ∷ olds) [] i m d l p = absurd p
-  partly_closed Open (o ∷ olds) (n ∷ ns) zero m d l p = (l o p.0, p.1)
-  partly_closed Open (o ∷ olds) (n ∷ ns) (suc i) m d l p = (p.0, partly_closed Open olds ns i m d l p.1)
+  pub open_inside : (Open : Before → Node → KdlNode → Type 0) (c next : Before) (olds : List Node) (ns : List KdlNode) (i : ℕ) → PartlyOpen l level c Open olds ns i next → i < length ns
+  open_inside Open c next [] [] i p = absurd p
+  open_inside Open c next [] (n ∷ ns) i p = absurd p
+  open_inside Open c next (o ∷ olds) [] i p = absurd p
+  open_inside Open c next (o ∷ olds) (n ∷ ns) zero p = omega arith
+  open_inside Open c next (o ∷ olds) (n ∷ ns) (suc i) p = let h = open_inside Open p.0 next olds ns i p.3 in omega (arith, h)
 
-  pub open_inside : (Open : Node → KdlNode → Type 0) (olds : List Node) (ns : List KdlNode) (i : ℕ) → PartlyOpen s level Open olds ns i → i < length ns
-  open_inside Open [] [] i p = absurd p
-  open_inside Open [] (n ∷ ns) i p = absurd p
-  open_inside Open (o ∷ olds) [] i p = absurd p
-  open_inside Open (o ∷ olds) (n ∷ ns) zero p = omega arith
-  open_inside Open (o ∷ olds) (n ∷ ns) (suc i) p = let h = open_inside Open olds ns i p.1 in omega (arith, h)
+  pub open_as : (Open Open' : Before → Node → KdlNode → Type 0) → ((x : Before) (o : Node) (n : KdlNode) → Open x o n → Open' x o n) → (c next : Before) (olds : List Node) (ns : List KdlNode) (i : ℕ)
+      → PartlyOpen l level c Open olds ns i next → PartlyOpen l level c Open' olds ns i next
+  open_as Open Open' f c next [] [] i p = absurd p
+  open_as Open Open' f c next [] (n ∷ ns) i p = absurd p
+  open_as Open Open' f c next (o ∷ olds) [] i p = absurd p
+  open_as Open Open' f c next (o ∷ olds) (n ∷ ns) zero p = (f c o n p.0, p.1, p.2)
+  open_as Open Open' f c next (o ∷ olds) (n ∷ ns) (suc i) p = (p.0, p.1, p.2, open_as Open Open' f p.0 next olds ns i p.3)
 
-  pub open_as : (Open Open' : Node → KdlNode → Type 0) → ((o : Node) (n : KdlNode) → Open o n → Open' o n) → (olds : List Node) (ns : List KdlNode) (i : ℕ)
-      → PartlyOpen s level Open olds ns i → PartlyOpen s level Open' olds ns i
-  open_as Open Open' f [] [] i p = absurd p
-  open_as Open Open' f [] (n ∷ ns) i p = absurd p
-  open_as Open Open' f (o ∷ olds) [] i p = absurd p
-  open_as Open Open' f (o ∷ olds) (n ∷ ns) zero p = (f o n p.0, p.1)
-  open_as Open Open' f (o ∷ olds) (n ∷ ns) (suc i) p = (p.0, open_as Open Open' f olds ns i p.1)
+-- the node at a place is laid out where the nodes in its block are, which are under way
+abbrev Opened : Layout → ℕ → List Block → Block → Before → Node → KdlNode → Type 0
+Opened l level above inner x o n = (first : Before) × (ns : List Node) × LaidBut l level x o first ns n × IsUnderWay l (level + 1) first ns above inner
 
 -- what a step does under all blocks above
-under_way : (s : Settings) (above tail tail' : List Block) (b b' : Block) → ((level : ℕ) (olds : List Node) → IsUnderWay s level olds tail b → IsUnderWay s level olds tail' b')
-    → (level : ℕ) (olds : List Node) → IsUnderWay s level olds (above ++ tail) b → IsUnderWay s level olds (above ++ tail') b'
-under_way s [] tail tail' b b' f level olds u = f level olds u
-under_way s (a ∷ above) tail tail' b b' f level olds u = (
+under_way : (l : Layout) (above tail tail' : List Block) (b b' : Block) → ((level : ℕ) (c : Before) (olds : List Node) → IsUnderWay l level c olds tail b → IsUnderWay l level c olds tail' b')
+    → (level : ℕ) (c : Before) (olds : List Node) → IsUnderWay l level c olds (above ++ tail) b → IsUnderWay l level c olds (above ++ tail') b'
+under_way l [] tail tail' b b' f level c olds u = f level c olds u
+under_way l (a ∷ above) tail tail' b b' f level c olds u = (
   u.0,
-  open_as s level
-      (λ o n. (ns : List Node) × LaidBut s level o ns n × IsUnderWay s (level + 1) ns (above ++ tail) b)
-      (λ o n. (ns : List Node) × LaidBut s level o ns n × IsUnderWay s (level + 1) ns (above ++ tail') b')
-      (λ o n q. (q.0, q.1, under_way s above tail tail' b b' f (level + 1) q.0 q.2)) olds a.nodes.items a.at u.1,
+  open_as l level (Opened l level (above ++ tail) b) (Opened l level (above ++ tail') b')
+      (λ x o n q. (q.0, q.1, q.2, under_way l above tail tail' b b' f (level + 1) q.0 q.1 q.3)) c a.next olds a.nodes.items a.at u.1,
 )
 
 -- the next node has no nodes in its block
-pub line_on : (s : Settings) (above : List Block) (b b' : Block) (m d : KdlNode) → b.at < length b.nodes.items → b'.nodes.items ≡ set b.nodes.items b.at m → b'.at ≡ b.at + 1 → b'.level ≡ b.level → b'.before ≡ b.before
-    → ((level : ℕ) → IsAtLevel s level b → Laid s level (node_tree (get_or b.nodes.items b.at d)) (node_tree m))
-    → (level : ℕ) (olds : List Node) → IsUnderWay s level olds above b → IsUnderWay s level olds above b'
-line_on s above b b' m d h ns at l t laid level olds u =
-    let f : (level : ℕ) (olds : List Node) → IsUnderWay s level olds [] b → IsUnderWay s level olds [] b' =
-    λ level olds u. (
-      rw (l, t) u.0,
-      rw (ns, at, add-one b.at) (partly_next s level olds b.nodes.items b.at m d h (laid level u.0) u.1),
+pub line_on : (l : Layout) (above : List Block) (b b' : Block) (m d : KdlNode) → b.at < length b.nodes.items → b'.nodes.items ≡ set b.nodes.items b.at m → b'.at ≡ b.at + 1 → b'.level ≡ b.level → b'.before ≡ b.before
+    → ((level : ℕ) → IsAtLevel l level b → Laid l level b.next (node_tree (get_or b.nodes.items b.at d)) (node_tree m) × PassesAt l (node_tree (get_or b.nodes.items b.at d)) b'.next)
+    → (level : ℕ) (c : Before) (olds : List Node) → IsUnderWay l level c olds above b → IsUnderWay l level c olds above b'
+line_on l above b b' m d h ns at y t laid level c olds u =
+    let f : (level : ℕ) (c : Before) (olds : List Node) → IsUnderWay l level c olds [] b → IsUnderWay l level c olds [] b' =
+    λ level c olds u. (
+      rw (y, t) u.0,
+      rw (ns, at, add-one b.at) (partly_next l level c b.next b'.next olds b.nodes.items b.at m d h (laid level u.0).0 (laid level u.0).1 u.1),
     ) in
-    subst (λ z. IsUnderWay s level olds z b') (append-nil above)
-    (under_way s above [] [] b b' f level olds (subst (λ z. IsUnderWay s level olds z b) (sym (append-nil above)) u))
+    subst (λ z. IsUnderWay l level c olds z b') (append-nil above)
+    (under_way l above [] [] b b' f level c olds (subst (λ z. IsUnderWay l level c olds z b) (sym (append-nil above)) u))
 
 -- the next node's block is entered
-pub block_on : (s : Settings) (above : List Block) (b outer inner : Block) (ns : List KdlNode) (m d : KdlNode) → b.at < length b.nodes.items
+pub block_on : (l : Layout) (above : List Block) (b outer inner : Block) (ns : List KdlNode) (m d : KdlNode) → b.at < length b.nodes.items
     → outer.nodes.items ≡ set b.nodes.items b.at m → outer.at ≡ b.at → outer.level ≡ b.level → outer.before ≡ b.before
     → inner.nodes.items ≡ ns → inner.at ≡ 0
-    → ((level : ℕ) → IsAtLevel s level b → LaidBut s level (node_tree (get_or b.nodes.items b.at d)) (map node_tree ns) m × IsAtLevel s (level + 1) inner)
-    → (level : ℕ) (olds : List Node) → IsUnderWay s level olds above b → IsUnderWay s level olds (above ++ outer ∷ []) inner
-block_on s above b outer inner ns m d h is at l t holds first laid level olds u =
-    let f : (level : ℕ) (olds : List Node) → IsUnderWay s level olds [] b → IsUnderWay s level olds (outer ∷ []) inner =
-    λ level olds u.
+    → ((level : ℕ) → IsAtLevel l level b
+    → LaidBut l level b.next (node_tree (get_or b.nodes.items b.at d)) inner.next (map node_tree ns) m × IsAtLevel l (level + 1) inner × PassesAt l (node_tree (get_or b.nodes.items b.at d)) outer.next)
+    → (level : ℕ) (c : Before) (olds : List Node) → IsUnderWay l level c olds above b → IsUnderWay l level c olds (above ++ outer ∷ []) inner
+block_on l above b outer inner ns m d h is at y t holds first laid level c olds u =
+    let f : (level : ℕ) (c : Before) (olds : List Node) → IsUnderWay l level c olds [] b → IsUnderWay l level c olds (outer ∷ []) inner =
+    λ level c olds u.
     let w = laid level u.0 in
-    let start : Partly s (level + 1) (map node_tree ns) inner.nodes.items inner.at = rw (holds, first) (partly_none s (level + 1) ns) in (
-      rw (l, t) u.0,
-      rw (is, at) (partly_open s level (λ o n. (ns : List Node) × LaidBut s level o ns n × IsUnderWay s (level + 1) ns [] inner) olds b.nodes.items b.at m d h (map node_tree ns, w.0, (w.1, start)) u.1),
+    let start : Partly l (level + 1) inner.next (map node_tree ns) inner.nodes.items inner.at inner.next = rw (holds, first) (refl, refl) in (
+      rw (y, t) u.0,
+      rw (is, at) (partly_open l level (Opened l level [] inner) c b.next outer.next olds b.nodes.items b.at m d h (inner.next, map node_tree ns, w.0, (w.1, start)) w.2 u.1),
     ) in
-    under_way s above [] (outer ∷ []) b inner f level olds (subst (λ z. IsUnderWay s level olds z b) (sym (append-nil above)) u)
+    under_way l above [] (outer ∷ []) b inner f level c olds (subst (λ z. IsUnderWay l level c olds z b) (sym (append-nil above)) u)
 
 -- a block is left
-pub end_on : (s : Settings) (above : List Block) (outer inner b : Block) (m d : KdlNode) → length inner.nodes.items ≤ inner.at
-    → (outer.at < length outer.nodes.items → (b.nodes.items ≡ set outer.nodes.items outer.at m) × (b.at ≡ outer.at + 1)) → b.level ≡ outer.level → b.before ≡ outer.before
+pub end_on : (l : Layout) (above : List Block) (outer inner b : Block) (m d : KdlNode) → length inner.nodes.items ≤ inner.at
+    → (outer.at < length outer.nodes.items → (b.nodes.items ≡ set outer.nodes.items outer.at m) × (b.at ≡ outer.at + 1)) → b.level ≡ outer.level → b.before ≡ outer.before → b.next ≡ outer.next
     → node_tree m ≡ filled (get_or outer.nodes.items outer.at d) (map node_tree inner.nodes.items)
-    → (level : ℕ) (olds : List Node) → IsUnderWay s level olds (above ++ outer ∷ []) inner → IsUnderWay s level olds above b
-end_on s above outer inner b m d all is l t e level olds u =
-    let f : (level : ℕ) (olds : List Node) → IsUnderWay s level olds (outer ∷ []) inner → IsUnderWay s level olds [] b =
-    λ level olds u.
-    let Open : Node → KdlNode → Type 0 = λ o n. (ns : List Node) × LaidBut s level o ns n × IsUnderWay s (level + 1) ns [] inner in
-    let w = is (open_inside s level Open olds outer.nodes.items outer.at u.1) in (
-      rw (l, t) u.0,
-      rw (w.0, w.1, add-one outer.at) (partly_closed s level Open olds outer.nodes.items outer.at m d
-          (λ o q. rw e (q.1 (map node_tree inner.nodes.items) (partly_all s (level + 1) q.0 inner.nodes.items inner.at all q.2.1))) u.1),
+    → (level : ℕ) (c : Before) (olds : List Node) → IsUnderWay l level c olds (above ++ outer ∷ []) inner → IsUnderWay l level c olds above b
+end_on l above outer inner b m d all is y t x e level c olds u =
+    let f : (level : ℕ) (c : Before) (olds : List Node) → IsUnderWay l level c olds (outer ∷ []) inner → IsUnderWay l level c olds [] b =
+    λ level c olds u.
+    let Open : Before → Node → KdlNode → Type 0 = Opened l level [] inner in
+    let w = is (open_inside l level Open c outer.next olds outer.nodes.items outer.at u.1) in (
+      rw (y, t) u.0,
+      rw (w.0, w.1, add-one outer.at, x) (partly_closed l level Open c outer.next olds outer.nodes.items outer.at m d
+          (λ x o q. rw e (q.2 (map node_tree inner.nodes.items) (partly_all l (level + 1) q.0 inner.next q.1 inner.nodes.items inner.at all q.3.1))) u.1),
     ) in
-    subst (λ z. IsUnderWay s level olds z b) (append-nil above) (under_way s above (outer ∷ []) [] inner b f level olds u)
+    subst (λ z. IsUnderWay l level c olds z b) (append-nil above) (under_way l above (outer ∷ []) [] inner b f level c olds u)
 
-end_on_none : (s : Settings) (above : List Block) (outer inner b : Block) → length outer.nodes.items ≤ outer.at
-    → (level : ℕ) (olds : List Node) → IsUnderWay s level olds (above ++ outer ∷ []) inner → IsUnderWay s level olds above b
-end_on_none s above outer inner b h level olds u =
-    let f : (level : ℕ) (olds : List Node) → IsUnderWay s level olds (outer ∷ []) inner → IsUnderWay s level olds [] b =
-    λ level olds u.
-    let k = open_inside s level (λ o n. (ns : List Node) × LaidBut s level o ns n × IsUnderWay s (level + 1) ns [] inner) olds outer.nodes.items outer.at u.1 in
+end_on_none : (l : Layout) (above : List Block) (outer inner b : Block) → length outer.nodes.items ≤ outer.at
+    → (level : ℕ) (c : Before) (olds : List Node) → IsUnderWay l level c olds (above ++ outer ∷ []) inner → IsUnderWay l level c olds above b
+end_on_none l above outer inner b h level c olds u =
+    let f : (level : ℕ) (c : Before) (olds : List Node) → IsUnderWay l level c olds (outer ∷ []) inner → IsUnderWay l level c olds [] b =
+    λ level c olds u.
+    let k = open_inside l level (Opened l level [] inner) c outer.next olds outer.nodes.items outer.at u.1 in
     absurd (omega (arith, h, k)) in
-    subst (λ z. IsUnderWay s level olds z b) (append-nil above) (under_way s above (outer ∷ []) [] inner b f level olds u)
+    subst (λ z. IsUnderWay l level c olds z b) (append-nil above) (under_way l above (outer ∷ []) [] inner b f level c olds u)
 
 -- nothing is left
-pub all_done : (s : Settings) (above : List Block) (b : Block) (level : ℕ) (olds : List Node) → above ≡ [] → length b.nodes.items ≤ b.at → IsUnderWay s level olds above b → AllZip (Laid s level) olds (map node_tree b.nodes.items)
-all_done s above b level olds e h u =
-    let w : IsUnderWay s level olds [] b = subst (λ z. IsUnderWay s level olds z b) e u in
-    partly_all s level olds b.nodes.items b.at h w.1
+pub all_done : (l : Layout) (above : List Block) (b : Block) (level : ℕ) (c : Before) (olds : List Node) → above ≡ [] → length b.nodes.items ≤ b.at → IsUnderWay l level c olds above b → AreLaid l level c olds (map node_tree b.nodes.items)
+all_done l above b level c olds e h u =
+    let w : IsUnderWay l level c olds [] b = subst (λ z. IsUnderWay l level c olds z b) e u in
+    partly_all l level c b.next olds b.nodes.items b.at h w.1
 
 -- what is left of a list of which one element is exchanged
 abbrev behind : Block → List KdlNode
@@ -262,23 +262,23 @@ end_whole_none above outer inner b h is =
 
 -- and what was under way goes on
 end_goes_on : (above : List Block) (outer inner b : Block) (n m : KdlNode) → (outer.at < length outer.nodes.items → (b.nodes.items ≡ set outer.nodes.items outer.at m) × (b.at ≡ outer.at + 1))
-    → drop b.at b.nodes.items ≡ behind outer → b.level ≡ outer.level → b.before ≡ outer.before
-    → node_tree m ≡ filled (get_or outer.nodes.items outer.at n) (map node_tree inner.nodes.items) → length inner.nodes.items ≤ inner.at → (s : Settings) → GoesOn s (above ++ outer ∷ []) inner above b
-end_goes_on above outer inner b n m is left l t e all s =
+    → drop b.at b.nodes.items ≡ behind outer → b.level ≡ outer.level → b.before ≡ outer.before → b.next ≡ outer.next
+    → node_tree m ≡ filled (get_or outer.nodes.items outer.at n) (map node_tree inner.nodes.items) → length inner.nodes.items ≤ inner.at → (s : Layout) → GoesOn s (above ++ outer ∷ []) inner above b
+end_goes_on above outer inner b n m is left l t x e all s =
     let nothing : drop inner.at inner.nodes.items ≡ [] = drop_all inner.at inner.nodes.items all in (
-      end_on s above outer inner b m n all is l t e,
+      end_on s above outer inner b m n all is l t x e,
       omega (arith, end_counted behind outer above, ap (λ r. count_left behind r above) left, ap (λ r. count_left behind r (above ++ outer ∷ [])) nothing),
     )
 
 pub end_goes_on_there : (above : List Block) (outer inner b : Block) (n m : KdlNode) → outer.at < length outer.nodes.items → get_or outer.nodes.items outer.at n ≡ n → node_tree m ≡ filled n (map node_tree inner.nodes.items)
-    → b.nodes.items ≡ set outer.nodes.items outer.at m → b.at ≡ outer.at + 1 → b.level ≡ outer.level → b.before ≡ outer.before
-    → length inner.nodes.items ≤ inner.at → (s : Settings) → GoesOn s (above ++ outer ∷ []) inner above b
-end_goes_on_there above outer inner b n m h g e is at l t all =
-    end_goes_on above outer inner b n m (λ _. (is, at)) (rw (is, at) (drop-set-lt (outer.at + 1) outer.nodes.items outer.at m (omega arith))) l t
+    → b.nodes.items ≡ set outer.nodes.items outer.at m → b.at ≡ outer.at + 1 → b.level ≡ outer.level → b.before ≡ outer.before → b.next ≡ outer.next
+    → length inner.nodes.items ≤ inner.at → (s : Layout) → GoesOn s (above ++ outer ∷ []) inner above b
+end_goes_on_there above outer inner b n m h g e is at l t x all =
+    end_goes_on above outer inner b n m (λ _. (is, at)) (rw (is, at) (drop-set-lt (outer.at + 1) outer.nodes.items outer.at m (omega arith))) l t x
     (e ∙ ap (λ x. filled x (map node_tree inner.nodes.items)) (sym g)) all
 
 pub end_goes_on_none : (above : List Block) (outer inner b : Block) → length outer.nodes.items ≤ outer.at → b.nodes.items ≡ outer.nodes.items → b.at ≡ outer.at → b.level ≡ outer.level → b.before ≡ outer.before
-    → length inner.nodes.items ≤ inner.at → (s : Settings) → GoesOn s (above ++ outer ∷ []) inner above b
+    → length inner.nodes.items ≤ inner.at → (s : Layout) → GoesOn s (above ++ outer ∷ []) inner above b
 end_goes_on_none above outer inner b h is at l t all s =
     let nothing : drop inner.at inner.nodes.items ≡ [] = drop_all inner.at inner.nodes.items all in
     let left : drop b.at b.nodes.items ≡ behind outer = rw (is, at) (drop_all outer.at outer.nodes.items h ∙ sym (drop_all (outer.at + 1) outer.nodes.items (omega (arith, h)))) in (
@@ -294,27 +294,31 @@ bare_next above b b' n m h g e is =
     (ap (λ z. map bare_node (map node_tree z)) is ∙ bare_set b.nodes.items b.at m n h (e ∙ ap (λ x. bare_node (node_tree x)) (sym g)))
 
 -- what is laid out at a block's level
-at_level : (s : Settings) (b : Block) (n m : KdlNode) → (text_of b.before ≡ indentation s b.level → LaidBut s b.level (node_tree n) (map node_tree (child_nodes n)) m)
-    → (level : ℕ) → IsAtLevel s level b → LaidBut s level (node_tree n) (map node_tree (child_nodes n)) m
-at_level s b n m own level u = subst (λ k. LaidBut s k (node_tree n) (map node_tree (child_nodes n)) m) u.0 (own (u.1 ∙ ap (indentation s) (sym u.0)))
+-- own is what a node becomes at it, and what comes after it
+abbrev pub Own : Layout → ℕ → Block → Before → Before → KdlNode → KdlNode → Type 0
+Own l level b next first n m = PassesAt l (node_tree n) next × LaidBut l level b.next (node_tree n) first (map node_tree (child_nodes n)) m
+
+at_level : (l : Layout) (b : Block) (next first : Before) (n m : KdlNode) → (text_of b.before ≡ indentation (settings l.config) b.level → Own l b.level b next first n m) → (level : ℕ) → IsAtLevel l level b → Own l level b next first n m
+at_level l b next first n m own level u = subst (λ k. Own l k b next first n m) u.0 (own (u.1 ∙ ap (indentation (settings l.config)) (sym u.0)))
 
 none_is : (xs : List KdlNode) → (0 < length xs → ⊥) → xs ≡ []
 none_is [] h = refl
 none_is (x ∷ xs) h = absurd (h (omega arith))
 
 -- the next node, without nodes in its block
-pub line_goes_on : (s : Settings) (above : List Block) (b b' : Block) (n m : KdlNode) → b.at < length b.nodes.items → get_or b.nodes.items b.at n ≡ n
+pub line_goes_on : (s : Layout) (above : List Block) (b b' : Block) (first : Before) (n m : KdlNode) → b.at < length b.nodes.items → get_or b.nodes.items b.at n ≡ n
     → b'.nodes.items ≡ set b.nodes.items b.at m → b'.at ≡ b.at + 1 → b'.level ≡ b.level → b'.before ≡ b.before
     → child_nodes m ≡ child_nodes n → (0 < length (child_nodes m) → ⊥)
-    → (text_of b.before ≡ indentation s b.level → LaidBut s b.level (node_tree n) (map node_tree (child_nodes n)) m) → GoesOn s above b above b'
-line_goes_on s above b b' n m h g is at l t same none own =
+    → (text_of b.before ≡ indentation (settings s.config) b.level → Own s b.level b b'.next first n m) → GoesOn s above b above b'
+line_goes_on s above b b' first n m h g is at l t same none own =
     let empty : child_nodes m ≡ [] = none_is (child_nodes m) none in
     let tree : node_tree m ≡ filled m [] = node_is m ∙ ap (λ z. filled m (map node_tree z)) empty in
-    let laid : (level : ℕ) → IsAtLevel s level b → Laid s level (node_tree n) (node_tree m) =
-    λ level u. subst (λ x. Laid s level (node_tree n) x) (sym tree) (at_level s b n m own level u [] (subst (λ z. AllZip (Laid s (level + 1)) (map node_tree z) []) (sym empty ∙ same) tt)) in
+    let laid : (level : ℕ) → IsAtLevel s level b → Laid s level b.next (node_tree n) (node_tree m) × PassesAt s (node_tree n) b'.next =
+    λ level u. let w = at_level s b b'.next first n m own level u in
+    (subst (λ x. Laid s level b.next (node_tree n) x) (sym tree) (w.1 [] (subst (λ z. AreLaid s (level + 1) first (map node_tree z) []) (sym empty ∙ same) tt)), w.0) in
     let rest : drop b'.at b'.nodes.items ≡ behind b = rw (is, at) (drop-set-lt (b.at + 1) b.nodes.items b.at m (omega arith)) in
     let first : drop b.at b.nodes.items ≡ n ∷ behind b = drop_more b.nodes.items b.at n h ∙ ap (λ x. x ∷ behind b) g in (
-      line_on s above b b' m n h is at l t (λ level u. subst (λ x. Laid s level (node_tree x) (node_tree m)) (sym g) (laid level u)),
+      line_on s above b b' m n h is at l t (λ level u. subst (λ x. Laid s level b.next (node_tree x) (node_tree m) × PassesAt s (node_tree x) b'.next) (sym g) (laid level u)),
       omega (arith, line_counted behind n (behind b) above, ap (λ r. count_left behind r above) rest, ap (λ r. count_left behind r above) first),
     )
 
@@ -332,7 +336,7 @@ nodes_taken None r v h m = absurd (omega (arith, h))
 nodes_taken (Some d) r v h m = ap (λ (x : Vec KdlNode Global). x.items) m
 
 -- the next node, of which the nodes in its block are taken out: b is its block, b1 is that with the node laid out
-module _ (s : Settings) (above : List Block) (b b1 outer inner : Block) (n m x x' : KdlNode) (v r : Vec KdlNode Global)
+module _ (s : Layout) (above : List Block) (b b1 outer inner : Block) (n m x x' : KdlNode) (v r : Vec KdlNode Global)
     (there : b.at < length b.nodes.items) (next : get_or b.nodes.items b.at n ≡ n)
     (items : b1.nodes.items ≡ set b.nodes.items b.at m) (place : b1.at ≡ b.at) (open_level : b1.level ≡ b.level) (open_before : b1.before ≡ b.before)
     (again : get_or b1.nodes.items b1.at x ≡ x)
@@ -362,14 +366,17 @@ module _ (s : Settings) (above : List Block) (b b1 outer inner : Block) (n m x x
       ap (map bare_node) (outermost_more above outer (map node_tree inner.nodes.items) ∙ ap (outermost above) two)
       ∙ bare_outermost above (map node_tree (set b.nodes.items b.at m)) (map node_tree b.nodes.items) (bare_set b.nodes.items b.at m n there (e ∙ ap (λ z. bare_node (node_tree z)) (sym next)))
 
-  pub block_goes_on : inner.at ≡ 0 → inner.level ≡ b1.level + 1 → text_of inner.before ≡ indentation s inner.level
-      → (text_of b.before ≡ indentation s b.level → LaidBut s b.level (node_tree n) (map node_tree (child_nodes n)) m) → GoesOn s above b (above ++ outer ∷ []) inner
+  pub block_goes_on : inner.at ≡ 0 → inner.level ≡ b1.level + 1 → text_of inner.before ≡ indentation (settings s.config) inner.level
+      → (text_of b.before ≡ indentation (settings s.config) b.level → Own s b.level b outer.next inner.next n m) → GoesOn s above b (above ++ outer ∷ []) inner
   block_goes_on first l t own =
       let w = block_is_there (out-KdlNode n).children (subst (λ z. 0 < length z) same some) in
-      let laid : (level : ℕ) → IsAtLevel s level b → LaidBut s level (node_tree (get_or b.nodes.items b.at n)) (map node_tree (child_nodes n)) x' × IsAtLevel s (level + 1) inner =
-      λ level u. (
-        λ ms z. rw (as_before ms, next) (at_level s b n m own level u ms z),
-        let k : inner.level ≡ level + 1 = l ∙ ap (λ z. z + 1) (open_level ∙ u.0) in (k, t ∙ ap (indentation s) k),
+      let laid : (level : ℕ) → IsAtLevel s level b
+      → LaidBut s level b.next (node_tree (get_or b.nodes.items b.at n)) inner.next (map node_tree (child_nodes n)) x' × IsAtLevel s (level + 1) inner × PassesAt s (node_tree (get_or b.nodes.items b.at n)) outer.next =
+      λ level u.
+      let w = at_level s b outer.next inner.next n m own level u in (
+        λ ms z. rw (as_before ms, next) (w.1 ms z),
+        let k : inner.level ≡ level + 1 = l ∙ ap (λ z. z + 1) (open_level ∙ u.0) in (k, t ∙ ap (indentation (settings s.config)) k),
+        rw next w.0,
       ) in
       let rest : behind outer ≡ behind b =
       ap (λ z. drop (outer.at + 1) z) outer_items ∙ ap (λ i. drop (i + 1) (set b.nodes.items b.at x')) (outer_at ∙ place) ∙ drop-set-lt (b.at + 1) b.nodes.items b.at x' (omega arith) in
@@ -381,14 +388,14 @@ module _ (s : Settings) (above : List Block) (b b1 outer inner : Block) (n m x x
       )
 
 -- a layout from the start to the end
-pub all_laid : {E : Type 0} (r : Result (Unit {0}) E) (s : Settings) (level : ℕ) (olds xs : List KdlNode) (above above' : List Block) (b b' : Block)
-    → above ≡ [] → b.nodes.items ≡ olds → b.at ≡ 0 → b.level ≡ level → text_of b.before ≡ indentation s level
+pub all_laid : {E : Type 0} (r : Result (Unit {0}) E) (l : Layout) (level : ℕ) (first : Before) (olds xs : List KdlNode) (above above' : List Block) (b b' : Block)
+    → above ≡ [] → b.nodes.items ≡ olds → b.at ≡ 0 → b.level ≡ level → text_of b.before ≡ indentation (settings l.config) level → b.next ≡ first
     → map node_tree xs ≡ whole above' b'
-    → IfOk r (λ _. (level : ℕ) (os : List Node) → IsUnderWay s level os above b → (above' ≡ []) × AllZip (Laid s level) os (map node_tree b'.nodes.items))
-    → IfOk r (λ _. AllZip (Laid s level) (map node_tree olds) (map node_tree xs))
-all_laid (Ok u) s level olds xs above above' b b' none holds first l t tree f =
-    let start : IsUnderWay s level (map node_tree olds) above b =
-    subst (λ z. IsUnderWay s level (map node_tree olds) z b) (sym none) ((l, t), rw (holds, first) (partly_none s level olds)) in
-    let w = f level (map node_tree olds) start in
+    → IfOk r (λ _. (level : ℕ) (c : Before) (os : List Node) → IsUnderWay l level c os above b → (above' ≡ []) × AreLaid l level c os (map node_tree b'.nodes.items))
+    → IfOk r (λ _. AreLaid l level first (map node_tree olds) (map node_tree xs))
+all_laid (Ok u) l level first olds xs above above' b b' none holds start y t next tree f =
+    let begun : IsUnderWay l level first (map node_tree olds) above b =
+    subst (λ z. IsUnderWay l level first (map node_tree olds) z b) (sym none) ((y, t), rw (holds, start) (next, refl)) in
+    let w = f level first (map node_tree olds) begun in
     rw (tree ∙ ap (λ z. whole z b') w.0) w.1
-all_laid (Err e) s level olds xs above above' b b' none holds first l t tree f = f
+all_laid (Err e) l level first olds xs above above' b b' none holds start y t next tree f = f

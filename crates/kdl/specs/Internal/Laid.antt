@@ -1,11 +1,12 @@
 -- How far layout has come, where some blocks are open.
 use Rattle.std.specs.Prelude.{◌≡◌, ℕ, zero, suc, ◌+◌, ◌<◌, List, [], ◌∷◌, map, drop, Option, option_map}
-use Rattle.std.specs.List.{AllZip}
 use Rattle.kdl_value.specs.Tree.{text_of}
 use Rattle.kdl_grammar.specs.Tree.{Node, node, node_data, Children, children_of}
-use Rattle.kdl_fmt.specs.Config.{Settings, indentation}
+use Rattle.kdl_fmt.specs.Config.{indentation, settings}
+use Rattle.kdl_fmt.specs.Spaced.{IsSpacedNode, PassesNode}
 use Rattle.kdl_fmt.specs.WellFormed.{IsWellFormedNode}
-use Rattle.kdl_fmt.specs.WithComments.{IsFormattedNode}
+use Rattle.kdl_fmt.specs.declared.blank.Before.{Before}
+use Rattle.kdl_fmt.specs.declared.config.Layout.{Layout}
 use Rattle.kdl.specs.Internal.Count.{count_left}
 use Rattle.kdl.specs.Tree.{head_tree, node_tree, document_of}
 use Rattle.kdl.specs.declared.node.KdlNode.{KdlNode}
@@ -36,42 +37,52 @@ outermost (b ∷ above) ns = with_at (λ n. filled n (outermost above ns)) b.nod
 abbrev pub whole : List Block → Block → List Node
 whole above inner = outermost above (map node_tree inner.nodes.items)
 
--- the second node is the first one, laid out, and its texts can be printed
-abbrev pub Laid : Settings → ℕ → Node → Node → Type 0
-Laid s level n n' = IsFormattedNode s level n n' × IsWellFormedNode (node_data n)
+-- the second node is the first one, laid out after what comes before it, and its texts can be printed
+abbrev pub Laid : Layout → ℕ → Before → Node → Node → Type 0
+Laid l level b n n' = IsSpacedNode l.blank_lines (settings l.config) level b n n' × IsWellFormedNode (node_data n)
 
--- the first i nodes are laid out, the others are as they were
-abbrev pub Partly : Settings → ℕ → List Node → List KdlNode → ℕ → Type 0
-Partly s level [] [] i = Unit {0}
-Partly s level (o ∷ olds) (n ∷ ns) zero = (node_tree n ≡ o) × Partly s level olds ns zero
-Partly s level (o ∷ olds) (n ∷ ns) (suc i) = Laid s level o (node_tree n) × Partly s level olds ns i
-Partly s level _ _ i = ⊥
+-- what comes before the thing after a node
+abbrev pub PassesAt : Layout → Node → Before → Type 0
+PassesAt l n b = PassesNode l.blank_lines (settings l.config) n b
 
--- the same, but for the node at i
-abbrev pub PartlyOpen : Settings → ℕ → (Node → KdlNode → Type 0) → List Node → List KdlNode → ℕ → Type 0
-PartlyOpen s level Open (o ∷ olds) (n ∷ ns) zero = Open o n × Partly s level olds ns zero
-PartlyOpen s level Open (o ∷ olds) (n ∷ ns) (suc i) = Laid s level o (node_tree n) × PartlyOpen s level Open olds ns i
-PartlyOpen s level Open _ _ i = ⊥
+-- nodes likewise
+abbrev pub AreLaid : Layout → ℕ → Before → List Node → List Node → Type 0
+AreLaid l level b [] [] = Unit {0}
+AreLaid l level b (o ∷ olds) (n ∷ ns) = (b' : Before) × Laid l level b o n × PassesAt l o b' × AreLaid l level b' olds ns
+AreLaid l level b _ _ = ⊥
 
--- a node is laid out where the nodes in its block are
-abbrev pub LaidBut : Settings → ℕ → Node → List Node → KdlNode → Type 0
-LaidBut s level o olds n = (ms : List Node) → AllZip (Laid s (level + 1)) olds ms → Laid s level o (filled n ms)
+-- the first i nodes are laid out, the others are as they were; `next` comes before the first of these
+abbrev pub Partly : Layout → ℕ → Before → List Node → List KdlNode → ℕ → Before → Type 0
+Partly l level b olds ns zero next = (next ≡ b) × (map node_tree ns ≡ olds)
+Partly l level b (o ∷ olds) (n ∷ ns) (suc i) next = (b' : Before) × Laid l level b o (node_tree n) × PassesAt l o b' × Partly l level b' olds ns i next
+Partly l level b _ _ (suc i) next = ⊥
+
+-- the same, but for the node at i; `next` comes before the one after it
+abbrev pub PartlyOpen : Layout → ℕ → Before → (Before → Node → KdlNode → Type 0) → List Node → List KdlNode → ℕ → Before → Type 0
+PartlyOpen l level b Open (o ∷ olds) (n ∷ ns) zero next = Open b o n × PassesAt l o next × (map node_tree ns ≡ olds)
+PartlyOpen l level b Open (o ∷ olds) (n ∷ ns) (suc i) next = (b' : Before) × Laid l level b o (node_tree n) × PassesAt l o b' × PartlyOpen l level b' Open olds ns i next
+PartlyOpen l level b Open _ _ i next = ⊥
+
+-- a node is laid out where the nodes in its block are, the first of them after `first`
+abbrev pub LaidBut : Layout → ℕ → Before → Node → Before → List Node → KdlNode → Type 0
+LaidBut l level b o first olds n = (ms : List Node) → AreLaid l (level + 1) first olds ms → Laid l level b o (filled n ms)
 
 -- the level of a block, and the indentation there
-abbrev pub IsAtLevel : Settings → ℕ → Block → Type 0
-IsAtLevel s level b = (b.level ≡ level) × (text_of b.before ≡ indentation s level)
+abbrev pub IsAtLevel : Layout → ℕ → Block → Type 0
+IsAtLevel l level b = (b.level ≡ level) × (text_of b.before ≡ indentation (settings l.config) level)
 
 -- of the nodes at a level, those before the open blocks are laid out
-abbrev pub IsUnderWay : Settings → ℕ → List Node → List Block → Block → Type 0
-IsUnderWay s level olds [] inner = IsAtLevel s level inner × Partly s level olds inner.nodes.items inner.at
-IsUnderWay s level olds (b ∷ above) inner =
-    IsAtLevel s level b × PartlyOpen s level (λ o n. (ns : List Node) × LaidBut s level o ns n × IsUnderWay s (level + 1) ns above inner) olds b.nodes.items b.at
+abbrev pub IsUnderWay : Layout → ℕ → Before → List Node → List Block → Block → Type 0
+IsUnderWay l level c olds [] inner = IsAtLevel l level inner × Partly l level c olds inner.nodes.items inner.at inner.next
+IsUnderWay l level c olds (b ∷ above) inner =
+    IsAtLevel l level b
+    × PartlyOpen l level c (λ c o n. (first : Before) × (ns : List Node) × LaidBut l level c o first ns n × IsUnderWay l (level + 1) first ns above inner) olds b.nodes.items b.at b.next
 
 -- how much is left to lay out
 abbrev pub left : List Block → Block → ℕ
 left above inner = count_left (λ b. drop (b.at + 1) b.nodes.items) (drop inner.at inner.nodes.items) above
 
 -- a step: what was under way is, and less is left
-abbrev pub GoesOn : Settings → List Block → Block → List Block → Block → Type 0
-GoesOn s above inner above' inner' =
-    ((level : ℕ) (olds : List Node) → IsUnderWay s level olds above inner → IsUnderWay s level olds above' inner') × (left above' inner' < left above inner)
+abbrev pub GoesOn : Layout → List Block → Block → List Block → Block → Type 0
+GoesOn l above inner above' inner' =
+    ((level : ℕ) (c : Before) (olds : List Node) → IsUnderWay l level c olds above inner → IsUnderWay l level c olds above' inner') × (left above' inner' < left above inner)

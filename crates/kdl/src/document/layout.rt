@@ -1,7 +1,7 @@
 //! Layout of documents.
 
 ghost use Rattle.kdl.specs.Finds.{FindsSame};
-ghost use Rattle.kdl.specs.Layout.{DocumentLaidOut, DocumentKeepsNoForm, IndentsBySpaces, document_bare, plain_document};
+ghost use Rattle.kdl.specs.Layout.{DocumentLaidOut, DocumentKeepsNoForm, DocumentSpaced, IndentsBySpaces, document_bare, plain_document};
 ghost use Rattle.kdl.specs.Tree.{document_prints, document_says, document_tree, nodes_tree};
 ghost use Rattle.kdl.specs.declared.document.KdlDocument.{out-KdlDocument};
 ghost use Rattle.kdl_fmt.specs.Canonical.{Canonical, canonical, canonical_text};
@@ -9,16 +9,16 @@ ghost use Rattle.kdl_fmt.specs.Comments.{CommentsStay};
 ghost use Rattle.kdl_fmt.specs.Config.{IsPlain, defaults, indentation, settings, without_comments};
 ghost use Rattle.kdl_fmt.specs.Formatted.{DocumentLevelsFit, or_empty_document};
 ghost use Rattle.kdl_fmt.specs.WellFormed.{AreWellFormed};
-ghost use Rattle.kdl_fmt.specs.WithComments.{IsBraced};
+ghost use Rattle.kdl_fmt.specs.Spaced.{IsSpacedBraced};
 ghost use Rattle.kdl_grammar.specs.Grammar.{IsDocument};
 ghost use Rattle.kdl_parts.specs.Formats.{document_format_tree};
-ghost use Rattle.std.specs.Prelude.{◌≡◌, ◌+◌, ◌<◌, ◌^◌, OnOk, false, option_map, true};
+ghost use Rattle.std.specs.Prelude.{◌≡◌, ◌+◌, ◌<◌, ◌^◌, IfOk, OnOk, false, option_map, true};
 ghost use Rattle.std.specs.Str.{chars};
 
 use crate::document::KdlDocument;
-use crate::lays::lay_out_nodes;
-use kdl_fmt::FormatConfig;
+use crate::lays::{behind_nodes, lay_out_nodes};
 use kdl_fmt::layout::{lay_out_braces, lay_out_content};
+use kdl_fmt::{Before, FormatConfig, Layout};
 use std::alloc::AllocError;
 
 impl KdlDocument {
@@ -113,43 +113,92 @@ impl KdlDocument {
             → Canonical (settings config.now).indent config.now.indent_level
             (document_says self.old)) }
     {
-        self.lay_out(config)
+        let layout = Layout {
+            config: *config,
+            blank_lines: 0,
+        };
+        self.lay_out(&layout)
+    }
+
+    /// Lays out the document like `autoformat_config`, and keeps blank lines between nodes, and between comments and what
+    /// a slashdash drops where these stay: as many as there are, but no more than the layout's number. There are none at
+    /// the start and at the end of the document, and of a block.
+    ///
+    /// Fails where memory runs out, or where the level of a child, or a number of newlines, would pass `usize`: then the
+    /// document says what it said, and some of it may be laid out.
+    ///
+    /// ```
+    /// let layout = Layout { config: FormatConfig::default(), blank_lines: 1 };
+    /// let mut document = KdlDocument::parse(alloc, "a;b\n\n\n\nc")?;
+    /// document.autoformat_layout(&layout)?; // prints `a`, `b`, an empty line and `c`
+    /// ```
+    pub fn autoformat_layout(&mut self, layout: &Layout) -> Result<(), AllocError>
+        ensures data { document_says self.new ≡ document_says self.old }
+        ensures finds { FindsSame self.old self.new }
+        ensures kept { document_bare self.new ≡ document_bare self.old }
+        ensures formatted { OnOk result (DocumentSpaced layout.now self.old self.new) }
+        ensures unspaced { OnOk result (layout.now.blank_lines ≡ 0
+            → DocumentLaidOut (settings layout.now.config) self.old self.new) }
+        ensures plain { OnOk result (layout.now.blank_lines ≡ 0
+            → layout.now.config.no_comments ≡ true
+            → document_tree self.new ≡ plain_document (settings layout.now.config) self.old) }
+        ensures levels { OnOk result
+            (DocumentLevelsFit layout.now.config.indent_level (document_tree self.old)) }
+        ensures keeps_none { OnOk result (DocumentKeepsNoForm self.new) }
+        ensures derived { OnOk result (IndentsBySpaces (settings layout.now.config)
+            → layout.now.config.entry_autoformate_keep ≡ false → DocumentKeepsNoForm self.old
+            → IsDocument true (document_prints self.new) (document_says self.old)) }
+        ensures comments { OnOk result (IndentsBySpaces (settings layout.now.config)
+            → layout.now.config.entry_autoformate_keep ≡ false
+            → layout.now.config.no_comments ≡ false → DocumentKeepsNoForm self.old
+            → CommentsStay (document_tree self.old) (document_prints self.new)) }
+        ensures prints { OnOk result (layout.now.blank_lines ≡ 0
+            → IsPlain (settings layout.now.config) → DocumentKeepsNoForm self.old
+            → document_prints self.new ≡ canonical (settings layout.now.config).indent
+            layout.now.config.indent_level (document_says self.old)) }
+        ensures reads { OnOk result (IndentsBySpaces (settings layout.now.config)
+            → Canonical (settings layout.now.config).indent layout.now.config.indent_level
+            (document_says self.old)) }
+    {
+        self.lay_out(layout)
     }
 
     /// Lays out the document at the configuration's level.
-    fn lay_out(&mut self, config: &FormatConfig) -> Result<(), AllocError>
+    fn lay_out(&mut self, layout: &Layout) -> Result<(), AllocError>
         ensures kept { document_bare self.new ≡ document_bare self.old }
-        ensures formatted { OnOk result (DocumentLaidOut (settings config.now) self.old self.new) }
+        ensures formatted { OnOk result (DocumentSpaced layout.now self.old self.new) }
         ensures well_formed { OnOk result (AreWellFormed (document_says self.old)) }
     {
         let alloc = *self.nodes.allocator();
-        let level = config.indent_level;
-        let is_empty = self.nodes.is_empty();
-        lay_out_content(&mut self.format, alloc, config, level, is_empty)?;
-        lay_out_nodes(&mut self.nodes, config, level)
+        let level = layout.config.indent_level;
+        let last = behind_nodes(&self.nodes, layout)?;
+        let first = lay_out_content(&mut self.format, alloc, layout, level, last)?;
+        lay_out_nodes(&mut self.nodes, layout, level, first)
     }
 
-    /// Lays out the document as the block of a node at a level, between braces, but for its nodes.
+    /// Lays out the document as the block of a node at a level, between braces, but for its nodes. Returns what comes
+    /// before the first of these.
     pub(crate) fn lay_out_block(
         &mut self,
-        config: &FormatConfig,
+        layout: &Layout,
         level: usize,
         before: &str,
-    ) -> Result<(), AllocError>
+    ) -> Result<Before, AllocError>
         ensures nodes { (out-KdlDocument self.new).nodes ≡ (out-KdlDocument self.old).nodes }
         ensures span { (out-KdlDocument self.new).span ≡ (out-KdlDocument self.old).span }
         ensures fits { OnOk result (level + 1 < 2 ^ 64) }
-        ensures formatted { OnOk result (chars before.now ≡ indentation (settings config.now) level
-            → IsBraced (settings config.now) level
+        ensures formatted { IfOk result (λ first.
+            chars before.now ≡ indentation (settings layout.now.config) level
+            → IsSpacedBraced layout.now.blank_lines (settings layout.now.config) level
             (nodes_tree (out-KdlDocument self.old).nodes.items)
             (or_empty_document (option_map document_format_tree (out-KdlDocument self.old).format))
-            (option_map document_format_tree (out-KdlDocument self.new).format)) }
+            first (option_map document_format_tree (out-KdlDocument self.new).format)) }
     {
         let Some(inner) = level.checked_add(1) else {
             return Err(AllocError);
         };
         let alloc = *self.nodes.allocator();
-        let is_empty = self.nodes.is_empty();
-        lay_out_braces(&mut self.format, alloc, config, inner, before, is_empty)
+        let last = behind_nodes(&self.nodes, layout)?;
+        lay_out_braces(&mut self.format, alloc, layout, inner, before, last)
     }
 }

@@ -3,8 +3,8 @@
 ghost use Rattle.kdl.specs.Change.{with_nodes};
 ghost use Rattle.kdl.specs.Finds.{NodeFindsSame};
 ghost use Rattle.kdl.specs.Iterators.{child_nodes, nodes_in};
-ghost use Rattle.kdl.specs.Internal.Laid.{Laid, LaidBut, filled_block};
-ghost use Rattle.kdl.specs.Layout.{IndentsBySpaces, NodeCommentsStay, NodeLaidOut, NodeKeepsNoForm, node_bare, plain_node};
+ghost use Rattle.kdl.specs.Internal.Laid.{AreLaid, LaidBut, PassesAt, filled_block};
+ghost use Rattle.kdl.specs.Layout.{IndentsBySpaces, NodeCommentsStay, NodeLaidOut, NodeKeepsNoForm, NodeSpaced, node_bare, plain_node};
 ghost use Rattle.kdl.specs.Tree.{document_tree, node_prints, node_says, node_tree, nodes_tree};
 ghost use Rattle.kdl.specs.declared.document.KdlDocument.{out-KdlDocument};
 ghost use Rattle.kdl.specs.declared.node.KdlNode.{out-KdlNode};
@@ -12,19 +12,19 @@ ghost use Rattle.kdl_fmt.specs.Canonical.{CanonicalNode, canonical_node};
 ghost use Rattle.kdl_fmt.specs.Config.{IsPlain, defaults, indentation, settings, without_comments};
 ghost use Rattle.kdl_fmt.specs.Formatted.{NodeLevelsFit, bare_children, bare_node};
 ghost use Rattle.kdl_fmt.specs.WellFormed.{IsWellFormedNode};
-ghost use Rattle.kdl_fmt.specs.WithComments.{AreFormattedNodes, IsFormattedChildren, IsFormattedNode};
+ghost use Rattle.kdl_fmt.specs.Spaced.{AreSpacedNodes, IsSpacedChildren, IsSpacedNode};
+ghost use Rattle.kdl_fmt.specs.declared.blank.Before.TheVariants.{Nothing};
 ghost use Rattle.kdl_grammar.specs.Data as data';
 ghost use Rattle.kdl_grammar.specs.Grammar.{IsDocument};
 ghost use Rattle.kdl_grammar.specs.Tree.{Node, children_of, listed_nodes};
-ghost use Rattle.std.specs.List.{AllZip};
-ghost use Rattle.std.specs.Prelude.{◌≡◌, ◌↔◌, ◌+◌, ◌<◌, IsTrue, List, MatchOption, OnOk, false, length, map, option_map, true};
+ghost use Rattle.std.specs.Prelude.{◌≡◌, ◌↔◌, ◌+◌, ◌<◌, IfOk, IsTrue, List, MatchOption, OnOk, false, length, map, option_map, true};
 ghost use Rattle.std.specs.Str.{chars};
 
 use crate::document::KdlDocument;
 use crate::lays::lay_out_nodes;
 use crate::node::KdlNode;
-use kdl_fmt::FormatConfig;
-use kdl_fmt::layout::{clear_spelling, indentation, lay_out_entries, lay_out_line};
+use kdl_fmt::layout::{behind_line, clear_spelling, indentation, lay_out_entries, lay_out_line};
+use kdl_fmt::{Before, FormatConfig, Layout};
 use std::alloc::AllocError;
 use std::mem;
 
@@ -122,49 +122,113 @@ impl KdlNode {
             → CanonicalNode (settings config.now).indent config.now.indent_level
             (node_says self.old)) }
     {
-        let alloc = *self.entries.allocator();
-        let level = config.indent_level;
-        let indentation = indentation(alloc, config, level)?;
-        self.lay_out(config, level, indentation.as_str())
+        let layout = Layout {
+            config: *config,
+            blank_lines: 0,
+        };
+        self.lay_out_alone(&layout)
     }
 
-    /// Lays out the node at a level, after the indentation of that level, and all below it.
-    fn lay_out(
-        &mut self,
-        config: &FormatConfig,
-        level: usize,
-        before: &str,
-    ) -> Result<(), AllocError>
-        requires { chars before.now ≡ indentation (settings config.now) level }
+    /// Lays out the node like `autoformat_config`, and keeps blank lines between the nodes in its blocks, and between
+    /// comments and what a slashdash drops where these stay: as many as there are, but no more than the layout's number.
+    /// There are none before the node, and none at the start and at the end of a block.
+    ///
+    /// Fails where memory runs out, or where the level of a child, or a number of newlines, would pass `usize`: then the
+    /// node says what it said, and some of it may be laid out.
+    ///
+    /// ```
+    /// let layout = Layout { config: FormatConfig::default(), blank_lines: 1 };
+    /// let mut node = KdlNode::parse(alloc, "a {\n\nb\n\nc\n\n}")?;
+    /// node.autoformat_layout(&layout)?; // prints `a {`, `b`, an empty line, `c` and `}`
+    /// ```
+    pub fn autoformat_layout(&mut self, layout: &Layout) -> Result<(), AllocError>
+        ensures data { node_says self.new ≡ node_says self.old }
+        ensures finds { NodeFindsSame self.old self.new }
         ensures kept { node_bare self.new ≡ node_bare self.old }
-        ensures formatted { OnOk result (IsFormattedNode (settings config.now) level
-            (node_tree self.old) (node_tree self.new)) }
+        ensures formatted { OnOk result (NodeSpaced layout.now self.old self.new) }
+        ensures unspaced { OnOk result (layout.now.blank_lines ≡ 0
+            → NodeLaidOut (settings layout.now.config) self.old self.new) }
+        ensures plain { OnOk result (layout.now.blank_lines ≡ 0
+            → layout.now.config.no_comments ≡ true
+            → node_tree self.new ≡ plain_node (settings layout.now.config) self.old) }
+        ensures levels { OnOk result
+            (NodeLevelsFit layout.now.config.indent_level (node_tree self.old)) }
+        ensures keeps_none { OnOk result (NodeKeepsNoForm self.new) }
+        ensures derived { OnOk result (IndentsBySpaces (settings layout.now.config)
+            → layout.now.config.entry_autoformate_keep ≡ false → NodeKeepsNoForm self.old
+            → IsDocument true (node_prints self.new)
+            (data'.first (node_says self.old) data'.none)) }
+        ensures comments { OnOk result (IndentsBySpaces (settings layout.now.config)
+            → layout.now.config.entry_autoformate_keep ≡ false
+            → layout.now.config.no_comments ≡ false → NodeKeepsNoForm self.old
+            → NodeCommentsStay (node_tree self.old) (node_prints self.new)) }
+        ensures prints { OnOk result (layout.now.blank_lines ≡ 0
+            → IsPlain (settings layout.now.config) → NodeKeepsNoForm self.old
+            → node_prints self.new ≡ canonical_node (settings layout.now.config).indent
+            layout.now.config.indent_level (node_says self.old)) }
+        ensures reads { OnOk result (IndentsBySpaces (settings layout.now.config)
+            → CanonicalNode (settings layout.now.config).indent layout.now.config.indent_level
+            (node_says self.old)) }
+    {
+        self.lay_out_alone(layout)
+    }
+
+    /// Lays out the node at the configuration's level, and all below it. Nothing comes before it.
+    fn lay_out_alone(&mut self, layout: &Layout) -> Result<(), AllocError>
+        ensures kept { node_bare self.new ≡ node_bare self.old }
+        ensures formatted { OnOk result (NodeSpaced layout.now self.old self.new) }
         ensures well_formed { OnOk result (IsWellFormedNode (node_says self.old)) }
     {
-        self.lay_out_own(config, level, before)?;
-        lay_out_below(&mut self.children, config, level)
+        let alloc = *self.entries.allocator();
+        let level = layout.config.indent_level;
+        let indentation = indentation(alloc, &layout.config, level)?;
+        self.lay_out(layout, level, indentation.as_str())
     }
 
-    /// Lays out the node at a level, after the indentation of that level, but not the nodes in its block.
+    /// Lays out the node at a level, after the indentation of that level, and all below it. Nothing comes before it.
+    fn lay_out(&mut self, layout: &Layout, level: usize, before: &str) -> Result<(), AllocError>
+        requires { chars before.now ≡ indentation (settings layout.now.config) level }
+        ensures kept { node_bare self.new ≡ node_bare self.old }
+        ensures formatted { OnOk result (IsSpacedNode layout.now.blank_lines
+            (settings layout.now.config) level Nothing (node_tree self.old) (node_tree self.new)) }
+        ensures well_formed { OnOk result (IsWellFormedNode (node_says self.old)) }
+    {
+        let (_, first) = self.lay_out_own(layout, level, before, Before::Nothing)?;
+        lay_out_below(&mut self.children, layout, level, first)
+    }
+
+    /// Lays out the node at a level, after what comes before it and the indentation of that level, but not the nodes in
+    /// its block. Returns what comes before the node after it, and before the first node in its block.
     pub(crate) fn lay_out_own(
         &mut self,
-        config: &FormatConfig,
+        layout: &Layout,
         level: usize,
         before: &str,
-    ) -> Result<(), AllocError>
+        next: Before,
+    ) -> Result<(Before, Before), AllocError>
         ensures kept { node_bare self.new ≡ node_bare self.old }
         ensures block { child_nodes self.new ≡ child_nodes self.old }
-        ensures laid { OnOk result (chars before.now ≡ indentation (settings config.now) level
-            → LaidBut (settings config.now) level (node_tree self.old)
+        ensures laid { IfOk result (λ (behind, first).
+            chars before.now ≡ indentation (settings layout.now.config) level
+            → PassesAt layout.now (node_tree self.old) behind
+            × LaidBut layout.now level next (node_tree self.old) first
             (map node_tree (child_nodes self.old)) self.new) }
     {
         let alloc = *self.entries.allocator();
         let has_block = self.children.is_some();
-        lay_out_line(&mut self.format, alloc, config, before, has_block)?;
+        let behind = lay_out_line(&mut self.format, alloc, layout, before, has_block, next)?;
         clear_spelling(&mut self.ty);
         self.name.clear_format();
-        lay_out_entries(&mut self.entries, config)?;
-        lay_out_block(&mut self.children, config, level, before)
+        lay_out_entries(&mut self.entries, &layout.config)?;
+        let first = lay_out_block(&mut self.children, layout, level, before)?;
+        Ok((behind, first))
+    }
+
+    /// What comes before the thing after the node, which is not laid out.
+    pub(crate) fn behind(&self, layout: &Layout) -> Result<Before, AllocError>
+        ensures { IfOk result (λ b. PassesAt layout.now (node_tree self.now) b) }
+    {
+        behind_line(&self.format, *self.entries.allocator(), layout)
     }
 
     /// Puts other nodes into the node's block and returns those that it had. Without a block, it returns the given nodes.
@@ -191,39 +255,41 @@ impl KdlNode {
     }
 }
 
-/// Lays out the block of a node at a level, but for the nodes in it.
+/// Lays out the block of a node at a level, but for the nodes in it. Returns what comes before the first of these.
 fn lay_out_block(
     children: &mut Option<KdlDocument>,
-    config: &FormatConfig,
+    layout: &Layout,
     level: usize,
     before: &str,
-) -> Result<(), AllocError>
+) -> Result<Before, AllocError>
     ensures kept { bare_children (children_of (option_map document_tree children.new)) ≡
         bare_children (children_of (option_map document_tree children.old)) }
     ensures nodes { nodes_in children.new ≡ nodes_in children.old }
-    ensures formatted { OnOk result (chars before.now ≡ indentation (settings config.now) level
+    ensures formatted { IfOk result (λ first.
+        chars before.now ≡ indentation (settings layout.now.config) level
         → (ms : List Node)
-        → AreFormattedNodes (settings config.now) (level + 1)
+        → AreSpacedNodes layout.now.blank_lines (settings layout.now.config) (level + 1) first
         (nodes_tree (nodes_in children.old)) (listed_nodes ms)
-        → IsFormattedChildren (settings config.now) level
+        → IsSpacedChildren layout.now.blank_lines (settings layout.now.config) level
         (children_of (option_map document_tree children.old)) (filled_block children.new ms)) }
 {
     match children {
-        Some(children) => children.lay_out_block(config, level, before),
-        None => Ok(()),
+        Some(children) => children.lay_out_block(layout, level, before),
+        None => Ok(Before::Nothing),
     }
 }
 
-/// Lays out the nodes in the block of a node at a level.
+/// Lays out the nodes in the block of a node at a level, the first one after what comes before it.
 fn lay_out_below(
     children: &mut Option<KdlDocument>,
-    config: &FormatConfig,
+    layout: &Layout,
     level: usize,
+    first: Before,
 ) -> Result<(), AllocError>
     ensures block { (ms : List Node) → filled_block children.new ms ≡ filled_block children.old ms }
     ensures kept { map bare_node (map node_tree (nodes_in children.new)) ≡
         map bare_node (map node_tree (nodes_in children.old)) }
-    ensures laid { OnOk result (AllZip (Laid (settings config.now) (level + 1))
+    ensures laid { OnOk result (AreLaid layout.now (level + 1) first
         (map node_tree (nodes_in children.old)) (map node_tree (nodes_in children.new))) }
 {
     let Some(children) = children else {
@@ -232,5 +298,5 @@ fn lay_out_below(
     let Some(inner) = level.checked_add(1) else {
         return Err(AllocError);
     };
-    lay_out_nodes(children.nodes_mut(), config, inner)
+    lay_out_nodes(children.nodes_mut(), layout, inner, first)
 }

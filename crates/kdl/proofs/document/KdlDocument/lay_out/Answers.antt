@@ -1,12 +1,10 @@
 use Rattle.std.proofs.Common.{rules, option_map, map, ap, subst, ◌∙◌}
-use Rattle.std.specs.List.{AllZip}
 use Rattle.kdl_parts.specs.Formats.{document_format_tree}
-use Rattle.kdl.specs.Internal.Laid.{Laid}
+use Rattle.kdl.specs.Internal.Laid.{AreLaid}
 use Rattle.kdl.specs.Tree.{node_tree, nodes_tree}
 use Rattle.kdl.specs.declared.document.KdlDocument.TheViews.{the_lemmas, out-KdlDocument, out-roll-KdlDocument}
-use Rattle.kdl_fmt.specs.Config.{settings}
 use Rattle.kdl_fmt.specs.Formatted.{bare_node}
-use Rattle.kdl.proofs.LayOut.PartsLaid.{if_ok, none_there, same_content, laid_content, nodes_fit, fitting_document}
+use Rattle.kdl.proofs.LayOut.PartsLaid.{if_ok, same_content, laid_content, nodes_fit, fitting_document}
 use Rattle.kdl.proofs.document.KdlDocument.lay_out.Goals as goal
 
 pub returns-clause-kept : goal.returns-clause-kept
@@ -18,25 +16,27 @@ returns-clause-kept c =
 pub returns-clause-formatted : goal.returns-clause-formatted
 returns-clause-formatted c =
     let d = out-KdlDocument c.args.self.now in
-    let s = settings c.args.config.now in
-    let level = c.args.config.now.indent_level in
+    let l = c.args.layout.now in
+    let level = l.config.indent_level in
+    let first = c.in_ok-first.first in
     let fields = record d { format = c.lay_out_content.new.format } in
     let new = c.lay_out_nodes.new.nodes in
     if_ok c.lay_out_nodes.result
-    (λ h. laid_content _ c.args.self.now (search (rules, the_lemmas)) new (search (rules, the_lemmas)) s level
+    (λ h. laid_content _ c.args.self.now (search (rules, the_lemmas)) new (search (rules, the_lemmas)) l level first
     (option_map document_format_tree c.lay_out_content.new.format) (search (rules, the_lemmas))
-    (c.in_ok-lay_out_content.ensures (nodes_tree d.nodes.items) (none_there d.nodes c.is_empty-is_empty.result (search (rules, the_lemmas))))
-    (subst (λ x. AllZip (Laid s level) (map node_tree x.nodes.items) (map node_tree new.items)) (out-roll-KdlDocument fields) h))
+    (c.in_ok-first.ensures (nodes_tree d.nodes.items) (search (rules, the_lemmas)) (search (rules, the_lemmas)))
+    (subst (λ x. AreLaid l level first (map node_tree x.nodes.items) (map node_tree new.items)) (out-roll-KdlDocument fields) h))
     c.lay_out_nodes.ensures.laid
 
 pub returns-clause-well_formed : goal.returns-clause-well_formed
 returns-clause-well_formed c =
     let d = out-KdlDocument c.args.self.now in
-    let s = settings c.args.config.now in
-    let level = c.args.config.now.indent_level in
+    let l = c.args.layout.now in
+    let level = l.config.indent_level in
+    let first = c.in_ok-first.first in
     let fields = record d { format = c.lay_out_content.new.format } in
     let new = map node_tree c.lay_out_nodes.new.nodes.items in
     if_ok c.lay_out_nodes.result
-    (λ h. fitting_document c.args.self.now (nodes_fit s level (map node_tree d.nodes.items) new
-    (subst (λ x. AllZip (Laid s level) (map node_tree x.nodes.items) new) (out-roll-KdlDocument fields) h)))
+    (λ h. fitting_document c.args.self.now (nodes_fit l level first (map node_tree d.nodes.items) new
+    (subst (λ x. AreLaid l level first (map node_tree x.nodes.items) new) (out-roll-KdlDocument fields) h)))
     c.lay_out_nodes.ensures.laid

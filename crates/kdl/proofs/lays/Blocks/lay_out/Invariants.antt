@@ -1,6 +1,6 @@
 use Rattle.std.proofs.Common.{◌≡◌, ℕ, List, map}
 use Rattle.kdl.specs.Internal.Laid.{IsUnderWay, left, whole}
-use Rattle.kdl_fmt.specs.Config.{settings}
+use Rattle.kdl_fmt.specs.declared.blank.Before.{Before}
 use Rattle.kdl_fmt.specs.Formatted.{bare_node}
 use Rattle.kdl_grammar.specs.Tree.{Node}
 use Rattle.kdl.proofs.lays.Blocks.lay_out.Given as goal
@@ -8,7 +8,7 @@ use Rattle.kdl.proofs.lays.Blocks.lay_out.Given as goal
 abbrev pub invariant-steps : goal.invariant-steps
 invariant-steps l =
     (map bare_node (whole l.self.above.items l.self.inner) ≡ map bare_node (whole l.initial.self.above.items l.initial.self.inner))
-    × ((level : ℕ) (olds : List Node) → IsUnderWay (settings l.config) level olds l.initial.self.above.items l.initial.self.inner → IsUnderWay (settings l.config) level olds l.self.above.items l.self.inner)
+    × ((level : ℕ) (c : Before) (olds : List Node) → IsUnderWay l.layout level c olds l.initial.self.above.items l.initial.self.inner → IsUnderWay l.layout level c olds l.self.above.items l.self.inner)
 
 abbrev pub decreases-steps : goal.decreases-steps
 decreases-steps l = left l.self.above.items l.self.inner

@@ -11,7 +11,7 @@ returns-in-Some-clause-whole c =
     let r = c.replace-done in
     let o = r.new.dest in
     let e = r.ensures in
-    let b : Block = record { nodes = with_item o.nodes o.at c.exchange_nodes.new.self; at = o.at + 1; level = o.level; before = o.before } in
+    let b : Block = record { nodes = with_item o.nodes o.at c.exchange_nodes.new.self; at = o.at + 1; level = o.level; before = o.before; next = o.next } in
     end_whole above o r.result b c.in-Some.node.now c.exchange_nodes.new.self (search rules) (search rules)
     (node_changed c.in-Some.node.now c.exchange_nodes.new.self r.result.nodes c.exchange_nodes.ensures.has) (search rules)
     ∙ ap (λ z. whole (above ++ z ∷ []) r.result) e.after
@@ -23,11 +23,11 @@ returns-in-Some-clause-goes_on c all s =
     let r = c.replace-done in
     let o = r.new.dest in
     let e = r.ensures in
-    let b : Block = record { nodes = with_item o.nodes o.at c.exchange_nodes.new.self; at = o.at + 1; level = o.level; before = o.before } in
+    let b : Block = record { nodes = with_item o.nodes o.at c.exchange_nodes.new.self; at = o.at + 1; level = o.level; before = o.before; next = o.next } in
     subst (λ i. GoesOn s (above ++ c.args.outer ∷ []) i above b) e.value
     (subst (λ z. GoesOn s (above ++ z ∷ []) r.result above b) e.after
     (end_goes_on_there above o r.result b c.in-Some.node.now c.exchange_nodes.new.self (search rules) (search rules)
-    (node_changed c.in-Some.node.now c.exchange_nodes.new.self r.result.nodes c.exchange_nodes.ensures.has) (search rules) (search rules) (search rules) (search rules) (search rules) s))
+    (node_changed c.in-Some.node.now c.exchange_nodes.new.self r.result.nodes c.exchange_nodes.ensures.has) (search rules) (search rules) (search rules) (search rules) (search rules) (search rules) s))
 
 pub returns-in_default-clause-whole : goal.returns-in_default-clause-whole
 returns-in_default-clause-whole c =

@@ -1,40 +1,44 @@
 use Rattle.kdl.specs.Tree.{node_tree}
 use Rattle.kdl_fmt.specs.Config.{settings}
 use Rattle.kdl.proofs.Finding.SaidLookups.{node_finds_same}
-use Rattle.kdl.proofs.LayOut.LayoutCalls.{same_node_data, node_plain, node_levels, node_keeps_none_then, node_derives, node_comments, node_prints, node_reads}
+use Rattle.kdl.proofs.LayOut.LayoutCalls.{at_zero, node_is_formatted, same_node_data, node_plain, node_levels, node_keeps_none_then, node_derives, node_comments, node_prints, node_reads}
 use Rattle.kdl.proofs.node.KdlNode.autoformat_config.Goals as goal
 
 pub returns-clause-data : goal.returns-clause-data
-returns-clause-data c = same_node_data (node_tree c.lay_out.new.self) (node_tree c.args.self.now) c.lay_out.ensures.kept
+returns-clause-data c = same_node_data (node_tree c.lay_out_alone.new.self) (node_tree c.args.self.now) c.lay_out_alone.ensures.kept
 
 pub returns-clause-finds : goal.returns-clause-finds
 returns-clause-finds c =
-    node_finds_same c.args.self.now c.lay_out.new.self (same_node_data (node_tree c.lay_out.new.self) (node_tree c.args.self.now) c.lay_out.ensures.kept)
+    node_finds_same c.args.self.now c.lay_out_alone.new.self (same_node_data (node_tree c.lay_out_alone.new.self) (node_tree c.args.self.now) c.lay_out_alone.ensures.kept)
+
+pub returns-clause-formatted : goal.returns-clause-formatted
+returns-clause-formatted c =
+    node_is_formatted c.lay_out_alone.result (settings c.args.config.now) c.args.config.now.indent_level (node_tree c.lay_out_alone.new.self) (node_tree c.args.self.now) c.lay_out_alone.ensures.formatted
 
 pub returns-clause-plain : goal.returns-clause-plain
 returns-clause-plain c =
-    node_plain c.lay_out.result (settings c.args.config.now) c.args.config.now.indent_level (node_tree c.lay_out.new.self) (node_tree c.args.self.now) c.lay_out.ensures.formatted
+    at_zero _ c.lay_out_alone.result (node_plain c.lay_out_alone.result 0 (settings c.args.config.now) c.args.config.now.indent_level (node_tree c.lay_out_alone.new.self) (node_tree c.args.self.now) c.lay_out_alone.ensures.formatted)
 
 pub returns-clause-levels : goal.returns-clause-levels
 returns-clause-levels c =
-    node_levels c.lay_out.result (settings c.args.config.now) c.args.config.now.indent_level (node_tree c.lay_out.new.self) (node_tree c.args.self.now) c.lay_out.ensures.formatted
+    node_levels c.lay_out_alone.result 0 (settings c.args.config.now) c.args.config.now.indent_level (node_tree c.lay_out_alone.new.self) (node_tree c.args.self.now) c.lay_out_alone.ensures.formatted
 
 pub returns-clause-keeps_none : goal.returns-clause-keeps_none
 returns-clause-keeps_none c =
-    node_keeps_none_then c.lay_out.result (settings c.args.config.now) c.args.config.now.indent_level (node_tree c.lay_out.new.self) (node_tree c.args.self.now) c.lay_out.ensures.formatted
+    node_keeps_none_then c.lay_out_alone.result 0 (settings c.args.config.now) c.args.config.now.indent_level (node_tree c.lay_out_alone.new.self) (node_tree c.args.self.now) c.lay_out_alone.ensures.formatted
 
 pub returns-clause-derived : goal.returns-clause-derived
 returns-clause-derived c =
-    node_derives c.lay_out.result (settings c.args.config.now) c.args.config.now.indent_level (node_tree c.lay_out.new.self) (node_tree c.args.self.now) c.lay_out.ensures.formatted c.lay_out.ensures.well_formed
+    node_derives c.lay_out_alone.result 0 (settings c.args.config.now) c.args.config.now.indent_level (node_tree c.lay_out_alone.new.self) (node_tree c.args.self.now) c.lay_out_alone.ensures.formatted c.lay_out_alone.ensures.well_formed
 
 pub returns-clause-comments : goal.returns-clause-comments
 returns-clause-comments c =
-    node_comments c.lay_out.result (settings c.args.config.now) c.args.config.now.indent_level (node_tree c.lay_out.new.self) (node_tree c.args.self.now) c.lay_out.ensures.formatted c.lay_out.ensures.well_formed
+    node_comments c.lay_out_alone.result 0 (settings c.args.config.now) c.args.config.now.indent_level (node_tree c.lay_out_alone.new.self) (node_tree c.args.self.now) c.lay_out_alone.ensures.formatted c.lay_out_alone.ensures.well_formed
 
 pub returns-clause-prints : goal.returns-clause-prints
 returns-clause-prints c =
-    node_prints c.lay_out.result (settings c.args.config.now) c.args.config.now.indent_level (node_tree c.lay_out.new.self) (node_tree c.args.self.now) c.lay_out.ensures.formatted
+    at_zero _ c.lay_out_alone.result (node_prints c.lay_out_alone.result 0 (settings c.args.config.now) c.args.config.now.indent_level (node_tree c.lay_out_alone.new.self) (node_tree c.args.self.now) c.lay_out_alone.ensures.formatted)
 
 pub returns-clause-reads : goal.returns-clause-reads
 returns-clause-reads c =
-    node_reads c.lay_out.result (settings c.args.config.now) c.args.config.now.indent_level (node_tree c.lay_out.new.self) (node_tree c.args.self.now) c.lay_out.ensures.well_formed
+    node_reads c.lay_out_alone.result 0 (settings c.args.config.now) c.args.config.now.indent_level (node_tree c.lay_out_alone.new.self) (node_tree c.args.self.now) c.lay_out_alone.ensures.well_formed

@@ -1,0 +1,44 @@
+use Rattle.kdl.specs.Tree.{node_tree}
+use Rattle.kdl_fmt.specs.Config.{settings}
+use Rattle.kdl.proofs.Finding.SaidLookups.{node_finds_same}
+use Rattle.kdl.proofs.LayOut.LayoutCalls.{same_node_data, node_plain, node_plainly, node_levels, node_keeps_none_then, node_derives, node_comments, node_prints, node_reads}
+use Rattle.kdl.proofs.node.KdlNode.autoformat_layout.Goals as goal
+
+pub returns-clause-data : goal.returns-clause-data
+returns-clause-data c = same_node_data (node_tree c.lay_out_alone.new.self) (node_tree c.args.self.now) c.lay_out_alone.ensures.kept
+
+pub returns-clause-finds : goal.returns-clause-finds
+returns-clause-finds c =
+    node_finds_same c.args.self.now c.lay_out_alone.new.self (same_node_data (node_tree c.lay_out_alone.new.self) (node_tree c.args.self.now) c.lay_out_alone.ensures.kept)
+
+pub returns-clause-unspaced : goal.returns-clause-unspaced
+returns-clause-unspaced c =
+    node_plainly c.lay_out_alone.result c.args.layout.now.blank_lines (settings c.args.layout.now.config) c.args.layout.now.config.indent_level (node_tree c.lay_out_alone.new.self) (node_tree c.args.self.now) c.lay_out_alone.ensures.formatted
+
+pub returns-clause-plain : goal.returns-clause-plain
+returns-clause-plain c =
+    node_plain c.lay_out_alone.result c.args.layout.now.blank_lines (settings c.args.layout.now.config) c.args.layout.now.config.indent_level (node_tree c.lay_out_alone.new.self) (node_tree c.args.self.now) c.lay_out_alone.ensures.formatted
+
+pub returns-clause-levels : goal.returns-clause-levels
+returns-clause-levels c =
+    node_levels c.lay_out_alone.result c.args.layout.now.blank_lines (settings c.args.layout.now.config) c.args.layout.now.config.indent_level (node_tree c.lay_out_alone.new.self) (node_tree c.args.self.now) c.lay_out_alone.ensures.formatted
+
+pub returns-clause-keeps_none : goal.returns-clause-keeps_none
+returns-clause-keeps_none c =
+    node_keeps_none_then c.lay_out_alone.result c.args.layout.now.blank_lines (settings c.args.layout.now.config) c.args.layout.now.config.indent_level (node_tree c.lay_out_alone.new.self) (node_tree c.args.self.now) c.lay_out_alone.ensures.formatted
+
+pub returns-clause-derived : goal.returns-clause-derived
+returns-clause-derived c =
+    node_derives c.lay_out_alone.result c.args.layout.now.blank_lines (settings c.args.layout.now.config) c.args.layout.now.config.indent_level (node_tree c.lay_out_alone.new.self) (node_tree c.args.self.now) c.lay_out_alone.ensures.formatted c.lay_out_alone.ensures.well_formed
+
+pub returns-clause-comments : goal.returns-clause-comments
+returns-clause-comments c =
+    node_comments c.lay_out_alone.result c.args.layout.now.blank_lines (settings c.args.layout.now.config) c.args.layout.now.config.indent_level (node_tree c.lay_out_alone.new.self) (node_tree c.args.self.now) c.lay_out_alone.ensures.formatted c.lay_out_alone.ensures.well_formed
+
+pub returns-clause-prints : goal.returns-clause-prints
+returns-clause-prints c =
+    node_prints c.lay_out_alone.result c.args.layout.now.blank_lines (settings c.args.layout.now.config) c.args.layout.now.config.indent_level (node_tree c.lay_out_alone.new.self) (node_tree c.args.self.now) c.lay_out_alone.ensures.formatted
+
+pub returns-clause-reads : goal.returns-clause-reads
+returns-clause-reads c =
+    node_reads c.lay_out_alone.result c.args.layout.now.blank_lines (settings c.args.layout.now.config) c.args.layout.now.config.indent_level (node_tree c.lay_out_alone.new.self) (node_tree c.args.self.now) c.lay_out_alone.ensures.well_formed
