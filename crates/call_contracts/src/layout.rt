@@ -1,13 +1,13 @@
 //! Documents and nodes that are laid out.
 
-ghost use Rattle.kdl.specs.Layout.{DocumentKeepsNoForm, DocumentLaidOut, NodeLaidOut};
+ghost use Rattle.kdl.specs.Layout.{DocumentKeepsNoForm, DocumentLaidOut, DocumentSpaced, NodeLaidOut, NodeSpaced};
 ghost use Rattle.kdl.specs.Tree.{document_prints, document_says, document_tree};
 ghost use Rattle.kdl_fmt.specs.Canonical.{Canonical, canonical_text};
 ghost use Rattle.kdl_fmt.specs.Config.{defaults, without_comments};
 ghost use Rattle.kdl_fmt.specs.Formatted.{DocumentLevelsFit};
 ghost use Rattle.std.specs.Prelude.{◌≡◌, OnOk};
 
-use kdl::{FormatConfig, KdlDocument, KdlNode};
+use kdl::{FormatConfig, KdlDocument, KdlNode, Layout};
 use std::alloc::AllocError;
 
 /// `KdlDocument::autoformat`: what it makes of the document.
@@ -26,6 +26,20 @@ pub fn autoformat_config(
         (DocumentLevelsFit config.now.indent_level (document_tree document.old)) }
 {
     document.autoformat_config(config)
+}
+
+/// `KdlDocument::autoformat_layout`: what it makes of the document, with its blank lines.
+pub fn autoformat_layout(document: &mut KdlDocument, layout: &Layout) -> Result<(), AllocError>
+    ensures formatted { OnOk result (DocumentSpaced layout.now document.old document.new) }
+{
+    document.autoformat_layout(layout)
+}
+
+/// `KdlNode::autoformat_layout`: what it makes of the node.
+pub fn autoformat_node_layout(node: &mut KdlNode, layout: &Layout) -> Result<(), AllocError>
+    ensures formatted { OnOk result (NodeSpaced layout.now node.old node.new) }
+{
+    node.autoformat_layout(layout)
 }
 
 /// `KdlNode::autoformat`: what it makes of the node.

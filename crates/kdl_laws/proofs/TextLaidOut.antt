@@ -6,12 +6,15 @@ use Rattle.kdl_text.specs.Chars.{Text, is_space}
 use Rattle.kdl_value.specs.Tree.{text_of}
 use Rattle.kdl_grammar.specs.Laid.{LaidDocument}
 use Rattle.kdl_fmt.specs.Comments.{CommentsStay}
-use Rattle.kdl_fmt.specs.Config.{defaults}
+use Rattle.kdl_fmt.specs.Config.{Settings, defaults, settings}
+use Rattle.kdl_fmt.specs.Spaced.{IsSpacedDocument}
+use Rattle.kdl_fmt.specs.declared.config.Layout.{Layout}
+use Rattle.kdl_fmt.proofs.Spacing.Again as spaced
 use Rattle.kdl_fmt.proofs.Formatting.Again.{document_stays}
-use Rattle.kdl.specs.Layout.{DocumentKeepsNoForm, DocumentLaidOut}
+use Rattle.kdl.specs.Layout.{DocumentKeepsNoForm, DocumentLaidOut, DocumentSpaced}
 use Rattle.kdl.specs.Tree.{document_prints, document_tree}
 use Rattle.kdl.specs.declared.document.KdlDocument.{KdlDocument}
-use Rattle.kdl_laws.specs.LaidOut.{IsLaidOut}
+use Rattle.kdl_laws.specs.LaidOut.{IsLaidOut, IsSpacedOut}
 use Rattle.kdl_laws.proofs.PrintedOnce.{printed}
 
 spaces_are : list_all is_space defaults.indent ≡ true
@@ -30,4 +33,21 @@ text_laid_out text d e s laid none formatted comments h =
       prints = p;
       comments = subst (CommentsStay (document_tree d)) (sym p) comments;
       again = λ y g. document_stays defaults 0 spaces_are refl (document_tree d) (document_tree e) y formatted none g;
+    }
+
+-- the same with blank lines
+pub text_spaced_out : (text : Text) (l : Layout) (d e : KdlDocument) (s : String Global) → settings l.config ≡ defaults → LaidDocument true (document_tree d) text → DocumentKeepsNoForm d → DocumentSpaced l d e
+    → CommentsStay (document_tree d) (document_prints e) → string_bytes s ≡ encode_utf8_all (document_prints e) → IsSpacedOut l.blank_lines text (text_of s)
+text_spaced_out text l d e s is laid none formatted comments h =
+    let p = printed e s h in
+    let f : IsSpacedDocument l.blank_lines defaults 0 (document_tree d) (document_tree e) =
+    subst (λ (x : Settings). IsSpacedDocument l.blank_lines x x.indent_level (document_tree d) (document_tree e)) is formatted in
+    record {
+      before = document_tree d;
+      after = document_tree e;
+      laid = laid;
+      formatted = f;
+      prints = p;
+      comments = subst (CommentsStay (document_tree d)) (sym p) comments;
+      again = λ y g. spaced.document_stays l.blank_lines defaults 0 spaces_are refl (document_tree d) (document_tree e) y f none g;
     }

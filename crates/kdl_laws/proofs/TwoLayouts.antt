@@ -9,6 +9,10 @@ use Rattle.kdl_fmt.specs.Canonical.{canonical, Canonical}
 use Rattle.kdl_fmt.specs.Config.{IndentsBySpaces, Settings}
 use Rattle.kdl_fmt.specs.Formatted.{DocumentKeepsNone, NodeKeepsNone}
 use Rattle.kdl_fmt.specs.WithComments.{IsFormattedDocument, IsFormattedNode}
+use Rattle.kdl_fmt.specs.Spaced.{IsSpacedDocument, IsSpacedNode}
+use Rattle.kdl_fmt.specs.declared.blank.Before.TheVariants.{Nothing}
+use Rattle.kdl_fmt.proofs.Spacing.Again as spaced
+use Rattle.kdl_fmt.proofs.Spacing.Zero.{document_formatted, document_spaced, node_formatted, node_spaced}
 use Rattle.kdl_fmt.proofs.Formatting.Again.{document_stays, node_stays}
 use Rattle.kdl_fmt.proofs.Formatting.FormattedUnique.{formatted_det}
 
@@ -37,3 +41,22 @@ document_again s level d x y ok keep none f g = document_stays s level ok keep d
 
 pub node_again : (s : Settings) (level : ℕ) (n x y : Node) → IndentsBySpaces s → s.entry_autoformate_keep ≡ false → NodeKeepsNone n → IsFormattedNode s level n x → IsFormattedNode s level x y → y ≡ x
 node_again s level n x y ok keep none f g = node_stays s level ok keep n x y f none g
+
+-- the same with blank lines
+pub spaced_again : (number : ℕ) (s : Settings) (level : ℕ) (d x y : Document) → IndentsBySpaces s → s.entry_autoformate_keep ≡ false → DocumentKeepsNone d → IsSpacedDocument number s level d x → IsSpacedDocument number s level x y → y ≡ x
+spaced_again number s level d x y ok keep none f g = spaced.document_stays number s level ok keep d x y f none g
+
+pub spaced_node_again : (number : ℕ) (s : Settings) (level : ℕ) (n x y : Node) → IndentsBySpaces s → s.entry_autoformate_keep ≡ false → NodeKeepsNone n → IsSpacedNode number s level Nothing n x → IsSpacedNode number s level Nothing x y → y ≡ x
+spaced_node_again number s level n x y ok keep none f g = spaced.node_stays number s level ok keep n x y f none g
+
+pub spaced_twice : {A E : Type 0} (r : Result A E) (number : ℕ) (s : Settings) (level : ℕ) (d x y : Document) → list_all is_space s.indent ≡ true → s.entry_autoformate_keep ≡ false → DocumentKeepsNone d
+    → IsSpacedDocument number s level d x → IfOk r (λ _. IsSpacedDocument number s level x y) → IfOk r (λ _. IsSpacedDocument number s level d y)
+spaced_twice (Ok v) number s level d x y ok keep none f g = subst (λ (z : Document). IsSpacedDocument number s level d z) (sym (spaced.document_stays number s level ok keep d x y f none g)) f
+spaced_twice (Err v) number s level d x y ok keep none f g = tt
+
+-- no blank lines
+pub unspaced_document : (s : Settings) (level : ℕ) (d x : Document) → IsSpacedDocument 0 s level d x ↔ IsFormattedDocument s level d x
+unspaced_document s level d x = (document_formatted s level d x, document_spaced s level d x)
+
+pub unspaced_node : (s : Settings) (level : ℕ) (n x : Node) → IsSpacedNode 0 s level Nothing n x ↔ IsFormattedNode s level n x
+unspaced_node s level n x = (node_formatted s level Nothing n x, node_spaced s level Nothing n x)

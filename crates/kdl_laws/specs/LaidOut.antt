@@ -1,11 +1,12 @@
 -- What layout makes of a text.
-use Rattle.std.specs.Prelude.{◌≡◌, true}
+use Rattle.std.specs.Prelude.{◌≡◌, ℕ, true}
 use Rattle.kdl_text.specs.Chars.{Text}
 use Rattle.kdl_grammar.specs.Laid.{LaidDocument}
 use Rattle.kdl_grammar.specs.Print.{print_document}
 use Rattle.kdl_grammar.specs.Tree.{Document}
 use Rattle.kdl_fmt.specs.Comments.{CommentsStay}
 use Rattle.kdl_fmt.specs.Config.{defaults}
+use Rattle.kdl_fmt.specs.Spaced.{IsSpacedDocument}
 use Rattle.kdl_fmt.specs.WithComments.{IsFormattedDocument}
 
 -- out is what the document of the text prints once it is laid out; the comments stay, and a second layout changes nothing
@@ -17,3 +18,13 @@ pub record IsLaidOut (text out : Text) : Type 0 where
   pub prints : out ≡ print_document after 0
   pub comments : CommentsStay before out
   pub again : (y : Document) → IsFormattedDocument defaults 0 after y → y ≡ after
+
+-- the same where blank lines stay, no more than a number between two nodes or comments
+pub record IsSpacedOut (number : ℕ) (text out : Text) : Type 0 where
+  pub before : Document
+  pub after : Document
+  pub laid : LaidDocument true before text
+  pub formatted : IsSpacedDocument number defaults 0 before after
+  pub prints : out ≡ print_document after 0
+  pub comments : CommentsStay before out
+  pub again : (y : Document) → IsSpacedDocument number defaults 0 after y → y ≡ after

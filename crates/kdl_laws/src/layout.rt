@@ -1,25 +1,28 @@
 //! That layout makes one thing, that it changes nothing when it is repeated, and that without comments it gives the
 //! canonical text.
 
-ghost use Rattle.kdl.specs.Layout.{DocumentKeepsNoForm, DocumentLaidOut};
+ghost use Rattle.kdl.specs.Layout.{DocumentKeepsNoForm, DocumentLaidOut, DocumentSpaced};
 ghost use Rattle.kdl.specs.Tree.{document_prints, document_tree, node_tree};
 ghost use Rattle.kdl.specs.declared.document.KdlDocument.{KdlDocument};
 ghost use Rattle.kdl_fmt.specs.Comments.{CommentsStay};
 ghost use Rattle.kdl_fmt.specs.Config.{IndentsBySpaces, Settings, defaults, settings};
 ghost use Rattle.kdl_fmt.specs.Formatted.{DocumentKeepsNone, NodeKeepsNone};
+ghost use Rattle.kdl_fmt.specs.Spaced.{IsSpacedDocument, IsSpacedNode};
+ghost use Rattle.kdl_fmt.specs.declared.blank.Before.TheVariants.{Nothing};
+ghost use Rattle.kdl_fmt.specs.declared.config.Layout.{Layout};
 ghost use Rattle.kdl_fmt.specs.WithComments.{IsFormattedDocument, IsFormattedNode};
 ghost use Rattle.kdl_grammar.specs.Laid.{LaidDocument};
 ghost use Rattle.kdl_grammar.specs.Print.{print_document};
 ghost use Rattle.kdl_grammar.specs.Tree.{Document, Node, document_data};
-ghost use Rattle.kdl_laws.specs.LaidOut.{IsLaidOut};
+ghost use Rattle.kdl_laws.specs.LaidOut.{IsLaidOut, IsSpacedOut};
 ghost use Rattle.kdl_text.specs.Chars.{Text, is_space};
 ghost use Rattle.kdl_value.specs.Tree.{text_of};
 ghost use Rattle.std.specs.List.{list_all};
-ghost use Rattle.std.specs.Prelude.{◌≡◌, ◌↔◌, ℕ, IfOk, String, false, string_bytes, true};
+ghost use Rattle.std.specs.Prelude.{◌≡◌, ◌↔◌, ℕ, IfOk, OnOk, String, false, string_bytes, true};
 ghost use Rattle.std.specs.Str.{encode_utf8_all};
 ghost use Rattle.std.specs.declared.alloc.Global.{Global};
 
-use kdl::{FormatConfig, KdlDocument, KdlNode};
+use kdl::{FormatConfig, KdlDocument, KdlNode, Layout};
 use std::alloc::AllocError;
 
 /// Once they are laid out without comments, two documents in which no entry is flagged to keep its form print the same
@@ -77,6 +80,39 @@ pub fn second_layout()
         → IsFormattedNode s level n x → IsFormattedNode s level x y → y ≡ x }
 {}
 
+/// A second layout of a document with the same number of blank lines changes nothing.
+pub fn spaced_twice(document: &mut KdlDocument, layout: &Layout) -> Result<(), AllocError>
+    requires indent { list_all is_space (settings layout.now.config).indent ≡ true }
+    requires keeps_none_after { layout.now.config.entry_autoformate_keep ≡ false }
+    requires keeps_none { DocumentKeepsNone (document_tree document.old) }
+    ensures { OnOk result (DocumentSpaced layout.now document.old document.new) }
+{
+    document.autoformat_layout(layout)?;
+    document.autoformat_layout(layout)
+}
+
+/// A second layout with the same number of blank lines changes nothing: where the indent is of spaces and no entry is
+/// flagged, what layout makes of what it made is the same.
+#[tactic(auto, using(crate::proofs::TwoLayouts::spaced_again, crate::proofs::TwoLayouts::spaced_node_again))]
+pub fn second_spaced_layout()
+    ensures document { (number : ℕ) (s : Settings) (level : ℕ) (d x y : Document) → IndentsBySpaces s
+        → s.entry_autoformate_keep ≡ false → DocumentKeepsNone d
+        → IsSpacedDocument number s level d x → IsSpacedDocument number s level x y → y ≡ x }
+    ensures node { (number : ℕ) (s : Settings) (level : ℕ) (n x y : Node) → IndentsBySpaces s
+        → s.entry_autoformate_keep ≡ false → NodeKeepsNone n
+        → IsSpacedNode number s level Nothing n x → IsSpacedNode number s level Nothing x y
+        → y ≡ x }
+{}
+
+/// Where no blank lines stay, layout makes what `autoformat_config` makes.
+#[tactic(auto, using(crate::proofs::TwoLayouts::unspaced_document, crate::proofs::TwoLayouts::unspaced_node))]
+pub fn layout_without_blank_lines()
+    ensures document { (s : Settings) (level : ℕ) (d x : Document)
+        → IsSpacedDocument 0 s level d x ↔ IsFormattedDocument s level d x }
+    ensures node { (s : Settings) (level : ℕ) (n x : Node)
+        → IsSpacedNode 0 s level Nothing n x ↔ IsFormattedNode s level n x }
+{}
+
 /// The text in memory that a document prints once it is laid out with its comments is the text of the document, laid out.
 #[tactic(auto, using(crate::proofs::TextLaidOut::text_laid_out))]
 pub fn texts_are_laid_out()
@@ -84,4 +120,15 @@ pub fn texts_are_laid_out()
         → LaidDocument true (document_tree d) text → DocumentKeepsNoForm d
         → DocumentLaidOut defaults d e → CommentsStay (document_tree d) (document_prints e)
         → string_bytes s ≡ encode_utf8_all (document_prints e) → IsLaidOut text (text_of s) }
+{}
+
+/// The same where blank lines stay.
+#[tactic(auto, using(crate::proofs::TextLaidOut::text_spaced_out))]
+pub fn texts_are_spaced_out()
+    ensures { (text : Text) (l : Layout) (d e : KdlDocument) (s : String Global)
+        → settings l.config ≡ defaults
+        → LaidDocument true (document_tree d) text → DocumentKeepsNoForm d
+        → DocumentSpaced l d e → CommentsStay (document_tree d) (document_prints e)
+        → string_bytes s ≡ encode_utf8_all (document_prints e)
+        → IsSpacedOut l.blank_lines text (text_of s) }
 {}

@@ -1,12 +1,12 @@
-//! Lays out KDL files, with their comments, and writes them one after another.
+//! Lays out KDL files, with their comments and groups, and writes them one after another.
 #![tactic(auto)]
 
 ghost use Rattle.kdl.specs.Words.{IsDocument, IsSyntax, Nodes, TellsOnSyntax, text_of};
-ghost use Rattle.kdl_laws.specs.ClientWords.{IsLaidOut};
+ghost use Rattle.kdl_laws.specs.ClientWords.{IsSpacedOut};
 ghost use Rattle.std.specs.Prelude.{IfOk, chars, true};
 
-use kdl::{KdlDocument, ParseFailure};
-use kdl_laws::layout::texts_are_laid_out;
+use kdl::{FormatConfig, KdlDocument, Layout, ParseFailure};
+use kdl_laws::layout::texts_are_spaced_out;
 use kdl_laws::reading_back::printed_reads_once;
 use std::alloc::Global;
 use std::process::ExitCode;
@@ -17,16 +17,21 @@ fn laid_out(alloc: Global, text: &str) -> Result<String, ParseFailure>
     // The output is a document that says what the text says.
     ensures says { IfOk result (λ out. (x : Nodes) → IsDocument true (chars text.now) x
         → IsDocument true (text_of out) x) }
-    // It is the text as `autoformat` lays it out: its comments stay, and a second layout changes nothing.
-    ensures laid_out { IfOk result (λ out. IsLaidOut (chars text.now) (text_of out)) }
+    // It is the text laid out, with one blank line at most between two nodes or comments: its comments stay, and a
+    // second layout changes nothing.
+    ensures laid_out { IfOk result (λ out. IsSpacedOut 1 (chars text.now) (text_of out)) }
     // A text that is refused is no document, and the error has its faults.
     ensures refused { IsSyntax result → (x : Nodes) → IsDocument true (chars text.now) x → ⊥ }
     ensures told { TellsOnSyntax text.now result }
 {
-    texts_are_laid_out();
+    texts_are_spaced_out();
     printed_reads_once();
     let mut document = KdlDocument::parse(alloc, text)?;
-    document.autoformat()?;
+    let layout = Layout {
+        config: FormatConfig::builder().build(),
+        blank_lines: 1,
+    };
+    document.autoformat_layout(&layout)?;
     Ok(document.to_string(alloc)?)
 }
 
