@@ -1,8 +1,8 @@
 //! The calls that take memory.
 
 use kdl::{
-    FloatFailure, KdlDocument, KdlEntry, KdlFloat, KdlIdentifier, KdlNode, KdlValue, NodeKey,
-    ParseFailure, Steps,
+    FloatFailure, FormatConfig, KdlDocument, KdlEntry, KdlFloat, KdlIdentifier, KdlNode, KdlValue,
+    Layout, NodeKey, ParseFailure, Steps,
 };
 use std::alloc::{AllocError, Global};
 use std::fmt::Display;
@@ -28,12 +28,14 @@ pub enum Call {
     Sort,
     Autoformat,
     AutoformatNoComments,
+    AutoformatLayout,
+    AutoformatNodeLayout,
     Texts,
     Float,
 }
 
 /// All of them.
-pub static CALLS: [Call; 21] = [
+pub static CALLS: [Call; 23] = [
     Call::ParseDocument,
     Call::ParseCounted,
     Call::ParseNode,
@@ -53,6 +55,8 @@ pub static CALLS: [Call; 21] = [
     Call::Sort,
     Call::Autoformat,
     Call::AutoformatNoComments,
+    Call::AutoformatLayout,
+    Call::AutoformatNodeLayout,
     Call::Texts,
     Call::Float,
 ];
@@ -86,6 +90,8 @@ fn on_document(
         Call::InsertNode => node_put(alloc, document, true),
         Call::Autoformat => laid_out(alloc, document),
         Call::AutoformatNoComments => stripped(alloc, document),
+        Call::AutoformatLayout => spaced(alloc, document),
+        Call::AutoformatNodeLayout => node_spaced(alloc, document),
         _ => on_first(alloc, document, call),
     }
 }
@@ -349,6 +355,28 @@ fn stripped(alloc: Global, document: &mut KdlDocument) -> Result<String, AllocEr
     let _ = document.autoformat();
     if document.autoformat_no_comments().is_err() {
         document.autoformat_no_comments()?;
+    }
+    document.to_string(alloc)
+}
+
+/// A layout that keeps one blank line.
+fn layout() -> Layout<'static> {
+    Layout {
+        config: FormatConfig::builder().build(),
+        blank_lines: 1,
+    }
+}
+
+/// The document laid out with its comments and blank lines.
+fn spaced(alloc: Global, document: &mut KdlDocument) -> Result<String, AllocError> {
+    document.autoformat_layout(&layout())?;
+    document.to_string(alloc)
+}
+
+/// The document with its first node laid out with its comments and blank lines.
+fn node_spaced(alloc: Global, document: &mut KdlDocument) -> Result<String, AllocError> {
+    if let Some(node) = document.nodes_mut().first_mut() {
+        node.autoformat_layout(&layout())?;
     }
     document.to_string(alloc)
 }
