@@ -3,10 +3,10 @@
 
 use crate::edits::{add, add_property, exchange};
 use crate::fields::{built, document_of, push};
-use crate::reading::{equal, holds, one_of, prints, read, says, string, text};
+use crate::reading::{equal, holds, node_text, one_of, prints, read, says, string, text};
 use kdl::{
     FormatConfig, FormatConfigBuilder, KdlDocument, KdlEntry, KdlEntryFormat, KdlNode,
-    KdlNodeFormat, KdlValue, ParseFailure, is_kdl_space,
+    KdlNodeFormat, KdlValue, Layout, ParseFailure, is_kdl_space,
 };
 use std::alloc::Global;
 use std::process::Abort;
@@ -430,6 +430,75 @@ fn an_indent_that_is_no_space(rt: HostRuntime) {
         let canonical = "(t)a k=1 {\n    b {\n        c\n    }\n}\n";
         document_becomes(&rt, alloc, &mut document, canonical);
     }
+}
+
+/// The default layout with so many blank lines.
+fn spaced(blank_lines: usize) -> Layout<'static> {
+    Layout {
+        config: FormatConfig::default(),
+        blank_lines,
+    }
+}
+
+/// The document prints the text once it is laid out so, and once more when it is laid out so again.
+fn becomes_spaced(
+    rt: &impl Abort,
+    alloc: Global,
+    document: &mut KdlDocument,
+    layout: &Layout,
+    text: &str,
+) {
+    document.autoformat_layout(layout).expect(rt, "memory");
+    prints(rt, alloc, document, text);
+    document.autoformat_layout(layout).expect(rt, "memory");
+    prints(rt, alloc, document, text);
+}
+
+/// The same for a node.
+fn node_becomes_spaced(
+    rt: &impl Abort,
+    alloc: Global,
+    node: &mut KdlNode,
+    layout: &Layout,
+    text: &str,
+) {
+    node.autoformat_layout(layout).expect(rt, "memory");
+    prints(rt, alloc, node, text);
+    node.autoformat_layout(layout).expect(rt, "memory");
+    prints(rt, alloc, node, text);
+}
+
+/// Groups of nodes, with a comment, a block and a dropped node.
+const GROUPS: &str = "\n\na; b\n\n\n\n// c\n\nd {\n\n  e\n\n  f\n\n}\n/- g\n\nh\n\n";
+
+#[test]
+fn groups_of_nodes(rt: HostRuntime) {
+    let alloc = rt.alloc();
+    let mut document = read(&rt, alloc, GROUPS);
+    let two = "a\nb\n\n\n// c\n\nd {\n    e\n\n    f\n}\n/- g\n\nh\n";
+    becomes_spaced(&rt, alloc, &mut document, &spaced(2), two);
+    let one = "a\nb\n\n// c\n\nd {\n    e\n\n    f\n}\n/- g\n\nh\n";
+    becomes_spaced(&rt, alloc, &mut document, &spaced(1), one);
+}
+
+#[test]
+fn groups_without_blank_lines(rt: HostRuntime) {
+    let alloc = rt.alloc();
+    let none = "a\nb\n// c\nd {\n    e\n    f\n}\n/- g\nh\n";
+    text_becomes(&rt, alloc, GROUPS, &FormatConfig::default(), none);
+    let mut document = read(&rt, alloc, GROUPS);
+    becomes_spaced(&rt, alloc, &mut document, &spaced(0), none);
+}
+
+#[test]
+fn groups_in_a_node(rt: HostRuntime) {
+    let alloc = rt.alloc();
+    let text = "\n\na {\n\n  b\n\n\n  c; d\n\n}\n\n";
+    let mut node = node_text(&rt, alloc, text);
+    let one = "a {\n    b\n\n    c\n    d\n}\n";
+    node_becomes_spaced(&rt, alloc, &mut node, &spaced(1), one);
+    let none = "a {\n    b\n    c\n    d\n}\n";
+    node_becomes_spaced(&rt, alloc, &mut node, &spaced(0), none);
 }
 
 /// The entries have the same spans.
