@@ -45,11 +45,12 @@ import struct
 import sys
 import tempfile
 from typing import (
-    Any, Callable, Dict, Iterable, Iterator, List, NamedTuple, Optional, Sequence, Tuple, Union,
+    Any, Callable, Dict, Iterable, Iterator, List, Mapping, NamedTuple, Optional, Sequence, Tuple,
+    Union,
 )
 
 __all__ = [
-    "Document", "Entry", "Fault", "Float", "KdlError", "Node", "Path", "Value",
+    "Document", "Entry", "Fault", "Float", "KdlError", "Node", "Value",
     "dumps", "faults", "format_text", "loads",
 ]
 
@@ -57,7 +58,8 @@ __all__ = [
 Value = Union[str, int, float, bool, None]
 #: Where a node is. A path is a name, an index, or a sequence of these, from the document down: a
 #: name is the first node of that name, an index counts all nodes from 0, and a negative one from
-#: the end. A str is one name: "a.b" is no path.
+#: the end. A str is one name: "a.b" is no path. `from kdl import *` leaves this name out, which
+#: `pathlib.Path` has too.
 Path = Union[str, int, Sequence[Union[str, int]]]
 
 _VERSION = 1
@@ -71,6 +73,8 @@ _LEAST, _MOST = -(2**127), 2**127 - 1
 
 _u32, _size, _bytes, _any = ctypes.c_uint32, ctypes.c_size_t, ctypes.c_char_p, ctypes.c_void_p
 _row = struct.Struct("4Iq8N")
+# Of a row only what it is, and whether it has a block.
+_outline = struct.Struct(f"I8xI{_row.size - 16}x")
 _report, _fault = struct.Struct("8N"), struct.Struct("4N")
 
 
@@ -255,7 +259,8 @@ class Node:
     children: Optional[List[Node]]
     span: Tuple[int, int]
 
-    def __init__(self, name: str, args: Iterable[Value] = (), props: Optional[Dict[str, Value]] = None,
+    def __init__(self, name: str, args: Iterable[Value] = (),
+                 props: Optional[Mapping[str, Value]] = None,
                  children: Optional[Iterable[Node]] = None, *, type: Optional[str] = None,
                  entries: Optional[Iterable[Entry]] = None) -> None:
         if isinstance(args, (str, bytes, bytearray)):
@@ -299,7 +304,7 @@ class Node:
         if not isinstance(other, Node):
             return NotImplemented
         # Over a list, since blocks may be deep.
-        work = [([self], [other])]
+        work: List[Tuple[List[Node], List[Node]]] = [([self], [other])]
         while work:
             ones, twos = work.pop()
             if len(ones) != len(twos):
@@ -405,7 +410,8 @@ def _faults_of(text: bytes, kind: int) -> List[Fault]:
 
 def _positions(text: bytes, offsets: List[int]) -> Dict[int, Tuple[int, int]]:
     """The line and column of each offset, each counted from the one before."""
-    found, at, line, column, down, across = {}, 0, 1, 1, _size(), _size()
+    found: Dict[int, Tuple[int, int]] = {}
+    at, line, column, down, across = 0, 1, 1, _size(), _size()
     base = ctypes.cast(text, _any).value or 0
     for offset in sorted(set(offsets)):
         # A CR LF is one newline, and no part ends inside of it.
@@ -430,14 +436,48 @@ def _value(kind: int, integer: int, text: str) -> Value:
     return bool(integer) if kind == _BOOL else None
 
 
-def _nodes_of(rows: memoryview, strings: bytes) -> List[Node]:
-    """The nodes of the rows, in one pass."""
-    text = strings.decode()
+class _Rows:
+    """The rows of a document and their strings, and where the rows of each node at its top begin."""
+
+    __slots__ = ("rows", "strings", "text", "begins")
+
+    def __init__(self, rows: memoryview, strings: bytes) -> None:
+        self.rows, self.strings, self.text = rows, strings, strings.decode()
+        self.begins: List[int] = []
+
+    def nodes(self) -> List[Node]:
+        """The nodes, made anew."""
+        # A collection among so many new objects would find nothing.
+        was_on = gc.isenabled()
+        gc.disable()
+        try:
+            return _nodes_of(self.rows, self.strings, self.text)
+        finally:
+            if was_on:
+                gc.enable()
+
+    def node(self, index: int) -> Node:
+        """The node at the index, made anew."""
+        if not self.begins:
+            depth = 0
+            for at, (kind, has_block) in enumerate(_outline.iter_unpack(self.rows)):
+                if kind == _NODE and not depth:
+                    self.begins.append(at * _row.size)
+                depth += has_block - (kind == _END)
+            self.begins.append(len(self.rows))
+        rows = self.rows[self.begins[index] : self.begins[index + 1]]
+        return _nodes_of(rows, self.strings, self.text)[0]
+
+
+def _nodes_of(rows: memoryview, strings: bytes, text: str) -> List[Node]:
+    """The nodes of the rows, in one pass; the text is that of all the strings."""
     # In ASCII a byte is a character, and a slice of the text is the string.
     ascii = len(text) == len(strings)
     part = lambda start, n: text[start : start + n] if ascii else strings[start : start + n].decode()
     nodes: List[Node] = []
-    top, above, new_node, new_entry = nodes, [], Node.__new__, Entry.__new__
+    above: List[List[Node]] = []
+    entries: List[Entry] = []
+    top, new_node, new_entry = nodes, Node.__new__, Entry.__new__
     for (kind, value, has_type, has_block, integer, name, name_len, type, type_len, at, at_len,
          start, length) in _row.iter_unpack(rows):
         if kind == _NODE:
@@ -483,8 +523,14 @@ class Document:
     ([16], 'a  0x10 // ten\n')
     """
 
+    _handle: _Handle
+    #: The rows, where they were read since the last edit. An edit puts another list here, so that
+    #: rows that another thread has read before the edit do not get into it.
+    _read: List[_Rows]
+    _len: int
+
     def __init__(self, text: Union[str, bytes] = b"") -> None:
-        self._handle, self._nodes = _Handle(), None
+        self._handle, self._read = _Handle(), []
         text = _encoded(text)
         # No other thread knows this handle yet.
         _check(_texts.kdl_parse(text, len(text), self._handle), text)
@@ -500,8 +546,8 @@ class Document:
 
     def close(self) -> None:
         """Frees the memory of the document. Each other call raises `ValueError` then."""
-        self._nodes = None
         _lib.kdl_free(self._handle)
+        self._read = []
 
     def __del__(self, _free: Any = _lib.kdl_free) -> None:
         _free(self._handle)
@@ -537,25 +583,31 @@ class Document:
         >>> str(document)
         'a 16\nb {\n    c\n} // d\n'
         """
-        self._nodes = None
-        _check((_lib.kdl_format if comments else _lib.kdl_strip)(self._handle))
+        status = (_lib.kdl_format if comments else _lib.kdl_strip)(self._handle)
+        self._read = []
+        _check(status)
 
     # Look-ups
 
     @property
     def nodes(self) -> List[Node]:
-        """The nodes, as data of their own: to change them does not change the document."""
-        if self._nodes is None:
-            rows, strings = self._tree()
-            # A collection among so many new objects would find nothing.
-            was_on = gc.isenabled()
-            gc.disable()
-            try:
-                self._nodes = _nodes_of(rows, strings)
-            finally:
-                if was_on:
-                    gc.enable()
-        return self._nodes
+        """The nodes as data of their own: a change of them does not change the document.
+
+        Each use makes all nodes anew. Keep the list where it is used again; `document[0]` and
+        `document["name"]` make one node alone.
+
+        >>> document = Document.parse("a 1; b")
+        >>> nodes = document.nodes
+        >>> nodes.pop().name, len(nodes), len(document), "b" in document
+        ('b', 1, 2, True)
+        """
+        return self._rows().nodes()
+
+    def _rows(self) -> _Rows:
+        read = self._read
+        if not read:
+            read.append(_Rows(*self._tree()))
+        return read[0]
 
     def _tree(self) -> Tuple[memoryview, bytes]:
         room, length, count, used = self._len // 6 + 16, self._len + 64, _size(), _size()
@@ -573,23 +625,23 @@ class Document:
         return iter(self.nodes)
 
     def __len__(self) -> int:
-        return len(self.nodes)
+        return self._node_count(())
 
     def __contains__(self, name: object) -> bool:
-        return any(it.name == name for it in self.nodes)
+        try:
+            return isinstance(name, str) and self._found(_lib.kdl_find, (), name) >= 0
+        except KeyError:
+            return False
 
     def __getitem__(self, name: Union[str, int]) -> Node:
         """The first node of that name, or the node at that index."""
-        if isinstance(name, int):
-            return self.nodes[name]
-        for node in self.nodes:
-            if node.name == name:
-                return node
-        raise KeyError(name)
+        if not isinstance(name, (str, int)):
+            raise KeyError(name)
+        return self.node(name)
 
     def get(self, name: str) -> Optional[Node]:
         """The first node of that name, or None."""
-        return next((it for it in self.nodes if it.name == name), None)
+        return self[name] if name in self else None
 
     def get_arg(self, name: str, default: Any = None) -> Any:
         """The first argument of the first node of that name in the document, or the default where
@@ -613,13 +665,12 @@ class Document:
         >>> Document.parse("server { port 8080; }").node(["server", "port"]).args
         [8080]
         """
-        nodes, node = self.nodes, None
-        for index in self.find(path):
-            if node is not None:
-                nodes = node.children or []
-            node = nodes[index]
-        if node is None:
+        at = self.find(path)
+        if not at:
             raise IndexError("the empty path is no node")
+        node = self._rows().node(at[0])
+        for index in at[1:]:
+            node = (node.children or [])[index]
         return node
 
     def find(self, path: Path) -> Tuple[int, ...]:
@@ -641,7 +692,10 @@ class Document:
         return found
 
     def _found(self, call: Any, path: Tuple[int, ...], name: str) -> int:
-        key, index = name.encode(), _size()
+        try:
+            key, index = name.encode(), _size()
+        except UnicodeEncodeError:
+            raise KeyError(name) from None
         status = call(self._handle, *_steps(path), key, len(key), index)
         if status == _NOT_FOUND:
             raise KeyError(name)
@@ -667,9 +721,10 @@ class Document:
 
     def _edit(self, call: Any, path: Tuple[int, ...], *rest: int, text: Optional[bytes] = None,
               kind: int = _AS_DOCUMENT) -> None:
-        self._nodes = None
         given = () if text is None else (text, len(text))
-        _check(call(self._handle, *_steps(path), *rest, *given), text or b"", kind)
+        status = call(self._handle, *_steps(path), *rest, *given)
+        self._read = []
+        _check(status, text or b"", kind)
 
     def _entry(self, path: Tuple[int, ...], entry: Union[str, int]) -> int:
         """The index of an entry among all of the node, from that index or the key of a property."""
@@ -902,7 +957,8 @@ def dumps(nodes: Iterable[Node]) -> str:
     >>> dumps([Node("a", ["b", "c d"], {"k": None}), Node("b", children=[])])
     'a b "c d" k=#null\nb {\n\n}\n'
     """
-    out, work = [], [iter(nodes)]
+    out: List[str] = []
+    work: List[Iterator[Node]] = [iter(nodes)]
     while work:
         node = next(work[-1], None)
         if node is None:
