@@ -172,13 +172,14 @@ _FLOATS = re.compile(
 
 
 class Float(float):
-    """A float that keeps its text, as the text in which it was read.
+    """A float that keeps its text: one that was read the text in which it was read, without `_`, and
+    `Float(text)` the text given.
 
     `ValueError` for a text that is no float in KDL. A float has a point or an exponent, with digits
     on both sides, or is `#inf`, `#-inf` or `#nan`.
 
-    >>> loads("price 1.50")[0][0].text
-    '1.50'
+    >>> loads("price 1_000.50")[0][0].text
+    '1000.50'
     >>> print(dumps([Node("price", [Float("1.50"), Float("#inf")])]), end="")
     price 1.50 #inf
     >>> Float("1")
@@ -205,7 +206,8 @@ class Entry:
     """An argument, whose `name` is None, or a property.
 
     `span` is its (start, end) in the text that it was read from, in bytes, and no part of a
-    comparison.
+    comparison. A nan is not equal to itself, as in Python: two entries `#nan` differ, and so do the
+    nodes that have them.
 
     >>> Entry(8080, "port", type="u16")
     Entry(8080, 'port', type='u16')
@@ -518,9 +520,25 @@ class Document:
     down: a name is the first node of that name, an index counts all nodes from 0, and a negative
     one from the end. A str is one name: "a.b" is no path.
 
+    A call with a path raises `KeyError` where there is no node of a name in it, and `IndexError`
+    where there is none at an index: `find`, `node`, `document[..]`, and each `set_..`, `insert_..`
+    and `remove_..`. A call with an entry raises `KeyError` where the node has no property of that
+    key (`set_prop` adds one then), and `IndexError` where it has no entry at that index.
+    `insert_node` and `insert_entry` raise `IndexError` for an index beyond the number of nodes or
+    entries.
+
+    `insert_node`, `insert_entry` and `set_spelling` raise `KdlError` where their text is not exactly
+    one node, entry or value. The positions of its faults are in that text, not in the document.
+    After an exception of an edit the document is as it was.
+
     >>> with Document.parse("a  0x10 // ten\n") as document:
     ...     document["a"].args, str(document)
     ([16], 'a  0x10 // ten\n')
+    >>> try:
+    ...     Document.parse("a 1").insert_entry("a", "k=2 3")
+    ... except KdlError as error:
+    ...     print(error)
+    1:5: Expected end of document
     """
 
     _handle: _Handle
@@ -754,6 +772,9 @@ class Document:
         property of that key, or the entry at that index among all entries of the node. Its key, its
         type and what is around it stay.
 
+        An entry that `insert_entry` or `set_prop` added, or that `autoformat` laid out, is printed
+        in the library's spelling whatever the text: only its value is set.
+
         >>> document = Document.parse("mode 0o644")
         >>> document.set_spelling("mode", 0, "0o755")
         >>> str(document), document.get_arg("mode")
@@ -815,11 +836,22 @@ class Document:
         """Inserts an entry, or the entry of a text in KDL, before the one at the index or as the
         last.
 
+        It is printed after one space, in the library's spelling, also where a text is given: `0x10`
+        is inserted as `16`, and `k="x"` as `k=x`. For another spelling, parse the text of the
+        document anew, and call `set_spelling` then.
+
         >>> document = Document.parse("a 1 // c")
         >>> document.insert_entry("a", Entry("x y", "k"))
         >>> document.insert_entry("a", "(u8)0", 0)
         >>> str(document)
         'a (u8)0 1 k="x y" // c'
+        >>> document.insert_entry("a", "mode=0o755")
+        >>> document = Document.parse(str(document))
+        >>> str(document)
+        'a (u8)0 1 k="x y" mode=493 // c'
+        >>> document.set_spelling("a", "mode", "0o755")
+        >>> str(document)
+        'a (u8)0 1 k="x y" mode=0o755 // c'
         """
         at = self.find(path)
         text = _spelled_entry(entry) if isinstance(entry, Entry) else entry
@@ -827,7 +859,8 @@ class Document:
         self._edit(_lib.kdl_insert_entry, at, place, text=_encoded(text), kind=_AS_ENTRY)
 
     def remove_entry(self, path: Path, entry: Union[str, int]) -> None:
-        """Removes the last property of that key, or the entry at that index.
+        """Removes the last property of that key, or the entry at that index, with the spaces,
+        comments and `/-` entries between it and what is before it. What is after it stays.
 
         >>> document = Document.parse("a 1 k=2 // c")
         >>> document.remove_entry("a", "k")
@@ -842,20 +875,30 @@ class Document:
         into the document where the path is (): before the node at the index, or as the last. A
         node without a block gets one.
 
-        A `Node` is laid out and indented by 4 spaces for each level, with LF, whatever the
-        neighbours have. At index 0 of a block whose first node begins a line, an empty line follows
-        it; in an empty block that has a newline, an empty line is before it. A text is inserted as
-        it is, with its spaces and comments.
+        It goes before the comments and `/-` nodes in front of the node at the index: at index 0 of a
+        document before a licence comment too. As the last it goes right after the last node, and
+        before the comments after that.
+
+        A `Node` suits a block with one node to a line, each ended by a newline. It is laid out and
+        indented by 4 spaces for each level, with LF, whatever the neighbours have; after a `;` it
+        stays on that line. At index 0 of a block whose first node begins a line, an empty line
+        follows it; in an empty block that has a newline, an empty line is before it. Its strings are
+        in quotes only where they have to be: `Node("log", props={"level": "info"})` is inserted as
+        `log level=info`. Give a text for quotes, another spelling, or another place of newlines.
+
+        A text is inserted as it is, with its spaces and comments, and newlines are added only where
+        they keep it apart from its neighbours. End it with a newline for a line of its own, and
+        begin it with one too at index 0 of a block and after a `;`.
 
         >>> document = Document.parse("a {\n    b 1 // one\n}\n")
         >>> document.insert_node("a", Node("c", [2]))
-        >>> document.insert_node((), "/* three */ d 0x3")
-        >>> print(document)
+        >>> document.insert_node((), 'log level="info" // three\n')
+        >>> print(document, end="")
         a {
             b 1 // one
             c 2
         }
-        /* three */ d 0x3
+        log level="info" // three
         """
         at = self.find(path)
         count = self._node_count(at, -1)
@@ -864,13 +907,21 @@ class Document:
         self._edit(_lib.kdl_insert_node, at, place, text=_encoded(text), kind=_AS_NODE)
 
     def remove_node(self, path: Path) -> None:
-        """Removes a node.
+        r"""Removes a node, with what is before it and its end.
 
-        >>> document = Document.parse("a; b { c; d; }")
-        >>> document.remove_node(["b", "c"])
-        >>> document.remove_node("a")
-        >>> document.nodes
-        [Node('b', children=[...])]
+        Before it are the spaces, newlines, comments and `/-` nodes back to the end of the node before
+        it, to the `{`, or to the start of the document: a licence comment or a version marker before
+        the first node goes with that node. Its end is the newline or `;` after it, with the spaces
+        and comments before that. What is after its end stays.
+
+        >>> document = Document.parse("a\n// of b\nb 1 { c; } // end\n// of d\nd\n")
+        >>> document.remove_node("b")
+        >>> str(document)
+        'a\n// of d\nd\n'
+        >>> document = Document.parse("a {\n    b\n    c\n}\n")
+        >>> document.remove_node(["a", "b"])
+        >>> str(document)
+        'a {    c\n}\n'
         """
         at = self.find(path)
         if not at:
@@ -952,10 +1003,12 @@ def loads(text: Union[str, bytes]) -> List[Node]:
 
 
 def dumps(nodes: Iterable[Node]) -> str:
-    r"""The text of nodes, laid out.
+    r"""The text of nodes, laid out. Without nodes it is one newline.
 
     >>> dumps([Node("a", ["b", "c d"], {"k": None}), Node("b", children=[])])
     'a b "c d" k=#null\nb {\n\n}\n'
+    >>> dumps([])
+    '\n'
     """
     out: List[str] = []
     work: List[Iterator[Node]] = [iter(nodes)]
@@ -978,10 +1031,10 @@ def dumps(nodes: Iterable[Node]) -> str:
 def format_text(text: Union[str, bytes]) -> str:
     r"""A text laid out, with its comments. Raises `KdlError` where it has faults,
     `UnicodeDecodeError` for bytes that are not UTF-8, and `UnicodeEncodeError` for a str with
-    surrogates; all are `ValueError`.
+    surrogates; all are `ValueError`. A text without nodes gets one newline after its comments.
 
-    >>> format_text("a   1 // one")
-    'a 1 // one\n'
+    >>> format_text("a   1 // one"), format_text("// one\n"), format_text("")
+    ('a 1 // one\n', '// one\n\n', '\n')
     """
     text = _encoded(text)
     status, out = _written(lambda *it: _texts.kdl_format_text(text, len(text), *it), len(text) * 2)
