@@ -13,7 +13,8 @@
  * buffer of the caller, `room` bytes long, and sets `*needed` (or `*.._len`) to the whole length.
  * Where that is more than `room`, it returns KDL_TOO_SMALL: call again with that much room. The
  * exceptions are kdl_faults, kdl_faults_of and kdl_reports: they return KDL_FAULTS, and the counts
- * tell. No call keeps a pointer that it was given, and none returns a pointer.
+ * tell. No call keeps a pointer that it was given, and none returns a pointer. KDL_TEXT passes a
+ * string literal: `kdl_parse(KDL_TEXT("a 1"), &document)`.
  *
  * Ownership. A `struct kdl_document` belongs to the caller and begins as {0}, without a document.
  * kdl_parse puts a document in and frees the one before; kdl_free frees it, and may be called
@@ -45,6 +46,9 @@ extern "C" {
  * returns the same number or a larger one from kdl_version. */
 #define KDL_VERSION 1
 uint32_t kdl_version(void);
+
+/* A string literal as the two arguments of a text: its bytes without the NUL, and their number. */
+#define KDL_TEXT(literal) (const uint8_t *)("" literal), sizeof(literal) - 1
 
 /* Statuses. */
 enum {
@@ -149,15 +153,18 @@ enum {
     KDL_NULL = 6
 };
 
-/* A node, an entry, or the end of a node's block. Each text is bytes of `strings`. */
+/* A node, an entry, or the end of a node's block. Each text is bytes of `strings`. What a row does
+ * not have is 0: of a text its start and its length. */
 struct kdl_row {
     uint32_t kind, value;
     uint32_t has_type;     /* 1 where it has a type, which may be empty */
     uint32_t has_block;    /* of a node: 1 where it has a block of children, which may be empty */
-    int64_t integer;
-    size_t name_start, name_len; /* the name of a node, or the key of a property */
-    size_t type_start, type_len;
-    size_t text_start, text_len;
+    int64_t integer;       /* of KDL_INTEGER and KDL_BOOL */
+    size_t name_start, name_len; /* the name of a node, or the key of a property: 0, 0 of an
+                                    argument and of an end */
+    size_t type_start, type_len; /* 0, 0 where `has_type` is 0 */
+    size_t text_start, text_len; /* the text of KDL_STRING, KDL_LARGE_INTEGER and KDL_FLOAT: 0, 0 of
+                                    KDL_INTEGER, KDL_BOOL, KDL_NULL and KDL_NO_VALUE */
     size_t start, len;     /* its place in the text that it was read from, in bytes: of an inserted
                               node or entry the whole text of that insert, and of what the node has
                               the place in that text. Edits do not change it. 0, 0 of an end */
@@ -173,33 +180,41 @@ uint32_t kdl_tree(struct kdl_document *document,
                   uint8_t *strings, size_t strings_room, size_t *strings_len);
 
 /* Paths. A path is indices from 0: of a node in the document, of a node in that one's block, and
- * so on. The empty path is the document, where a call speaks of the nodes in a document or block:
- * kdl_node_count, kdl_find, kdl_insert_node, kdl_remove_node. */
+ * so on.
+ *
+ * kdl_node_count, kdl_find, kdl_insert_node and kdl_remove_node speak of the nodes in the document
+ * or in a block. Their `path` is that of the parent, the node which has the block; the empty path,
+ * with `path_len` 0, is the document. An `index` is a node's place there: node 2 of the document is
+ * `path_len` 0, `index` 2.
+ *
+ * The other calls speak of one node, its type, its name or its entries. Their `path` is the node's
+ * own: node 2 of the document is the path {2}. KDL_NOT_FOUND for the empty path. An `index` is the
+ * place of an entry in the node. */
 
-/* How many nodes are in the document or in the node's block. KDL_NOT_FOUND for a node without a
- * block. */
+/* How many nodes are in the document or in the parent's block. KDL_NOT_FOUND for a parent without a
+ * block. `path` is the parent's. */
 uint32_t kdl_node_count(struct kdl_document *document, const size_t *path, size_t path_len,
                         size_t *count);
 
-/* The row of a node, and how many entries it has. After KDL_TOO_SMALL `*entry_count` and `*row` are
- * set too; read nothing of `strings`. */
+/* The row of a node, and how many entries it has. `path` is the node's own. After KDL_TOO_SMALL
+ * `*entry_count` and `*row` are set too; read nothing of `strings`. */
 uint32_t kdl_node(struct kdl_document *document, const size_t *path, size_t path_len,
                   size_t *entry_count, struct kdl_row *row,
                   uint8_t *strings, size_t strings_room, size_t *strings_len);
 
-/* The row of an entry. Arguments and properties are counted together, from 0. After KDL_TOO_SMALL
- * `*row` is set too; read nothing of `strings`. */
+/* The row of an entry. `path` is the node's own. Arguments and properties are counted together,
+ * from 0. After KDL_TOO_SMALL `*row` is set too; read nothing of `strings`. */
 uint32_t kdl_entry(struct kdl_document *document, const size_t *path, size_t path_len,
                    size_t index, struct kdl_row *row,
                    uint8_t *strings, size_t strings_room, size_t *strings_len);
 
-/* The index of the first node of that name in the document or in the node's block. KDL_NOT_UTF8 for
- * a name that is not UTF-8. */
+/* The index of the first node of that name in the document or in the parent's block. `path` is the
+ * parent's. KDL_NOT_UTF8 for a name that is not UTF-8. */
 uint32_t kdl_find(struct kdl_document *document, const size_t *path, size_t path_len,
                   const uint8_t *name, size_t name_len, size_t *index);
 
-/* The index of the last property of that key: the one that counts in KDL. KDL_NOT_UTF8 for a key
- * that is not UTF-8. */
+/* The index of the last property of that key: the one that counts in KDL. `path` is the node's own.
+ * KDL_NOT_UTF8 for a key that is not UTF-8. */
 uint32_t kdl_find_entry(struct kdl_document *document, const size_t *path, size_t path_len,
                         const uint8_t *name, size_t name_len, size_t *index);
 
@@ -215,44 +230,64 @@ uint32_t kdl_get(struct kdl_document *document, const uint8_t *name, size_t name
  * node. */
 
 /* Sets the value of an entry, and its spelling, both from a text in KDL: "a b", 0x10, #true. The
- * text is a value alone, without a key or a type. */
+ * text is a value alone, without a key or a type. `path` is the node's own. An entry that
+ * kdl_insert_entry inserted, or that kdl_format or kdl_strip laid out, is printed in the library's
+ * spelling whatever the text: only its value is set. */
 uint32_t kdl_set_value(struct kdl_document *document, const size_t *path, size_t path_len,
                        size_t index, const uint8_t *value, size_t value_len);
 
 /* Sets the key of an entry, or takes it away where `has_key` is 0. The key is the string itself,
- * not its spelling. */
+ * not its spelling. `path` is the node's own. */
 uint32_t kdl_set_key(struct kdl_document *document, const size_t *path, size_t path_len,
                      size_t index, uint32_t has_key, const uint8_t *key, size_t key_len);
 
 /* Sets the type of an entry, or of the node where `index` is SIZE_MAX; takes it away where
- * `has_type` is 0. */
+ * `has_type` is 0. The type is the string itself. `path` is the node's own. */
 uint32_t kdl_set_type(struct kdl_document *document, const size_t *path, size_t path_len,
                       size_t index, uint32_t has_type, const uint8_t *type, size_t type_len);
 
-/* Sets the name of a node. */
+/* Sets the name of a node. The name is the string itself. `path` is the node's own. */
 uint32_t kdl_set_name(struct kdl_document *document, const size_t *path, size_t path_len,
                       const uint8_t *name, size_t name_len);
 
 /* Inserts an entry, given in KDL as 8080 or port=(u16)8080, before the one at the index, or as the
- * last where `index` is their number. It is printed after one space, in the library's spelling:
- * 0x10 is inserted as 16. Call kdl_set_value after it for another spelling. */
+ * last where `index` is their number. `path` is the node's own. The entry is printed after one
+ * space, in the library's spelling: 0x10 is inserted as 16. For another spelling, print the
+ * document and parse that text, and call kdl_set_value then. */
 uint32_t kdl_insert_entry(struct kdl_document *document, const size_t *path, size_t path_len,
                           size_t index, const uint8_t *entry, size_t entry_len);
 
+/* Removes the entry at the index. `path` is the node's own. With it go the spaces, comments and
+ * `/-` entries between it and what is before it. What is after it stays: `a 1 /-x 2 // c` without
+ * entry 1 is `a 1 // c`, and without entry 0 `a /-x 2 // c`. */
 uint32_t kdl_remove_entry(struct kdl_document *document, const size_t *path, size_t path_len,
                           size_t index);
 
-/* Inserts a node, given in KDL, into the document or the node's block: before the one at the index,
- * and before the comments and `/-` nodes in front of that one. Where `index` is their number, it is
- * inserted after the last node and the newline or `;` that ends it, and before comments and `/-`
- * nodes after that. The text is inserted as it is, with its spaces and comments. Newlines are added
- * only where they keep it apart from its neighbours: to have a line of its own, "    port 8080\n"
- * says so. A node without a block gets `{`, a newline, the text, a newline unless the text ends in
- * one or in `;`, and `}`. No space is added before the `{`: `a` becomes `a{`. */
+/* Inserts a node, given in KDL, into the document or the parent's block: before the one at the
+ * index, and before the comments and `/-` nodes in front of that one. So at index 0 of a document
+ * it goes before a licence comment. Where `index` is their number, it is inserted after the last
+ * node and the newline or `;` that ends it, and before comments and `/-` nodes after that. `path`
+ * is the parent's: the empty path for the document.
+ *
+ * The text is inserted as it is, with its spaces and comments. Newlines are added only where they
+ * keep it apart from its neighbours. After a node that ends in a newline, "    port 8080\n" has a
+ * line of its own. At index 0 of a block it follows the `{`, and after a `;` it follows that, on
+ * the same line: begin the text with a newline there, "\n    port 8080\n".
+ *
+ * A parent without a block gets `{`, a newline, the text, a newline unless the text ends in one or
+ * in `;`, and `}`. No space is added before the `{`: `a` becomes `a{`. */
 uint32_t kdl_insert_node(struct kdl_document *document, const size_t *path, size_t path_len,
                          size_t index, const uint8_t *node, size_t node_len);
 
-/* Removes the node at the index of the document or of the node's block. */
+/* Removes the node at the index of the document or of the parent's block. `path` is the parent's:
+ * the empty path for the document. Node 2 of the document is `path_len` 0, `index` 2.
+ *
+ * With the node goes what is before it: spaces, newlines, comments and `/-` nodes, back to the end
+ * of the node before, to the `{`, or to the start of the document. So a licence comment or a
+ * version marker before the first node of a document goes with that node; a BOM stays. With it goes
+ * its end too: the newline or `;` after it, and the spaces and comments before that. What is after
+ * its end stays. Node 1 of "a\n// of b\nb // end\n// of c\nc" removed leaves "a\n// of c\nc"; node
+ * 0 of the block in "a {\n    b\n    c\n}" leaves "a {    c\n}". */
 uint32_t kdl_remove_node(struct kdl_document *document, const size_t *path, size_t path_len,
                          size_t index);
 

@@ -45,11 +45,12 @@ import struct
 import sys
 import tempfile
 from typing import (
-    Any, Callable, Dict, Iterable, Iterator, List, NamedTuple, Optional, Sequence, Tuple, Union,
+    Any, Callable, Dict, Iterable, Iterator, List, Mapping, NamedTuple, Optional, Sequence, Tuple,
+    Union,
 )
 
 __all__ = [
-    "Document", "Entry", "Fault", "Float", "KdlError", "Node", "Path", "Value",
+    "Document", "Entry", "Fault", "Float", "KdlError", "Node", "Value",
     "dumps", "faults", "format_text", "loads",
 ]
 
@@ -57,7 +58,8 @@ __all__ = [
 Value = Union[str, int, float, bool, None]
 #: Where a node is. A path is a name, an index, or a sequence of these, from the document down: a
 #: name is the first node of that name, an index counts all nodes from 0, and a negative one from
-#: the end. A str is one name: "a.b" is no path.
+#: the end. A str is one name: "a.b" is no path. `from kdl import *` leaves this name out, which
+#: `pathlib.Path` has too.
 Path = Union[str, int, Sequence[Union[str, int]]]
 
 _VERSION = 1
@@ -71,6 +73,8 @@ _LEAST, _MOST = -(2**127), 2**127 - 1
 
 _u32, _size, _bytes, _any = ctypes.c_uint32, ctypes.c_size_t, ctypes.c_char_p, ctypes.c_void_p
 _row = struct.Struct("4Iq8N")
+# Of a row only what it is, and whether it has a block.
+_outline = struct.Struct(f"I8xI{_row.size - 16}x")
 _report, _fault = struct.Struct("8N"), struct.Struct("4N")
 
 
@@ -168,13 +172,14 @@ _FLOATS = re.compile(
 
 
 class Float(float):
-    """A float that keeps its text, as the text in which it was read.
+    """A float that keeps its text: one that was read the text in which it was read, without `_`, and
+    `Float(text)` the text given.
 
     `ValueError` for a text that is no float in KDL. A float has a point or an exponent, with digits
     on both sides, or is `#inf`, `#-inf` or `#nan`.
 
-    >>> loads("price 1.50")[0][0].text
-    '1.50'
+    >>> loads("price 1_000.50")[0][0].text
+    '1000.50'
     >>> print(dumps([Node("price", [Float("1.50"), Float("#inf")])]), end="")
     price 1.50 #inf
     >>> Float("1")
@@ -201,7 +206,8 @@ class Entry:
     """An argument, whose `name` is None, or a property.
 
     `span` is its (start, end) in the text that it was read from, in bytes, and no part of a
-    comparison.
+    comparison. A nan is not equal to itself, as in Python: two entries `#nan` differ, and so do the
+    nodes that have them.
 
     >>> Entry(8080, "port", type="u16")
     Entry(8080, 'port', type='u16')
@@ -255,7 +261,8 @@ class Node:
     children: Optional[List[Node]]
     span: Tuple[int, int]
 
-    def __init__(self, name: str, args: Iterable[Value] = (), props: Optional[Dict[str, Value]] = None,
+    def __init__(self, name: str, args: Iterable[Value] = (),
+                 props: Optional[Mapping[str, Value]] = None,
                  children: Optional[Iterable[Node]] = None, *, type: Optional[str] = None,
                  entries: Optional[Iterable[Entry]] = None) -> None:
         if isinstance(args, (str, bytes, bytearray)):
@@ -299,7 +306,7 @@ class Node:
         if not isinstance(other, Node):
             return NotImplemented
         # Over a list, since blocks may be deep.
-        work = [([self], [other])]
+        work: List[Tuple[List[Node], List[Node]]] = [([self], [other])]
         while work:
             ones, twos = work.pop()
             if len(ones) != len(twos):
@@ -405,7 +412,8 @@ def _faults_of(text: bytes, kind: int) -> List[Fault]:
 
 def _positions(text: bytes, offsets: List[int]) -> Dict[int, Tuple[int, int]]:
     """The line and column of each offset, each counted from the one before."""
-    found, at, line, column, down, across = {}, 0, 1, 1, _size(), _size()
+    found: Dict[int, Tuple[int, int]] = {}
+    at, line, column, down, across = 0, 1, 1, _size(), _size()
     base = ctypes.cast(text, _any).value or 0
     for offset in sorted(set(offsets)):
         # A CR LF is one newline, and no part ends inside of it.
@@ -430,14 +438,48 @@ def _value(kind: int, integer: int, text: str) -> Value:
     return bool(integer) if kind == _BOOL else None
 
 
-def _nodes_of(rows: memoryview, strings: bytes) -> List[Node]:
-    """The nodes of the rows, in one pass."""
-    text = strings.decode()
+class _Rows:
+    """The rows of a document and their strings, and where the rows of each node at its top begin."""
+
+    __slots__ = ("rows", "strings", "text", "begins")
+
+    def __init__(self, rows: memoryview, strings: bytes) -> None:
+        self.rows, self.strings, self.text = rows, strings, strings.decode()
+        self.begins: List[int] = []
+
+    def nodes(self) -> List[Node]:
+        """The nodes, made anew."""
+        # A collection among so many new objects would find nothing.
+        was_on = gc.isenabled()
+        gc.disable()
+        try:
+            return _nodes_of(self.rows, self.strings, self.text)
+        finally:
+            if was_on:
+                gc.enable()
+
+    def node(self, index: int) -> Node:
+        """The node at the index, made anew."""
+        if not self.begins:
+            depth = 0
+            for at, (kind, has_block) in enumerate(_outline.iter_unpack(self.rows)):
+                if kind == _NODE and not depth:
+                    self.begins.append(at * _row.size)
+                depth += has_block - (kind == _END)
+            self.begins.append(len(self.rows))
+        rows = self.rows[self.begins[index] : self.begins[index + 1]]
+        return _nodes_of(rows, self.strings, self.text)[0]
+
+
+def _nodes_of(rows: memoryview, strings: bytes, text: str) -> List[Node]:
+    """The nodes of the rows, in one pass; the text is that of all the strings."""
     # In ASCII a byte is a character, and a slice of the text is the string.
     ascii = len(text) == len(strings)
     part = lambda start, n: text[start : start + n] if ascii else strings[start : start + n].decode()
     nodes: List[Node] = []
-    top, above, new_node, new_entry = nodes, [], Node.__new__, Entry.__new__
+    above: List[List[Node]] = []
+    entries: List[Entry] = []
+    top, new_node, new_entry = nodes, Node.__new__, Entry.__new__
     for (kind, value, has_type, has_block, integer, name, name_len, type, type_len, at, at_len,
          start, length) in _row.iter_unpack(rows):
         if kind == _NODE:
@@ -478,13 +520,35 @@ class Document:
     down: a name is the first node of that name, an index counts all nodes from 0, and a negative
     one from the end. A str is one name: "a.b" is no path.
 
+    A call with a path raises `KeyError` where there is no node of a name in it, and `IndexError`
+    where there is none at an index: `find`, `node`, `document[..]`, and each `set_..`, `insert_..`
+    and `remove_..`. A call with an entry raises `KeyError` where the node has no property of that
+    key (`set_prop` adds one then), and `IndexError` where it has no entry at that index.
+    `insert_node` and `insert_entry` raise `IndexError` for an index beyond the number of nodes or
+    entries.
+
+    `insert_node`, `insert_entry` and `set_spelling` raise `KdlError` where their text is not exactly
+    one node, entry or value. The positions of its faults are in that text, not in the document.
+    After an exception of an edit the document is as it was.
+
     >>> with Document.parse("a  0x10 // ten\n") as document:
     ...     document["a"].args, str(document)
     ([16], 'a  0x10 // ten\n')
+    >>> try:
+    ...     Document.parse("a 1").insert_entry("a", "k=2 3")
+    ... except KdlError as error:
+    ...     print(error)
+    1:5: Expected end of document
     """
 
+    _handle: _Handle
+    #: The rows, where they were read since the last edit. An edit puts another list here, so that
+    #: rows that another thread has read before the edit do not get into it.
+    _read: List[_Rows]
+    _len: int
+
     def __init__(self, text: Union[str, bytes] = b"") -> None:
-        self._handle, self._nodes = _Handle(), None
+        self._handle, self._read = _Handle(), []
         text = _encoded(text)
         # No other thread knows this handle yet.
         _check(_texts.kdl_parse(text, len(text), self._handle), text)
@@ -500,8 +564,8 @@ class Document:
 
     def close(self) -> None:
         """Frees the memory of the document. Each other call raises `ValueError` then."""
-        self._nodes = None
         _lib.kdl_free(self._handle)
+        self._read = []
 
     def __del__(self, _free: Any = _lib.kdl_free) -> None:
         _free(self._handle)
@@ -537,25 +601,31 @@ class Document:
         >>> str(document)
         'a 16\nb {\n    c\n} // d\n'
         """
-        self._nodes = None
-        _check((_lib.kdl_format if comments else _lib.kdl_strip)(self._handle))
+        status = (_lib.kdl_format if comments else _lib.kdl_strip)(self._handle)
+        self._read = []
+        _check(status)
 
     # Look-ups
 
     @property
     def nodes(self) -> List[Node]:
-        """The nodes, as data of their own: to change them does not change the document."""
-        if self._nodes is None:
-            rows, strings = self._tree()
-            # A collection among so many new objects would find nothing.
-            was_on = gc.isenabled()
-            gc.disable()
-            try:
-                self._nodes = _nodes_of(rows, strings)
-            finally:
-                if was_on:
-                    gc.enable()
-        return self._nodes
+        """The nodes as data of their own: a change of them does not change the document.
+
+        Each use makes all nodes anew. Keep the list where it is used again; `document[0]` and
+        `document["name"]` make one node alone.
+
+        >>> document = Document.parse("a 1; b")
+        >>> nodes = document.nodes
+        >>> nodes.pop().name, len(nodes), len(document), "b" in document
+        ('b', 1, 2, True)
+        """
+        return self._rows().nodes()
+
+    def _rows(self) -> _Rows:
+        read = self._read
+        if not read:
+            read.append(_Rows(*self._tree()))
+        return read[0]
 
     def _tree(self) -> Tuple[memoryview, bytes]:
         room, length, count, used = self._len // 6 + 16, self._len + 64, _size(), _size()
@@ -573,23 +643,23 @@ class Document:
         return iter(self.nodes)
 
     def __len__(self) -> int:
-        return len(self.nodes)
+        return self._node_count(())
 
     def __contains__(self, name: object) -> bool:
-        return any(it.name == name for it in self.nodes)
+        try:
+            return isinstance(name, str) and self._found(_lib.kdl_find, (), name) >= 0
+        except KeyError:
+            return False
 
     def __getitem__(self, name: Union[str, int]) -> Node:
         """The first node of that name, or the node at that index."""
-        if isinstance(name, int):
-            return self.nodes[name]
-        for node in self.nodes:
-            if node.name == name:
-                return node
-        raise KeyError(name)
+        if not isinstance(name, (str, int)):
+            raise KeyError(name)
+        return self.node(name)
 
     def get(self, name: str) -> Optional[Node]:
         """The first node of that name, or None."""
-        return next((it for it in self.nodes if it.name == name), None)
+        return self[name] if name in self else None
 
     def get_arg(self, name: str, default: Any = None) -> Any:
         """The first argument of the first node of that name in the document, or the default where
@@ -613,13 +683,12 @@ class Document:
         >>> Document.parse("server { port 8080; }").node(["server", "port"]).args
         [8080]
         """
-        nodes, node = self.nodes, None
-        for index in self.find(path):
-            if node is not None:
-                nodes = node.children or []
-            node = nodes[index]
-        if node is None:
+        at = self.find(path)
+        if not at:
             raise IndexError("the empty path is no node")
+        node = self._rows().node(at[0])
+        for index in at[1:]:
+            node = (node.children or [])[index]
         return node
 
     def find(self, path: Path) -> Tuple[int, ...]:
@@ -641,7 +710,10 @@ class Document:
         return found
 
     def _found(self, call: Any, path: Tuple[int, ...], name: str) -> int:
-        key, index = name.encode(), _size()
+        try:
+            key, index = name.encode(), _size()
+        except UnicodeEncodeError:
+            raise KeyError(name) from None
         status = call(self._handle, *_steps(path), key, len(key), index)
         if status == _NOT_FOUND:
             raise KeyError(name)
@@ -667,9 +739,10 @@ class Document:
 
     def _edit(self, call: Any, path: Tuple[int, ...], *rest: int, text: Optional[bytes] = None,
               kind: int = _AS_DOCUMENT) -> None:
-        self._nodes = None
         given = () if text is None else (text, len(text))
-        _check(call(self._handle, *_steps(path), *rest, *given), text or b"", kind)
+        status = call(self._handle, *_steps(path), *rest, *given)
+        self._read = []
+        _check(status, text or b"", kind)
 
     def _entry(self, path: Tuple[int, ...], entry: Union[str, int]) -> int:
         """The index of an entry among all of the node, from that index or the key of a property."""
@@ -698,6 +771,9 @@ class Document:
         """Sets the value of an entry, and its spelling, both from a text in KDL. The entry is the
         property of that key, or the entry at that index among all entries of the node. Its key, its
         type and what is around it stay.
+
+        An entry that `insert_entry` or `set_prop` added, or that `autoformat` laid out, is printed
+        in the library's spelling whatever the text: only its value is set.
 
         >>> document = Document.parse("mode 0o644")
         >>> document.set_spelling("mode", 0, "0o755")
@@ -760,11 +836,22 @@ class Document:
         """Inserts an entry, or the entry of a text in KDL, before the one at the index or as the
         last.
 
+        It is printed after one space, in the library's spelling, also where a text is given: `0x10`
+        is inserted as `16`, and `k="x"` as `k=x`. For another spelling, parse the text of the
+        document anew, and call `set_spelling` then.
+
         >>> document = Document.parse("a 1 // c")
         >>> document.insert_entry("a", Entry("x y", "k"))
         >>> document.insert_entry("a", "(u8)0", 0)
         >>> str(document)
         'a (u8)0 1 k="x y" // c'
+        >>> document.insert_entry("a", "mode=0o755")
+        >>> document = Document.parse(str(document))
+        >>> str(document)
+        'a (u8)0 1 k="x y" mode=493 // c'
+        >>> document.set_spelling("a", "mode", "0o755")
+        >>> str(document)
+        'a (u8)0 1 k="x y" mode=0o755 // c'
         """
         at = self.find(path)
         text = _spelled_entry(entry) if isinstance(entry, Entry) else entry
@@ -772,7 +859,8 @@ class Document:
         self._edit(_lib.kdl_insert_entry, at, place, text=_encoded(text), kind=_AS_ENTRY)
 
     def remove_entry(self, path: Path, entry: Union[str, int]) -> None:
-        """Removes the last property of that key, or the entry at that index.
+        """Removes the last property of that key, or the entry at that index, with the spaces,
+        comments and `/-` entries between it and what is before it. What is after it stays.
 
         >>> document = Document.parse("a 1 k=2 // c")
         >>> document.remove_entry("a", "k")
@@ -787,20 +875,30 @@ class Document:
         into the document where the path is (): before the node at the index, or as the last. A
         node without a block gets one.
 
-        A `Node` is laid out and indented by 4 spaces for each level, with LF, whatever the
-        neighbours have. At index 0 of a block whose first node begins a line, an empty line follows
-        it; in an empty block that has a newline, an empty line is before it. A text is inserted as
-        it is, with its spaces and comments.
+        It goes before the comments and `/-` nodes in front of the node at the index: at index 0 of a
+        document before a licence comment too. As the last it goes right after the last node, and
+        before the comments after that.
+
+        A `Node` suits a block with one node to a line, each ended by a newline. It is laid out and
+        indented by 4 spaces for each level, with LF, whatever the neighbours have; after a `;` it
+        stays on that line. At index 0 of a block whose first node begins a line, an empty line
+        follows it; in an empty block that has a newline, an empty line is before it. Its strings are
+        in quotes only where they have to be: `Node("log", props={"level": "info"})` is inserted as
+        `log level=info`. Give a text for quotes, another spelling, or another place of newlines.
+
+        A text is inserted as it is, with its spaces and comments, and newlines are added only where
+        they keep it apart from its neighbours. End it with a newline for a line of its own, and
+        begin it with one too at index 0 of a block and after a `;`.
 
         >>> document = Document.parse("a {\n    b 1 // one\n}\n")
         >>> document.insert_node("a", Node("c", [2]))
-        >>> document.insert_node((), "/* three */ d 0x3")
-        >>> print(document)
+        >>> document.insert_node((), 'log level="info" // three\n')
+        >>> print(document, end="")
         a {
             b 1 // one
             c 2
         }
-        /* three */ d 0x3
+        log level="info" // three
         """
         at = self.find(path)
         count = self._node_count(at, -1)
@@ -809,13 +907,21 @@ class Document:
         self._edit(_lib.kdl_insert_node, at, place, text=_encoded(text), kind=_AS_NODE)
 
     def remove_node(self, path: Path) -> None:
-        """Removes a node.
+        r"""Removes a node, with what is before it and its end.
 
-        >>> document = Document.parse("a; b { c; d; }")
-        >>> document.remove_node(["b", "c"])
-        >>> document.remove_node("a")
-        >>> document.nodes
-        [Node('b', children=[...])]
+        Before it are the spaces, newlines, comments and `/-` nodes back to the end of the node before
+        it, to the `{`, or to the start of the document: a licence comment or a version marker before
+        the first node goes with that node. Its end is the newline or `;` after it, with the spaces
+        and comments before that. What is after its end stays.
+
+        >>> document = Document.parse("a\n// of b\nb 1 { c; } // end\n// of d\nd\n")
+        >>> document.remove_node("b")
+        >>> str(document)
+        'a\n// of d\nd\n'
+        >>> document = Document.parse("a {\n    b\n    c\n}\n")
+        >>> document.remove_node(["a", "b"])
+        >>> str(document)
+        'a {    c\n}\n'
         """
         at = self.find(path)
         if not at:
@@ -897,12 +1003,15 @@ def loads(text: Union[str, bytes]) -> List[Node]:
 
 
 def dumps(nodes: Iterable[Node]) -> str:
-    r"""The text of nodes, laid out.
+    r"""The text of nodes, laid out. Without nodes it is one newline.
 
     >>> dumps([Node("a", ["b", "c d"], {"k": None}), Node("b", children=[])])
     'a b "c d" k=#null\nb {\n\n}\n'
+    >>> dumps([])
+    '\n'
     """
-    out, work = [], [iter(nodes)]
+    out: List[str] = []
+    work: List[Iterator[Node]] = [iter(nodes)]
     while work:
         node = next(work[-1], None)
         if node is None:
@@ -922,10 +1031,10 @@ def dumps(nodes: Iterable[Node]) -> str:
 def format_text(text: Union[str, bytes]) -> str:
     r"""A text laid out, with its comments. Raises `KdlError` where it has faults,
     `UnicodeDecodeError` for bytes that are not UTF-8, and `UnicodeEncodeError` for a str with
-    surrogates; all are `ValueError`.
+    surrogates; all are `ValueError`. A text without nodes gets one newline after its comments.
 
-    >>> format_text("a   1 // one")
-    'a 1 // one\n'
+    >>> format_text("a   1 // one"), format_text("// one\n"), format_text("")
+    ('a 1 // one\n', '// one\n\n', '\n')
     """
     text = _encoded(text)
     status, out = _written(lambda *it: _texts.kdl_format_text(text, len(text), *it), len(text) * 2)

@@ -263,9 +263,9 @@ def edits():
     assert (a.name, a.type, a.args, a.props, a.children, a.span) == ("a", "t", [16], {"k": True}, None, (0, 23))
     assert b.children[0].args == [99999999999999999999, 1.5, None, "grün\n"]
     assert b.children[0].entries[1].value.text == "1.50" and a.entries[0].span == (6, 10)
-    assert document["b"] is b and document[0] is a and document[-1] is b and document.get("x") is None
+    assert document["b"] == b and document[0] == a and document[-1] == b and document.get("x") is None
     assert "a" in document and "x" not in document and len(document) == 2 and list(document) == [a, b]
-    assert document.node(["b", "c"]).args[0] == 99999999999999999999 and document.node(-1) is b
+    assert document.node(["b", "c"]).args[0] == 99999999999999999999 and document.node(-1) == b
     assert document.find(["b", 0]) == (1, 0) and document.find(()) == () and document.find(1) == (1,)
     for error, path in ((KeyError, "x"), (KeyError, ["b", "x"]), (KeyError, ["a", "x"]), (IndexError, 2),
                         (IndexError, [0, 0]), (IndexError, -3), (IndexError, 2**64), (TypeError, 1.5)):
@@ -307,6 +307,70 @@ def edits():
     assert str(spelled_anew) == "a 9090"
     document.autoformat()
     assert str(document).startswith("b {\n    c 99999999999999999999 1.50 #null 2.50 {"), str(document)
+
+
+def same_nodes():
+    """The nodes of a document are copies: what a program does to them is nothing to the document."""
+    text = "(t)a 1 k=2 { b 3 { c é; }; d {}; }\né; a 4\nz { x; y; }\n"
+    document = Document(text)
+    want = kdl.loads(text)
+    paths = ("a", "é", 2, -1, ["a", "b"], ["a", 0, "c"], ["a", "d"], ["z", -1])
+    at_paths = [document.node(it) for it in paths]
+    for given in (document.nodes, list(document), [document[0]], [document["a"]], [document.get("a")],
+                  [document.node(it) for it in paths]):
+        for node in given:
+            node.name = "changed"
+            node.entries.append(Entry(7))
+            node.entries[0].value = 8
+            node.children = [Node("more")]
+        del given[:]
+        assert document.nodes == list(document) == want and len(document) == 4
+        assert [document[it] for it in range(-4, 4)] == want * 2
+        assert [document.node(it) for it in paths] == at_paths and at_paths[5].args == ["é"]
+        assert "a" in document and "changed" not in document and document.get("changed") is None
+        raises(KeyError, document.node, "changed")
+    spans = lambda nodes: [(it.span, spans(it.children or ())) for it in nodes]
+    assert spans(document) == spans(want) == spans([document[it] for it in range(4)])
+    document.remove_node("é")
+    document.set_value("a", "k", "é")
+    assert len(document) == 3 and document["a"].props == {"k": "é"} and document[1].args == [4]
+    for index in (3, -4, 2**64):
+        raises(IndexError, document.__getitem__, index)
+    for name in ("k", "", "\ud800", None, 1.5, ("a",), ()):
+        raises(KeyError, document.__getitem__, name)
+        assert name not in document and document.get(name) is None
+    assert 0 not in document and document.get(0) is None
+    empty = Document("// c\n")
+    assert len(empty) == 0 and not empty and empty.nodes == list(empty) == [] and empty.get("a") is None
+    raises(IndexError, lambda: empty[0])
+
+
+def places():
+    """Where an inserted node goes, and which bytes a removal takes."""
+    line, log = "\n    z\n", Node("log", props={"level": "info"})
+    for text, path, node, index, wanted in (
+        ("// licence\n\na\n", (), "z\n", 0, "z\n// licence\n\na\n"), ("a\n// c\n", (), "z", None, "a\nz\n// c\n"),
+        ("a {\n    b\n}", "a", "    z\n", 1, "a {\n    b\n    z\n}"), ("a;", (), "z\n", 1, "a;z\n"),
+        ("a {\n    b\n}", "a", line, 0, "a {\n    z\n\n    b\n}"), ("a { b; }", "a", line, 1, "a { b;\n    z\n }"),
+        ("a {\n    b\n}\n", "a", log, 0, "a {\n    log level=info\n\n    b\n}\n"), ("a;", (), log, 1, "a;log level=info\n"),
+        ("a\n", (), 'log level="info"\n', 1, 'a\nlog level="info"\n'),
+    ):
+        document = Document(text)
+        document.insert_node(path, node, index)
+        assert str(document) == wanted, (text, str(document))
+    for text, path, left in (
+        ("/- kdl-version 2\n// licence\n\na\nb\n", "a", "b\n"), ("\ufeff// c\na\nb", "a", "\ufeffb"),
+        ("a\n// of b\nb 1 /* c */ // end\n// of d\nd", "b", "a\n// of d\nd"), ("a;/-q;b // c", "b", "a;"),
+        ("a /* c */ ; // d\nb", "a", " // d\nb"), ("a; b // c\n// d\n", "b", "a;// d\n"),
+        ("a { // c\n    b\n    c\n}", ["a", "b"], "a {    c\n}"), ("a { b; }", ["a", 0], "a { }"),
+    ):
+        document = Document(text)
+        document.remove_node(path)
+        assert str(document) == left, (text, str(document))
+    for index, left in enumerate(("a /-x /* k */ 2 // c", "a 1 // c")):
+        document = Document("a 1 /-x /* k */ 2 // c")
+        document.remove_entry("a", index)
+        assert str(document) == left, str(document)
 
 
 def errors():
@@ -446,5 +510,5 @@ def examples():
 
 
 if __name__ == "__main__":
-    for test in (data, floats, edits, errors, lives, threads, examples, command_line, all_rows):
+    for test in (data, floats, edits, same_nodes, places, errors, lives, threads, examples, command_line, all_rows):
         test()
