@@ -78,7 +78,8 @@ void kdl_free(struct kdl_document *document);
 uint32_t kdl_print(struct kdl_document *document, uint8_t *out, size_t room, size_t *needed);
 
 /* Lays the document out, with its comments. Its data stay as they are, also where memory runs out;
- * then a part of the document may be laid out. */
+ * then a part of the document may be laid out. A document without nodes gets one newline after its
+ * comments. */
 uint32_t kdl_format(struct kdl_document *document);
 
 /* The same without comments. Two documents print the same text then exactly where they have the

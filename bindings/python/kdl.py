@@ -172,8 +172,8 @@ _FLOATS = re.compile(
 
 
 class Float(float):
-    """A float that keeps its text: one that was read the text in which it was read, without `_`, and
-    `Float(text)` the text given.
+    """A float that keeps its text. `Float(text)` keeps the text given; a float that was read has the
+    text in which it was read, without `_`.
 
     `ValueError` for a text that is no float in KDL. A float has a point or an exponent, with digits
     on both sides, or is `#inf`, `#-inf` or `#nan`.
@@ -520,16 +520,21 @@ class Document:
     down: a name is the first node of that name, an index counts all nodes from 0, and a negative
     one from the end. A str is one name: "a.b" is no path.
 
+    The nodes that `nodes`, `node`, `get` and `document[..]` return are data of their own: a change
+    of them does not change the document.
+
     A call with a path raises `KeyError` where there is no node of a name in it, and `IndexError`
     where there is none at an index: `find`, `node`, `document[..]`, and each `set_..`, `insert_..`
     and `remove_..`. A call with an entry raises `KeyError` where the node has no property of that
     key (`set_prop` adds one then), and `IndexError` where it has no entry at that index.
     `insert_node` and `insert_entry` raise `IndexError` for an index beyond the number of nodes or
-    entries.
+    entries. The empty path is the document, for `find` and `insert_node` alone: for another call it
+    is no node, which has no entry.
 
     `insert_node`, `insert_entry` and `set_spelling` raise `KdlError` where their text is not exactly
     one node, entry or value. The positions of its faults are in that text, not in the document.
-    After an exception of an edit the document is as it was.
+    After an exception the document is as it was, but for `autoformat`: where memory runs out, a part
+    of the document may be laid out.
 
     >>> with Document.parse("a  0x10 // ten\n") as document:
     ...     document["a"].args, str(document)

@@ -432,6 +432,7 @@ def threads():
                 own = Document("x y z { w }")
                 own.insert_entry("x", "1")
                 shared.insert_entry(0, "9", 0)
+                assert shared[0].args[-1] == shared.nodes[0].args[-1] == 1
                 shared.remove_entry(0, 0)
                 bytes(shared), bytes(own), shared._tree(), kdl.faults("}")
         except BaseException as error:
@@ -441,6 +442,7 @@ def threads():
     [it.start() for it in started]
     [it.join() for it in started]
     assert not failed and str(shared) == "a 1; b 2 { c 3 }\n" * 200, failed
+    assert shared.nodes == kdl.loads(str(shared)) and shared[0].args == [1]
 
 
 # The command line
