@@ -1,15 +1,16 @@
 //! An edit in a nested block: all bytes of the text outside that piece stay.
 
-ghost use Rattle.kdl.specs.Words.{IsExchanged, IsExchangedInDocument, IsExchangedInNode, document_prints, entry_tree, print_piece};
-ghost use Rattle.std.specs.Prelude.{IfSome};
+ghost use Rattle.kdl.specs.Words.{IsExchanged, IsExchangedInDocument, IsExchangedInNode, block_of, document_prints, entry_tree, node_format_of, node_named, print_piece, value_at, value_of};
+ghost use Rattle.std.specs.Prelude.{◌≡◌, IfSome, IsSome, option_and_then};
 
 use kdl::{KdlDocument, KdlEntry, KdlNode, NodeKey};
 use std::mem::replace;
 
 /// Exchanges an argument of a node with a format, and returns the old one, or none where there is none.
 pub fn exchange_entry(node: &mut KdlNode, index: usize, entry: KdlEntry) -> Option<KdlEntry>
-    ensures { IfSome result (λ old. IsExchangedInNode
+    ensures bytes { IfSome result (λ old. IsExchangedInNode
         (print_piece (entry_tree old)) (print_piece (entry_tree entry)) node.old node.new) }
+    ensures old { IsSome (node_format_of node.old) → value_of result ≡ value_at index node.old }
 {
     if node.format().is_none() {
         return None;
@@ -27,8 +28,10 @@ pub fn exchange_in_document(
     index: usize,
     entry: KdlEntry,
 ) -> Option<KdlEntry>
-    ensures { IfSome result (λ old. IsExchangedInDocument
+    ensures bytes { IfSome result (λ old. IsExchangedInDocument
         (print_piece (entry_tree old)) (print_piece (entry_tree entry)) document.old document.new) }
+    ensures old { IfSome (node_named name.now document.old) (λ n.
+        IsSome (node_format_of n) → value_of result ≡ value_at index n) }
 {
     let Some(node) = document.get_mut(name) else {
         return None;
@@ -44,8 +47,10 @@ pub fn exchange_in_block(
     index: usize,
     entry: KdlEntry,
 ) -> Option<KdlEntry>
-    ensures { IfSome result (λ old. IsExchangedInNode
+    ensures bytes { IfSome result (λ old. IsExchangedInNode
         (print_piece (entry_tree old)) (print_piece (entry_tree entry)) node.old node.new) }
+    ensures old { IfSome (option_and_then (node_named name.now) (block_of node.old)) (λ n.
+        IsSome (node_format_of n) → value_of result ≡ value_at index n) }
 {
     let Some(block) = node.children_mut() else {
         return None;
@@ -62,9 +67,12 @@ pub fn exchange_nested(
     index: usize,
     entry: KdlEntry,
 ) -> Option<KdlEntry>
-    ensures { IfSome result (λ old. IsExchanged
+    ensures bytes { IfSome result (λ old. IsExchanged
         (print_piece (entry_tree old)) (print_piece (entry_tree entry))
         (document_prints document.old) (document_prints document.new)) }
+    ensures old { IfSome (option_and_then (node_named inner.now)
+        (option_and_then block_of (node_named outer.now document.old))) (λ n.
+        IsSome (node_format_of n) → value_of result ≡ value_at index n) }
 {
     let Some(node) = document.get_mut(outer) else {
         return None;

@@ -1,8 +1,9 @@
 //! Edited documents: what they print reads back.
 
 ghost use Rattle.kdl.specs.ReadsBack.{DocumentReadsBack, ReadsAs, respelled};
-ghost use Rattle.kdl.specs.Words.{IsDocument, document_says, entry_tree, print_value, text_of, value_tree};
-ghost use Rattle.std.specs.Prelude.{◌≡◌, IfOk, true};
+ghost use Rattle.kdl.specs.Words.{IsAdded, IsDocument, IsSet, document_says, entry_tree, node_says, print_value, said_name, text_of, value_tree};
+ghost use Rattle.std.specs.Prelude.{◌≡◌, IfOk, OnOk, true};
+ghost use Rattle.use_theorems.specs.Edits.{InBlock, InNode, IsEdited, IsFirstSet};
 
 use kdl::{KdlDocument, KdlEntry, KdlNode, KdlValue, NodeKey};
 use kdl_laws::reading_back::{new_entries_are_unformed, printed_reads_back};
@@ -20,7 +21,9 @@ pub fn printed(alloc: Global, document: &KdlDocument) -> Result<String, AllocErr
 
 /// A new argument at the end of a node: it reads back as before.
 pub fn add_argument(node: &mut KdlNode, value: KdlValue) -> Result<(), AllocError>
-    ensures { ReadsAs node.old node.new }
+    ensures adds { OnOk result (IsAdded (value_tree value) node.old node.new) }
+    ensures name { said_name (node_says node.new) ≡ said_name (node_says node.old) }
+    ensures reads { ReadsAs node.old node.new }
 {
     values_are_well_formed(&value);
     new_entries_are_unformed();
@@ -37,7 +40,9 @@ pub fn insert_property(
     name: &str,
     value: KdlValue,
 ) -> Result<(), AllocError>
-    ensures { ReadsAs node.old node.new }
+    ensures sets { OnOk result (IsSet name.now (value_tree value) node.old node.new) }
+    ensures name { said_name (node_says node.new) ≡ said_name (node_says node.old) }
+    ensures reads { ReadsAs node.old node.new }
 {
     values_are_well_formed(&value);
     new_entries_are_unformed();
@@ -57,7 +62,9 @@ pub fn set_property(
     value: KdlValue,
 ) -> Result<(), AllocError>
     requires { DocumentReadsBack document.old }
-    ensures { DocumentReadsBack document.new }
+    ensures sets { OnOk result (InNode name.now
+        (IsSet property.now (value_tree value)) document.old document.new) }
+    ensures reads { DocumentReadsBack document.new }
 {
     let Some(node) = document.get_mut(name) else {
         return Ok(());
@@ -67,7 +74,8 @@ pub fn set_property(
 
 /// A new entry in the place of the first argument of a node: it reads back as before.
 pub fn replace_first(node: &mut KdlNode, value: KdlValue)
-    ensures { ReadsAs node.old node.new }
+    ensures sets { IsFirstSet (value_tree value) node.old node.new }
+    ensures reads { ReadsAs node.old node.new }
 {
     values_are_well_formed(&value);
     new_entries_are_unformed();
@@ -85,7 +93,9 @@ pub fn edit(
     one: KdlValue,
     other: KdlValue,
 ) -> Result<(), AllocError>
-    ensures { ReadsAs node.old node.new }
+    ensures edits { OnOk result (IsEdited property.now
+        (value_tree one) (value_tree other) node.old node.new) }
+    ensures reads { ReadsAs node.old node.new }
 {
     node.remove(NodeKey::from_text(alloc, property)?);
     add_argument(node, one)?;
@@ -102,7 +112,9 @@ pub fn edit_child(
     one: KdlValue,
     other: KdlValue,
 ) -> Result<(), AllocError>
-    ensures { ReadsAs node.old node.new }
+    ensures edits { OnOk result (InBlock (InNode name.now (IsEdited property.now
+        (value_tree one) (value_tree other))) node.old node.new) }
+    ensures reads { ReadsAs node.old node.new }
 {
     let Some(block) = node.children_mut() else {
         return Ok(());
@@ -124,7 +136,10 @@ pub fn edit_in_block(
     other: KdlValue,
 ) -> Result<(), AllocError>
     requires { DocumentReadsBack document.old }
-    ensures { DocumentReadsBack document.new }
+    ensures edits { OnOk result (InNode outer.now (InBlock (InNode inner.now
+        (IsEdited property.now (value_tree one) (value_tree other))))
+        document.old document.new) }
+    ensures reads { DocumentReadsBack document.new }
 {
     let Some(node) = document.get_mut(outer) else {
         return Ok(());
