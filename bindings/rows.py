@@ -1,4 +1,4 @@
-"""The rows of crates/rows/data as cases for the tests of the bindings (docs/ROWS.md).
+"""The rows of crates/rows/data as cases for the tests of the bindings (crates/rows/README.md).
 
     python3 rows.py FILE [N]    writes each text, or each N-th, that is read as a document, and the
                                 examples, for test programs in C: how many there are, and of each a

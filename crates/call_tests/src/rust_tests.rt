@@ -1,5 +1,5 @@
-//! Tests of the Rust crate `kdl` 6.7.1 that no row of text can say, written anew. `docs/ROWS.md` lists all of that crate's
-//! tests.
+//! Tests of the Rust crate `kdl` 6.7.1 that no row of text can say, written anew. `crates/rows/README.md` lists all tests of
+//! that crate.
 
 use crate::edits::{add, entry, sets, takes, takes_argument};
 use crate::fields::{built, push};

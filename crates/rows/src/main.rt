@@ -2,7 +2,7 @@
 //!
 //! Its arguments name the files. In those after the word `wrong` each row has to fail. Each row that fails is written to
 //! standard output, with what was wanted and what came, and at the end how many rows there were and how many failed.
-//! `docs/ROWS.md` has the format of the files.
+//! `README.md` of this crate describes the format of the files.
 #![tactic(auto)]
 
 mod answer;
