@@ -1,4 +1,4 @@
--- What only proofs and contracts inside the crates need: no contract of a public call of `kdl` speaks of it.
+-- Definitions that only proofs and contracts inside the crates use: no contract of a public call of `kdl` mentions them.
 
 -- How many documents and nodes there are in documents and nodes: what dropping goes by.
 pub mod Count

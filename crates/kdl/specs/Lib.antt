@@ -32,7 +32,7 @@ pub mod Same
 pub mod Tree
 -- The words in which contracts speak of documents, passed on from one place for the crates that call this one. Declares nothing.
 pub mod Words
--- What only proofs and contracts inside the crates need.
+-- Definitions that only proofs and contracts inside the crates use.
 pub mod Internal
 -- Entries, nodes and documents that read back.
 pub mod ReadsBack

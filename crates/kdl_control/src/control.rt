@@ -10,22 +10,23 @@ ghost use Rattle.std.specs.Prelude.{◌≡◌, ◌∷◌, IfOk, List, MatchOptio
 use kdl_lexer::TokenKind;
 use std::alloc::{AllocError, Global};
 
-/// What a type is written before: the name of a node, or a value.
+/// What a type belongs to: the name of a node, or a value.
 #[derive(Clone, Copy)]
 pub enum Owner {
     Name,
     Value,
 }
 
-/// What comes directly before, or before spaces: a string that may be a key, or something else.
+/// What is directly before, or before the spaces here: a string that may be a key, or something
+/// else.
 #[derive(Clone, Copy)]
 pub enum Word {
     MayBeKey,
     NoKey,
 }
 
-/// A node before its block: directly after its name or an entry, after spaces there, or after a
-/// dropped block.
+/// A place in a node before its block: directly after the name or an entry, after spaces, or after
+/// a slashdashed block.
 #[derive(Clone, Copy)]
 pub enum Spot {
     Fresh(Word),
@@ -33,7 +34,7 @@ pub enum Spot {
     Later,
 }
 
-/// Where in the grammar the control is.
+/// The phase of the grammar.
 #[derive(Clone, Copy)]
 pub enum Phase {
     /// Between nodes.
@@ -56,11 +57,11 @@ pub enum Phase {
     BlockSlashdash,
     /// After a node's block.
     Kept,
-    /// After `/-` there.
+    /// After `/-` after a node's block.
     KeptSlashdash,
 }
 
-/// An open block: of a node, or one that is dropped before or after it.
+/// An open block: of a node, or a slashdashed one before or after the node's own.
 #[derive(Clone, Copy)]
 pub enum Frame {
     Node,
@@ -237,7 +238,7 @@ fn in_kept(kind: &TokenKind) -> Move
     }
 }
 
-/// After `/-` there.
+/// After `/-` after a node's block.
 fn in_kept_slashdash(kind: &TokenKind) -> Move
     ensures { Moves control.kept_slashdash (kind_view kind.now) result }
 {
@@ -267,7 +268,7 @@ fn token_move(phase: Phase, kind: &TokenKind) -> Move
     }
 }
 
-/// Whether a string that may be a key is there.
+/// Whether a string that may be a key is here.
 fn may_be_key(spot: Spot) -> bool
     ensures { result ≡ is_word (control.at (control.in_node (spot_view spot)) []) }
 {
@@ -277,7 +278,7 @@ fn may_be_key(spot: Spot) -> bool
     }
 }
 
-/// After the block.
+/// The phase after the block.
 fn behind_block(frame: Frame) -> Phase
     ensures { (fs : List control.Frame) → control.popped (frame_view frame ∷ fs) ≡
         Some (control.at (phase_view result) fs) }
@@ -288,7 +289,7 @@ fn behind_block(frame: Frame) -> Phase
     }
 }
 
-/// The control: the phase, and the open blocks. It goes over tokens, and builds nothing.
+/// The control: the phase of the grammar, and the open blocks. It takes tokens, and builds nothing.
 #[derive(Drop)]
 pub struct Control {
     phase: Phase,
@@ -296,7 +297,7 @@ pub struct Control {
 }
 
 impl Control {
-    /// The control in a phase, with no block open.
+    /// Creates a control in a phase, with no block open.
     ///
     /// ```
     /// let control = Control::new(alloc, Phase::Gap); // a node may begin here
@@ -310,7 +311,7 @@ impl Control {
         }
     }
 
-    /// Whether it is between nodes, with no block open.
+    /// Returns whether the control is between nodes, with no block open.
     ///
     /// ```
     /// let between = Control::new(alloc, Phase::NodeSlashdash).is_between_nodes(); // false
@@ -324,7 +325,7 @@ impl Control {
         }
     }
 
-    /// Whether the text may end here.
+    /// Returns whether the text may end here.
     ///
     /// ```
     /// let ends = Control::new(alloc, Phase::Kept).may_end(); // true
@@ -338,8 +339,8 @@ impl Control {
         }
     }
 
-    /// Whether a string comes directly before, or before spaces, that ends what is dropped where
-    /// no `=` follows.
+    /// Returns whether a string is directly before, or before the spaces here, which may be a key:
+    /// what a slashdash drops ends with it if no `=` follows.
     ///
     /// ```
     /// let mut control = Control::new(alloc, Phase::EntrySlashdash);
@@ -358,7 +359,8 @@ impl Control {
         }
     }
 
-    /// Whether an entry or a block ends directly before, and whether it is a block.
+    /// Returns whether what ends directly before is a block, or `None` if neither an entry nor a
+    /// block does.
     ///
     /// ```
     /// let mut control = Control::new(alloc, Phase::EntrySlashdash);
@@ -381,7 +383,7 @@ impl Control {
         }
     }
 
-    /// Goes on by a token. False: it may not come here.
+    /// Takes a token. Returns false if it may not come here.
     ///
     /// ```
     /// let mut control = Control::new(alloc, Phase::Gap);

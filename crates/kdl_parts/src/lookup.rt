@@ -14,8 +14,8 @@ use crate::places::{last_property, nth_argument, place};
 use kdl_entry::{KdlEntry, KdlIdentifier, KdlValue};
 use std::alloc::AllocError;
 
-/// The entry that the key finds: the last property whose name has the key's value, or the argument at the key's place
-/// among the arguments.
+/// Returns the entry that the key finds: the last property whose name has the key's value, or the argument at the key's
+/// place among the arguments.
 ///
 /// ```
 /// let found = entry(&entries, NodeKey::from(1)); // of `1 a=2 3` the argument 3
@@ -31,7 +31,7 @@ pub fn entry(entries: &[KdlEntry], key: NodeKey) -> Option<&KdlEntry>
     }
 }
 
-/// The value of the entry that the key finds.
+/// Returns the value of the entry that the key finds.
 ///
 /// ```
 /// let found = value(&entries, NodeKey::from_text(alloc, "a")?); // of `1 a=2 a=3` the value 3
@@ -45,7 +45,7 @@ pub fn value(entries: &[KdlEntry], key: NodeKey) -> Option<&KdlValue>
     }
 }
 
-/// The entry that the key finds, to be changed in place. All else stays as it is.
+/// Returns a mutable reference to the entry that the key finds. All else is unchanged.
 ///
 /// ```
 /// if let Some(found) = entry_mut(&mut entries, NodeKey::from(0)) {
@@ -65,7 +65,7 @@ pub fn entry_mut(entries: &mut Vec<KdlEntry>, key: NodeKey) -> Option<&mut KdlEn
     }
 }
 
-/// The value of the entry that the key finds, to be changed in place. All else stays as it is.
+/// Returns a mutable reference to the value of the entry that the key finds. All else is unchanged.
 ///
 /// ```
 /// if let Some(found) = value_mut(&mut entries, NodeKey::from(0)) {
@@ -85,7 +85,7 @@ pub fn value_mut(entries: &mut Vec<KdlEntry>, key: NodeKey) -> Option<&mut KdlVa
     }
 }
 
-/// The value of the entry at that place, to be changed in place. All else stays as it is.
+/// Returns a mutable reference to the value of the entry at that place. All else is unchanged.
 ///
 /// ```
 /// if entries.len() > 1 {
@@ -101,7 +101,7 @@ pub fn value_at_mut(entries: &mut Vec<KdlEntry>, at: usize) -> &mut KdlValue
     entries[at].value_mut()
 }
 
-/// The value of the argument at that place among the arguments, from 0. It has to be there.
+/// Returns the value of the argument at that place among the arguments, counted from 0. It has to exist.
 ///
 /// ```
 /// if nth_argument(&entries, 1).is_some() {
@@ -118,7 +118,7 @@ pub fn argument(entries: &[KdlEntry], n: usize) -> &KdlValue
     }
 }
 
-/// The value of the last property of that name. It has to be there.
+/// Returns the value of the last property of that name. It has to exist.
 ///
 /// ```
 /// if has_property(&entries, "a") {
@@ -135,7 +135,7 @@ pub fn property<'a>(entries: &'a [KdlEntry], name: &str) -> &'a KdlValue
     }
 }
 
-/// Whether there is a property of that name. The name's value counts, not its spelling.
+/// Returns whether there is a property of that name. Names are compared by their values, not by their spellings.
 ///
 /// ```
 /// let both = (has_property(&entries, "a"), has_property(&entries, "b")); // of `a=1 b` true and false
@@ -146,8 +146,9 @@ pub fn has_property(entries: &[KdlEntry], name: &str) -> bool
     last_property(entries, name).is_some()
 }
 
-/// The place of the last property of that name, after a null one was pushed where there was none. Fails where memory for
-/// it runs out: then the entries are as they were. What is there is found without memory.
+/// Returns the place of the last property of that name. If there is none, first appends one with the value null. If an
+/// allocation for it fails, returns an error and leaves the entries unchanged. An existing property is found without
+/// allocating.
 ///
 /// ```
 /// let at = property_or_null(&mut entries, "b")?; // of `1 a=2` the place 2, where `b=#null` is pushed
@@ -170,7 +171,7 @@ pub fn property_or_null(entries: &mut Vec<KdlEntry>, name: &str) -> Result<usize
     Ok(at)
 }
 
-/// The value that `argument` gives, to be changed in place. All else stays as it is.
+/// Returns a mutable reference to the value that `argument` returns. All else is unchanged.
 ///
 /// ```
 /// if nth_argument(&entries, 1).is_some() {

@@ -67,7 +67,7 @@ pub fn write_pieces<W: fmt::Write>(entries: &[KdlEntry], f: &mut fmt::Formatter<
     Ok(())
 }
 
-/// Writes an entry of a node: one without a format comes after one space.
+/// Writes an entry of a node. An entry without a format follows one space.
 #[tactic(auto, using(crate::proofs::Utf8Parts::writes))]
 fn write_piece<W: fmt::Write>(entry: &KdlEntry, f: &mut fmt::Formatter<W>) -> fmt::Result
     ensures { Prints W.write_str_gives f.old result (print_piece (entry_tree entry.now)) f.new }

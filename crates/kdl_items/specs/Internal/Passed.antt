@@ -20,7 +20,7 @@ abbrev pub of_spaces : Token → Bool
 of_spaces space = true
 of_spaces _ = false
 
--- the text r is in s after so many bytes
+-- the text r is in s after n bytes
 abbrev pub Before : Text → ℕ → Text → Type 0
 Before s n r = (p : Text) × (s ≡ p ++ r) × (bytes p ≡ n)
 
