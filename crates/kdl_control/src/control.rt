@@ -57,7 +57,7 @@ pub enum Phase {
     BlockSlashdash,
     /// After a node's block.
     Kept,
-    /// After `/-` after a node's block.
+    /// After a `/-` that follows a node's block.
     KeptSlashdash,
 }
 
@@ -78,7 +78,7 @@ enum Move {
     Refuse,
 }
 
-/// Between nodes.
+/// What a token does between nodes.
 fn in_gap(kind: &TokenKind) -> Move
     ensures { Moves control.gap (kind_view kind.now) result }
 {
@@ -92,7 +92,7 @@ fn in_gap(kind: &TokenKind) -> Move
     }
 }
 
-/// Between nodes, after `/-`.
+/// What a token does between nodes, after `/-`.
 fn in_node_slashdash(kind: &TokenKind) -> Move
     ensures { Moves control.node_slashdash (kind_view kind.now) result }
 {
@@ -104,7 +104,7 @@ fn in_node_slashdash(kind: &TokenKind) -> Move
     }
 }
 
-/// After the `(` of a type.
+/// What a token does after the `(` of a type.
 fn in_type(owner: Owner, kind: &TokenKind) -> Move
     ensures { Moves (control.type_open (owner_view owner)) (kind_view kind.now) result }
 {
@@ -115,7 +115,7 @@ fn in_type(owner: Owner, kind: &TokenKind) -> Move
     }
 }
 
-/// After the name of a type.
+/// What a token does after the name of a type.
 fn behind_type_name(owner: Owner, kind: &TokenKind) -> Move
     ensures { Moves (control.type_name (owner_view owner)) (kind_view kind.now) result }
 {
@@ -126,7 +126,7 @@ fn behind_type_name(owner: Owner, kind: &TokenKind) -> Move
     }
 }
 
-/// After the `)` of a type.
+/// What a token does after the `)` of a type.
 fn behind_type(owner: Owner, kind: &TokenKind) -> Move
     ensures { Moves (control.type_done (owner_view owner)) (kind_view kind.now) result }
 {
@@ -141,7 +141,7 @@ fn behind_type(owner: Owner, kind: &TokenKind) -> Move
     }
 }
 
-/// After the `=` of a property.
+/// What a token does after the `=` of a property.
 fn in_property(kind: &TokenKind) -> Move
     ensures { Moves control.property (kind_view kind.now) result }
 {
@@ -176,7 +176,7 @@ fn entry(spot: Spot, phase: Phase) -> Move
     }
 }
 
-/// In a node, before its block.
+/// What a token does in a node, before its block.
 fn in_node(spot: Spot, kind: &TokenKind) -> Move
     ensures { Moves (phase_view (InNode spot)) (kind_view kind.now) result }
 {
@@ -200,7 +200,7 @@ fn in_node(spot: Spot, kind: &TokenKind) -> Move
     }
 }
 
-/// After `/-` in a node, where an entry or a block may follow.
+/// What a token does after `/-` in a node, where an entry or a block may follow.
 fn in_entry_slashdash(kind: &TokenKind) -> Move
     ensures { Moves control.entry_slashdash (kind_view kind.now) result }
 {
@@ -214,7 +214,7 @@ fn in_entry_slashdash(kind: &TokenKind) -> Move
     }
 }
 
-/// After `/-` in a node, where a block may follow.
+/// What a token does after `/-` in a node, where a block may follow.
 fn in_block_slashdash(kind: &TokenKind) -> Move
     ensures { Moves control.block_slashdash (kind_view kind.now) result }
 {
@@ -225,7 +225,7 @@ fn in_block_slashdash(kind: &TokenKind) -> Move
     }
 }
 
-/// After a node's block.
+/// What a token does after a node's block.
 fn in_kept(kind: &TokenKind) -> Move
     ensures { Moves control.kept (kind_view kind.now) result }
 {
@@ -238,7 +238,7 @@ fn in_kept(kind: &TokenKind) -> Move
     }
 }
 
-/// After `/-` after a node's block.
+/// What a token does after a `/-` that follows a node's block.
 fn in_kept_slashdash(kind: &TokenKind) -> Move
     ensures { Moves control.kept_slashdash (kind_view kind.now) result }
 {
@@ -339,8 +339,8 @@ impl Control {
         }
     }
 
-    /// Returns whether a string is directly before, or before the spaces here, which may be a key:
-    /// what a slashdash drops ends with it if no `=` follows.
+    /// Returns whether a string that may be a key is directly before, or before the spaces here.
+    /// What a slashdash drops ends with it if no `=` follows.
     ///
     /// ```
     /// let mut control = Control::new(alloc, Phase::EntrySlashdash);

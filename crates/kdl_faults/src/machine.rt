@@ -145,7 +145,7 @@ impl Phase {
     }
 }
 
-/// Between nodes.
+/// What a piece does between nodes.
 fn in_gap(kind: PieceKind) -> Move {
     match kind {
         PieceKind::Newline => Move::To(Phase::Gap),
@@ -157,7 +157,7 @@ fn in_gap(kind: PieceKind) -> Move {
     }
 }
 
-/// Between nodes, after `/-`.
+/// What a piece does between nodes, after `/-`.
 fn in_node_slashdash(kind: PieceKind) -> Move {
     match kind {
         PieceKind::Newline => Move::To(Phase::NodeSlashdash),
@@ -176,7 +176,7 @@ fn at_end_of_node(kind: PieceKind) -> Move {
     }
 }
 
-/// After the name or an entry of a node, which may be a key.
+/// What a piece does after the name or an entry of a node, which may be a key.
 fn in_node(kind: PieceKind, is_key: bool) -> Move {
     match kind {
         PieceKind::String => Move::To(Phase::Word),
@@ -189,7 +189,7 @@ fn in_node(kind: PieceKind, is_key: bool) -> Move {
     }
 }
 
-/// After `/-` in a node.
+/// What a piece does after `/-` in a node.
 fn behind_slashdash(dropped: Dropped, kind: PieceKind) -> Move {
     match (kind, dropped) {
         (PieceKind::Newline, _) => Move::To(Phase::Drop(dropped)),
@@ -202,7 +202,7 @@ fn behind_slashdash(dropped: Dropped, kind: PieceKind) -> Move {
     }
 }
 
-/// After a slashdashed block, before the node's own.
+/// What a piece does after a slashdashed block, before the node's own.
 fn behind_dropped_block(kind: PieceKind) -> Move {
     match kind {
         PieceKind::Slashdash => Move::To(Phase::Drop(Dropped::Block)),
@@ -211,7 +211,7 @@ fn behind_dropped_block(kind: PieceKind) -> Move {
     }
 }
 
-/// After the node's block.
+/// What a piece does after the node's block.
 fn behind_block(kind: PieceKind) -> Move {
     match kind {
         PieceKind::Slashdash => Move::To(Phase::Drop(Dropped::Last)),
@@ -219,7 +219,7 @@ fn behind_block(kind: PieceKind) -> Move {
     }
 }
 
-/// Where a value is expected, which may have a type.
+/// What a piece does where a value is expected, which may have a type.
 fn at_value(typed: Typed, kind: PieceKind) -> Move {
     match kind {
         PieceKind::String | PieceKind::Value => Move::To(Phase::Node),
@@ -228,7 +228,7 @@ fn at_value(typed: Typed, kind: PieceKind) -> Move {
     }
 }
 
-/// After the `(` of a type.
+/// What a piece does after the `(` of a type.
 fn in_type(typed: Typed, kind: PieceKind) -> Move {
     match kind {
         PieceKind::String => Move::To(Phase::TypeName(typed)),
@@ -236,7 +236,7 @@ fn in_type(typed: Typed, kind: PieceKind) -> Move {
     }
 }
 
-/// After the name in a type.
+/// What a piece does after the name in a type.
 fn behind_type_name(typed: Typed, kind: PieceKind) -> Move {
     match kind {
         PieceKind::Right => Move::To(Phase::TypeDone(typed)),
@@ -244,7 +244,7 @@ fn behind_type_name(typed: Typed, kind: PieceKind) -> Move {
     }
 }
 
-/// In a faulty type: up to its `)`, or to what opens or ends a block or ends the node.
+/// What a piece does in a faulty type: up to its `)`, or to what opens or ends a block or ends the node.
 fn in_faulty_type(kind: PieceKind) -> Move {
     match kind {
         PieceKind::Right => Move::To(Phase::Typeless),
@@ -254,7 +254,7 @@ fn in_faulty_type(kind: PieceKind) -> Move {
     }
 }
 
-/// After a faulty type: a name or a value may follow, or what follows that.
+/// What a piece does after a faulty type: a name or a value may follow, or what follows that.
 fn behind_faulty_type(kind: PieceKind) -> Move {
     match kind {
         PieceKind::String | PieceKind::Value => Move::To(Phase::Node),
@@ -262,7 +262,7 @@ fn behind_faulty_type(kind: PieceKind) -> Move {
     }
 }
 
-/// After a type.
+/// What a piece does after a type.
 fn behind_type(typed: Typed, kind: PieceKind) -> Move {
     match (kind, typed) {
         (PieceKind::String, _) => Move::To(Phase::Node),
@@ -271,7 +271,7 @@ fn behind_type(typed: Typed, kind: PieceKind) -> Move {
     }
 }
 
-/// After the only node or entry of a text.
+/// What a piece does after the only node or entry of a text.
 fn behind_all(kind: PieceKind) -> Move {
     match kind {
         PieceKind::Newline => Move::To(Phase::Over),

@@ -12,7 +12,7 @@ pub enum Item<'a> {
 /// A place in a node, by what may be there (KDL 2.0.0, Slashdash Comments).
 #[derive(Clone, Copy)]
 pub enum Place {
-    /// Before an entry, and whether a node-space comes directly before what comes. Entries may be slashdashed here.
+    /// Before an entry, and whether a node-space comes directly before what follows. Entries may be slashdashed here.
     BeforeEntry(bool),
     /// Before the node's block, or before the terminator of a node without one. Entries may be slashdashed here, and
     /// then blocks.

@@ -43,7 +43,7 @@ enum Phase {
     BlockSlashdash,
     /// After the node's block.
     Behind,
-    /// After `/-` after a node's block.
+    /// After a `/-` that follows a node's block.
     BehindSlashdash,
 }
 

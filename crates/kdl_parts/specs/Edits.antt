@@ -12,7 +12,7 @@ abbrev pub GoesUnder : Sought → Entry → Type 0
 GoesUnder (property k) e = IfSome e.name (λ i. i.value ≡ k.value)
 GoesUnder (argument n) e = e.name ≡ None
 
--- there is a place to insert at: always under a name; under an index, if there are at least that many arguments
+-- there is a place to insert at: always under a name; under an index i, if there are at least i arguments
 abbrev pub HasRoomAt : Sought → List KdlEntry → Type 0
 HasRoomAt (property k) es = Unit {0}
 HasRoomAt (argument n) es = n ≤ count_by is_argument es

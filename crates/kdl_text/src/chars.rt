@@ -34,8 +34,8 @@ pub fn is_newline_char(c: char) -> bool
     matches!(c, '\n'..='\r' | '\u{85}' | '\u{2028}' | '\u{2029}')
 }
 
-/// Returns whether KDL 2.0.0 bans the character from documents (Disallowed Literal Code Points).
-/// Here a comment may hold it.
+/// Returns whether KDL 2.0.0 bans the character from documents (Disallowed Literal Code Points). In
+/// this grammar a comment may contain it.
 #[inline]
 #[tactic(auto, unfolding(crate::specs::Chars::is_banned))]
 pub fn is_banned(c: char) -> bool
