@@ -45,7 +45,7 @@ fn is_refused(
     Ok(false)
 }
 
-/// What is printed is the text.
+/// Checks that what is printed is the text.
 pub fn prints(case: &Case<'_>, printed: &str, text: &str) -> Result<(), Fault> {
     if printed == text {
         return Ok(());
@@ -53,7 +53,7 @@ pub fn prints(case: &Case<'_>, printed: &str, text: &str) -> Result<(), Fault> {
     Err(case.differs(text, printed))
 }
 
-/// A fault is found in the text, read as a whole of the kind, exactly where it is refused.
+/// Checks that a fault is found in the text, read as a whole of the kind, exactly where it is refused.
 fn agrees(case: &Case<'_>, whole: Whole, is_refused: bool) -> Result<(), Fault> {
     let faults = faults(case.alloc(), case.text, whole, &mut Steps::new())?;
     match (faults.is_empty(), is_refused) {

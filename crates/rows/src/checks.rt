@@ -85,7 +85,7 @@ fn check_float(case: &Case<'_>) -> Result<(), Fault> {
     }
 }
 
-/// The only line that comes of the text is this one.
+/// Checks that the only line that comes of the text is this one.
 fn check_flag(case: &Case<'_>, flag: &str) -> Result<(), Fault> {
     let mut dump = Dump::new(case.alloc(), false);
     dump.text(flag, case.text);
@@ -98,7 +98,7 @@ fn check_string(case: &Case<'_>) -> Result<(), Fault> {
     check_printed(case, &value.to_string(case.alloc())?)
 }
 
-/// This is printed of the text as a name too, is read back, and is what is expected.
+/// Checks that this is printed of the text as a name too, is read back, and is what is expected.
 fn check_printed(case: &Case<'_>, printed: &str) -> Result<(), Fault> {
     let name = KdlIdentifier::from_text(case.alloc(), case.text)?;
     prints(case, &name.to_string(case.alloc())?, printed)?;
@@ -109,7 +109,7 @@ fn check_printed(case: &Case<'_>, printed: &str) -> Result<(), Fault> {
     compare(case, &dump)
 }
 
-/// What was printed is an identifier, and its value is the text.
+/// Checks that what was printed is an identifier, and its value is the text.
 fn reads_back(case: &Case<'_>, printed: &str) -> Result<(), Fault> {
     match KdlIdentifier::parse(case.alloc(), printed) {
         Ok(identifier) => prints(case, identifier.value(), case.text),
@@ -117,7 +117,7 @@ fn reads_back(case: &Case<'_>, printed: &str) -> Result<(), Fault> {
     }
 }
 
-/// Each expected line is what came.
+/// Checks that each expected line is what came.
 fn compare(case: &Case<'_>, dump: &Dump) -> Result<(), Fault> {
     dump.outcome()?;
     for notation in case.row.lines {
@@ -129,7 +129,7 @@ fn compare(case: &Case<'_>, dump: &Dump) -> Result<(), Fault> {
     Ok(())
 }
 
-/// The expected line is one of those that came, or what it says holds of the text.
+/// Checks that the expected line is one of those that came, or what it says holds of the text.
 fn compare_line(case: &Case<'_>, wanted: &str, dump: &Dump) -> Result<(), Fault> {
     if dump.has(wanted) {
         return Ok(());
@@ -147,7 +147,7 @@ fn compare_line(case: &Case<'_>, wanted: &str, dump: &Dump) -> Result<(), Fault>
     }
 }
 
-/// The expected line is one of layout, and what it says holds of the text; else this came in its place.
+/// Checks that the expected line is one of layout, and what it says holds of the text; else this came in its place.
 fn compare_layout(case: &Case<'_>, wanted: &str, came: &str) -> Result<(), Fault> {
     match Asked::of(wanted) {
         Some(asked) => lays_out(case, asked),
@@ -155,7 +155,7 @@ fn compare_layout(case: &Case<'_>, wanted: &str, came: &str) -> Result<(), Fault
     }
 }
 
-/// Each line that came with a text is expected.
+/// Checks that each line that came with a text is expected.
 fn is_whole(case: &Case<'_>, dump: &Dump) -> Result<(), Fault> {
     for came in dump.lines() {
         let line = Line::of(came);
@@ -177,7 +177,7 @@ fn is_given(lines: &[&str], label: &str) -> bool {
     false
 }
 
-/// The document says the same as that of the other text.
+/// Checks that the document says the same as that of the other text.
 fn says_the_same(case: &Case<'_>, wanted: &str, other: &str) -> Result<(), Fault> {
     let Call::Document = case.call else {
         return Err(case.differs(wanted, "no such line for this call"));
@@ -188,14 +188,15 @@ fn says_the_same(case: &Case<'_>, wanted: &str, other: &str) -> Result<(), Fault
     }
 }
 
-/// The document says the same as the item.
+/// Checks that the document says the same as the item.
 fn says_the_same_as(case: &Case<'_>, item: &Item) -> Result<(), Fault> {
     let mut own = Dump::new(case.alloc(), true);
     answer(case, Whole::Document, &mut own)?;
     has_data(case, &own, item)
 }
 
-/// The lines are those of the item's data, which are of its one node where a document is read of a node's text.
+/// Checks that the lines are those of the item's data, which are of its one node where a document is read of a node's
+/// text.
 pub fn has_data(case: &Case<'_>, data: &Dump, item: &Item) -> Result<(), Fault> {
     let mut others = Dump::new(case.alloc(), true);
     match item.only_node() {
@@ -212,8 +213,8 @@ pub fn has_data(case: &Case<'_>, data: &Dump, item: &Item) -> Result<(), Fault> 
     Ok(())
 }
 
-/// The value of the first argument of the first node of that name prints the text, or there is no such value where no
-/// text is given.
+/// Checks that the value of the first argument of the first node of that name prints the text, or there is no such
+/// value where no text is given.
 fn gets(case: &Case<'_>, wanted: &str, name: &str, text: Option<&str>) -> Result<(), Fault> {
     let Call::Document = case.call else {
         return Err(case.differs(wanted, "no such line for this call"));
@@ -224,7 +225,7 @@ fn gets(case: &Case<'_>, wanted: &str, name: &str, text: Option<&str>) -> Result
     }
 }
 
-/// The value prints the text, or neither is there.
+/// Checks that the value prints the text, or neither is there.
 fn is_value(
     case: &Case<'_>,
     wanted: &str,

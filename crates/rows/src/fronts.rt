@@ -49,7 +49,7 @@ fn is_accepted(case: &Case<'_>, whole: Whole) -> Result<bool, Fault> {
     answer(case, whole, &mut dump)
 }
 
-/// What an expected line says of one of many texts: that it is read, or laid out where it is a document.
+/// Checks that what an expected line says of one of many texts: that it is read, or laid out where it is a document.
 fn check_many(case: &Case<'_>, line: &str, is_document: bool) -> Result<(), Fault> {
     match line {
         "answered" => Ok(()),

@@ -52,8 +52,8 @@ fn counted(label: &str) -> (&str, Option<usize>) {
     (label, None)
 }
 
-/// The text laid out prints what is wanted, which has the same data. Laid out again it prints the same, and so does what
-/// is read of it; where an entry is kept, it prints what the row's other line says.
+/// Checks that the text laid out prints what is wanted, which has the same data. Laid out again it prints the same, and
+/// so does what is read of it; where an entry is kept, it prints what the row's other line says.
 pub fn lays_out(case: &Case<'_>, asked: Asked<'_>) -> Result<(), Fault> {
     match case.call {
         Call::Document | Call::Node => {}
@@ -65,7 +65,7 @@ pub fn lays_out(case: &Case<'_>, asked: Asked<'_>) -> Result<(), Fault> {
     }
 }
 
-/// The item, with the texts of the row in its places, does so.
+/// Checks that the item, with the texts of the row in its places, does so.
 fn item_lays_out(case: &Case<'_>, asked: Asked<'_>, item: &mut Item) -> Result<(), Fault> {
     let mut data = Dump::new(case.alloc(), true);
     item.add_to(&mut data);
@@ -132,8 +132,8 @@ fn level(case: &Case<'_>) -> Result<Option<usize>, Fault> {
     }
 }
 
-/// What is printed is read back. A node with texts set in its places prints a document of that one node: a dropped node
-/// may come after it, which a node's own text can't have there.
+/// Checks that what is printed is read back. A node with texts set in its places prints a document of that one node: a
+/// dropped node may come after it, which a node's own text can't have there.
 fn is_read_back(
     case: &Case<'_>,
     asked: Asked<'_>,
@@ -151,7 +151,8 @@ fn is_read_back(
     }
 }
 
-/// The item that was read back has the same data, and prints the same once it is laid out, unless an entry was kept.
+/// Checks that the item that was read back has the same data, and prints the same once it is laid out, unless an entry
+/// was kept.
 fn is_same(
     case: &Case<'_>,
     asked: Asked<'_>,
@@ -166,7 +167,8 @@ fn is_same(
     prints_laid_out(case, asked, item, printed)
 }
 
-/// The item prints the text once it is laid out again, or where an entry was kept that of the row's other line.
+/// Checks that the item prints the text once it is laid out again, or where an entry was kept that of the row's other
+/// line.
 fn lays_out_again(
     case: &Case<'_>,
     asked: Asked<'_>,
@@ -184,7 +186,7 @@ fn lays_out_again(
     prints_laid_out(case, asked, item, &other)
 }
 
-/// The item prints the text once it is laid out.
+/// Checks that the item prints the text once it is laid out.
 fn prints_laid_out(
     case: &Case<'_>,
     asked: Asked<'_>,

@@ -86,7 +86,7 @@ fn placing(line: Line<'_>) -> Option<&'static str> {
 }
 
 impl<'a> Row<'a> {
-    /// The row has a text, expects something, and each of its lines is right.
+    /// Checks that the row has a text, expects something, and each of its lines is right.
     pub fn is_whole(&self) -> Result<(), Fault> {
         let mut seen = Seen {
             has_text: false,
