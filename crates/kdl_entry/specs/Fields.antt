@@ -26,7 +26,7 @@ entry_value_of e = e.value
 abbrev pub entry_format_of : KdlEntry → Option KdlEntryFormat
 entry_format_of e = e.format
 
--- the entry with another key, and all else as it was; the same with another type, value or format
+-- the entry with another key, and all else unchanged; the same with another type, value or format
 abbrev pub with_entry_name : KdlEntry → Option KdlIdentifier → KdlEntry
 with_entry_name e i = record e { name = i }
 

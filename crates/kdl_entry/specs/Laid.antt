@@ -1,5 +1,5 @@
 -- Identifiers and entries located in a text: their spellings and places, in the order of printing, are the text, and each is what it has to be.
--- Where `exact` holds, each span is that of its piece in the text `whole`.
+-- If `exact` holds, each span is that of its piece in the text `whole`.
 use Rattle.std.specs.Prelude.{Bool, true, false, [], ◌∷◌, Option, Some, None}
 use Rattle.kdl_text.specs.Chars.{Text, Star}
 use Rattle.kdl_text.specs.Trivia.{NodeSpace, LineSpace}

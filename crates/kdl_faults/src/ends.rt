@@ -18,7 +18,7 @@ pub(crate) struct Unclosed<'a> {
     pub end: Checkpoint<'a>,
 }
 
-/// Where the next value end is.
+/// The next value end.
 #[derive(Drop)]
 pub(crate) struct ValueEnd<'a> {
     pub place: Checkpoint<'a>,

@@ -58,7 +58,7 @@ pub(crate) struct Reader<'a> {
     left: Checkpoint<'a>,
     /// Whether the only node or entry of the text has begun.
     has_item: bool,
-    /// Whether an entry was dropped.
+    /// Whether an entry was slashdashed.
     has_dropped: bool,
     /// Whether the last piece that was read is a space.
     is_apart: bool,

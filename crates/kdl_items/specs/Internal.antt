@@ -4,7 +4,7 @@
 pub mod Lacking
 -- How the results of the readers of what a slashdash drops relate to the text after the `/-`.
 pub mod Passed
--- What the control does after a slashdash, up to the end of what is dropped.
+-- What the control does after a slashdash, up to the end of what the slashdash drops.
 pub mod Passing
 -- How the results of the readers of items relate to the text.
 pub mod Reading

@@ -67,13 +67,13 @@ may_end (before_entry spaced) = spaced
 may_end before_block = true
 may_end behind_block = true
 
--- entries may be dropped here
+-- entries may be slashdashed here
 abbrev pub takes_entries : Place → Bool
 takes_entries (before_entry spaced) = true
 takes_entries before_block = true
 takes_entries behind_block = false
 
--- blocks may be dropped here
+-- blocks may be slashdashed here
 abbrev pub takes_blocks : Place → Bool
 takes_blocks (before_entry spaced) = false
 takes_blocks before_block = true

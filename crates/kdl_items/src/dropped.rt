@@ -184,7 +184,7 @@ fn slashdash_phase(place: Place) -> Phase
     }
 }
 
-/// The place after an entry or a block that is dropped in it, or `None` if no block may be dropped there.
+/// The place after an entry or a block that is slashdashed in it, or `None` if no block may be slashdashed there.
 pub(crate) fn behind_part(place: Place, is_block: bool) -> Option<Place>
     ensures { BehindPart (place_view place) is_block (option_map place_view result) }
 {
@@ -229,7 +229,7 @@ pub(crate) fn pass_part(
 }
 
 /// Adds the entry or block that the slashdash here drops. Returns the text after it and the place there, or `None` if
-/// neither may be dropped.
+/// neither may be slashdashed.
 pub(crate) fn dropped_part<'a>(
     alloc: Global,
     place: Place,

@@ -153,8 +153,8 @@ enum PlacePiece<'a> {
     InEscline,
 }
 
-/// The text after the entry or block that is dropped at its start, and the place there. `None` if neither may be
-/// dropped.
+/// The text after the slashdashed entry or block at its start, and the place there. `None` if neither may be
+/// slashdashed.
 fn dropped_place<'a>(
     alloc: Global,
     place: Place,

@@ -56,7 +56,7 @@ abbrev pub given : Bool → Text → Option KeyParts → Option TypeParts → Va
 given true leading k y v s r = done (entry_by leading k y v (between s r)) r
 given false leading k y v s r = dropped false false
 
--- what the item came to
+-- the state after an answer of the item
 abbrev pub came : Item → Answer → Text → Text → Option State
 came it (goes next) s r = Some (under next)
 came it (gives k y v) s r = Some (given it.kept it.leading k y v s r)
@@ -97,7 +97,7 @@ with_trailing p f = record f { trailing = p }
 abbrev pub ended : Text → Text → Entry → Entry
 ended whole p e = record e { format = option_map (with_trailing p) e.format; span = span_of whole whole [] }
 
--- what the machine returns where the text ends
+-- what the machine returns at the end of the text
 abbrev pub finish : Text → State → Option Entry
 finish whole (word w from) = Some (ended whole (between from []) (argument_of w))
 finish whole (done e from) = Some (ended whole (between from []) e)

@@ -1,4 +1,4 @@
--- What the control does after a slashdash, up to the end of what is dropped.
+-- What the control does after a slashdash, up to the end of what the slashdash drops.
 use Rattle.std.specs.Prelude.{◌≡◌, Bool, true, false, ◌&&◌, not, [], Some}
 use Rattle.kdl_text.specs.Chars.{Text}
 use Rattle.kdl_lexer.specs.Internal.Tokens.{Token, space, equals, BeginsToken}

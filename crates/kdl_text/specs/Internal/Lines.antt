@@ -57,7 +57,7 @@ EatsUnits us false s r = (m : List LineUnit) → literals s ≡ us ++ m → ⊥
 abbrev pub is_one_line : List LineUnit → Bool
 is_one_line us = list_all (λ u. not (is_line_end u)) us
 
--- the units us are in one line; an X begins the text s with them, and ends in t, or goes on after a newline
+-- the units us are in one line; an X begins the text s with them, and ends in t, or continues after a newline
 abbrev pub ReadsLine : (Text → Text → List LineUnit → Type 0) → Bool → Text → List LineUnit → Text → Type 0
 ReadsLine X true s us t = (is_one_line us ≡ true) × X s t us
 ReadsLine X false s us t = (is_one_line us ≡ true) × Goes X s (us ++ (LineEnd ∷ [])) t
