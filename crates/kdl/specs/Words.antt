@@ -100,7 +100,7 @@ pub use Rattle.kdl.specs.Said.{IsSetInData, said_arg, said_argument, said_argume
 pub use Rattle.kdl.specs.Finds.{FindsSame, GivesArgument, GivesProperty, NodeFindsSame}
 -- One piece of the printed text is replaced, and no other character.
 pub use Rattle.kdl.specs.Bytes.{IsExchanged, IsExchangedInDocument, IsExchangedInNode, piece_of}
--- What reads back: entries, nodes and documents, and what stays so.
+-- What reads back: entries, nodes and documents, and what keeps reading back.
 pub use Rattle.kdl_grammar.specs.ReadsBack.{EntryReads}
 pub use Rattle.kdl.specs.ReadsBack.{BlockReadsBack, DocumentReadsBack, EntryReadsBack, IsUnformed, NodeEnds, NodeReadsBack, ReadsAs, respelled}
 -- Nodes added and removed.

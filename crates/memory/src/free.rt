@@ -156,7 +156,7 @@ fn node_is_emptied(alloc: Global, node: &mut KdlNode, names: &mut Vec<String>) -
     all & node.is_empty() & node.children_mut().is_none()
 }
 
-/// The calls that put something else into a node.
+/// The calls that set the parts of a node.
 fn node_is_changed(alloc: Global, node: &mut KdlNode, names: &mut Vec<String>) -> bool {
     node.set_name(KdlIdentifier::from(next(alloc, names)));
     node.set_ty(KdlIdentifier::from(next(alloc, names)));

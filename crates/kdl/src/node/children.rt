@@ -135,7 +135,7 @@ impl KdlNode {
         }
     }
 
-    /// The format that the node needs before the rest, or none where it keeps its own.
+    /// The format that the node needs before the rest, or `None` if it keeps its own.
     pub(crate) fn ended(&self, rest: Rest) -> Result<Option<KdlNodeFormat>, AllocError>
         ensures is_ended { IfOk result (λ o. IsEnded
             (format_or_printed (head_tree (out-KdlNode self.now))) (node_texts o)) }
