@@ -266,11 +266,11 @@ impl KdlEntry {
     ///
     /// ```
     /// let mut entry = KdlEntry::parse(alloc, " port=0x1F90")?;
-    /// entry.set_value(KdlValue::from(9090)); // still prints " port=0x1F90": the spelling of the former value stays
+    /// entry.set_value(KdlValue::from(9090)); // still prints " port=0x1F90": the spelling of the former value is kept
     /// if let Some(format) = entry.format_mut() {
-    ///     format.value_repr = String::from_str(alloc, "9090")?; // prints " port=9090", and all else stays
+    ///     format.value_repr = String::from_str(alloc, "9090")?; // prints " port=9090", and all else is unchanged
     /// }
-    /// entry.clear_format(); // prints "port=9090": the space goes too, as would a comment in its place
+    /// entry.clear_format(); // prints "port=9090": the space is removed too, as a comment in its place would be
     /// ```
     pub fn set_value(&mut self, value: KdlValue)
         ensures { entry_tree self.new ≡ record (entry_tree self.old) { value = value_tree value } }
@@ -380,7 +380,7 @@ impl KdlEntry {
     /// let mut format = KdlEntryFormat::new(alloc);
     /// format.value_repr = String::from_str(alloc, "0x10")?;
     /// let mut entry = KdlEntry::new(KdlValue::from(16));
-    /// entry.set_format(format); // prints "0x10"; that this spells 16 is not tested
+    /// entry.set_format(format); // prints "0x10"; whether this spells 16 is not checked
     /// ```
     pub fn set_format(&mut self, format: KdlEntryFormat)
         ensures { entry_tree self.new
@@ -394,7 +394,7 @@ impl KdlEntry {
     ///
     /// ```
     /// let mut entry = KdlEntry::parse(alloc, "/* why */ \"port\"=0x10")?;
-    /// entry.clear_format(); // prints "port=16": the comment before it goes too
+    /// entry.clear_format(); // prints "port=16": the comment before it is removed too
     /// ```
     pub fn clear_format(&mut self)
         ensures { entry_tree self.new ≡ cleared (entry_tree self.old) }

@@ -56,7 +56,7 @@ impl KdlIdentifier {
     ///
     /// ```
     /// let name = KdlIdentifier::parse(alloc, "\"a\\tb\"")?;
-    /// let text = name.value(); // an `a`, a tabulator and a `b`
+    /// let text = name.value(); // an `a`, a tab and a `b`
     /// ```
     pub fn value(&self) -> &str
         ensures { chars result.now ≡ (identifier_tree self.now).value }
@@ -126,7 +126,7 @@ impl KdlIdentifier {
     ///
     /// ```
     /// let mut name = KdlIdentifier::from_text(alloc, "a")?;
-    /// name.set_repr(String::from_str(alloc, "#\"a\"#")?); // prints "#\"a\"#"; that this spells `a` is not tested
+    /// name.set_repr(String::from_str(alloc, "#\"a\"#")?); // prints "#\"a\"#"; whether this spells `a` is not checked
     /// ```
     pub fn set_repr(&mut self, repr: String)
         ensures { identifier_tree self.new
@@ -230,7 +230,7 @@ pub fn sliced_identifier(
 ///
 /// ```
 /// let name = KdlIdentifier::from_text(alloc, "a")?;
-/// let more = String::new(*identifier_allocator(&name)); // takes its memory where the name does
+/// let more = String::new(*identifier_allocator(&name)); // uses the allocator of the name
 /// ```
 pub fn identifier_allocator(identifier: &KdlIdentifier) -> &Global
     ensures { result.now ≡ vec_allocator (string_vec (string_of identifier.now)) }
@@ -327,7 +327,7 @@ impl fmt::Display for KdlIdentifier {
 /// ```
 /// let bare = KdlIdentifier::parse(alloc, "a")?;
 /// let quoted = KdlIdentifier::parse(alloc, "\"a\"")?;
-/// let same = bare == quoted; // false: they are spelled otherwise
+/// let same = bare == quoted; // false: their spellings differ
 /// ```
 impl PartialEq for KdlIdentifier {
     ghost use Rattle.kdl_entry.specs.Fields.{string_of};

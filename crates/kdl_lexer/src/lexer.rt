@@ -445,7 +445,7 @@ impl<'a> Lexer<'a> {
     /// ```
     /// let mut lexer = Lexer::new("ab=1", Steps::new());
     /// let start = lexer.checkpoint();
-    /// let token = lexer.next(alloc)?; // after it the lexer is elsewhere, and `start` where it was taken
+    /// let token = lexer.next(alloc)?; // the lexer has moved on, and `start` is still where it was taken
     /// ```
     pub fn checkpoint(&self) -> Checkpoint<'a>
         ensures rest { result.rest ≡ self.now.rest }
@@ -504,9 +504,9 @@ impl<'a> Lexer<'a> {
     ///
     /// ```
     /// let mut lexer = Lexer::new("a }", Steps::new());
-    /// let name = lexer.next(alloc)?; // the string `a`, with where it begins and ends
+    /// let name = lexer.next(alloc)?; // the string `a`, with its start and end
     /// let spaces = lexer.next(alloc)?; // the run of spaces
-    /// let closing = lexer.next(alloc)?; // the `}`: whether it may be here is for the caller to know
+    /// let closing = lexer.next(alloc)?; // the `}`: the lexer does not check whether it may be here
     /// let none = lexer.next(alloc)?; // `None`: the end of the text
     /// ```
     #[inline(always)]

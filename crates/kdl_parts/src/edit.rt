@@ -19,7 +19,7 @@ use std::mem;
 ///
 /// ```
 /// if let Err((entry, _)) = push(&mut entries, KdlEntry::new(KdlValue::from(9))) {
-///     drop(entry); // memory ran out: the entry is back, and the entries are as they were
+///     drop(entry); // an allocation failed: the error has the entry, and the entries are unchanged
 /// }
 /// ```
 pub fn push(entries: &mut Vec<KdlEntry>, entry: KdlEntry) -> Result<(), (KdlEntry, AllocError)>
@@ -42,7 +42,7 @@ pub fn push(entries: &mut Vec<KdlEntry>, entry: KdlEntry) -> Result<(), (KdlEntr
 ///
 /// ```
 /// let key = NodeKey::from_text(alloc, "a")?;
-/// let replaced = insert(&mut entries, key, KdlEntry::new(KdlValue::from(9))); // of `1 a=2 3` are left `1 a=9 3`
+/// let replaced = insert(&mut entries, key, KdlEntry::new(KdlValue::from(9))); // `1 a=2 3` becomes `1 a=9 3`
 /// ```
 pub fn insert(
     entries: &mut Vec<KdlEntry>,
@@ -66,7 +66,7 @@ pub fn insert(
 /// arguments. Returns `None` if there is none.
 ///
 /// ```
-/// let removed = remove(&mut entries, NodeKey::from_text(alloc, "a")?); // of `1 a=2 a=3` the first `a` goes
+/// let removed = remove(&mut entries, NodeKey::from_text(alloc, "a")?); // removes the first `a` of `1 a=2 a=3`
 /// ```
 pub fn remove(entries: &mut Vec<KdlEntry>, key: NodeKey) -> Option<KdlEntry>
     ensures items { entries.new.items ≡ removed key entries.old.items }
@@ -95,7 +95,7 @@ pub fn clear(entries: &mut Vec<KdlEntry>)
 /// order.
 ///
 /// ```
-/// retain(&mut entries, |entry| entry.name().is_none()); // of `1 a=2 3` are left `1 3`
+/// retain(&mut entries, |entry| entry.name().is_none()); // `1 a=2 3` becomes `1 3`
 /// ```
 pub fn retain<F: FnMut(&KdlEntry) -> bool>(entries: &mut Vec<KdlEntry>, keep: F)
     requires { F.IsAlwaysCallable keep }
@@ -108,7 +108,7 @@ pub fn retain<F: FnMut(&KdlEntry) -> bool>(entries: &mut Vec<KdlEntry>, keep: F)
 /// an allocation fails, returns an error, and the entries are in an unspecified order.
 ///
 /// ```
-/// sort_by(&mut entries, |one, other| one.value().cmp(other.value()))?; // of `3 1 2` is made `1 2 3`
+/// sort_by(&mut entries, |one, other| one.value().cmp(other.value()))?; // `3 1 2` becomes `1 2 3`
 /// ```
 pub fn sort_by<F: FnMut(&KdlEntry, &KdlEntry) -> Ordering>(
     entries: &mut Vec<KdlEntry>,
@@ -126,7 +126,7 @@ pub fn sort_by<F: FnMut(&KdlEntry, &KdlEntry) -> Ordering>(
 /// fails, returns an error, and the entries are in an unspecified order.
 ///
 /// ```
-/// sort_by_key(&mut entries, |entry| entry.name().is_some())?; // of `b=1 2 c=3 4` is made `2 4 b=1 c=3`
+/// sort_by_key(&mut entries, |entry| entry.name().is_some())?; // `b=1 2 c=3 4` becomes `2 4 b=1 c=3`
 /// ```
 pub fn sort_by_key<K: Ord, F: FnMut(&KdlEntry) -> K>(
     entries: &mut Vec<KdlEntry>,
@@ -145,7 +145,7 @@ where
 /// Drops the formats and spellings of the entries.
 ///
 /// ```
-/// clear_formats(&mut entries); // `0x10 "a"=1` prints as `16 a=1` then; a comment before an entry goes too
+/// clear_formats(&mut entries); // `0x10 "a"=1` then prints `16 a=1`; a comment before an entry is removed too
 /// ```
 pub fn clear_formats(entries: &mut Vec<KdlEntry>)
     ensures { map entry_tree entries.new.items ≡ map cleared (map entry_tree entries.old.items) }

@@ -167,7 +167,7 @@ fn push_text(text: &mut String, more: &str) -> Result<(), AllocError>
 ///
 /// ```
 /// let format = behind_bom(alloc, None)?;
-/// let leading = format.leading.as_str(); // U+FEFF alone
+/// let leading = format.leading.as_str(); // only U+FEFF
 /// ```
 pub fn behind_bom(
     alloc: Global,

@@ -22,7 +22,7 @@ use std::slice;
 ///
 /// ```
 /// for entry in entry_iter(&entries) {
-///     let value = entry.value(); // of `1 a=2` the values 1 and 2
+///     let value = entry.value(); // the values 1 and 2 of `1 a=2`
 /// }
 /// ```
 pub fn entry_iter(entries: &[KdlEntry]) -> EntryIter<'_>
@@ -35,7 +35,7 @@ pub fn entry_iter(entries: &[KdlEntry]) -> EntryIter<'_>
 ///
 /// ```
 /// for entry in entry_iter_mut(&mut entries) {
-///     entry.clear_format(); // of `0x1 0x2` are left `1 2`
+///     entry.clear_format(); // `0x1 0x2` becomes `1 2`
 /// }
 /// ```
 pub fn entry_iter_mut(entries: &mut Vec<KdlEntry>) -> EntryIterMut<'_>
@@ -50,7 +50,7 @@ pub fn entry_iter_mut(entries: &mut Vec<KdlEntry>) -> EntryIterMut<'_>
 ///
 /// ```
 /// for value in args_iter(&entries) {
-///     let number = value.as_integer(); // of `1 a=2 3` the numbers 1 and 3
+///     let number = value.as_integer(); // the numbers 1 and 3 of `1 a=2 3`
 /// }
 /// ```
 pub fn args_iter(entries: &[KdlEntry]) -> ArgsIter<'_>

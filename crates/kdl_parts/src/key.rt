@@ -51,7 +51,7 @@ impl From<String> for NodeKey {
 /// Creates the key of the argument at that place among the arguments, counted from 0.
 ///
 /// ```
-/// let key = NodeKey::from(1); // of the entries `1 a=2 3` the argument 3: properties are not counted
+/// let key = NodeKey::from(1); // the argument 3 of the entries `1 a=2 3`: properties are not counted
 /// ```
 impl From<usize> for NodeKey {
     ghost from_gives = { λ n k. sought k ≡ argument n };

@@ -18,7 +18,7 @@ use std::alloc::AllocError;
 /// place among the arguments.
 ///
 /// ```
-/// let found = entry(&entries, NodeKey::from(1)); // of `1 a=2 3` the argument 3
+/// let found = entry(&entries, NodeKey::from(1)); // the argument 3 of `1 a=2 3`
 /// ```
 pub fn entry(entries: &[KdlEntry], key: NodeKey) -> Option<&KdlEntry>
     ensures { option_map (λ e. e.now) result ≡ found key entries.now }
@@ -34,7 +34,7 @@ pub fn entry(entries: &[KdlEntry], key: NodeKey) -> Option<&KdlEntry>
 /// Returns the value of the entry that the key finds.
 ///
 /// ```
-/// let found = value(&entries, NodeKey::from_text(alloc, "a")?); // of `1 a=2 a=3` the value 3
+/// let found = value(&entries, NodeKey::from_text(alloc, "a")?); // the value 3 of `1 a=2 a=3`
 /// ```
 pub fn value(entries: &[KdlEntry], key: NodeKey) -> Option<&KdlValue>
     ensures { option_map (λ v. value_tree v.now) result ≡ value_of (found key entries.now) }
@@ -49,7 +49,7 @@ pub fn value(entries: &[KdlEntry], key: NodeKey) -> Option<&KdlValue>
 ///
 /// ```
 /// if let Some(found) = entry_mut(&mut entries, NodeKey::from(0)) {
-///     *found = KdlEntry::new(KdlValue::from(9)); // of `1 a=2` are left `9 a=2`
+///     *found = KdlEntry::new(KdlValue::from(9)); // `1 a=2` becomes `9 a=2`
 /// }
 /// ```
 pub fn entry_mut(entries: &mut Vec<KdlEntry>, key: NodeKey) -> Option<&mut KdlEntry>
@@ -89,7 +89,7 @@ pub fn value_mut(entries: &mut Vec<KdlEntry>, key: NodeKey) -> Option<&mut KdlVa
 ///
 /// ```
 /// if entries.len() > 1 {
-///     *value_at_mut(&mut entries, 1) = KdlValue::from(9); // the place counts all entries, and has to be there
+///     *value_at_mut(&mut entries, 1) = KdlValue::from(9); // the place counts all entries, and has to exist
 /// }
 /// ```
 pub fn value_at_mut(entries: &mut Vec<KdlEntry>, at: usize) -> &mut KdlValue
@@ -105,7 +105,7 @@ pub fn value_at_mut(entries: &mut Vec<KdlEntry>, at: usize) -> &mut KdlValue
 ///
 /// ```
 /// if nth_argument(&entries, 1).is_some() {
-///     let second = argument(&entries, 1); // of `1 a=2 3` the value 3
+///     let second = argument(&entries, 1); // the value 3 of `1 a=2 3`
 /// }
 /// ```
 pub fn argument(entries: &[KdlEntry], n: usize) -> &KdlValue
@@ -122,7 +122,7 @@ pub fn argument(entries: &[KdlEntry], n: usize) -> &KdlValue
 ///
 /// ```
 /// if has_property(&entries, "a") {
-///     let last = property(&entries, "a"); // of `1 a=2 a=3` the value 3
+///     let last = property(&entries, "a"); // the value 3 of `1 a=2 a=3`
 /// }
 /// ```
 pub fn property<'a>(entries: &'a [KdlEntry], name: &str) -> &'a KdlValue
@@ -138,7 +138,7 @@ pub fn property<'a>(entries: &'a [KdlEntry], name: &str) -> &'a KdlValue
 /// Returns whether there is a property of that name. Names are compared by their values, not by their spellings.
 ///
 /// ```
-/// let both = (has_property(&entries, "a"), has_property(&entries, "b")); // of `a=1 b` true and false
+/// let both = (has_property(&entries, "a"), has_property(&entries, "b")); // true and false for `a=1 b`
 /// ```
 pub fn has_property(entries: &[KdlEntry], name: &str) -> bool
     ensures { result ≡ is_some (last_place (has_name name.now) entries.now) }
@@ -151,7 +151,7 @@ pub fn has_property(entries: &[KdlEntry], name: &str) -> bool
 /// allocating.
 ///
 /// ```
-/// let at = property_or_null(&mut entries, "b")?; // of `1 a=2` the place 2, where `b=#null` is pushed
+/// let at = property_or_null(&mut entries, "b")?; // the place 2 in `1 a=2`, where `b=#null` is pushed
 /// ```
 pub fn property_or_null(entries: &mut Vec<KdlEntry>, name: &str) -> Result<usize, AllocError>
     ensures found { IfOk result (λ i. HasProperty (last_place (has_name name.now) entries.old.items)
@@ -175,7 +175,7 @@ pub fn property_or_null(entries: &mut Vec<KdlEntry>, name: &str) -> Result<usize
 ///
 /// ```
 /// if nth_argument(&entries, 1).is_some() {
-///     *argument_mut(&mut entries, 1) = KdlValue::from(9); // of `1 a=2 3` the last value is 9 now
+///     *argument_mut(&mut entries, 1) = KdlValue::from(9); // the last value of `1 a=2 3` is 9 now
 /// }
 /// ```
 pub fn argument_mut(entries: &mut Vec<KdlEntry>, n: usize) -> &mut KdlValue

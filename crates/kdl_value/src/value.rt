@@ -104,7 +104,7 @@ impl KdlValue {
     /// ```
     /// let value = KdlValue::from_text(alloc, "two words")?;
     /// let text = value.as_string(); // the text without quotes
-    /// let none = KdlValue::from(2).as_string().is_none(); // true: a number is no string
+    /// let none = KdlValue::from(2).as_string().is_none(); // true: a number is not a string
     /// ```
     pub fn as_string(&self) -> Option<&str>
         ensures { option_map (λ s. chars s.now) result ≡ text_value (value_tree self.now) }

@@ -245,7 +245,7 @@ impl<'a> Item<'a> {
     ///
     /// ```
     /// let lexer = Lexer::new("(u8)1", Steps::new());
-    /// let item = Item::new(alloc, &lexer.checkpoint()); // to be opened: `open` and `open_keyed` begin one in it
+    /// let item = Item::new(alloc, &lexer.checkpoint()); // empty: `open` and `open_keyed` begin an item in it
     /// ```
     pub fn new(alloc: Global, place: &Checkpoint<'a>) -> Item<'a>
         ensures is { item_view result ≡ spec.no_item place.now.rest }
@@ -273,7 +273,7 @@ impl<'a> Item<'a> {
     /// let start = lexer.checkpoint();
     /// let left = lexer.next(alloc)?; // `(`
     /// let mut item = Item::new(alloc, &start);
-    /// item.open(true, true, empty(alloc), &start, &lexer.checkpoint()); // the type's name is due
+    /// item.open(true, true, empty(alloc), &start, &lexer.checkpoint()); // the type's name is expected
     /// ```
     pub fn open(
         &mut self,
@@ -314,7 +314,7 @@ impl<'a> Item<'a> {
     /// let tokens = (lexer.next(alloc)?, lexer.next(alloc)?); // `a` and `=`
     /// let name = KdlIdentifier::from_text(alloc, "a")?;
     /// let mut item = Item::new(alloc, &start);
-    /// item.open_keyed(true, empty(alloc), &start, name, empty(alloc), &lexer.checkpoint()); // its value is due
+    /// item.open_keyed(true, empty(alloc), &start, name, empty(alloc), &lexer.checkpoint()); // its value is expected
     /// ```
     pub fn open_keyed(
         &mut self,
