@@ -14,7 +14,7 @@
 //!         }
 //!     }
 //! }
-//! let changed = document.to_string(alloc)?; // the text with 9090 in the place of 8080
+//! let changed = document.to_string(alloc)?; // the text with 9090 in place of 8080
 //! ```
 //!
 //! A new entry prints one space and its value. A type, comments and slashdashed entries of the old entry are removed

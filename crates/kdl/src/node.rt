@@ -102,7 +102,7 @@ impl KdlNode {
     ///
     /// ```
     /// let node = KdlNode::parse(alloc, "\"a\\tb\"")?;
-    /// let name = node.name().value(); // an `a`, a tabulator and a `b`
+    /// let name = node.name().value(); // an `a`, a tab and a `b`
     /// ```
     #[tactic(auto, using(crate::proofs::Finding::SaidLookups::got_name))]
     pub fn name(&self) -> &KdlIdentifier
@@ -131,7 +131,7 @@ impl KdlNode {
     ///
     /// ```
     /// let node = KdlNode::parse(alloc, "a 1 /-2 b=3")?;
-    /// let count = node.entries().len(); // 2: what a slashdash drops is no entry
+    /// let count = node.entries().len(); // 2: a slashdashed entry does not count
     /// ```
     #[tactic(auto, using(crate::proofs::Finding::SaidLookups::got_entries))]
     pub fn entries(&self) -> &[KdlEntry]

@@ -17,7 +17,7 @@ impl KdlNode {
     ///
     /// ```
     /// let mut node = KdlNode::parse(alloc, "\"a\"  0x1 { /* b */ b; }")?;
-    /// node.clear_format_recursive(); // what it says stays: the name `a`, the argument 1, the child `b`
+    /// node.clear_format_recursive(); // its data are unchanged: the name `a`, the argument 1, the child `b`
     /// ```
     pub fn clear_format_recursive(&mut self)
         ensures { node_tree self.new ≡ cleared_node (node_tree self.old) }

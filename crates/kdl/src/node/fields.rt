@@ -142,7 +142,7 @@ impl KdlNode {
     ///
     /// ```
     /// let mut node = KdlNode::parse(alloc, "a 1")?;
-    /// node.set_children(KdlDocument::parse(alloc, "b; c")?); // in place of those that were there
+    /// node.set_children(KdlDocument::parse(alloc, "b; c")?); // replaces the old ones
     /// ```
     pub fn set_children(&mut self, children: KdlDocument)
         ensures { self.new ≡ with_children self.old (Some children) }
