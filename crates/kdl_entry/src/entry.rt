@@ -26,7 +26,8 @@ pub struct KdlEntryFormat {
     /// Text before the entry. In a node: slashdashed entries, then at least one node-space (a space, a block comment or
     /// a line continuation). Before an entry that is a whole text: line-spaces, then slashdashed entries.
     pub leading: String,
-    /// Text after the value: line-spaces, if the entry is a whole text. Empty in a node.
+    /// Text after the value: line-spaces (spaces, newlines, comments and line continuations), if the entry is a whole
+    /// text. Empty in a node.
     pub trailing: String,
     /// Node-spaces between the type's `)` and the value. Empty without a type.
     pub after_ty: String,

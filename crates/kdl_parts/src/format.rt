@@ -11,9 +11,10 @@ use std::alloc::{AllocError, Global};
 /// The texts around the parts of a node. The fields describe a node that was parsed.
 #[derive(PartialEq, Eq, Hash, Debug, Drop)]
 pub struct KdlNodeFormat {
-    /// Text before the node: line-spaces and slashdashed nodes.
+    /// Text before the node: line-spaces (spaces, newlines, comments and line continuations) and slashdashed nodes.
     pub leading: String,
-    /// Node-spaces between the `(` of the type and its name. Empty without a type.
+    /// Node-spaces (spaces, block comments and line continuations) between the `(` of the type and its name. Empty
+    /// without a type.
     pub before_ty_name: String,
     /// Node-spaces between the name of the type and its `)`. Empty without a type.
     pub after_ty_name: String,
