@@ -27,7 +27,8 @@ impl KdlDocument {
     ///
     /// Comments and slashdashed pieces are kept between nodes, after a node on its line, between entries, and before a
     /// block. They are removed inside a type or after it, around `=` and after an entry's value. Spellings are removed
-    /// too, but an entry that is flagged to keep its form keeps the spelling of its value and the text before it.
+    /// too, but an entry that is flagged to keep its form (`KdlEntry::keep_format`) keeps the spelling of its value and
+    /// the text before it.
     ///
     /// If no entry is flagged, the printed text is a document with the same data, and a second call changes nothing.
     ///

@@ -163,8 +163,8 @@ impl KdlNode {
     }
 
     /// Returns a mutable reference to the children. A node without a child block gets an empty new one, without
-    /// allocating. The text before the node's terminator stays there, so a comment or an escline in it comes after the
-    /// new block; `push_child` moves it before the block.
+    /// allocating. The text before the node's terminator stays there, so a comment or a line continuation in it comes
+    /// after the new block; `push_child` moves it before the block.
     ///
     /// ```
     /// let mut node = KdlNode::parse(alloc, "a")?;
