@@ -1,8 +1,10 @@
-//! Measures how fast documents are parsed, dropped, printed, laid out, copied and looked into, and what memory they take.
+//! Measures how fast documents are parsed, dropped, printed, formatted, copied and searched, and how much memory they
+//! take.
 //!
-//! Without arguments it makes texts of five kinds and writes two tables to standard output: the speeds on 1 MB of each,
-//! and on longer and longer ones. Arguments that name files give the first table of these. `write KIND BYTES` writes such a
-//! text; `check BYTES` makes each call on a text of each kind, and writes what came of it and no times.
+//! Without arguments it generates texts of five kinds and writes two tables to standard output: the speeds on 1 MB of
+//! each, and on longer and longer ones. With file names as arguments it writes the first table for these files. `write
+//! KIND BYTES` writes such a text; `check BYTES` makes each call on a text of each kind, and writes the results without
+//! times.
 #![tactic(auto)]
 
 mod measure;
@@ -34,7 +36,7 @@ fn check(rt: &HostRuntime, bytes: usize) -> io::Result<()> {
     Ok(())
 }
 
-/// Makes each call on the text, and writes what came of it.
+/// Makes each call on the text, and writes the results.
 fn check_text(rt: &HostRuntime, name: &str, text: &str) -> io::Result<()> {
     for (_, call) in &CALLS {
         least_time(rt, *call, text, 1)?;
@@ -52,7 +54,7 @@ fn tell(rt: &HostRuntime, name: &str, text: &str, document: &KdlDocument) -> io:
     println!(rt; "{name}: printed back {is_printed}, copied {is_copied}")
 }
 
-/// Writes both tables, of texts that are made.
+/// Writes both tables, for generated texts.
 fn tables(rt: &HostRuntime) -> io::Result<()> {
     table::head(rt)?;
     for kind in &KINDS {
@@ -61,7 +63,7 @@ fn tables(rt: &HostRuntime) -> io::Result<()> {
     table::growth(rt)
 }
 
-/// Writes the first table, of these files.
+/// Writes the first table, for these files.
 fn table_of(rt: &HostRuntime, names: &[&str]) -> io::Result<()> {
     table::head(rt)?;
     for name in names {
@@ -70,7 +72,7 @@ fn table_of(rt: &HostRuntime, names: &[&str]) -> io::Result<()> {
     Ok(())
 }
 
-/// Does what the words ask for. What is no number is one of 0 bytes.
+/// Runs the command. An argument that is not a number counts as 0 bytes.
 fn perform(rt: &HostRuntime, words: &[&str]) -> io::Result<()> {
     match words {
         ["write", name, bytes] => write(rt, name, bytes.parse().unwrap_or(0)),

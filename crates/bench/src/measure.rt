@@ -4,7 +4,7 @@ use kdl::{KdlDocument, KdlNode, NodeKey, ParseFailure};
 use std::io;
 use std::time::{Duration, Instant};
 
-/// How many nodes are looked up in a turn, at most.
+/// The greatest number of nodes that are looked up in a turn.
 const SOUGHT: usize = 64;
 
 /// What is measured.
@@ -16,13 +16,13 @@ pub enum Call {
     Strip,
     Fmt,
     Clone,
-    /// Outermost nodes looked up by their names, spread over the document; each is sought from the first node on.
+    /// Outermost nodes looked up by name, spread over the document; each look-up starts at the first node.
     Node,
-    /// Properties of such nodes, each key made from its text.
+    /// Properties of such nodes, each key created from its text.
     Property,
 }
 
-/// The calls that take time in proportion to the text, with the heads of their columns.
+/// The calls whose time is proportional to the text, with the heads of their columns.
 pub const CALLS: [(&str, Call); 6] = [
     ("parse", Call::Parse),
     ("and drop", Call::ParseAndDrop),
@@ -32,7 +32,7 @@ pub const CALLS: [(&str, Call); 6] = [
     ("clone", Call::Clone),
 ];
 
-/// The document of a text, or none where it is no document.
+/// Returns the document of a text, or `None` if the text is not a document.
 pub fn parsed(rt: &HostRuntime, text: &str) -> io::Result<Option<KdlDocument>> {
     match KdlDocument::parse(rt.alloc(), text) {
         Ok(document) => Ok(Some(document)),
@@ -41,8 +41,8 @@ pub fn parsed(rt: &HostRuntime, text: &str) -> io::Result<Option<KdlDocument>> {
     }
 }
 
-/// How long the call takes, at least, in so many turns; of look-ups, one of them. The greatest time where the text is no
-/// document.
+/// Returns the least time of the call in `turns` turns, for look-ups that of one look-up. Returns the greatest time if
+/// the text is not a document.
 pub fn least_time(rt: &HostRuntime, call: Call, text: &str, turns: usize) -> io::Result<Duration> {
     let mut least = Duration::MAX;
     for _ in 0..turns {
@@ -53,7 +53,7 @@ pub fn least_time(rt: &HostRuntime, call: Call, text: &str, turns: usize) -> io:
     Ok(least)
 }
 
-/// How long the call takes once; of look-ups, one of them.
+/// The time of one call, for look-ups that of one look-up.
 fn time(
     rt: &HostRuntime,
     call: Call,
@@ -67,7 +67,7 @@ fn time(
     }
 }
 
-/// How long a look-up takes.
+/// The time of a look-up.
 fn time_to_find(rt: &HostRuntime, call: Call, document: &KdlDocument) -> io::Result<Duration> {
     let start = Instant::now(rt)?;
     let found = match call {
@@ -77,7 +77,7 @@ fn time_to_find(rt: &HostRuntime, call: Call, document: &KdlDocument) -> io::Res
     Ok(start.elapsed(rt)? / found.max(1))
 }
 
-/// How long a call takes that makes a document or a text. What is made is dropped once the time is taken.
+/// The time of a call that creates a document or a text. The result is dropped after the time is taken.
 fn time_to_make(
     rt: &HostRuntime,
     call: Call,
@@ -105,7 +105,7 @@ fn time_to_make(
     }
 }
 
-/// How long laying the document out takes.
+/// The time of formatting the document.
 fn time_to_lay_out(
     rt: &HostRuntime,
     call: Call,
@@ -119,7 +119,7 @@ fn time_to_lay_out(
     start.elapsed(rt)
 }
 
-/// How many of the nodes that are sought are found.
+/// How many of the nodes that are looked up are found.
 fn nodes_found(document: &KdlDocument) -> u32 {
     let nodes = document.nodes();
     let mut found = 0u32;
@@ -130,7 +130,7 @@ fn nodes_found(document: &KdlDocument) -> u32 {
     found
 }
 
-/// How many properties are found: the first one of each of these nodes is sought.
+/// How many properties are found: the first one of each of these nodes is looked up.
 fn properties_found(rt: &HostRuntime, document: &KdlDocument) -> io::Result<u32> {
     let nodes = document.nodes();
     let mut found = 0u32;

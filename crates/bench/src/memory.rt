@@ -1,14 +1,15 @@
-//! What memory the process takes, as Linux tells it.
+//! How much memory the process takes, as Linux reports it.
 
 use crate::measure::parsed;
 use std::{fs, io};
 
-/// The bytes that the process takes at its peak while the text is parsed, beyond those that it had before; 0 where the
-/// system does not tell. None where the text is no document.
+/// Returns the bytes that the process takes at its peak while the text is parsed, beyond those that it had before, or 0
+/// if the system does not report them. Returns `None` if the text is not a document.
 ///
-/// What was freed before and not given back is used again uncounted, so the number is best for the first text of a run.
+/// Memory that was freed before and not returned to the system is reused without being counted, so the number is best
+/// for the first text of a run.
 pub fn bytes_to_parse(rt: &HostRuntime, text: &str) -> io::Result<Option<u64>> {
-    // From here on the peak is counted anew.
+    // Resets the peak.
     let is_reset = fs::write(rt, "/proc/self/clear_refs", "5").is_ok();
     let before = told(rt, "VmRSS:");
     let document = parsed(rt, text)?;
@@ -20,7 +21,7 @@ pub fn bytes_to_parse(rt: &HostRuntime, text: &str) -> io::Result<Option<u64>> {
     })
 }
 
-/// The bytes in the line of the process's status with this label; 0 where there is none.
+/// The bytes in the line of the process's status with this label, or 0 if there is none.
 fn told(rt: &HostRuntime, label: &str) -> u64 {
     let Ok(status) = fs::read_to_string(rt, "/proc/self/status") else {
         return 0;

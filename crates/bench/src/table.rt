@@ -9,7 +9,7 @@ use std::io;
 /// How long the texts of the second table are.
 const LENGTHS: [usize; 4] = [10_000, 100_000, 1_000_000, 10_000_000];
 
-/// How often a text is measured: more often where it is small.
+/// How often a text is measured: more often if it is small.
 fn turns(text: &str) -> usize {
     (20_000_000 / text.len().max(1)).clamp(3, 100)
 }
@@ -57,13 +57,13 @@ fn rate(rt: &HostRuntime, call: Call, text: &str) -> io::Result<u128> {
     Ok((text.len() as u128).saturating_mul(10_000) / time.as_nanos().max(1))
 }
 
-/// So many tenths as a decimal.
+/// A number of tenths as a decimal.
 fn tenths(alloc: Global, tenths: u128) -> Result<String, AllocError> {
     let (whole, part) = (tenths / 10, tenths % 10);
     format!(in alloc; "{whole}.{part}")
 }
 
-/// Writes the second table: the speeds on longer and longer texts, and the greatest of them by the least.
+/// Writes the second table: the speeds on longer and longer texts, and the greatest of them divided by the least.
 pub fn growth(rt: &HostRuntime) -> io::Result<()> {
     println!(rt; "\nMB/s on 10 KB, 100 KB, 1 MB and 10 MB, and the greatest by the least")?;
     for kind in &KINDS {

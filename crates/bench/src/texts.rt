@@ -7,12 +7,12 @@ use std::fmt::Write;
 
 /// A kind of text: pieces one after another.
 ///
-/// In a piece `◊` is replaced by a word, `□` by a number below 1000, both as if by chance, and `№` by the number of the
+/// In a piece `◊` is replaced by a word, `□` by a number below 1000, both pseudorandom, and `№` by the number of the
 /// piece.
 #[derive(Clone, Copy)]
 pub struct Kind {
     pub name: &'static str,
-    /// What each piece begins with, so often as its blocks are deep.
+    /// What each piece begins with, once for each level of its blocks.
     opening: &'static str,
     /// What closes one of these blocks.
     closing: &'static str,
@@ -56,7 +56,7 @@ pub const KINDS: [Kind; 5] = [
 const WORDS: [&str; 6] = ["backup", "deploy", "filter", "layout", "output", "window"];
 
 impl Kind {
-    /// A text of this kind with so many bytes, and at most a piece more.
+    /// Returns a text of this kind with at least this number of bytes, and at most a piece more.
     pub fn text(self, alloc: Global, bytes: usize) -> Result<String, AllocError> {
         let mut text = String::new(alloc);
         let mut chance = Chance(1);
@@ -93,7 +93,7 @@ fn push_piece(
     Ok(())
 }
 
-/// Numbers that look like chance.
+/// Pseudorandom numbers.
 #[derive(Drop)]
 struct Chance(u64);
 

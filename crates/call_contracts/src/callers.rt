@@ -1,9 +1,9 @@
-//! What a caller shows for the edits that ask for something.
+//! What a caller proves for the edits with a `requires`.
 
 use kdl::{KdlEntry, KdlIdentifier, KdlNode, KdlValue, NodeKey};
 use std::alloc::AllocError;
 
-/// The value of the last property of that name, where there is one.
+/// Returns the value of the last property of that name, if there is one.
 pub fn property<'a>(node: &'a KdlNode, name: &str) -> Option<&'a KdlValue> {
     if node.has_property(name) {
         Some(&node[name])
@@ -12,7 +12,7 @@ pub fn property<'a>(node: &'a KdlNode, name: &str) -> Option<&'a KdlValue> {
     }
 }
 
-/// Puts the value before all arguments: 0 is an index for an insertion in any node.
+/// Inserts the value before all arguments: 0 is a valid index for an insertion in any node.
 pub fn insert_first(
     node: &mut KdlNode,
     value: KdlValue,
@@ -32,7 +32,8 @@ pub fn set_typed(
     node.insert(NodeKey::Key(key), entry)
 }
 
-/// Puts the value before the argument at the index, or last, if there are as many arguments or more.
+/// Inserts the value before the argument at the index, or last, if there are at least that many
+/// arguments. Returns whether there are.
 pub fn insert_argument(
     node: &mut KdlNode,
     index: usize,
@@ -45,7 +46,7 @@ pub fn insert_argument(
     Ok(true)
 }
 
-/// Takes out the argument at the index, if it is there.
+/// Removes the argument at the index, if it exists.
 pub fn remove_argument(node: &mut KdlNode, index: usize) -> Option<KdlEntry> {
     if node.argument_count() <= index {
         return None;

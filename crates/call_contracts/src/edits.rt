@@ -32,7 +32,7 @@ pub fn insert(
     node.insert(key, entry)
 }
 
-/// `KdlNode::remove`: the entries afterwards, and the one that comes back.
+/// `KdlNode::remove`: the entries afterwards, and the one that is returned.
 pub fn remove(node: &mut KdlNode, key: NodeKey) -> Option<KdlEntry>
     requires { HasArgumentAt (sought key) (entries_of node.old) }
     ensures items { entries_of node.new ≡ removed key (entries_of node.old) }

@@ -1,4 +1,4 @@
-//! Parts that are lent for writing, equality and hashes.
+//! Mutable references to parts, equality and hashes.
 
 ghost use Rattle.kdl.specs.Change.{with_children};
 ghost use Rattle.kdl.specs.Cleared.{new_document};

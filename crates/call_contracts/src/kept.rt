@@ -1,4 +1,4 @@
-//! What stays where a document is laid out.
+//! What layout of a document keeps.
 
 ghost use Rattle.kdl.specs.Layout.{DocumentKeepsNoForm};
 ghost use Rattle.kdl.specs.Tree.{document_prints, document_says, document_tree};
@@ -9,7 +9,8 @@ ghost use Rattle.std.specs.Prelude.{◌≡◌, OnOk, true};
 use kdl::KdlDocument;
 use std::alloc::AllocError;
 
-/// `KdlDocument::autoformat`: the document says what it said, and so does the text that it prints, with its comments.
+/// `KdlDocument::autoformat`: the data and the comments of the document are unchanged, and the text that it prints has
+/// them.
 pub fn autoformat(document: &mut KdlDocument) -> Result<(), AllocError>
     ensures data { document_says document.new ≡ document_says document.old }
     ensures derived { OnOk result (DocumentKeepsNoForm document.old

@@ -1,4 +1,4 @@
-//! Documents and nodes that are laid out.
+//! Layout of documents and nodes.
 
 ghost use Rattle.kdl.specs.Layout.{DocumentKeepsNoForm, DocumentLaidOut, DocumentSpaced, NodeLaidOut, NodeSpaced};
 ghost use Rattle.kdl.specs.Tree.{document_prints, document_says, document_tree};
@@ -17,7 +17,7 @@ pub fn autoformat(document: &mut KdlDocument) -> Result<(), AllocError>
     document.autoformat()
 }
 
-/// `KdlDocument::autoformat_config`: the levels at which it lays out.
+/// `KdlDocument::autoformat_config`: the levels of the layout.
 pub fn autoformat_config(
     document: &mut KdlDocument,
     config: &FormatConfig,
@@ -49,7 +49,7 @@ pub fn autoformat_node(node: &mut KdlNode) -> Result<(), AllocError>
     node.autoformat()
 }
 
-/// `KdlDocument::autoformat_no_comments`: the document prints the canonical text of what it said, which reads back.
+/// `KdlDocument::autoformat_no_comments`: the document prints the canonical text of its data, which reads back.
 pub fn autoformat_no_comments(document: &mut KdlDocument) -> Result<(), AllocError>
     ensures prints { OnOk result (DocumentKeepsNoForm document.old
         → document_prints document.new ≡ canonical_text (document_says document.old)) }

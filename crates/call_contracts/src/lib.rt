@@ -1,8 +1,8 @@
-//! What the calls of `kdl` promise. Each function here makes one call and promises what that call promises, all of it or
-//! a part, which the check shows to follow from the call's own contract. A must-fail edit puts a wrong body in the place
-//! of the call: what the contract here refuses, the call's refuses too. In this small crate such an edit costs little.
+//! The contracts of the calls of `kdl`. Each function here makes one call and has the call's contract, or a part of it,
+//! which the check proves from the call's own contract. A must-fail edit replaces the call by a wrong body: if the
+//! contract here refuses it, the call's own contract does too. In this small crate such an edit is cheap to check.
 //!
-//! `callers` has what a caller shows for the edits that ask for something, and `lines` a call of `kdl_items` that layout
+//! `callers` has what a caller proves for the edits with a `requires`, and `lines` a call of `kdl_items` that layout
 //! makes.
 #![tactic(auto)]
 

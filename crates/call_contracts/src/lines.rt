@@ -1,4 +1,4 @@
-//! The lines of comments, and of what slashdashes drop.
+//! The lines of comments, and of slashdashed pieces.
 
 ghost use Rattle.kdl_items.specs.Internal.Reading.{item_view};
 ghost use Rattle.kdl_items.specs.Written.{lines};
@@ -9,7 +9,7 @@ ghost use Rattle.std.specs.Str.{chars};
 use kdl_items::{Item, push_lines};
 use std::alloc::AllocError;
 
-/// `push_lines` of one item, which layout keeps on a line of its own.
+/// `push_lines` of one item, which layout keeps on its own line.
 pub fn push_line(out: &mut String, before: &str, item: Item) -> Result<(), AllocError>
     ensures { OnOk result (text_of out.new ≡ text_of out.old
         ++ lines (chars before.now) (item_view item.entry ∷ [])) }

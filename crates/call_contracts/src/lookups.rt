@@ -1,4 +1,4 @@
-//! What is looked up, and what look-ups lend.
+//! What look-ups find, and the references that they return.
 
 ghost use Rattle.kdl.specs.Change.{children_row};
 ghost use Rattle.kdl.specs.DocumentLookups.{dash_arguments_of, node_named};
@@ -38,7 +38,7 @@ pub fn entry_mut(node: &mut KdlNode, key: NodeKey) -> Option<&mut KdlEntry>
     node.entry_mut(key)
 }
 
-/// `KdlNode::iter_children_mut`: the block that it lends, and the node once that is written.
+/// `KdlNode::iter_children_mut`: the block that it borrows, and the node after a write to that.
 pub fn iter_children_mut(node: &mut KdlNode) -> ChildrenIterMut<'_>
     ensures* writes_back { sem 𝓛 (follows the_row (Array children_row 0) node.entry.ghost_name
         (block_name result) (with_written_block node.old)) }
@@ -47,7 +47,7 @@ pub fn iter_children_mut(node: &mut KdlNode) -> ChildrenIterMut<'_>
     node.iter_children_mut()
 }
 
-/// `KdlNode::get_or_null_mut`: the value, and the node once it is written.
+/// `KdlNode::get_or_null_mut`: the value, and the node after a write to it.
 pub fn value_or_null<'a>(node: &'a mut KdlNode, name: &str) -> Result<&'a mut KdlValue, AllocError>
     ensures* writes_back { sem 𝓛 (LendsSoOk the_row value_row node.entry result
         (λ n w. HasWritten (property_place name.now node.old) name.now node.old w n)

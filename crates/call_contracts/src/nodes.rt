@@ -1,4 +1,4 @@
-//! Nodes put among others and taken out.
+//! Nodes inserted among others and removed.
 
 ghost use Rattle.kdl.specs.Change.{with_nodes};
 ghost use Rattle.kdl.specs.DocumentLookups.{nodes_of};
@@ -35,7 +35,7 @@ pub fn push_node(document: &mut KdlDocument, node: KdlNode) -> Result<(), (KdlNo
     document.push_node(node)
 }
 
-/// `KdlDocument::remove_node`: the nodes afterwards, the one that comes back, and what is printed.
+/// `KdlDocument::remove_node`: the nodes afterwards, the one that is returned, and what is printed.
 pub fn remove_node(document: &mut KdlDocument, index: usize) -> KdlNode
     requires { index < length (nodes_of document.old) }
     ensures nodes { nodes_of document.new ≡ remove (nodes_of document.old) index }

@@ -1,4 +1,4 @@
-//! Texts that are read.
+//! Parsed texts.
 
 ghost use Rattle.kdl.specs.Tree.{document_says, document_tree, node_says};
 ghost use Rattle.kdl_entry.specs.Data as entries;
@@ -17,8 +17,8 @@ ghost use Rattle.std.specs.Str.{chars};
 use kdl::{KdlDocument, KdlEntry, KdlIdentifier, KdlNode, ParseFailure, Steps};
 use std::alloc::Global;
 
-/// `KdlDocument::parse`: what it returns is derived and lies in the text; what it refuses is not derived, and the error
-/// has its faults.
+/// `KdlDocument::parse`: what it returns is derived and located in the text; what it refuses is not derived, and the
+/// error has its faults.
 pub fn parse(alloc: Global, text: &str) -> Result<KdlDocument, ParseFailure>
     ensures found { IfOk result (λ d. IsDocument true (chars text.now) (document_says d)) }
     ensures laid { IfOk result (λ d. LaidDocument true (document_tree d) (chars text.now)) }
@@ -28,7 +28,7 @@ pub fn parse(alloc: Global, text: &str) -> Result<KdlDocument, ParseFailure>
     KdlDocument::parse(alloc, text)
 }
 
-/// `KdlDocument::parse_counted`: how the count is raised.
+/// `KdlDocument::parse_counted`: the steps that are added to the count.
 pub fn parse_counted(
     alloc: Global,
     text: &str,
@@ -52,7 +52,7 @@ pub fn parse_node(alloc: Global, text: &str) -> Result<KdlNode, ParseFailure>
     KdlNode::parse(alloc, text)
 }
 
-/// `KdlEntry::parse`: the same of an entry.
+/// `KdlEntry::parse`: the same for an entry.
 pub fn parse_entry(alloc: Global, text: &str) -> Result<KdlEntry, ParseFailure>
     ensures found { IfOk result
         (λ e. IsEntryText true (chars text.now) (entry_data (entry_tree e))) }
@@ -63,7 +63,7 @@ pub fn parse_entry(alloc: Global, text: &str) -> Result<KdlEntry, ParseFailure>
     KdlEntry::parse(alloc, text)
 }
 
-/// `KdlIdentifier::parse`: the same of an identifier.
+/// `KdlIdentifier::parse`: the same for an identifier.
 pub fn parse_identifier(alloc: Global, text: &str) -> Result<KdlIdentifier, ParseFailure>
     ensures found { IfOk result
         (λ i. IsIdentifierText true (chars text.now) (identifier_tree i).value) }

@@ -1,4 +1,4 @@
-//! Documents that were read.
+//! Parsed documents.
 
 ghost use Rattle.kdl.specs.Tree.{document_prints, document_says, document_tree};
 ghost use Rattle.kdl_grammar.specs.Data.{Nodes};
@@ -14,8 +14,8 @@ ghost use Rattle.std.specs.Str.{chars};
 use kdl::{KdlDocument, ParseFailure};
 use std::alloc::Global;
 
-/// `KdlDocument::parse`: its document is the only one, prints the text, is that of the former language where there is
-/// one, and reads back once its entries are edited.
+/// `KdlDocument::parse`: its document is the only one, prints the text, is that of the former language if that has one,
+/// and reads back after edits of its entries.
 pub fn parse(alloc: Global, text: &str) -> Result<KdlDocument, ParseFailure>
     ensures only { IfOk result (λ d. (x : Nodes) → IsDocument true (chars text.now) x
         → x ≡ document_says d) }

@@ -1,4 +1,4 @@
-//! Built nodes with texts set by hand in the places of their formats, laid out with comments and without.
+//! Built nodes with texts set by hand in the places of their formats, formatted with comments and without.
 
 use crate::fields::{built, document_with};
 use crate::layout::{Place, break_in_node, lays_out};
@@ -6,7 +6,7 @@ use kdl::KdlDocument;
 use std::alloc::Global;
 use std::process::Abort;
 
-/// A new document of the built node `foo`, which has an empty block where that is said, with the text in the place.
+/// Creates a document of the built node `foo`, with an empty block if requested, and with the text in the place.
 fn broken(
     rt: &impl Abort,
     alloc: Global,
@@ -22,7 +22,7 @@ fn broken(
     document_with(rt, alloc, foo)
 }
 
-/// A place, a text for it, and what the node prints then once it is laid out with comments.
+/// A place, a text for it, and what the node then prints after layout with comments.
 const BARE: [(Place, &str, &str); 13] = [
     (Place::Leading, "// c", "// c\nfoo\n"),
     (Place::Leading, "/-a /*x*/", "/-a\n/*x*/\nfoo\n"),

@@ -1,4 +1,4 @@
-//! Each copy is what its source is, and each conversion what it was made of.
+//! Each copy equals its source, and each conversion equals what it was made from.
 
 use crate::reading::{differ, equal, float, holds, identifier, prints, read, says, string, text};
 use kdl::{
@@ -12,7 +12,7 @@ use std::rc::RcStr;
 
 const SPAN: SourceSpan = SourceSpan { offset: 3, len: 2 };
 
-/// The copy is there, and equals its source.
+/// Asserts that the copy succeeded, and equals its source.
 fn is_copy<T: PartialEq + Debug + Drop>(rt: &impl Abort, copy: Option<T>, source: &T) {
     let copy = copy.expect(rt, "memory");
     equal(rt, &copy, source);
@@ -40,7 +40,7 @@ fn spelled(rt: &impl Abort, alloc: Global, value: &str, repr: &str) -> KdlIdenti
     identifier
 }
 
-/// A copy of the identifier has its span, and prints its spelling.
+/// Asserts that a copy of the identifier has its span, and prints its spelling.
 fn identifier_is_copied(rt: &impl Abort, alloc: Global, name: &KdlIdentifier, repr: &str) {
     let copy = name.clone().expect(rt, "memory");
     equal(rt, &copy, name);
@@ -61,7 +61,7 @@ fn identifiers(rt: HostRuntime) {
     identifier_is_copied(&rt, alloc, &spelled(&rt, alloc, "a", ""), "");
 }
 
-/// The identifier has this value and no spelling, and prints this text.
+/// Asserts that the identifier has this value and no spelling, and prints this text.
 fn is_plain(rt: &impl Abort, alloc: Global, name: &KdlIdentifier, value: &str, printed: &str) {
     says(rt, name.value(), value);
     holds(rt, name.repr().is_none(), "no spelling");
@@ -143,7 +143,7 @@ fn diagnostics(rt: HostRuntime) {
     drop(copy);
 }
 
-/// An error with that diagnostic alone.
+/// An error with only that diagnostic.
 fn error(rt: &impl Abort, alloc: Global) -> KdlError {
     let diagnostic = diagnostic(rt, alloc);
     let input = diagnostic.input.clone().expect(rt, "memory");

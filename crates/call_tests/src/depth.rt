@@ -1,4 +1,5 @@
-//! Blocks at any depth are read, printed, copied, laid out, cleared of their formats and dropped on an ordinary stack.
+//! Blocks at any depth are parsed, printed, copied, formatted, cleared of their formats and dropped on an ordinary
+//! stack.
 
 use crate::reading::{holds, node_text, one_of, prints, read, says};
 use kdl::{FormatConfig, KdlDocument, KdlNode};
@@ -9,7 +10,7 @@ const DEPTH: usize = 50_000;
 
 const CLEARED_DEPTH: usize = 200_000;
 
-/// A node in so many blocks.
+/// A node in `depth` blocks.
 fn nested(rt: &impl Abort, alloc: Global, depth: usize) -> String {
     let mut text = "a{".repeat(alloc, depth).expect(rt, "memory");
     text.push_str("b;").expect(rt, "memory");
@@ -18,12 +19,12 @@ fn nested(rt: &impl Abort, alloc: Global, depth: usize) -> String {
     text
 }
 
-/// A copy of the document, which is dropped.
+/// Returns a copy of the document, and drops the document.
 fn copied(rt: &impl Abort, document: KdlDocument) -> KdlDocument {
     document.clone().expect(rt, "memory")
 }
 
-/// A copy of the one node of the document, which is dropped.
+/// Returns a copy of the only node of the document, and drops the document.
 fn node_copied(rt: &impl Abort, document: KdlDocument) -> KdlNode {
     one_of(rt, document.nodes()).clone().expect(rt, "memory")
 }
@@ -40,7 +41,7 @@ fn deep_blocks(rt: HostRuntime) {
     prints(&rt, alloc, &node, &text);
 }
 
-/// Goes down so many blocks, of one node each and without formats, and returns the nodes below them.
+/// Descends `depth` blocks, of one node each and without formats, and returns the nodes below them.
 fn below<'a>(rt: &impl Abort, document: &'a KdlDocument, depth: usize) -> &'a [KdlNode] {
     let mut nodes = document.nodes();
     for _ in 0..depth {
@@ -53,7 +54,7 @@ fn below<'a>(rt: &impl Abort, document: &'a KdlDocument, depth: usize) -> &'a [K
     nodes
 }
 
-/// The one node below so many blocks is `b`, and has no format.
+/// Asserts that the only node below `depth` blocks is `b`, and has no format.
 fn ends_cleared(rt: &impl Abort, document: &KdlDocument, depth: usize) {
     let b = one_of(rt, below(rt, document, depth));
     says(rt, b.name().value(), "b");

@@ -1,4 +1,4 @@
-//! Look-ups of nodes and their arguments in documents, and what is left of what was written through them.
+//! Look-ups of nodes and their arguments in documents, and what is written through the references that they return.
 
 ghost use Rattle.kdl.specs.declared.document.KdlDocument.{out-KdlDocument};
 ghost use Rattle.std.specs.Prelude.{◌≡◌};
@@ -6,7 +6,7 @@ ghost use Rattle.std.specs.Prelude.{◌≡◌};
 use crate::reading::{equal, holds, is_absent, is_whole, prints, read};
 use kdl::{KdlDocument, KdlValue, NodeKey};
 
-/// Makes the first argument of the first node of that name null, where there is one.
+/// Sets the first argument of the first node of that name to null, if there is one.
 fn forget(document: &mut KdlDocument, name: &str)
     ensures { (out-KdlDocument document.new).format ≡ (out-KdlDocument document.old).format }
 {

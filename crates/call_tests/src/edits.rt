@@ -1,4 +1,4 @@
-//! Entries of a node put in, taken out, kept and sorted, and what the node prints then.
+//! Entries of a node are inserted, removed, retained and sorted, and the node is printed.
 
 use crate::reading::{
     equal, holds, identifier, is_absent, is_whole, node, prints, says, string, succeeds,
@@ -16,7 +16,7 @@ fn built(rt: &impl Abort, alloc: Global, name: &str) -> KdlNode {
     KdlNode::new(name).expect(rt, "memory")
 }
 
-/// The entry prints this text; where there is none, the text is empty.
+/// Asserts that the entry prints this text, or that the text is empty if there is no entry.
 fn old_prints(rt: &impl Abort, alloc: Global, old: Option<&KdlEntry>, text: &str) {
     match old {
         Some(old) => prints(rt, alloc, old, text),
@@ -24,7 +24,7 @@ fn old_prints(rt: &impl Abort, alloc: Global, old: Option<&KdlEntry>, text: &str
     }
 }
 
-/// Puts the value in under the name, and what was handed back prints this text.
+/// Inserts the value under the name, and asserts that the entry that is returned prints this text.
 pub fn sets(
     rt: &impl Abort,
     alloc: Global,
@@ -38,19 +38,19 @@ pub fn sets(
     old_prints(rt, alloc, old.as_ref(), text);
 }
 
-/// Takes out the first property of that name, which prints this text.
+/// Removes the first property of that name, and asserts that it prints this text.
 pub fn takes(rt: &impl Abort, alloc: Global, node: &mut KdlNode, name: &str, text: &str) {
     let old = node.remove(NodeKey::Key(identifier(rt, alloc, name)));
     old_prints(rt, alloc, old.as_ref(), text);
     drop(old);
 }
 
-/// Puts an argument after the other entries.
+/// Appends an argument.
 pub fn add(rt: &impl Abort, node: &mut KdlNode, value: KdlValue) {
     succeeds(rt, node.push(KdlEntry::new(value)));
 }
 
-/// Puts a property after the other entries.
+/// Appends a property.
 pub fn add_property(
     rt: &impl Abort,
     alloc: Global,
@@ -62,12 +62,12 @@ pub fn add_property(
     succeeds(rt, node.push(KdlEntry::new_prop(key, value)));
 }
 
-/// Puts the value before all arguments.
+/// Inserts the value before all arguments.
 fn add_first(rt: &impl Abort, node: &mut KdlNode, value: KdlValue) {
     succeeds(rt, insert_first(node, value));
 }
 
-/// Puts the value before the argument at the index, a place that is there.
+/// Inserts the value before the argument at the index, which has to exist.
 fn add_argument(rt: &impl Abort, node: &mut KdlNode, index: usize, value: KdlValue) {
     let inserted = insert_argument(node, index, value);
     holds(rt, inserted.expect(rt, "memory"), "no such place");
@@ -86,7 +86,7 @@ fn the_last_of_two_is_replaced_and_the_first_removed(rt: HostRuntime) {
     drop(foo);
 }
 
-/// The last property of that name is this whole number.
+/// Asserts that the last property of that name is this whole number.
 fn has_whole_property(rt: &impl Abort, node: &KdlNode, name: &str, value: i128) {
     let found = property(node, name).expect(rt, "no property");
     is_whole(rt, Some(found), value);
@@ -177,7 +177,7 @@ fn an_argument_is_put_in_behind_a_property(rt: HostRuntime) {
     drop(n);
 }
 
-/// Takes out the argument at the index, which is there and prints this text.
+/// Removes the argument at the index, and asserts that it exists and prints this text.
 pub fn takes_argument(
     rt: &impl Abort,
     alloc: Global,
@@ -230,13 +230,13 @@ pub fn entry(rt: &impl Abort, alloc: Global, text: &str) -> KdlEntry {
     KdlEntry::parse(alloc, text).expect(rt, "no entry")
 }
 
-/// Puts the entry of the text in the place of the one there.
+/// Replaces the entry there by that of the text.
 pub fn exchange(rt: &impl Abort, alloc: Global, node: &mut KdlNode, at: usize, text: &str) {
     let place = node.entries_mut().get_mut(at).expect(rt, "no entry");
     *place = entry(rt, alloc, text);
 }
 
-/// The one node of the text has so many entries.
+/// Asserts that the only node of the text has this number of entries.
 fn has_entries(rt: &impl Abort, alloc: Global, text: &str, count: usize) {
     let node = node(rt, alloc, text);
     equal(rt, &node.len(), &count);

@@ -1,4 +1,4 @@
-//! What equality, order and hash regard, and that they ignore spans.
+//! What equality, order and hash compare; they ignore spans.
 
 use crate::hash_of;
 use crate::reading::{
@@ -13,7 +13,7 @@ use std::process::Abort;
 
 const ELSEWHERE: SourceSpan = SourceSpan { offset: 40, len: 2 };
 
-/// Both are equal, and so are their hashes.
+/// Asserts that both are equal, and so are their hashes.
 fn are_one<T: PartialEq + Debug + Hash>(rt: &impl Abort, a: &T, b: &T) {
     equal(rt, a, b);
     equal(rt, &hash_of(a), &hash_of(b));
@@ -54,20 +54,20 @@ fn kinds(rt: &impl Abort, alloc: Global) -> Vec<KdlValue> {
     .expect(rt, "memory")
 }
 
-/// The values are equal, and so are their hashes, or they differ, and so do these.
+/// Asserts that the values and their hashes are equal, or that both differ.
 fn compare_as(rt: &impl Abort, a: &KdlValue, b: &KdlValue, is_same: bool) {
     equal(rt, &(a == b), &is_same);
     equal(rt, &(hash_of(a) == hash_of(b)), &is_same);
 }
 
-/// The value equals the one at the index and no other, and so do their hashes.
+/// Asserts that the value equals the one at the index and no other, and so do their hashes.
 fn equals_one(rt: &impl Abort, value: &KdlValue, index: usize, values: &[KdlValue]) {
     for (at, other) in values.iter().enumerate() {
         compare_as(rt, value, other, at == index);
     }
 }
 
-/// Each value equals itself and no other, and so do their hashes.
+/// Asserts that each value equals itself and no other, and so do their hashes.
 fn differ_in_kind(rt: &impl Abort, values: &[KdlValue]) {
     for (index, value) in values.iter().enumerate() {
         equals_one(rt, value, index, values);
@@ -159,7 +159,7 @@ fn nodes_by_their_leading_texts(rt: HostRuntime) {
     drop(first);
 }
 
-/// The node of the text equals this node, or does not.
+/// Asserts that the node of the text equals this node, or does not.
 fn compares(rt: &impl Abort, alloc: Global, text: &str, alone: &KdlNode, is_same: bool) {
     let other = node_text(rt, alloc, text);
     holds(rt, (other == *alone) == is_same, text);

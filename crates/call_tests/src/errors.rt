@@ -10,7 +10,7 @@ use std::process::Abort;
 use std::rc::RcStr;
 use std::test::Fail;
 
-/// The failure, and the error in it, print that no document is read, and each diagnostic prints the text.
+/// Asserts that the failure, and the error in it, print that no document is read, and each diagnostic prints the text.
 fn failure_prints(rt: &impl Abort, alloc: Global, failure: &ParseFailure, text: &str) {
     prints(rt, alloc, failure, "Failed to parse KDL document");
     match failure {
@@ -19,7 +19,7 @@ fn failure_prints(rt: &impl Abort, alloc: Global, failure: &ParseFailure, text: 
     }
 }
 
-/// The same for the error.
+/// Asserts the same for the error.
 fn error_prints(rt: &impl Abort, alloc: Global, error: &KdlError, text: &str) {
     prints(rt, alloc, error, "Failed to parse KDL document");
     for diagnostic in &error.diagnostics {
@@ -58,7 +58,7 @@ fn a_diagnostic_without_a_message(rt: HostRuntime) {
     drop(diagnostic);
 }
 
-/// The text of the parsed document, or none where memory runs out.
+/// Returns the text of the parsed document, or `None` if an allocation fails.
 fn printed(rt: &HostRuntime, text: &str) -> Result<Option<String>, Fail> {
     match KdlDocument::parse(rt.alloc(), text) {
         Ok(document) => Ok(document.to_string(rt.alloc()).ok()),
@@ -67,7 +67,8 @@ fn printed(rt: &HostRuntime, text: &str) -> Result<Option<String>, Fail> {
     }
 }
 
-/// Here alone running out of memory is no fault: with one allocation refused, the result is that error or the text.
+/// Only here an allocation failure is not a test failure: if one allocation fails, the result is that error or the
+/// text.
 #[test]
 fn want_of_memory_or_the_text(rt: HostRuntime) -> Result<(), Fail> {
     let text =

@@ -46,12 +46,12 @@ pub fn document_with(rt: &impl Abort, alloc: Global, node: KdlNode) -> KdlDocume
     document_of(alloc, vec![in alloc; node].expect(rt, "memory"))
 }
 
-/// Puts the node after the others of the document.
+/// Appends the node to the document.
 pub fn push(rt: &impl Abort, document: &mut KdlDocument, node: KdlNode) {
     document.nodes_mut().push(node).expect(rt, "memory");
 }
 
-/// The document prints the text, and has its length.
+/// Asserts that the document prints the text, and has its length.
 fn document_prints(rt: &impl Abort, alloc: Global, document: &KdlDocument, text: &str) {
     prints(rt, alloc, document, text);
     equal(rt, &document.len(alloc).expect(rt, "memory"), &text.len());
@@ -259,14 +259,14 @@ fn the_own_format_alone(rt: HostRuntime) {
     drop(node);
 }
 
-/// The node is there, and has that name.
+/// Asserts that there is a node, and that it has that name.
 fn is_named(rt: &impl Abort, node: Option<KdlNode>, name: &str) {
     let node = node.expect(rt, "no node");
     says(rt, node.name().value(), name);
     drop(node);
 }
 
-/// There is no node.
+/// Asserts that there is no node.
 fn is_absent(rt: &impl Abort, node: Option<KdlNode>) {
     holds(rt, node.is_none(), "no node");
     drop(node);
@@ -321,14 +321,15 @@ fn move_elsewhere(document: &mut KdlDocument) {
     }
 }
 
-/// The names of the nodes have the other span.
+/// Asserts that the names of the nodes have the other span.
 fn have_moved(rt: &impl Abort, nodes: &[KdlNode]) {
     for node in nodes {
         equal(rt, &node.name().span(), &ELSEWHERE);
     }
 }
 
-/// A copy of the document equals it. Its span, and those of the names of its nodes, are other ones.
+/// Asserts that a copy of the document equals it. The span of the copy, and those of the names of
+/// its nodes, are different.
 fn is_copied(rt: &impl Abort, document: &KdlDocument) {
     let copy = document.clone().expect(rt, "memory");
     equal(rt, &copy, document);

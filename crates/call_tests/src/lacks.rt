@@ -1,30 +1,31 @@
-//! How many newlines a text around nodes lacks, so that what is written after it is no part of it.
+//! How many newlines a text around nodes lacks for what follows it not to become part of it.
 
 use crate::reading::equal;
 use kdl_items::{Place, gap_lacks, place_lacks, terminator_lacks};
 use std::alloc::Global;
 use std::process::Abort;
 
-/// The text lacks so many newlines as a gap; `None`: it is no gap.
+/// Asserts that the text lacks this number of newlines as a gap, or with `None` that it is not a gap.
 fn gap(rt: &impl Abort, alloc: Global, text: &str, lacks: Option<usize>) {
     let found = gap_lacks(alloc, text).expect(rt, "memory");
     equal(rt, &found, &lacks);
 }
 
-/// The same for each row.
+/// Asserts the same for each row.
 fn gaps(rt: &impl Abort, alloc: Global, rows: &[(&str, Option<usize>)]) {
     for (text, lacks) in rows {
         gap(rt, alloc, text, *lacks);
     }
 }
 
-/// The text lacks so many newlines as a terminator and a gap; `None`: it is no such text.
+/// Asserts that the text lacks this number of newlines as a terminator and a gap, or with `None` that it is not such a
+/// text.
 fn terminator(rt: &impl Abort, alloc: Global, text: &str, lacks: Option<usize>) {
     let found = terminator_lacks(alloc, text).expect(rt, "memory");
     equal(rt, &found, &lacks);
 }
 
-/// The text lacks a newline, or lacks none, as the one before a terminator; `None`: it can't be there.
+/// Asserts whether the text lacks a newline before a terminator, or with `None` that it can't be there.
 fn place(rt: &impl Abort, alloc: Global, place: Place, text: &str, lacks: Option<bool>) {
     let found = place_lacks(alloc, place, text).expect(rt, "memory");
     equal(rt, &found, &lacks);

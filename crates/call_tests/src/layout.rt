@@ -1,5 +1,5 @@
-//! Layout where no row of text can say what is laid out: built documents, entries that keep their form, levels without
-//! bound, the configuration, and running out of memory.
+//! Layout that no row of text can describe: built documents, entries that keep their form, unbounded levels, the
+//! configuration, and allocation failures.
 
 use crate::edits::{add, add_property, exchange};
 use crate::fields::{built, document_of, push};
@@ -12,13 +12,13 @@ use std::alloc::Global;
 use std::process::Abort;
 use std::test::Fail;
 
-/// The document prints the text once it is laid out without comments.
+/// Asserts that the document prints the text after layout without comments.
 fn document_becomes(rt: &impl Abort, alloc: Global, document: &mut KdlDocument, text: &str) {
     document.autoformat_no_comments().expect(rt, "memory");
     prints(rt, alloc, document, text);
 }
 
-/// The document prints the text once it is laid out, with comments where they are to be kept.
+/// Asserts that the document prints the text after layout, with comments if they are to be kept.
 pub fn lays_out(
     rt: &impl Abort,
     alloc: Global,
@@ -44,7 +44,7 @@ fn config(indent_level: usize, indent: &str, no_comments: bool) -> FormatConfig<
     }
 }
 
-/// The builder builds a configuration with these fields.
+/// Asserts that the builder builds a configuration with these fields.
 fn builds(
     rt: &impl Abort,
     builder: FormatConfigBuilder<'_>,
@@ -147,7 +147,7 @@ fn built_document(rt: &impl Abort, alloc: Global) -> KdlDocument {
     document_of(alloc, nodes.expect(rt, "memory"))
 }
 
-/// What it prints once it is laid out.
+/// What it prints after layout.
 const BUILT: &str = "foo\nbar prop=value 1 2 #false #null {\n    barchild\n}\nbaz\n";
 
 /// A place in the format of a node.
@@ -243,7 +243,7 @@ fn becomes_built(rt: &impl Abort, alloc: Global, no_comments: bool) {
     );
 }
 
-/// A new document prints nothing, and a newline once it is laid out.
+/// Asserts that a new document prints nothing, and a newline after layout.
 fn becomes_a_newline(rt: &impl Abort, alloc: Global, no_comments: bool) {
     let mut document = KdlDocument::new(alloc);
     prints(rt, alloc, &document, "");
@@ -258,7 +258,7 @@ fn a_built_document(rt: HostRuntime) {
     }
 }
 
-/// The entry has the leading text and the spelling of the value, no other text, and no flag.
+/// Asserts that the entry has the leading text and the spelling of the value, no other text, and no flag.
 fn is_kept(rt: &impl Abort, alloc: Global, entry: &KdlEntry, leading: &str, value_repr: &str) {
     let wanted = format_of(rt, alloc, leading, value_repr);
     let format = entry.format().expect(rt, "no format");
@@ -280,7 +280,7 @@ const LEADING: &str = " \\\n ";
 
 const REPR: &str = "0x10";
 
-/// The document of the text, with the entry in the place of the first one of its one node.
+/// The document of the text, with the entry in place of the first one of its only node.
 fn exchanged(rt: &impl Abort, alloc: Global, text: &str) -> KdlDocument {
     let mut document = read(rt, alloc, text);
     for node in document.nodes_mut().iter_mut() {
@@ -302,14 +302,14 @@ fn flag(rt: &impl Abort, document: &mut KdlDocument) {
     }
 }
 
-/// The first entry of the one node of the document has kept its form.
+/// Asserts that the first entry of the only node of the document has kept its form.
 fn first_is_kept(rt: &impl Abort, alloc: Global, document: &KdlDocument) {
     let node = one_of(rt, document.nodes());
     let entry = node.entries().first().expect(rt, "no entry");
     is_kept(rt, alloc, entry, LEADING, REPR);
 }
 
-/// The last entry of the one node of the document has no format.
+/// Asserts that the last entry of the only node of the document has no format.
 fn last_has_no_format(rt: &impl Abort, document: &KdlDocument) {
     let node = one_of(rt, document.nodes());
     let entry = node.entries().last().expect(rt, "no entry");
@@ -332,7 +332,7 @@ fn flagged_entries_keep_their_form(rt: HostRuntime) {
     keeps_its_form(&rt, rt.alloc(), false);
 }
 
-/// The document prints the text once it is laid out as the configuration says.
+/// Asserts that the document prints the text after layout by the configuration.
 fn becomes(
     rt: &impl Abort,
     alloc: Global,
@@ -344,15 +344,15 @@ fn becomes(
     prints(rt, alloc, document, text);
 }
 
-/// Puts the number after the other entries of each node.
+/// Appends the number to the entries of each node.
 fn add_to_each(rt: &impl Abort, document: &mut KdlDocument, number: i128) {
     for node in document.nodes_mut().iter_mut() {
         add(rt, node, KdlValue::from(number));
     }
 }
 
-/// Checks a document whose entries are all flagged by the configuration: it prints the text as often as it is laid out
-/// so, and the canonical one when it is laid out without flags.
+/// Checks a document whose entries are all flagged by the configuration: it prints the text after each layout, and the
+/// canonical text after layout without flags.
 fn keeps_all(rt: &impl Abort, alloc: Global, no_comments: bool, kept: &str, canonical: &str) {
     let mut document = exchanged(rt, alloc, "n 1 ( u )0x2 /*x*/ 3.0 {\n  m\t#\"a\"# // c\n}");
     add_to_each(rt, &mut document, 5);
@@ -375,12 +375,12 @@ fn all_entries_keep_their_form(rt: HostRuntime) {
     keeps_all(&rt, rt.alloc(), false, kept, laid_out);
 }
 
-/// The document of the text prints the other one once it is laid out as the configuration says.
+/// Asserts that the document of the text prints the other one after layout by the configuration.
 fn text_becomes(rt: &impl Abort, alloc: Global, source: &str, config: &FormatConfig, text: &str) {
     becomes(rt, alloc, &mut read(rt, alloc, source), config, text);
 }
 
-/// The text is not laid out as the configuration says, and says then what it said.
+/// Asserts that layout of the text by the configuration fails, and leaves its data unchanged.
 fn is_not_laid_out(
     rt: &impl Abort,
     alloc: Global,
@@ -432,7 +432,7 @@ fn an_indent_that_is_no_space(rt: HostRuntime) {
     }
 }
 
-/// The default layout with so many blank lines.
+/// The default layout with this number of blank lines.
 fn spaced(blank_lines: usize) -> Layout<'static> {
     Layout {
         config: FormatConfig::default(),
@@ -440,7 +440,7 @@ fn spaced(blank_lines: usize) -> Layout<'static> {
     }
 }
 
-/// The document prints the text once it is laid out so, and once more when it is laid out so again.
+/// Asserts that the document prints the text after this layout, and again after a second one.
 fn becomes_spaced(
     rt: &impl Abort,
     alloc: Global,
@@ -454,7 +454,7 @@ fn becomes_spaced(
     prints(rt, alloc, document, text);
 }
 
-/// The same for a node.
+/// Asserts the same for a node.
 fn node_becomes_spaced(
     rt: &impl Abort,
     alloc: Global,
@@ -468,7 +468,7 @@ fn node_becomes_spaced(
     prints(rt, alloc, node, text);
 }
 
-/// Groups of nodes, with a comment, a block and a dropped node.
+/// Groups of nodes, with a comment, a block and a slashdashed node.
 const GROUPS: &str = "\n\na; b\n\n\n\n// c\n\nd {\n\n  e\n\n  f\n\n}\n/- g\n\nh\n\n";
 
 #[test]
@@ -501,21 +501,21 @@ fn groups_in_a_node(rt: HostRuntime) {
     node_becomes_spaced(&rt, alloc, &mut node, &spaced(0), none);
 }
 
-/// The entries have the same spans.
+/// Asserts that the entries have the same spans.
 fn entries_have_the_spans(rt: &impl Abort, entries: &[KdlEntry], others: &[KdlEntry]) {
     for (entry, other) in entries.iter().zip(others) {
         equal(rt, &entry.span(), &other.span());
     }
 }
 
-/// The nodes, their names and their entries have the same spans.
+/// Asserts that the nodes, their names and their entries have the same spans.
 fn node_has_the_spans(rt: &impl Abort, node: &KdlNode, other: &KdlNode) {
     equal(rt, &node.span(), &other.span());
     equal(rt, &node.name().span(), &other.name().span());
     entries_have_the_spans(rt, node.entries(), other.entries());
 }
 
-/// The documents and their nodes, and the names and entries of these, have the same spans.
+/// Asserts that the documents and their nodes, and the names and entries of these, have the same spans.
 fn has_the_spans(rt: &impl Abort, document: &KdlDocument, other: &KdlDocument) {
     equal(rt, &document.span(), &other.span());
     for (node, other) in document.nodes().iter().zip(other.nodes()) {
@@ -535,8 +535,9 @@ fn spans_stay(rt: HostRuntime) {
     has_the_spans(&rt, &document, &read(&rt, alloc, text));
 }
 
-/// What the document of the text prints once it is laid out, and that again without comments, or none for want of
-/// memory. Where memory runs out while it is laid out, it still says what it said, so that it can be laid out again.
+/// Returns what the document of the text prints after layout, and what it prints after layout without comments, or
+/// `None` if an allocation fails. After a failed layout the data of the document are unchanged, so it can be formatted
+/// again.
 fn laid_out(rt: &HostRuntime, text: &str) -> Result<Option<(String, String)>, Fail> {
     let alloc = rt.alloc();
     match KdlDocument::parse(alloc, text) {
@@ -555,8 +556,8 @@ fn laid_out(rt: &HostRuntime, text: &str) -> Result<Option<(String, String)>, Fa
     }
 }
 
-/// Here alone running out of memory is no fault: with one allocation refused, the result is that error or one of the two
-/// texts.
+/// Only here an allocation failure is not a test failure: if one allocation fails, the result is that error or one of
+/// the two texts.
 #[test]
 fn want_of_memory_or_the_texts(rt: HostRuntime) -> Result<(), Fail> {
     let text =

@@ -1,5 +1,5 @@
-//! Tests of calls that no row of text can say: look-ups, edits, iterators, sorts, copies, equality and hashes, layout,
-//! counts that go on.
+//! Tests of calls that no row of text can describe: look-ups, edits, iterators, sorts, copies, equality and hashes,
+//! layout, and continued counts.
 #![tactic(auto)]
 
 use std::hash::{DefaultHasher, Hash, Hasher};

@@ -1,4 +1,4 @@
-//! Look-ups in nodes: what they find, what is left of what was written through them, and the iterators.
+//! Look-ups in nodes: what they find, what is written through the references that they return, and the iterators.
 
 ghost use Rattle.kdl.specs.Lookups.{entries_of, key_place, property_place, with_value_there, HasSameEntries, HasWritten};
 ghost use Rattle.kdl.specs.declared.node.KdlNode.{out-KdlNode};
@@ -40,7 +40,7 @@ fn clear_each_child(node: &mut KdlNode)
     }
 }
 
-/// Makes the entry that the key finds null.
+/// Sets the entry that the key finds to null.
 fn forget(node: &mut KdlNode, key: NodeKey)
     ensures name { (out-KdlNode node.new).name ≡ (out-KdlNode node.old).name }
     ensures children { (out-KdlNode node.new).children ≡ (out-KdlNode node.old).children }
@@ -189,7 +189,7 @@ fn children_cleared_in_place(rt: HostRuntime) {
     drop(node);
 }
 
-/// The iterator shows what is left as the list, between these texts.
+/// Asserts that the iterator shows what is left as the list, between these texts.
 fn shows(
     rt: &impl Abort,
     alloc: Global,
@@ -204,7 +204,7 @@ fn shows(
     drop(wanted);
 }
 
-/// The iterators over the entries of a node, and of its copy, show what is left once an entry was taken.
+/// Asserts that the iterators over the entries of a node, and of its copy, show what is left after an entry is taken.
 fn check_entries(rt: &impl Abort, alloc: Global, node: &KdlNode, copy: &mut KdlNode) {
     let (_, left) = node.entries().split_first().expect(rt, "no entry");
     let mut entries = node.iter();
@@ -215,7 +215,7 @@ fn check_entries(rt: &impl Abort, alloc: Global, node: &KdlNode, copy: &mut KdlN
     shows(rt, alloc, &entries, ("EntryIterMut(IterMut(", "))"), &left);
 }
 
-/// The iterators over the children show all of them, and then what is left once a child was taken.
+/// Asserts that the iterators over the children show all of them, and then what is left after a child is taken.
 fn check_children(rt: &impl Abort, alloc: Global, node: &KdlNode, copy: &mut KdlNode) {
     let all = node.children().expect(rt, "no block").nodes();
     let (_, left) = all.split_first().expect(rt, "no child");

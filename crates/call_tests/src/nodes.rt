@@ -1,4 +1,4 @@
-//! Nodes are added and removed: what is printed then, and that it reads back.
+//! Nodes are added and removed, and what is printed reads back.
 
 use crate::reading::{equal, holds, identifier, node_text, prints, read, says, succeeds, text};
 use kdl::{KdlDocument, KdlNode};
@@ -24,33 +24,33 @@ fn add(rt: &impl Abort, all: &mut String, name: &str) {
     all.push(' ').expect(rt, "memory");
 }
 
-/// The nodes have the same names.
+/// Asserts that the nodes have the same names.
 fn have_the_names(rt: &impl Abort, alloc: Global, found: &[KdlNode], wanted: &[KdlNode]) {
     let found = names(rt, alloc, found);
     let wanted = names(rt, alloc, wanted);
     says(rt, found.as_str(), wanted.as_str());
 }
 
-/// The document prints the text, which is a document of nodes of the same names.
+/// Asserts that the document prints the text, which is a document of nodes of the same names.
 fn reads_back(rt: &impl Abort, alloc: Global, document: &KdlDocument, printed: &str) {
     prints(rt, alloc, document, printed);
     let again = read(rt, alloc, printed);
     have_the_names(rt, alloc, again.nodes(), document.nodes());
 }
 
-/// The nodes in the block of the node, which is there.
+/// The nodes in the block of the node, which has to exist.
 fn children<'a>(rt: &impl Abort, node: &'a KdlNode) -> &'a [KdlNode] {
     node.children().expect(rt, "no children").nodes()
 }
 
-/// The node prints the text, which is a node with children of the same names.
+/// Asserts that the node prints the text, which is a node with children of the same names.
 fn node_reads_back(rt: &impl Abort, alloc: Global, node: &KdlNode, printed: &str) {
     prints(rt, alloc, node, printed);
     let again = node_text(rt, alloc, printed);
     have_the_names(rt, alloc, children(rt, &again), children(rt, node));
 }
 
-/// Puts the node in at the index.
+/// Inserts the node at the index.
 fn put(rt: &impl Abort, document: &mut KdlDocument, index: usize, node: KdlNode) {
     let count = document.nodes().len();
     if index < count {
@@ -61,7 +61,7 @@ fn put(rt: &impl Abort, document: &mut KdlDocument, index: usize, node: KdlNode)
     equal(rt, &document.nodes().len(), &count.saturating_add(1));
 }
 
-/// The document of the text becomes the printed one where the node of that text is put in at the index.
+/// Asserts that the document of the text becomes the printed one after the node of that text is inserted at the index.
 fn puts(rt: &impl Abort, alloc: Global, before: &str, index: usize, new: &str, printed: &str) {
     let mut document = read(rt, alloc, before);
     let node = node_text(rt, alloc, new);
@@ -69,7 +69,7 @@ fn puts(rt: &impl Abort, alloc: Global, before: &str, index: usize, new: &str, p
     reads_back(rt, alloc, &document, printed);
 }
 
-/// The same for each row, with `b`.
+/// Asserts the same for each row, with `b`.
 fn puts_each(rt: &impl Abort, alloc: Global, index: usize, rows: &[Row]) {
     for Row(before, printed) in rows {
         puts(rt, alloc, before, index, "b", printed);
@@ -183,7 +183,7 @@ fn a_node_between_others(rt: HostRuntime) {
     puts_each(&rt, rt.alloc(), 1, BETWEEN_OTHERS);
 }
 
-/// New nodes of each form, and what each prints when it is put before `a`.
+/// New nodes of each form, and what each prints when it is inserted before `a`.
 const NEW_NODES: &[Row] = &[
     Row("b", "b\n"),
     Row("b;", "b;"),
@@ -209,7 +209,7 @@ fn joined(rt: &impl Abort, alloc: Global, first: &str, second: &str) -> String {
     all
 }
 
-/// A new node of each form, put after `a` and before it: the second text of a row is what it prints before `a`.
+/// Inserts a new node of each form after `a` and before it. The second text of a row is what it prints before `a`.
 #[test]
 fn new_nodes_of_each_form(rt: HostRuntime) {
     for Row(new, ended) in NEW_NODES {
@@ -258,7 +258,7 @@ fn nodes_without_a_format(rt: HostRuntime) {
     drop(document);
 }
 
-/// Puts the node in as a child at the index.
+/// Inserts the node as a child at the index.
 fn put_child(rt: &impl Abort, node: &mut KdlNode, index: usize, child: KdlNode) {
     let count = match node.children() {
         Some(children) => children.nodes().len(),
@@ -271,7 +271,8 @@ fn put_child(rt: &impl Abort, node: &mut KdlNode, index: usize, child: KdlNode) 
     }
 }
 
-/// The node of the text becomes the printed one where the node of the other text is put in as a child at the index.
+/// Asserts that the node of the text becomes the printed one after the node of the other text is inserted as a child at
+/// the index.
 fn puts_child(
     rt: &impl Abort,
     alloc: Global,
@@ -365,7 +366,7 @@ fn children_without_a_format(rt: HostRuntime) {
     drop(node);
 }
 
-/// Takes out the node at the index, which prints the text.
+/// Removes the node at the index, and asserts that it prints the text.
 fn takes(rt: &impl Abort, alloc: Global, document: &mut KdlDocument, index: usize, printed: &str) {
     let is_there = index < document.nodes().len();
     holds(rt, is_there, printed);

@@ -1,31 +1,31 @@
-//! What the tests share: items of a text or a name, and what is printed.
+//! What the tests share: items of a text or a name, and assertions on what is printed.
 
 use kdl::{KdlDocument, KdlFloat, KdlIdentifier, KdlNode, KdlValue, NodeKey};
 use std::alloc::Global;
 use std::fmt::{Debug, Display};
 use std::process::Abort;
 
-/// The two values are equal.
+/// Asserts that the two values are equal.
 pub fn equal<T: PartialEq + Debug>(rt: &impl Abort, found: &T, wanted: &T) {
     assert!(rt; *found == *wanted, "{found:?} in place of {wanted:?}");
 }
 
-/// The two values differ.
+/// Asserts that the two values differ.
 pub fn differ<T: PartialEq + Debug>(rt: &impl Abort, found: &T, other: &T) {
     assert!(rt; *found != *other, "{found:?} twice");
 }
 
-/// The two texts are equal.
+/// Asserts that the two texts are equal.
 pub fn says(rt: &impl Abort, found: &str, wanted: &str) {
     assert!(rt; found == wanted, "{found:?} in place of {wanted:?}");
 }
 
-/// The condition holds; if not, the message shows the text.
+/// Asserts that the condition holds. The message shows the text.
 pub fn holds(rt: &impl Abort, condition: bool, text: &str) {
     assert!(rt; condition, "{text:?}");
 }
 
-/// The call did not fail. What it returned is dropped.
+/// Asserts that the call did not fail. What it returned is dropped.
 pub fn succeeds<T: Drop, E: Drop>(rt: &impl Abort, outcome: Result<T, E>) {
     assert!(rt; outcome.is_ok(), "failed");
 }
@@ -43,13 +43,13 @@ pub fn read(rt: &impl Abort, alloc: Global, text: &str) -> KdlDocument {
     }
 }
 
-/// The one node of the list.
+/// The only node of the list.
 pub fn one_of<'a>(rt: &impl Abort, nodes: &'a [KdlNode]) -> &'a KdlNode {
     equal(rt, &nodes.len(), &1);
     nodes.first().expect(rt, "no node")
 }
 
-/// A copy of the one node of the document of a text.
+/// A copy of the only node of the document of a text.
 pub fn node(rt: &impl Abort, alloc: Global, text: &str) -> KdlNode {
     let document = read(rt, alloc, text);
     one_of(rt, document.nodes()).clone().expect(rt, "memory")
@@ -83,30 +83,30 @@ pub fn float(rt: &impl Abort, alloc: Global, text: &str) -> KdlFloat {
     KdlFloat::new(alloc, text).expect(rt, "no float")
 }
 
-/// The value is there, and is this whole number.
+/// Asserts that there is a value, and that it is this whole number.
 pub fn is_whole(rt: &impl Abort, value: Option<&KdlValue>, number: i128) {
     let value = value.expect(rt, "no value");
     equal(rt, &value.as_integer(), &Some(number));
 }
 
-/// The value is there, and is this string.
+/// Asserts that there is a value, and that it is this string.
 pub fn is_text(rt: &impl Abort, value: Option<&KdlValue>, text: &str) {
     let value = value.expect(rt, "no value");
     equal(rt, &value.as_string(), &Some(text));
 }
 
-/// The value is there, and equals the other.
+/// Asserts that there is a value, and that it equals the other.
 pub fn is_value(rt: &impl Abort, value: Option<&KdlValue>, wanted: &KdlValue) {
     let value = value.expect(rt, "no value");
     equal(rt, value, wanted);
 }
 
-/// There is no such item.
+/// Asserts that there is no such item.
 pub fn is_absent<T>(rt: &impl Abort, item: Option<&T>) {
     assert!(rt; item.is_none());
 }
 
-/// The item prints the text.
+/// Asserts that the item prints the text.
 pub fn prints(rt: &impl Abort, alloc: Global, item: &impl Display, text: &str) {
     let printed = item.to_string(alloc).expect(rt, "memory");
     says(rt, printed.as_str(), text);

@@ -1,5 +1,5 @@
-//! Tests of the Rust crate `kdl` 6.7.1 that no row of text can say, written anew. `crates/rows/README.md` lists all tests of
-//! that crate.
+//! Tests of the Rust crate `kdl` 6.7.1 that no row of text can describe, rewritten. `crates/rows/README.md` lists all
+//! of that crate's tests.
 
 use crate::edits::{add, entry, sets, takes, takes_argument};
 use crate::fields::{built, push};
@@ -38,7 +38,7 @@ fn built_identifiers_print(rt: HostRuntime) {
     drop(quoted);
 }
 
-/// The entry is of the number 42, without a type and a format, and prints the text.
+/// Asserts that the entry has the value 42, without a type and a format, and prints the text.
 fn is_built(rt: &impl Abort, alloc: Global, entry: &KdlEntry, text: &str) {
     is_whole(rt, Some(entry.value()), 42);
     holds(rt, entry.ty().is_none(), "no type");
@@ -129,7 +129,7 @@ fn entries_removed_by_index_and_by_name(rt: HostRuntime) {
     drop(foo);
 }
 
-/// Two nodes that say the same, in other forms.
+/// Two nodes with the same data, in different forms.
 const NODES: [&str; 2] = [
     "node /-\"commented\" param_name=103.0 {\n            // This is a nested node\n            nested 1 2 3\n        }",
     "node param_name=103.0 { nested 1 2 3; }",
@@ -153,7 +153,7 @@ fn nodes_are_equal_without_their_formats(rt: HostRuntime) {
     drop(second);
 }
 
-/// Two documents that say the same, with other comments and spaces.
+/// Two documents with the same data, with different comments and spaces.
 const DOCUMENTS: [&str; 2] = [
     "\n// There is a node here\nfirst_node /*with cool comments, too */ param=103.0 /-\"commented\" \"argument\" {\n    // With nested nodes too\n    nested 1 2 3\n    nested_2 \"hi\" \"world\" // this one is cool\n}\nsecond_node param=153 { nested one=1 two=2; }",
     "\nfirst_node param=103.0       \"argument\" {\n        // Different indentation, because\n        // Why not\n        nested 1 2 3\n        nested_2 \"hi\" /* actually, \"hello\" */ \"world\"\n}\n// There is a node here\nsecond_node /* This time, the comment is here */ param=153 {\n        nested one=1 two=2\n}",
@@ -173,11 +173,11 @@ fn documents_are_equal_without_their_formats(rt: HostRuntime) {
     drop(second);
 }
 
-/// A document with most of what the language has.
+/// A document with most features of the language.
 const DOCUMENT: &str =
     "\n// This is the first node\nfoo 1 2 three #null #true bar=\"baz\" {\n    - 1\n    - 2\n    - three\n    (mytype)something (\"name\")else\r\n}\n\nnull_id null_prop=#null\ntrue_id true_prop=#null\n+false #true\n\n         bar \"indented\" // trailing whitespace after this\t\n/*\nSome random comment\n */\n\na; b; c;\n/-commented \"node\"\n\nanother /*foo*/ \"node\" /-1 /*bar*/ #null;\nfinal;";
 
-/// The first node of the document is found, with its arguments, its property and its block.
+/// Asserts that the first node of the document is found, with its arguments, its property and its block.
 fn has_foo(rt: &impl Abort, document: &KdlDocument) {
     is_whole(rt, document.get_arg("foo"), 1);
     let foo = document.get("foo").expect(rt, "no node");
@@ -192,13 +192,13 @@ fn has_foo(rt: &impl Abort, document: &KdlDocument) {
     says(rt, &format.leading, "");
 }
 
-/// The node of that name has a property of that name, which is null.
+/// Asserts that the node of that name has a property of that name, which is null.
 fn has_null(rt: &impl Abort, document: &KdlDocument, name: &str, key: &str) {
     let node = document.get(name).expect(rt, "no node");
     is_value(rt, property(node, key), &KdlValue::Null);
 }
 
-/// The node of that name prints the text.
+/// Asserts that the node of that name prints the text.
 fn has_node(rt: &impl Abort, alloc: Global, document: &KdlDocument, name: &str, text: &str) {
     let node = document.get(name).expect(rt, "no node");
     prints(rt, alloc, node, text);
@@ -231,7 +231,7 @@ fn a_document_is_looked_up(rt: HostRuntime) {
     drop(document);
 }
 
-/// Adds a node whose entry was read by itself.
+/// Adds a node whose entry was parsed by itself.
 fn add_new(rt: &impl Abort, alloc: Global, document: &mut KdlDocument) {
     let mut new = node_text(rt, alloc, "new\n");
     succeeds(rt, new.push(entry(rt, alloc, " \"blah\"=0xDEADbeef")));

@@ -1,17 +1,17 @@
-//! One setting of a file that people keep is changed, and all else stays as it is, byte for byte.
+//! One setting of a file that people maintain is changed, and all else is unchanged, byte for byte.
 
 use crate::reading::{identifier, prints, read, succeeds};
 use kdl::{KdlDocument, KdlEntry, KdlNode, KdlValue, NodeKey};
 use std::alloc::Global;
 use std::process::Abort;
 
-/// Gives the node a property of that name, in the place of the last one there.
+/// Sets a property of that name in the node, in place of the last one.
 fn put(rt: &impl Abort, alloc: Global, node: &mut KdlNode, name: &str, value: KdlValue) {
     let key = NodeKey::Key(identifier(rt, alloc, name));
     succeeds(rt, node.insert(key, KdlEntry::new(value)));
 }
 
-/// Gives each node of that name the port.
+/// Sets the port of each node of that name.
 fn set_port(rt: &impl Abort, alloc: Global, document: &mut KdlDocument, name: &str, port: i128) {
     for node in document.nodes_mut().iter_mut() {
         if node.name().value() == name {
@@ -20,7 +20,7 @@ fn set_port(rt: &impl Abort, alloc: Global, document: &mut KdlDocument, name: &s
     }
 }
 
-/// The document prints the text once each server has the port.
+/// Asserts that the document prints the text after the port of each server is set.
 fn prints_with_port(
     rt: &impl Abort,
     alloc: Global,

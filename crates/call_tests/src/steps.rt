@@ -1,11 +1,11 @@
-//! Counted steps: where the count goes on, and where it stays.
+//! Counted steps: where the count continues, and where it saturates.
 
 use crate::reading::{equal, holds};
 use kdl::{KdlDocument, ParseFailure, Steps};
 use std::alloc::Global;
 use std::process::Abort;
 
-/// Whether the text is a document. The count is raised.
+/// Returns whether the text is a document, and adds to the count.
 fn is_document(rt: &impl Abort, alloc: Global, text: &str, steps: &mut Steps) -> bool {
     match KdlDocument::parse_counted(alloc, text, steps) {
         Ok(_) => true,

@@ -8,7 +8,7 @@ use std::alloc::Global;
 use std::cmp::Ordering;
 use std::process::Abort;
 
-/// The value prints the text.
+/// Asserts that the value prints the text.
 fn value_prints(rt: &impl Abort, alloc: Global, value: KdlValue, text: &str) {
     prints(rt, alloc, &value, text);
 }
@@ -41,13 +41,13 @@ fn ascending(rt: &impl Abort, alloc: Global) -> Vec<KdlValue> {
     .expect(rt, "memory")
 }
 
-/// The first value compares so with the second.
+/// Asserts that the first value compares with the second as expected.
 fn compares(rt: &impl Abort, a: &KdlValue, b: &KdlValue, wanted: Ordering) {
     equal(rt, &a.cmp(b), &wanted);
     equal(rt, &(a == b), &(wanted == Ordering::Equal));
 }
 
-/// The value compares with each of the values as its index does with theirs.
+/// Asserts that the value compares with each of the values as its index does with theirs.
 fn compares_with_each(rt: &impl Abort, index: usize, value: &KdlValue, values: &[KdlValue]) {
     for (at, other) in values.iter().enumerate() {
         compares(rt, value, other, index.cmp(&at));
@@ -79,7 +79,7 @@ fn kinds(value: &KdlValue) -> [bool; 5] {
     ]
 }
 
-/// The value is of the kind at the index alone.
+/// Asserts that the value is only of the kind at the index.
 fn is_of(rt: &impl Abort, value: KdlValue, index: usize) {
     for (at, is_kind) in kinds(&value).iter().enumerate() {
         equal(rt, is_kind, &(at == index));
@@ -99,7 +99,7 @@ fn kinds_of_values(rt: HostRuntime) {
     equal(&rt, &KdlValue::from(true).as_bool(), &Some(true));
 }
 
-/// The identifier prints so many bytes.
+/// Asserts that the identifier prints this number of bytes.
 fn has_length(rt: &impl Abort, alloc: Global, name: &KdlIdentifier, length: usize) {
     equal(rt, &name.len(alloc).expect(rt, "memory"), &length);
 }
@@ -141,7 +141,7 @@ fn property(rt: &impl Abort, alloc: Global) -> KdlEntry {
     entry
 }
 
-/// The entry prints the text, and has its length.
+/// Asserts that the entry prints the text, and has its length.
 fn entry_prints(rt: &impl Abort, alloc: Global, entry: &KdlEntry, text: &str) {
     prints(rt, alloc, entry, text);
     equal(rt, &entry.len(alloc).expect(rt, "memory"), &text.len());

@@ -48,19 +48,19 @@ with_document_format d w = roll-KdlDocument (record (out-KdlDocument d) { format
 abbrev pub with_document_span : KdlDocument → SourceSpan → KdlDocument
 with_document_span d w = roll-KdlDocument (record (out-KdlDocument d) { span = w })
 
--- with the entry at i exchanged
+-- with the entry at i replaced
 abbrev pub with_entry : KdlNode → ℕ → KdlEntry → KdlNode
 with_entry n i e = with_entries n (with_item (out-KdlNode n).entries i e)
 
--- with the node at i exchanged
+-- with the node at i replaced
 abbrev pub with_node : KdlDocument → ℕ → KdlNode → KdlDocument
 with_node d i n = with_nodes d (with_item (out-KdlDocument d).nodes i n)
 
--- with the value of the entry at i exchanged
+-- with the value of the entry at i replaced
 abbrev pub with_value : KdlNode → ℕ → KdlValue → KdlNode
 with_value n i w = with_entries n (set_value_at (out-KdlNode n).entries i w)
 
--- how the logic holds a list of nodes, a child block and a type
+-- the types of a list of nodes, a child block and a type in the logic
 abbrev pub nodes_row : RattleType
 nodes_row = vec.the_row node.the_row global.the_row ghosts
 

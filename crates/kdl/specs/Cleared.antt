@@ -5,7 +5,7 @@ use Rattle.kdl_entry.specs.Tree.{Identifier, no_span, unspelled, cleared, withou
 use Rattle.kdl_grammar.specs.Tree.{Head, Node, node, Children, no_children, children, Document, document, Nodes, none, first}
 use Rattle.kdl_parts.specs.Formats.{ended_format}
 
--- a new node: a name alone
+-- a new node: only a name
 abbrev pub new_node : Identifier → Node
 new_node i = node (record { ty = None; name = i; entries = []; format = Some ended_format; span = no_span }) no_children
 

@@ -1,4 +1,4 @@
--- What look-ups in a document give, and what a document is once what they lent was written.
+-- What look-ups in a document return, and the document after a write through the references that they return.
 use Rattle.std.specs.List.{filter, filter_map, find}
 use Rattle.std.specs.Prelude.{ℕ, Bool, List, [], Option, Some, None, codes, option_and_then, option_map, position, slice_get, string_bytes}
 use Rattle.kdl_value.specs.Data.{Value}
@@ -30,7 +30,7 @@ node_named s d = find (is_node_named s) (nodes_of d)
 abbrev pub node_place : List ℕ → KdlDocument → Option ℕ
 node_place s d = position (is_node_named s) (nodes_of d)
 
--- the document with the node at a place that was found exchanged, and all else as it was
+-- the document with the node at a place that was found replaced, and all else unchanged
 abbrev pub with_node_there : Option ℕ → KdlDocument → KdlNode → KdlDocument
 with_node_there None d n = d
 with_node_there (Some i) d n = with_node d i n
@@ -55,7 +55,7 @@ argument_value n = option_map (λ e. value_tree (entry_value_of e)) (first_argum
 abbrev pub argument_named : List ℕ → KdlDocument → Option KdlEntry
 argument_named s d = option_and_then first_argument (node_named s d)
 
--- the document with the value of the first argument exchanged, in the node at a place that was found; all else is as it was
+-- the document with the value of the first argument replaced, in the node at a place that was found; all else is unchanged
 abbrev pub with_argument_in : KdlDocument → ℕ → Option KdlNode → KdlValue → KdlDocument
 with_argument_in d i None w = d
 with_argument_in d i (Some n) w = with_node d i (with_value_there (argument_place n) n w)
@@ -68,7 +68,7 @@ with_argument_there (Some i) d w = with_argument_in d i (slice_get (nodes_of d) 
 abbrev pub with_argument_named : List ℕ → KdlDocument → KdlValue → KdlDocument
 with_argument_named s d w = with_argument_there (node_place s d) d w
 
--- the values of the arguments of a node, none where there is no node
+-- the values of the arguments of a node, or none if there is no node
 abbrev pub arguments_of : Option KdlNode → List Value
 arguments_of None = []
 arguments_of (Some n) = arguments (entries_of n)
@@ -77,7 +77,7 @@ arguments_of (Some n) = arguments (entries_of n)
 abbrev pub dash_arguments : List KdlNode → List Value
 dash_arguments ns = filter_map argument_value (filter (is_node_named (codes "-")) ns)
 
--- the same among the children of a node, none where there is no node
+-- the same among the children of a node, or none if there is no node
 abbrev pub dash_arguments_of : Option KdlNode → List Value
 dash_arguments_of None = []
 dash_arguments_of (Some n) = dash_arguments (child_nodes n)

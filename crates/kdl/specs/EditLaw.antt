@@ -1,4 +1,4 @@
--- What a node and a document print when their entries or nodes are exchanged.
+-- What a node and a document print when their entries or nodes are replaced.
 use Rattle.std.specs.Prelude.{◌≡◌, ℕ, ◌+◌, List, ◌++◌, map, take, drop, Some, IsSome, option_map, slice_get, Vec}
 use Rattle.std.specs.declared.alloc.Global.{Global}
 use Rattle.kdl_text.specs.Chars.{Text}
@@ -24,7 +24,7 @@ tail_of (node h k) depth = print_tail h k depth
 abbrev pub tree_entries : Node → List Entry
 tree_entries (node h k) = h.entries
 
--- m prints what n prints, but for the pieces of the entries: they are those of es now
+-- m prints what n prints, except for the pieces of the entries, which are those of es
 abbrev pub PrintsInstead : Node → List Entry → Node → Type 0
 PrintsInstead n es m = (depth : ℕ) → print_node m depth ≡ head_of n depth ++ print_pieces es ++ tail_of n depth
 
@@ -35,15 +35,15 @@ text_before n i depth = head_of n depth ++ print_pieces (take i (tree_entries n)
 abbrev pub text_behind : Node → ℕ → ℕ → Text
 text_behind n i depth = print_pieces (drop (i + 1) (tree_entries n)) ++ tail_of n depth
 
--- m prints what n prints, but for the piece of the entry at i: it is that of e now
+-- m prints what n prints, except for the piece of the entry at i, which is that of e
 abbrev pub PrintsAtPlace : Node → ℕ → Entry → Node → Type 0
 PrintsAtPlace n i e m = (depth : ℕ) → print_node m depth ≡ text_before n i depth ++ print_piece e ++ text_behind n i depth
 
--- a node with a format prints the head and the tail that it had, whatever entries it has, and their pieces between
+-- a node with a format prints the same head and tail whatever its entries are, and the pieces of its entries between them
 abbrev pub EntriesExchanged : Type 0
 EntriesExchanged = (n : KdlNode) (v : Vec KdlEntry Global) → IsSome (out-KdlNode n).format → PrintsInstead (node_tree n) (map entry_tree v.items) (node_tree (with_entries n v))
 
--- where one entry of a node with a format is exchanged, its piece of the printed text is, and no other byte
+-- if one entry of a node with a format is replaced, its piece of the printed text is replaced, and no other byte
 abbrev pub EntryExchanged : Type 0
 EntryExchanged = (n : KdlNode) (i : ℕ) (old new : KdlEntry) → IsSome (out-KdlNode n).format → slice_get (out-KdlNode n).entries.items i ≡ Some old
     → PrintsAtPlace (node_tree n) i (entry_tree old) (node_tree n) × PrintsAtPlace (node_tree n) i (entry_tree new) (node_tree (with_entry n i new))
@@ -59,12 +59,12 @@ document_before d i depth = leading_text (option_map document_format_tree (out-K
 abbrev pub document_behind : KdlDocument → ℕ → ℕ → Text
 document_behind d i depth = print_nodes (nodes_tree (drop (i + 1) (out-KdlDocument d).nodes.items)) depth ++ trailing_text (option_map document_format_tree (out-KdlDocument d).format)
 
--- a document prints the leading and the trailing text that it had, whatever nodes it has, and these between
+-- a document prints the same leading and trailing text whatever its nodes are, and its nodes between them
 abbrev pub NodesExchanged : Type 0
 NodesExchanged = (d : KdlDocument) (v : Vec KdlNode Global) (depth : ℕ) → print_document (document_tree (with_nodes d v)) depth
     ≡ leading_text (option_map document_format_tree (out-KdlDocument d).format) ++ print_nodes (nodes_tree v.items) depth ++ trailing_text (option_map document_format_tree (out-KdlDocument d).format)
 
--- where one node of a document is exchanged, its piece of the printed text is, and no other byte
+-- if one node of a document is replaced, its piece of the printed text is replaced, and no other byte
 abbrev pub NodeExchanged : Type 0
 NodeExchanged = (d : KdlDocument) (i : ℕ) (old new : KdlNode) (depth : ℕ) → slice_get (out-KdlDocument d).nodes.items i ≡ Some old
     → (print_document (document_tree d) depth ≡ document_before d i depth ++ print_node (node_tree old) depth ++ document_behind d i depth)

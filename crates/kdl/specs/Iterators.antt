@@ -1,4 +1,4 @@
--- What the iterator over the children of a node has left, and what the node is once its entries or children are written.
+-- What the iterator over the children of a node has left, and the node after a write to its entries or children.
 use base.Fml.{GName}
 use Rattle.std.specs.Prelude.{List, [], ◌∷◌, Option, Some, None, slice_index_or}
 use Rattle.std.specs.Slice.Iter.{iter_mut_rest, iter_mut_name}
@@ -9,7 +9,7 @@ use Rattle.kdl.specs.declared.document.KdlDocument.{KdlDocument, out-KdlDocument
 use Rattle.kdl.specs.declared.node.KdlNode.{KdlNode, out-KdlNode}
 use Rattle.kdl.specs.declared.node.iter.ChildrenIterMut.{ChildrenIterMut}
 
--- the nodes of a block, none without one
+-- the nodes of a block, or none without a block
 abbrev pub nodes_in : Option KdlDocument → List KdlNode
 nodes_in None = []
 nodes_in (Some d) = (out-KdlDocument d).nodes.items
@@ -35,10 +35,10 @@ nodes_left it = elim it.nodes [ None ↦ first_nodes (block_left it) | Some ns �
 abbrev pub block_name : ChildrenIterMut → GName
 block_name it = iter_mut_name it.block
 
--- the node with its child block written, and all else as it was
+-- the node with its child block written, and all else unchanged
 abbrev pub with_written_block : KdlNode → List (Option KdlDocument) → KdlNode
 with_written_block n os = with_children n (slice_index_or os 0 (out-KdlNode n).children)
 
--- the node with its entries written, one by one; it has as many, and all else is as it was
+-- the node with its entries written, one by one; it has as many, and all else is unchanged
 abbrev pub with_written_entries : KdlNode → List KdlEntry → KdlNode
 with_written_entries n es = with_entries n (with_items (out-KdlNode n).entries es)

@@ -12,7 +12,7 @@ use Rattle.kdl.specs.Tree.{document_tree, node_tree}
 use Rattle.kdl.specs.declared.document.KdlDocument.{KdlDocument}
 use Rattle.kdl.specs.declared.node.KdlNode.{KdlNode}
 
--- all but formats and spellings
+-- a node or document without formats and spellings
 abbrev pub node_bare : KdlNode → Node
 node_bare n = bare_node (node_tree n)
 
@@ -26,21 +26,21 @@ NodeKeepsNoForm n = NodeKeepsNone (node_tree n)
 abbrev pub DocumentKeepsNoForm : KdlDocument → Type 0
 DocumentKeepsNoForm d = DocumentKeepsNone (document_tree d)
 
--- m is n, laid out from the level of the settings on; e is d
+-- m is n, laid out from the level of the settings on; for documents, e is d
 abbrev pub NodeLaidOut : Settings → KdlNode → KdlNode → Type 0
 NodeLaidOut s n m = IsFormattedNode s s.indent_level (node_tree n) (node_tree m)
 
 abbrev pub DocumentLaidOut : Settings → KdlDocument → KdlDocument → Type 0
 DocumentLaidOut s d e = IsFormattedDocument s s.indent_level (document_tree d) (document_tree e)
 
--- m is n, laid out so with blank lines, after nothing; e is d
+-- m is n, laid out so with blank lines, after nothing; for documents, e is d
 abbrev pub NodeSpaced : Layout → KdlNode → KdlNode → Type 0
 NodeSpaced l n m = IsSpacedNode l.blank_lines (settings l.config) l.config.indent_level Nothing (node_tree n) (node_tree m)
 
 abbrev pub DocumentSpaced : Layout → KdlDocument → KdlDocument → Type 0
 DocumentSpaced l d e = IsSpacedDocument l.blank_lines (settings l.config) l.config.indent_level (document_tree d) (document_tree e)
 
--- what layout makes of them where comments are left out
+-- what layout makes of them without comments
 abbrev pub plain_node : Settings → KdlNode → Node
 plain_node s n = formatted_node s s.indent_level (node_tree n)
 

@@ -1,4 +1,4 @@
--- What look-ups in a node give, and what a node is once what they lent was written.
+-- What look-ups in a node return, and the node after a write through the references that they return.
 use Rattle.std.specs.Prelude.{◌≡◌, ℕ, List, Option, Some, None, option_map}
 use Rattle.kdl_value.specs.Data.{Value}
 use Rattle.kdl_value.specs.Tree.{value_tree}
@@ -44,11 +44,11 @@ found_value k n = value_there (key_place k n) n
 abbrev pub property_value : List ℕ → KdlNode → Option Value
 property_value s n = value_there (property_place s n) n
 
--- the node with the entry at a place that was found exchanged, and all else as it was
+-- the node with the entry at a place that was found replaced, and all else unchanged
 abbrev pub with_entry_there : Option ℕ → KdlNode → KdlEntry → KdlNode
 with_entry_there place n e = with_entries n (set_entry_there place (held_entries n) e)
 
--- the node with the value of the entry at a place that was found exchanged, and all else as it was
+-- the node with the value of the entry at a place that was found replaced, and all else unchanged
 abbrev pub with_value_there : Option ℕ → KdlNode → KdlValue → KdlNode
 with_value_there place n w = with_entries n (set_value_there place (held_entries n) w)
 
@@ -59,17 +59,17 @@ with_found_entry k n e = with_entry_there (key_place k n) n e
 abbrev pub with_found_value : NodeKey → KdlNode → KdlValue → KdlNode
 with_found_value k n w = with_value_there (key_place k n) n w
 
--- m is n with a property of that name and value after its entries, and all else as it was
+-- m is n with a property of that name and value after its entries, and all else unchanged
 pub record HasPushed (s : List ℕ) (w : Value) (n m : KdlNode) : Type 0 where
   pub entries : IsPushed s w (entries_of n) (entries_of m)
   pub rest : m ≡ with_entries n (held_entries m)
 
--- m has the entries of n, and all else as it was
+-- m is n with the same entries, and all else unchanged
 pub record HasSameEntries (n m : KdlNode) : Type 0 where
   pub items : entries_of m ≡ entries_of n
   pub rest : m ≡ with_entries n (held_entries m)
 
--- m is n with w as the value of the property at the place that was found, or else with a property of that name and value pushed; all else is as it was
+-- m is n with w as the value of the property at the place that was found, or else with a property of that name and value pushed; all else is unchanged
 abbrev pub HasWritten : Option ℕ → List ℕ → KdlNode → KdlValue → KdlNode → Type 0
 HasWritten None s n w m = HasPushed s (value_tree w) n m
 HasWritten (Some i) s n w m = m ≡ with_value n i w

@@ -1,4 +1,4 @@
--- Nodes put among others, and the newlines that are added there: at the end of a node, or of the text before the first one.
+-- Nodes inserted among others, and the newlines that are added there: at the end of a node, or of the text before the first one.
 use Rattle.std.specs.List.{insert}
 use Rattle.std.specs.Prelude.{◌≡◌, ℕ, zero, suc, ◌+◌, ◌≤◌, List, [], ◌++◌, map, replicate, take, drop, Option, Some, None, option_map, unwrap_or, slice_get, slice_set}
 use Rattle.kdl_text.specs.Chars.{Text}
@@ -27,12 +27,12 @@ printed_format es = record empty_node_format { before_children = before_block No
 abbrev pub format_or_printed : Head → NodeFormat
 format_or_printed h = unwrap_or h.format (printed_format h.entries)
 
--- g is f with k newlines more at the end: before the terminator, in it, or after it
+-- g is f with k more newlines at the end: before the terminator, in it, or after it
 pub record EndsWith (k : ℕ) (f g : NodeFormat) : Type 0 where
   pub texts : end_text (Some g) ≡ end_text (Some f) ++ newlines k
   pub rest : g ≡ record f { before_terminator = g.before_terminator; terminator = g.terminator; trailing = g.trailing }
 
--- m is n with k newlines more at its end
+-- m is n with k more newlines at its end
 abbrev pub WithNewlines : ℕ → Node → Node → Type 0
 WithNewlines zero n m = m ≡ n
 WithNewlines (suc k) (node h c) m = (g : NodeFormat) × (m ≡ node (record h { format = Some g }) c) × EndsWith (suc k) (format_or_printed h) g
@@ -42,7 +42,7 @@ abbrev pub LeadsWith : ℕ → Option DocumentFormat → Option DocumentFormat �
 LeadsWith zero o p = p ≡ o
 LeadsWith (suc k) o p = (f : DocumentFormat) × (o ≡ Some f) × (p ≡ Some (record f { leading = f.leading ++ newlines (suc k) }))
 
--- ms are the nodes ns, of which the one at i has k newlines more at its end
+-- ms are the nodes ns, of which the one at i has k more newlines at its end
 pub record EndedAt (i k : ℕ) (ns ms : List Node) : Type 0 where
   pub old : Node
   pub new : Node
@@ -50,7 +50,7 @@ pub record EndedAt (i k : ℕ) (ns ms : List Node) : Type 0 where
   pub ends : WithNewlines k old new
   pub nodes : ms ≡ slice_set ns i new
 
--- before the place i there are k newlines more: at the end of the node before it, or of the text before the first node
+-- before the place i there are k more newlines: at the end of the node before it, or of the text before the first node
 abbrev pub EndedBefore : ℕ → ℕ → Option DocumentFormat → List Node → Option DocumentFormat → List Node → Type 0
 EndedBefore zero k o ns p ms = (ms ≡ ns) × LeadsWith k o p
 EndedBefore (suc i) k o ns p ms = (p ≡ o) × EndedAt i k ns ms
@@ -86,13 +86,13 @@ abbrev pub PrintsPut : ℕ → KdlNode → KdlDocument → KdlDocument → Type 
 PrintsPut i n d e = (k : ℕ) × (j : ℕ) × (k ≤ 2) × (j ≤ 2)
     × (document_prints e ≡ text_up_to i d 0 ++ newlines k ++ node_prints n ++ newlines j ++ text_from i d 0)
 
--- what nodes say, with a node before the one at i, or last where there is none
+-- the data of nodes, with a node before the one at i, or last if there is none
 abbrev pub said_with : ℕ → data'.Node → data'.Nodes → data'.Nodes
 said_with i x data'.none = data'.first x data'.none
 said_with zero x (data'.first y ys) = data'.first x (data'.first y ys)
 said_with (suc i) x (data'.first y ys) = data'.first y (said_with i x ys)
 
--- what nodes say, without the node at i
+-- the data of nodes, without the node at i
 abbrev pub said_without : ℕ → data'.Nodes → data'.Nodes
 said_without i data'.none = data'.none
 said_without zero (data'.first y ys) = ys
@@ -103,17 +103,17 @@ abbrev pub PrintsWithout : ℕ → KdlNode → KdlDocument → KdlDocument → T
 PrintsWithout i n d e = (depth : ℕ) → (print_document (document_tree d) depth ≡ text_up_to i d depth ++ print_node (node_tree n) depth ++ text_from (i + 1) d depth)
     × (print_document (document_tree e) depth ≡ text_up_to i d depth ++ text_from (i + 1) d depth)
 
--- the text before a new block: what was before the terminator, with a newline where an escline is open
+-- the text before a new block: the text before the terminator, with a newline if an escline is open
 abbrev pub BlockBegun : Option NodeFormat → Option NodeFormat → Type 0
 BlockBegun None g = g ≡ None
 BlockBegun (Some f) g = (k : ℕ) × (k ≤ 1) × (g ≡ Some (record f { before_children = f.before_terminator ++ newlines k; before_terminator = [] }))
 
--- m' is m with the node n at the place i of its block: the block is the given one, or a new one where none is given
+-- m' is m with the node n at the place i of its block: the block is the given one, or a new one if none is given
 abbrev pub ChildPutIn : Option KdlDocument → ℕ → KdlNode → KdlNode → KdlNode → Type 0
 ChildPutIn None i n m m' = (d : KdlDocument) × (e : KdlDocument) × (g : Option KdlNodeFormat) × (document_tree d ≡ new_document) × IsPut 0 (node_tree n) d e
     × BlockBegun (node_texts (out-KdlNode m).format) (node_texts g) × (m' ≡ with_children (with_format m g) (Some e))
 ChildPutIn (Some d) i n m m' = (e : KdlDocument) × IsPut i (node_tree n) d e × (m' ≡ with_children m (Some e))
 
--- m' is m with the node n at the place i of its own block, or of a new one where it has none
+-- m' is m with the node n at the place i of its own block, or of a new one if it has none
 abbrev pub ChildPut : ℕ → KdlNode → KdlNode → KdlNode → Type 0
 ChildPut i n m m' = ChildPutIn (out-KdlNode m).children i n m m'

@@ -1,4 +1,4 @@
--- Entries, nodes and documents that read back: what a document prints is a text with its data, and stays one when they are put into another.
+-- Entries, nodes and documents that read back: what a document prints is a text with its data, and so it is when they are put into another document.
 use Rattle.std.specs.Prelude.{◌≡◌, option_map}
 use Rattle.kdl_text.specs.Chars.{Text}
 use Rattle.kdl_value.specs.Data.{Value}
@@ -44,6 +44,6 @@ pub record IsUnformed (e : Entry) : Type 0 where
 abbrev pub with_spelling : Text → EntryFormat → EntryFormat
 with_spelling t f = record f { value_repr = t }
 
--- an entry with another value, and its spelling where it has a format
+-- an entry with another value, and its spelling if it has a format
 abbrev pub respelled : Value → Entry → Entry
 respelled v e = record e { value = v; format = option_map (with_spelling (print_value v)) e.format }

@@ -1,4 +1,4 @@
--- What look-ups find in data: in what a document or a node says, whatever its form.
+-- What look-ups find in data: in the data of a document or a node, whatever its form.
 use Rattle.std.specs.List.{filter, filter_map, find, last_or}
 use Rattle.std.specs.Option.{option_map_or}
 use Rattle.std.specs.Prelude.{◌≡◌, ℕ, Bool, false, List, [], ◌∷◌, Option, Some, None, codes, is_none, map, option_and_then, option_map, slice_get, unwrap_or}
@@ -30,7 +30,7 @@ abbrev pub said_nodes : Nodes → List Node
 said_nodes none = []
 said_nodes (first n x) = n ∷ said_nodes x
 
--- the nodes in the block of a node, none without one
+-- the nodes in the block of a node, or none without a block
 abbrev pub said_child_nodes : Node → List Node
 said_child_nodes n = unwrap_or (option_map said_nodes (said_children n)) []
 
@@ -41,7 +41,7 @@ has_key s e = option_map_or (λ k. same_text k s) e.key false
 abbrev pub has_no_key : Entry → Bool
 has_no_key e = is_none e.key
 
--- the last property of that name, and the argument at that place, counted from 0 over the arguments alone
+-- the last property of that name, and the argument at that place among the arguments, counted from 0
 abbrev pub last_property : Text → Node → Option Entry
 last_property s n = last_or None (filter (has_key s) (said_entries n))
 
@@ -95,7 +95,7 @@ said_property_in s r x = option_and_then (said_property r) (said_node s x)
 abbrev pub said_argument_in : Text → ℕ → Nodes → Option Value
 said_argument_in s i x = option_and_then (said_argument i) (said_node s x)
 
--- y says what x says, but for the property r of the first node s, which has the value v
+-- y is x, except for the property r of the first node s, which has the value v
 pub record IsSetInData (s r : Text) (v : Value) (x y : Nodes) : Type 0 where
   pub found : said_property_in s r y ≡ Some v
   pub others : (q : Text) → (r ≡ q → ⊥) → said_property_in s q y ≡ said_property_in s q x

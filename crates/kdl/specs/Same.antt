@@ -1,4 +1,4 @@
--- Which nodes, and which documents, `==` takes for one.
+-- Which nodes, and which documents, are equal by `==`.
 use Rattle.std.specs.Prelude.{Bool}
 use Rattle.kdl.specs.declared.node.KdlNode.{KdlNode}
 use Rattle.kdl.specs.declared.document.KdlDocument.{KdlDocument}

@@ -12,11 +12,11 @@ use Rattle.kdl.specs.declared.document.KdlDocument.TheOpen.{KdlDocument-F, KdlNo
 use Rattle.kdl.specs.declared.document.KdlDocument.TheViews.{out-KdlDocument}
 use Rattle.kdl.specs.declared.document.KdlDocument.TheFolds.{fold-KdlDocument, fold-KdlNode}
 
--- the trees of one level, where those of the levels below are made
+-- the trees of one level, given those of the levels below
 abbrev pub document_step : KdlDocument-F Document Node → Document
 document_step d = document (option_map document_format_tree d.format) d.span (listed_nodes d.nodes.items)
 
--- a node but for its children, by its fields
+-- a node without its children, from its fields
 abbrev pub head_tree : {D N : Type 0} → KdlNode-F D N → Head
 head_tree n = record {
   ty = option_map identifier_tree n.ty;
@@ -38,7 +38,7 @@ node_tree = fold-KdlNode Document Node document_step node_step
 abbrev pub nodes_tree : List KdlNode → Nodes
 nodes_tree ns = listed_nodes (map node_tree ns)
 
--- what a node and a document say, and the text that each prints
+-- the data of a node and a document, and the text that each prints
 abbrev pub node_says : KdlNode → data'.Node
 node_says n = node_data (node_tree n)
 

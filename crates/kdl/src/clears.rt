@@ -1,8 +1,9 @@
-//! How formats and spellings are dropped: one node at a time, without recursion and without memory, however deep the
-//! blocks are.
+//! How formats and spellings are dropped: one node at a time, without recursion and without allocating, however deep
+//! the blocks are.
 //!
-//! A node that is due has a format, and the others have none. While the block of a node is cleared, the node holds the
-//! document that contains it, in place of its block. In that document it is the last node that isn't due.
+//! A node that is due to be cleared has a format, and the others have none. While the block of a node is cleared, the
+//! node holds the document that contains it, in place of its block. In that document it is the last node that isn't
+//! due.
 
 ghost use Rattle.kdl.specs.Cleared.{cleared_document};
 ghost use Rattle.kdl.specs.Tree.{document_tree};

@@ -1,4 +1,4 @@
-//! How nodes are copied: over a stack in memory and without recursion, however deep their blocks are.
+//! How nodes are copied: with a stack on the heap and without recursion, however deep their blocks are.
 
 ghost use Rattle.kdl.specs.Internal.Copied.{closed};
 ghost use Rattle.kdl.specs.Tree.{node_tree};
@@ -18,7 +18,7 @@ struct Open<'a> {
     before: Vec<KdlNode>,
 }
 
-/// The copies up to that of the block's node, whose block has the nodes.
+/// Returns the copies up to that of the block's node, whose block has the nodes.
 fn close(opened: Open<'_>, nodes: Vec<KdlNode>) -> Result<Vec<KdlNode>, AllocError>
     ensures { IfOk result (λ v. map node_tree v.items ≡
         closed opened.entry (map node_tree nodes.items)) }
@@ -34,7 +34,7 @@ fn close(opened: Open<'_>, nodes: Vec<KdlNode>) -> Result<Vec<KdlNode>, AllocErr
     Ok(before)
 }
 
-/// Copies of the nodes, in order. The blocks that are open are kept in memory.
+/// Returns copies of the nodes, in order. The open blocks are kept on the heap.
 pub(crate) fn copy_nodes(alloc: Global, nodes: &[KdlNode]) -> Result<Vec<KdlNode>, AllocError>
     ensures { IfOk result (λ v. map node_tree v.items ≡ map node_tree nodes.now) }
 {

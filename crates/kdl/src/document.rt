@@ -45,7 +45,7 @@ use std::fmt;
 /// // a trailing text
 /// ```
 ///
-/// Two documents are equal where they agree in all but their spans.
+/// Two documents are equal if they agree in everything but their spans.
 #[cycle(tree)]
 #[derive(Debug)]
 #[derive_where(PartialEq, Eq, Hash)]
@@ -56,7 +56,7 @@ pub struct KdlDocument {
     span: SourceSpan,
 }
 
-/// A document is dropped without recursion and without memory, however deep its blocks are.
+/// A document is dropped without recursion and without allocating, however deep its blocks are.
 impl Drop for KdlDocument {
     fn drop(self) {
         dismantle(self.into_nodes())
@@ -76,7 +76,7 @@ impl KdlDocument {
         nodes
     }
 
-    /// A document of these nodes, without a format.
+    /// Creates a document of these nodes, without a format.
     pub(crate) fn bare(nodes: Vec<KdlNode>) -> KdlDocument
         ensures { (out-KdlDocument result).nodes ≡ nodes }
     {
@@ -89,7 +89,7 @@ impl KdlDocument {
 }
 
 impl KdlDocument {
-    /// A document of no nodes, without a format. It takes no memory.
+    /// Creates a document without nodes and without a format. Does not allocate.
     ///
     /// ```
     /// let mut document = KdlDocument::new(alloc);
@@ -115,7 +115,7 @@ impl KdlDocument {
         }
     }
 
-    /// A document as it was read.
+    /// Creates a document from its parsed parts.
     pub(crate) fn from_parts(parts: DocumentParts<KdlNode>) -> KdlDocument
         ensures { document_tree result ≡ document_by node_tree parts }
     {
@@ -130,7 +130,7 @@ impl KdlDocument {
         }
     }
 
-    /// A document as it was read from a whole text, with U+FEFF before it where that begins with one.
+    /// Creates a document from the parts of a whole text, with U+FEFF before it if the text begins with one.
     pub(crate) fn from_text(
         alloc: Global,
         text: DocumentText<KdlNode>,
@@ -144,7 +144,7 @@ impl KdlDocument {
         Ok(document)
     }
 
-    /// The document with U+FEFF at the beginning of its leading text.
+    /// Returns the document with U+FEFF at the beginning of its leading text.
     fn with_bom(mut self, alloc: Global) -> Result<KdlDocument, AllocError>
         ensures { IfOk result (λ d. document_tree d ≡ with_bom (document_tree self)) }
     {
@@ -152,7 +152,7 @@ impl KdlDocument {
         Ok(self)
     }
 
-    /// The nodes, in order.
+    /// Returns the nodes, in order.
     ///
     /// ```
     /// let document = KdlDocument::parse(alloc, "a; /-b; c")?;
@@ -166,7 +166,7 @@ impl KdlDocument {
         self.nodes.as_slice()
     }
 
-    /// The texts around the nodes, where the document keeps them.
+    /// Returns the texts around the nodes, if the document keeps them.
     ///
     /// ```
     /// let document = KdlDocument::parse(alloc, "// nothing yet\n")?;
@@ -180,7 +180,8 @@ impl KdlDocument {
         self.format.as_ref()
     }
 
-    /// Where the document was in the text that it was read from, in bytes: from its first node to the end of its last.
+    /// Returns the span of the document in the text that it was parsed from, in bytes: from its first node to the end
+    /// of its last one.
     ///
     /// ```
     /// let document = KdlDocument::parse(alloc, "\n\ta 1\n")?;
@@ -192,7 +193,7 @@ impl KdlDocument {
         self.span
     }
 
-    /// Sets the span, and nothing else. The document stays equal to what it was.
+    /// Sets the span, and nothing else. Equality ignores the span.
     ///
     /// ```
     /// let mut document = KdlDocument::new(alloc);
@@ -249,7 +250,7 @@ impl fmt::Display for KdlDocument {
 }
 
 impl KdlDocument {
-    /// A copy of the texts around the nodes and of the span, with these nodes.
+    /// Returns a document with these nodes, and copies of the texts around the nodes and of the span.
     pub(crate) fn with_nodes(&self, nodes: Vec<KdlNode>) -> Result<KdlDocument, AllocError>
         ensures { IfOk result (λ d. document_tree d ≡
             document_of self.now (map node_tree nodes.items)) }
@@ -263,7 +264,7 @@ impl KdlDocument {
     }
 }
 
-/// A copy with the same texts and spans, at each depth. Fails where memory runs out.
+/// Returns a copy with the same texts and spans, at each depth, or an error if an allocation fails.
 impl Clone for KdlDocument {
     ghost is_clone = { λ v w. document_tree w ≡ document_tree v };
 

@@ -7,7 +7,7 @@ use crate::document::KdlDocument;
 use crate::node::KdlNode;
 use std::mem;
 
-/// Puts other children into the last node, and returns those that it had.
+/// Replaces the children of the last node, and returns the old ones.
 fn exchange_last(nodes: &mut Vec<KdlNode>, children: Option<KdlDocument>) -> Option<KdlDocument>
     requires { 0 < vec_len nodes.old }
     ensures kept { count_nodes nodes.new.items + count_option result ≡

@@ -1,4 +1,4 @@
-//! The newlines that nodes, and the texts between them, lack at their ends before others may follow.
+//! The newlines that nodes, and the texts between them, lack at their ends for others to follow.
 
 ghost use Rattle.kdl.specs.Internal.Ends.{EndFewest, EndSays, EndsReadAs, FewestBefore, GapFewest, GapSays, IsEnded, IsEndedExactly, IsNodeEnded, Lacks, PlaceFewest, PlaceSays, block_if, newline_count, with_newlines};
 ghost use Rattle.kdl.specs.Nodes.{newlines, printed_format};
@@ -20,7 +20,7 @@ use std::alloc::{AllocError, Global};
 /// What follows a node.
 #[derive(Clone, Copy)]
 pub(crate) enum Rest {
-    /// Nothing, since the text ends.
+    /// The end of the text.
     End,
     /// The `}` of a block.
     Brace,
@@ -28,7 +28,7 @@ pub(crate) enum Rest {
     Text,
 }
 
-/// Adds that many newlines to the text.
+/// Appends that many newlines to the text.
 pub(crate) fn push_newlines(text: &mut String, count: usize) -> Result<(), AllocError>
     ensures { OnOk result (text_of text.new ≡ text_of text.old ++ newlines count) }
 {
@@ -38,7 +38,7 @@ pub(crate) fn push_newlines(text: &mut String, count: usize) -> Result<(), Alloc
     Ok(())
 }
 
-/// The text without the U+FEFF that may begin it.
+/// The text without a U+FEFF at its start.
 fn without_bom(text: &str) -> &str
     ensures { chars result.now ≡ without_bom (chars text.now) }
 {
@@ -48,7 +48,7 @@ fn without_bom(text: &str) -> &str
     }
 }
 
-/// How many newlines a text between nodes lacks: 0 where it is no such text.
+/// How many newlines a text between nodes lacks; 0 if it is not such a text.
 pub(crate) fn gap_newlines(alloc: Global, text: &str) -> Result<usize, AllocError>
     ensures few { IfOk result (λ n. n ≤ 2) }
     ensures says { IfOk result (λ n. GapSays (without_bom (chars text.now)) n) }
@@ -67,7 +67,7 @@ fn newline_count(lacks: bool) -> usize
     if lacks { 1 } else { 0 }
 }
 
-/// How many newlines the text before a terminator lacks: that of an open escline.
+/// How many newlines the text before a terminator lacks: one if it ends in an open escline.
 pub(crate) fn place_newlines(
     alloc: Global,
     has_block: bool,
@@ -165,7 +165,7 @@ fn with_newlines(
     Ok(format)
 }
 
-/// The format of a node with the newlines that it lacks before the rest, or none where it lacks none.
+/// The format of a node with the newlines that it lacks before the rest, or `None` if it lacks none.
 fn ended(
     alloc: Global,
     format: &KdlNodeFormat,
@@ -196,7 +196,7 @@ fn ends_formatted(entries: &[KdlEntry]) -> bool
     }
 }
 
-/// What a node of these entries prints before its block where it has no format.
+/// What a node of these entries prints before its block if it has no format.
 fn space_before_block(alloc: Global, entries: &[KdlEntry]) -> Result<String, AllocError>
     ensures { IfOk result (λ s. text_of s ≡ before_block None (map entry_tree entries.now)) }
 {
@@ -207,7 +207,7 @@ fn space_before_block(alloc: Global, entries: &[KdlEntry]) -> Result<String, All
     Ok(before)
 }
 
-/// The texts that a node of these entries prints where it has no format, and a newline at its end.
+/// The texts that a node of these entries prints if it has no format, and a newline at its end.
 fn ended_formless(alloc: Global, entries: &[KdlEntry]) -> Result<KdlNodeFormat, AllocError>
     ensures { IfOk result (λ f. node_format_tree f ≡
         record (printed_format (map entry_tree entries.now)) { terminator = 10 ∷ [] }) }
@@ -221,7 +221,7 @@ fn ended_formless(alloc: Global, entries: &[KdlEntry]) -> Result<KdlNodeFormat, 
     Ok(format)
 }
 
-/// The format that a node needs before the rest, or none where it keeps its own.
+/// The format that a node needs before the rest, or `None` if it keeps its own.
 pub(crate) fn ended_format(
     alloc: Global,
     format: &Option<KdlNodeFormat>,

@@ -1,4 +1,4 @@
-//! How nodes are laid out: over a stack in memory and without recursion, however deep their blocks are.
+//! How nodes are laid out: with a stack on the heap and without recursion, however deep their blocks are.
 
 ghost use Rattle.kdl.specs.Internal.Laid.{AreLaid, GoesOn, IsUnderWay, whole};
 ghost use Rattle.kdl.specs.Tree.{node_tree, nodes_tree};
@@ -19,9 +19,9 @@ use kdl_fmt::{Before, Layout};
 use std::alloc::AllocError;
 use std::mem;
 
-/// The nodes of a block that is being laid out: those before `at` are laid out. In a block above, that at `at` is laid
-/// out but for its own block, whose nodes are taken out. `next` is what comes before the next node, which is not laid
-/// out.
+/// The nodes of a block that is being laid out: those before `at` are laid out. In a block above, the node at `at` is
+/// laid out except for its own block, whose nodes are taken out. `next` is what comes before the next node, which is
+/// not laid out.
 #[derive(Drop)]
 struct Block {
     nodes: Vec<KdlNode>,
@@ -39,7 +39,8 @@ struct Blocks {
 }
 
 impl Blocks {
-    /// The level of the next node's block, and the indentation there; makes room for one more block above.
+    /// Returns the level of the next node's block, and the indentation there, and reserves room for one more block
+    /// above.
     fn next_level(&mut self, layout: &Layout) -> Result<(usize, String), AllocError>
         ensures above { self.new.above.items ≡ self.old.above.items }
         ensures inner { self.new.inner ≡ self.old.inner }
@@ -55,7 +56,7 @@ impl Blocks {
         Ok((level, before))
     }
 
-    /// Lays out the next node, but not the nodes in its block. These are next, or else what follows the node.
+    /// Lays out the next node, but not the nodes in its block. Those come next, or else what follows the node.
     fn lay_out_next(&mut self, layout: &Layout) -> Result<(), AllocError>
         requires { self.old.inner.at < vec_len self.old.inner.nodes }
         ensures kept { map bare_node (whole self.new.above.items self.new.inner) ≡
@@ -93,7 +94,7 @@ impl Blocks {
         Ok(())
     }
 
-    /// Puts the nodes of the innermost block back into the node that it belongs to. What follows that node is next.
+    /// Puts the nodes of the innermost block back into the node that it belongs to. What follows that node comes next.
     fn leave(&mut self, outer: Block)
         ensures whole { whole self.new.above.items self.new.inner ≡
             whole (self.old.above.items ++ outer ∷ []) self.old.inner }
@@ -149,7 +150,7 @@ impl Blocks {
     }
 }
 
-/// What comes before the text after the nodes, which are not laid out; none where there are no nodes.
+/// Returns what comes before the text after the nodes, which are not laid out, or `None` if there are no nodes.
 pub(crate) fn behind_nodes(nodes: &[KdlNode], layout: &Layout) -> Result<Option<Before>, AllocError>
     ensures end { IfOk result (λ o. newline_if (is_none o) ≡ newline_if_none (nodes_tree nodes.now)) }
     ensures passes { IfOk result (λ o. (b : Before)
@@ -162,9 +163,9 @@ pub(crate) fn behind_nodes(nodes: &[KdlNode], layout: &Layout) -> Result<Option<
     }
 }
 
-/// Lays out nodes at a level, the first one after what comes before it. Where there are none the level does not matter.
-/// Fails where memory runs out, or where a level would pass `usize`: then each node is in its place, and some of them
-/// are laid out.
+/// Lays out nodes at a level, the first one after what comes before it. The level does not matter if there are no
+/// nodes. Returns an error if an allocation fails, or if a level would exceed `usize::MAX`. Each node is then in its
+/// place, and some of them are laid out.
 pub(crate) fn lay_out_nodes(
     nodes: &mut Vec<KdlNode>,
     layout: &Layout,

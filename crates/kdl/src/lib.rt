@@ -1,8 +1,8 @@
 //! KDL 2 documents: nodes and documents that keep every byte of their form.
 //!
-//! `KdlDocument::parse` reads a text, and what it returns prints the same bytes. Look-ups find nodes by their names, and
-//! a node's entries by the name of a property or by the place among the arguments. An edit of the entries of a node with a
-//! format, as each node that was parsed has one, changes its own piece of the printed text, and no other byte:
+//! `KdlDocument::parse` reads a text and returns a document that prints the same bytes. Look-ups find nodes by name,
+//! and a node's entries by the name of a property or by the position among the arguments. Each parsed node has a
+//! format. An edit of the entries of a node with a format changes its own piece of the printed text, and no other byte:
 //!
 //! ```
 //! let text = "server {\n    // where it listens\n    port 8080\n}\n";
@@ -14,13 +14,13 @@
 //!         }
 //!     }
 //! }
-//! let changed = document.to_string(alloc)?; // the text with 9090 in the place of 8080
+//! let changed = document.to_string(alloc)?; // the text with 9090 in place of 8080
 //! ```
 //!
-//! A new entry prints one space and its value. What the old one had around it goes with it: a type, comments, entries that
-//! are slashdashed. To keep them, set the value of the entry and `value_repr` of its format.
+//! A new entry prints one space and its value. A type, comments and slashdashed entries of the old entry are removed
+//! with it. To keep them, set the value of the entry and `value_repr` of its format.
 //!
-//! A program that only reads a configuration asks for values by their names:
+//! A program that only reads a configuration looks up values by name:
 //!
 //! ```
 //! let text = "server host=\"::1\" {\n    port 8080\n    tags eu west\n}\n";
@@ -36,7 +36,7 @@
 //! }
 //! ```
 //!
-//! A text that is no document is refused. The error has a diagnostic for each fault, with its place and a message:
+//! A text that is not a document is refused. The error has a diagnostic for each fault, with its span and a message:
 //!
 //! ```
 //! if let Err(ParseFailure::Syntax(error)) = KdlDocument::parse(alloc, "a }\nb #treu\n") {
@@ -47,12 +47,12 @@
 //! }
 //! ```
 //!
-//! A call that takes memory is given an allocator. Where memory runs out it returns an `AllocError`, or
-//! `ParseFailure::Memory`.
+//! A call that allocates takes an allocator, or uses that of its arguments. If an allocation fails, it returns an
+//! `AllocError`, or `ParseFailure::Memory`.
 //!
-//! Spans are in bytes of the text that was read: of an entry from its type, key or value to the end of its value, of a node
-//! from its type or name up to its terminator, of a document from its first node to the end of its last. What is read as a
-//! whole text, by `KdlNode::parse` or `KdlEntry::parse`, spans all of it.
+//! Spans are in bytes of the parsed text. The span of an entry is from its type, key or value to the end of its value,
+//! that of a node from its type or name up to its terminator, and that of a document from its first node to the end of
+//! its last one. What `KdlNode::parse` or `KdlEntry::parse` returns spans the whole text.
 #![tactic(auto)]
 
 mod clears;

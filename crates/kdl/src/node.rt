@@ -35,14 +35,14 @@ use kdl_text::span::SourceSpan;
 use std::alloc::{AllocError, Global};
 use std::{fmt, mem, slice};
 
-/// A node: a name, maybe a type, entries, maybe children, and the texts around them (KDL 2.0.0, Node).
+/// A node: a name, an optional type, entries, optional children, and the texts around them (KDL 2.0.0, Node).
 ///
 /// ```kdl
 /// // a leading text, a type, a name, an argument, a property, a block of children, a terminator
 /// (published)book "The Rust Book" pages=0x1F0 { chapter 1; };
 /// ```
 ///
-/// Two nodes are equal where they agree in all but their spans.
+/// Two nodes are equal if they agree in everything but their spans.
 #[cycle(tree)]
 #[derive(Debug, Drop)]
 #[derive_where(PartialEq, Eq, Hash)]
@@ -57,7 +57,7 @@ pub struct KdlNode {
 }
 
 impl KdlNode {
-    /// The children alone.
+    /// Returns only the children.
     pub(crate) fn into_children(self) -> Option<KdlDocument>
         ensures { result ≡ (out-KdlNode self).children }
     {
@@ -72,7 +72,7 @@ impl KdlNode {
         children
     }
 
-    /// Puts other children in place of the node's, and returns the former ones.
+    /// Replaces the children, and returns the old ones.
     pub(crate) fn exchange_children(&mut self, children: Option<KdlDocument>) -> Option<KdlDocument>
         ensures had { result ≡ (out-KdlNode self.old).children }
         ensures has { out-KdlNode self.new ≡ record (out-KdlNode self.old) { children = children } }
@@ -82,7 +82,7 @@ impl KdlNode {
 }
 
 impl KdlNode {
-    /// The node of a text of its own: with the text after its terminator, and the span.
+    /// Creates the node that is a whole text, with the text after its terminator and the span.
     pub(crate) fn from_text(text: NodeText<KdlNode>) -> KdlNode
         ensures { node_tree result ≡ text_by node_tree text }
     {
@@ -98,11 +98,11 @@ impl KdlNode {
         node
     }
 
-    /// The name.
+    /// Returns the name.
     ///
     /// ```
     /// let node = KdlNode::parse(alloc, "\"a\\tb\"")?;
-    /// let name = node.name().value(); // an `a`, a tabulator and a `b`
+    /// let name = node.name().value(); // an `a`, a tab and a `b`
     /// ```
     #[tactic(auto, using(crate::proofs::Finding::SaidLookups::got_name))]
     pub fn name(&self) -> &KdlIdentifier
@@ -112,7 +112,7 @@ impl KdlNode {
         &self.name
     }
 
-    /// The type, where the node has one.
+    /// Returns the type, if the node has one.
     ///
     /// ```
     /// let node = KdlNode::parse(alloc, "(date)today")?;
@@ -127,11 +127,11 @@ impl KdlNode {
         self.ty.as_ref()
     }
 
-    /// The entries, in order.
+    /// Returns the entries, in order.
     ///
     /// ```
     /// let node = KdlNode::parse(alloc, "a 1 /-2 b=3")?;
-    /// let count = node.entries().len(); // 2: what a slashdash drops is no entry
+    /// let count = node.entries().len(); // 2: a slashdashed entry does not count
     /// ```
     #[tactic(auto, using(crate::proofs::Finding::SaidLookups::got_entries))]
     pub fn entries(&self) -> &[KdlEntry]
@@ -142,7 +142,7 @@ impl KdlNode {
         self.entries.as_slice()
     }
 
-    /// The children, where the node has a child block.
+    /// Returns the children, if the node has a child block.
     ///
     /// ```
     /// let none = KdlNode::parse(alloc, "a")?.children().is_none(); // true
@@ -157,7 +157,7 @@ impl KdlNode {
         self.children.as_ref()
     }
 
-    /// The texts around the parts, where the node keeps them.
+    /// Returns the texts around the parts, if the node keeps them.
     ///
     /// ```
     /// let node = KdlNode::parse(alloc, "a 1 ; ")?;
@@ -172,8 +172,8 @@ impl KdlNode {
         self.format.as_ref()
     }
 
-    /// Where the node was in the text that it was read from, in bytes: from its type or name up to its terminator, or the
-    /// whole text that `KdlNode::parse` read.
+    /// Returns the span of the node in the text that it was parsed from, in bytes: from its type or name up to its
+    /// terminator, or the whole text if `KdlNode::parse` read it.
     ///
     /// ```
     /// let document = KdlDocument::parse(alloc, "é 1\nb")?;
@@ -185,7 +185,7 @@ impl KdlNode {
         self.span
     }
 
-    /// Sets the span, and nothing else. The node stays equal to what it was.
+    /// Sets the span, and nothing else. Equality ignores the span.
     ///
     /// ```
     /// let mut node = KdlNode::parse(alloc, "a")?;
@@ -229,9 +229,9 @@ impl KdlNode {
     }
 }
 
-/// Prints the node with the texts around its parts. Without a format, four spaces for each depth go before it, one space
-/// before its `{` where the last entry has no format, and it has no terminator. An entry without a format goes after one
-/// space.
+/// Prints the node with the texts around its parts. A node without a format is printed after four spaces for each
+/// depth, with one space before its `{` if the last entry has no format, and without a terminator. An entry without a
+/// format follows one space.
 ///
 /// ```
 /// let node = KdlNode::parse(alloc, "a  0x1 { b; }")?;
@@ -246,7 +246,7 @@ impl fmt::Display for KdlNode {
 }
 
 impl KdlNode {
-    /// A copy with these children in the place of the node's.
+    /// Returns a copy with these children in place of the node's.
     pub(crate) fn with_children(&self, children: Option<KdlDocument>) -> Result<KdlNode, AllocError>
         ensures { IfOk result (λ n. node_tree n ≡ with_children self.now children) }
     {
@@ -265,7 +265,7 @@ impl KdlNode {
     }
 }
 
-/// A copy with the same texts and spans, at each depth. Fails where memory runs out.
+/// Returns a copy with the same texts and spans, at each depth, or an error if an allocation fails.
 ///
 /// ```
 /// let node = KdlNode::parse(alloc, "a 1")?;

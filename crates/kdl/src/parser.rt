@@ -20,7 +20,7 @@ use kdl_text::cursor::Steps;
 use kdl_text::error::ParseFailure;
 use std::alloc::Global;
 
-/// The document that the machine makes of the text. Raises the count by the steps taken.
+/// Reads the document that the machine makes of the text. Adds the steps to the count.
 fn parse_from(alloc: Global, text: &str, steps: &mut Steps) -> Result<KdlDocument, ParseFailure>
     ensures answers { IfOk result (λ d. AnswersDocument (chars text.now) (document_tree d)) }
     ensures refused { IsSyntax result → (x : Nodes) → IsDocument true (chars text.now) x → ⊥ }
@@ -36,7 +36,7 @@ fn parse_from(alloc: Global, text: &str, steps: &mut Steps) -> Result<KdlDocumen
     }
 }
 
-/// The node that the whole text is.
+/// Reads the node that the whole text is.
 fn read_node(alloc: Global, text: &str) -> Result<KdlNode, ParseFailure>
     ensures laid { IfOk result (λ n. LaidNodeText true (chars text.now) (node_tree n)) }
     ensures refused { IsSyntax result → (x : data'.Node) → IsNodeText true (chars text.now) x → ⊥ }
@@ -55,10 +55,11 @@ impl KdlDocument {
     ghost use Rattle.kdl_grammar.specs.Print.{print_document};
     ghost use Rattle.kdl_grammar.specs.Tree.{Document, document_data};
 
-    /// The document of a text, with every byte of its form (KDL 2.0.0, Document).
+    /// Parses a document, and keeps every byte of its form (KDL 2.0.0, Document).
     ///
-    /// Fails with `Syntax` where the text is no document. The error has a diagnostic for each fault that is found, in
-    /// the order of reading, and one at least; reading goes on after a fault. Fails with `Memory` where memory runs out.
+    /// Returns `Syntax` if the text is not a document. Faults are reported in the order in which reading meets them, an
+    /// unclosed block when the text ends; reading continues after a fault. There is at least one diagnostic. Returns
+    /// `Memory` if an allocation fails.
     ///
     /// ```
     /// let text = "host localhost // here\nport 0x1F90\n";
@@ -66,25 +67,26 @@ impl KdlDocument {
     /// let same = document.to_string(alloc)?; // the text, byte for byte
     /// ```
     pub fn parse(alloc: Global, text: &str) -> Result<KdlDocument, ParseFailure>
-        // What the document says is what the grammar derives,
+        // The data of the document is what the grammar derives,
         ensures found { IfOk result (λ d. IsDocument true (chars text.now) (document_says d)) }
         // and it derives nothing else.
         ensures only { IfOk result (λ d. (x : Nodes) → IsDocument true (chars text.now) x
             → x ≡ document_says d) }
-        // The document lies in the text, each place in its class and each span that of its piece, and prints it.
+        // The document is located in the text, with each place in its class and each span at its piece, and prints the
+        // text.
         ensures laid { IfOk result (λ d. LaidDocument true (document_tree d) (chars text.now)) }
         ensures prints { IfOk result (λ d. document_prints d ≡ chars text.now) }
         // No entry is flagged to keep its form.
         ensures keeps_none { IfOk result (λ d. DocumentKeepsNoForm d) }
-        // What is refused is not derived, and the error has the places of its faults.
+        // A refused text is not derived, and the error has the spans of its faults.
         ensures refused { IsSyntax result → (x : Nodes) → IsDocument true (chars text.now) x → ⊥ }
         ensures told { TellsOnSyntax text.now result }
-        // What the former language derives is not refused, and is read as before.
+        // A text of the former language is not refused, and is read as before.
         ensures kept { (x : Nodes) → IsFormerDocument (chars text.now) x → IsSyntax result → ⊥ }
         ensures former { (x : Nodes) → IsFormerDocument (chars text.now) x
             → IfOk result (λ d. document_says d ≡ x) }
-        // A document that differs in the entries of its nodes alone prints a text that is derived with its data, where
-        // each node has some of its own entries, flagged or not, and entries without form.
+        // A document that differs only in the entries of its nodes prints a text that is derived with its data, if each
+        // node has some of its own entries, flagged or not, and entries without form.
         ensures edited { IfOk result (λ d. (e : Document)
             → EachDocument IsEdited (document_tree d) e
             → IsDocument true (print_document e 0) (document_data e)) }
@@ -95,11 +97,11 @@ impl KdlDocument {
         KdlDocument::parse_counted(alloc, text, &mut steps)
     }
 
-    /// The document of a text, as by `parse`, which raises the count by the steps that it takes, up to the greatest
-    /// `u64`. A step is one look at a character or at a token, or one byte of a slice of the text.
+    /// Parses a document like `parse`, and adds the steps of parsing to the count, which saturates at `u64::MAX`. A
+    /// step is one look at a character or at a token, or one byte of a slice of the text.
     ///
-    /// A document of n bytes takes at least a step for each character and at most 32 (n + 1) steps. A text that is
-    /// refused takes at least one, and at most 160 (n + 1).
+    /// A document of n bytes takes at least a step for each character and at most 32 (n + 1) steps. A refused text
+    /// takes at least one step, and at most 160 (n + 1).
     ///
     /// ```
     /// let mut steps = Steps::new();
@@ -127,8 +129,8 @@ impl KdlDocument {
             → EachDocument IsEdited (document_tree d) e
             → IsDocument true (print_document e 0) (document_data e)) }
         ensures reads { IfOk result (λ d. DocumentReadsBack d) }
-        // At least a step for each character is counted, and at most 32 for each byte and 32 more. For a text that is
-        // refused, with its diagnostics, it is at most 160.
+        // At least a step for each character is counted, and at most 32 for each byte and 32 more. For a refused text,
+        // with its diagnostics, it is at most 160.
         ensures least { OnOk result (raise steps.old (length (chars text.now)) ≤ steps.new) }
         ensures most { OnOk result (steps.new ≤ steps.old + 32 * (length text.now + 1)) }
         ensures told_most { IsSyntax result → steps.new ≤ steps.old + 160 * (length text.now + 1) }
@@ -137,7 +139,7 @@ impl KdlDocument {
         parse_from(alloc, text, steps)
     }
 
-    /// The document of a text of KDL 2, as by `parse`.
+    /// Parses a document of KDL 2, as `parse` does.
     ///
     /// ```
     /// let document = KdlDocument::parse_v2(alloc, "on #true")?;
@@ -167,13 +169,13 @@ impl KdlDocument {
 impl KdlNode {
     ghost use Rattle.kdl_grammar.specs.Former.{IsFormerNodeText};
 
-    /// The node that the text is, with every byte of its form (KDL 2.0.0, Node). Before it the text may have line-spaces
-    /// and slashdashed nodes, which are its leading text. After its terminator it may have line-spaces alone, which are
-    /// its trailing text. The span is the whole text, in bytes.
+    /// Parses a text that is exactly one node, and keeps every byte of its form (KDL 2.0.0, Node). Before the node the
+    /// text may have line-spaces and slashdashed nodes, which are its leading text. After its terminator the text may
+    /// have only line-spaces, which are its trailing text. The span is the whole text, in bytes.
     ///
-    /// Fails with `Syntax` where the text is no node. The error has a diagnostic for each fault that is found, and one
-    /// at least: at a second node, where reading ends, or at the end of a text that has no node. Fails with `Memory`
-    /// where memory runs out.
+    /// Returns `Syntax` if the text is not a node. The error has a diagnostic for each fault, and at least one: a
+    /// second node, where reading ends, and the end of a text that has no node, are reported too. Returns `Memory` if
+    /// an allocation fails.
     ///
     /// ```
     /// let node = KdlNode::parse(alloc, "// the port\nport 8080\n")?;
@@ -181,21 +183,22 @@ impl KdlNode {
     /// ```
     #[tactic(auto, using(crate::proofs::ParseAnswers::node_found, crate::proofs::ParseAnswers::node_only, crate::proofs::ParseAnswers::node_prints))]
     pub fn parse(alloc: Global, text: &str) -> Result<KdlNode, ParseFailure>
-        // What the node says is what the grammar derives,
+        // The data of the node is what the grammar derives,
         ensures found { IfOk result (λ n. IsNodeText true (chars text.now) (node_says n)) }
         // and it derives nothing else.
         ensures only { IfOk result (λ n. (x : data'.Node) → IsNodeText true (chars text.now) x
             → x ≡ node_says n) }
-        // The node lies in the text, each place in its class and each span that of its piece, and prints it.
+        // The node is located in the text, with each place in its class and each span at its piece, and prints the
+        // text.
         ensures laid { IfOk result (λ n. LaidNodeText true (chars text.now) (node_tree n)) }
         ensures prints { IfOk result (λ n. node_prints n ≡ chars text.now) }
         // No entry is flagged to keep its form.
         ensures keeps_none { IfOk result (λ n. NodeKeepsNoForm n) }
-        // What is refused is not derived, and the error has the places of its faults.
+        // A refused text is not derived, and the error has the spans of its faults.
         ensures refused { IsSyntax result → (x : data'.Node)
             → IsNodeText true (chars text.now) x → ⊥ }
         ensures told { TellsOnSyntax text.now result }
-        // What the former language derives is not refused, and is read as before.
+        // A text of the former language is not refused, and is read as before.
         ensures kept { (x : data'.Node) → IsFormerNodeText (chars text.now) x
             → IsSyntax result → ⊥ }
         ensures former { (x : data'.Node) → IsFormerNodeText (chars text.now) x

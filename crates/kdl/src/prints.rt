@@ -1,4 +1,4 @@
-//! How nodes are printed: over a stack in memory and without recursion, however deep their blocks are.
+//! How nodes are printed: with a stack on the heap and without recursion, however deep their blocks are.
 
 ghost use Rattle.kdl.specs.Internal.Left.{Prints, closing, line, opening};
 ghost use Rattle.kdl.specs.Tree.{nodes_tree};
@@ -9,7 +9,7 @@ use crate::node::KdlNode;
 use std::alloc::Global;
 use std::fmt;
 
-/// A block that is open: its node, its document, and the nodes after that node.
+/// An open block: its node, its document, and the nodes after that node.
 #[derive(Clone, Copy)]
 struct Open<'a> {
     node: &'a KdlNode,
@@ -56,8 +56,8 @@ fn write_closing<W: fmt::Write>(
     node.write_end(f)
 }
 
-/// Writes nodes one after another, at depth 0. The blocks that are open are kept in memory. Where that runs out,
-/// writing fails.
+/// Writes nodes one after another, at depth 0. The open blocks are kept on the heap; if an allocation fails, writing
+/// fails.
 pub(crate) fn write_nodes<W: fmt::Write>(
     alloc: Global,
     nodes: &[KdlNode],

@@ -1,4 +1,4 @@
--- What only proofs and contracts inside the crates need: no contract of a public call of `kdl` speaks of it.
+-- Definitions that only proofs and contracts inside the crates use: no contract of a public call of `kdl` mentions them.
 
 -- The control grammar: which tokens may come.
 pub mod Control

@@ -1,2 +1,2 @@
--- What only proofs and contracts inside the crates need.
+-- Definitions that only proofs and contracts inside the crates use.
 pub mod Internal

@@ -10,22 +10,23 @@ ghost use Rattle.std.specs.Prelude.{◌≡◌, ◌∷◌, IfOk, List, MatchOptio
 use kdl_lexer::TokenKind;
 use std::alloc::{AllocError, Global};
 
-/// What a type is written before: the name of a node, or a value.
+/// What a type belongs to: the name of a node, or a value.
 #[derive(Clone, Copy)]
 pub enum Owner {
     Name,
     Value,
 }
 
-/// What comes directly before, or before spaces: a string that may be a key, or something else.
+/// What is directly before, or before the spaces here: a string that may be a key, or something
+/// else.
 #[derive(Clone, Copy)]
 pub enum Word {
     MayBeKey,
     NoKey,
 }
 
-/// A node before its block: directly after its name or an entry, after spaces there, or after a
-/// dropped block.
+/// A place in a node before its block: directly after the name or an entry, after spaces, or after
+/// a slashdashed block.
 #[derive(Clone, Copy)]
 pub enum Spot {
     Fresh(Word),
@@ -33,7 +34,7 @@ pub enum Spot {
     Later,
 }
 
-/// Where in the grammar the control is.
+/// The phase of the grammar.
 #[derive(Clone, Copy)]
 pub enum Phase {
     /// Between nodes.
@@ -56,11 +57,11 @@ pub enum Phase {
     BlockSlashdash,
     /// After a node's block.
     Kept,
-    /// After `/-` there.
+    /// After a `/-` that follows a node's block.
     KeptSlashdash,
 }
 
-/// An open block: of a node, or one that is dropped before or after it.
+/// An open block: of a node, or a slashdashed one before or after the node's own.
 #[derive(Clone, Copy)]
 pub enum Frame {
     Node,
@@ -77,7 +78,7 @@ enum Move {
     Refuse,
 }
 
-/// Between nodes.
+/// What a token does between nodes.
 fn in_gap(kind: &TokenKind) -> Move
     ensures { Moves control.gap (kind_view kind.now) result }
 {
@@ -91,7 +92,7 @@ fn in_gap(kind: &TokenKind) -> Move
     }
 }
 
-/// Between nodes, after `/-`.
+/// What a token does between nodes, after `/-`.
 fn in_node_slashdash(kind: &TokenKind) -> Move
     ensures { Moves control.node_slashdash (kind_view kind.now) result }
 {
@@ -103,7 +104,7 @@ fn in_node_slashdash(kind: &TokenKind) -> Move
     }
 }
 
-/// After the `(` of a type.
+/// What a token does after the `(` of a type.
 fn in_type(owner: Owner, kind: &TokenKind) -> Move
     ensures { Moves (control.type_open (owner_view owner)) (kind_view kind.now) result }
 {
@@ -114,7 +115,7 @@ fn in_type(owner: Owner, kind: &TokenKind) -> Move
     }
 }
 
-/// After the name of a type.
+/// What a token does after the name of a type.
 fn behind_type_name(owner: Owner, kind: &TokenKind) -> Move
     ensures { Moves (control.type_name (owner_view owner)) (kind_view kind.now) result }
 {
@@ -125,7 +126,7 @@ fn behind_type_name(owner: Owner, kind: &TokenKind) -> Move
     }
 }
 
-/// After the `)` of a type.
+/// What a token does after the `)` of a type.
 fn behind_type(owner: Owner, kind: &TokenKind) -> Move
     ensures { Moves (control.type_done (owner_view owner)) (kind_view kind.now) result }
 {
@@ -140,7 +141,7 @@ fn behind_type(owner: Owner, kind: &TokenKind) -> Move
     }
 }
 
-/// After the `=` of a property.
+/// What a token does after the `=` of a property.
 fn in_property(kind: &TokenKind) -> Move
     ensures { Moves control.property (kind_view kind.now) result }
 {
@@ -175,7 +176,7 @@ fn entry(spot: Spot, phase: Phase) -> Move
     }
 }
 
-/// In a node, before its block.
+/// What a token does in a node, before its block.
 fn in_node(spot: Spot, kind: &TokenKind) -> Move
     ensures { Moves (phase_view (InNode spot)) (kind_view kind.now) result }
 {
@@ -199,7 +200,7 @@ fn in_node(spot: Spot, kind: &TokenKind) -> Move
     }
 }
 
-/// After `/-` in a node, where an entry or a block may follow.
+/// What a token does after `/-` in a node, where an entry or a block may follow.
 fn in_entry_slashdash(kind: &TokenKind) -> Move
     ensures { Moves control.entry_slashdash (kind_view kind.now) result }
 {
@@ -213,7 +214,7 @@ fn in_entry_slashdash(kind: &TokenKind) -> Move
     }
 }
 
-/// After `/-` in a node, where a block may follow.
+/// What a token does after `/-` in a node, where a block may follow.
 fn in_block_slashdash(kind: &TokenKind) -> Move
     ensures { Moves control.block_slashdash (kind_view kind.now) result }
 {
@@ -224,7 +225,7 @@ fn in_block_slashdash(kind: &TokenKind) -> Move
     }
 }
 
-/// After a node's block.
+/// What a token does after a node's block.
 fn in_kept(kind: &TokenKind) -> Move
     ensures { Moves control.kept (kind_view kind.now) result }
 {
@@ -237,7 +238,7 @@ fn in_kept(kind: &TokenKind) -> Move
     }
 }
 
-/// After `/-` there.
+/// What a token does after a `/-` that follows a node's block.
 fn in_kept_slashdash(kind: &TokenKind) -> Move
     ensures { Moves control.kept_slashdash (kind_view kind.now) result }
 {
@@ -267,7 +268,7 @@ fn token_move(phase: Phase, kind: &TokenKind) -> Move
     }
 }
 
-/// Whether a string that may be a key is there.
+/// Whether a string that may be a key is here.
 fn may_be_key(spot: Spot) -> bool
     ensures { result ≡ is_word (control.at (control.in_node (spot_view spot)) []) }
 {
@@ -277,7 +278,7 @@ fn may_be_key(spot: Spot) -> bool
     }
 }
 
-/// After the block.
+/// The phase after the block.
 fn behind_block(frame: Frame) -> Phase
     ensures { (fs : List control.Frame) → control.popped (frame_view frame ∷ fs) ≡
         Some (control.at (phase_view result) fs) }
@@ -288,7 +289,7 @@ fn behind_block(frame: Frame) -> Phase
     }
 }
 
-/// The control: the phase, and the open blocks. It goes over tokens, and builds nothing.
+/// The control: the phase of the grammar, and the open blocks. It takes tokens, and builds nothing.
 #[derive(Drop)]
 pub struct Control {
     phase: Phase,
@@ -296,7 +297,7 @@ pub struct Control {
 }
 
 impl Control {
-    /// The control in a phase, with no block open.
+    /// Creates a control in a phase, with no block open.
     ///
     /// ```
     /// let control = Control::new(alloc, Phase::Gap); // a node may begin here
@@ -310,7 +311,7 @@ impl Control {
         }
     }
 
-    /// Whether it is between nodes, with no block open.
+    /// Returns whether the control is between nodes, with no block open.
     ///
     /// ```
     /// let between = Control::new(alloc, Phase::NodeSlashdash).is_between_nodes(); // false
@@ -324,7 +325,7 @@ impl Control {
         }
     }
 
-    /// Whether the text may end here.
+    /// Returns whether the text may end here.
     ///
     /// ```
     /// let ends = Control::new(alloc, Phase::Kept).may_end(); // true
@@ -338,8 +339,8 @@ impl Control {
         }
     }
 
-    /// Whether a string comes directly before, or before spaces, that ends what is dropped where
-    /// no `=` follows.
+    /// Returns whether a string that may be a key is directly before, or before the spaces here.
+    /// What a slashdash drops ends with it if no `=` follows.
     ///
     /// ```
     /// let mut control = Control::new(alloc, Phase::EntrySlashdash);
@@ -358,7 +359,8 @@ impl Control {
         }
     }
 
-    /// Whether an entry or a block ends directly before, and whether it is a block.
+    /// Returns whether what ends directly before is a block, or `None` if neither an entry nor a
+    /// block does.
     ///
     /// ```
     /// let mut control = Control::new(alloc, Phase::EntrySlashdash);
@@ -381,7 +383,7 @@ impl Control {
         }
     }
 
-    /// Goes on by a token. False: it may not come here.
+    /// Takes a token. Returns false if it may not come here.
     ///
     /// ```
     /// let mut control = Control::new(alloc, Phase::Gap);

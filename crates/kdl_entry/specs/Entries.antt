@@ -7,11 +7,11 @@ use Rattle.kdl_value.specs.Data.{Value, text}
 use Rattle.kdl_lexer.specs.Pieces.{StringPiece, PlainPiece}
 use Rattle.kdl_entry.specs.Data.{Entry}
 
--- a string, and a value end after it
+-- a string, followed by a value end
 pub data IsString (wide : Bool) : Text → Text → Text → Type 0 where
   string : {s r v : Text} → StringPiece s r v → ValueEnd wide r → IsString wide s r v
 
--- a string, a number or a keyword, and a value end after it
+-- a string, a number or a keyword, followed by a value end
 pub data IsPlainValue (wide : Bool) : Text → Text → Value → Type 0 where
   a_string : {s r v : Text} → IsString wide s r v → IsPlainValue wide s r (text v)
   a_plain : {s r : Text} {v : Value} → PlainPiece s r v → ValueEnd wide r → IsPlainValue wide s r v
@@ -29,7 +29,7 @@ pub data MaybeType (wide : Bool) : Text → Text → Option Text → Type 0 wher
 pub data IsValue (wide : Bool) : Text → Text → Option Text → Value → Type 0 where
   value : {s t r : Text} {y : Option Text} {v : Value} → MaybeType wide s t y → IsPlainValue wide t r v → IsValue wide s r y v
 
--- a key, `=` between node-spaces, and a value; or a value alone
+-- a key, `=` between node-spaces, and a value; or only a value
 pub data IsEntry (wide : Bool) : Text → Text → Entry → Type 0 where
   property : {s t u w r k : Text} {y : Option Text} {v : Value} → IsString wide s t k → Star NodeSpace t (61 ∷ u) → Star NodeSpace u w → IsValue wide w r y v
       → IsEntry wide s r (record { key = Some k; ty = y; value = v })
@@ -39,14 +39,14 @@ pub data IsEntry (wide : Bool) : Text → Text → Entry → Type 0 where
 abbrev pub IsIdentifierText : Bool → Text → Text → Type 0
 IsIdentifierText wide t v = IsString wide t [] v
 
--- an entry that is slashdashed, after a slashdash and before node-spaces
+-- a slashdash, and the entry that it drops, before node-spaces
 pub data DroppedFirst (wide : Bool) : Text → Text → Type 0 where
   dropped_first : {s t u r : Text} {e : Entry} → Slashdash s t → IsEntry wide t u e → Plus NodeSpace u r → DroppedFirst wide s r
 
--- line-spaces, and such entries
+-- line-spaces, and slashdashed entries
 pub data BeforeEntry (wide : Bool) : Text → Text → Type 0 where
   before_entry : {s t r : Text} → Star LineSpace s t → Star (DroppedFirst wide) t r → BeforeEntry wide s r
 
--- the whole text is one entry: these before it, and line-spaces after it
+-- the whole text is one entry, with line-spaces and slashdashed entries before it, and line-spaces after it
 pub data IsEntryText (wide : Bool) : Text → Entry → Type 0 where
   entry_text : {t u r : Text} {e : Entry} → BeforeEntry wide t u → IsEntry wide u r e → Star LineSpace r [] → IsEntryText wide t e

@@ -10,11 +10,11 @@ use Rattle.kdl_entry.specs.declared.identifier.KdlIdentifier.{KdlIdentifier}
 abbrev pub string_of : KdlIdentifier → String Global
 string_of i = i.value
 
--- the key of an entry, where it is a property
+-- the key of an entry, if it is a property
 abbrev pub entry_name_of : KdlEntry → Option KdlIdentifier
 entry_name_of e = e.name
 
--- the type of an entry, where it has one
+-- the type of an entry, if it has one
 abbrev pub entry_ty_of : KdlEntry → Option KdlIdentifier
 entry_ty_of e = e.ty
 
@@ -22,11 +22,11 @@ entry_ty_of e = e.ty
 abbrev pub entry_value_of : KdlEntry → KdlValue
 entry_value_of e = e.value
 
--- the format of an entry, where it has one
+-- the format of an entry, if it has one
 abbrev pub entry_format_of : KdlEntry → Option KdlEntryFormat
 entry_format_of e = e.format
 
--- the entry with another key, and all else as it was; the same with another type, value or format
+-- the entry with another key, and all else unchanged; the same with another type, value or format
 abbrev pub with_entry_name : KdlEntry → Option KdlIdentifier → KdlEntry
 with_entry_name e i = record e { name = i }
 

@@ -20,7 +20,7 @@ pub record IsFormless (e : Entry) : Type 0 where
 abbrev pub formed_identifier : Identifier → Identifier
 formed_identifier i = record i { repr = Some (print_identifier i) }
 
--- an entry with the form that it prints in a node: the texts of its format, flagged or not; without a format its value as it is spelled, after one space
+-- an entry with the form that it prints in a node: the texts of its format, flagged or not; without a format, one space and the value as it is spelled
 abbrev pub formed : Entry → Entry
 formed e = record e { ty = option_map formed_identifier e.ty; name = option_map formed_identifier e.name; format = Some (form e.format) }
   where

@@ -1,16 +1,16 @@
--- What only proofs and contracts inside the crates need: no contract of a public call of `kdl` speaks of it.
+-- Definitions that only proofs and contracts inside the crates use: no contract of a public call of `kdl` mentions them.
 
 -- The item that a reader's fields represent, and what its steps return.
 pub mod Building
--- What a call took for the texts that it sliced: at most a step for each of their bytes.
+-- What a call costs for the texts that it slices: at most a step for each of their bytes.
 pub mod Counted
--- The machine that reads a text that is one entry: it goes over the tokens once. The token k is in the text s before r, in the text `whole`.
+-- The machine that reads a text that is one entry: it reads the tokens once. The token k is in the text s before r, in the text `whole`.
 pub mod EntryMachine
 -- The machine's state that a reader of an entry holds, and what its steps return.
 pub mod EntryReading
 -- What the reader of identifier texts returns.
 pub mod IdentifierReading
--- An item under way: the type and value of an entry after its key, or the type and name of a node, token by token.
+-- An item being read, token by token: the type and value of an entry after its key, or the type and name of a node.
 pub mod Items
 -- What is proved of the machine that reads entry texts.
 pub mod MachineLaws

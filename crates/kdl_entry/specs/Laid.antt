@@ -1,5 +1,5 @@
--- Identifiers and entries laid in a text: their spellings and places, in the order of printing, are the text, and each is what it has to be.
--- Where `exact` holds, each span is that of its piece in the text `whole`.
+-- Identifiers and entries located in a text: their spellings and places, in the order of printing, are the text, and each is what it has to be.
+-- If `exact` holds, each span is that of its piece in the text `whole`.
 use Rattle.std.specs.Prelude.{Bool, true, false, [], ◌∷◌, Option, Some, None}
 use Rattle.kdl_text.specs.Chars.{Text, Star}
 use Rattle.kdl_text.specs.Trivia.{NodeSpace, LineSpace}
@@ -14,13 +14,13 @@ pub data LaidIdentifier (exact : Bool) (whole : Text) : Identifier → Text → 
   spelled : {v p s r : Text} {at : SourceSpan} → Is (λ s r. IsString true s r v) p s r → Spanned exact at (span_of whole s r)
       → LaidIdentifier exact whole (record { value = v; repr = Some p; span = at }) s r
 
--- a type with the texts before its name, after it, and after the `)`; these are empty where there is none
+-- a type with the texts before its name, after it, and after the `)`; these are empty if there is no type
 pub data LaidType (exact : Bool) (whole : Text) : Option Identifier → Text → Text → Text → Text → Text → Type 0 where
   no_type : {s : Text} → LaidType exact whole None [] [] [] s s
   a_type : {before after behind s t u v r : Text} {i : Identifier} → Is (Star NodeSpace) before s t → LaidIdentifier exact whole i t u → Is (Star NodeSpace) after u (41 ∷ v)
       → Is (Star NodeSpace) behind v r → LaidType exact whole (Some i) before after behind (40 ∷ s) r
 
--- a key, `=`, and the texts before and after the `=`; these are empty where there is none
+-- a key, `=`, and the texts before and after the `=`; these are empty if there is no key
 pub data LaidKey (exact : Bool) (whole : Text) : Option Identifier → Text → Text → Text → Text → Type 0 where
   no_key : {s : Text} → LaidKey exact whole None [] [] s s
   a_key : {before behind s t u r : Text} {i : Identifier} → LaidIdentifier exact whole i s t → Is (Star NodeSpace) before t (61 ∷ u) → Is (Star NodeSpace) behind u r
@@ -48,7 +48,7 @@ pub data LaidItem (exact : Bool) (whole leading trailing : Text) (at : SourceSpa
         span = at;
       }) s r
 
--- an entry in a node; its span is its text but for what comes before it
+-- an entry in a node; its span is its text without what comes before it
 pub data LaidEntry (exact : Bool) (whole : Text) : Entry → Text → Text → Type 0 where
   laid_entry : {leading s t r : Text} {at : SourceSpan} {e : Entry} → Is EntryLeading leading s t → LaidItem exact whole leading [] at e t r → Spanned exact at (span_of whole t r)
       → LaidEntry exact whole e s r

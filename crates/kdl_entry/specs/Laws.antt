@@ -7,15 +7,15 @@ use Rattle.kdl_entry.specs.Laid.{LaidIdentifierText, LaidEntryText}
 use Rattle.kdl_entry.specs.Print.{print_identifier, print_entry}
 use Rattle.kdl_entry.specs.Tree.{Identifier, Entry, entry_data}
 
--- a text is one identifier at most
+-- a text is at most one identifier
 abbrev pub OneIdentifier : Type 0
 OneIdentifier = (wide : Bool) (t x y : Text) → IsIdentifierText wide t x → IsIdentifierText wide t y → x ≡ y
 
--- a text is one entry at most
+-- a text is at most one entry
 abbrev pub OneEntry : Type 0
 OneEntry = (wide : Bool) (t : Text) (x y : data'.Entry) → IsEntryText wide t x → IsEntryText wide t y → x ≡ y
 
--- where an identifier is laid as a whole text, the text is one with its value, and it is what is printed
+-- if an identifier is located as a whole text, the text is an identifier with its value, and it is what is printed
 abbrev pub LaidIdentifierIsDerived : Type 0
 LaidIdentifierIsDerived = (exact : Bool) (t : Text) (i : Identifier) → LaidIdentifierText exact i t → IsIdentifierText true t i.value × (print_identifier i ≡ t)
 
@@ -23,14 +23,14 @@ LaidIdentifierIsDerived = (exact : Bool) (t : Text) (i : Identifier) → LaidIde
 abbrev pub LaidEntryIsDerived : Type 0
 LaidEntryIsDerived = (exact : Bool) (t : Text) (e : Entry) → LaidEntryText exact t e → IsEntryText true t (entry_data e) × (print_entry e ≡ t)
 
--- at most one identifier is laid as a whole text with its span
+-- at most one identifier is located as a whole text with its span
 abbrev pub OneLaidIdentifier : Type 0
 OneLaidIdentifier = (t : Text) (i j : Identifier) → LaidIdentifierText true i t → LaidIdentifierText true j t → i ≡ j
 
--- at most one entry is laid as a whole text with the spans of its pieces
+-- at most one entry is located as a whole text with the spans of its pieces
 abbrev pub OneLaidEntry : Type 0
 OneLaidEntry = (t : Text) (d e : Entry) → LaidEntryText true t d → LaidEntryText true t e → d ≡ e
 
--- in each text that is an identifier one is laid with its value, and so for entries
+-- each text that is an identifier has one located in it, with its value, and so for entries
 abbrev pub TextsAreLaid : Type 0
 TextsAreLaid = ((t v : Text) → IsIdentifierText true t v → (i : Identifier) × LaidIdentifierText true i t × (i.value ≡ v)) × ((t : Text) (x : data'.Entry) → IsEntryText true t x → (e : Entry) × LaidEntryText true t e × (entry_data e ≡ x))

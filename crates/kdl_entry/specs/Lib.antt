@@ -6,7 +6,7 @@ pub mod Entries
 pub mod Fields
 -- Entries without format and spelling, and the form in which they are in a node.
 pub mod Formless
--- Identifiers and entries laid in a text: their spellings and places, in the order of printing, are the text, and each is what it has to be.
+-- Identifiers and entries located in a text: their spellings and places, in the order of printing, are the text, and each is what it has to be.
 pub mod Laid
 -- What is proved of the written grammar of identifiers and entries.
 pub mod Laws
@@ -14,7 +14,7 @@ pub mod Laws
 pub mod Places
 -- What identifiers and entries print.
 pub mod Print
--- Identifiers and entries with every text and span, and nothing of how memory holds them.
+-- Identifiers and entries with every text and span, whatever their layout in memory.
 pub mod Tree
--- What only proofs and contracts inside the crates need.
+-- Definitions that only proofs and contracts inside the crates use.
 pub mod Internal

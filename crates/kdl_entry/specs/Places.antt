@@ -12,11 +12,11 @@ pub record Is (class : Text → Text → Type 0) (p s r : Text) : Type 0 where
   pub is : class s r
   pub text : s ≡ p ++ r
 
--- an entry that is slashdashed, after node-spaces and a slashdash
+-- node-spaces, a slashdash, and the entry that it drops
 pub data DroppedEntry : Text → Text → Type 0 where
   dropped : {s t u r : Text} {e : Entry} → Star NodeSpace s t → Slashdash t u → IsEntry true u r e → DroppedEntry s r
 
--- before an entry in a node: such entries, and at least one node-space
+-- before an entry in a node: slashdashed entries, and at least one node-space
 pub data EntryLeading : Text → Text → Type 0 where
   leading : {s t r : Text} → Star DroppedEntry s t → Plus NodeSpace t r → EntryLeading s r
 
@@ -28,7 +28,7 @@ between t s = take (length t - length s) t
 unfoldable pub span_of : Text → Text → Text → SourceSpan
 span_of whole s r = span_between whole s r
 
--- the first span is the second one; where `exact` does not hold, it may be any
+-- the first span is the second one, if `exact` holds; else it may be any
 abbrev pub Spanned : Bool → SourceSpan → SourceSpan → Type 0
 Spanned true a b = a ≡ b
 Spanned false a b = Unit {0}

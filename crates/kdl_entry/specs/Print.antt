@@ -5,7 +5,7 @@ use Rattle.kdl_value.specs.Print.{print_value}
 use Rattle.kdl_value.specs.Spelled.{spelled}
 use Rattle.kdl_entry.specs.Tree.{Identifier, EntryFormat, Entry}
 
--- its spelling, or else its value as a string
+-- the spelling of an identifier, or else its value as a string
 abbrev pub print_identifier : Identifier → Text
 print_identifier i = written i.repr
   where
@@ -23,7 +23,7 @@ abbrev pub print_key : Option Identifier → Text → Text → Text
 print_key None after_key after_eq = []
 print_key (Some i) after_key after_eq = print_identifier i ++ after_key ++ (61 ∷ []) ++ after_eq
 
--- with a format all its texts, without one the key, the type and the value alone
+-- with a format all its texts, without one only the key, the type and the value
 abbrev pub print_formatted : Entry → Option EntryFormat → Text
 print_formatted e None = print_key e.name [] [] ++ print_type e.ty [] [] ++ print_value e.value
 print_formatted e (Some f) =

@@ -1,4 +1,4 @@
--- Identifiers and entries with every text and span, and nothing of how memory holds them.
+-- Identifiers and entries with every text and span, whatever their layout in memory.
 use Rattle.std.specs.Prelude.{[], Bool, true, false, if◌then◌else◌, Option, Some, None, option_map, String}
 use Rattle.std.specs.declared.alloc.Global.{Global}
 use Rattle.kdl_text.specs.Chars.{Text}
@@ -12,7 +12,7 @@ use Rattle.kdl_entry.specs.declared.identifier.Spelling.TheVariants.{NotKept, As
 use Rattle.kdl_entry.specs.declared.entry.KdlEntry.{KdlEntry}
 use Rattle.kdl_entry.specs.declared.entry.KdlEntryFormat.{KdlEntryFormat}
 
--- a string, and its spelling where it keeps one
+-- a string, and its spelling if it keeps one
 pub record Identifier : Type 0 where
   pub value : Text
   pub repr : Option Text
@@ -59,15 +59,15 @@ empty_format = record {
   autoformat_keep = false;
 }
 
--- a property with a key, an argument with none, without a type and a format
+-- a property if it has a key, else an argument, without a type and a format
 abbrev pub plain_entry : Option Identifier → Value → Entry
 plain_entry name value = record { ty = None; value = value; name = name; format = None; span = no_span }
 
--- an identifier, wherever it was
+-- an identifier, regardless of its span
 abbrev pub without_span : Identifier → Identifier
 without_span i = record i { span = no_span }
 
--- an entry, wherever it and its identifiers were
+-- an entry, regardless of the spans of it and its identifiers
 abbrev pub without_spans : Entry → Entry
 without_spans e = record e { ty = option_map without_span e.ty; name = option_map without_span e.name; span = no_span }
 
@@ -83,11 +83,11 @@ unspelled_names e = record e { ty = option_map unspelled e.ty; name = option_map
 abbrev pub cleared : Entry → Entry
 cleared e = record (unspelled_names e) { format = None }
 
--- a format that autoformat shall keep
+-- a format that autoformat keeps
 abbrev pub with_keep : EntryFormat → EntryFormat
 with_keep f = record f { autoformat_keep = true }
 
--- a format that autoformat shall not keep
+-- a format that autoformat does not keep
 abbrev pub without_keep : EntryFormat → EntryFormat
 without_keep f = record f { autoformat_keep = false }
 
@@ -95,7 +95,7 @@ without_keep f = record f { autoformat_keep = false }
 abbrev pub unflagged : Entry → Entry
 unflagged e = record e { format = option_map without_keep e.format }
 
--- an entry, wherever it and its identifiers were, and flagged or not
+-- an entry, regardless of the spans of it and its identifiers, and of its flag
 abbrev pub without_spans_and_flag : Entry → Entry
 without_spans_and_flag e = without_spans (unflagged e)
 
@@ -103,7 +103,7 @@ without_spans_and_flag e = without_spans (unflagged e)
 abbrev pub kept : EntryFormat → EntryFormat
 kept f = record empty_format { value_repr = f.value_repr; leading = f.leading }
 
--- a format as autoformat leaves it: what it keeps of a flagged one, and none of any other
+-- a format as autoformat leaves it: what it keeps of a flagged one, and no format else
 abbrev pub autoformatted_format : Option EntryFormat → Option EntryFormat
 autoformatted_format None = None
 autoformatted_format (Some f) = if f.autoformat_keep then Some (kept f) else None
@@ -112,7 +112,7 @@ autoformatted_format (Some f) = if f.autoformat_keep then Some (kept f) else Non
 abbrev pub autoformatted : Entry → Entry
 autoformatted e = record (unspelled_names e) { format = autoformatted_format e.format }
 
--- what spells an identifier in memory: nothing, its string, or a text of its own
+-- the spelling of an identifier in memory: none, its string, or a text of its own
 abbrev pub spelling_of : KdlIdentifier → Option (String Global)
 spelling_of i = spelled_by i.repr
   where
@@ -149,6 +149,6 @@ entry_tree e = record {
   span = e.span;
 }
 
--- what an entry says
+-- the data of an entry, whatever its form
 abbrev pub entry_data : Entry → data'.Entry
 entry_data e = record { key = option_map (λ i. i.value) e.name; ty = option_map (λ i. i.value) e.ty; value = e.value }

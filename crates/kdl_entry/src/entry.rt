@@ -17,16 +17,17 @@ use std::alloc::{AllocError, Global};
 use std::fmt;
 use std::fmt::{Display, Formatter, Write};
 
-/// The spelling of an entry's value, and the texts around the parts of the entry. Each field says what is there in
-/// an entry that was parsed.
+/// The spelling of an entry's value, and the texts around the parts of the entry. The fields describe an entry that was
+/// parsed.
 #[derive(PartialEq, Eq, Hash, Debug, Drop)]
 pub struct KdlEntryFormat {
     /// The spelling of the value.
     pub value_repr: String,
-    /// What comes before the entry: in a node, entries that a slashdash drops and then at least one node-space;
-    /// before an entry that is a whole text, line-spaces and then entries that a slashdash drops.
+    /// Text before the entry. In a node: slashdashed entries, then at least one node-space (a space, a block comment or
+    /// a line continuation). Before an entry that is a whole text: line-spaces, then slashdashed entries.
     pub leading: String,
-    /// What comes after the value: line-spaces, where the entry is a whole text. Empty in a node.
+    /// Text after the value: line-spaces (spaces, newlines, comments and line continuations), if the entry is a whole
+    /// text. Empty in a node.
     pub trailing: String,
     /// Node-spaces between the type's `)` and the value. Empty without a type.
     pub after_ty: String,
@@ -43,7 +44,7 @@ pub struct KdlEntryFormat {
 }
 
 impl KdlEntryFormat {
-    /// A format of empty texts, without the flag. It takes no memory.
+    /// Creates a format of empty texts, without the flag. Does not allocate.
     ///
     /// ```
     /// let mut format = KdlEntryFormat::new(alloc); // an entry with it prints no value, since `value_repr` is empty
@@ -67,7 +68,7 @@ impl KdlEntryFormat {
         }
     }
 
-    /// Leaves the spelling of the value and the leading text alone, and takes the flag away.
+    /// Keeps only the spelling of the value and the leading text, and removes the flag.
     fn keep_value(&mut self)
         ensures { entry_format_tree self.new ≡ kept (entry_format_tree self.old) }
     {
@@ -81,12 +82,12 @@ impl KdlEntryFormat {
     }
 }
 
-// A number has 128 bits with a sign.
+// A whole number has 128 bits with a sign.
 fn number_fits(number: i128)
     ensures { FitsSigned w128 number }
 {}
 
-/// What a value in memory is, for the proofs: at run time it does nothing.
+/// A fact about a value in memory, for the proofs. Does nothing at run time.
 fn well_formed(value: &KdlValue)
     ensures { IsWellFormed (value_tree value.now) }
 {
@@ -95,7 +96,7 @@ fn well_formed(value: &KdlValue)
     }
 }
 
-/// Drops the spelling, where there is an identifier.
+/// Drops the spelling, if there is an identifier.
 fn clear_spelling(identifier: &mut Option<KdlIdentifier>)
     ensures { option_map identifier_tree identifier.new
         ≡ option_map unspelled (option_map identifier_tree identifier.old) }
@@ -116,7 +117,7 @@ fn autoformat_format(format: &mut Option<KdlEntryFormat>)
     }
 }
 
-/// A copy with the same texts and the same flag. Fails where memory runs out.
+/// Returns a copy with the same texts and the same flag, or an error if an allocation fails.
 ///
 /// ```
 /// let format = KdlEntryFormat::new(alloc);
@@ -145,7 +146,7 @@ impl Clone for KdlEntryFormat {
 
 /// An argument, or a property with its key (KDL 2.0.0, Argument, Property).
 ///
-/// Equality and hash ignore the span and regard the format and the spellings.
+/// Equality and hash ignore the span, but not the format and the spellings.
 #[derive(Debug, Drop)]
 #[derive_where(PartialEq, Eq, Hash)]
 pub struct KdlEntry {
@@ -165,7 +166,7 @@ impl KdlEntry {
     ghost use Rattle.kdl_value.specs.contracts.value.KdlValue.{the_row as value_row};
     ghost use Rattle.std.specs.Borrow.{Lends, LendsIf, sem};
 
-    /// An argument without a type and a format, with the span 0 of length 0.
+    /// Creates an argument without type or format, whose span has offset and length 0.
     ///
     /// ```
     /// let entry = KdlEntry::new(KdlValue::from(8080)); // prints "8080"; in a node one space comes before it
@@ -192,7 +193,7 @@ impl KdlEntry {
         }
     }
 
-    /// The key, where the entry is a property.
+    /// Returns the key, if the entry is a property.
     ///
     /// ```
     /// let is_argument = KdlEntry::parse(alloc, "8080")?.name().is_none(); // true
@@ -205,7 +206,7 @@ impl KdlEntry {
         self.name.as_ref()
     }
 
-    /// The key, to be changed in place, where the entry is a property.
+    /// Returns a mutable reference to the key, if the entry is a property.
     ///
     /// ```
     /// let mut entry = KdlEntry::parse(alloc, "port=8080")?;
@@ -221,7 +222,7 @@ impl KdlEntry {
         self.name.as_mut()
     }
 
-    /// Sets the key: a property with one, an argument with none.
+    /// Sets the key. The entry becomes a property with `Some`, and an argument with `None`.
     ///
     /// ```
     /// let mut entry = KdlEntry::parse(alloc, "port = 8080")?;
@@ -234,7 +235,7 @@ impl KdlEntry {
         self.name = name;
     }
 
-    /// The value.
+    /// Returns the value.
     ///
     /// ```
     /// let entry = KdlEntry::parse(alloc, "port=0x1F90")?;
@@ -246,8 +247,8 @@ impl KdlEntry {
         &self.value
     }
 
-    /// The value, to be changed in place. The format, with the spelling of the value, stays as it is: an entry that was
-    /// read prints the new value only after `clear_format`.
+    /// Returns a mutable reference to the value. The format, with the spelling of the value, is not changed: a parsed
+    /// entry prints a new value only after `clear_format`.
     ///
     /// ```
     /// let mut entry = KdlEntry::parse(alloc, "0x10")?;
@@ -261,16 +262,16 @@ impl KdlEntry {
         &mut self.value
     }
 
-    /// Sets the value. The format, with the spelling of the value, stays as it is: an entry that was read prints the new
-    /// value only after `clear_format`, or with another `value_repr` in its format.
+    /// Sets the value. The format, with the spelling of the value, is not changed: a parsed entry prints the new value
+    /// only after `clear_format`, or with another `value_repr` in its format.
     ///
     /// ```
     /// let mut entry = KdlEntry::parse(alloc, " port=0x1F90")?;
-    /// entry.set_value(KdlValue::from(9090)); // still prints " port=0x1F90": the spelling of the former value stays
+    /// entry.set_value(KdlValue::from(9090)); // still prints " port=0x1F90": the spelling of the former value is kept
     /// if let Some(format) = entry.format_mut() {
-    ///     format.value_repr = String::from_str(alloc, "9090")?; // prints " port=9090", and all else stays
+    ///     format.value_repr = String::from_str(alloc, "9090")?; // prints " port=9090", and all else is unchanged
     /// }
-    /// entry.clear_format(); // prints "port=9090": the space goes too, as would a comment in its place
+    /// entry.clear_format(); // prints "port=9090": the space is removed too, as a comment in its place would be
     /// ```
     pub fn set_value(&mut self, value: KdlValue)
         ensures { entry_tree self.new ≡ record (entry_tree self.old) { value = value_tree value } }
@@ -278,8 +279,8 @@ impl KdlEntry {
         self.value = value;
     }
 
-    /// Where the entry was in the text that it was parsed from, in bytes: from its type, key or value to the end of its
-    /// value, or all of a text that `KdlEntry::parse` read.
+    /// Returns the span of the entry in the text that it was parsed from, in bytes: from its type, key or value to the
+    /// end of its value, or the whole text if `KdlEntry::parse` read it.
     ///
     /// ```
     /// let span = KdlEntry::parse(alloc, " a=1")?.span(); // offset 0 and length 4: the whole text
@@ -302,7 +303,7 @@ impl KdlEntry {
         self.span = span;
     }
 
-    /// The type, where the entry has one.
+    /// Returns the type, if the entry has one.
     ///
     /// ```
     /// let entry = KdlEntry::parse(alloc, "port=(u16)8080")?;
@@ -314,7 +315,7 @@ impl KdlEntry {
         self.ty.as_ref()
     }
 
-    /// The type, to be changed in place, where the entry has one.
+    /// Returns a mutable reference to the type, if the entry has one.
     ///
     /// ```
     /// let mut entry = KdlEntry::parse(alloc, "(u16)8080")?;
@@ -343,7 +344,7 @@ impl KdlEntry {
         self.ty = Some(ty);
     }
 
-    /// The format, where the entry has one.
+    /// Returns the format, if the entry has one.
     ///
     /// ```
     /// let entry = KdlEntry::parse(alloc, "0x1F90")?;
@@ -358,7 +359,7 @@ impl KdlEntry {
         self.format.as_ref()
     }
 
-    /// The format, to be changed in place, where the entry has one.
+    /// Returns a mutable reference to the format, if the entry has one.
     ///
     /// ```
     /// let mut entry = KdlEntry::parse(alloc, "a=1")?;
@@ -380,7 +381,7 @@ impl KdlEntry {
     /// let mut format = KdlEntryFormat::new(alloc);
     /// format.value_repr = String::from_str(alloc, "0x10")?;
     /// let mut entry = KdlEntry::new(KdlValue::from(16));
-    /// entry.set_format(format); // prints "0x10"; that this spells 16 is not tested
+    /// entry.set_format(format); // prints "0x10"; whether this spells 16 is not checked
     /// ```
     pub fn set_format(&mut self, format: KdlEntryFormat)
         ensures { entry_tree self.new
@@ -389,12 +390,12 @@ impl KdlEntry {
         self.format = Some(format);
     }
 
-    /// Drops the format, and the spellings of the type and the key. With the format goes what comes before the entry,
-    /// comments and what a slashdash drops there too.
+    /// Drops the format, and the spellings of the type and the key. The format includes the text before the entry, with
+    /// its comments and slashdashed entries.
     ///
     /// ```
     /// let mut entry = KdlEntry::parse(alloc, "/* why */ \"port\"=0x10")?;
-    /// entry.clear_format(); // prints "port=16": the comment before it goes too
+    /// entry.clear_format(); // prints "port=16": the comment before it is removed too
     /// ```
     pub fn clear_format(&mut self)
         ensures { entry_tree self.new ≡ cleared (entry_tree self.old) }
@@ -404,8 +405,8 @@ impl KdlEntry {
         clear_spelling(&mut self.name);
     }
 
-    /// Sets the flag of the format, where the entry has one: the next autoformat keeps the spelling of the value and the leading
-    /// text.
+    /// Sets the flag of the format, if the entry has one: the next autoformat keeps the spelling of the value and the
+    /// leading text.
     ///
     /// ```
     /// let mut entry = KdlEntry::parse(alloc, "0x10")?;
@@ -422,8 +423,8 @@ impl KdlEntry {
         }
     }
 
-    /// Drops the format and the spellings of the type and the key. Of a flagged format the spelling of the value and
-    /// the leading text stay; the other texts become empty, and the flag is taken away.
+    /// Drops the format and the spellings of the type and the key. A flagged format keeps the spelling of the value and
+    /// the leading text; its other texts become empty, and its flag is removed.
     ///
     /// ```
     /// let mut entry = KdlEntry::parse(alloc, "\"a\" = 0x10")?;
@@ -437,7 +438,8 @@ impl KdlEntry {
         clear_spelling(&mut self.name);
     }
 
-    /// The length of the printed text, in bytes. It prints the entry: it fails where memory runs out.
+    /// Returns the length of the printed text, in bytes. This prints the entry, so it returns an error if an allocation
+    /// fails.
     ///
     /// ```
     /// let bytes = KdlEntry::parse(alloc, " a=0x10")?.len(alloc)?; // 7
@@ -448,7 +450,7 @@ impl KdlEntry {
         Ok(self.to_string(alloc)?.len())
     }
 
-    /// Whether the printed text is empty. It prints the entry: it fails where memory runs out.
+    /// Returns whether the printed text is empty. This prints the entry, so it returns an error if an allocation fails.
     ///
     /// ```
     /// let nothing = KdlEntry::new(KdlValue::Null).is_empty(alloc)?; // false: it prints "#null"
@@ -459,7 +461,7 @@ impl KdlEntry {
         Ok(self.to_string(alloc)?.is_empty())
     }
 
-    /// An entry as it was read: its key and type or none, its value, the texts around them and where it was.
+    /// An entry as it was parsed: its key and type, if any, its value, the texts around them and its span.
     pub(crate) fn parsed(
         ty: Option<KdlIdentifier>,
         name: Option<KdlIdentifier>,
@@ -486,7 +488,7 @@ impl KdlEntry {
         }
     }
 
-    /// A property without a type and a format, with the span 0 of length 0.
+    /// Creates a property without type or format, whose span has offset and length 0.
     ///
     /// ```
     /// let key = KdlIdentifier::from_text(alloc, "port")?;
@@ -501,7 +503,7 @@ impl KdlEntry {
     }
 }
 
-/// An argument, as by `KdlEntry::new`.
+/// Creates an argument, as `KdlEntry::new` does.
 ///
 /// ```
 /// let entry = KdlEntry::from(KdlValue::from(true)); // the argument `#true`
@@ -518,7 +520,7 @@ impl From<KdlValue> for KdlEntry {
     }
 }
 
-/// A property, as by `KdlEntry::new_prop`.
+/// Creates a property, as `KdlEntry::new_prop` does.
 ///
 /// ```
 /// let entry = KdlEntry::from((KdlIdentifier::from_text(alloc, "tls")?, KdlValue::from(true))); // prints "tls=#true"
@@ -535,7 +537,7 @@ impl From<(KdlIdentifier, KdlValue)> for KdlEntry {
     }
 }
 
-/// A copy with the same texts and spans. Fails where memory runs out.
+/// Returns a copy with the same texts and spans, or an error if an allocation fails.
 ///
 /// ```
 /// let entry = KdlEntry::parse(alloc, "a=0x10")?;
@@ -562,7 +564,7 @@ impl Clone for KdlEntry {
     }
 }
 
-/// With a format all its texts, without one the key, the type and the value alone.
+/// With a format all its texts, without one only the key, the type and the value.
 ///
 /// ```
 /// let read = KdlEntry::parse(alloc, " a=0x10")?.to_string(alloc)?; // " a=0x10", as it was read

@@ -22,17 +22,17 @@ use std::{fmt, mem};
 /// The spelling of a string.
 #[derive(Drop)]
 enum Spelling {
-    /// None is kept.
+    /// No spelling is kept.
     NotKept,
-    /// The string itself, as of what was read from a bare word: its text is in memory once.
+    /// The string itself, as for a bare string that was read: its text is in memory once.
     AsValue,
     /// Its own text.
     Own(String),
 }
 
-/// A name or a type: a string, with its spelling where it keeps one.
+/// A name or a type: a string, with its spelling if it keeps one.
 ///
-/// Equality and hash ignore the span and regard the spelling.
+/// Equality and hash ignore the span, but not the spelling.
 #[derive(Drop)]
 pub struct KdlIdentifier {
     value: String,
@@ -41,7 +41,7 @@ pub struct KdlIdentifier {
 }
 
 impl KdlIdentifier {
-    /// The text of the spelling, where the identifier keeps one.
+    /// The text of the spelling, if the identifier keeps one.
     fn spelling(&self) -> Option<&String>
         ensures { option_map (λ r. r.now) result ≡ spelling_of self.now }
     {
@@ -52,11 +52,11 @@ impl KdlIdentifier {
         }
     }
 
-    /// The string.
+    /// Returns the string.
     ///
     /// ```
     /// let name = KdlIdentifier::parse(alloc, "\"a\\tb\"")?;
-    /// let text = name.value(); // an `a`, a tabulator and a `b`
+    /// let text = name.value(); // an `a`, a tab and a `b`
     /// ```
     pub fn value(&self) -> &str
         ensures { chars result.now ≡ (identifier_tree self.now).value }
@@ -64,7 +64,7 @@ impl KdlIdentifier {
         self.value.as_str()
     }
 
-    /// Sets the string, and leaves the spelling: an identifier that was read prints the new string only after
+    /// Sets the string. The spelling is not changed: a parsed identifier prints the new string only after
     /// `clear_format`.
     ///
     /// ```
@@ -82,7 +82,7 @@ impl KdlIdentifier {
         }
     }
 
-    /// Where the identifier was in the text that it was parsed from, in bytes.
+    /// Returns the span of the identifier in the text that it was parsed from, in bytes.
     ///
     /// ```
     /// let span = KdlIdentifier::parse(alloc, "été")?.span(); // offset 0 and length 5: an `é` has two bytes
@@ -105,7 +105,7 @@ impl KdlIdentifier {
         self.span = span;
     }
 
-    /// The spelling, where the identifier keeps one.
+    /// Returns the spelling, if the identifier keeps one.
     ///
     /// ```
     /// let name = KdlIdentifier::parse(alloc, "\"a\"")?;
@@ -126,7 +126,7 @@ impl KdlIdentifier {
     ///
     /// ```
     /// let mut name = KdlIdentifier::from_text(alloc, "a")?;
-    /// name.set_repr(String::from_str(alloc, "#\"a\"#")?); // prints "#\"a\"#"; that this spells `a` is not tested
+    /// name.set_repr(String::from_str(alloc, "#\"a\"#")?); // prints "#\"a\"#"; whether this spells `a` is not checked
     /// ```
     pub fn set_repr(&mut self, repr: String)
         ensures { identifier_tree self.new
@@ -159,7 +159,8 @@ impl KdlIdentifier {
         self.clear_format();
     }
 
-    /// The length of the printed text, in bytes. It prints the identifier: it fails where memory runs out.
+    /// Returns the length of the printed text, in bytes. This prints the identifier, so it returns an error if an
+    /// allocation fails.
     ///
     /// ```
     /// let bytes = KdlIdentifier::parse(alloc, "\"é\"")?.len(alloc)?; // 4: the quotes are printed too
@@ -170,7 +171,8 @@ impl KdlIdentifier {
         Ok(self.to_string(alloc)?.len())
     }
 
-    /// Whether the printed text is empty. It prints the identifier: it fails where memory runs out.
+    /// Returns whether the printed text is empty. This prints the identifier, so it returns an error if an allocation
+    /// fails.
     ///
     /// ```
     /// let nothing = KdlIdentifier::from_text(alloc, "")?.is_empty(alloc)?; // false: it prints "\"\""
@@ -181,8 +183,8 @@ impl KdlIdentifier {
         Ok(self.to_string(alloc)?.is_empty())
     }
 
-    /// An identifier with a copy of the text as its string, without a spelling and with the span 0 of length 0.
-    /// Fails where memory runs out; an empty text takes none.
+    /// Creates an identifier with a copy of the text as its string, without a spelling. Its span has offset and length
+    /// 0. Returns an error if an allocation fails; an empty text needs none.
     ///
     /// ```
     /// let name = KdlIdentifier::from_text(alloc, "two words")?; // prints "\"two words\""
@@ -194,9 +196,9 @@ impl KdlIdentifier {
     }
 }
 
-/// An identifier as it was read: its string, the piece of the text that spells it, and where it was. Where the piece is
-/// the string, as a bare word is, the text is in memory once, and none is taken. Else it fails where memory runs
-/// out.
+/// Creates an identifier as it was read: its string, the piece of the text that spells it, and its span. If the piece
+/// is the string, as for a bare string, the text is in memory once, and nothing is allocated. Else returns an error if
+/// an allocation fails.
 ///
 /// ```
 /// let mut lexer = Lexer::new("ab=1", Steps::new());
@@ -224,11 +226,11 @@ pub fn sliced_identifier(
     Ok(KdlIdentifier { value, repr, span })
 }
 
-/// The allocator of the identifier's string.
+/// Returns the allocator of the identifier's string.
 ///
 /// ```
 /// let name = KdlIdentifier::from_text(alloc, "a")?;
-/// let more = String::new(*identifier_allocator(&name)); // takes its memory where the name does
+/// let more = String::new(*identifier_allocator(&name)); // uses the allocator of the name
 /// ```
 pub fn identifier_allocator(identifier: &KdlIdentifier) -> &Global
     ensures { result.now ≡ vec_allocator (string_vec (string_of identifier.now)) }
@@ -236,7 +238,8 @@ pub fn identifier_allocator(identifier: &KdlIdentifier) -> &Global
     identifier.value.allocator()
 }
 
-/// An identifier with the text as its string, without a spelling and with the span 0 of length 0. It takes no memory.
+/// Creates an identifier with the text as its string, without a spelling and without allocating. Its span has offset
+/// and length 0.
 ///
 /// ```
 /// let name = KdlIdentifier::from(String::from_str(alloc, "a")?); // prints "a"
@@ -257,7 +260,7 @@ impl From<String> for KdlIdentifier {
     }
 }
 
-/// The string; the spelling and the span are dropped.
+/// Returns the string; the spelling and the span are dropped.
 ///
 /// ```
 /// let text = String::from(KdlIdentifier::parse(alloc, "\"a\"")?); // "a": the string, and not its spelling
@@ -274,7 +277,7 @@ impl From<KdlIdentifier> for String {
     }
 }
 
-/// A copy with the same string, spelling and span. Fails where memory runs out.
+/// Returns a copy with the same string, spelling and span, or an error if an allocation fails.
 ///
 /// ```
 /// let name = KdlIdentifier::parse(alloc, "\"a\"")?;
@@ -319,12 +322,12 @@ impl fmt::Display for KdlIdentifier {
     }
 }
 
-/// Whether the strings and the spellings are equal, wherever the identifiers were.
+/// Whether the strings and the spellings are equal, regardless of the spans.
 ///
 /// ```
 /// let bare = KdlIdentifier::parse(alloc, "a")?;
 /// let quoted = KdlIdentifier::parse(alloc, "\"a\"")?;
-/// let same = bare == quoted; // false: they are spelled otherwise
+/// let same = bare == quoted; // false: their spellings differ
 /// ```
 impl PartialEq for KdlIdentifier {
     ghost use Rattle.kdl_entry.specs.Fields.{string_of};

@@ -1,4 +1,4 @@
-//! The items of a text: the entries and identifiers that its tokens make.
+//! The entries and identifiers that the tokens of a text make up.
 
 mod entries;
 mod identifiers;

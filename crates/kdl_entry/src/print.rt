@@ -11,7 +11,7 @@ use kdl_value::{write_char, write_text};
 use std::fmt;
 use std::fmt::{Display, Formatter, Write};
 
-/// Writes a type between parentheses, with a text before it and one after it; nothing where there is none.
+/// Writes a type between parentheses, with a text before it and one after it. Writes nothing if there is no type.
 ///
 /// ```
 /// write_type(&None, " ", "", f)?; // writes nothing; of the type `u16` it writes "( u16)"
@@ -36,7 +36,7 @@ pub fn write_type<W: Write>(
     Ok(())
 }
 
-/// Writes the key of a property and `=`, with a text after each; nothing where there is none.
+/// Writes the key of a property and `=`, with a text after each. Writes nothing if there is no key.
 pub(crate) fn write_key<W: Write>(
     name: &Option<KdlIdentifier>,
     after_key: &str,

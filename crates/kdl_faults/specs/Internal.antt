@@ -1,6 +1,6 @@
--- What only proofs and contracts inside the crates need: no contract of a public call of `kdl` speaks of it.
+-- Definitions that only proofs and contracts inside the crates use: no contract of a public call of `kdl` mentions them.
 
--- What a reader of faults holds: places and spans of the text that it reads.
+-- The places and spans that a reader of faults keeps are in the text that it reads.
 pub mod Noted
--- What the readers of pieces and value ends go past, and what that costs.
+-- What the readers of pieces and value ends advance past, and what that costs.
 pub mod Reading

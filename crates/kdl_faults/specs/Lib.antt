@@ -1,4 +1,4 @@
 -- The kinds of faults in numbers.
 pub mod Kinds
--- What only proofs and contracts inside the crates need.
+-- Definitions that only proofs and contracts inside the crates use.
 pub mod Internal

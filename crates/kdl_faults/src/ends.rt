@@ -11,33 +11,34 @@ use kdl_text::chars::{Class, is_newline_char, is_space};
 use kdl_text::cursor::{Checkpoint, Cursor, newline};
 use kdl_text::trivia::{block_comment, line_comment, spaces};
 
-/// A block comment that isn't closed, up to the end of the text.
+/// An unclosed block comment, up to the end of the text.
 #[derive(Drop)]
 pub(crate) struct Unclosed<'a> {
     pub start: Checkpoint<'a>,
     pub end: Checkpoint<'a>,
 }
 
-/// Where the next value end is.
+/// The next value end.
 #[derive(Drop)]
 pub(crate) struct ValueEnd<'a> {
     pub place: Checkpoint<'a>,
-    /// A block comment that isn't closed, in what begins as an escline there.
+    /// An unclosed block comment, in what begins as an escline there.
     pub comment: Option<Unclosed<'a>>,
 }
 
 /// What follows a backslash.
 #[derive(Drop)]
 pub(crate) enum Behind<'a> {
-    /// What makes an escline of it, which the cursor went past.
+    /// The rest of an escline. The cursor is after it.
     Escline,
-    /// Nothing that does. The cursor went past spaces and block comments.
+    /// Anything else. The cursor is after the spaces and block comments here.
     Other,
-    /// A block comment that isn't closed. The cursor is at the end of the text.
+    /// An unclosed block comment. The cursor is at the end of the text.
     Unclosed(Unclosed<'a>),
 }
 
-/// Goes past spaces and block comments. Where one begins that isn't closed, the cursor is at the end of the text.
+/// Advances past spaces and block comments. If a comment is unclosed, returns it; the cursor is then at the end of the
+/// text.
 fn ws_run<'a>(cursor: &mut Cursor<'a>) -> Option<Unclosed<'a>>
     ensures comment { OnUnclosed cursor.old result cursor.new }
     ensures moves { Moves cursor.old cursor.new }
@@ -58,7 +59,7 @@ fn ws_run<'a>(cursor: &mut Cursor<'a>) -> Option<Unclosed<'a>>
     }
 }
 
-/// Goes past what follows a backslash.
+/// Advances past what follows a backslash.
 pub(crate) fn behind_backslash<'a>(cursor: &mut Cursor<'a>) -> Behind<'a>
     ensures comment { StandsBehind cursor.old result cursor.new }
     ensures moves { Moves cursor.old cursor.new }
@@ -78,7 +79,7 @@ pub(crate) fn behind_backslash<'a>(cursor: &mut Cursor<'a>) -> Behind<'a>
     }
 }
 
-/// Whether a value end of one character begins with c, or a space or a newline does.
+/// Whether the character c ends a value by itself, or is a space or the start of a newline.
 fn ends_value(c: char) -> bool {
     matches!(c, '=' | ')' | '{' | '}' | ';') || is_space(c) || is_newline_char(c)
 }
@@ -90,9 +91,9 @@ fn begins_slash_piece(cursor: &mut Cursor) -> bool
     cursor.looks_two('/', '*') || cursor.looks_two('/', '/') || cursor.looks_two('/', '-')
 }
 
-/// The value end at a backslash, where there is one: the backslash itself where it begins an escline, or the place after it
-/// where spaces or a comment follow. A backslash before a block comment that isn't closed begins no escline. None: the cursor
-/// went past the backslash alone.
+/// The value end at a backslash, if there is one: the backslash itself if it begins an escline, or the place after it
+/// if spaces or a comment follow. A backslash before an unclosed block comment does not begin an escline. If the result
+/// is `None`, the cursor is directly after the backslash.
 fn end_at_backslash<'a>(cursor: &mut Cursor<'a>) -> Option<ValueEnd<'a>>
     requires { begins 92 cursor.old.rest ≡ true }
     ensures end { IfSome result (λ e. IsEnd cursor.old e cursor.new) }
@@ -120,7 +121,7 @@ fn end_at_backslash<'a>(cursor: &mut Cursor<'a>) -> Option<ValueEnd<'a>>
     }
 }
 
-/// Goes on to the next value end, from here on. The cursor may go past an escline, or past spaces and comments, that begin
+/// Advances to the next value end. The cursor may also advance past an escline, or past spaces and comments, that begin
 /// there.
 pub(crate) fn value_end<'a>(cursor: &mut Cursor<'a>) -> ValueEnd<'a>
     ensures end { IsEnd cursor.old result cursor.new }

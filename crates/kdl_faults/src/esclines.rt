@@ -17,13 +17,13 @@ use std::alloc::{AllocError, Global};
 pub(crate) struct Candidate {
     /// Where the backslash is, in bytes from the start of the text.
     pub at: usize,
-    /// The number of the string's fault among the faults of the text, from 0 on.
+    /// The index of the string's fault among the faults of the text.
     pub number: usize,
     /// The string's fault if the backslash begins an escline.
     pub fault: Fault,
 }
 
-/// A part of a text, as far as block comments and esclines go.
+/// A part of a text that matters to block comments and esclines.
 #[derive(Clone, Copy)]
 enum Part {
     /// `/*`.
@@ -42,7 +42,7 @@ enum Part {
     Last,
 }
 
-/// The part that begins with a slash, which the cursor went past.
+/// The part that begins with a slash; the cursor is after the slash.
 fn slash_part(cursor: &mut Cursor) -> Part
     ensures moves { Moves cursor.old cursor.new }
     ensures most { cursor.new.steps ≤ cursor.old.steps + 2 }
@@ -56,7 +56,7 @@ fn slash_part(cursor: &mut Cursor) -> Part
     }
 }
 
-/// The part that begins with a star, which the cursor went past.
+/// The part that begins with a star; the cursor is after the star.
 fn star_part(cursor: &mut Cursor) -> Part
     ensures moves { Moves cursor.old cursor.new }
     ensures most { cursor.new.steps ≤ cursor.old.steps + 2 }
@@ -68,7 +68,7 @@ fn star_part(cursor: &mut Cursor) -> Part
     }
 }
 
-/// The part that the character c is alone, which is no slash and no star.
+/// The part that the character c is by itself. It is neither a slash nor a star.
 fn part_of(c: char) -> Part {
     match c {
         '\\' => Part::Backslash,
@@ -78,7 +78,7 @@ fn part_of(c: char) -> Part {
     }
 }
 
-/// Goes past the part here.
+/// Advances past the part here, and returns it.
 fn next_part(cursor: &mut Cursor) -> Part
     ensures moves { Moves cursor.old cursor.new }
     ensures went { (result ≡ Last → ⊥) → bytes cursor.new.rest < bytes cursor.old.rest }
@@ -95,12 +95,11 @@ fn next_part(cursor: &mut Cursor) -> Part
 /// The block comments around a place in a text.
 #[derive(Drop)]
 struct Comments {
-    /// How many candidates are before the place.
+    /// The number of candidates before the place.
     next: usize,
-    /// For each open block comment the candidate before it, with only spaces and block comments
-    /// between.
+    /// For each open block comment the candidate before it, if only spaces and block comments are between.
     open: Vec<Option<usize>>,
-    /// The candidate before the place, with only spaces and block comments between.
+    /// The candidate before the place, if only spaces and block comments are between.
     last: Option<usize>,
     /// The candidates that begin an escline.
     found: Vec<usize>,
@@ -117,7 +116,7 @@ impl Comments {
         }
     }
 
-    /// The candidate whose backslash is at the place, if one is.
+    /// The candidate whose backslash is at the place, if there is one.
     fn begin(&mut self, at: usize, candidates: &[Candidate]) -> Option<usize> {
         let next = self.next;
         if next >= candidates.len() || candidates[next].at != at {
@@ -127,7 +126,7 @@ impl Comments {
         Some(next)
     }
 
-    /// Goes past the part at the place.
+    /// Takes the part at the place.
     fn take(&mut self, part: Part, at: usize, candidates: &[Candidate]) -> Result<(), AllocError> {
         self.last = match part {
             Part::Space => self.last,
@@ -149,8 +148,8 @@ impl Comments {
     }
 }
 
-/// The candidates that begin an escline, by their numbers from 0 on. The candidates are in the order
-/// of the text. The cursor is before the first one, and goes to the end of the text.
+/// Returns the candidates that begin an escline, by their numbers from 0. The candidates are in the order of the text.
+/// The cursor begins before the first one, and advances to the end of the text.
 ///
 /// A backslash is never a part of `/*` or `*/`, and block comments nest. So one pass reads the block
 /// comments of all candidates.

@@ -1,4 +1,4 @@
-//! The faults that a text can have, and the words that report them.
+//! The faults that a text can have, and the messages that report them.
 
 ghost use Rattle.kdl_faults.specs.Kinds.{form_of, kind_of};
 ghost use Rattle.std.specs.Prelude.{◌≡◌};
@@ -16,7 +16,7 @@ pub enum Form {
 }
 
 impl Form {
-    /// The form of a whole number in the base.
+    /// Returns the form of a whole number in the base.
     pub fn of(radix: Radix) -> Form
         ensures { result ≡ form_of radix }
     {
@@ -32,29 +32,29 @@ impl Form {
 /// What is wrong at a place of a text.
 #[derive(Clone, Copy)]
 pub enum Kind {
-    /// A `{` where a node's name is due.
+    /// A `{` where a node's name is expected.
     Nameless,
-    /// No string where a node's name is due.
+    /// No string where a node's name is expected.
     Name,
     /// A bare string without a value end after it.
     BareEnd,
-    /// Identifier characters that are no bare string: a keyword without its `#`, or a point and a digit.
+    /// Identifier characters that are not a bare string: a keyword without its `#`, or a point and a digit.
     Bare,
     /// A quoted string without a value end after it.
     QuotedEnd,
-    /// A quoted string that is not closed, or that has a character or an escape that it can't have.
+    /// A quoted string that is unclosed, or that has a character or an escape that it can't have.
     Quoted,
-    /// A newline in a quoted string of one line.
+    /// A newline in a single-line quoted string.
     QuotedNewline,
     /// Three quotes with no newline after them.
     Opening,
-    /// A line of a string of many lines that lacks the last line's spaces.
+    /// A line of a multi-line string that lacks the last line's spaces.
     Prefix,
     /// A raw string without a value end after it.
     RawEnd,
-    /// A raw string of one line that is one quote or begins with two.
+    /// A single-line raw string whose content is one quote or begins with two.
     RawQuotes,
-    /// A raw string that is not closed, or that has a character or lines that it can't have.
+    /// A raw string that is unclosed, or that has a character or lines that it can't have.
     Raw,
     /// A number without a value end after it.
     NumberEnd(Form),
@@ -64,24 +64,24 @@ pub enum Kind {
     Fraction,
     /// A decimal without a digit in its exponent.
     Exponent,
-    /// A whole number past `i128`.
+    /// A whole number that does not fit in an `i128`.
     Range,
     /// A `#` without a keyword after it.
     Keyword,
-    /// Anything but one string alone between `(` and `)`.
+    /// Anything but exactly one string between `(` and `)`.
     Type,
     /// A `=` without a value after it.
     Value,
-    /// A block that is not closed.
+    /// An unclosed block.
     Block,
-    /// A block comment that is not closed.
+    /// An unclosed block comment.
     Comment,
     /// Anything else that can't be where it is.
     Misplaced,
 }
 
 impl Kind {
-    /// The kind of a number's fault.
+    /// Returns the kind of a number's fault.
     pub fn of(fault: NumberFault) -> Kind
         ensures { result ≡ kind_of fault }
     {
@@ -95,7 +95,7 @@ impl Kind {
         }
     }
 
-    /// The words for the kind.
+    /// Returns the message, label and hint for the kind.
     pub fn words(self) -> Words {
         match self {
             Kind::Nameless | Kind::Name => self.words_of_names(),
@@ -114,7 +114,7 @@ impl Kind {
         }
     }
 
-    /// The words of a fault where a name is due.
+    /// The message, label and hint of a fault where a name is expected.
     fn words_of_names(self) -> Words {
         match self {
             Kind::Nameless => Words {
@@ -134,7 +134,7 @@ impl Kind {
         }
     }
 
-    /// The words of a fault in a bare or a raw string.
+    /// The message, label and hint of a fault in a bare or a raw string.
     fn words_of_strings(self) -> Words {
         match self {
             Kind::BareEnd => Words {
@@ -167,7 +167,7 @@ impl Kind {
         }
     }
 
-    /// The words of a fault in a quoted string.
+    /// The message, label and hint of a fault in a quoted string.
     fn words_of_quoted(self) -> Words {
         let label = "not quoted string";
         match self {
@@ -203,7 +203,7 @@ impl Kind {
         }
     }
 
-    /// The words of a fault in the digits of a number.
+    /// The message, label and hint of a fault in the digits of a number.
     fn words_of_digits(self) -> Words {
         match self {
             Kind::Fraction => Words {
@@ -224,7 +224,8 @@ impl Kind {
         }
     }
 
-    /// The words of a fault in a keyword, a type, a property, a block or a comment, and of what fits nowhere.
+    /// The message, label and hint of a fault in a keyword, a type, a property, a block or a comment, and of anything
+    /// misplaced.
     fn words_of_places(self) -> Words {
         let (message, label) = match self {
             Kind::Keyword => {
@@ -251,7 +252,7 @@ impl Kind {
     }
 }
 
-/// What is said of a fault: a sentence, a word for the place, and what may help.
+/// How a fault is reported: a message, a label for the span, and a hint.
 #[derive(Clone, Copy)]
 pub struct Words {
     pub message: &'static str,
@@ -259,15 +260,15 @@ pub struct Words {
     pub help: Option<&'static str>,
 }
 
-/// The help where a value is read and no value end follows it.
+/// The hint for a value without a value end after it.
 const VALUE_END: &str =
     "A valid value was partially parsed, but was not followed by a value terminator. Did you want a space here?";
 
-/// The help where a keyword is due.
+/// The hint where a keyword is expected.
 const KEYWORDS: &str =
     "Available keywords in KDL are '#true', '#false', '#null', '#nan', '#inf', and '#-inf'; they are case-sensitive.";
 
-/// What is said of a faulty number of the form.
+/// The message, label and hint of a faulty number of the form.
 fn words_of_number(form: Form) -> Words {
     let (message, label) = match form {
         Form::Integer => ("Expected integer", "not integer"),

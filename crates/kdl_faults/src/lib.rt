@@ -1,7 +1,7 @@
-//! What is wrong with a text that is refused: each fault in it, with its place and its words.
+//! The faults of a refused text, each with its span and its message.
 //!
-//! The reader of faults goes over the text once more, from its start, with pieces and a machine of its own: it holds the
-//! phase of the grammar and the open blocks, builds nothing, and goes on after a fault. So a text that is accepted pays
+//! The reader of faults reads the text again, from its start, by its own pieces and its own machine. The machine keeps
+//! the phase of the grammar and the open blocks, builds nothing, and continues after a fault. An accepted text pays
 //! nothing for it.
 #![tactic(auto)]
 

@@ -1,7 +1,7 @@
-//! What is due at a place of a text, and what a piece changes there.
+//! What is expected at a place of a text, and what a piece changes there.
 //!
-//! The machine holds the phase of the grammar and the open blocks, and builds nothing. Where a piece does not fit, what was due
-//! counts as read, and the machine goes on from there.
+//! The machine keeps the phase of the grammar and the open blocks, and builds nothing. If a piece does not fit, what
+//! was expected counts as read, and the machine continues from there.
 
 use crate::kind::Kind;
 use crate::pieces::{PieceKind, StringRole};
@@ -17,7 +17,7 @@ pub(crate) enum Typed {
     Property,
 }
 
-/// What may be dropped after a `/-`.
+/// What a `/-` may drop.
 #[derive(Clone, Copy)]
 pub(crate) enum Dropped {
     /// An entry or a block.
@@ -28,7 +28,7 @@ pub(crate) enum Dropped {
     Last,
 }
 
-/// Where in the grammar a place is.
+/// The phase of the grammar at a place.
 #[derive(Clone, Copy)]
 pub(crate) enum Phase {
     /// Between nodes.
@@ -37,11 +37,11 @@ pub(crate) enum Phase {
     NodeSlashdash,
     /// After the name or an entry of a node.
     Node,
-    /// After a string there that may be a key.
+    /// After a string in a node that may be a key.
     Word,
     /// After `/-` in a node.
     Drop(Dropped),
-    /// After a dropped block, before the node's own.
+    /// After a slashdashed block, before the node's own.
     Later,
     /// After the node's block.
     Behind,
@@ -51,31 +51,31 @@ pub(crate) enum Phase {
     TypeOpen(Typed),
     /// After the name in a type.
     TypeName(Typed),
-    /// In a type that is faulty.
+    /// In a faulty type.
     TypeFaulty,
-    /// After such a type: what it belongs to may follow.
+    /// After a faulty type: what it belongs to may follow.
     Typeless,
     /// After a type.
     TypeDone(Typed),
-    /// After the only node or entry of a text, where line-spaces alone follow.
+    /// After the only node or entry of a text: only line-spaces may follow.
     Over,
 }
 
-/// What a piece does where it fits.
+/// What a piece does.
 #[derive(Clone, Copy)]
 pub(crate) enum Move {
-    /// On to the phase.
+    /// Continues in the phase.
     To(Phase),
-    /// A block opens, after which the phase follows.
+    /// Opens a block, after which the phase follows.
     Open(Phase),
-    /// The block closes, or there is none.
+    /// Closes the block, if there is one.
     Close,
-    /// It does not fit.
+    /// Does not fit.
     Refuse,
 }
 
 impl Phase {
-    /// What is wrong where a piece does not fit.
+    /// The fault if a piece does not fit.
     pub(crate) fn misfit(self) -> Kind {
         match self {
             Phase::Gap | Phase::NodeSlashdash | Phase::TypeDone(Typed::Node) => Kind::Name,
@@ -85,7 +85,7 @@ impl Phase {
         }
     }
 
-    /// Whether something is due that the end of the text does not bring.
+    /// Whether something is expected, so that the text may not end here.
     pub(crate) fn is_due(self) -> bool {
         !matches!(
             self,
@@ -100,7 +100,7 @@ impl Phase {
         )
     }
 
-    /// What a string is in the phase.
+    /// The role of a string in the phase.
     pub(crate) fn string_role(self) -> StringRole {
         match self {
             Phase::TypeOpen(_) => StringRole::TypeName,
@@ -129,7 +129,7 @@ impl Phase {
         }
     }
 
-    /// The phase after a piece that does not fit: what was due counts as read.
+    /// The phase after a piece that does not fit: what was expected counts as read.
     pub(crate) fn behind_misfit(self, kind: PieceKind) -> Phase {
         match (self, kind) {
             (Phase::TypeOpen(_), PieceKind::Right) => Phase::Typeless,
@@ -145,7 +145,7 @@ impl Phase {
     }
 }
 
-/// Between nodes.
+/// What a piece does between nodes.
 fn in_gap(kind: PieceKind) -> Move {
     match kind {
         PieceKind::Newline => Move::To(Phase::Gap),
@@ -157,7 +157,7 @@ fn in_gap(kind: PieceKind) -> Move {
     }
 }
 
-/// Between nodes, after `/-`.
+/// What a piece does between nodes, after `/-`.
 fn in_node_slashdash(kind: PieceKind) -> Move {
     match kind {
         PieceKind::Newline => Move::To(Phase::NodeSlashdash),
@@ -176,7 +176,7 @@ fn at_end_of_node(kind: PieceKind) -> Move {
     }
 }
 
-/// After the name or an entry of a node, which may be a key.
+/// What a piece does after the name or an entry of a node, which may be a key.
 fn in_node(kind: PieceKind, is_key: bool) -> Move {
     match kind {
         PieceKind::String => Move::To(Phase::Word),
@@ -189,7 +189,7 @@ fn in_node(kind: PieceKind, is_key: bool) -> Move {
     }
 }
 
-/// After `/-` in a node.
+/// What a piece does after `/-` in a node.
 fn behind_slashdash(dropped: Dropped, kind: PieceKind) -> Move {
     match (kind, dropped) {
         (PieceKind::Newline, _) => Move::To(Phase::Drop(dropped)),
@@ -202,7 +202,7 @@ fn behind_slashdash(dropped: Dropped, kind: PieceKind) -> Move {
     }
 }
 
-/// After a dropped block, before the node's own.
+/// What a piece does after a slashdashed block, before the node's own.
 fn behind_dropped_block(kind: PieceKind) -> Move {
     match kind {
         PieceKind::Slashdash => Move::To(Phase::Drop(Dropped::Block)),
@@ -211,7 +211,7 @@ fn behind_dropped_block(kind: PieceKind) -> Move {
     }
 }
 
-/// After the node's block.
+/// What a piece does after the node's block.
 fn behind_block(kind: PieceKind) -> Move {
     match kind {
         PieceKind::Slashdash => Move::To(Phase::Drop(Dropped::Last)),
@@ -219,7 +219,7 @@ fn behind_block(kind: PieceKind) -> Move {
     }
 }
 
-/// Where a value is due, which may have a type.
+/// What a piece does where a value is expected, which may have a type.
 fn at_value(typed: Typed, kind: PieceKind) -> Move {
     match kind {
         PieceKind::String | PieceKind::Value => Move::To(Phase::Node),
@@ -228,7 +228,7 @@ fn at_value(typed: Typed, kind: PieceKind) -> Move {
     }
 }
 
-/// After the `(` of a type.
+/// What a piece does after the `(` of a type.
 fn in_type(typed: Typed, kind: PieceKind) -> Move {
     match kind {
         PieceKind::String => Move::To(Phase::TypeName(typed)),
@@ -236,7 +236,7 @@ fn in_type(typed: Typed, kind: PieceKind) -> Move {
     }
 }
 
-/// After the name in a type.
+/// What a piece does after the name in a type.
 fn behind_type_name(typed: Typed, kind: PieceKind) -> Move {
     match kind {
         PieceKind::Right => Move::To(Phase::TypeDone(typed)),
@@ -244,7 +244,7 @@ fn behind_type_name(typed: Typed, kind: PieceKind) -> Move {
     }
 }
 
-/// In a type that is faulty: up to its `)`, or to what ends or opens a block or ends the node.
+/// What a piece does in a faulty type: up to its `)`, or to what opens or ends a block or ends the node.
 fn in_faulty_type(kind: PieceKind) -> Move {
     match kind {
         PieceKind::Right => Move::To(Phase::Typeless),
@@ -254,7 +254,7 @@ fn in_faulty_type(kind: PieceKind) -> Move {
     }
 }
 
-/// After a type that is faulty: a name or a value may follow, or what follows that.
+/// What a piece does after a faulty type: a name or a value may follow, or what follows that.
 fn behind_faulty_type(kind: PieceKind) -> Move {
     match kind {
         PieceKind::String | PieceKind::Value => Move::To(Phase::Node),
@@ -262,7 +262,7 @@ fn behind_faulty_type(kind: PieceKind) -> Move {
     }
 }
 
-/// After a type.
+/// What a piece does after a type.
 fn behind_type(typed: Typed, kind: PieceKind) -> Move {
     match (kind, typed) {
         (PieceKind::String, _) => Move::To(Phase::Node),
@@ -271,7 +271,7 @@ fn behind_type(typed: Typed, kind: PieceKind) -> Move {
     }
 }
 
-/// After the only node or entry of a text.
+/// What a piece does after the only node or entry of a text.
 fn behind_all(kind: PieceKind) -> Move {
     match kind {
         PieceKind::Newline => Move::To(Phase::Over),

@@ -1,6 +1,6 @@
-//! The pieces of a text, one at a time, the faulty ones too.
+//! The pieces of a text, including faulty ones, one at a time.
 //!
-//! Nothing is built: the reader finds where a string, a number or a keyword ends, and what is wrong with it.
+//! Nothing is built: the reader finds where a string, a number or a keyword ends, and its fault.
 
 ghost use Rattle.kdl_faults.specs.Internal.Reading.{Begins, FindsAlso, IsPiece, Most, MostFrom, NoEarlier, OnFound, Spans, Stands, WentPast, gone};
 ghost use Rattle.kdl_text.specs.Chars.{Text, is_identifier_char, is_number_sign, starts};
@@ -19,7 +19,7 @@ use kdl_text::strings::bare_string;
 use kdl_text::trivia::{SlashRead, slash};
 use std::alloc::{AllocError, Global};
 
-/// What a piece is.
+/// The kind of a piece.
 #[derive(Clone, Copy)]
 pub(crate) enum PieceKind {
     /// A run of spaces, a block comment or an escline.
@@ -44,7 +44,7 @@ pub(crate) enum PieceKind {
     Equals,
     /// `;`.
     Semicolon,
-    /// A block comment that is not closed.
+    /// An unclosed block comment.
     Comment,
     /// A character with which no piece begins.
     Other,
@@ -52,14 +52,14 @@ pub(crate) enum PieceKind {
     End,
 }
 
-/// What a string is in the place where a piece begins.
+/// The role of a string at the place where a piece begins.
 #[derive(Clone, Copy)]
 pub(crate) enum StringRole {
-    /// A name, a key or a value, or a string outside types that can't be there: its fault is its own.
+    /// A name, a key or a value, or a misplaced string outside a type. A fault in it is the string's.
     Plain,
-    /// The name in a type: where the string is faulty, the type is.
+    /// The name in a type. A fault in it is the type's.
     TypeName,
-    /// A second item in a type, which is faulty from the string's start on.
+    /// A second item in a type. The type is faulty from the string's start on.
     SecondItem,
 }
 
@@ -71,16 +71,16 @@ pub(crate) struct Piece<'a> {
     pub start: Checkpoint<'a>,
     /// The place after its first character.
     pub next: Checkpoint<'a>,
-    /// The next value end from its fault on; of a piece that ends a value, its start.
+    /// The next value end from its fault on, or the start of a piece that ends a value.
     pub end: Checkpoint<'a>,
-    /// What is wrong with a string, a number or a keyword.
+    /// The fault of a string, a number or a keyword.
     pub fault: Option<Kind>,
-    /// The backslash before the end of a string's fault, where a block comment after it begins in
-    /// the string and is not closed there.
+    /// The backslash before the end of a string's fault, if a block comment after it begins in the string and is not
+    /// closed there.
     pub backslash: Option<Checkpoint<'a>>,
-    /// A block comment that isn't closed, in what begins as an escline after the piece.
+    /// An unclosed block comment, in what begins as an escline after the piece.
     pub comment: Option<Unclosed<'a>>,
-    /// Whether the text ended in it.
+    /// Whether the text ended in the middle of it.
     pub cut: bool,
 }
 
@@ -109,7 +109,7 @@ fn plain<'a>(kind: PieceKind, start: Start<'a>) -> Piece<'a>
     }
 }
 
-/// A block comment that isn't closed.
+/// An unclosed block comment.
 fn unclosed<'a>(comment: Unclosed<'a>) -> Piece<'a>
     requires { Ahead comment.start comment.end }
     ensures stands { (from : Spot) → Ahead from comment.entry.start → Stands from.rest result }
@@ -127,7 +127,7 @@ fn unclosed<'a>(comment: Unclosed<'a>) -> Piece<'a>
     }
 }
 
-/// Goes past a character with which no piece begins, and on to the next value end.
+/// Advances past a character with which no piece begins, and on to the next value end.
 fn other<'a>(cursor: &mut Cursor<'a>, start: Start<'a>) -> Piece<'a>
     requires { Begins start }
     ensures piece { IsPiece start.entry.place result cursor.new }
@@ -148,7 +148,7 @@ fn other<'a>(cursor: &mut Cursor<'a>, start: Start<'a>) -> Piece<'a>
     }
 }
 
-/// Goes past what begins with the slash here.
+/// Advances past what begins with the slash here.
 fn slash_piece<'a>(cursor: &mut Cursor<'a>, start: Start<'a>) -> Piece<'a>
     requires start { Begins start }
     requires here { cursor.old ≡ gone start.place cursor.old }
@@ -168,7 +168,7 @@ fn slash_piece<'a>(cursor: &mut Cursor<'a>, start: Start<'a>) -> Piece<'a>
     }
 }
 
-/// Goes past what begins with the backslash here.
+/// Advances past what begins with the backslash here.
 fn backslash_piece<'a>(cursor: &mut Cursor<'a>, start: Start<'a>) -> Piece<'a>
     requires start { Begins start }
     ensures piece { IsPiece start.entry.place result cursor.new }
@@ -193,8 +193,8 @@ fn backslash_piece<'a>(cursor: &mut Cursor<'a>, start: Start<'a>) -> Piece<'a>
     }
 }
 
-/// A string, a number or a keyword that ends here. Without a value end here it has that fault, unless it has another
-/// one already; that a number is too great comes second.
+/// A string, a number or a keyword that ends here. If no value end is here, that is its fault, unless it has another
+/// one already. A number out of range has that fault only if a value end is here.
 fn word<'a>(
     cursor: &mut Cursor<'a>,
     kind: PieceKind,
@@ -228,8 +228,8 @@ fn word<'a>(
     }
 }
 
-/// Goes on by so many bytes, or to the end of the text. Returns the place before the last character
-/// that it goes past.
+/// Advances by the given number of bytes, or to the end of the text. Returns the place before the last character that
+/// it passes.
 fn go_on<'a>(cursor: &mut Cursor<'a>, by: usize) -> Checkpoint<'a>
     ensures last { (p : Text) × (cursor.old.rest ≡ p ++ result.rest) }
     ensures moves { Moves cursor.old cursor.new }
@@ -246,12 +246,11 @@ fn go_on<'a>(cursor: &mut Cursor<'a>, by: usize) -> Checkpoint<'a>
     last
 }
 
-/// The first value end from a place in a string on, in the string alone.
+/// The first value end in a string, from a place in it on.
 #[derive(Drop)]
 struct EndWithin<'a> {
     place: Checkpoint<'a>,
-    /// The backslash before it, where a block comment after it begins in the string and is not
-    /// closed there.
+    /// The backslash before the value end, if a block comment after it begins in the string and is not closed there.
     backslash: Option<Checkpoint<'a>>,
 }
 
@@ -276,8 +275,8 @@ fn end_within<'a>(cursor: &mut Cursor<'a>, from: &Checkpoint<'a>) -> EndWithin<'
     }
 }
 
-/// Where a fault in a string ends: at the value end in the string, or else at the one after it. A string that looks like
-/// one of many lines is faulty as a whole.
+/// The end of a fault in a string: the value end in the string, or else the one after it. A string that looks like a
+/// multi-line string is faulty as a whole.
 fn end_of_fault<'a>(
     kind: Kind,
     inside: Checkpoint<'a>,
@@ -296,7 +295,7 @@ fn end_of_fault<'a>(
     }
 }
 
-/// The fault of a string that begins at the place, where this one was found in it: in a type it is the type's.
+/// The fault to report if this one was found in the string that begins at the place: in a type it is the type's.
 fn fault_in_role<'a>(
     role: StringRole,
     start: &Checkpoint<'a>,
@@ -320,8 +319,8 @@ fn fault_in_role<'a>(
     }
 }
 
-/// A string that the cursor went past. Its fault goes up to the value end from there on, and the cursor goes to the value
-/// end after the string.
+/// A string that the cursor has passed. Its fault ends at the next value end from the fault on, and the cursor advances
+/// to the value end after the string.
 fn string<'a>(
     cursor: &mut Cursor<'a>,
     start: Start<'a>,
@@ -392,7 +391,7 @@ fn number_fault<'a>(
     }
 }
 
-/// Goes past the number here.
+/// Advances past the number here.
 fn number_piece<'a>(
     alloc: Global,
     cursor: &mut Cursor<'a>,
@@ -412,7 +411,7 @@ fn number_piece<'a>(
     Ok(word(cursor, PieceKind::Value, start, fault, without_end))
 }
 
-/// Goes past the identifier characters here, which are no number.
+/// Advances past the identifier characters here, which are not a number.
 fn bare_piece<'a>(cursor: &mut Cursor<'a>, start: Start<'a>) -> Piece<'a>
     requires start { Spans start }
     requires here { cursor.old ≡ gone start.place cursor.old }
@@ -441,7 +440,7 @@ fn keyword_fault<'a>(cursor: &mut Cursor<'a>, word: &Segment<'a>) -> Option<Kind
     }
 }
 
-/// Goes past what follows the number signs of a keyword.
+/// Advances past what follows the number signs of a keyword.
 fn keyword_piece<'a>(cursor: &mut Cursor<'a>, start: Start<'a>) -> Piece<'a>
     requires start { Spans start }
     requires here { Follows start.place cursor.old }
@@ -456,7 +455,7 @@ fn keyword_piece<'a>(cursor: &mut Cursor<'a>, start: Start<'a>) -> Piece<'a>
     word(cursor, PieceKind::Value, start, fault, Kind::Keyword)
 }
 
-/// Goes past the keyword or the raw string that begins with the number sign here.
+/// Advances past the keyword or the raw string that begins with the number sign here.
 fn sign_piece<'a>(
     alloc: Global,
     cursor: &mut Cursor<'a>,
@@ -480,7 +479,7 @@ fn sign_piece<'a>(
     Ok(keyword_piece(cursor, start))
 }
 
-/// The kind of a piece that is this character alone.
+/// The kind of a piece that is only this character.
 fn sign_kind(c: char) -> Option<PieceKind>
     ensures { IfSome result (λ k. k ≡ PieceKind.End → ⊥) }
 {
@@ -495,7 +494,8 @@ fn sign_kind(c: char) -> Option<PieceKind>
     }
 }
 
-/// Goes past the piece that begins with the character c here, which is none of `" # / \` and no identifier character.
+/// Advances past the piece that begins with the character c here, which is neither one of `" # / \` nor an identifier
+/// character.
 fn plain_piece<'a>(c: char, cursor: &mut Cursor<'a>, start: Start<'a>) -> Piece<'a>
     requires start { Begins start }
     requires here { cursor.old ≡ gone start.place cursor.old }
@@ -521,7 +521,7 @@ fn plain_piece<'a>(c: char, cursor: &mut Cursor<'a>, start: Start<'a>) -> Piece<
     }
 }
 
-/// Goes past the piece that begins with the character c here.
+/// Advances past the piece that begins with the character c here.
 fn piece_of<'a>(
     alloc: Global,
     c: char,
@@ -555,8 +555,8 @@ fn piece_of<'a>(
     }
 }
 
-/// The piece here, which the cursor goes past; it may go past spaces after a word too. After a faulty word it goes on to
-/// the next value end. A string here has the role.
+/// Returns the piece here and advances past it, and perhaps past spaces after a string, number or keyword. If that is
+/// faulty, the cursor advances to the next value end. A string here has the given role.
 pub(crate) fn next_piece<'a>(
     alloc: Global,
     cursor: &mut Cursor<'a>,

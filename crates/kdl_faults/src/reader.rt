@@ -1,4 +1,4 @@
-//! The reader of faults: it goes over a text that is refused, and notes each fault.
+//! The reader of faults: it reads a refused text, and notes each fault.
 
 ghost use Rattle.kdl_faults.specs.Internal.Noted.{
   Bounded,
@@ -28,14 +28,14 @@ use kdl_text::cursor::{Checkpoint, Cursor, Steps};
 use kdl_text::span::SourceSpan;
 use std::alloc::{AllocError, Global};
 
-/// A fault of a text, and the place that it is reported at.
+/// A fault of a text, and the span at which it is reported.
 #[derive(Clone, Copy)]
 pub struct Fault {
     pub kind: Kind,
     pub span: SourceSpan,
 }
 
-/// An open block: its `{`, where in the grammar the place after its `}` is, and whether a fault was noted at its `{`.
+/// An open block: its `{`, the phase of the grammar after its `}`, and whether a fault was noted at its `{`.
 #[derive(Clone, Copy)]
 struct Block {
     span: SourceSpan,
@@ -47,24 +47,24 @@ struct Block {
 #[derive(Drop)]
 pub(crate) struct Reader<'a> {
     alloc: Global,
-    /// What the text is to be.
+    /// What the text is read as.
     text: Whole,
     /// The start of the text.
     whole: Checkpoint<'a>,
     cursor: Cursor<'a>,
     phase: Phase,
     blocks: Vec<Block>,
-    /// The place after the `(` that was read last.
+    /// The place after the last `(` that was read.
     left: Checkpoint<'a>,
     /// Whether the only node or entry of the text has begun.
     has_item: bool,
-    /// Whether an entry was dropped.
+    /// Whether an entry was slashdashed.
     has_dropped: bool,
-    /// Whether the piece that was read last is space.
+    /// Whether the last piece that was read is a space.
     is_apart: bool,
     /// Whether the text ended in a string or a comment.
     is_cut: bool,
-    /// Whether reading is over.
+    /// Whether reading has ended.
     is_over: bool,
     faults: Vec<Fault>,
     /// The faults that may end a byte earlier, in the order of the text.
@@ -79,7 +79,7 @@ fn begins_item(kind: PieceKind) -> bool {
     )
 }
 
-/// Whether the piece ends a node or an entry, or a block, or begins one or what is dropped.
+/// Whether the piece ends a node, an entry or a block, or begins a block or what a `/-` drops.
 fn goes_on(kind: PieceKind) -> bool {
     matches!(
         kind,
@@ -92,7 +92,7 @@ fn goes_on(kind: PieceKind) -> bool {
 }
 
 impl<'a> Reader<'a> {
-    /// A reader at the start of the text, on the given count of steps.
+    /// Creates a reader at the start of the text, which adds to the given count of steps.
     pub(crate) fn new(alloc: Global, text: &'a str, whole: Whole, steps: Steps) -> Self
         ensures reads { IsReaderOf (chars text.now) result }
         ensures cursor { result.cursor ≡ record { rest = chars text.now; at = 0; steps = steps } }
@@ -145,8 +145,8 @@ impl<'a> Reader<'a> {
         Ok(())
     }
 
-    /// Notes a candidate where the piece has one: the fault that is noted next, of the kind and from
-    /// the place on, ends at the backslash if an escline begins there.
+    /// Notes a candidate if the piece has one: the next fault that is noted, of this kind and from this place on, ends
+    /// at the backslash if an escline begins there.
     fn note_candidate(
         &mut self,
         kind: Kind,
@@ -168,7 +168,8 @@ impl<'a> Reader<'a> {
         Ok(())
     }
 
-    /// Notes a fault from a place up to another after it, or at the first character of the piece where they are one place.
+    /// Notes a fault from one place to another after it, or at the first character of the piece if they are the same
+    /// place.
     fn note_up_to(
         &mut self,
         kind: Kind,
@@ -188,7 +189,7 @@ impl<'a> Reader<'a> {
         }
     }
 
-    /// The end of a fault that the piece brings: the next value end after a `(`, and else the piece's own.
+    /// The end of a fault at the piece: after a `(` the next value end, and else the piece's own end.
     fn end_of(&mut self, piece: &Piece<'a>) -> Checkpoint<'a>
         ensures end { IsPlaceAt self.old piece.now result }
         ensures keeps { Keeps self.old self.new }
@@ -202,7 +203,8 @@ impl<'a> Reader<'a> {
         }
     }
 
-    /// The start of a fault of the kind that the piece brings: in a type after its `(`, and else the piece's own.
+    /// The start of a fault of the kind at the piece: in a type the place after its `(`, and else the piece's own
+    /// start.
     fn start_of(&self, kind: Kind, piece: &Piece<'a>) -> Checkpoint<'a>
         ensures { IsPlaceAt self.now piece.now result }
     {
@@ -212,7 +214,7 @@ impl<'a> Reader<'a> {
         }
     }
 
-    /// Notes that the piece does not fit, with the kind of fault.
+    /// Notes that the piece does not fit, by a fault of the kind.
     fn note_misfit(&mut self, kind: Kind, piece: &Piece<'a>) -> Result<(), AllocError>
         ensures keeps { KeepsAt piece.now self.old self.new }
         ensures moves { Moves self.old.cursor self.new.cursor }
@@ -227,8 +229,8 @@ impl<'a> Reader<'a> {
         self.note_up_to(kind, &from, &end, piece)
     }
 
-    /// Notes that the piece does not fit where it is: where a name is due, a `{` is a block without one, and a `}` outside
-    /// blocks is misplaced. In the text of an entry, and after the only node of a text, reading is over.
+    /// Notes that the piece does not fit: where a name is expected, a `{` opens a block without one, and a `}` outside
+    /// blocks is misplaced. In the text of an entry, and after the only node of a text, reading ends.
     fn misfit(&mut self, piece: &Piece<'a>) -> Result<(), AllocError>
         ensures keeps { KeepsAt piece.now self.old self.new }
         ensures moves { Moves self.old.cursor self.new.cursor }
@@ -257,7 +259,7 @@ impl<'a> Reader<'a> {
         matches!(self.phase, Phase::Node | Phase::Word | Phase::Typeless)
     }
 
-    /// What the piece does in the text of an entry, where a space follows each entry that is dropped.
+    /// What the piece does in the text of an entry, where a space follows each slashdashed entry.
     fn move_in_entry(&self, kind: PieceKind) -> Move {
         match (self.phase, kind) {
             (_, PieceKind::Opening | PieceKind::Closing | PieceKind::Semicolon) => Move::Refuse,
@@ -277,7 +279,7 @@ impl<'a> Reader<'a> {
         }
     }
 
-    /// What the piece does. A faulty string is no name of a type.
+    /// What the piece does. A faulty string is not the name of a type.
     fn move_of(&self, piece: &Piece<'a>) -> Move {
         if piece.fault.is_some()
             && let Phase::TypeOpen(_) = self.phase
@@ -290,7 +292,7 @@ impl<'a> Reader<'a> {
         }
     }
 
-    /// Notes that the only node or entry of a text begins with the piece, or an entry that is dropped.
+    /// Notes that the only node or entry of a text, or a slashdashed entry, begins with the piece.
     fn begin(&mut self, kind: PieceKind)
         ensures keeps { Keeps self.old self.new }
         ensures cursor { self.new.cursor ≡ self.old.cursor }
@@ -308,7 +310,7 @@ impl<'a> Reader<'a> {
         }
     }
 
-    /// Goes on to the phase. After the only node of a text line-spaces alone may follow.
+    /// Continues in the phase. After the only node of a text only line-spaces may follow.
     fn go_to(&mut self, phase: Phase)
         ensures keeps { Keeps self.old self.new }
         ensures cursor { self.new.cursor ≡ self.old.cursor }
@@ -321,7 +323,7 @@ impl<'a> Reader<'a> {
         };
     }
 
-    /// Closes the block that is open. A `}` outside blocks is misplaced, and is reported once.
+    /// Closes the innermost open block. A `}` outside blocks is misplaced, and is reported once.
     fn close_block(&mut self, piece: &Piece<'a>, is_told: bool) -> Result<(), AllocError>
         ensures keeps { KeepsAt piece.now self.old self.new }
         ensures cursor { self.new.cursor ≡ self.old.cursor }
@@ -360,7 +362,7 @@ impl<'a> Reader<'a> {
         Ok(())
     }
 
-    /// Goes on as the piece does.
+    /// Does what the move says.
     fn go_on(&mut self, piece: &Piece<'a>, step: Move, is_told: bool) -> Result<(), AllocError>
         ensures keeps { KeepsAt piece.now self.old self.new }
         ensures cursor { self.new.cursor ≡ self.old.cursor }
@@ -388,7 +390,7 @@ impl<'a> Reader<'a> {
         }
     }
 
-    /// Does what the piece does.
+    /// Applies the move of the piece.
     fn apply(&mut self, piece: &Piece<'a>, step: Move, is_told: bool) -> Result<(), AllocError>
         ensures keeps { KeepsAt piece.now self.old self.new }
         ensures cursor { self.new.cursor ≡ self.old.cursor }
@@ -399,7 +401,7 @@ impl<'a> Reader<'a> {
         Ok(())
     }
 
-    /// A piece that fits: its own fault is noted, but for a string in a type that is faulty already.
+    /// Takes a piece that fits, and notes its own fault, except for a string in a type that is faulty already.
     fn fit(&mut self, piece: &Piece<'a>, step: Move) -> Result<(), AllocError>
         ensures keeps { KeepsAt piece.now self.old self.new }
         ensures cursor { self.new.cursor ≡ self.old.cursor }
@@ -414,8 +416,8 @@ impl<'a> Reader<'a> {
         self.apply(piece, step, false)
     }
 
-    /// A piece that does not fit: that is noted, what was due counts as read, and what ends or begins a node, a block or a
-    /// dropped piece does so after it.
+    /// Takes a piece that does not fit, and notes that. What was expected counts as read; then the piece ends or begins
+    /// a node, a block or what a `/-` drops, if it is such a piece.
     fn mend(&mut self, piece: &Piece<'a>) -> Result<(), AllocError>
         ensures keeps { KeepsAt piece.now self.old self.new }
         ensures moves { Moves self.old.cursor self.new.cursor }
@@ -432,7 +434,7 @@ impl<'a> Reader<'a> {
         Ok(())
     }
 
-    /// Notes each block that is open, the inner one first, but for those at whose `{` a fault is noted.
+    /// Notes each open block, the innermost first, except those with a fault noted at their `{`.
     fn note_blocks(&mut self) -> Result<(), AllocError>
         ensures keeps { Keeps self.old self.new }
         ensures cursor { self.new.cursor ≡ self.old.cursor }
@@ -449,7 +451,7 @@ impl<'a> Reader<'a> {
         Ok(())
     }
 
-    /// The end of the text: what is due is missing, and open blocks are not closed, the inner one first.
+    /// Takes the end of the text: what is expected is missing, and open blocks are unclosed, the innermost first.
     fn end(&mut self, piece: &Piece<'a>) -> Result<(), AllocError>
         ensures keeps { KeepsAt piece.now self.old self.new }
         ensures moves { Moves self.old.cursor self.new.cursor }
@@ -469,7 +471,7 @@ impl<'a> Reader<'a> {
         self.note_blocks()
     }
 
-    /// A piece of the grammar: it fits, or what is due is mended.
+    /// Takes a piece of the grammar, whether it fits or not.
     fn take_part(&mut self, piece: &Piece<'a>) -> Result<(), AllocError>
         ensures keeps { KeepsAt piece.now self.old self.new }
         ensures moves { Moves self.old.cursor self.new.cursor }
@@ -483,7 +485,7 @@ impl<'a> Reader<'a> {
         }
     }
 
-    /// A piece alone, without what follows it.
+    /// Takes a piece, without what follows it.
     fn take_alone(&mut self, piece: &Piece<'a>) -> Result<(), AllocError>
         ensures keeps { KeepsAt piece.now self.old self.new }
         ensures moves { Moves self.old.cursor self.new.cursor }
@@ -498,7 +500,7 @@ impl<'a> Reader<'a> {
         }
     }
 
-    /// What the text of a node or an entry lacks where it has none, no open block and no other fault.
+    /// The fault of a text that has no node or no entry, if no block is open and there is no other fault.
     fn missing(&self) -> Option<Kind> {
         if self.has_item || !self.blocks.is_empty() || !self.faults.is_empty() {
             return None;
@@ -510,7 +512,7 @@ impl<'a> Reader<'a> {
         }
     }
 
-    /// A piece of the text.
+    /// Takes a piece of the text.
     fn take(&mut self, piece: &Piece<'a>) -> Result<(), AllocError>
         ensures keeps { KeepsAt piece.now self.old self.new }
         ensures moves { Moves self.old.cursor self.new.cursor }
@@ -521,7 +523,7 @@ impl<'a> Reader<'a> {
         self.behind(piece)
     }
 
-    /// What follows the piece: a block comment that isn't closed, in what begins as an escline.
+    /// Takes what follows the piece: an unclosed block comment, in what begins as an escline.
     fn behind(&mut self, piece: &Piece<'a>) -> Result<(), AllocError>
         ensures keeps { KeepsAt piece.now self.old self.new }
         ensures cursor { self.new.cursor ≡ self.old.cursor }
@@ -535,7 +537,7 @@ impl<'a> Reader<'a> {
         }
     }
 
-    /// Notes that the character at the place can't be there, or that something is due where the text ends.
+    /// Notes that the character at the place can't be there, or that something is expected where the text ends.
     fn note_character(&mut self, from: &Checkpoint<'a>) -> Result<(), AllocError>
         ensures keeps { KeepsBetween from.now from.now self.old self.new }
         ensures steps { self.new.cursor.steps ≡ raise self.old.cursor.steps 1 }
@@ -546,7 +548,7 @@ impl<'a> Reader<'a> {
         self.note(Kind::Misplaced, from, &next)
     }
 
-    /// Notes the faults of a text that is to be an identifier.
+    /// Notes the faults of a text that is read as an identifier.
     fn read_identifier(&mut self) -> Result<(), AllocError>
         ensures keeps { Keeps self.old self.new }
         ensures bounded { Bounded 124 self.old.cursor self.new.cursor }
@@ -566,7 +568,7 @@ impl<'a> Reader<'a> {
         self.note_character(&piece.end)
     }
 
-    /// Goes past a U+FEFF at the start of a document.
+    /// Advances past a U+FEFF at the start of a document.
     fn skip_bom(&mut self)
         ensures keeps { Keeps self.old self.new }
         ensures moves { Moves self.old.cursor self.new.cursor }
@@ -577,7 +579,7 @@ impl<'a> Reader<'a> {
         }
     }
 
-    /// Notes the faults of the text. Each candidate counts as no escline.
+    /// Notes the faults of the text, as if no candidate began an escline.
     fn read(&mut self) -> Result<(), AllocError>
         ensures keeps { Keeps self.old self.new }
         ensures bounded { Bounded 124 self.old.cursor self.new.cursor }
@@ -594,7 +596,7 @@ impl<'a> Reader<'a> {
         Ok(())
     }
 
-    /// Ends the fault of the candidate with the number at its backslash, which begins an escline.
+    /// Ends the fault of the candidate with this number at its backslash, which begins an escline.
     fn settle(&mut self, candidate: usize)
         ensures keeps { Keeps self.old self.new }
         ensures cursor { self.new.cursor ≡ self.old.cursor }

@@ -1,4 +1,4 @@
-//! Quoted and raw strings, as far as they go, and the first fault in them.
+//! Quoted and raw strings, faulty or not, and the first fault in them.
 
 ghost use Rattle.kdl_faults.specs.Internal.Reading.{FindsAlso, FindsOn, Most, MostFrom, OnFound};
 ghost use Rattle.kdl_text.specs.Chars.{begins};
@@ -13,23 +13,23 @@ use kdl_text::cursor::{Checkpoint, Cursor, newline};
 use kdl_text::strings::{StringFailure, StringFault, escaped_unit, quoted_string, raw_string};
 use std::alloc::{AllocError, Global};
 
-/// A fault in a string, and the place where no unit of it begins.
+/// A fault in a string, and its place.
 #[derive(Drop)]
 pub(crate) struct Found<'a> {
     pub kind: Kind,
     pub place: Checkpoint<'a>,
 }
 
-/// A string that the cursor went past, as far as it goes.
+/// A string that the cursor has passed.
 #[derive(Drop)]
 pub(crate) struct Scan<'a> {
     /// The first fault in it.
     pub fault: Option<Found<'a>>,
-    /// Whether the text ended in it.
+    /// Whether the text ended in the middle of it.
     pub cut: bool,
 }
 
-/// The fault that was found already, or else this one.
+/// The fault that was found already, if there is one, or else this one.
 fn earlier<'a>(fault: Option<Found<'a>>, kind: Kind, place: Checkpoint<'a>) -> Option<Found<'a>>
     ensures { FindsAlso fault.entry place.entry result }
 {
@@ -39,7 +39,7 @@ fn earlier<'a>(fault: Option<Found<'a>>, kind: Kind, place: Checkpoint<'a>) -> O
     }
 }
 
-/// A string that ends with the text, without its closing.
+/// A string that ends with the text, without its closing quotes.
 fn cut<'a>(fault: Option<Found<'a>>, kind: Kind, place: Checkpoint<'a>) -> Scan<'a>
     ensures { FindsAlso fault.entry place.entry result.fault }
 {
@@ -56,7 +56,7 @@ fn ended<'a>(fault: Option<Found<'a>>) -> Scan<'a>
     Scan { fault, cut: false }
 }
 
-/// Goes past a backslash and what belongs to it. Whether it is an escape.
+/// Advances past a backslash and what belongs to it. Returns whether it is an escape.
 fn escape(cursor: &mut Cursor) -> bool
     requires { begins 92 cursor.old.rest ≡ true }
     ensures moves { Moves cursor.old cursor.new }
@@ -67,7 +67,8 @@ fn escape(cursor: &mut Cursor) -> bool
     escaped_unit(cursor).is_ok()
 }
 
-/// Goes past a character that is no plain one of a quoted string: past an escape, or a character that can't be there.
+/// Advances past a character that does not represent itself in a quoted string: past an escape, or past a character
+/// that can't be there.
 fn odd_unit<'a>(cursor: &mut Cursor<'a>, c: char, fault: Option<Found<'a>>) -> Option<Found<'a>>
     requires here { first cursor.old.rest ≡ Some c }
     ensures fault { FindsOn fault.entry cursor.old result cursor.new }
@@ -86,7 +87,8 @@ fn odd_unit<'a>(cursor: &mut Cursor<'a>, c: char, fault: Option<Found<'a>>) -> O
     earlier(fault, Kind::Quoted, place)
 }
 
-/// After the quote of a string of one line: goes past it, or to the newline or the end of the text before its quote.
+/// After the opening quote of a single-line string: advances past the string, or to a newline or the end of the text
+/// before its closing quote.
 fn quoted_line<'a>(cursor: &mut Cursor<'a>) -> Scan<'a>
     ensures fault { OnFound cursor.old result.fault cursor.new }
     ensures moves { Moves cursor.old cursor.new }
@@ -109,7 +111,7 @@ fn quoted_line<'a>(cursor: &mut Cursor<'a>) -> Scan<'a>
     }
 }
 
-/// After three quotes: goes past the string that they begin. One without a newline there is faulty.
+/// After three quotes: advances past the string that they begin. It is faulty if no newline follows the quotes.
 fn quoted_lines<'a>(cursor: &mut Cursor<'a>) -> Scan<'a>
     ensures fault { OnFound cursor.old result.fault cursor.new }
     ensures moves { Moves cursor.old cursor.new }
@@ -142,7 +144,7 @@ fn quoted_lines<'a>(cursor: &mut Cursor<'a>) -> Scan<'a>
     }
 }
 
-/// The fault of a quoted string of many lines that is closed and whose units are right: that of its lines.
+/// The fault in the lines of a multi-line quoted string that is closed and has no fault in its units.
 fn fault_of_lines<'a>(
     alloc: Global,
     cursor: &mut Cursor<'a>,
@@ -171,7 +173,7 @@ fn fault_of_lines<'a>(
     }
 }
 
-/// Goes past the quoted string whose quote is here.
+/// Advances past the quoted string whose opening quote is here.
 pub(crate) fn scan_quoted<'a>(
     alloc: Global,
     cursor: &mut Cursor<'a>,
@@ -194,7 +196,7 @@ pub(crate) fn scan_quoted<'a>(
     Ok(ended(fault_of_lines(alloc, cursor, &start)?))
 }
 
-/// Goes past so many number signs, or as many as there are. Whether there were so many.
+/// Advances past at most `most` number signs. Returns whether there were that many.
 fn eat_signs(cursor: &mut Cursor, most: usize) -> bool
     ensures moves { Moves cursor.old cursor.new }
     ensures most { Most 1 1 cursor.old cursor.new }
@@ -209,7 +211,8 @@ fn eat_signs(cursor: &mut Cursor, most: usize) -> bool
     true
 }
 
-/// After the quote of a raw string of one line: goes past it, or to the newline or the end of the text before its closing.
+/// After the opening quote of a single-line raw string: advances past the string, or to a newline or the end of the
+/// text before its closing.
 fn raw_line<'a>(cursor: &mut Cursor<'a>, signs: usize) -> Scan<'a>
     ensures fault { OnFound cursor.old result.fault cursor.new }
     ensures moves { Moves cursor.old cursor.new }
@@ -236,7 +239,7 @@ fn raw_line<'a>(cursor: &mut Cursor<'a>, signs: usize) -> Scan<'a>
     }
 }
 
-/// Goes past the quotes here. Whether they are three at least, with so many number signs after them.
+/// Advances past the quotes here. Returns whether there are at least three, with `signs` number signs after them.
 fn closes_lines(cursor: &mut Cursor, signs: usize) -> bool
     requires { begins 34 cursor.old.rest ≡ true }
     ensures moves { Moves cursor.old cursor.new }
@@ -248,7 +251,8 @@ fn closes_lines(cursor: &mut Cursor, signs: usize) -> bool
     cursor.at() - start >= 3 && eat_signs(cursor, signs)
 }
 
-/// After the newline of a raw string of many lines: goes past it, or to the end of the text before its closing.
+/// After the first newline of a multi-line raw string: advances past the string, or to the end of the text if it is
+/// unclosed.
 fn raw_lines<'a>(cursor: &mut Cursor<'a>, signs: usize) -> Scan<'a>
     ensures fault { OnFound cursor.old result.fault cursor.new }
     ensures moves { Moves cursor.old cursor.new }
@@ -276,7 +280,7 @@ fn raw_lines<'a>(cursor: &mut Cursor<'a>, signs: usize) -> Scan<'a>
     }
 }
 
-/// The fault of a raw string of many lines that is closed and whose characters are right: that of its lines.
+/// The fault in the lines of a multi-line raw string that is closed and has no fault in its characters.
 fn fault_of_raw_lines<'a>(
     alloc: Global,
     cursor: &mut Cursor<'a>,
@@ -301,8 +305,8 @@ fn fault_of_raw_lines<'a>(
     }
 }
 
-/// After the number signs and three quotes with no newline after them: goes past a raw string of one line. It looks like
-/// one of many lines, where it is closed on its line.
+/// After number signs and three quotes with no newline after them: advances past a single-line raw string. If it is
+/// closed on its line, it looks like a multi-line string.
 fn raw_quotes<'a>(cursor: &mut Cursor<'a>, signs: usize) -> Scan<'a>
     ensures fault { OnFound cursor.old result.fault cursor.new }
     ensures moves { Moves cursor.old cursor.new }
@@ -320,7 +324,7 @@ fn raw_quotes<'a>(cursor: &mut Cursor<'a>, signs: usize) -> Scan<'a>
     }))
 }
 
-/// Goes past the raw string that begins at the place, whose quote is here, after so many number signs.
+/// Advances past the raw string that begins at the place; its opening quote is here, after `signs` number signs.
 pub(crate) fn scan_raw<'a>(
     alloc: Global,
     cursor: &mut Cursor<'a>,

@@ -1,4 +1,4 @@
-//! The error of a text that is refused.
+//! The error of a refused text.
 
 ghost use Rattle.kdl_faults.specs.Internal.Noted.{Noted};
 ghost use Rattle.kdl_text.specs.Failures.{IsToldOf, Tells, TellsOf};
@@ -37,7 +37,7 @@ fn diagnostic(alloc: Global, input: &RcStr, fault: Fault) -> Result<KdlDiagnosti
     })
 }
 
-/// The error of a text with these faults, in their order.
+/// The error of a text with these faults, in this order.
 fn error_of(alloc: Global, text: &str, faults: &[Fault]) -> Result<KdlError, AllocError>
     requires some { 0 < length faults.now }
     requires noted { Noted (chars text.now) faults.now }
@@ -51,8 +51,8 @@ fn error_of(alloc: Global, text: &str, faults: &[Fault]) -> Result<KdlError, All
     Ok(KdlError { input, diagnostics })
 }
 
-/// The faults that are found in the text, in the order of reading: none in one that is accepted. The count of steps is
-/// raised by what reading takes.
+/// Returns the faults of the text, in the order in which reading meets them; an accepted text has none. Adds the steps
+/// of reading to the count.
 pub fn faults(
     alloc: Global,
     text: &str,
@@ -71,8 +71,8 @@ pub fn faults(
     Ok(faults)
 }
 
-/// The error of a text that is refused at the span: a diagnostic for each fault that is found in it, in the order of
-/// reading, and one at the span where none is.
+/// The error of a text that is refused at the span: a diagnostic for each fault in the order in which reading meets
+/// them, or one at the span if no fault is found.
 fn refusal(
     alloc: Global,
     text: &str,
@@ -95,7 +95,7 @@ fn refusal(
     error_of(alloc, text, &faults)
 }
 
-/// The failure of a text that is refused at the span, or of memory that ran out.
+/// Returns the failure for a text that is refused at the span, or for an allocation that failed.
 pub fn failure(
     alloc: Global,
     text: &str,

@@ -1,6 +1,6 @@
 //! What a text is read as.
 
-/// What a text is to be as a whole.
+/// What a whole text is read as.
 #[derive(Clone, Copy)]
 pub enum Whole {
     Document,

@@ -1,14 +1,14 @@
--- What a document says, whatever its form.
+-- The data of a document, whatever its form.
 use Rattle.std.specs.Prelude.{List, Option}
 use Rattle.kdl_text.specs.Chars.{Text}
 use Rattle.kdl_entry.specs.Data.{Entry}
 
 mutual
-  -- a type or none, a name, entries, and children or none
+  -- an optional type, a name, entries, and optional children
   pub data Node : Type 0 where
     node : Option Text → Text → List Entry → Children → Node
 
-  -- an empty child block differs from none
+  -- no child block, or one with its nodes; an empty block differs from none
   pub data Children : Type 0 where
     no_children : Children
     children : Nodes → Children

@@ -1,4 +1,4 @@
--- Documents whose nodes differ in entries or spellings alone.
+-- Documents whose nodes differ only in entries or spellings.
 use Rattle.std.specs.Prelude.{◌≡◌, ◌⊎◌, Option, option_map, map}
 use Rattle.std.specs.List.{All, Contains}
 use Rattle.kdl_text.specs.declared.span.SourceSpan.{SourceSpan}
@@ -6,7 +6,7 @@ use Rattle.kdl_entry.specs.Formless.{IsFormless, formed_identifier, formed}
 use Rattle.kdl_entry.specs.Tree.{without_span, without_spans_and_flag}
 use Rattle.kdl_grammar.specs.Tree.{DocumentFormat, Head, Node, node, Children, no_children, children, Document, document, Nodes, none, first}
 
--- spans aside, they differ in entries alone: each of the second is one of the first, flagged or not, or has neither a format nor a spelling
+-- spans aside, the heads differ only in entries: each entry of the second is one of the first, flagged or not, or has neither a format nor a spelling
 pub record IsEdited (h h' : Head) : Type 0 where
   pub ty : option_map without_span h.ty ≡ option_map without_span h'.ty
   pub name : without_span h.name ≡ without_span h'.name
@@ -18,7 +18,7 @@ abbrev pub IsFormed : Head → Head → Type 0
 IsFormed h h' = h' ≡ record h { ty = option_map formed_identifier h.ty; name = formed_identifier h.name; entries = map formed h.entries }
 
 mutual
-  -- at every depth the nodes but for their children are in the relation R; spans of documents may be any, and all else is the same
+  -- at every depth the heads of the nodes are in the relation R; the spans of documents may differ, and all else is the same
   pub data EachNode (R : Head → Head → Type 0) : Node → Node → Type 0 where
     each_node : {h h' : Head} {k k' : Children} → R h h' → EachChildren R k k' → EachNode R (node h k) (node h' k')
 

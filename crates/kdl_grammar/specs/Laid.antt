@@ -1,5 +1,5 @@
--- Nodes and documents laid in a text: their places and items, in the order of printing, are the text, and each place is what it has to be.
--- Where `exact` holds, each span is that of its piece in the text `whole`.
+-- Nodes and documents located in a text: their places and items, in the order of printing, are the text, and each place is what it has to be.
+-- If `exact` holds, each span is that of its piece in the text `whole`.
 use Rattle.std.specs.Prelude.{ℕ, ◌+◌, ◌-◌, ◌^◌, min, Bool, true, List, [], ◌∷◌, Option, Some, None}
 use Rattle.kdl_text.specs.Chars.{Text, Star}
 use Rattle.kdl_text.specs.Trivia.{LineSpace}
@@ -11,7 +11,7 @@ use Rattle.kdl_grammar.specs.Grammar.{Terminator, Gap}
 use Rattle.kdl_grammar.specs.Places.{BeforeChildren, AfterChildren}
 use Rattle.kdl_grammar.specs.Tree.{NodeFormat, DocumentFormat, Node, node, Children, no_children, children, Document, document, Nodes, none, first}
 
--- a format of a node, by its texts in order
+-- the format of a node, from its texts in order
 abbrev pub node_format : Text → Text → Text → Text → Text → Text → Text → Text → NodeFormat
 node_format leading before after behind before_children before_terminator terminator trailing = record {
   leading = leading;
@@ -27,12 +27,12 @@ node_format leading before after behind before_children before_terminator termin
 abbrev pub node_span : Node → SourceSpan
 node_span (node h k) = h.span
 
--- where the last of these nodes ends. The code adds in 64 bits, which hold each place in a text, so the bound is never reached.
+-- the offset at which the last of these nodes ends. The code adds in 64 bits, which hold each offset in a text, so the bound is never reached.
 abbrev pub last_end : Node → Nodes → ℕ
 last_end n none = min ((node_span n).offset + (node_span n).len) (2 ^ 64 - 1)
 last_end n (first m ns) = last_end m ns
 
--- from where the first node begins to where the last one ends; without nodes the span given
+-- from the start of the first node to the end of the last one; without nodes the given span
 abbrev pub content_span : SourceSpan → Nodes → SourceSpan
 content_span at none = at
 content_span at (first n ns) = record { offset = (node_span n).offset; len = last_end n ns - (node_span n).offset }
@@ -42,8 +42,8 @@ pub data LaidEntries (exact : Bool) (whole : Text) : List Entry → Text → Tex
   an_entry : {s t r : Text} {e : Entry} {es : List Entry} → LaidEntry exact whole e s t → LaidEntries exact whole es t r → LaidEntries exact whole (e ∷ es) s r
 
 mutual
-  -- a node from its type or name to its terminator. The text before it, its terminator, the text after it and its span are beside:
-  -- a node in a list has other ones than a node that is a whole text.
+  -- a node from its type or name to its terminator. The text before it, its terminator, the text after it and its span are separate arguments:
+  -- for a node in a list they differ from those of a node that is a whole text.
   pub data LaidNode (exact : Bool) (whole : Text) : Text → Text → Text → SourceSpan → Node → Text → Text → Type 0 where
     laid_node : {leading end trailing before after behind before_children before_terminator s t u v r : Text} {at : SourceSpan} {ty : Option Identifier} {name : Identifier} {es : List Entry} {k : Children}
         → LaidType exact whole ty before after behind s t → LaidIdentifier exact whole name t u → LaidEntries exact whole es u v
@@ -75,7 +75,7 @@ mutual
     with_nodes : {trailing s t r : Text} {at : SourceSpan} {x : Node} {xs : Nodes} → LaidNodes exact whole (first x xs) s t → Is (Gap true) trailing t r
         → Spanned exact at (content_span (span_of whole r r) (first x xs)) → LaidContent exact whole (document (Some (record { leading = []; trailing = trailing })) at (first x xs)) s r
 
--- U+FEFF before all
+-- the format with U+FEFF before its leading text
 abbrev pub bom_format : Option DocumentFormat → DocumentFormat
 bom_format None = record { leading = 0xFEFF ∷ []; trailing = [] }
 bom_format (Some f) = record f { leading = 0xFEFF ∷ f.leading }
@@ -84,12 +84,12 @@ bom_format (Some f) = record f { leading = 0xFEFF ∷ f.leading }
 abbrev pub with_bom : Document → Document
 with_bom (document f at ns) = document (Some (bom_format f)) at ns
 
--- a document that is the whole text: its content, and before it U+FEFF or nothing
+-- a document that is the whole text: an optional U+FEFF, and then its content
 pub data LaidDocument (exact : Bool) : Document → Text → Type 0 where
   no_bom : {d : Document} {t : Text} → LaidContent exact t d t [] → LaidDocument exact d t
   behind_bom : {d : Document} {t : Text} → LaidContent exact (0xFEFF ∷ t) d t [] → LaidDocument exact (with_bom d) (0xFEFF ∷ t)
 
--- a node that is the whole text, which is its span, and line-spaces after it
+-- a node that is the whole text, with line-spaces after it; its span is the whole text
 pub data LaidNodeText (exact : Bool) (whole : Text) : Node → Type 0 where
   laid_node_text : {leading end trailing t u v : Text} {at : SourceSpan} {x : Node} → Is (Gap true) leading whole t → LaidNode exact whole leading end trailing at x t u
       → Is Terminator end u v → Is (Star LineSpace) trailing v [] → Spanned exact at (span_of whole whole []) → LaidNodeText exact whole x

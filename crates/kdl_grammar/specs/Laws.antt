@@ -9,23 +9,23 @@ use Rattle.kdl_grammar.specs.Laid.{LaidDocument, LaidNodeText}
 use Rattle.kdl_grammar.specs.Print.{print_document, print_node}
 use Rattle.kdl_grammar.specs.Tree.{Document, Node, document_data, node_data}
 
--- a text is one document at most
+-- a text is at most one document
 abbrev pub OneDocument : Type 0
 OneDocument = (wide : Bool) (t : Text) (x y : data'.Nodes) → IsDocument wide t x → IsDocument wide t y → x ≡ y
 
--- a text is one node at most
+-- a text is at most one node
 abbrev pub OneNode : Type 0
 OneNode = (wide : Bool) (t : Text) (x y : data'.Node) → IsNodeText wide t x → IsNodeText wide t y → x ≡ y
 
--- at most one document is laid in a text with the spans of its pieces
+-- at most one document is located in a text with the spans of its pieces
 abbrev pub OneLaidDocument : Type 0
 OneLaidDocument = (t : Text) (d e : Document) → LaidDocument true d t → LaidDocument true e t → d ≡ e
 
--- at most one node is laid as a whole text with the spans of its pieces
+-- at most one node is located as a whole text with the spans of its pieces
 abbrev pub OneLaidNode : Type 0
 OneLaidNode = (t : Text) (x y : Node) → LaidNodeText true t x → LaidNodeText true t y → x ≡ y
 
--- where a document is laid, the text is a document with its data, and it is what is printed
+-- if a document is located in a text, the text is a document with its data, and it is what is printed
 abbrev pub LaidIsDerived : Type 0
 LaidIsDerived = (exact : Bool) (t : Text) (d : Document) → LaidDocument exact d t → IsDocument true t (document_data d) × (print_document d 0 ≡ t)
 
@@ -33,7 +33,7 @@ LaidIsDerived = (exact : Bool) (t : Text) (d : Document) → LaidDocument exact 
 abbrev pub LaidNodeIsDerived : Type 0
 LaidNodeIsDerived = (exact : Bool) (t : Text) (x : Node) → LaidNodeText exact t x → IsNodeText true t (node_data x) × (print_node x 0 ≡ t)
 
--- each text that is a node has one laid in it, with its data
+-- each text that is a node has one located in it, with its data
 abbrev pub NodesAreLaid : Type 0
 NodesAreLaid = (t : Text) (x : data'.Node) → IsNodeText true t x → (n : Node) × LaidNodeText true t n × (node_data n ≡ x)
 
@@ -41,11 +41,11 @@ NodesAreLaid = (t : Text) (x : data'.Node) → IsNodeText true t x → (n : Node
 abbrev pub FormerIsKept : Type 0
 FormerIsKept = ((t : Text) (x : data'.Nodes) → IsFormerDocument t x → IsDocument true t x) × ((t : Text) (x : data'.Node) → IsFormerNodeText t x → IsNodeText true t x)
 
--- a document that is laid in its own printed text with the spellings and forms that it prints reads back: the text is a document with its data
+-- a document that is located in its own printed text, with the spellings and forms that it prints, reads back: the text is a document with its data
 abbrev pub ReadsBack : Type 0
 ReadsBack = (d f : Document) → EachDocument IsFormed d f → LaidDocument false f (print_document d 0) → IsDocument true (print_document d 0) (document_data d)
 
--- a document that differs from a laid one, spans aside, in its nodes' entries alone reads back and is laid: each node has some of its laid entries, flagged or not, and entries without form
+-- a document that differs from a located one, spans aside, only in its nodes' entries reads back and is located in its text: each node has some of its located entries, flagged or not, and entries without form
 abbrev pub EditedIsLaid : Type 0
 EditedIsLaid = (exact : Bool) (t : Text) (d e : Document) → LaidDocument exact d t → EachDocument IsEdited d e
     → IsDocument true (print_document e 0) (document_data e) × ((f : Document) → EachDocument IsFormed e f → LaidDocument false f (print_document e 0))

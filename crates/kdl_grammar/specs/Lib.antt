@@ -1,12 +1,12 @@
--- What a document says, whatever its form.
+-- The data of a document, whatever its form.
 pub mod Data
--- Documents whose nodes differ in entries or spellings alone.
+-- Documents whose nodes differ only in entries or spellings.
 pub mod Edited
 -- The former language, in which node-spaces or a `}` come before each slashdash in a node.
 pub mod Former
 -- The written grammar of documents and nodes (KDL 2.0.0, Document, Node, Slashdash Comments). `X wide s r x`: an X begins the text s, leaves r, and represents x.
 pub mod Grammar
--- Nodes and documents laid in a text: their places and items, in the order of printing, are the text, and each place is what it has to be.
+-- Nodes and documents located in a text: their places and items, in the order of printing, are the text, and each place is what it has to be.
 pub mod Laid
 -- What is proved of the written grammar of documents and nodes.
 pub mod Laws
@@ -16,9 +16,9 @@ pub mod GoingOn
 pub mod Places
 -- What nodes and documents print.
 pub mod Print
--- Nodes and documents with every text and span, and nothing of how memory holds them.
+-- Nodes and documents with every text and span, whatever their layout in memory.
 pub mod Tree
--- What only proofs and contracts inside the crates need.
+-- Definitions that only proofs and contracts inside the crates use.
 pub mod Internal
 -- Parts of a document that read back wherever they may be.
 pub mod ReadsBack

@@ -6,14 +6,14 @@ use Rattle.kdl_entry.specs.Places.{DroppedEntry}
 use Rattle.kdl_grammar.specs.Data.{Nodes}
 use Rattle.kdl_grammar.specs.Grammar.{IsBlock}
 
--- a block that is slashdashed, after node-spaces and a slashdash
+-- node-spaces, a slashdash, and the block that it drops
 pub data DroppedBlock : Text → Text → Type 0 where
   dropped : {s t u r : Text} {xs : Nodes} → Star NodeSpace s t → Slashdash t u → IsBlock true u r xs → DroppedBlock s r
 
--- after a node's block: such blocks, and node-spaces
+-- after a node's block: slashdashed blocks, and node-spaces
 pub data AfterChildren : Text → Text → Type 0 where
   after : {s t r : Text} → Star DroppedBlock s t → Star NodeSpace t r → AfterChildren s r
 
--- after a name or the last entry: entries that are slashdashed, and then the same
+-- after a name or the last entry: slashdashed entries, and then the same
 pub data BeforeChildren : Text → Text → Type 0 where
   before : {s t r : Text} → Star DroppedEntry s t → AfterChildren t r → BeforeChildren s r

@@ -63,12 +63,12 @@ abbrev pub trailing_text : Option DocumentFormat → Text
 trailing_text None = []
 trailing_text (Some f) = f.trailing
 
--- what is inside the braces around a child document: nothing, where it has a format
+-- what follows the `{` of a child document: nothing if it has a format
 abbrev pub after_brace : Option DocumentFormat → Text
 after_brace None = 10 ∷ []
 after_brace (Some f) = []
 
--- what comes before the `}`: the indentation, where the child document has no format
+-- what comes before the `}`: the indentation, if the child document has no format
 abbrev pub before_brace : Option DocumentFormat → ℕ → Text
 before_brace None depth = spaces depth
 before_brace (Some f) depth = []

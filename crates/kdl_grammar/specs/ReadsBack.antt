@@ -20,12 +20,12 @@ use Rattle.kdl_grammar.specs.Tree.{NodeFormat, DocumentFormat, Head, Node, node,
 pub data Rests : Type 0 where
   -- any text
   Anything : Rests
-  -- none, since the text ends
+  -- only the empty text
   TextEnd : Rests
   -- the `}` of a block with this format, after the indentation that a block without a format prints
   BlockEnd : Option DocumentFormat → Rests
 
--- the text r is one of them
+-- the text r may follow
 abbrev pub MayFollow : Rests → Text → Type 0
 MayFollow Anything r = Unit {0}
 MayFollow TextEnd r = r ≡ []
@@ -109,18 +109,18 @@ mutual
   pub data NodeReads : Rests → Node → Type 0 where
     reads : {P : Rests} {h : Head} {f : NodeFormat} {k : Children} → h.format ≡ Some f → HeadReads h f → ChildrenRead f k → EndReads P k f → NodeReads P (node h k)
 
-  -- its block, where it has one
+  -- the block of a node, if it has one
   pub data ChildrenRead : NodeFormat → Children → Type 0 where
     no_block : {f : NodeFormat} → ChildrenRead f no_children
     a_block : {f : NodeFormat} {d : Document} → ((t : Text) → BeforeChildren (f.before_children ++ (123 ∷ t)) (123 ∷ t)) → BlockReads d → ChildrenRead f (children d)
 
-  -- nodes, of which each but the last ends by itself, and the last before the rests P
+  -- nodes: each but the last ends by itself, and the last ends before the rests P
   pub data NodesRead : Rests → Nodes → Type 0 where
     no_node : {P : Rests} → NodesRead P none
     last_node : {P : Rests} {n : Node} → NodeReads P n → NodesRead P (first n none)
     next_node : {P : Rests} {n m : Node} {ns : Nodes} → NodeReads Anything n → NodesRead P (first m ns) → NodesRead P (first n (first m ns))
 
-  -- nodes with the texts around them, before the rests P; without nodes one text alone may come before the end
+  -- nodes with the texts around them, before the rests P; without nodes only one text may come before the end
   pub data ContentReads : Rests → Text → Text → Nodes → Type 0 where
     one_text : {P : Rests} {leading : Text} → IsGapBefore P leading → ContentReads P leading [] none
     two_texts : {P : Rests} {leading trailing : Text} → AddsNothing leading → IsGapBefore P trailing → ContentReads P leading trailing none
@@ -131,7 +131,7 @@ mutual
   pub data BlockReads : Document → Type 0 where
     block : {o : Option DocumentFormat} {ns : Nodes} {at : SourceSpan} → ContentReads (BlockEnd o) (leading_text o) (trailing_text o) ns → BlockReads (document o at ns)
 
--- a document that is a whole text: U+FEFF or nothing before it
+-- a document that is a whole text, with an optional U+FEFF before it
 pub data DocumentReads : Document → Type 0 where
   no_bom : {o : Option DocumentFormat} {ns : Nodes} {at : SourceSpan} → ContentReads TextEnd (leading_text o) (trailing_text o) ns → DocumentReads (document o at ns)
   behind_bom : {o : Option DocumentFormat} {ns : Nodes} {at : SourceSpan} {leading : Text} → leading_text o ≡ 0xFEFF ∷ leading → ContentReads TextEnd leading (trailing_text o) ns → DocumentReads (document o at ns)

@@ -1,4 +1,4 @@
--- Nodes and documents with every text and span, and nothing of how memory holds them.
+-- Nodes and documents with every text and span, whatever their layout in memory.
 use Rattle.std.specs.Prelude.{List, [], ◌∷◌, map, Option, Some, None, option_map}
 use Rattle.kdl_text.specs.Chars.{Text}
 use Rattle.kdl_text.specs.declared.span.SourceSpan.{SourceSpan}
@@ -21,7 +21,7 @@ pub record DocumentFormat : Type 0 where
   pub leading : Text
   pub trailing : Text
 
--- a node but for its children
+-- a node without its children
 pub record Head : Type 0 where
   pub ty : Option Identifier
   pub name : Identifier
@@ -44,7 +44,7 @@ mutual
     none : Nodes
     first : Node → Nodes → Nodes
 
--- what they say
+-- the data of nodes, children and documents
 abbrev mutual
   pub node_data : Node → data'.Node
   node_data (node h k) = data'.node (option_map (λ i. i.value) h.ty) h.name.value (map entry_data h.entries) (children_data k)
@@ -65,7 +65,7 @@ abbrev pub listed_nodes : List Node → Nodes
 listed_nodes [] = none
 listed_nodes (n ∷ ns) = first n (listed_nodes ns)
 
--- the nodes ns, and ms after them
+-- the nodes ns, followed by ms
 abbrev pub join : Nodes → Nodes → Nodes
 join none ms = ms
 join (first n ns) ms = first n (join ns ms)

@@ -17,53 +17,53 @@ pub fn unambiguous_node()
     ensures { OneNode }
 {}
 
-/// At most one document is laid in a text with the spans of its pieces.
+/// At most one document is located in a text with the spans of its pieces.
 #[tactic(auto, using(crate::proofs::Reading::Complete::OneLaid::one_laid_document))]
 pub fn one_laid_document()
     ensures { OneLaidDocument }
 {}
 
-/// At most one node is laid as a whole text with the spans of its pieces.
+/// At most one node is located as a whole text with the spans of its pieces.
 #[tactic(auto, using(crate::proofs::Reading::Complete::OneLaid::one_laid_node))]
 pub fn one_laid_node()
     ensures { OneLaidNode }
 {}
 
-/// Where a document is laid in a text, the text is a document with its data, and it is what the document prints.
+/// If a document is located in a text, the text is a document with its data, and it is what the document prints.
 #[tactic(auto, using(crate::proofs::LawProofs::laid_is_derived))]
 pub fn laid_is_derived()
     ensures { LaidIsDerived }
 {}
 
-/// Where a node is laid as a whole text, the text is a node with its data, and it is what the node prints.
+/// If a node is located as a whole text, the text is a node with its data, and it is what the node prints.
 #[tactic(auto, using(crate::proofs::LawProofs::laid_node_is_derived))]
 pub fn laid_node_is_derived()
     ensures { LaidNodeIsDerived }
 {}
 
-/// In each text that is a node, a node with its data is laid.
+/// Each text that is a node has a node with its data located in it.
 #[tactic(auto, using(crate::proofs::LawProofs::nodes_are_laid))]
 pub fn nodes_are_laid()
     ensures { NodesAreLaid }
 {}
 
-/// What the former language reads, in which spaces came before each slashdash, the present one reads with the same
-/// data.
+/// Each text of the former language, in which spaces came before each slashdash, is a text of the present one with the
+/// same data.
 #[tactic(auto, using(crate::proofs::LawProofs::former_is_kept))]
 pub fn former_is_kept()
     ensures { FormerIsKept }
 {}
 
-/// A document that is laid in its own printed text, with the spellings and the forms that it prints, reads back: the
+/// A document that is located in its own printed text, with the spellings and the forms that it prints, reads back: the
 /// text is a document with its data.
 #[tactic(auto, using(crate::proofs::Laying::FormedPrints::reads_back))]
 pub fn reads_back()
     ensures { ReadsBack }
 {}
 
-/// Where a document is laid, each document that differs from it, spans aside, in its nodes' entries alone, at each node
-/// some of its own entries, flagged or not, and entries without format and spelling in any order, reads back from the
-/// text that it prints, and is laid there with the spellings and the forms that it prints.
+/// If a document is located in a text, each document that differs from it, spans aside, only in its nodes' entries
+/// reads back from the text that it prints, and is located there with the spellings and the forms that it prints. Each
+/// node may have some of its own entries, flagged or not, and entries without format and spelling, in any order.
 #[tactic(auto, using(crate::proofs::Laying::FormedPrints::edited_is_laid))]
 pub fn edited_is_laid()
     ensures { EditedIsLaid }

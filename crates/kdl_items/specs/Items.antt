@@ -1,4 +1,4 @@
--- The comments in a text around nodes or entries, and what a slashdash drops there, in order. Nothing inside what is dropped is an item.
+-- The comments and slashdashed pieces in a text around nodes or entries, in order. Nothing inside a slashdashed piece is an item.
 -- `X s r is`: an X begins the text s, leaves r, and holds the items is.
 use Rattle.std.specs.Prelude.{◌≡◌, Bool, true, false, List, [], ◌∷◌, ◌++◌, if◌then◌else◌}
 use Rattle.kdl_text.specs.Chars.{Text, is_newline_char, Newline, Space, Star, Plus}
@@ -9,7 +9,7 @@ use Rattle.kdl_entry.specs.Places.{between}
 use Rattle.kdl_grammar.specs.Data.{Node, Nodes}
 use Rattle.kdl_grammar.specs.Grammar.{IsNode, IsBlock}
 
--- a line comment without its newline; or a block comment, or what a slashdash drops
+-- a line comment without its newline; or a block comment or a slashdashed piece
 pub data Item : Type 0 where
   comment : Text → Item
   piece : Text → Item
@@ -39,7 +39,7 @@ pub data LineSpaceItems : Text → Text → List Item → Type 0 where
   newline : {s r : Text} → Newline s r → LineSpaceItems s r []
   line : {s r : Text} → LineComment s r → LineSpaceItems s r (comment (between s (line_end s)) ∷ [])
 
--- where a node that is dropped ends with the terminator that is in u before v: after a `;`, or before the newline of a line
+-- where a slashdashed node ends, if the terminator is in u before v: after a `;`, or before the newline of a line
 pub data ItemEnd : Text → Text → Text → Type 0 where
   semicolon : {r : Text} → ItemEnd (59 ∷ r) r r
   line : {u v : Text} → Break u v → ItemEnd u v (line_end u)
@@ -48,14 +48,14 @@ pub data ItemEnd : Text → Text → Text → Type 0 where
 abbrev pub EndsTight : Text → Text → Type 0
 EndsTight t u = (w : Text) (x : Node) → IsNode true t w x → Plus NodeSpace w u → ⊥
 
--- a whole text that is a gap: line-spaces, and dropped nodes; the last one may have no terminator, and the node-spaces after it are not part of it
+-- a whole text that is a gap: line-spaces, and slashdashed nodes; the last one may have no terminator, and the node-spaces after it are not part of it
 pub data GapItems : Text → List Item → Type 0 where
   none : GapItems [] []
   space : {s t : Text} {is js : List Item} → LineSpaceItems s t is → GapItems t js → GapItems s (is ++ js)
   dropped_node : {s t u v e : Text} {x : Node} {is : List Item} → Slashdash s t → IsNode true t u x → ItemEnd u v e → GapItems v is → GapItems s (piece (between s e) ∷ is)
   last_node : {s t u : Text} {x : Node} {is : List Item} → Slashdash s t → IsNode true t u x → EndsTight t u → Star NodeSpace u [] → GapItems u is → GapItems s (piece (between s u) ∷ is)
 
--- a place in a node: before an entry, where a node-space may come directly before what comes; before the block, or before the terminator without a block; after a block
+-- a place in a node: before an entry, with or without a node-space directly before what comes; before the block, or before the terminator of a node without a block; after a block
 pub data Place : Type 0 where
   before_entry : Bool → Place
   before_block : Place
@@ -67,25 +67,25 @@ may_end (before_entry spaced) = spaced
 may_end before_block = true
 may_end behind_block = true
 
--- entries may be dropped here
+-- entries may be slashdashed here
 abbrev pub takes_entries : Place → Bool
 takes_entries (before_entry spaced) = true
 takes_entries before_block = true
 takes_entries behind_block = false
 
--- blocks may be dropped here
+-- blocks may be slashdashed here
 abbrev pub takes_blocks : Place → Bool
 takes_blocks (before_entry spaced) = false
 takes_blocks before_block = true
 takes_blocks behind_block = true
 
--- the place after a node-space, or directly after a dropped entry
+-- the place after a node-space, or directly after a slashdashed entry
 abbrev pub spaced : Bool → Place → Place
 spaced b (before_entry c) = before_entry b
 spaced b before_block = before_block
 spaced b behind_block = behind_block
 
--- a whole text that is in such a place: node-spaces, dropped entries, and then dropped blocks
+-- a whole text that is in such a place: node-spaces, slashdashed entries, and then slashdashed blocks
 pub data PlaceItems : Place → Text → List Item → Type 0 where
   ends : {p : Place} → may_end p ≡ true → PlaceItems p [] []
   space : {p : Place} {s t : Text} {is js : List Item} → SpaceItems s t is → PlaceItems (spaced true p) t js → PlaceItems p s (is ++ js)

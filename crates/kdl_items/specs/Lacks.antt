@@ -1,4 +1,4 @@
--- How many newlines a text around nodes lacks, so that whatever follows it is not part of it.
+-- How many newlines a text around nodes lacks for whatever follows it not to become part of it.
 use Rattle.std.specs.Prelude.{ℕ, ◌<◌, ◌≤◌, Bool, true, false, [], ◌++◌, Option, Some, None}
 use Rattle.kdl_text.specs.Chars.{Text, times}
 use Rattle.kdl_entry.specs.Places.{EntryLeading}
@@ -15,7 +15,7 @@ newlines k = times k 10
 abbrev pub Lacks : (Text → Type 0) → Text → ℕ → Type 0
 Lacks P t k = P (t ++ newlines k) × ((j : ℕ) → j < k → P (t ++ newlines j) → ⊥)
 
--- the text is a gap that lacks k newlines, at most two; or it is no gap
+-- the text is a gap that lacks k newlines, at most two; or it is not a gap
 abbrev pub GapLacks : Text → Option ℕ → Type 0
 GapLacks t (Some k) = (k ≤ 2) × Gap true t [] × Lacks AddsNothing t k
 GapLacks t None = Gap true t [] → ⊥
@@ -24,7 +24,7 @@ GapLacks t None = Gap true t [] → ⊥
 abbrev pub Terminating : Text → Type 0
 Terminating t = (v : Text) × Terminator t v × Gap true v []
 
--- the text is a terminator and a gap, and lacks k newlines, at most two; or it is no such text
+-- the text is a terminator and a gap, and lacks k newlines, at most two; or it is not such a text
 abbrev pub TerminatorLacks : Text → Option ℕ → Type 0
 TerminatorLacks t (Some k) = (k ≤ 2) × Terminating t × Lacks (Terminates Anything) t k
 TerminatorLacks t None = Terminating t → ⊥
@@ -39,7 +39,7 @@ InPlace behind_block = AfterChildren
 abbrev pub BeforeEach : Place → Text → Type 0
 BeforeEach p t = (r v : Text) → Terminator r v → InPlace p (t ++ r) r
 
--- whether the text, in a place of a node before the terminator, lacks a newline; or the text may not be in that place. In a place before an entry it is trivial
+-- whether the text, in a place of a node before the terminator, lacks a newline; or the text may not be in that place. For a place before an entry this says nothing
 abbrev pub PlaceLacks : Place → Text → Option Bool → Type 0
 PlaceLacks (before_entry spaced) t o = Unit {0}
 PlaceLacks p t (Some true) = InPlace p t [] × Lacks (BeforeEach p) t 1

@@ -7,7 +7,7 @@ abbrev pub item_text : Item → Text
 item_text (comment t) = t
 item_text (piece t) = t
 
--- a text that ends with the CR of an escline ends with LF: before a newline the two would be one
+-- the text, with LF for a CR of an escline at its end: a CR and the newline after it would be one newline
 abbrev pub line_text : Text → Text
 line_text [] = []
 line_text (c ∷ []) = (if c == 13 then 10 else c) ∷ []
@@ -18,7 +18,7 @@ abbrev pub lines : Text → List Item → Text
 lines before [] = []
 lines before (i ∷ is) = (before ++ line_text (item_text i) ++ (10 ∷ [])) ++ lines before is
 
--- each item after a space; a line comment ends an escline
+-- each item after a space; a line comment is written as the end of an escline
 abbrev pub tail : List Item → Text
 tail [] = []
 tail (comment t ∷ is) = (32 ∷ 92 ∷ 32 ∷ t ++ (10 ∷ [])) ++ tail is

@@ -21,16 +21,16 @@ use kdl_lexer::{LexFailure, Lexer, Token, TokenKind};
 use kdl_text::cursor::Steps;
 use std::alloc::{AllocError, Global};
 
-/// Where a dropped node ends, and where the text after it begins, in bytes from the end of its `/-`.
+/// Where a slashdashed node ends, and where the text after it begins, in bytes from the end of its `/-`.
 #[derive(Clone, Copy)]
 pub(crate) struct NodeEnd {
     item: usize,
     pub(crate) behind: usize,
-    /// It has no terminator, or a line comment without a newline.
+    /// Whether it has no terminator, or a line comment without a newline.
     pub(crate) is_open: bool,
 }
 
-/// Where a dropped entry or block ends, in bytes from the end of its `/-`, and which of the two it is.
+/// Where a slashdashed entry or block ends, in bytes from the end of its `/-`, and which of the two it is.
 #[derive(Clone, Copy)]
 pub(crate) struct PartEnd {
     pub(crate) at: usize,
@@ -43,7 +43,7 @@ fn is_space(kind: &TokenKind) -> bool
     matches!(kind, TokenKind::Space)
 }
 
-/// Whether a string goes on as a key here.
+/// Whether the string before the token may still be a key: the token is a space or `=`.
 fn follows_word(kind: &TokenKind) -> bool
     ensures { result ≡ follows_word (kind_view kind.now) }
 {
@@ -58,7 +58,7 @@ fn ends_word(control: &Control, kind: &TokenKind) -> bool
     control.is_word() && !follows_word(kind)
 }
 
-/// Where the last token that is no space ends: this one, or an earlier one.
+/// Where the last token that is not a space ends: this one, or an earlier one.
 fn end_behind(token: &Token, last: usize) -> usize
     ensures { result ≡ (if of_spaces (kind_view token.now.kind) then last else token.now.end.at) }
 {
@@ -97,7 +97,7 @@ fn node_end(text: &str, token: &Token) -> NodeEnd
     }
 }
 
-/// The end of a node where the text ends: node-spaces come after it. None where the node can't end.
+/// The end of a node at the end of the text, where node-spaces come after it. `None` if the node can't end here.
 fn last_end(control: &Control, last: usize) -> Option<NodeEnd>
     ensures { MatchOption result (finish (control_view control.now) ≡ false)
         (λ e. (finish (control_view control.now) ≡ true) × (e.item ≡ last) × (e.behind ≡ last)
@@ -114,7 +114,7 @@ fn last_end(control: &Control, last: usize) -> Option<NodeEnd>
     }
 }
 
-/// The end of an entry that is a string, where it may end.
+/// The end of an entry that is a string, if it may end here.
 fn word_end(control: &Control, last: usize) -> Option<PartEnd>
     ensures { MatchOption result (is_word (control_view control.now) ≡ false)
         (λ e. (is_word (control_view control.now) ≡ true) × (e.at ≡ last) × (e.is_block ≡ false)) }
@@ -129,7 +129,7 @@ fn word_end(control: &Control, last: usize) -> Option<PartEnd>
     }
 }
 
-/// Where the node ends that a `/-` before the text drops; none where it drops no node.
+/// The end of the node that a `/-` before the text drops, or `None` if it drops no node.
 pub(crate) fn pass_node(alloc: Global, text: &str) -> Result<Option<NodeEnd>, AllocError>
     ensures { IfOk result (λ o. AnswersDroppedNode (chars text.now) o) }
 {
@@ -154,7 +154,7 @@ pub(crate) fn pass_node(alloc: Global, text: &str) -> Result<Option<NodeEnd>, Al
     }
 }
 
-/// Adds the node that the slashdash here drops. Returns the text after it, or none where it drops no node.
+/// Adds the node that the slashdash here drops. Returns the text after it, or `None` if it drops no node.
 pub(crate) fn dropped_node<'a>(
     alloc: Global,
     text: &'a str,
@@ -184,7 +184,7 @@ fn slashdash_phase(place: Place) -> Phase
     }
 }
 
-/// The place after an entry or a block that is dropped in it; none where no block may be dropped there.
+/// The place after an entry or a block that is slashdashed in it, or `None` if no block may be slashdashed there.
 pub(crate) fn behind_part(place: Place, is_block: bool) -> Option<Place>
     ensures { BehindPart (place_view place) is_block (option_map place_view result) }
 {
@@ -196,7 +196,7 @@ pub(crate) fn behind_part(place: Place, is_block: bool) -> Option<Place>
     }
 }
 
-/// Where the entry or block ends that a `/-` before the text drops in the place; none where it drops neither.
+/// The end of the entry or block that a `/-` before the text drops in the place, or `None` if it drops neither.
 pub(crate) fn pass_part(
     alloc: Global,
     place: Place,
@@ -228,8 +228,8 @@ pub(crate) fn pass_part(
     }
 }
 
-/// Adds the entry or block that the slashdash here drops. The text after it and the place there; none where none may
-/// be dropped.
+/// Adds the entry or block that the slashdash here drops. Returns the text after it and the place there, or `None` if
+/// neither may be slashdashed.
 pub(crate) fn dropped_part<'a>(
     alloc: Global,
     place: Place,

@@ -37,7 +37,7 @@ fn is_return(text: &str) -> bool
     cursor.eat('\r') && cursor.look().is_none()
 }
 
-/// How a line ends whose newline or end is at the start of the text. None where the text begins with anything else.
+/// How a line ends if its newline, or the end of the text, is here. `None` if the text begins with anything else.
 pub(crate) fn line_ending(end: &str) -> Option<Ending<'_>>
     ensures { LineEnds (chars end.now) result }
 {
@@ -53,7 +53,7 @@ pub(crate) fn line_ending(end: &str) -> Option<Ending<'_>>
     }
 }
 
-/// The text without the line comment that begins it, if one does: from the comment's newline on.
+/// The text without a line comment at its start: from the comment's newline on, if there is a comment.
 pub(crate) fn behind_comment(text: &str) -> &str
     ensures { chars result.now ≡ (if begins_two 47 47 (chars text.now)
         then line_end (chars text.now) else chars text.now) }
@@ -77,14 +77,14 @@ fn behind_ws(text: &str) -> &str
     rest
 }
 
-/// How the escline ends whose backslash comes before the text; none where there is no escline.
+/// How the escline ends whose backslash comes before the text, or `None` if there is no escline.
 fn escline_ending(text: &str) -> Option<Ending<'_>>
     ensures { EndsAs NodeSpace (92 ∷ chars text.now) result }
 {
     line_ending(behind_comment(behind_ws(text)))
 }
 
-/// How the node-spaces at the start of the text end. None where the text begins with no node-space.
+/// How the node-spaces at the start of the text end. `None` if the text does not begin with a node-space.
 pub(crate) fn node_spaces_ending(text: &str) -> Option<Ending<'_>>
     ensures { EndsAs NodeSpace (chars text.now) result }
 {
@@ -101,7 +101,7 @@ pub(crate) fn node_spaces_ending(text: &str) -> Option<Ending<'_>>
     }
 }
 
-/// How the line-spaces at the start of the text end. None where the text begins with no line-space.
+/// How the line-spaces at the start of the text end. `None` if the text does not begin with a line-space.
 pub(crate) fn line_spaces_ending(text: &str) -> Option<Ending<'_>>
     requires { chars text.now ≡ [] → ⊥ }
     ensures { EndsAs LineSpace (chars text.now) result }

@@ -1,23 +1,22 @@
 //! Items, and the places in a node where they may be.
 
-/// A comment or a dropped piece in the text around nodes or entries, as it is written.
+/// A comment or a slashdashed piece in the text around nodes or entries, as it is written.
 #[derive(Clone, Copy)]
 pub enum Item<'a> {
     /// A line comment, without the newline that ends it.
     Comment(&'a str),
-    /// A block comment, or a node, entry or block that a slashdash drops: from the `/-` on, without a newline at its
-    /// end.
+    /// A block comment, or a slashdashed node, entry or block: from the `/-` on, without a newline at its end.
     Piece(&'a str),
 }
 
 /// A place in a node, by what may be there (KDL 2.0.0, Slashdash Comments).
 #[derive(Clone, Copy)]
 pub enum Place {
-    /// Before an entry; whether a node-space comes directly before what comes. Entries are dropped there.
+    /// Before an entry, and whether a node-space comes directly before what follows. Entries may be slashdashed here.
     BeforeEntry(bool),
-    /// Before the node's block, or before the terminator of a node without one. Entries are dropped there, and then
-    /// blocks.
+    /// Before the node's block, or before the terminator of a node without one. Entries may be slashdashed here, and
+    /// then blocks.
     BeforeBlock,
-    /// After the node's block, or after a block that is dropped. Blocks are dropped there.
+    /// After the node's block, or after a slashdashed block. Blocks may be slashdashed here.
     BehindBlock,
 }

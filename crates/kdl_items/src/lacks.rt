@@ -1,4 +1,4 @@
-//! How many newlines a text around nodes lacks, so that whatever follows it is not part of it.
+//! How many newlines a text around nodes lacks for whatever follows it not to become part of it.
 
 ghost use Rattle.kdl_items.specs.Internal.Lacking.{GapAnswer, PieceEnds, PlaceGoes, PlacePieceEnds, SpacesLack};
 ghost use Rattle.kdl_items.specs.Internal.Reading.{place_view};
@@ -16,12 +16,12 @@ use crate::slices::cut;
 use crate::spaces::behind_semicolon;
 use std::alloc::{AllocError, Global};
 
-/// The first piece of a gap: line-spaces, or a dropped node.
+/// The first piece of a gap: line-spaces, or a slashdashed node.
 #[derive(Clone, Copy)]
 enum GapPiece<'a> {
-    /// It ends before this rest, whatever follows the rest.
+    /// Ends before this rest, whatever follows the rest.
     Until(&'a str),
-    /// It is the whole text, and lacks this many newlines.
+    /// Is the whole text, and lacks this many newlines.
     Last(usize),
 }
 
@@ -42,7 +42,7 @@ fn spaces_lack(text: &str) -> bool
     false
 }
 
-/// The dropped node that begins the text.
+/// The slashdashed node that begins the text.
 fn dropped_piece<'a>(alloc: Global, text: &'a str) -> Result<Option<GapPiece<'a>>, AllocError>
     requires { (t : Text) × (chars text.now ≡ 47 ∷ 45 ∷ t) }
     ensures { IfOk result (λ o. PieceEnds (chars text.now) o) }
@@ -77,7 +77,7 @@ fn spaces_piece(text: &str) -> Option<GapPiece<'_>>
     }
 }
 
-/// The first piece of the text of a gap; none where the text is no gap.
+/// The first piece of the text of a gap, or `None` if the text is not a gap.
 fn gap_piece<'a>(alloc: Global, text: &'a str) -> Result<Option<GapPiece<'a>>, AllocError>
     requires { chars text.now ≡ [] → ⊥ }
     ensures { IfOk result (λ o. PieceEnds (chars text.now) o) }
@@ -89,11 +89,11 @@ fn gap_piece<'a>(alloc: Global, text: &'a str) -> Result<Option<GapPiece<'a>>, A
     }
 }
 
-/// How many newlines the text of a gap lacks, at most two, so that it adds nothing to the nodes that follow it, whatever
-/// they are: one where it ends in a line comment or an escline without a newline, and one where its last node, which a
-/// slashdash drops, has no terminator. None where the text is no gap.
+/// Returns how many newlines the text of a gap lacks, at most two, for it to add nothing to the nodes that follow,
+/// whatever they are: one if it ends in a line comment or an escline without a newline, and one if its last slashdashed
+/// node has no terminator. Returns `None` if the text is not a gap.
 ///
-/// Fails where memory runs out.
+/// Returns an error if an allocation fails.
 ///
 /// ```
 /// assert_eq!(gap_lacks(alloc, "/-x // a")?, Some(1));
@@ -105,7 +105,7 @@ pub fn gap_lacks(alloc: Global, text: &str) -> Result<Option<usize>, AllocError>
     gap_newlines(alloc, text)
 }
 
-/// How many newlines the gap lacks, where it is a whole text or follows a terminator.
+/// How many newlines the gap lacks, whether it is a whole text or follows a terminator.
 fn gap_newlines(alloc: Global, text: &str) -> Result<Option<usize>, AllocError>
     ensures { IfOk result (λ o. GapAnswer (chars text.now) o) }
 {
@@ -120,11 +120,11 @@ fn gap_newlines(alloc: Global, text: &str) -> Result<Option<usize>, AllocError>
     Ok(Some(0))
 }
 
-/// How many newlines a terminator lacks, with the gap after it, so that it ends the node before it and adds nothing to
-/// the nodes that follow, whatever they are. Without a terminator it lacks one. None where the text is no terminator
-/// with a gap after it.
+/// Returns how many newlines a terminator and the gap after it lack to end the node before them and to add nothing to
+/// the nodes that follow, whatever they are. Without a terminator they lack one. Returns `None` if the text is not a
+/// terminator followed by a gap.
 ///
-/// Fails where memory runs out.
+/// Returns an error if an allocation fails.
 ///
 /// ```
 /// assert_eq!(terminator_lacks(alloc, "; // a\n")?, Some(0));
@@ -144,16 +144,17 @@ pub fn terminator_lacks(alloc: Global, text: &str) -> Result<Option<usize>, Allo
     }
 }
 
-/// The first piece of a place in a node: node-spaces, or a dropped entry or block.
+/// The first piece of a place in a node: node-spaces, or a slashdashed entry or block.
 #[derive(Clone, Copy)]
 enum PlacePiece<'a> {
-    /// It ends before this rest, which is in this place.
+    /// Ends before this rest, which is in this place.
     Onward(Place, &'a str),
-    /// It is the whole text, and ends in an escline with no newline or only a CR.
+    /// Is the whole text, and ends in an escline with no newline or only a CR.
     InEscline,
 }
 
-/// The text after the entry or block that is dropped at its start, and the place there. None where none may be.
+/// The text after the slashdashed entry or block at its start, and the place there. `None` if neither may be
+/// slashdashed.
 fn dropped_place<'a>(
     alloc: Global,
     place: Place,
@@ -187,7 +188,7 @@ fn spaces_place(place: Place, text: &str) -> Option<PlacePiece<'_>>
     }
 }
 
-/// The first piece of the text in a place; none where the text can't be in the place.
+/// The first piece of the text in a place, or `None` if the text can't be in the place.
 fn place_piece<'a>(
     alloc: Global,
     place: Place,
@@ -206,11 +207,12 @@ fn place_piece<'a>(
     }
 }
 
-/// Whether the text before a node's terminator, before its block or after it, ends in an escline that lacks a newline:
-/// with an LF after it, it may come before each terminator. A CR at its end is no such newline, since an LF after it is
-/// part of it. None where the text can't be in that place. For a place before an entry the result is not specified.
+/// Returns whether the text before a node's terminator, before its block or after it, ends in an escline that lacks a
+/// newline: with an LF after it, it may come before each terminator. A CR at its end does not count as a newline, since
+/// an LF after it is part of it. Returns `None` if the text can't be in that place. For a place before an entry the
+/// result is unspecified.
 ///
-/// Fails where memory runs out.
+/// Returns an error if an allocation fails.
 ///
 /// ```
 /// assert_eq!(place_lacks(alloc, Place::BeforeBlock, " /-1")?, Some(false));

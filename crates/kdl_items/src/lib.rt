@@ -1,5 +1,5 @@
-//! The comments in the texts around nodes and entries, and what a slashdash drops there: they are read as items, and
-//! written as layout writes them.
+//! The comments and slashdashed pieces in the texts around nodes and entries. They are read as items, and written in
+//! the form of the layout.
 #![tactic(auto)]
 
 mod dropped;

@@ -20,7 +20,7 @@ pub(crate) fn begins_slashdash(text: &str) -> bool
     Cursor::new(text, Steps::new()).looks_two('/', '-')
 }
 
-/// The same text: a loop that goes on with a call's result knows that it is UTF-8.
+/// Returns the same text. After a call, the proof of a loop knows that the text is UTF-8.
 #[inline]
 pub(crate) fn same(text: &str) -> &str
     ensures { chars result.now ≡ chars text.now }
@@ -28,8 +28,8 @@ pub(crate) fn same(text: &str) -> &str
     text
 }
 
-/// Adds the items of the line-spaces or of the dropped node that begin the text of a gap. Returns the text
-/// after them, or none where the text is no gap.
+/// Adds the items of the line-spaces or of the slashdashed node that begin the text of a gap. Returns the text after
+/// them, or `None` if the text is not a gap.
 fn gap_piece<'a>(
     alloc: Global,
     text: &'a str,
@@ -45,11 +45,11 @@ fn gap_piece<'a>(
     }
 }
 
-/// The items of the text, in order, each a slice of it; none where the text is no gap: line-spaces, and nodes that a
-/// slashdash drops (KDL 2.0.0, Document). The last of these may end with the text; the spaces and comments after it
-/// are no part of it.
+/// Returns the items of the text, in order, each a slice of it, or `None` if the text is not a gap: line-spaces and
+/// slashdashed nodes (KDL 2.0.0, Document). The last slashdashed node may end with the text; the spaces and comments
+/// after it are not part of it.
 ///
-/// Fails where memory runs out.
+/// Returns an error if an allocation fails.
 pub fn gap_items<'a>(alloc: Global, text: &'a str) -> Result<Option<Vec<Item<'a>>>, AllocError>
     ensures { IfOk result (λ o. IsGapWith (chars text.now)
         (option_map (λ v. items_view v.items) o)) }
@@ -85,8 +85,8 @@ pub(crate) fn may_end(place: Place) -> bool
     }
 }
 
-/// Adds the items of the node-spaces, or of the entry or block that is dropped, that begin the text in a place.
-/// Returns the text after them and the place there, or none where the text can't be in the place.
+/// Adds the items of the node-spaces, or of the slashdashed entry or block, that begin the text in a place. Returns the
+/// text after them and the place there, or `None` if the text can't be in the place.
 fn place_piece<'a>(
     alloc: Global,
     place: Place,
@@ -106,9 +106,10 @@ fn place_piece<'a>(
     }
 }
 
-/// The items of the text in a place of a node, in order, each a slice of it; none where the text can't be there.
+/// Returns the items of the text in a place of a node, in order, each a slice of it, or `None` if the text can't be in
+/// the place.
 ///
-/// Fails where memory runs out.
+/// Returns an error if an allocation fails.
 pub fn place_items<'a>(
     alloc: Global,
     place: Place,

@@ -1,4 +1,4 @@
-//! Slices of a text at a place in bytes.
+//! Slices of a text at a byte offset.
 
 ghost use Rattle.kdl_text.specs.Spans.{bytes};
 ghost use Rattle.kdl_text.specs.Chars.{Text};
@@ -6,7 +6,7 @@ ghost use Rattle.kdl_items.specs.Internal.Reading.{Cut};
 ghost use Rattle.std.specs.Prelude.{◌≡◌, ◌++◌};
 ghost use Rattle.std.specs.Str.{IsUtf8, chars};
 
-/// The text before a place, and the text after it.
+/// The text before an offset, and the text after it.
 #[inline]
 pub(crate) fn cut(text: &str, at: usize) -> (&str, &str)
     requires { Cut (chars text.now) at }

@@ -35,7 +35,7 @@ pub(crate) fn behind_spaces(text: &str) -> &str
     rest
 }
 
-/// The block comment that begins the text, and the text after it; none where none begins it or it isn't closed.
+/// The block comment at the start of the text, and the text after it, or `None` if there is none or it is unclosed.
 pub(crate) fn block(text: &str) -> Option<(&str, &str)>
     ensures { MatchOption result ((r : Text) → BlockComment (chars text.now) r → ⊥)
         (λ (comment, rest). BlockComment (chars text.now) (chars rest.now)
@@ -49,7 +49,7 @@ pub(crate) fn block(text: &str) -> Option<(&str, &str)>
     }
 }
 
-/// The text before its first newline, and from there on.
+/// The text before its first newline, and the text from there on.
 pub(crate) fn line(text: &str) -> (&str, &str)
     ensures parts { chars text.now ≡ chars result.0.now ++ chars result.1.now }
     ensures end { chars result.1.now ≡ line_end (chars text.now) }
@@ -91,7 +91,7 @@ pub(crate) fn comment(text: &str) -> Option<(&str, &str)>
     }
 }
 
-/// The text after its first character, where that is a backslash.
+/// The text after its first character, if that is a backslash.
 pub(crate) fn behind_backslash(text: &str) -> Option<&str>
     ensures { MatchOption result ((s : Text) → chars text.now ≡ 92 ∷ s → ⊥)
         (λ rest. chars text.now ≡ 92 ∷ chars rest.now) }
@@ -105,7 +105,7 @@ pub(crate) fn behind_backslash(text: &str) -> Option<&str>
     }
 }
 
-/// The text after its first character, where that is a semicolon.
+/// The text after its first character, if that is a semicolon.
 pub(crate) fn behind_semicolon(text: &str) -> Option<&str>
     ensures { MatchOption result ((s : Text) → chars text.now ≡ 59 ∷ s → ⊥)
         (λ rest. chars text.now ≡ 59 ∷ chars rest.now) }
@@ -119,7 +119,8 @@ pub(crate) fn behind_semicolon(text: &str) -> Option<&str>
     }
 }
 
-/// The text after an escline whose backslash comes before it; none where there is no escline. Its comments are added.
+/// Adds the comments of the escline whose backslash comes before the text. Returns the text after it, or `None` if
+/// there is no escline.
 fn escline<'a>(text: &'a str, items: &mut Vec<Item<'a>>) -> Result<Option<&'a str>, AllocError>
     ensures { IfOk result (λ o.
         AddsHeld SpaceItems (92 ∷ chars text.now) o items.old.items items.new.items) }
@@ -139,7 +140,7 @@ fn escline<'a>(text: &'a str, items: &mut Vec<Item<'a>>) -> Result<Option<&'a st
     Ok(behind_newline(rest))
 }
 
-/// The text after the node-spaces that begin it, at least one; none where there is none. Their comments are added.
+/// Adds the comments of the node-spaces that begin the text. Returns the text after them, or `None` if there are none.
 pub(crate) fn node_spaces<'a>(
     text: &'a str,
     items: &mut Vec<Item<'a>>,
@@ -161,7 +162,7 @@ pub(crate) fn node_spaces<'a>(
     }
 }
 
-/// The same for line-spaces.
+/// Adds the comments of the line-spaces that begin the text. Returns the text after them, or `None` if there are none.
 pub(crate) fn line_spaces<'a>(
     text: &'a str,
     items: &mut Vec<Item<'a>>,

@@ -15,7 +15,8 @@ fn is_empty(text: &str) -> bool
     text.is_empty()
 }
 
-/// The line comment that the whole text is, without its newline; none where it is none.
+/// Returns the line comment that the whole text is, without its newline, or `None` if the text is
+/// not one.
 pub fn line_comment(text: &str) -> Option<&str>
     ensures { MatchOption result (LineComment (chars text.now) [] → ⊥)
         (λ comment. LineComment (chars text.now) []

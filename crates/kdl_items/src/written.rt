@@ -1,4 +1,4 @@
-//! Items, as layout writes them.
+//! Items, in the form of the layout.
 
 ghost use Rattle.kdl_items.specs.Internal.Reading.{item_view, items_view};
 ghost use Rattle.kdl_items.specs.Written.{item_text, line_text, lines, tail};
@@ -9,7 +9,7 @@ ghost use Rattle.std.specs.Str.{chars};
 use crate::item::Item;
 use std::alloc::AllocError;
 
-/// Puts the text after another.
+/// Appends the text.
 ///
 /// ```
 /// push_text(&mut out, "b")?; // after `a` the text is `ab`
@@ -20,7 +20,7 @@ pub fn push_text(out: &mut String, text: &str) -> Result<(), AllocError>
     out.push_str(text)
 }
 
-/// The text after another, with a CR at its end written as LF.
+/// Appends the text, with a CR at its end written as LF.
 fn push_line_text(out: &mut String, text: &str) -> Result<(), AllocError>
     ensures { OnOk result (text_of out.new ≡ text_of out.old ++ line_text (chars text.now)) }
 {
@@ -45,8 +45,8 @@ fn push_line(out: &mut String, before: &str, item: Item) -> Result<(), AllocErro
     push_text(out, "\n")
 }
 
-/// Appends a line for each item, after the text `before`. A CR at the end of an item, which ends an escline, is
-/// written as LF: before the newline of the line the two would be one.
+/// Appends a line for each item, after the text `before`. A CR at the end of an item, which ends an escline, is written
+/// as LF: with the newline after it, it would be one newline.
 pub fn push_lines(out: &mut String, before: &str, items: &[Item]) -> Result<(), AllocError>
     ensures { OnOk result (text_of out.new ≡ text_of out.old
         ++ lines (chars before.now) (items_view items.now)) }
@@ -74,7 +74,7 @@ fn push_behind_space(out: &mut String, item: Item) -> Result<(), AllocError>
     }
 }
 
-/// Appends each item after a space; a line comment ends an escline.
+/// Appends each item after a space. A line comment is written as the end of an escline.
 pub fn push_tail(out: &mut String, items: &[Item]) -> Result<(), AllocError>
     ensures { OnOk result (text_of out.new ≡ text_of out.old ++ tail (items_view items.now)) }
 {

@@ -1,4 +1,4 @@
--- The words of the laws that `Words` of kdl does not pass on, from one place for the crates that cite laws. Declares nothing.
+-- The terms of the laws that `Words` of kdl does not re-export, in one place for the crates that cite laws. Declares nothing.
 
 -- Laws of the written grammar of documents and nodes.
 pub use Rattle.kdl_grammar.specs.Laws.{EditedIsLaid, FormerIsKept, LaidIsDerived, LaidNodeIsDerived, NodesAreLaid, OneDocument, OneLaidDocument, OneLaidNode, OneNode, ReadsBack}
@@ -22,14 +22,14 @@ pub use Rattle.kdl_fmt.specs.Kept.{without_bom}
 pub use Rattle.kdl_laws.specs.Leading.{DocumentLeading}
 -- Written items.
 pub use Rattle.kdl_items.specs.Written.{lines, on_line, tail}
--- Keys, errors and their parts, on which `==` goes.
+-- Keys, errors and their parts, which `==` compares.
 pub use Rattle.kdl_laws.specs.Keys.{sought_anywhere}
 pub use Rattle.kdl_laws.specs.Errors.{Diagnostic, Failure, Refusal, diagnostic_tree, error_tree, failure_tree, memory, syntax'}
 -- Pieces of a text: those of a diagnostic, and of an entry.
 pub use Rattle.kdl_laws.specs.Pieces.{IsPiece, IsPieceOf, said_entry_in}
 -- Documents to whose list of nodes a node can be pushed.
 pub use Rattle.kdl_laws.specs.Pushed.{IsLineEnded, LastEnds}
--- What a document says with another value for an argument, and texts with another piece.
+-- The data of a document with another value for an argument, and texts with another piece.
 pub use Rattle.kdl_laws.specs.ArgumentSet.{HasInstead, with_said_arg}
 -- What layout makes of a text.
 pub use Rattle.kdl_laws.specs.LaidOut.{IsLaidOut, IsSpacedOut}

@@ -1,4 +1,4 @@
--- Errors with every text as its bytes, every span, and nothing of how memory holds them.
+-- Errors with every text as its bytes, and every span, whatever their layout in memory.
 use Rattle.std.specs.Prelude.{ℕ, List, Option, map, option_map, string_bytes}
 use Rattle.std.specs.Rc.{rc_str_bytes}
 use Rattle.kdl_text.specs.declared.error.KdlDiagnostic.{KdlDiagnostic}
@@ -8,7 +8,7 @@ use Rattle.kdl_text.specs.declared.error.ParseFailure.TheVariants.{Syntax, Memor
 use Rattle.kdl_text.specs.declared.span.Severity.{Severity}
 use Rattle.kdl_text.specs.declared.span.SourceSpan.{SourceSpan}
 
--- a fault: the text that was read, where the fault is, and its words
+-- a fault: the text that was read, the span of the fault, its message, label and hint, and its severity
 pub record Diagnostic : Type 0 where
   pub input : List ℕ
   pub span : SourceSpan
@@ -17,7 +17,7 @@ pub record Diagnostic : Type 0 where
   pub help : Option (List ℕ)
   pub severity : Severity
 
--- a refusal: the text that was read, and its faults in order
+-- an error: the text that was read, and its faults in order
 pub record Refusal : Type 0 where
   pub input : List ℕ
   pub diagnostics : List Diagnostic

@@ -1,4 +1,4 @@
--- What keys look for, whatever the spans of their names.
+-- What keys look for, regardless of the spans of their names.
 use Rattle.kdl_entry.specs.Tree.{without_span}
 use Rattle.kdl_parts.specs.EntryLists.{Sought, property, argument}
 

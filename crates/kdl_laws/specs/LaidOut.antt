@@ -9,7 +9,7 @@ use Rattle.kdl_fmt.specs.Config.{defaults}
 use Rattle.kdl_fmt.specs.Spaced.{IsSpacedDocument}
 use Rattle.kdl_fmt.specs.WithComments.{IsFormattedDocument}
 
--- out is what the document of the text prints once it is laid out; the comments stay, and a second layout changes nothing
+-- out is what the document of the text prints after layout; the comments are kept, and a second layout changes nothing
 pub record IsLaidOut (text out : Text) : Type 0 where
   pub before : Document
   pub after : Document
@@ -19,7 +19,7 @@ pub record IsLaidOut (text out : Text) : Type 0 where
   pub comments : CommentsStay before out
   pub again : (y : Document) → IsFormattedDocument defaults 0 after y → y ≡ after
 
--- the same where blank lines stay, no more than a number between two nodes or comments
+-- the same if blank lines are kept, at most a number of them between two nodes or comments
 pub record IsSpacedOut (number : ℕ) (text out : Text) : Type 0 where
   pub before : Document
   pub after : Document

@@ -20,7 +20,7 @@ pub record IsPiece (text : List ℕ) (span : SourceSpan) : Type 0 where
 abbrev pub said_entry_in : Text → Text → Nodes → Option EntryData
 said_entry_in s r x = option_and_then (last_property r) (said_node s x)
 
--- the text is what an entry with these data prints in a node, and reads back as; nothing where there is none
+-- the text is what an entry with these data prints in a node, and reads back as; it is empty if there is no entry
 abbrev pub IsPieceOf : Option EntryData → Text → Type 0
 IsPieceOf None p = p ≡ []
 IsPieceOf (Some x) p = (e : Entry) × EntryReads e × (entry_data e ≡ x) × (p ≡ print_piece e)

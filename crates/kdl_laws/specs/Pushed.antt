@@ -13,7 +13,7 @@ use Rattle.kdl.specs.declared.document.KdlDocument.{KdlDocument}
 use Rattle.kdl.specs.declared.node.KdlNode.{KdlNode}
 use Rattle.kdl_parts.specs.declared.format.KdlNodeFormat.{KdlNodeFormat}
 
--- the node ends by itself, or the text before the nodes, after U+FEFF, where there is no node
+-- the node ends by itself, or, if there is no node, the text before the nodes, after U+FEFF, does
 abbrev pub EndsBefore : Option DocumentFormat → Option KdlNode → Type 0
 EndsBefore o None = AddsNothing (without_bom (leading_text o))
 EndsBefore o (Some n) = NodeEnds n

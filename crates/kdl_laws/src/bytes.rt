@@ -21,14 +21,14 @@ ghost use Rattle.std.specs.Str.{IsUtf8};
 
 use kdl::{KdlEntry, KdlNode};
 
-/// Whatever entries a node with a format has, it prints the head and the tail that it had, and the pieces of the
-/// entries between them.
+/// Whatever entries a node with a format has, it prints the same head and tail, and the pieces of the entries between
+/// them.
 #[tactic(auto, using(kdl::proofs::EditLaws::entries_exchanged))]
 pub fn entries_exchanged()
     ensures { EntriesExchanged }
 {}
 
-/// Where one entry of a node with a format is exchanged, its piece of the printed text is, and no other byte.
+/// If one entry of a node with a format is replaced, its piece of the printed text is replaced, and no other byte.
 pub fn entry_exchanged()
     ensures { EntryExchanged }
 {}
@@ -39,19 +39,19 @@ pub fn formed_piece()
     ensures { FormedPiece }
 {}
 
-/// Whatever nodes a document has, it prints the leading and the trailing text that it had, and the nodes between them.
+/// Whatever nodes a document has, it prints the same leading and trailing text, and the nodes between them.
 #[tactic(auto, using(kdl::proofs::EditLaws::nodes_exchanged))]
 pub fn nodes_exchanged()
     ensures { NodesExchanged }
 {}
 
-/// Where one node of a document is exchanged, its piece of the printed text is, and no other byte.
+/// If one node of a document is replaced, its piece of the printed text is replaced, and no other byte.
 pub fn node_exchanged()
     ensures { NodeExchanged }
 {}
 
-/// Exchanges the entries of a node, through the loan of them: a node with a format prints the head and the tail that it
-/// had, and the pieces of these entries between them.
+/// Replaces the entries of a node, through a mutable reference: a node with a format prints the same head and tail, and
+/// the pieces of the new entries between them.
 #[tactic(auto, using(kdl::proofs::EditLaws::entries_exchanged))]
 pub fn exchange_entries(node: &mut KdlNode, entries: Vec<KdlEntry>)
     ensures { IsSome (node_format_of node.old)
@@ -60,8 +60,8 @@ pub fn exchange_entries(node: &mut KdlNode, entries: Vec<KdlEntry>)
     *node.entries_mut() = entries;
 }
 
-/// The entry that an insertion under a name replaces, in the first node of a name of a document that reads back: its
-/// piece of the text is that of the property that the document says, and empty where it says none.
+/// The entry that an insertion under a name replaces, in the first node of a name, in a document that reads back: its
+/// piece of the text is that of the property in the document's data, and empty if there is none.
 #[tactic(auto, using(crate::proofs::OldPieces::replaced_piece))]
 pub fn replaced_piece_is_said()
     ensures { (s r : List ℕ) (key : NodeKey) (d : document) (n : node) (o : Option entry)

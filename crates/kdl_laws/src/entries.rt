@@ -17,7 +17,7 @@ pub fn formless_reads_back()
     ensures { FormlessReadsBack }
 {}
 
-/// An entry in memory that has neither a format nor a spelling is one without form, with well-formed data.
+/// An entry in memory that has neither a format nor a spelling is an entry without form, with well-formed data.
 pub fn cleared_is_formless(entry: &KdlEntry)
     requires { cleared (entry_tree entry.now) ≡ entry_tree entry.now }
     ensures { IsFormless (entry_tree entry.now) }
@@ -25,14 +25,14 @@ pub fn cleared_is_formless(entry: &KdlEntry)
     values_are_well_formed(entry.value());
 }
 
-/// Two formats are equal exactly where all their texts and their flags are.
+/// Two formats are equal exactly if all their texts and their flags are equal.
 pub fn equal_formats(a: &KdlEntryFormat, b: &KdlEntryFormat) -> bool
     ensures { IsTrue result ↔ (entry_format_tree a.now ≡ entry_format_tree b.now) }
 {
     a == b
 }
 
-/// Two identifiers are equal exactly where their strings and their spellings are, whatever their spans.
+/// Two identifiers are equal exactly if their strings and their spellings are equal, regardless of their spans.
 pub fn equal_identifiers(a: &KdlIdentifier, b: &KdlIdentifier) -> bool
     ensures { IsTrue result
         ↔ (without_span (identifier_tree a.now) ≡ without_span (identifier_tree b.now)) }
@@ -40,7 +40,7 @@ pub fn equal_identifiers(a: &KdlIdentifier, b: &KdlIdentifier) -> bool
     a == b
 }
 
-/// Two entries are equal exactly where all their parts are, but for their spans.
+/// Two entries are equal exactly if all their parts except their spans are equal.
 pub fn equal_entries(a: &KdlEntry, b: &KdlEntry) -> bool
     ensures { IsTrue result
         ↔ (without_spans (entry_tree a.now) ≡ without_spans (entry_tree b.now)) }
@@ -60,7 +60,7 @@ pub fn unambiguous_entry()
     ensures { OneEntry }
 {}
 
-/// Equal formats leave equal hashers equal: the hash of the first writes the same bytes to both.
+/// Equal formats leave equal hashers equal: each format's hash writes the same bytes.
 pub fn hash_formats<H: Hasher>(a: &KdlEntryFormat, b: &KdlEntryFormat, one: &mut H, other: &mut H)
     requires { entry_format_tree a.now ≡ entry_format_tree b.now }
     ensures first { one.new ≡ fold H.write one.old (⟦<KdlEntryFormat as Hash>⟧.hash_input a.now) }
@@ -95,31 +95,32 @@ pub fn hash_entries<H: Hasher>(a: &KdlEntry, b: &KdlEntry, one: &mut H, other: &
     b.hash(other);
 }
 
-/// Where an identifier is laid as a whole text, the text is one with its value, and it is what the identifier prints.
+/// If an identifier is located as a whole text, the text is an identifier with its value, and it is what the identifier
+/// prints.
 #[tactic(auto, using(kdl_entry::proofs::Laying::TextLaws::laid_identifier_is_derived))]
 pub fn laid_identifier_is_derived()
     ensures { LaidIdentifierIsDerived }
 {}
 
-/// Where an entry is laid as a whole text, the text is one with its data, and it is what the entry prints.
+/// If an entry is located as a whole text, the text is an entry with its data, and it is what the entry prints.
 #[tactic(auto, using(kdl_entry::proofs::Laying::TextLaws::laid_entry_is_derived))]
 pub fn laid_entry_is_derived()
     ensures { LaidEntryIsDerived }
 {}
 
-/// At most one identifier is laid as a whole text with its span.
+/// At most one identifier is located as a whole text with its span.
 #[tactic(auto, using(kdl_entry::proofs::Reading::EntryComplete::OneLaid::one_laid_identifier))]
 pub fn one_laid_identifier()
     ensures { OneLaidIdentifier }
 {}
 
-/// At most one entry is laid as a whole text with the spans of its pieces.
+/// At most one entry is located as a whole text with the spans of its pieces.
 #[tactic(auto, using(kdl_entry::proofs::Reading::EntryComplete::OneLaid::one_laid_entry))]
 pub fn one_laid_entry()
     ensures { OneLaidEntry }
 {}
 
-/// In each text that is an identifier or an entry, one is laid with its data.
+/// Each text that is an identifier or an entry has one located in it, with its data.
 #[tactic(auto, using(kdl_entry::proofs::Laying::TextLaws::texts_are_laid))]
 pub fn texts_are_laid()
     ensures { TextsAreLaid }

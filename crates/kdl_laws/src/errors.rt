@@ -6,42 +6,42 @@ ghost use Rattle.std.specs.Prelude.{◌≡◌, ◌↔◌, IfOk, IsTrue};
 use kdl::{FloatFailure, KdlDiagnostic, KdlError, ParseFailure, Severity, SourceSpan};
 use std::alloc::AllocError;
 
-/// Two spans are equal exactly where both their places and their lengths are.
+/// Two spans are equal exactly if their offsets and their lengths are equal.
 pub fn equal_spans(a: &SourceSpan, b: &SourceSpan) -> bool
     ensures { IsTrue result ↔ (a.now ≡ b.now) }
 {
     a == b
 }
 
-/// Two severities are equal exactly where they are the same.
+/// Two severities are equal exactly if they are the same.
 pub fn equal_severities(a: &Severity, b: &Severity) -> bool
     ensures { IsTrue result ↔ (a.now ≡ b.now) }
 {
     a == b
 }
 
-/// Two failures to make a float are equal exactly where they are the same.
+/// Two failures to create a float are equal exactly if they are the same.
 pub fn equal_float_failures(a: &FloatFailure, b: &FloatFailure) -> bool
     ensures { IsTrue result ↔ (a.now ≡ b.now) }
 {
     a == b
 }
 
-/// Two diagnostics are equal exactly where all their parts are, the span and the text that was read among them.
+/// Two diagnostics are equal exactly if all their parts are equal, including the span and the text that was read.
 pub fn equal_diagnostics(a: &KdlDiagnostic, b: &KdlDiagnostic) -> bool
     ensures { IsTrue result ↔ (diagnostic_tree a.now ≡ diagnostic_tree b.now) }
 {
     a == b
 }
 
-/// Two errors are equal exactly where the texts that were read and all their diagnostics are, in order.
+/// Two errors are equal exactly if the texts that were read, and all diagnostics in order, are equal.
 pub fn equal_errors(a: &KdlError, b: &KdlError) -> bool
     ensures { IsTrue result ↔ (error_tree a.now ≡ error_tree b.now) }
 {
     a == b
 }
 
-/// Two failures to parse are equal exactly where both are where memory runs out, or both of equal errors.
+/// Two failures to parse are equal exactly if both are allocation failures, or both have equal errors.
 pub fn equal_failures(a: &ParseFailure, b: &ParseFailure) -> bool
     ensures { IsTrue result ↔ (failure_tree a.now ≡ failure_tree b.now) }
 {
@@ -62,7 +62,7 @@ pub fn clone_severity(severity: &Severity) -> Result<Severity, AllocError>
     severity.clone()
 }
 
-/// A clone of a failure to make a float is the failure.
+/// A clone of a failure to create a float is the failure.
 pub fn clone_float_failure(failure: &FloatFailure) -> Result<FloatFailure, AllocError>
     ensures { IfOk result (λ f. f ≡ failure.now) }
 {

@@ -1,4 +1,4 @@
-//! When `==` of formats is true, and that equal ones have equal hashes.
+//! When `==` of formats is true; equal ones have equal hashes.
 
 ghost use Rattle.kdl_parts.specs.Formats.{document_format_tree, node_format_tree};
 ghost use Rattle.std.specs.Prelude.{◌≡◌, ◌↔◌, IsTrue, fold};
@@ -6,21 +6,21 @@ ghost use Rattle.std.specs.Prelude.{◌≡◌, ◌↔◌, IsTrue, fold};
 use kdl_parts::{KdlDocumentFormat, KdlNodeFormat};
 use std::hash::{Hash, Hasher};
 
-/// Two formats of nodes are equal exactly where all their texts are.
+/// Two formats of nodes are equal exactly if all their texts are equal.
 pub fn equal_node_formats(a: &KdlNodeFormat, b: &KdlNodeFormat) -> bool
     ensures { IsTrue result ↔ (node_format_tree a.now ≡ node_format_tree b.now) }
 {
     a == b
 }
 
-/// Two formats of documents are equal exactly where both their texts are.
+/// Two formats of documents are equal exactly if both their texts are equal.
 pub fn equal_document_formats(a: &KdlDocumentFormat, b: &KdlDocumentFormat) -> bool
     ensures { IsTrue result ↔ (document_format_tree a.now ≡ document_format_tree b.now) }
 {
     a == b
 }
 
-/// Equal formats leave equal hashers equal: the hash of the first writes the same bytes to both.
+/// Equal formats leave equal hashers equal: each format's hash writes the same bytes.
 pub fn hash_node_formats<H: Hasher>(
     a: &KdlNodeFormat,
     b: &KdlNodeFormat,
@@ -37,7 +37,7 @@ pub fn hash_node_formats<H: Hasher>(
     b.hash(other);
 }
 
-/// Equal formats leave equal hashers equal: the hash of the first writes the same bytes to both.
+/// Equal formats leave equal hashers equal: each format's hash writes the same bytes.
 pub fn hash_document_formats<H: Hasher>(
     a: &KdlDocumentFormat,
     b: &KdlDocumentFormat,

@@ -1,5 +1,5 @@
-//! That a text around nodes or entries has a list of items exactly where it may be in its place, and one list at most;
-//! that a document and a node have one; and that written items are the items of what is written.
+//! A text around nodes or entries has a list of items exactly if it may be in its place, and at most one list; a
+//! document and a node have one; and written items are the items of the written text.
 
 ghost use Rattle.kdl_entry.specs.Places.{EntryLeading};
 ghost use Rattle.kdl_fmt.specs.Comments.{DocumentItems, EndItems, NodeItems};
@@ -18,8 +18,8 @@ ghost use Rattle.kdl_text.specs.Trivia.{LineComment};
 ghost use Rattle.std.specs.List.{list_all};
 ghost use Rattle.std.specs.Prelude.{◌≡◌, ◌≢◌, ◌↔◌, ◌++◌, ◌∷◌, ℕ, [], List, false, map, true};
 
-/// A text has a list of items exactly where it may be in its place: as a gap, before or after a block, before an entry,
-/// or before the nodes of a document. A terminator has an item exactly where it is a line comment.
+/// A text has a list of items exactly if it may be in its place: as a gap, before or after a block, before an entry, or
+/// before the nodes of a document. A terminator has an item exactly if it is a line comment.
 pub fn place_has_items()
     ensures gap { (s : Text) → Gap true s [] ↔ ((is : List Item) × GapItems s is) }
     ensures before_block { (s : Text) → BeforeChildren s []
@@ -34,13 +34,13 @@ pub fn place_has_items()
         → (is ≢ []) ↔ LineComment t [] }
 {}
 
-/// No document and no node is without a list of items, the premise of `CommentsStay` and of `NodeCommentsStay`.
+/// Each document and each node has a list of items, which is the premise of `CommentsStay` and of `NodeCommentsStay`.
 pub fn has_list()
     ensures document { (d : Document) → ((is : List Item) → DocumentItems d is → ⊥) → ⊥ }
     ensures node { (n : Node) → ((is : List Item) → NodeItems n is → ⊥) → ⊥ }
 {}
 
-/// Where layout keeps comments and no entry is flagged, what it lays out has such a list.
+/// If layout keeps comments and no entry is flagged, its result has such a list.
 pub fn laid_out_has_list()
     ensures document { (s : Settings) (level : ℕ) (d x : Document)
         → s.entry_autoformate_keep ≡ false → s.no_comments ≡ false → DocumentKeepsNone d
@@ -50,7 +50,7 @@ pub fn laid_out_has_list()
         → IsFormattedNode s level n x → (is : List Item) × NodeItems n is }
 {}
 
-/// A gap, a text in a place of a node, a node, and a document have one list of items at most.
+/// A gap, a text in a place of a node, a node, and a document have at most one list of items.
 #[tactic(auto, using(crate::proofs::ItemLists::one_list, crate::proofs::ItemLists::one_list_in_place, crate::proofs::ItemLists::one_list_of_node, crate::proofs::ItemLists::one_list_of_document))]
 pub fn one_list()
     ensures gap { (s : Text) (is js : List Item) → GapItems s is → GapItems s js → is ≡ js }
@@ -61,7 +61,7 @@ pub fn one_list()
         → is ≡ js }
 {}
 
-/// The items of a gap, written on lines of their own, make a gap of the same items, each as it is on its line.
+/// The items of a gap, each written on its own line, make a gap of the same items, each as it is on its line.
 #[tactic(auto, using(crate::proofs::ItemLists::lines_hold_items))]
 pub fn lines_hold_items()
     ensures { (before after s : Text) (is : List Item) → list_all is_space before ≡ true

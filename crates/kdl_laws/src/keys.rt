@@ -7,8 +7,8 @@ ghost use Rattle.std.specs.Prelude.{◌≡◌, ◌↔◌, IfOk, IsTrue};
 use kdl_parts::NodeKey;
 use std::alloc::AllocError;
 
-/// Two keys are equal exactly where they look for the same: an argument at the same place, or a property by identifiers
-/// that are equal but for their spans.
+/// Two keys are equal exactly if they look for the same: an argument at the same place, or a property by identifiers
+/// that are equal except for their spans.
 pub fn equal_keys(a: &NodeKey, b: &NodeKey) -> bool
     ensures { IsTrue result ↔ (sought_anywhere (sought a.now) ≡ sought_anywhere (sought b.now)) }
 {

@@ -1,5 +1,4 @@
-//! That layout makes one thing, that it changes nothing when it is repeated, and that without comments it gives the
-//! canonical text.
+//! Layout has one result, changes nothing when it is repeated, and without comments gives the canonical text.
 
 ghost use Rattle.kdl.specs.Layout.{DocumentKeepsNoForm, DocumentLaidOut, DocumentSpaced};
 ghost use Rattle.kdl.specs.Tree.{document_prints, document_tree, node_tree};
@@ -25,8 +24,8 @@ ghost use Rattle.std.specs.declared.alloc.Global.{Global};
 use kdl::{FormatConfig, KdlDocument, KdlNode, Layout};
 use std::alloc::AllocError;
 
-/// Once they are laid out without comments, two documents in which no entry is flagged to keep its form print the same
-/// text exactly where they said the same.
+/// After layout without comments, two documents in which no entry is flagged to keep its form print equal texts exactly
+/// if their data are equal.
 pub fn same_text_same_data(a: &mut KdlDocument, b: &mut KdlDocument) -> Result<(), AllocError>
     requires first { DocumentKeepsNone (document_tree a.old) }
     requires second { DocumentKeepsNone (document_tree b.old) }
@@ -61,15 +60,15 @@ pub fn node_laid_out_twice(node: &mut KdlNode, config: &FormatConfig) -> Result<
     node.autoformat_config(config)
 }
 
-/// Layout makes one thing of a document.
+/// Layout has one result for a document.
 #[tactic(auto, using(crate::proofs::TwoLayouts::one_layout))]
 pub fn one_layout()
     ensures { (s : Settings) (level : ℕ) (d x y : Document) → IsFormattedDocument s level d x
         → IsFormattedDocument s level d y → x ≡ y }
 {}
 
-/// A second layout changes nothing: where the indent is of spaces and no entry is flagged, what layout makes of what it
-/// made is the same.
+/// A second layout changes nothing: if the indent is of spaces and no entry is flagged, layout of its own result is
+/// that result.
 #[tactic(auto, using(crate::proofs::TwoLayouts::document_again, crate::proofs::TwoLayouts::node_again))]
 pub fn second_layout()
     ensures document { (s : Settings) (level : ℕ) (d x y : Document) → IndentsBySpaces s
@@ -91,8 +90,8 @@ pub fn spaced_twice(document: &mut KdlDocument, layout: &Layout) -> Result<(), A
     document.autoformat_layout(layout)
 }
 
-/// A second layout with the same number of blank lines changes nothing: where the indent is of spaces and no entry is
-/// flagged, what layout makes of what it made is the same.
+/// A second layout with the same number of blank lines changes nothing: if the indent is of spaces and no entry is
+/// flagged, layout of its own result is that result.
 #[tactic(auto, using(crate::proofs::TwoLayouts::spaced_again, crate::proofs::TwoLayouts::spaced_node_again))]
 pub fn second_spaced_layout()
     ensures document { (number : ℕ) (s : Settings) (level : ℕ) (d x y : Document) → IndentsBySpaces s
@@ -104,7 +103,7 @@ pub fn second_spaced_layout()
         → y ≡ x }
 {}
 
-/// Where no blank lines stay, layout makes what `autoformat_config` makes.
+/// If no blank lines are kept, layout has the result of `autoformat_config`.
 #[tactic(auto, using(crate::proofs::TwoLayouts::unspaced_document, crate::proofs::TwoLayouts::unspaced_node))]
 pub fn layout_without_blank_lines()
     ensures document { (s : Settings) (level : ℕ) (d x : Document)
@@ -113,7 +112,7 @@ pub fn layout_without_blank_lines()
         → IsSpacedNode 0 s level Nothing n x ↔ IsFormattedNode s level n x }
 {}
 
-/// The text in memory that a document prints once it is laid out with its comments is the text of the document, laid out.
+/// The text in memory that a document prints after layout with its comments is the text of the document, laid out.
 #[tactic(auto, using(crate::proofs::TextLaidOut::text_laid_out))]
 pub fn texts_are_laid_out()
     ensures { (text : Text) (d e : KdlDocument) (s : String Global)
@@ -122,7 +121,7 @@ pub fn texts_are_laid_out()
         → string_bytes s ≡ encode_utf8_all (document_prints e) → IsLaidOut text (text_of s) }
 {}
 
-/// The same where blank lines stay.
+/// The same if blank lines are kept.
 #[tactic(auto, using(crate::proofs::TextLaidOut::text_spaced_out))]
 pub fn texts_are_spaced_out()
     ensures { (text : Text) (l : Layout) (d e : KdlDocument) (s : String Global)

@@ -1,5 +1,5 @@
-//! Laws: of the written grammar of documents and nodes; of what an edit changes in the printed text; of equality, order,
-//! hashes and copies; of layout and of the items that it keeps; and that what is printed reads back.
+//! Laws about the written grammar of documents and nodes; what an edit changes in the printed text; equality, order,
+//! hashes and copies; layout and the items that it keeps; and printed texts that read back.
 #![tactic(auto)]
 
 pub mod bytes;

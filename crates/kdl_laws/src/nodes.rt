@@ -1,5 +1,5 @@
-//! When `==` of nodes and documents is true, that equal ones have equal hashes, and that items of one tree, as an item
-//! and its clone, are equal.
+//! When `==` of nodes and documents is true; equal ones have equal hashes, and items of one tree, such as an item and
+//! its clone, are equal.
 
 ghost use Rattle.kdl.specs.Cleared.{node_without_spans, document_without_spans};
 ghost use Rattle.kdl.specs.Same.{same_node, same_document};
@@ -9,7 +9,7 @@ ghost use Rattle.std.specs.Prelude.{◌≡◌, ◌↔◌, IsTrue, fold, true};
 use kdl::{KdlDocument, KdlNode};
 use std::hash::{Hash, Hasher};
 
-/// Two nodes are equal exactly where all their parts are, at each depth, but for their spans.
+/// Two nodes are equal exactly if all their parts except their spans are equal, at each depth.
 pub fn equal_nodes(a: &KdlNode, b: &KdlNode) -> bool
     ensures { IsTrue result
         ↔ (node_without_spans (node_tree a.now) ≡ node_without_spans (node_tree b.now)) }
@@ -17,7 +17,7 @@ pub fn equal_nodes(a: &KdlNode, b: &KdlNode) -> bool
     a == b
 }
 
-/// Two documents are equal exactly where all their parts are, at each depth, but for their spans.
+/// Two documents are equal exactly if all their parts except their spans are equal, at each depth.
 pub fn equal_documents(a: &KdlDocument, b: &KdlDocument) -> bool
     ensures { IsTrue result
         ↔ (document_without_spans (document_tree a.now)

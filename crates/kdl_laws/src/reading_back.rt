@@ -31,14 +31,14 @@ pub fn document_reads_back()
         → IsDocument true (document_prints d) (document_says d) }
 {}
 
-/// The text in memory that a document prints, where it reads back, is a document with its data.
+/// The text in memory that a document prints is a document with its data, if the document reads back.
 pub fn printed_reads_back()
     ensures { (d : KdlDocument) (s : String Global)
         → string_bytes s ≡ encode_utf8_all (document_prints d) → DocumentReadsBack d
         → IsDocument true (text_of s) (document_says d) }
 {}
 
-/// The text in memory that a document prints: it has those characters, and is no document with other data.
+/// The text in memory that a document prints has those characters, and is not a document with other data.
 #[tactic(auto, using(crate::proofs::PrintedOnce::printed, crate::proofs::PrintedOnce::printed_once))]
 pub fn printed_reads_once()
     ensures text { (d : KdlDocument) (s : String Global)
@@ -48,14 +48,14 @@ pub fn printed_reads_once()
         → IsDocument true (text_of s) y → y ≡ document_says d }
 {}
 
-/// A text in memory, of which a call says that it is what was printed, has those characters.
+/// A text in memory that is what was printed, by the contract of a call, has those characters.
 #[tactic(auto, using(crate::proofs::PrintedOnce::text_printed))]
 pub fn printed_is_text()
     ensures { (s : String Global) (t : Text) → string_bytes s ≡ encode_utf8_all t
         → text_of s ≡ t }
 {}
 
-/// A node that reads back prints a text that is a document with that node alone.
+/// A node that reads back prints a text that is a document with only that node.
 #[tactic(auto, using(kdl::proofs::ReadingBack::node_derived_alone))]
 pub fn node_reads_back()
     ensures { (n : KdlNode) → NodeReadsBack n
@@ -95,8 +95,8 @@ fn is_line_ended(format: &kdl::KdlNodeFormat) -> bool
     format.trailing.as_str().is_empty() && is_line_end(&format.terminator)
 }
 
-/// Whether the terminator of a node is one `;` or one newline, with no text after that. Then the node ends by itself,
-/// where it reads back.
+/// Returns whether the terminator of a node is one `;` or one newline, with no text after that. If so, and if the node
+/// reads back, it ends by itself.
 #[tactic(auto, using(crate::proofs::EndedNodes::line_ended))]
 pub fn ends_line(node: &kdl::KdlNode) -> bool
     ensures exact { IsTrue result ↔ IsLineEnded (node_format_of node.now) }
@@ -108,8 +108,8 @@ pub fn ends_line(node: &kdl::KdlNode) -> bool
     }
 }
 
-/// Whether a document has nodes, and the last one ends in `;` or a newline: it ends by itself, where the document reads
-/// back.
+/// Returns whether a document has nodes, and the last one ends in `;` or a newline. If so, and if the document reads
+/// back, the last node ends by itself.
 pub fn last_ends(document: &kdl::KdlDocument) -> bool
     ensures exact { IsTrue result ↔ IsSomeAnd (slice_get (nodes_of document.now) (length (nodes_of document.now) - 1)) (λ n. IsLineEnded (node_format_of n)) }
     ensures ends { IsTrue result → DocumentReadsBack document.now → LastEnds document.now }
@@ -120,8 +120,9 @@ pub fn last_ends(document: &kdl::KdlDocument) -> bool
     }
 }
 
-/// A node that is pushed to the list of nodes of a document, where the last node and the new one end by themselves: the
-/// document reads back, and says the new node after the others. Without nodes, the text before them ends by itself.
+/// If a node is pushed to the list of nodes of a document, and the last node and the new one end by themselves, the
+/// document reads back, and its data have the new node after the others. Without nodes, the text before the nodes has
+/// to end by itself.
 pub fn pushed_reads_back(document: &kdl::KdlDocument, node: &kdl::KdlNode)
     ensures reads { DocumentReadsBack document.now → LastEnds document.now → NodeEnds node.now
         → (v : Vec KdlNode Global) → v.items ≡ nodes_of document.now ++ (node.now ∷ [])
@@ -144,7 +145,7 @@ pub fn unformed_reads_back()
     ensures { (e : KdlEntry) → IsUnformed (entry_tree e) → EntryReadsBack e }
 {}
 
-/// A new entry has neither a format nor a spelling, nor has it under a name without a spelling.
+/// A new entry has neither a format nor a spelling, nor has a new property if its name has no spelling.
 #[tactic(auto, using(crate::proofs::NewEntries::plain_unformed, crate::proofs::NewEntries::plain_under))]
 pub fn new_entries_are_unformed()
     ensures alone { (e : Entry) (v : Value) → e ≡ plain_entry None v → IsWellFormed v
@@ -154,8 +155,8 @@ pub fn new_entries_are_unformed()
         → IsUnformed (under q e) }
 {}
 
-/// An entry with neither a format nor a spelling has none with another key or another type that has no spelling, and
-/// without a key.
+/// An entry with neither a format nor a spelling still has none with another key or another type that has no spelling,
+/// and without a key.
 #[tactic(auto, using(crate::proofs::NewEntries::named_unformed, crate::proofs::NewEntries::typed_unformed, crate::proofs::NewEntries::unnamed_unformed))]
 pub fn named_entries_are_unformed()
     ensures named { (e f : Entry) (i : Identifier) (s : Text) → f ≡ record e { name = Some i }
@@ -165,7 +166,7 @@ pub fn named_entries_are_unformed()
     ensures unnamed { (e f : Entry) → f ≡ record e { name = None } → IsUnformed e → IsUnformed f }
 {}
 
-/// An entry that reads back does so with another value, where its format, if it has one, has the spelling that the value
+/// An entry that reads back does so with another value, if its format, if it has one, has the spelling that the value
 /// prints.
 #[tactic(auto, using(kdl::proofs::ReadingBack::other_value_reads))]
 pub fn other_value_reads_back()

@@ -1,4 +1,4 @@
-//! What a document says: after an edit, look-ups find it in the data; names are compared by what they say, and arguments
+//! The data of a document: look-ups find an edit in them, names are compared by their characters, and arguments are
 //! counted.
 
 ghost use Rattle.kdl.specs.Change.{with_entries};
@@ -18,7 +18,7 @@ ghost use Rattle.std.specs.List.{count_by};
 ghost use Rattle.std.specs.Prelude.{◌≡◌, ◌++◌, [], ◌∷◌, List, Some, ℕ, chars, length};
 ghost use Rattle.std.specs.Str.{IsUtf8};
 
-/// A property that is set in the first node of a name is set in what the document says: x before, and y after it.
+/// A property that is set in the first node of a name is set in the data of the document: x before, and y after it.
 pub fn property_set_is_said()
     ensures { (s r : List ℕ) (v : Value) (d : KdlDocument) (n m : KdlNode) (x y : Nodes)
         → IsUtf8 s → IsUtf8 r → Some n ≡ node_named s d
@@ -26,7 +26,7 @@ pub fn property_set_is_said()
         → y ≡ document_says (with_node_named s d m) → IsSetInData (chars s) (chars r) v x y }
 {}
 
-/// A node that is put after the others is the last one of what the document says: of e, which was d before.
+/// A node that is inserted after the others is the last one in the data of the document: of e, which was d before.
 #[tactic(auto, using(crate::proofs::PushedNodes::put_last))]
 pub fn pushed_is_said_last()
     ensures { (d e : KdlDocument) (x : NodeData)
@@ -34,14 +34,14 @@ pub fn pushed_is_said_last()
         → said_nodes (document_says e) ≡ said_nodes (document_says d) ++ (x ∷ []) }
 {}
 
-/// Texts have the same bytes exactly where they have the same characters.
+/// Texts have the same bytes exactly if they have the same characters.
 #[tactic(auto, using(crate::proofs::SaidInMemory::texts_compared))]
 pub fn texts_are_compared()
     ensures { (b s : List ℕ) → IsUtf8 b → IsUtf8 s
         → same_text b s ≡ same_text (chars b) (chars s) }
 {}
 
-/// A node has as many arguments as it says.
+/// A node has as many arguments as its data.
 #[tactic(auto, using(crate::proofs::SaidInMemory::arguments_counted))]
 pub fn arguments_are_counted()
     ensures { (n : KdlNode) → count_by is_argument (entries_of n) ≡

@@ -1,4 +1,4 @@
-//! What a document says and prints once an argument has another value.
+//! The data and the printed text of a document with another value for an argument.
 
 ghost use Rattle.kdl.specs.DocumentLookups.{node_named, with_node_named};
 ghost use Rattle.kdl.specs.Lookups.{found_entry, with_found_entry};
@@ -16,8 +16,9 @@ ghost use Rattle.kdl_value.specs.WellFormed.{IsWellFormed};
 ghost use Rattle.std.specs.Prelude.{◌≡◌, List, Some, ℕ, chars};
 ghost use Rattle.std.specs.Str.{IsUtf8};
 
-/// The first argument of the first node of a name gets another value, and its spelling where the entry has a format. The
-/// document still reads back, it says what it said with that value, and its printed text changes in that value alone.
+/// The first argument of the first node of a name gets another value, and its spelling if the entry has a format. The
+/// document still reads back, its data are the old ones with that value, and its printed text changes only in that
+/// value.
 #[tactic(auto, using(crate::proofs::ArgumentSet::argument_set_reads, crate::proofs::ArgumentSet::argument_set_says, crate::proofs::ArgumentSet::argument_set_prints))]
 pub fn argument_is_set()
     ensures reads { (s : List ℕ) (v : Value) (d : KdlDocument) (n : KdlNode) (e f : KdlEntry)

@@ -1,4 +1,4 @@
-//! The pieces of a refused text at which its error points.
+//! The pieces of a refused text to which its error points.
 
 ghost use Rattle.kdl_laws.specs.Pieces.{IsPiece};
 ghost use Rattle.kdl_text.specs.Failures.{Tells};

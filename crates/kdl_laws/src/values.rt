@@ -1,4 +1,4 @@
-//! What `==`, the order and hashes of values mean, that printed strings read back, and what values hold.
+//! What `==`, the order and hashes of values mean; printed strings read back; and what values contain.
 
 ghost use Rattle.kdl_value.specs.Floats.{DecimalsAreFloats};
 ghost use Rattle.kdl_value.specs.Order.{text_order, value_order};
@@ -13,36 +13,36 @@ use kdl_value::{KdlFloat, KdlValue};
 use std::cmp::Ordering;
 use std::hash::{Hash, Hasher};
 
-/// Every printed string is one string, bare or between quotes, whose value is the string that was printed: alone, and
-/// before any text that does not begin with an identifier character.
+/// Every printed string is one string, bare or between quotes, whose value is the string that was printed, both by
+/// itself and before any text that does not begin with an identifier character.
 pub fn spelled_reads_back()
     ensures alone { SpelledReadsBack }
     ensures before { SpelledReadsBackBefore }
 {}
 
-/// Every value in memory is well formed: its text is of Unicode scalar values, its whole number has 128 bits with a
-/// sign, its float's text is a float's.
+/// Every value in memory is well formed: its text is of Unicode scalar values, its whole number is a signed one of 128
+/// bits, its float's text is a float's.
 pub fn values_are_well_formed(value: &KdlValue)
     ensures { IsWellFormed (value_tree value.now) }
 {
     well_formed(value);
 }
 
-/// Two floats are equal exactly where their texts are.
+/// Two floats are equal exactly if their texts are equal.
 pub fn equal_floats(a: &KdlFloat, b: &KdlFloat) -> bool
     ensures { IsTrue result ↔ (float_text_of a.now ≡ float_text_of b.now) }
 {
     a == b
 }
 
-/// Two values are equal exactly where they are of one kind and say the same.
+/// Two values are equal exactly if they have the same kind and the same data.
 pub fn equal_values(a: &KdlValue, b: &KdlValue) -> bool
     ensures { IsTrue result ↔ (value_tree a.now ≡ value_tree b.now) }
 {
     a == b
 }
 
-/// Floats are ordered by their texts.
+/// Floats are ordered by the bytes of their texts.
 pub fn compare_floats(a: &KdlFloat, b: &KdlFloat) -> Ordering
     ensures order { result ≡ text_order (float_text_of a.now) (float_text_of b.now) }
     ensures equal { (result ≡ Ordering.Equal) ↔ (float_text_of a.now ≡ float_text_of b.now) }
@@ -50,7 +50,8 @@ pub fn compare_floats(a: &KdlFloat, b: &KdlFloat) -> Ordering
     a.cmp(b)
 }
 
-/// Values are ordered by their kinds, and within a kind by what they hold; equal ones are those that `==` finds equal.
+/// Values are ordered by their kinds, and within a kind by their contents; two compare as equal exactly if they are
+/// equal by `==`.
 pub fn compare_values(a: &KdlValue, b: &KdlValue) -> Ordering
     ensures order { result ≡ value_order (value_tree a.now) (value_tree b.now) }
     ensures equal { (result ≡ Ordering.Equal) ↔ (value_tree a.now ≡ value_tree b.now) }

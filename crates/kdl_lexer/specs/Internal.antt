@@ -1,6 +1,6 @@
--- What only proofs and contracts inside the crates need: no contract of a public call of `kdl` speaks of it.
+-- Definitions that only proofs and contracts inside the crates use: no contract of a public call of `kdl` mentions them.
 
--- What the lexer hands out.
+-- What the lexer returns.
 pub mod Handed
 -- Tokens, and the cut of a text into tokens.
 pub mod Tokens

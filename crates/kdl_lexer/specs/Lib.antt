@@ -1,4 +1,4 @@
 -- Strings, numbers and keywords as they are written.
 pub mod Pieces
--- What only proofs and contracts inside the crates need.
+-- Definitions that only proofs and contracts inside the crates use.
 pub mod Internal

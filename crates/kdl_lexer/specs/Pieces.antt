@@ -9,7 +9,7 @@ use Rattle.kdl_text.specs.declared.numbers.Keyword.{Keyword}
 use Rattle.kdl_text.specs.declared.numbers.Keyword.TheVariants.{True, False, Null, Infinity, NegativeInfinity, NotANumber}
 use Rattle.kdl_value.specs.Data.{Value, integer, float, truth, null}
 
--- one of the spellings of a string: bare, quoted or raw, on one line or many
+-- one of the spellings of a string: bare, quoted or raw, single-line or multi-line
 pub data StringPiece : Text → Text → Text → Type 0 where
   bare : {s r v : Text} → BareString s r v → StringPiece s r v
   quoted : {s r v : Text} → IsQuoted s r v → StringPiece s r v

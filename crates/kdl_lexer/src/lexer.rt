@@ -25,12 +25,12 @@ use kdl_value::{KdlValue, parsed_float};
 use std::alloc::{AllocError, AllocFailed, Global};
 use std::marker::Model;
 
-/// Why no token was handed out.
+/// Why no token was returned.
 #[derive(Clone, Copy)]
 pub enum LexFailure {
-    /// No token begins here: the span of the character at the place.
+    /// No token begins here. The span is that of the character here.
     Faulty(SourceSpan),
-    /// A request for memory was refused.
+    /// An allocation failed.
     Memory,
 }
 
@@ -79,7 +79,7 @@ pub enum TokenKind {
     Bom,
 }
 
-/// A token, and where it begins and ends.
+/// A token, with its start and its end.
 #[derive(Drop)]
 pub struct Token<'a> {
     pub kind: TokenKind,
@@ -87,7 +87,7 @@ pub struct Token<'a> {
     pub end: Checkpoint<'a>,
 }
 
-/// The span of a fault at the place: the character there, and nothing at the end of the text.
+/// Returns the span of a fault at the place: the character there, or nothing at the end of the text.
 ///
 /// ```
 /// let span = fault_at(&Lexer::new("é", Steps::new()).checkpoint()); // offset 0 and length 2
@@ -108,7 +108,7 @@ fn string_failure(place: &Checkpoint, failure: StringFailure) -> LexFailure
     }
 }
 
-/// The bare string that begins here, where no number does.
+/// Reads the bare string that begins here, where no number does.
 #[inline(always)]
 #[tactic(auto, using(crate::proofs::Lexing::TokenReads::a_bare_here, crate::proofs::Lexing::TokenCost::bare_costs))]
 fn bare_token(
@@ -128,7 +128,7 @@ fn bare_token(
     }
 }
 
-/// The quoted string that begins here.
+/// Reads the quoted string that begins here.
 #[tactic(auto, using(crate::proofs::Lexing::TokenReads::a_quoted_here, crate::proofs::Lexing::TokenReads::no_quoted_here, crate::proofs::Lexing::TokenCost::quoted_costs))]
 fn quoted_token(
     cursor: &mut Cursor,
@@ -146,7 +146,7 @@ fn quoted_token(
     }
 }
 
-/// The raw string that begins here, at a number sign with another or a quote after it.
+/// Reads the raw string that begins here, at a number sign with another or a quote after it.
 #[tactic(auto, using(crate::proofs::Lexing::TokenReads::a_raw_here, crate::proofs::Lexing::TokenReads::no_raw_here, crate::proofs::Lexing::TokenCost::raw_costs))]
 fn raw_token(
     cursor: &mut Cursor,
@@ -187,7 +187,7 @@ fn keyword_value(alloc: Global, keyword: Keyword) -> Result<KdlValue, AllocError
     }
 }
 
-/// The keyword that begins here, at a number sign with neither another nor a quote after it.
+/// Reads the keyword that begins here, at a number sign with neither another nor a quote after it.
 fn keyword_token(
     cursor: &mut Cursor,
     alloc: Global,
@@ -213,7 +213,7 @@ fn looks_raw(cursor: &mut Cursor) -> bool
     matches!(cursor.look_second(), Some('"' | '#'))
 }
 
-/// The raw string or the keyword that begins with the number sign here.
+/// Reads the raw string or the keyword that begins with the number sign here.
 #[tactic(auto, using(crate::proofs::Lexing::TokenCost::one_look))]
 fn sign_token(
     cursor: &mut Cursor,
@@ -232,7 +232,7 @@ fn sign_token(
     }
 }
 
-/// The number that begins here.
+/// Reads the number that begins here.
 #[inline(always)]
 fn number_token(
     cursor: &mut Cursor,
@@ -252,7 +252,7 @@ fn number_token(
     }
 }
 
-/// The number or the bare string that begins with the sign here.
+/// Reads the number or the bare string that begins with the sign here.
 fn signed_token(
     cursor: &mut Cursor,
     alloc: Global,
@@ -270,7 +270,7 @@ fn signed_token(
     }
 }
 
-/// The number or the bare string that begins with the identifier character c here.
+/// Reads the number or the bare string that begins with the identifier character c here.
 #[tactic(auto, using(crate::proofs::Lexing::TokenReads::word_here, crate::proofs::Lexing::TokenReads::digit_here, crate::proofs::Lexing::TokenReads::no_digit_here, crate::proofs::Lexing::TokenReads::few_costs))]
 fn word_token(
     c: char,
@@ -293,7 +293,7 @@ fn word_token(
     }
 }
 
-/// The comment or the `/-` that begins with the slash here.
+/// Reads the comment or the `/-` that begins with the slash here.
 #[tactic(auto, using(crate::proofs::Lexing::TokenReads::a_block_here, crate::proofs::Lexing::TokenReads::a_line_here, crate::proofs::Lexing::TokenReads::a_dash_here))]
 fn slash_token(cursor: &mut Cursor, start: &Checkpoint) -> Result<TokenKind, LexFailure>
     requires { first cursor.old.rest ≡ Some 47 }
@@ -310,7 +310,7 @@ fn slash_token(cursor: &mut Cursor, start: &Checkpoint) -> Result<TokenKind, Lex
     }
 }
 
-/// The escline that begins with the backslash here.
+/// Reads the escline that begins with the backslash here.
 #[tactic(auto, using(crate::proofs::Lexing::TokenReads::an_escline_here))]
 fn escline_token(cursor: &mut Cursor, start: &Checkpoint) -> Result<TokenKind, LexFailure>
     requires { first cursor.old.rest ≡ Some 92 }
@@ -325,7 +325,7 @@ fn escline_token(cursor: &mut Cursor, start: &Checkpoint) -> Result<TokenKind, L
     }
 }
 
-/// The kind of a token that is this character alone.
+/// The kind of a token that is only this character.
 fn sign_kind(c: char) -> Option<TokenKind>
     ensures { IsPunctuation c result }
 {
@@ -341,7 +341,7 @@ fn sign_kind(c: char) -> Option<TokenKind>
     }
 }
 
-/// What token begins with the character c here, which is none of `" # / \`.
+/// Reads the token that begins with the character c here, which is not one of `" # / \`.
 #[tactic(auto, using(crate::proofs::Lexing::TokenReads::spaces_here, crate::proofs::Lexing::TokenReads::skip_moves, crate::proofs::Lexing::TokenReads::newline_here, crate::proofs::Lexing::TokenReads::newline_costs, crate::proofs::Lexing::TokenReads::punctuation_here, crate::proofs::Lexing::TokenReads::take_moves, crate::proofs::Lexing::TokenReads::punctuation_costs))]
 fn plain_token(
     c: char,
@@ -375,7 +375,7 @@ fn plain_token(
     }
 }
 
-/// What token begins with the character c here. The cursor goes past the token.
+/// Reads the token that begins with the character c here, and returns its kind.
 fn token_kind(
     c: char,
     cursor: &mut Cursor,
@@ -411,7 +411,7 @@ impl<'a> Model for Lexer<'a> {
 }
 
 impl<'a> Lexer<'a> {
-    /// A lexer at the start of the text, on the given count of steps.
+    /// Creates a lexer at the start of the text, which adds to the given count of steps.
     ///
     /// ```
     /// let mut lexer = Lexer::new("a=1", Steps::new());
@@ -427,7 +427,7 @@ impl<'a> Lexer<'a> {
         }
     }
 
-    /// The count of steps, where the lexer is done.
+    /// Consumes the lexer and returns its count of steps.
     ///
     /// ```
     /// let mut lexer = Lexer::new("a", Steps::new());
@@ -440,12 +440,12 @@ impl<'a> Lexer<'a> {
         self.cursor.into_steps()
     }
 
-    /// Where the lexer is.
+    /// Returns the place where the lexer is.
     ///
     /// ```
     /// let mut lexer = Lexer::new("ab=1", Steps::new());
     /// let start = lexer.checkpoint();
-    /// let token = lexer.next(alloc)?; // after it the lexer is elsewhere, and `start` where it was taken
+    /// let token = lexer.next(alloc)?; // the lexer has moved on, and `start` is still where it was taken
     /// ```
     pub fn checkpoint(&self) -> Checkpoint<'a>
         ensures rest { result.rest ≡ self.now.rest }
@@ -454,7 +454,7 @@ impl<'a> Lexer<'a> {
         self.cursor.checkpoint()
     }
 
-    /// Goes past a U+FEFF, where one is here, and returns whether it did. A step.
+    /// Advances past a U+FEFF if one is here, and returns whether it is. Costs a step.
     ///
     /// ```
     /// let mut lexer = Lexer::new("\u{feff}a", Steps::new());
@@ -466,7 +466,7 @@ impl<'a> Lexer<'a> {
         self.cursor.eat('\u{feff}')
     }
 
-    /// Counts a look at the token that was handed out last. A step.
+    /// Counts a look at the token that was returned last. Costs a step.
     ///
     /// ```
     /// let mut lexer = Lexer::new("a", Steps::new());
@@ -479,7 +479,7 @@ impl<'a> Lexer<'a> {
         self.cursor.count_look();
     }
 
-    /// The text from one place to another after it. A step for each of its bytes.
+    /// Returns the text from one place to another after it. Costs a step for each of its bytes.
     ///
     /// ```
     /// let mut lexer = Lexer::new("ab=1", Steps::new());
@@ -496,17 +496,17 @@ impl<'a> Lexer<'a> {
         self.cursor.slice_between(from, to)
     }
 
-    /// The token here, which the lexer goes past; `None` at the end of the text.
+    /// Returns the token here and advances past it, or returns `None` at the end of the text.
     ///
-    /// A fault where no token begins here, with the span of the character here; `Memory` where the memory for
-    /// the token's value is missing. A token takes at most 24 steps for each of its bytes, and the end of the text one;
-    /// where no token begins, each byte that was read takes at most 24, and the fault itself 24.
+    /// Returns `Faulty`, with the span of the character here, if no token begins here, and `Memory` if the allocation
+    /// for the token's value fails. A token costs at most 24 steps for each of its bytes, and the end of the text one.
+    /// If no token begins here, each byte that was read costs at most 24, and the fault itself 24.
     ///
     /// ```
     /// let mut lexer = Lexer::new("a }", Steps::new());
-    /// let name = lexer.next(alloc)?; // the string `a`, with where it begins and ends
+    /// let name = lexer.next(alloc)?; // the string `a`, with its start and end
     /// let spaces = lexer.next(alloc)?; // the run of spaces
-    /// let closing = lexer.next(alloc)?; // the `}`: whether it may be here is for the caller to know
+    /// let closing = lexer.next(alloc)?; // the `}`: the lexer does not check whether it may be here
     /// let none = lexer.next(alloc)?; // `None`: the end of the text
     /// ```
     #[inline(always)]

@@ -1,4 +1,4 @@
-//! The lexer of KDL 2: the tokens of a text, handed out one at a time.
+//! The lexer of KDL 2: the tokens of a text, one at a time.
 #![tactic(auto)]
 
 mod lexer;

@@ -1,4 +1,4 @@
-//! The builder: a document under way, token by token.
+//! The builder: a document being read, token by token.
 
 ghost use Rattle.kdl_parser.specs.Internal.States.{document_now, document_of_nodes, Slices, spot_of, Takes};
 ghost use Rattle.kdl_parser.specs.Internal.Answered.{Finished};
@@ -22,7 +22,7 @@ use kdl_lexer::{LexFailure, Lexer, Token, TokenKind, fault_at};
 use kdl_text::cursor::{Checkpoint, Piece};
 use std::alloc::Global;
 
-/// Where in the grammar the builder is.
+/// The phase of the grammar.
 #[derive(Clone, Copy)]
 enum Phase {
     /// Between nodes.
@@ -33,9 +33,9 @@ enum Phase {
     InItem,
     /// Directly after the name or an entry of a node.
     Fresh,
-    /// After spaces there.
+    /// After spaces in a node.
     Spaced,
-    /// After a block that is slashdashed, where the node's own may follow.
+    /// After a slashdashed block, where the node's own may follow.
     Later,
     /// After `/-` where an entry or a block may follow.
     EntrySlashdash,
@@ -43,11 +43,11 @@ enum Phase {
     BlockSlashdash,
     /// After the node's block.
     Behind,
-    /// After `/-` there.
+    /// After a `/-` that follows a node's block.
     BehindSlashdash,
 }
 
-/// The node under way.
+/// The current node.
 #[derive(Drop)]
 struct Under<'a> {
     leading: String,
@@ -65,28 +65,28 @@ struct Kept<'a, N> {
     block: DocumentParts<N>,
 }
 
-/// An open block: what it belongs to, and the nodes before that. `None` for what is slashdashed.
+/// An open block: the node it belongs to, and the nodes before that. They are `None` if they are slashdashed.
 #[derive(Drop)]
 enum Frame<'a, N> {
     /// The block of a node, and the text before it.
     Block(Option<Under<'a>>, String, Option<Vec<N>>),
-    /// A block that is slashdashed.
+    /// A slashdashed block, before the node's own.
     DroppedBlock(Option<Under<'a>>, Option<Vec<N>>),
-    /// A block that is slashdashed, after the node's own.
+    /// A slashdashed block, after the node's own.
     LaterBlock(Option<Kept<'a, N>>, Option<Vec<N>>),
 }
 
-/// A string in a node that is a key where `=` follows, and else an argument.
+/// A pending string in a node: a key if `=` follows, and else an argument.
 #[derive(Drop)]
 struct WaitingWord<'a> {
     leading: String,
     start: Checkpoint<'a>,
     value: String,
-    /// Its spelling, which becomes a text of its own where it is not the string.
+    /// Its spelling, which is copied if it differs from the string.
     repr: Piece<'a>,
 }
 
-/// Where a name or an entry begins, and whether it counts. No text is held of what does not count.
+/// Where a name or an entry begins, and whether it is kept. No text is held of what is not kept.
 #[derive(Drop)]
 struct Slot<'a> {
     kept: bool,
@@ -94,16 +94,16 @@ struct Slot<'a> {
     start: Checkpoint<'a>,
 }
 
-/// Whether a string waits that may be a key.
+/// The pending string that may be a key, if there is one.
 #[derive(Drop)]
 enum Waiting<'a> {
     Nothing,
-    /// One of an entry that is slashdashed.
+    /// The string of a slashdashed entry.
     Dropped,
     Word(WaitingWord<'a>),
 }
 
-/// A document under way. It holds no text of what is slashdashed.
+/// A document being read. It holds no separate text of what is slashdashed.
 #[derive(Drop)]
 pub(crate) struct Builder<'a, N> {
     whole: Checkpoint<'a>,
@@ -118,7 +118,7 @@ pub(crate) struct Builder<'a, N> {
 }
 
 impl<'a, N: ParsedNode> Builder<'a, N> {
-    /// A builder at the start of a text, or after its U+FEFF.
+    /// Creates a builder at the start of a text, or after its U+FEFF.
     pub(crate) fn new(alloc: Global, whole: Checkpoint<'a>, start: Checkpoint<'a>) -> Self
         ensures state { state_view N.tree result ≡ initial start.entry.rest }
         ensures unsliced { unsliced result ≡ bytes start.entry.rest }
@@ -138,7 +138,7 @@ impl<'a, N: ParsedNode> Builder<'a, N> {
         }
     }
 
-    /// A token between nodes.
+    /// Takes a token between nodes.
     #[tactic(auto, using(crate::proofs::Stepping::StepsDone::does_did))]
     fn at_gap(
         &mut self,
@@ -170,7 +170,7 @@ impl<'a, N: ParsedNode> Builder<'a, N> {
         }
     }
 
-    /// A token after `/-` between nodes.
+    /// Takes a token after `/-` between nodes.
     #[tactic(auto, using(crate::proofs::Stepping::StepsDone::does_did))]
     fn at_slashdash(
         &mut self,
@@ -196,7 +196,7 @@ impl<'a, N: ParsedNode> Builder<'a, N> {
         }
     }
 
-    /// A token directly after a name or an entry.
+    /// Takes a token directly after a name or an entry.
     #[tactic(auto, using(crate::proofs::Stepping::StepsDone::does_did, crate::proofs::Stepping::StepsDone::none_sliced))]
     fn at_fresh(
         &mut self,
@@ -228,7 +228,7 @@ impl<'a, N: ParsedNode> Builder<'a, N> {
         }
     }
 
-    /// A token after spaces in a node.
+    /// Takes a token after spaces in a node.
     #[tactic(auto, using(crate::proofs::Stepping::StepsDone::does_did, crate::proofs::Stepping::StepsDone::none_sliced))]
     fn at_spaced(
         &mut self,
@@ -260,7 +260,7 @@ impl<'a, N: ParsedNode> Builder<'a, N> {
         }
     }
 
-    /// A token after a block that is slashdashed, before the node's own.
+    /// Takes a token after a slashdashed block, before the node's own.
     #[tactic(auto, using(crate::proofs::Stepping::StepsDone::does_did))]
     fn at_later(
         &mut self,
@@ -291,7 +291,7 @@ impl<'a, N: ParsedNode> Builder<'a, N> {
         }
     }
 
-    /// A token after `/-`, where an entry or a block may follow.
+    /// Takes a token after `/-`, where an entry or a block may follow.
     #[tactic(auto, using(crate::proofs::Stepping::StepsDone::does_did, crate::proofs::Stepping::StepsDone::none_sliced))]
     fn at_entry_slashdash(
         &mut self,
@@ -319,7 +319,7 @@ impl<'a, N: ParsedNode> Builder<'a, N> {
         }
     }
 
-    /// A token after `/-`, where a block may follow.
+    /// Takes a token after `/-`, where a block may follow.
     #[tactic(auto, using(crate::proofs::Stepping::StepsDone::does_did, crate::proofs::Stepping::StepsDone::none_sliced))]
     fn at_block_slashdash(
         &mut self,
@@ -344,7 +344,7 @@ impl<'a, N: ParsedNode> Builder<'a, N> {
         }
     }
 
-    /// A token after a node's block.
+    /// Takes a token after a node's block.
     #[tactic(auto, using(crate::proofs::Stepping::StepsDone::does_did))]
     fn at_behind(
         &mut self,
@@ -374,7 +374,7 @@ impl<'a, N: ParsedNode> Builder<'a, N> {
         }
     }
 
-    /// A token after `/-`, where another block may follow.
+    /// Takes a token after `/-`, where another block may follow.
     #[tactic(auto, using(crate::proofs::Stepping::StepsDone::does_did, crate::proofs::Stepping::StepsDone::none_sliced))]
     fn at_behind_slashdash(
         &mut self,
@@ -399,7 +399,8 @@ impl<'a, N: ParsedNode> Builder<'a, N> {
         }
     }
 
-    /// One token. A fault where it may not be here; running out of memory leaves the builder as it is then.
+    /// Takes a token. Fails if the token may not be here, or if an allocation fails; the builder is then in an
+    /// unspecified state.
     #[tactic(auto, using(crate::proofs::Stepping::ItemTokens::item_did, crate::proofs::Stepping::ItemTokens::item_placed))]
     pub(crate) fn take(
         &mut self,
@@ -432,7 +433,8 @@ impl<'a, N: ParsedNode> Builder<'a, N> {
         }
     }
 
-    /// The document, where the text ends. A fault where what is open isn't closed. The builder is spent then.
+    /// Returns the document at the end of the text. Fails if something open is not closed. The builder can't be used
+    /// afterwards.
     pub(crate) fn finish(
         &mut self,
         alloc: Global,
@@ -449,7 +451,7 @@ impl<'a, N: ParsedNode> Builder<'a, N> {
         self.finish_at(alloc, lexer, &here)
     }
 
-    /// The document, where the text ends at the place.
+    /// Returns the document if the text ends at the place.
     #[tactic(auto, using(crate::proofs::Stepping::Origins::between_none, crate::proofs::Stepping::Origins::origin_ends, crate::proofs::Stepping::ItemTokens::unfinished, crate::proofs::Stepping::StepsDone::unfinished_for_memory))]
     fn finish_at(
         &mut self,
@@ -481,7 +483,7 @@ impl<'a, N: ParsedNode> Builder<'a, N> {
         }
     }
 
-    /// The document of the nodes, where no block is open.
+    /// Returns the document of the nodes, if no block is open.
     fn finish_nodes(
         &mut self,
         alloc: Global,

@@ -22,13 +22,13 @@ use std::mem;
 /// A document that is a whole text.
 #[derive(Drop)]
 pub struct DocumentText<N> {
-    /// What is in it, after the U+FEFF.
+    /// The content of the document, after the U+FEFF.
     pub parts: DocumentParts<N>,
     /// Whether the text begins with U+FEFF.
     pub has_bom: bool,
 }
 
-/// The machine's result on the text that the lexer is at the start of.
+/// Returns the machine's result on the text; the lexer is at its start.
 #[tactic(auto, using(crate::proofs::Answering::LeadingBom::bom_ends, crate::proofs::Answering::LeadingBom::bom_at, crate::proofs::Answering::LeadingBom::whole_answer))]
 fn read_all<'a, N: ParsedNode>(
     alloc: Global,
@@ -47,7 +47,7 @@ fn read_all<'a, N: ParsedNode>(
     }
 }
 
-/// The machine's result on the text, which raises the count.
+/// Returns the machine's result on the text, and adds the steps to the count.
 fn read_counted<N: ParsedNode>(
     alloc: Global,
     text: &str,
@@ -63,24 +63,24 @@ fn read_counted<N: ParsedNode>(
     answer
 }
 
-/// The document that the text is (KDL 2.0.0, Document), which raises the count by the steps that it takes, up to the
-/// greatest `u64`. Each place and each spelling that the document keeps is sliced once, except a U+FEFF, which is not;
-/// values are decoded by the lexer, which slices what it needs for that, of what is slashdashed too. `Syntax`: the
-/// text is no document; its error has a diagnostic for each fault that is found, and one at least. The text is read
-/// once more to find them. `Memory`: a request for memory was refused.
+/// Parses a document (KDL 2.0.0, Document), and adds the steps of parsing to the count, which saturates at `u64::MAX`.
+/// Each place and each spelling that the document keeps is sliced once, except a U+FEFF, which is not; values are
+/// decoded by the lexer, which slices what it needs for that, even of what is slashdashed. Returns `Syntax` if the text
+/// is not a document; its error has a diagnostic for each fault, and at least one. The text is then read again to find
+/// them. Returns `Memory` if an allocation fails.
 #[tactic(auto, using(crate::proofs::Answering::Outcomes::refused, crate::proofs::Answering::Outcomes::most_counted))]
 pub fn read_document<N: ParsedNode>(
     alloc: Global,
     text: &str,
     steps: &mut Steps,
 ) -> Result<DocumentText<N>, ParseFailure>
-    // The result is the machine's on the text.
+    // The result is the machine's result on the text.
     ensures found { IfOk result (λ d. AnswersDocument (chars text.now) (whole_by N.tree d)) }
-    // What is refused is not derived, and an error tells where.
+    // A refused text is not derived, and the error reports where.
     ensures refused { IsSyntax result → (x : Nodes) → IsDocument true (chars text.now) x → ⊥ }
     ensures told { TellsOnSyntax text.now result }
-    // At least a step for each character is counted, and at most 32 for each byte and 32 more; for a text that is
-    // refused, and what is reported of it, at most 160.
+    // At least a step for each character is counted, and at most 32 for each byte and 32 more; for a refused text and
+    // the report of its faults, at most 160.
     ensures least { OnOk result (raise steps.old (length (chars text.now)) ≤ steps.new) }
     ensures most { OnOk result (steps.new ≤ steps.old + 32 * (length text.now + 1)) }
     ensures told_most { IsSyntax result → steps.new ≤ steps.old + 160 * (length text.now + 1) }

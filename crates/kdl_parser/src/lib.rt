@@ -1,4 +1,5 @@
-//! The parser of KDL 2 documents: tokens one by one, and no recursion. It is generic in the nodes that it makes.
+//! The parser of KDL 2 documents. It takes tokens one by one, without recursion, and is generic in the nodes that it
+//! makes.
 #![tactic(auto)]
 
 mod builder;

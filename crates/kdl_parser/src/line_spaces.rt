@@ -19,8 +19,8 @@ fn is_line_space(kind: &TokenKind) -> bool
     matches!(kind, TokenKind::Space | TokenKind::Newline)
 }
 
-/// Reads line-spaces to the end of the text. A fault at the first token that is none, or the first piece that is no
-/// token.
+/// Reads line-spaces to the end of the text. Fails at the first token that is not part of a line-space, or at the first
+/// character with which no token begins.
 #[tactic(auto, using(crate::proofs::Answering::LineSpaceReads::lines_start, crate::proofs::Answering::LineSpaceReads::lines_fail, crate::proofs::Answering::LineSpaceReads::lines_nearer))]
 fn line_spaces(alloc: Global, text: &str) -> Result<(), LexFailure>
     ensures { AreLineSpaces (chars text.now) result }
@@ -29,7 +29,7 @@ fn line_spaces(alloc: Global, text: &str) -> Result<(), LexFailure>
     'tokens: while let Some(token) = lexer.next(alloc)? {
         if !is_line_space(&token.kind) {
             let span = fault_at(&token.start);
-            // A call drops it in one step of the proof, the end of its scope in many.
+            // Dropped by a call, since that is one step of the proof; the end of its scope would be many.
             drop(token);
             return Err(LexFailure::Faulty(span));
         }
@@ -38,7 +38,7 @@ fn line_spaces(alloc: Global, text: &str) -> Result<(), LexFailure>
     Ok(())
 }
 
-/// The span in the text, where it was reported for the text's end.
+/// Returns the span in the whole text, for a span that was reported in its end.
 fn behind(text: &str, end: &str, span: SourceSpan) -> SourceSpan
     requires ends { EndsIn (chars text.now) (chars end.now) }
     requires told { InText (chars end.now) span }
@@ -51,7 +51,8 @@ fn behind(text: &str, end: &str, span: SourceSpan) -> SourceSpan
     }
 }
 
-/// Reads line-spaces to the end of the trailing text, with which the text ends. A fault is reported in the text.
+/// Reads line-spaces to the end of the trailing text, with which the text ends. A fault is reported by its span in the
+/// text.
 pub fn trailing_line_spaces(alloc: Global, text: &str, trailing: &str) -> Result<(), LexFailure>
     requires { EndsIn (chars text.now) (chars trailing.now) }
     ensures { EndInLineSpaces (chars text.now) (chars trailing.now) result }

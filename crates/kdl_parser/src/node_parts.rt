@@ -1,4 +1,4 @@
-//! What the parser makes of a text: documents and nodes by their parts.
+//! What the parser makes of a text: the parts of documents and nodes.
 
 ghost use Rattle.kdl_grammar.specs.Laid.{node_span};
 ghost use Rattle.kdl_grammar.specs.Tree.{Node};
@@ -13,38 +13,38 @@ use std::alloc::Global;
 /// A document: its nodes, and the texts around them.
 #[derive(Drop)]
 pub struct DocumentParts<N> {
-    /// Nothing where there are nodes, since each has what comes before it; without nodes all that there is.
+    /// Text before the nodes. Empty with nodes, since each node holds the text before it; without nodes the whole text.
     pub leading: String,
-    /// The nodes that count, in order.
+    /// The nodes that are not slashdashed, in order.
     pub nodes: Vec<N>,
-    /// What comes after the last node: line-spaces, and nodes that a slashdash drops. Without nodes nothing.
+    /// Text after the last node: line-spaces and slashdashed nodes. Empty without nodes.
     pub trailing: String,
-    /// From the first node to the last one, in bytes of the text; without nodes the end.
+    /// The span from the first node to the last one, in bytes of the text; without nodes it is empty, at the end.
     pub span: SourceSpan,
 }
 
-/// A node: what is in it, and the texts around its parts.
+/// A node: its content, and the texts around its parts.
 #[derive(Drop)]
 pub struct NodeParts<N> {
-    /// What comes before the node: line-spaces, and nodes that a slashdash drops.
+    /// Text before the node: line-spaces and slashdashed nodes.
     pub leading: String,
-    /// The type, where the node has one.
+    /// The type, if the node has one.
     pub ty: Option<TypeParts>,
     /// The name.
     pub name: KdlIdentifier,
     /// The entries, in order.
     pub entries: Vec<KdlEntry>,
-    /// What is between the name or the last entry and the `{` of the children: entries and then blocks that a
-    /// slashdash drops, and node-spaces. Without children nothing.
+    /// Text between the name or the last entry and the `{` of the children: slashdashed entries, then slashdashed
+    /// blocks and node-spaces. Empty without children.
     pub before_children: String,
-    /// The children, where the node has a child block.
+    /// The children, if the node has a child block.
     pub children: Option<DocumentParts<N>>,
-    /// What comes before the terminator: after the `}` of the children, blocks that a slashdash drops and
-    /// node-spaces; without children, after the name or the last entry, such entries before these.
+    /// Text before the terminator. After the `}` of the children: slashdashed blocks and node-spaces. Without children,
+    /// after the name or the last entry: slashdashed entries, then slashdashed blocks and node-spaces.
     pub before_terminator: String,
-    /// What ends the node: `;`, a newline, a line comment, or nothing where the text ends or a `}` follows.
+    /// What ends the node: `;`, a newline, a line comment, or nothing if the text ends or a `}` follows.
     pub terminator: String,
-    /// Where the node is in the text, in bytes.
+    /// The span of the node in the text, in bytes.
     pub span: SourceSpan,
 }
 
@@ -52,11 +52,11 @@ pub struct NodeParts<N> {
 pub trait ParsedNode: Drop {
     ghost tree: { Self → Node };
 
-    /// The node of these parts.
+    /// Creates the node from these parts.
     fn from_parts(alloc: Global, parts: NodeParts<Self>) -> Self
         ensures { tree result ≡ node_by tree parts };
 
-    /// Where the node is in the text, in bytes.
+    /// The span of the node in the text, in bytes.
     fn span(&self) -> SourceSpan
         ensures { result ≡ node_span (tree self.now) };
 }

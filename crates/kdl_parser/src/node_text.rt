@@ -25,13 +25,13 @@ use std::alloc::Global;
 pub struct NodeText<N> {
     /// The node.
     pub node: N,
-    /// What comes after its terminator.
+    /// The text after its terminator.
     pub trailing: String,
-    /// The whole text, in bytes.
+    /// The span of the whole text, in bytes.
     pub span: SourceSpan,
 }
 
-/// The only one of the nodes of a text. A fault at the second one, or at the end of the text where there is none.
+/// Returns the only node of a text. Fails at the second node, or at the end of the text if there is no node.
 fn only_node<N: ParsedNode>(text: &str, nodes: Vec<N>) -> Result<N, LexFailure>
     requires { ReadsSome (chars text.now) (nodes_tree N.tree nodes.items) }
     ensures { IsOnly (chars text.now) nodes.items result }
@@ -55,7 +55,7 @@ fn only_node<N: ParsedNode>(text: &str, nodes: Vec<N>) -> Result<N, LexFailure>
     Ok(node)
 }
 
-/// The only node of a text as a text of its own, where line-spaces alone come after it. A fault at anything else.
+/// Returns the only node of a text if only line-spaces come after it. Fails at anything else.
 fn with_line_spaces<N: ParsedNode>(
     alloc: Global,
     text: &str,
@@ -82,7 +82,7 @@ fn with_line_spaces<N: ParsedNode>(
     }
 }
 
-/// The node that is the text, of the document that the text is.
+/// Returns the node that the text is, from the document that the text is.
 #[tactic(auto, using(crate::proofs::Answering::NodeTexts::some_read, crate::proofs::Answering::NodeTexts::one_read))]
 fn node_of<N: ParsedNode>(
     alloc: Global,
@@ -98,7 +98,7 @@ fn node_of<N: ParsedNode>(
     }
 }
 
-/// The node that the text is.
+/// Reads the node that the text is.
 #[tactic(auto, using(crate::proofs::Answering::NodeTexts::whole_ends, crate::proofs::Answering::NodeTexts::whole_at, crate::proofs::Answering::NodeTexts::whole_read))]
 fn read_whole<N: ParsedNode>(alloc: Global, text: &str) -> Result<NodeText<N>, LexFailure>
     ensures { AnswersNodeText N.tree (chars text.now) result }
@@ -111,13 +111,13 @@ fn read_whole<N: ParsedNode>(alloc: Global, text: &str) -> Result<NodeText<N>, L
     }
 }
 
-/// The node that the text is: line-spaces and nodes that are slashdashed before it, and after its terminator
-/// line-spaces alone (KDL 2.0.0, Node). `Syntax`: the text is no node. Its error has a diagnostic for each fault that
-/// is found, and one at least. `Memory`: a request for memory was refused.
+/// Parses a text that is exactly one node: line-spaces and slashdashed nodes before it, and only line-spaces after its
+/// terminator (KDL 2.0.0, Node). Returns `Syntax` if the text is not a node; its error has a diagnostic for each fault,
+/// and at least one. Returns `Memory` if an allocation fails.
 pub fn read_node_text<N: ParsedNode>(alloc: Global, text: &str) -> Result<NodeText<N>, ParseFailure>
-    // The node that is returned is laid in the text, which it is.
+    // The node that is returned is located in the text, which it is.
     ensures found { IfOk result (λ n. LaidNodeText true (chars text.now) (text_by N.tree n)) }
-    // What is refused is not derived, and an error tells where.
+    // A refused text is not derived, and the error reports where.
     ensures refused { IsSyntax result → (x : data'.Node) → IsNodeText true (chars text.now) x → ⊥ }
     ensures told { TellsOnSyntax text.now result }
 {

@@ -13,7 +13,7 @@ use kdl_lexer::{LexFailure, Lexer};
 use kdl_text::cursor::Checkpoint;
 use std::alloc::Global;
 
-/// The machine's result on what the lexer has before it, by a builder that has seen no token yet.
+/// Returns the machine's result on the text before the lexer, by a builder that has not taken a token yet.
 #[tactic(auto, using(crate::proofs::Stepping::TurnCost::counting_starts, crate::proofs::Stepping::TurnCost::counting_ends, crate::proofs::Answering::TokenLoop::starts, crate::proofs::Answering::TokenLoop::goes_on, crate::proofs::Answering::TokenLoop::placed_start, crate::proofs::Answering::TokenLoop::start_end, crate::proofs::Answering::TokenLoop::lexer_told, crate::proofs::Answering::TokenLoop::take_told, crate::proofs::Answering::TokenLoop::all_read, crate::proofs::Answering::TokenLoop::stops_going, crate::proofs::Answering::TokenLoop::from_now, crate::proofs::Answering::TokenLoop::finish_told, crate::proofs::Answering::TokenLoop::nearer))]
 fn build_with<'a, N: ParsedNode>(
     alloc: Global,
@@ -34,12 +34,12 @@ fn build_with<'a, N: ParsedNode>(
     builder.finish(alloc, lexer)
 }
 
-/// The document that the lexer has before it: the text `whole`, or what follows its U+FEFF. A fault at the first token
-/// that fits nothing, or at the first piece that is no token; its span lies in the text. `Memory`: a request for memory
-/// was refused.
+/// Reads the document before the lexer: the text `whole`, or what follows its U+FEFF. Fails at the first token that may
+/// not be where it is, or at the first character with which no token begins; the span of the fault is in the text.
+/// Returns `Memory` if an allocation fails.
 ///
-/// The builder slices each place and each spelling that the document keeps once. Of what is slashdashed it slices
-/// nothing by itself: its text is part of the place in which it is.
+/// The builder slices each place and each spelling that the document keeps once. It does not slice what is slashdashed
+/// by itself: that text is part of the place around it.
 pub fn build<'a, N: ParsedNode>(
     alloc: Global,
     whole: Checkpoint<'a>,

@@ -21,17 +21,17 @@ abbrev pub sought : NodeKey → Sought
 sought (Key k) = property (identifier_tree k)
 sought (Index n) = argument n
 
--- the bytes of the name that a key looks for, none where it looks for an argument
+-- the bytes of the name that a key looks for, or none if it looks for an argument
 abbrev pub key_name : NodeKey → Option (List ℕ)
 key_name (Key k) = Some (string_bytes (string_of k))
 key_name (Index n) = None
 
--- the place of the argument that is sought, none where a property is
+-- the place of the argument that is sought, or none if a property is sought
 abbrev pub argument_sought : Sought → Option ℕ
 argument_sought (property k) = None
 argument_sought (argument n) = Some n
 
--- the place of the argument that a key looks for, none where it looks for a property
+-- the place of the argument that a key looks for, or none if it looks for a property
 abbrev pub key_index : NodeKey → Option ℕ
 key_index k = argument_sought (sought k)
 
@@ -52,7 +52,7 @@ has_name s e = is_name s (entry_name_of e)
 abbrev pub is_argument : KdlEntry → Bool
 is_argument e = is_none (entry_name_of e)
 
--- the last place, where those after the first element have this last place, and b tells of the first
+-- the last place, given the last place among the elements after the first, and whether the first is one
 abbrev pub later : Option ℕ → Bool → Option ℕ
 later (Some i) b = Some (suc i)
 later None true = Some 0
@@ -63,7 +63,7 @@ abbrev pub last_place : {A : Type 0} → (A → Bool) → List A → Option ℕ
 last_place p [] = None
 last_place p (x ∷ xs) = later (last_place p xs) (p x)
 
--- the place of the n-th, where the first element is one or not, and `rest` gives places after it
+-- the place of the n-th, given whether the first element is one, and the places `rest` after it
 abbrev pub nth_step : Bool → ℕ → (ℕ → Option ℕ) → Option ℕ
 nth_step true zero rest = Some 0
 nth_step true (suc n) rest = option_map suc (rest n)
@@ -99,7 +99,7 @@ argument_at n es = there (nth_place is_argument es n) es
 abbrev pub property_named : List ℕ → List KdlEntry → Option KdlEntry
 property_named s es = there (last_place (has_name s) es) es
 
--- the value of an entry, where there is one; the same as it is in memory
+-- the value of an entry, if there is one; the same as it is in memory
 abbrev pub value_of : Option KdlEntry → Option Value
 value_of o = option_map (λ e. value_tree (entry_value_of e)) o
 

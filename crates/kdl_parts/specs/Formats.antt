@@ -20,7 +20,7 @@ node_format_tree f = record {
 abbrev pub document_format_tree : KdlDocumentFormat → DocumentFormat
 document_format_tree f = record { leading = text_of f.leading; trailing = text_of f.trailing }
 
--- the same, where there is a format
+-- the same, if there is a format
 abbrev pub node_texts : Option KdlNodeFormat → Option NodeFormat
 node_texts o = option_map node_format_tree o
 

@@ -1,4 +1,4 @@
--- What the iterator over the entries of a node, to be changed in place, has left.
+-- What the mutable iterator over the entries of a node has left.
 use base.Fml.{GName}
 use Rattle.std.specs.Prelude.{List}
 use Rattle.std.specs.Slice.Iter.{iter_mut_rest, iter_mut_name}

@@ -12,7 +12,7 @@ use Rattle.kdl_grammar.specs.Print as print'
 use Rattle.kdl_parts.specs.Formats.{node_texts}
 use Rattle.kdl_parts.specs.declared.format.KdlNodeFormat.{KdlNodeFormat}
 
--- where no write fails, the characters of the text were written, as UTF-8
+-- if no write fails, the characters of the text were written, as UTF-8
 abbrev pub Prints : {W : Type 0} → (W → List ℕ → W → Type 0) → Formatter W → Result (Unit {0}) Error → Text → Formatter W → Type 0
 Prints took f r t g = WritesOnOk took f r (encode_utf8_all t) g
 

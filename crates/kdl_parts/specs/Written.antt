@@ -1,4 +1,4 @@
--- A list of entries in memory once what was lent of it is written.
+-- A list of entries in memory, after a write through a reference to one of them.
 use denote.RattleType.{RattleType}
 use Rattle.std.specs.Prelude.{◌≡◌, ℕ, List, [], ◌∷◌, ◌++◌, Option, Some, None, Vec, length, slice_get}
 use Rattle.std.specs.Str.{chars}
@@ -16,7 +16,7 @@ use Rattle.kdl_value.specs.declared.value.KdlValue.{KdlValue}
 use Rattle.kdl_parts.specs.EntryLists.{is_argument, nth_place, place_of}
 use Rattle.kdl_parts.specs.declared.key.NodeKey.{NodeKey}
 
--- how the logic holds a list of entries
+-- the type of a list of entries in the logic
 abbrev pub entries_row : RattleType
 entries_row = vec.the_row entry.the_row global.the_row ghosts
 
@@ -34,7 +34,7 @@ abbrev pub set_value_there : Option ℕ → Vec KdlEntry Global → KdlValue →
 set_value_there None v w = v
 set_value_there (Some i) v w = set_value_at v i w
 
--- the entries with another one in place of that which a key finds, and with another value for it
+-- the entries with another one in place of the one that a key finds, and with another value for it
 abbrev pub with_found : NodeKey → Vec KdlEntry Global → KdlEntry → Vec KdlEntry Global
 with_found key v e = set_entry_there (place_of key v.items) v e
 
@@ -45,7 +45,7 @@ with_found_value key v w = set_value_there (place_of key v.items) v w
 abbrev pub with_argument_value : ℕ → Vec KdlEntry Global → KdlValue → Vec KdlEntry Global
 with_argument_value n v w = set_value_there (nth_place is_argument v.items n) v w
 
--- fs are the entries es with a property of that name and value after them
+-- fs are the entries es, followed by a property of that name and value
 pub record IsPushed (s : List ℕ) (w : Value) (es fs : List KdlEntry) : Type 0 where
   pub entry : KdlEntry
   pub tree : entry_tree entry ≡ plain_entry (Some (plain_identifier (chars s))) w

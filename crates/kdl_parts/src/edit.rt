@@ -15,12 +15,11 @@ use std::alloc::AllocError;
 use std::cmp::Ordering;
 use std::mem;
 
-/// Puts the entry after the others. Fails where memory runs out: then the entry comes back, and the entries are as
-/// they were.
+/// Appends the entry. If an allocation fails, returns the entry in the error, and leaves the entries unchanged.
 ///
 /// ```
 /// if let Err((entry, _)) = push(&mut entries, KdlEntry::new(KdlValue::from(9))) {
-///     drop(entry); // memory ran out: the entry is back, and the entries are as they were
+///     drop(entry); // an allocation failed: the error has the entry, and the entries are unchanged
 /// }
 /// ```
 pub fn push(entries: &mut Vec<KdlEntry>, entry: KdlEntry) -> Result<(), (KdlEntry, AllocError)>
@@ -34,16 +33,16 @@ pub fn push(entries: &mut Vec<KdlEntry>, entry: KdlEntry) -> Result<(), (KdlEntr
     }
 }
 
-/// Puts the entry in under the key. Under a name, an entry without a name takes it; the last property whose name has
-/// that value is replaced in place and handed back, and where there is none the entry goes last. Under an index it goes
-/// directly before the argument at that place among the arguments, or last where there is none.
+/// Inserts the entry under the key. Under a name, an entry without a name gets that name; the entry replaces the last
+/// property whose name has that value, which is returned, and is appended if there is none. Under an index, the entry
+/// is inserted directly before the argument at that place among the arguments, or appended if there is none.
 ///
-/// A replacement takes no memory. Else it fails where memory runs out: then the entry comes back, with the key for its
-/// name where it had none, and the entries are as they were.
+/// A replacement does not allocate. If an allocation fails, returns the entry in the error, with the key for its name
+/// if it had none, and leaves the entries unchanged.
 ///
 /// ```
 /// let key = NodeKey::from_text(alloc, "a")?;
-/// let replaced = insert(&mut entries, key, KdlEntry::new(KdlValue::from(9))); // of `1 a=2 3` are left `1 a=9 3`
+/// let replaced = insert(&mut entries, key, KdlEntry::new(KdlValue::from(9))); // `1 a=2 3` becomes `1 a=9 3`
 /// ```
 pub fn insert(
     entries: &mut Vec<KdlEntry>,
@@ -63,11 +62,11 @@ pub fn insert(
     }
 }
 
-/// Takes out and hands back the first property whose name has the key's value, or the argument at the key's place among
-/// the arguments; none where there is none.
+/// Removes and returns the first property whose name has the key's value, or the argument at the key's place among the
+/// arguments. Returns `None` if there is none.
 ///
 /// ```
-/// let removed = remove(&mut entries, NodeKey::from_text(alloc, "a")?); // of `1 a=2 a=3` the first `a` goes
+/// let removed = remove(&mut entries, NodeKey::from_text(alloc, "a")?); // removes the first `a` of `1 a=2 a=3`
 /// ```
 pub fn remove(entries: &mut Vec<KdlEntry>, key: NodeKey) -> Option<KdlEntry>
     ensures items { entries.new.items ≡ removed key entries.old.items }
@@ -92,10 +91,11 @@ pub fn clear(entries: &mut Vec<KdlEntry>)
     entries.clear();
 }
 
-/// Keeps, in order, the entries for which `keep` returns true. It is asked once for each entry, in order.
+/// Retains, in order, the entries for which `keep` returns true. `keep` is called exactly once for each entry, in
+/// order.
 ///
 /// ```
-/// retain(&mut entries, |entry| entry.name().is_none()); // of `1 a=2 3` are left `1 3`
+/// retain(&mut entries, |entry| entry.name().is_none()); // `1 a=2 3` becomes `1 3`
 /// ```
 pub fn retain<F: FnMut(&KdlEntry) -> bool>(entries: &mut Vec<KdlEntry>, keep: F)
     requires { F.IsAlwaysCallable keep }
@@ -104,11 +104,11 @@ pub fn retain<F: FnMut(&KdlEntry) -> bool>(entries: &mut Vec<KdlEntry>, keep: F)
     entries.retain(keep);
 }
 
-/// Sorts the entries by `compare`, a total preorder; entries that compare as equal keep their order. Fails where memory
-/// runs out: then the entries are in some order.
+/// Sorts the entries by `compare`, which has to be a total preorder; entries that compare as equal keep their order. If
+/// an allocation fails, returns an error, and the entries are in an unspecified order.
 ///
 /// ```
-/// sort_by(&mut entries, |one, other| one.value().cmp(other.value()))?; // of `3 1 2` is made `1 2 3`
+/// sort_by(&mut entries, |one, other| one.value().cmp(other.value()))?; // `3 1 2` becomes `1 2 3`
 /// ```
 pub fn sort_by<F: FnMut(&KdlEntry, &KdlEntry) -> Ordering>(
     entries: &mut Vec<KdlEntry>,
@@ -122,11 +122,11 @@ pub fn sort_by<F: FnMut(&KdlEntry, &KdlEntry) -> Ordering>(
     entries.sort_by(compare)
 }
 
-/// Sorts the entries by the key that `f` gives of each; entries with equal keys keep their order. Fails where memory
-/// runs out: then the entries are in some order.
+/// Sorts the entries by the key that `f` extracts from each; entries with equal keys keep their order. If an allocation
+/// fails, returns an error, and the entries are in an unspecified order.
 ///
 /// ```
-/// sort_by_key(&mut entries, |entry| entry.name().is_some())?; // of `b=1 2 c=3 4` is made `2 4 b=1 c=3`
+/// sort_by_key(&mut entries, |entry| entry.name().is_some())?; // `b=1 2 c=3 4` becomes `2 4 b=1 c=3`
 /// ```
 pub fn sort_by_key<K: Ord, F: FnMut(&KdlEntry) -> K>(
     entries: &mut Vec<KdlEntry>,
@@ -145,7 +145,7 @@ where
 /// Drops the formats and spellings of the entries.
 ///
 /// ```
-/// clear_formats(&mut entries); // `0x10 "a"=1` prints as `16 a=1` then; a comment before an entry goes too
+/// clear_formats(&mut entries); // `0x10 "a"=1` then prints `16 a=1`; a comment before an entry is removed too
 /// ```
 pub fn clear_formats(entries: &mut Vec<KdlEntry>)
     ensures { map entry_tree entries.new.items ≡ map cleared (map entry_tree entries.old.items) }
@@ -155,7 +155,7 @@ pub fn clear_formats(entries: &mut Vec<KdlEntry>)
     }
 }
 
-/// Puts the entry in the place of the one there and hands that back, or puts it last where no place is given.
+/// Replaces the entry at the place and returns the old one, or appends the entry if no place is given.
 fn put_for(
     entries: &mut Vec<KdlEntry>,
     at: Option<usize>,
@@ -177,7 +177,7 @@ fn put_for(
     }
 }
 
-/// Puts the entry before the one at that place, or last where no place is given.
+/// Inserts the entry before the one at that place, or appends it if no place is given.
 fn put_before(
     entries: &mut Vec<KdlEntry>,
     at: Option<usize>,
@@ -201,7 +201,7 @@ fn put_before(
     }
 }
 
-/// Exchanges the entry at that place, and hands back the one that was there.
+/// Replaces the entry at that place, and returns the old one.
 fn replace_at(entries: &mut Vec<KdlEntry>, at: usize, entry: KdlEntry) -> KdlEntry
     requires { at < length entries.old.items }
     ensures items { entries.new.items ≡
@@ -211,7 +211,7 @@ fn replace_at(entries: &mut Vec<KdlEntry>, at: usize, entry: KdlEntry) -> KdlEnt
     mem::replace(&mut entries[at], entry)
 }
 
-/// Puts the entry before the one at that place.
+/// Inserts the entry before the one at that place.
 fn insert_at(
     entries: &mut Vec<KdlEntry>,
     at: usize,
@@ -228,7 +228,7 @@ fn insert_at(
     }
 }
 
-/// Takes out the entry at that place.
+/// Removes and returns the entry at that place.
 fn remove_at(entries: &mut Vec<KdlEntry>, at: usize) -> KdlEntry
     requires { at < length entries.old.items }
     ensures items { entries.new.items ≡
@@ -238,7 +238,7 @@ fn remove_at(entries: &mut Vec<KdlEntry>, at: usize) -> KdlEntry
     entries.remove(at)
 }
 
-/// The entry, with the key for its name where it has none.
+/// The entry, with the key for its name if it has none.
 fn named(mut entry: KdlEntry, key: KdlIdentifier) -> KdlEntry
     ensures { entry_tree result ≡ under (property (identifier_tree key)) (entry_tree entry) }
 {

@@ -8,32 +8,33 @@ ghost use Rattle.std.specs.Str.{chars};
 
 use std::alloc::{AllocError, Global};
 
-/// The texts around the parts of a node. Each field says what is there in a node that was parsed.
+/// The texts around the parts of a node. The fields describe a node that was parsed.
 #[derive(PartialEq, Eq, Hash, Debug, Drop)]
 pub struct KdlNodeFormat {
-    /// What comes before the node: line-spaces, and nodes that a slashdash drops.
+    /// Text before the node: line-spaces (spaces, newlines, comments and line continuations) and slashdashed nodes.
     pub leading: String,
-    /// Node-spaces between the `(` of the type and its name. Empty without a type.
+    /// Node-spaces (spaces, block comments and line continuations) between the `(` of the type and its name. Empty
+    /// without a type.
     pub before_ty_name: String,
     /// Node-spaces between the name of the type and its `)`. Empty without a type.
     pub after_ty_name: String,
     /// Node-spaces between the `)` of the type and the node's name. Empty without a type.
     pub after_ty: String,
-    /// What is between the name or the last entry and the `{` of the children: entries and then blocks that a
-    /// slashdash drops, and node-spaces. Empty without children.
+    /// Text between the name or the last entry and the `{` of the children: slashdashed entries, then slashdashed
+    /// blocks and node-spaces. Empty without children.
     pub before_children: String,
-    /// What comes before the terminator: after the `}` of the children, blocks that a slashdash drops and
-    /// node-spaces; without children, after the name or the last entry, such entries before these.
+    /// Text before the terminator. After the `}` of the children: slashdashed blocks and node-spaces. Without children,
+    /// after the name or the last entry: slashdashed entries, then slashdashed blocks and node-spaces.
     pub before_terminator: String,
-    /// What ends the node: `;`, a newline, a line comment, or nothing where the text ends or a `}` follows.
+    /// What ends the node: `;`, a newline, a line comment, or nothing if the text ends or a `}` follows.
     pub terminator: String,
-    /// What comes after the terminator: line-spaces, where the node is a whole text. Empty in a document, in which it
-    /// comes before the next node or after the last one.
+    /// Text after the terminator: line-spaces, if the node is a whole text. Empty in a document, where that text
+    /// belongs to the next node, or to the document after the last node.
     pub trailing: String,
 }
 
 impl KdlNodeFormat {
-    /// A format whose texts are empty. It takes no memory.
+    /// Creates a format whose texts are empty. Does not allocate.
     ///
     /// ```
     /// let mut format = KdlNodeFormat::new(alloc); // nothing ends the node: the next one would be on the same line
@@ -56,7 +57,7 @@ impl KdlNodeFormat {
     }
 }
 
-/// A copy with the same texts. Fails where memory runs out.
+/// Returns a copy with the same texts, or an error if an allocation fails.
 ///
 /// ```
 /// let format = KdlNodeFormat::new(alloc);
@@ -87,7 +88,7 @@ impl Clone for KdlNodeFormat {
     }
 }
 
-/// The format of a new node: a newline after it, and nothing else.
+/// Creates the format of a new node: a newline as its terminator, and nothing else.
 ///
 /// ```
 /// let format = new_format(alloc)?;
@@ -103,19 +104,18 @@ pub fn new_format(alloc: Global) -> Result<KdlNodeFormat, AllocError>
     Ok(format)
 }
 
-/// The texts around the nodes of a document or of a child block. Each field says what is there in one that was
-/// parsed.
+/// The texts around the nodes of a document or of a child block. The fields describe one that was parsed.
 #[derive(PartialEq, Eq, Hash, Debug, Drop)]
 pub struct KdlDocumentFormat {
-    /// Where there are nodes, U+FEFF at the start of the text or nothing, since each node has what comes before it;
-    /// without nodes all that there is.
+    /// Text before the nodes. With nodes: U+FEFF at the start of the text or nothing, since each node holds the text
+    /// before it. Without nodes: the whole text.
     pub leading: String,
-    /// What comes after the last node: line-spaces, and nodes that a slashdash drops. Empty without nodes.
+    /// Text after the last node: line-spaces and slashdashed nodes. Empty without nodes.
     pub trailing: String,
 }
 
 impl KdlDocumentFormat {
-    /// A format whose texts are empty. It takes no memory.
+    /// Creates a format whose texts are empty. Does not allocate.
     ///
     /// ```
     /// let mut format = KdlDocumentFormat::new(alloc);
@@ -132,7 +132,7 @@ impl KdlDocumentFormat {
     }
 }
 
-/// A copy with the same texts. Fails where memory runs out.
+/// Returns a copy with the same texts, or an error if an allocation fails.
 ///
 /// ```
 /// let format = KdlDocumentFormat::new(alloc);
@@ -157,18 +157,18 @@ fn bom_text(alloc: Global) -> Result<String, AllocError>
     Ok(bom)
 }
 
-/// The text after another.
+/// Appends a text to another.
 fn push_text(text: &mut String, more: &str) -> Result<(), AllocError>
     ensures { IfOk result (λ _. text_of text.new ≡ text_of text.old ++ chars more.now) }
 {
     text.push_str(more)
 }
 
-/// The format with U+FEFF before its leading text.
+/// Returns the format with U+FEFF before its leading text.
 ///
 /// ```
 /// let format = behind_bom(alloc, None)?;
-/// let leading = format.leading.as_str(); // U+FEFF alone
+/// let leading = format.leading.as_str(); // only U+FEFF
 /// ```
 pub fn behind_bom(
     alloc: Global,

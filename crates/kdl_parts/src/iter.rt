@@ -18,11 +18,11 @@ use kdl_entry::{KdlEntry, KdlValue};
 use std::marker::Model;
 use std::slice;
 
-/// The iterator over these entries.
+/// Returns an iterator over these entries.
 ///
 /// ```
 /// for entry in entry_iter(&entries) {
-///     let value = entry.value(); // of `1 a=2` the values 1 and 2
+///     let value = entry.value(); // the values 1 and 2 of `1 a=2`
 /// }
 /// ```
 pub fn entry_iter(entries: &[KdlEntry]) -> EntryIter<'_>
@@ -31,11 +31,11 @@ pub fn entry_iter(entries: &[KdlEntry]) -> EntryIter<'_>
     EntryIter(entries.iter())
 }
 
-/// The iterator over these entries, each to be changed in place.
+/// Returns a mutable iterator over these entries.
 ///
 /// ```
 /// for entry in entry_iter_mut(&mut entries) {
-///     entry.clear_format(); // of `0x1 0x2` are left `1 2`
+///     entry.clear_format(); // `0x1 0x2` becomes `1 2`
 /// }
 /// ```
 pub fn entry_iter_mut(entries: &mut Vec<KdlEntry>) -> EntryIterMut<'_>
@@ -46,11 +46,11 @@ pub fn entry_iter_mut(entries: &mut Vec<KdlEntry>) -> EntryIterMut<'_>
     EntryIterMut(entries.iter_mut())
 }
 
-/// The iterator over the values of the arguments among these entries.
+/// Returns an iterator over the values of the arguments among these entries.
 ///
 /// ```
 /// for value in args_iter(&entries) {
-///     let number = value.as_integer(); // of `1 a=2 3` the numbers 1 and 3
+///     let number = value.as_integer(); // the numbers 1 and 3 of `1 a=2 3`
 /// }
 /// ```
 pub fn args_iter(entries: &[KdlEntry]) -> ArgsIter<'_>
@@ -74,7 +74,7 @@ fn next_argument<'a>(entries: &mut slice::Iter<'a, KdlEntry>) -> Option<&'a KdlV
     None
 }
 
-/// The entries of a node, in order.
+/// An iterator over the entries of a node, in order.
 #[derive(Debug, Drop)]
 pub struct EntryIter<'a>(slice::Iter<'a, KdlEntry>);
 
@@ -101,7 +101,7 @@ impl<'a> Iterator for EntryIter<'a> {
         self.0.next()
     }
 
-    /// How many entries are left.
+    /// The exact number of entries that are left.
     fn size_hint(&self) -> (usize, Option<usize>)
         ensures lower { IsWithinCount result.0 (at_most (length self.now)) }
         ensures upper { IfSome result.1 (UpTo (at_most (length self.now))) }
@@ -112,7 +112,7 @@ impl<'a> Iterator for EntryIter<'a> {
     }
 }
 
-/// The entries of a node, in order, each to be changed in place.
+/// A mutable iterator over the entries of a node, in order.
 #[derive(Debug, Drop)]
 pub struct EntryIterMut<'a>(slice::IterMut<'a, KdlEntry>);
 
@@ -127,7 +127,7 @@ impl<'a> Iterator for EntryIterMut<'a> {
         self.0.next()
     }
 
-    /// How many entries are left.
+    /// The exact number of entries that are left.
     fn size_hint(&self) -> (usize, Option<usize>)
         ensures lower { IsWithinCount result.0 (at_most (length (entries_left self.now))) }
         ensures upper { IfSome result.1 (UpTo (at_most (length (entries_left self.now)))) }
@@ -139,7 +139,7 @@ impl<'a> Iterator for EntryIterMut<'a> {
     }
 }
 
-/// The values of a node's arguments, in order.
+/// An iterator over the values of a node's arguments, in order.
 #[derive(Drop)]
 pub struct ArgsIter<'a> {
     entries: slice::Iter<'a, KdlEntry>,
@@ -167,7 +167,7 @@ impl<'a> Iterator for ArgsIter<'a> {
         next_argument(&mut self.entries)
     }
 
-    /// At most as many as entries are left.
+    /// From 0 up to the number of entries that are left.
     fn size_hint(&self) -> (usize, Option<usize>)
         ensures lower { IsWithinCount result.0 (at_most (length self.now)) }
         ensures upper { IfSome result.1 (UpTo (at_most (length self.now))) }

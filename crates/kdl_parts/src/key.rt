@@ -12,15 +12,15 @@ use std::alloc::{AllocError, Global};
 /// What an entry of a node is looked up by: the name of a property, or the place of an argument.
 #[derive(Clone, PartialEq, Eq, Debug, Drop)]
 pub enum NodeKey {
-    /// The name of a property. Its value counts, not its spelling.
+    /// The name of a property. Names are compared by their values, not by their spellings.
     Key(KdlIdentifier),
-    /// The place of an argument, from 0, counted over the arguments alone.
+    /// The place of an argument among the arguments, counted from 0.
     Index(usize),
 }
 
 impl NodeKey {
-    /// The key of the properties whose name is a copy of the text. Fails where memory runs out; an empty text takes
-    /// none.
+    /// Creates the key of the properties of that name, with a copy of the text. Returns an error if an allocation
+    /// fails; an empty text needs none.
     ///
     /// ```
     /// let key = NodeKey::from_text(alloc, "two words")?; // finds `"two words"=1` and `#"two words"#=1`
@@ -34,7 +34,7 @@ impl NodeKey {
     }
 }
 
-/// The key of the properties of that name. It takes no memory.
+/// Creates the key of the properties of that name, without allocating.
 ///
 /// ```
 /// let key = NodeKey::from(String::from_str(alloc, "port")?); // the last property of that name
@@ -48,10 +48,10 @@ impl From<String> for NodeKey {
     }
 }
 
-/// The key of the argument at that place, from 0, among the arguments.
+/// Creates the key of the argument at that place among the arguments, counted from 0.
 ///
 /// ```
-/// let key = NodeKey::from(1); // of the entries `1 a=2 3` the argument 3: properties are not counted
+/// let key = NodeKey::from(1); // the argument 3 of the entries `1 a=2 3`: properties are not counted
 /// ```
 impl From<usize> for NodeKey {
     ghost from_gives = { λ n k. sought k ≡ argument n };

@@ -1,4 +1,4 @@
-//! What nodes and documents are made of but for themselves: the texts around them, and the lists of their entries.
+//! The parts of nodes and documents: the texts around them, and the lists of their entries.
 #![tactic(auto)]
 
 pub mod edit;

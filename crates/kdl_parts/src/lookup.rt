@@ -14,11 +14,11 @@ use crate::places::{last_property, nth_argument, place};
 use kdl_entry::{KdlEntry, KdlIdentifier, KdlValue};
 use std::alloc::AllocError;
 
-/// The entry that the key finds: the last property whose name has the key's value, or the argument at the key's place
-/// among the arguments.
+/// Returns the entry that the key finds: the last property whose name has the key's value, or the argument at the key's
+/// place among the arguments.
 ///
 /// ```
-/// let found = entry(&entries, NodeKey::from(1)); // of `1 a=2 3` the argument 3
+/// let found = entry(&entries, NodeKey::from(1)); // the argument 3 of `1 a=2 3`
 /// ```
 pub fn entry(entries: &[KdlEntry], key: NodeKey) -> Option<&KdlEntry>
     ensures { option_map (λ e. e.now) result ≡ found key entries.now }
@@ -31,10 +31,10 @@ pub fn entry(entries: &[KdlEntry], key: NodeKey) -> Option<&KdlEntry>
     }
 }
 
-/// The value of the entry that the key finds.
+/// Returns the value of the entry that the key finds.
 ///
 /// ```
-/// let found = value(&entries, NodeKey::from_text(alloc, "a")?); // of `1 a=2 a=3` the value 3
+/// let found = value(&entries, NodeKey::from_text(alloc, "a")?); // the value 3 of `1 a=2 a=3`
 /// ```
 pub fn value(entries: &[KdlEntry], key: NodeKey) -> Option<&KdlValue>
     ensures { option_map (λ v. value_tree v.now) result ≡ value_of (found key entries.now) }
@@ -45,11 +45,11 @@ pub fn value(entries: &[KdlEntry], key: NodeKey) -> Option<&KdlValue>
     }
 }
 
-/// The entry that the key finds, to be changed in place. All else stays as it is.
+/// Returns a mutable reference to the entry that the key finds. All else is unchanged.
 ///
 /// ```
 /// if let Some(found) = entry_mut(&mut entries, NodeKey::from(0)) {
-///     *found = KdlEntry::new(KdlValue::from(9)); // of `1 a=2` are left `9 a=2`
+///     *found = KdlEntry::new(KdlValue::from(9)); // `1 a=2` becomes `9 a=2`
 /// }
 /// ```
 pub fn entry_mut(entries: &mut Vec<KdlEntry>, key: NodeKey) -> Option<&mut KdlEntry>
@@ -65,7 +65,7 @@ pub fn entry_mut(entries: &mut Vec<KdlEntry>, key: NodeKey) -> Option<&mut KdlEn
     }
 }
 
-/// The value of the entry that the key finds, to be changed in place. All else stays as it is.
+/// Returns a mutable reference to the value of the entry that the key finds. All else is unchanged.
 ///
 /// ```
 /// if let Some(found) = value_mut(&mut entries, NodeKey::from(0)) {
@@ -85,11 +85,11 @@ pub fn value_mut(entries: &mut Vec<KdlEntry>, key: NodeKey) -> Option<&mut KdlVa
     }
 }
 
-/// The value of the entry at that place, to be changed in place. All else stays as it is.
+/// Returns a mutable reference to the value of the entry at that place. All else is unchanged.
 ///
 /// ```
 /// if entries.len() > 1 {
-///     *value_at_mut(&mut entries, 1) = KdlValue::from(9); // the place counts all entries, and has to be there
+///     *value_at_mut(&mut entries, 1) = KdlValue::from(9); // the place counts all entries, and has to exist
 /// }
 /// ```
 pub fn value_at_mut(entries: &mut Vec<KdlEntry>, at: usize) -> &mut KdlValue
@@ -101,11 +101,11 @@ pub fn value_at_mut(entries: &mut Vec<KdlEntry>, at: usize) -> &mut KdlValue
     entries[at].value_mut()
 }
 
-/// The value of the argument at that place among the arguments, from 0. It has to be there.
+/// Returns the value of the argument at that place among the arguments, counted from 0. It has to exist.
 ///
 /// ```
 /// if nth_argument(&entries, 1).is_some() {
-///     let second = argument(&entries, 1); // of `1 a=2 3` the value 3
+///     let second = argument(&entries, 1); // the value 3 of `1 a=2 3`
 /// }
 /// ```
 pub fn argument(entries: &[KdlEntry], n: usize) -> &KdlValue
@@ -118,11 +118,11 @@ pub fn argument(entries: &[KdlEntry], n: usize) -> &KdlValue
     }
 }
 
-/// The value of the last property of that name. It has to be there.
+/// Returns the value of the last property of that name. It has to exist.
 ///
 /// ```
 /// if has_property(&entries, "a") {
-///     let last = property(&entries, "a"); // of `1 a=2 a=3` the value 3
+///     let last = property(&entries, "a"); // the value 3 of `1 a=2 a=3`
 /// }
 /// ```
 pub fn property<'a>(entries: &'a [KdlEntry], name: &str) -> &'a KdlValue
@@ -135,10 +135,10 @@ pub fn property<'a>(entries: &'a [KdlEntry], name: &str) -> &'a KdlValue
     }
 }
 
-/// Whether there is a property of that name. The name's value counts, not its spelling.
+/// Returns whether there is a property of that name. Names are compared by their values, not by their spellings.
 ///
 /// ```
-/// let both = (has_property(&entries, "a"), has_property(&entries, "b")); // of `a=1 b` true and false
+/// let both = (has_property(&entries, "a"), has_property(&entries, "b")); // true and false for `a=1 b`
 /// ```
 pub fn has_property(entries: &[KdlEntry], name: &str) -> bool
     ensures { result ≡ is_some (last_place (has_name name.now) entries.now) }
@@ -146,11 +146,12 @@ pub fn has_property(entries: &[KdlEntry], name: &str) -> bool
     last_property(entries, name).is_some()
 }
 
-/// The place of the last property of that name, after a null one was pushed where there was none. Fails where memory for
-/// it runs out: then the entries are as they were. What is there is found without memory.
+/// Returns the place of the last property of that name. If there is none, first appends one with the value null. If an
+/// allocation for it fails, returns an error and leaves the entries unchanged. An existing property is found without
+/// allocating.
 ///
 /// ```
-/// let at = property_or_null(&mut entries, "b")?; // of `1 a=2` the place 2, where `b=#null` is pushed
+/// let at = property_or_null(&mut entries, "b")?; // the place 2 in `1 a=2`, where `b=#null` is pushed
 /// ```
 pub fn property_or_null(entries: &mut Vec<KdlEntry>, name: &str) -> Result<usize, AllocError>
     ensures found { IfOk result (λ i. HasProperty (last_place (has_name name.now) entries.old.items)
@@ -170,11 +171,11 @@ pub fn property_or_null(entries: &mut Vec<KdlEntry>, name: &str) -> Result<usize
     Ok(at)
 }
 
-/// The value that `argument` gives, to be changed in place. All else stays as it is.
+/// Returns a mutable reference to the value that `argument` returns. All else is unchanged.
 ///
 /// ```
 /// if nth_argument(&entries, 1).is_some() {
-///     *argument_mut(&mut entries, 1) = KdlValue::from(9); // of `1 a=2 3` the last value is 9 now
+///     *argument_mut(&mut entries, 1) = KdlValue::from(9); // the last value of `1 a=2 3` is 9 now
 /// }
 /// ```
 pub fn argument_mut(entries: &mut Vec<KdlEntry>, n: usize) -> &mut KdlValue

@@ -1,4 +1,4 @@
-//! Where the entries are that a key names.
+//! The places of the entries that a key names.
 
 ghost use Rattle.kdl_parts.specs.EntryLists.{has_name, is_argument, last_place, nth_place, place_of, removed_place};
 ghost use Rattle.std.specs.Prelude.{◌≡◌, ◌<◌, IfSome, length, position};
@@ -16,7 +16,7 @@ fn is_property(entry: &KdlEntry, name: &str) -> bool
     }
 }
 
-/// Whether the entry is an argument.
+/// Returns whether the entry is an argument.
 ///
 /// ```
 /// let unnamed = is_unnamed(&KdlEntry::parse(alloc, "a")?); // true: a string without `=` is an argument
@@ -41,7 +41,7 @@ pub(crate) fn last_property(entries: &[KdlEntry], name: &str) -> Option<usize>
     found
 }
 
-/// The place of the argument that is at `n` among the arguments, from 0.
+/// The place of the argument that is at `n` among the arguments, counted from 0.
 pub(crate) fn nth_argument(entries: &[KdlEntry], n: usize) -> Option<usize>
     ensures place { result ≡ nth_place is_argument entries.now n }
     ensures bound { IfSome result (λ i. i < length entries.now) }
@@ -77,7 +77,7 @@ pub(crate) fn place(entries: &[KdlEntry], key: &NodeKey) -> Option<usize>
     }
 }
 
-/// The place of the entry that a removal takes out: the first property of that name, or that argument.
+/// The place of the entry that a removal removes: the first property of that name, or that argument.
 pub(crate) fn place_to_remove(entries: &[KdlEntry], key: &NodeKey) -> Option<usize>
     ensures place { result ≡ removed_place key.now entries.now }
     ensures bound { IfSome result (λ i. i < length entries.now) }

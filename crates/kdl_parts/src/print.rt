@@ -55,7 +55,7 @@ pub fn write_head<W: fmt::Write>(
 /// Writes the entries of a node.
 ///
 /// ```
-/// write_pieces(&entries, f)?; // of `1 a=2`, both without a format, writes " 1 a=2"
+/// write_pieces(&entries, f)?; // for `1 a=2`, both without a format, writes " 1 a=2"
 /// ```
 #[tactic(auto, using(crate::proofs::Utf8Parts::writes, crate::proofs::PrintedEntries::pieces_written))]
 pub fn write_pieces<W: fmt::Write>(entries: &[KdlEntry], f: &mut fmt::Formatter<W>) -> fmt::Result
@@ -67,7 +67,7 @@ pub fn write_pieces<W: fmt::Write>(entries: &[KdlEntry], f: &mut fmt::Formatter<
     Ok(())
 }
 
-/// Writes an entry of a node: one without a format comes after one space.
+/// Writes an entry of a node. An entry without a format follows one space.
 #[tactic(auto, using(crate::proofs::Utf8Parts::writes))]
 fn write_piece<W: fmt::Write>(entry: &KdlEntry, f: &mut fmt::Formatter<W>) -> fmt::Result
     ensures { Prints W.write_str_gives f.old result (print_piece (entry_tree entry.now)) f.new }
@@ -174,7 +174,7 @@ pub fn write_trailing<W: fmt::Write>(
 /// Writes the `{` of a child block, and the newline after it.
 ///
 /// ```
-/// write_after_brace(&None, f)?; // writes `{` and a newline; with a format `{` alone
+/// write_after_brace(&None, f)?; // writes `{` and a newline; with a format only `{`
 /// ```
 #[tactic(auto, using(crate::proofs::Utf8Parts::writes))]
 pub fn write_after_brace<W: fmt::Write>(
@@ -193,7 +193,7 @@ pub fn write_after_brace<W: fmt::Write>(
 /// Writes the `}` of a child block, and the indentation before it.
 ///
 /// ```
-/// write_before_brace(&None, 1, f)?; // writes four spaces and `}`; with a format `}` alone
+/// write_before_brace(&None, 1, f)?; // writes four spaces and `}`; with a format only `}`
 /// ```
 #[tactic(auto, using(crate::proofs::Utf8Parts::writes))]
 pub fn write_before_brace<W: fmt::Write>(

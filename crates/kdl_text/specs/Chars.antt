@@ -48,7 +48,7 @@ is_identifier_char c = not (((is_space c || is_newline_char c) || is_banned c) |
 unfoldable pub is_raw : ℕ → Bool
 is_raw c = not (is_newline_char c || is_banned c)
 
--- a character of a raw string's lines that is no quote
+-- a character of a raw string's lines that is not a quote
 unfoldable pub is_unquoted : ℕ → Bool
 is_unquoted c = not ((c == 34 || is_newline_char c) || is_banned c)
 
@@ -94,7 +94,7 @@ abbrev pub starts : (ℕ → Bool) → Text → Bool
 starts p [] = false
 starts p (c ∷ s) = p c
 
--- one of the eight newlines: CR LF is one, and CR alone is one where no LF follows
+-- one of the eight newlines: CR LF is one, and CR is one if no LF follows
 pub data Newline : Text → Text → Type 0 where
   crlf : {r : Text} → Newline (13 ∷ 10 ∷ r) r
   one : {c : ℕ} {r : Text} → is_newline_char c ≡ true → ((c == 13) && begins 10 r) ≡ false → Newline (c ∷ r) r

@@ -1,11 +1,11 @@
--- Dedent (KDL 2.0.0, Multi-line Strings): the value of lines, the last of which is spaces alone.
+-- Dedent (KDL 2.0.0, Multi-line Strings): the value of lines, the last of which is only spaces.
 use Rattle.std.specs.Prelude.{◌≡◌, Bool, true, false, List, [], ◌∷◌, ◌++◌}
 use Rattle.std.specs.List.{list_all}
 use Rattle.kdl_text.specs.Chars.{Text, is_space}
 use Rattle.kdl_text.specs.declared.strings.dedent.LineUnit.{LineUnit}
 use Rattle.kdl_text.specs.declared.strings.dedent.LineUnit.TheVariants.{Literal, Escape, LineEnd}
 
--- a literal space; an escape is none, whichever character it means
+-- a literal space; an escape is not one, whichever character it denotes
 abbrev pub is_space_unit : LineUnit → Bool
 is_space_unit (Literal c) = is_space c
 is_space_unit (Escape c) = false
@@ -17,7 +17,7 @@ is_line_end (Literal c) = false
 is_line_end (Escape c) = false
 is_line_end LineEnd = true
 
--- literal spaces alone
+-- only literal spaces
 abbrev pub is_blank_line : List LineUnit → Bool
 is_blank_line line = list_all is_space_unit line
 
@@ -74,7 +74,7 @@ pub record Dedents (us : List LineUnit) (v : Text) : Type 0 where
   pub values : LineValues prefix lines each
   pub value : v ≡ joined each
 
--- the value of lines under a prefix that is given
+-- the value of lines under a given prefix
 pub record Lines (prefix us : List LineUnit) (v : Text) : Type 0 where
   pub each : List Text
   pub values : LineValues prefix (lines_of us) each

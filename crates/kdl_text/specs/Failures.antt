@@ -14,7 +14,7 @@ IsSyntax (Ok x) = ⊥
 IsSyntax (Err (Syntax e)) = Unit {0}
 IsSyntax (Err Memory) = ⊥
 
--- a diagnostic of this text, whose span lies in it on character boundaries
+-- a diagnostic of this text, whose span is in it, on character boundaries
 pub record IsToldOf (text : List ℕ) (d : KdlDiagnostic) : Type 0 where
   pub input : rc_str_bytes d.input ≡ text
   pub span : InText (chars text) d.span
@@ -25,12 +25,12 @@ pub record Tells (text : List ℕ) (e : KdlError) : Type 0 where
   pub some : 0 < length e.diagnostics.items
   pub each : All (IsToldOf text) e.diagnostics.items
 
--- a refusal is of the text
+-- a syntax error is an error of this text
 abbrev pub TellsOf : List ℕ → ParseFailure → Type 0
 TellsOf text (Syntax e) = Tells text e
 TellsOf text Memory = Unit {0}
 
--- where the text was refused, the error is of it
+-- if the text was refused, the error is an error of it
 abbrev pub TellsOnSyntax : {A : Type 0} → List ℕ → Result A ParseFailure → Type 0
 TellsOnSyntax text (Ok x) = Unit {0}
 TellsOnSyntax text (Err e) = TellsOf text e

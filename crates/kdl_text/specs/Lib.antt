@@ -2,7 +2,7 @@
 pub mod Bare
 -- Texts and classes of characters (KDL 2.0.0: Unicode scalar values, spaces, newlines, disallowed code points).
 pub mod Chars
--- Dedent (KDL 2.0.0, Multi-line Strings): the value of lines, the last of which is spaces alone.
+-- Dedent (KDL 2.0.0, Multi-line Strings): the value of lines, the last of which is only spaces.
 pub mod Dedent
 -- The error of a refused text.
 pub mod Failures
@@ -18,5 +18,5 @@ pub mod Spans
 pub mod Strings
 -- Comments, spaces, esclines, slashdashes, and what may follow a value (KDL 2.0.0).
 pub mod Trivia
--- What only proofs and contracts inside the crates need.
+-- Definitions that only proofs and contracts inside the crates use.
 pub mod Internal

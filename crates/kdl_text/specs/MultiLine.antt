@@ -7,7 +7,7 @@ use Rattle.kdl_text.specs.Dedent.{Dedents}
 use Rattle.kdl_text.specs.declared.strings.dedent.LineUnit.{LineUnit}
 use Rattle.kdl_text.specs.declared.strings.dedent.LineUnit.TheVariants.{Literal, Escape, LineEnd}
 
--- a unit in a line, from which space escapes are taken out
+-- a unit in a line, without whitespace escapes
 abbrev pub kept : StringUnit → List LineUnit
 kept (literal c) = Literal c ∷ []
 kept (escape c) = Escape c ∷ []
@@ -32,7 +32,7 @@ pub data MultiLineBody : Text → Text → Text → Type 0 where
 pub data MultiLineString : Text → Text → Text → Type 0 where
   multi_line : {t r v : Text} → MultiLineBody t r v → MultiLineString (34 ∷ 34 ∷ 34 ∷ t) r v
 
--- a string of one line, which three quotes do not begin, or one of many
+-- a single-line string, which three quotes do not begin, or a multi-line string
 pub data IsQuoted : Text → Text → Text → Type 0 where
   on_one_line : {t r v : Text} → begins_with (34 ∷ 34 ∷ 34 ∷ []) t ≡ false → QuotedString t r v → IsQuoted t r v
   on_many_lines : {t r v : Text} → MultiLineString t r v → IsQuoted t r v

@@ -39,7 +39,7 @@ pub data BasePrefix : Text → Text → ℕ → Type 0 where
   ten : {t : Text} → base_prefix t ≡ None → BasePrefix t t 10
   other : {c d radix : ℕ} {r : Text} → base_prefix (c ∷ d ∷ r) ≡ Some radix → BasePrefix (c ∷ d ∷ r) r radix
 
--- digits and `_`, as many as are here; w is the digits alone
+-- digits and `_`, as many as are here; w is only the digits
 pub data Digits (radix : ℕ) : Text → Text → Text → Type 0 where
   stop : {r : Text} → starts (is_part radix) r ≡ false → Digits radix r r []
   digit : {c : ℕ} {s r w : Text} → is_digit_of radix c ≡ true → Digits radix s r w → Digits radix (c ∷ s) r (c ∷ w)
@@ -53,7 +53,7 @@ pub data Integer (radix : ℕ) : Text → Text → Text → Type 0 where
 abbrev pub signed : Bool → ℕ → ℤ
 signed negative n = if negative then neg_ℤ (pos n) else pos n
 
--- that is a number of 128 bits with a sign
+-- it is a signed number of 128 bits
 abbrev pub fits : Bool → ℕ → Bool
 fits negative n = if negative then nat_le n (2 ^ 127) else nat_lt n (2 ^ 127)
 
@@ -71,12 +71,12 @@ pub data Fraction : Text → Text → Bool → Type 0 where
 abbrev pub is_exponent_letter : ℕ → Bool
 is_exponent_letter c = c == 101 || c == 69
 
--- `e` or `E`, a sign and an integer, or nothing of these
+-- `e` or `E`, a sign and an integer, or none of these
 pub data Exponent : Text → Text → Bool → Type 0 where
   none : {t : Text} → starts is_exponent_letter t ≡ false → Exponent t t false
   exponent : {c : ℕ} {s t r w : Text} {negative : Bool} → is_exponent_letter c ≡ true → Sign s t negative → Integer 10 t r w → Exponent (c ∷ s) r true
 
--- what makes a decimal of an integer: a fraction or an exponent or both, and no identifier character after them
+-- what turns an integer into a decimal: a fraction or an exponent or both, and no identifier character after them
 pub data DecimalPart : Text → Text → Type 0 where
   part : {t s r : Text} {point power : Bool} → Fraction t s point → Exponent s r power → (point || power) ≡ true → starts is_identifier_char r ≡ false → DecimalPart t r
 
@@ -84,7 +84,7 @@ pub data DecimalPart : Text → Text → Type 0 where
 abbrev pub plain : Text → Text
 plain p = filter (λ c. not (c == 95)) p
 
--- a sign, an integer and the part that makes a decimal of it; w is the whole piece without `_`
+-- a sign, an integer and the part that turns it into a decimal; w is the whole piece without `_`
 pub data Decimal : Text → Text → Text → Type 0 where
   decimal : {t s u r v w : Text} {negative : Bool} (p : Text) → Sign t s negative → Integer 10 s u v → DecimalPart u r → t ≡ p ++ r → w ≡ plain p → Decimal t r w
 
@@ -111,7 +111,7 @@ keyword_text NotANumber = codes "#nan"
 pub data IsKeyword : Text → Text → Keyword → Type 0 where
   keyword : {t r : Text} {k : Keyword} → t ≡ keyword_text k ++ r → starts is_identifier_char r ≡ false → IsKeyword t r k
 
--- the keyword of a number that no digits write
+-- a keyword that is a number
 abbrev pub FloatKeyword : Text → Type 0
 FloatKeyword s = (s ≡ codes "#inf") ⊎ (s ≡ codes "#-inf") ⊎ (s ≡ codes "#nan")
 

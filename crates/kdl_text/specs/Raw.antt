@@ -6,7 +6,7 @@ use Rattle.kdl_text.specs.Dedent.{Dedents}
 use Rattle.kdl_text.specs.declared.strings.dedent.LineUnit.{LineUnit}
 use Rattle.kdl_text.specs.declared.strings.dedent.LineUnit.TheVariants.{Literal, LineEnd}
 
--- the closing of a raw string: so many quotes, and so many number signs
+-- the closing of a raw string: a number of quotes, and then a number of number signs
 abbrev pub closing : ℕ → ℕ → Text
 closing quotes signs = times quotes 34 ++ times signs 35
 
@@ -44,7 +44,7 @@ pub record RawString (t r v : Text) : Type 0 where
   pub content : RawContent (closing 1 signs) body r (literals v)
   pub single : is_single v ≡ true
 
--- a newline, and lines up to three quotes and so many number signs
+-- a newline, and lines up to three quotes and `signs` number signs
 pub data MultiLineRawBody (signs : ℕ) : Text → Text → Text → Type 0 where
   lines : {t m r v : Text} {us : List LineUnit} → Newline t m → RawContent (closing 3 signs) m r us → Dedents us v → MultiLineRawBody signs t r v
 

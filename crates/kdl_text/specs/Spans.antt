@@ -9,7 +9,7 @@ abbrev pub bytes : Text → ℕ
 bytes [] = 0
 bytes (c ∷ s) = len_utf8 c + bytes s
 
--- a count raised by so many steps, up to the greatest number of 64 bits
+-- a count raised by a number of steps, up to the greatest number of 64 bits
 abbrev pub raise : ℕ → ℕ → ℕ
 raise count by = min (count + by) (2 ^ 64 - 1)
 

@@ -35,7 +35,7 @@ is_escaped_space c = is_space c || is_newline_char c
 abbrev pub is_hex : ℕ → Bool
 is_hex c = is_digit c 16
 
--- the character that a letter after a backslash means: `\ " b f n r t s`
+-- the character that a letter after a backslash denotes: `\ " b f n r t s`
 abbrev pub letter_escape : ℕ → Option ℕ
 letter_escape e =
     if e == 92 || e == 34 then Some e

@@ -12,7 +12,7 @@ pub data Parts : Text → Text → Type 0 where
 pub data BlockComment : Text → Text → Type 0 where
   block : {s r : Text} → Parts s r → BlockComment (47 ∷ 42 ∷ s) r
 
--- characters that are no newlines, then a newline or the end of the text
+-- characters that are not part of a newline, then a newline or the end of the text
 pub data Line : Text → Text → Type 0 where
   ends : Line [] []
   newline : {s r : Text} → Newline s r → Line s r
@@ -27,7 +27,7 @@ pub data Ws : Text → Text → Type 0 where
   space : {s r : Text} → Space s r → Ws s r
   comment : {s r : Text} → BlockComment s r → Ws s r
 
--- what ends an escline: a line comment, a newline, or nothing where the text ends
+-- what ends an escline: a line comment, a newline, or nothing if the text ends
 pub data EscEnd : Text → Text → Type 0 where
   comment : {s r : Text} → LineComment s r → EscEnd s r
   newline : {s r : Text} → Newline s r → EscEnd s r
@@ -76,5 +76,5 @@ pub data ValueEnd (wide : Bool) : Text → Type 0 where
   line_comment : {s : Text} → ValueEnd wide (47 ∷ 47 ∷ s)
   -- `/*`, whether the comment is closed or not
   block_comment : {s : Text} → ValueEnd wide (47 ∷ 42 ∷ s)
-  -- `/-`, where `wide` holds
+  -- `/-`, if `wide` holds
   slashdash : {s : Text} → wide ≡ true → ValueEnd wide (47 ∷ 45 ∷ s)

@@ -10,7 +10,7 @@ ghost use Rattle.std.specs.Str.{chars, IsUtf8};
 
 use crate::tables::{inside_len, is_inside};
 
-/// Whether the character is one of the 18 spaces (KDL 2.0.0, Whitespace).
+/// Returns whether the character is one of the 18 spaces (KDL 2.0.0, Whitespace).
 #[inline]
 #[tactic(auto, unfolding(crate::specs::Chars::is_space))]
 pub fn is_space(c: char) -> bool
@@ -25,7 +25,7 @@ pub fn is_space(c: char) -> bool
     )
 }
 
-/// Whether the character is part of a newline (KDL 2.0.0, Newline).
+/// Returns whether the character is part of a newline (KDL 2.0.0, Newline).
 #[inline]
 #[tactic(auto, unfolding(crate::specs::Chars::is_newline_char))]
 pub fn is_newline_char(c: char) -> bool
@@ -34,8 +34,8 @@ pub fn is_newline_char(c: char) -> bool
     matches!(c, '\n'..='\r' | '\u{85}' | '\u{2028}' | '\u{2029}')
 }
 
-/// Whether KDL 2.0.0 bans the character from documents (Disallowed Literal Code Points). Here a
-/// comment may hold it.
+/// Returns whether KDL 2.0.0 bans the character from documents (Disallowed Literal Code Points). In
+/// this grammar a comment may contain it.
 #[inline]
 #[tactic(auto, unfolding(crate::specs::Chars::is_banned))]
 pub fn is_banned(c: char) -> bool
@@ -44,7 +44,7 @@ pub fn is_banned(c: char) -> bool
     matches!(c, '\u{0}'..='\u{8}' | '\u{e}'..='\u{1f}' | '\u{7f}' | '\u{200e}'..='\u{200f}' | '\u{202a}'..='\u{202e}' | '\u{2066}'..='\u{2069}' | '\u{feff}')
 }
 
-/// Whether the character is one of `0` to `9`.
+/// Returns whether the character is one of `0` to `9`.
 #[inline]
 pub fn is_digit(c: char) -> bool
     ensures { result ≡ class.is_digit c }
@@ -52,7 +52,7 @@ pub fn is_digit(c: char) -> bool
     matches!(c, '0'..='9')
 }
 
-/// Whether the character is `+` or `-`.
+/// Returns whether the character is `+` or `-`.
 #[inline]
 pub fn is_sign(c: char) -> bool
     ensures { result ≡ class.is_sign c }
@@ -72,7 +72,7 @@ fn is_punctuation(c: char) -> bool
     )
 }
 
-/// Whether a bare string may contain the character (KDL 2.0.0, Identifier String).
+/// Returns whether a bare string may contain the character (KDL 2.0.0, Identifier String).
 #[inline]
 #[tactic(auto, unfolding(crate::specs::Chars::is_identifier_char))]
 pub fn is_identifier_char(c: char) -> bool
@@ -84,7 +84,7 @@ pub fn is_identifier_char(c: char) -> bool
     !(is_space(c) || is_newline_char(c) || is_banned(c) || is_punctuation(c))
 }
 
-/// Whether the character is a literal one in a quoted string (KDL 2.0.0, Quoted String).
+/// Returns whether the character represents itself in a quoted string (KDL 2.0.0, Quoted String).
 #[inline]
 #[tactic(auto, unfolding(crate::specs::Chars::is_literal))]
 pub fn is_literal(c: char) -> bool
@@ -96,7 +96,7 @@ pub fn is_literal(c: char) -> bool
     !(c == '\\' || c == '"' || is_newline_char(c) || is_banned(c))
 }
 
-/// Whether a line of a raw string may contain the character (KDL 2.0.0, Raw String).
+/// Returns whether a line of a raw string may contain the character (KDL 2.0.0, Raw String).
 #[inline]
 #[tactic(auto, unfolding(crate::specs::Chars::is_raw))]
 pub fn is_raw(c: char) -> bool
@@ -105,7 +105,7 @@ pub fn is_raw(c: char) -> bool
     !(is_newline_char(c) || is_banned(c))
 }
 
-/// Whether a line of a raw string may contain the character, and it is no quote.
+/// Whether a line of a raw string may contain the character, and it is not a quote.
 #[inline]
 #[tactic(auto, unfolding(crate::specs::Chars::is_unquoted))]
 fn is_unquoted(c: char) -> bool
@@ -114,7 +114,7 @@ fn is_unquoted(c: char) -> bool
     !(c == '"' || is_newline_char(c) || is_banned(c))
 }
 
-/// A class of characters of which a cursor reads a run by one call.
+/// A class of characters. A cursor reads a run of them by one call.
 #[derive(Clone, Copy)]
 pub enum Class {
     /// The 18 spaces.
@@ -123,19 +123,20 @@ pub enum Class {
     Identifier,
     /// The literal characters of a quoted string.
     Literal,
-    /// All but the characters of newlines.
+    /// All characters but those of newlines.
     Line,
-    /// All that a line of a raw string may contain, but quotes.
+    /// The characters that a line of a raw string may contain, except quotes.
     Unquoted,
     /// Number signs.
     NumberSign,
     /// Quotes.
     Quote,
-    /// All but `*` and `/`, at which block comments begin and end.
+    /// All characters but `*` and `/`, at which block comments begin and end.
     Comment,
 }
 
-/// The ASCII characters of each class: bit h of number l is that of the character 16 * h + l.
+/// The ASCII characters of each class: bit h of entry l tells whether it contains the character 16
+/// * h + l.
 static SPACES: [u8; 16] = [
     0x04, 0x00, 0x00, 0x00, 0x00, 0x00, 0x00, 0x00, 0x00, 0x01, 0x00, 0x00, 0x00, 0x00, 0x00, 0x00,
 ];
@@ -169,7 +170,7 @@ static COMMENTS: [u8; 16] = [
 ];
 
 impl Class {
-    /// The table of its ASCII characters.
+    /// The table of the class's ASCII characters.
     #[inline(always)]
     fn table(self) -> &'static [u8; 16]
         ensures { TableOf (in_class self) result.now }
@@ -186,7 +187,7 @@ impl Class {
         }
     }
 
-    /// Whether the character is one of the class beyond ASCII.
+    /// Whether the character is in the class and is not ASCII.
     #[inline]
     fn has_beyond(self, c: char) -> bool
         ensures { result ≡ (not (nat_lt c 128) && in_class self c) }
@@ -194,7 +195,7 @@ impl Class {
         !c.is_ascii() && self.has(c)
     }
 
-    /// Whether the character is of the class.
+    /// Whether the character is in the class.
     #[inline(never)]
     fn has(self, c: char) -> bool
         ensures { result ≡ in_class self c }
@@ -212,7 +213,8 @@ impl Class {
     }
 }
 
-/// The text after its longest run of ASCII characters of the class, and how many these are.
+/// Returns the text after its longest run of ASCII characters of the class, and the number of
+/// characters in the run.
 #[inline]
 #[tactic(auto, using(crate::proofs::Looking::ClassTables::ascii_boundary))]
 fn skip_ascii(text: &str, class: Class) -> (&str, u64)
@@ -246,7 +248,8 @@ pub(crate) fn first_char(text: &str) -> Option<char>
     text.chars().next()
 }
 
-/// The longest run of the class, continued where `skip_ascii` stopped after `read` characters.
+/// Continues the longest run of the class where `skip_ascii` stopped after `read` characters.
+/// Returns the text after the run, and the number of characters in it.
 #[inline(never)]
 #[tactic(auto, using(crate::proofs::Looking::Runs::run_begins, crate::proofs::Looking::Runs::run_turn, crate::proofs::Looking::Runs::run_stops, crate::proofs::Looking::Runs::run_ends, crate::proofs::Looking::Runs::run_counts))]
 fn skip_beyond<'a>(text: &str, behind: &'a str, read: u64, class: Class) -> (&'a str, u64)
@@ -267,7 +270,8 @@ fn skip_beyond<'a>(text: &str, behind: &'a str, read: u64, class: Class) -> (&'a
     (rest, count)
 }
 
-/// The text after the longest run of characters of the class, and how many these are.
+/// Returns the text after its longest run of characters of the class, and the number of characters
+/// in the run.
 #[inline]
 pub(crate) fn skip_class(text: &str, class: Class) -> (&str, u64)
     ensures { RunOf (in_class class) text.now result.0.now result.1 }

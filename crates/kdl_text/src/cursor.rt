@@ -1,9 +1,10 @@
-//! The cursor through which every reader looks at a text, and the pieces that it cuts out of it.
+//! The cursor through which every reader looks at a text, and the pieces that it cuts out of the
+//! text.
 //!
-//! A text is looked at by a `Cursor` alone, which counts each look and each byte of a slice. A
-//! slice is a `Piece`: it is copied, or compared as a whole. What is read again is a `Segment`: a
-//! cursor enters it and counts each look in it, or counts its bytes at once and returns its
-//! `Characters`.
+//! Readers look at a text only through a `Cursor`, which counts each look and each byte of a slice.
+//! A slice is a `Piece`, which can be copied, or compared as a whole. Text that is read again is a
+//! `Segment`: a cursor enters it and counts each look in it, or counts its bytes at once and
+//! returns its `Characters`.
 
 ghost use Rattle.kdl_text.specs.Chars as class;
 ghost use Rattle.kdl_text.specs.Chars.{Text};
@@ -19,7 +20,7 @@ use crate::span::SourceSpan;
 use std::alloc::{AllocError, Global};
 use std::marker::Model;
 
-/// A count of steps, which stays at the greatest `u64` once it is there.
+/// A count of steps, which saturates at `u64::MAX`.
 #[derive(Drop)]
 pub struct Steps {
     count: u64,
@@ -34,21 +35,21 @@ impl Model for Steps {
 }
 
 impl Steps {
-    /// A count of no steps.
+    /// Creates a count of 0 steps.
     pub fn new() -> Self
         ensures { result ≡ 0 }
     {
         Steps { count: 0 }
     }
 
-    /// The steps counted so far.
+    /// Returns the number of steps counted so far.
     pub fn count(&self) -> u64
         ensures { result ≡ self.now }
     {
         self.count
     }
 
-    /// Raises the count by so many steps, up to the greatest `u64`.
+    /// Adds steps to the count, which saturates at `u64::MAX`.
     #[inline]
     fn raise(&mut self, by: u64)
         ensures { self.new ≡ raise self.old by }
@@ -78,7 +79,7 @@ fn starts_with_two(text: &str, a: char, b: char) -> bool
     }
 }
 
-/// The text before its rest.
+/// The part of the text before its rest.
 #[inline]
 fn cut<'a>(text: &'a str, rest: &str) -> &'a str
     requires { (p : Text) × (chars text.now ≡ p ++ chars rest.now) }
@@ -100,7 +101,7 @@ fn same(a: &str, b: &str) -> bool
     same_bytes(a, b)
 }
 
-/// The bytes of the text.
+/// The number of bytes of the text.
 #[inline]
 #[tactic(auto, using(crate::proofs::Looking::Texts::chars_bytes))]
 fn byte_len(text: &str) -> usize
@@ -129,7 +130,7 @@ impl<'a> Model for Checkpoint<'a> {
 }
 
 impl<'a> Checkpoint<'a> {
-    /// Where the place is, in bytes from the start of the text.
+    /// Returns the byte offset of the place from the start of the text.
     #[inline]
     pub fn at(&self) -> usize
         ensures { result ≡ self.now.at }
@@ -137,7 +138,7 @@ impl<'a> Checkpoint<'a> {
         self.at
     }
 
-    /// The same place once more.
+    /// Returns a copy of the place.
     #[inline]
     pub fn copied(&self) -> Checkpoint<'a>
         ensures { result ≡ self.now }
@@ -148,7 +149,7 @@ impl<'a> Checkpoint<'a> {
         }
     }
 
-    /// The text from the place up to another one, for a cursor to enter. No step.
+    /// Returns the text from the place to another one, for a cursor to enter. Costs no step.
     #[inline]
     pub fn up_to(&self, end: &Checkpoint<'a>) -> Segment<'a>
         requires { Ahead self.now end.now }
@@ -159,7 +160,7 @@ impl<'a> Checkpoint<'a> {
         }
     }
 
-    /// The span of the character at the place, of length 0 at the end of the text.
+    /// Returns the span of the character at the place, of length 0 at the end of the text.
     pub fn char_span(&self) -> SourceSpan
         ensures offset { result.offset ≡ self.now.at }
         ensures len { result.len ≡ first_len self.now.rest }
@@ -174,7 +175,7 @@ impl<'a> Checkpoint<'a> {
         }
     }
 
-    /// The span between two places, in the text that begins here, in bytes.
+    /// Returns the span between two places, counted from this one.
     pub fn span_between(&self, from: &Checkpoint, to: &Checkpoint) -> SourceSpan
         ensures { result ≡ spans.span_between self.now.rest from.now.rest to.now.rest }
     {
@@ -185,8 +186,8 @@ impl<'a> Checkpoint<'a> {
     }
 }
 
-/// A segment of a text, which a cursor enters to read it again. It shows nothing of the text by
-/// itself.
+/// A segment of a text, which a cursor enters to read it again. The text can't be read through the
+/// segment itself.
 #[derive(Drop)]
 pub struct Segment<'a> {
     text: &'a str,
@@ -202,7 +203,7 @@ impl<'a> Model for Segment<'a> {
 }
 
 impl<'a> Segment<'a> {
-    /// The bytes of the segment. No step.
+    /// Returns the number of bytes of the segment. Costs no step.
     #[inline]
     pub fn byte_len(&self) -> usize
         ensures { result ≡ bytes self.now }
@@ -211,7 +212,7 @@ impl<'a> Segment<'a> {
     }
 }
 
-/// The characters of a segment, whose bytes were counted. Each is taken once.
+/// The characters of a segment, whose bytes were counted. Each character is read once.
 #[derive(Drop)]
 pub struct Characters<'a> {
     text: &'a str,
@@ -227,7 +228,7 @@ impl<'a> Model for Characters<'a> {
 }
 
 impl<'a> Characters<'a> {
-    /// The next character, if there is one.
+    /// Returns the next character, if there is one.
     #[inline]
     pub fn next(&mut self) -> Option<char>
         ensures { MatchOption result (self.old ≡ []) (λ c. self.old ≡ c ∷ self.new) }
@@ -241,7 +242,7 @@ impl<'a> Characters<'a> {
         }
     }
 
-    /// The bytes of the characters that are left.
+    /// Returns the number of bytes of the remaining characters.
     #[inline]
     pub fn byte_len(&self) -> usize
         ensures { result ≡ bytes self.now }
@@ -249,7 +250,7 @@ impl<'a> Characters<'a> {
         byte_len(self.text)
     }
 
-    /// The characters that are left, as a piece.
+    /// Returns the remaining characters, as a piece.
     #[inline]
     pub fn into_piece(self) -> Piece<'a>
         ensures { result ≡ self.entry }
@@ -258,7 +259,7 @@ impl<'a> Characters<'a> {
     }
 }
 
-/// A piece of a text, whose slice was counted. It is copied, or compared as a whole.
+/// A piece of a text, whose slice was counted. It can be copied, or compared as a whole.
 #[derive(Drop)]
 pub struct Piece<'a> {
     text: &'a str,
@@ -274,7 +275,7 @@ impl<'a> Model for Piece<'a> {
 }
 
 impl<'a> Piece<'a> {
-    /// A copy of the piece. An empty one takes no memory.
+    /// Returns a copy of the piece. An empty piece does not allocate.
     #[inline]
     pub fn to_string(&self, alloc: Global) -> Result<String, AllocError>
         ensures { IfOk result (λ s. chars (string_bytes s) ≡ self.now) }
@@ -282,7 +283,7 @@ impl<'a> Piece<'a> {
         String::from_str(alloc, self.text)
     }
 
-    /// Appends the piece to the text. An empty one takes no memory.
+    /// Appends the piece to the text. An empty piece does not allocate.
     #[inline]
     pub fn push_to(&self, out: &mut String) -> Result<(), AllocError>
         ensures { IfOk result (λ _. chars (string_bytes out.new)
@@ -291,7 +292,7 @@ impl<'a> Piece<'a> {
         out.push_str(self.text)
     }
 
-    /// Whether the piece is this text.
+    /// Returns whether the piece is this text.
     pub fn is(&self, text: &str) -> bool
         ensures { IsTrue result ↔ (self.now ≡ chars text.now) }
     {
@@ -299,7 +300,8 @@ impl<'a> Piece<'a> {
     }
 }
 
-/// A reader of a text, character by character. Each look and each byte of a slice is a step.
+/// A reader of a text, character by character. Each look costs a step, and each byte of a slice
+/// does.
 #[derive(Drop)]
 pub struct Cursor<'a> {
     rest: &'a str,
@@ -320,7 +322,7 @@ impl<'a> Model for Cursor<'a> {
 }
 
 impl<'a> Cursor<'a> {
-    /// A cursor at the start of the text, on the given count.
+    /// Creates a cursor at the start of the text, which adds to the given count.
     pub fn new(text: &'a str, steps: Steps) -> Self
         ensures { result ≡ record { rest = chars text.now; at = 0; steps = steps } }
     {
@@ -332,14 +334,14 @@ impl<'a> Cursor<'a> {
         }
     }
 
-    /// The count of steps, where the cursor is done.
+    /// Consumes the cursor and returns its count of steps.
     pub fn into_steps(self) -> Steps
         ensures { result ≡ self.entry.steps }
     {
         self.steps
     }
 
-    /// Where the cursor is, in bytes from the start of the text.
+    /// Returns the byte offset of the cursor from the start of the text.
     #[inline]
     pub fn at(&self) -> usize
         ensures { result ≡ self.now.at }
@@ -347,7 +349,7 @@ impl<'a> Cursor<'a> {
         self.at
     }
 
-    /// Counts a look at a token that was read here. A step.
+    /// Counts a look at a token that was read here. Costs a step.
     #[inline]
     pub fn count_look(&mut self)
         ensures { self.new ≡ looked self.old }
@@ -355,7 +357,7 @@ impl<'a> Cursor<'a> {
         self.steps.raise(1);
     }
 
-    /// Where the cursor is, to slice from there.
+    /// Returns the place of the cursor, to slice from later.
     #[inline]
     pub fn checkpoint(&self) -> Checkpoint<'a>
         ensures rest { result.rest ≡ self.now.rest }
@@ -367,7 +369,7 @@ impl<'a> Cursor<'a> {
         }
     }
 
-    /// Goes back or on to a place in the text. No step.
+    /// Moves the cursor back or forward to a place in the text. Costs no step.
     pub fn go_to(&mut self, place: &Checkpoint<'a>)
         ensures { self.new ≡ record {
           rest = place.now.rest;
@@ -379,8 +381,9 @@ impl<'a> Cursor<'a> {
         self.at = place.at;
     }
 
-    /// Goes to the start of a segment, at whose end the text ends for the cursor. Gives the place
-    /// where the cursor was, to which it goes back by `go_to`. No step.
+    /// Moves the cursor to the start of a segment; for the cursor the text then ends at the
+    /// segment's end. Returns the place where the cursor was, for `go_to` to go back there. Costs
+    /// no step.
     pub fn enter(&mut self, segment: &Segment<'a>) -> Checkpoint<'a>
         ensures inside { self.new ≡ record { rest = segment.now; at = 0; steps = self.old.steps } }
         ensures rest { result.rest ≡ self.old.rest }
@@ -393,7 +396,7 @@ impl<'a> Cursor<'a> {
         place
     }
 
-    /// The character here; none at the end of the text. A step.
+    /// Returns the character here, or `None` at the end of the text. Costs a step.
     #[inline]
     pub fn look(&mut self) -> Option<char>
         ensures result { result ≡ first self.old.rest }
@@ -404,7 +407,7 @@ impl<'a> Cursor<'a> {
         first_char(self.rest)
     }
 
-    /// The character after the one here, if there is one. A step.
+    /// Returns the character after the one here, if there is one. Costs a step.
     pub fn look_second(&mut self) -> Option<char>
         ensures result { result ≡ first (tail self.old.rest) }
         ensures moved { self.new ≡ looked self.old }
@@ -413,7 +416,7 @@ impl<'a> Cursor<'a> {
         second_char(self.rest)
     }
 
-    /// Goes past the character here, if there is one.
+    /// Advances past the character here, if there is one.
     #[inline]
     pub fn step(&mut self)
         ensures { self.new ≡ stepped self.old }
@@ -424,7 +427,8 @@ impl<'a> Cursor<'a> {
         }
     }
 
-    /// The character here, which the cursor goes past; none at the end of the text. A step.
+    /// Returns the character here and advances past it, or returns `None` at the end of the text.
+    /// Costs a step.
     #[inline]
     pub fn take(&mut self) -> Option<char>
         ensures took { Took result self.old self.new }
@@ -442,7 +446,7 @@ impl<'a> Cursor<'a> {
         }
     }
 
-    /// Goes past the character c, if it is here. A step.
+    /// Advances past the character c if it is here, and returns whether it is. Costs a step.
     #[inline]
     pub fn eat(&mut self, c: char) -> bool
         ensures { Ate c result self.old self.new }
@@ -454,7 +458,7 @@ impl<'a> Cursor<'a> {
         eats
     }
 
-    /// Whether the characters a and b are here. Two steps.
+    /// Returns whether the characters a and b are here. Costs two steps.
     #[inline]
     pub fn looks_two(&mut self, a: char, b: char) -> bool
         ensures result { result ≡ class.begins_two a b self.old.rest }
@@ -464,7 +468,8 @@ impl<'a> Cursor<'a> {
         starts_with_two(self.rest, a, b)
     }
 
-    /// Goes past the characters a and b, if they are here. Two steps.
+    /// Advances past the characters a and b if they are here, and returns whether they are. Costs
+    /// two steps.
     #[inline]
     pub fn eat_two(&mut self, a: char, b: char) -> bool
         ensures { AteTwo a b result self.old self.new }
@@ -477,8 +482,8 @@ impl<'a> Cursor<'a> {
         eats
     }
 
-    /// Goes past the longest run of characters of a class. A step for each, and one for the
-    /// character after them.
+    /// Advances past the longest run of characters of a class. Costs a step for each, and one for
+    /// the character after them.
     #[inline(always)]
     pub fn skip(&mut self, class: Class)
         ensures { Skips (in_class class) self.old self.new }
@@ -490,7 +495,7 @@ impl<'a> Cursor<'a> {
         self.steps.raise(1);
     }
 
-    /// The text from the checkpoint to here. A step for each of its bytes.
+    /// Returns the text from the checkpoint to here. Costs a step for each of its bytes.
     #[inline]
     pub fn slice(&mut self, from: &Checkpoint<'a>) -> Piece<'a>
         requires { Behind from.now self.old }
@@ -502,7 +507,7 @@ impl<'a> Cursor<'a> {
         Piece { text }
     }
 
-    /// The text from one checkpoint to a later one. A step for each of its bytes.
+    /// Returns the text from one checkpoint to a later one. Costs a step for each of its bytes.
     #[inline]
     pub fn slice_between(&mut self, from: &Checkpoint<'a>, to: &Checkpoint<'a>) -> Piece<'a>
         requires { Ahead from.now to.now }
@@ -514,7 +519,7 @@ impl<'a> Cursor<'a> {
         Piece { text }
     }
 
-    /// The characters of the segment. A step for each of its bytes.
+    /// Returns the characters of the segment. Costs a step for each of its bytes.
     #[inline]
     pub fn characters(&mut self, segment: &Segment<'a>) -> Characters<'a>
         ensures result { result ≡ segment.now }
@@ -525,7 +530,8 @@ impl<'a> Cursor<'a> {
     }
 }
 
-/// Goes past a newline, if one begins here (KDL 2.0.0, Newline): CR LF is one.
+/// Advances past a newline if one begins here, and returns whether it does (KDL 2.0.0, Newline). CR
+/// LF is one newline.
 pub fn newline(cursor: &mut Cursor) -> bool
     ensures reads { ReadsNewline result cursor.old cursor.new }
     ensures moves { Moves cursor.old cursor.new }

@@ -1,4 +1,4 @@
-//! The error of a text that is refused.
+//! The error of a refused text.
 
 ghost use Rattle.kdl_text.specs.declared.error.ParseFailure.TheVariants.{Memory};
 ghost use Rattle.std.specs.Prelude.{◌≡◌};
@@ -8,13 +8,13 @@ use std::alloc::{AllocError, AllocFailed};
 use std::rc::RcStr;
 use thiserror::Error;
 
-/// A text that KDL does not derive, with at least one diagnostic.
+/// A parse error: the text does not match the grammar. It has at least one diagnostic.
 #[derive(Clone, Debug, Drop, PartialEq, Eq, Error)]
 #[error("Failed to parse KDL document")]
 pub struct KdlError {
     /// The text that was read.
     pub input: RcStr,
-    /// The faults that were found, in the order of reading.
+    /// The faults that were found, in the order in which reading meets them.
     pub diagnostics: Vec<KdlDiagnostic>,
 }
 
@@ -24,13 +24,13 @@ pub struct KdlError {
 pub struct KdlDiagnostic {
     /// The text that was read.
     pub input: RcStr,
-    /// Where the fault is, in bytes, on character boundaries of the text.
+    /// The span of the fault, in bytes, on character boundaries of the text.
     pub span: SourceSpan,
-    /// What is wrong.
+    /// A message that says what is wrong.
     pub message: Option<String>,
-    /// A word for the place.
+    /// A label for the span.
     pub label: Option<String>,
-    /// What may help.
+    /// A hint that may help.
     pub help: Option<String>,
     pub severity: Severity,
 }
@@ -38,10 +38,10 @@ pub struct KdlDiagnostic {
 /// Why a text was not parsed.
 #[derive(Clone, Debug, Drop, PartialEq, Eq, Error)]
 pub enum ParseFailure {
-    /// KDL does not derive the text.
+    /// The text does not match the grammar.
     #[error(transparent)]
     Syntax(KdlError),
-    /// A request for memory was refused.
+    /// An allocation failed.
     #[error("out of memory")]
     Memory,
 }

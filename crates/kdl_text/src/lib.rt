@@ -1,4 +1,4 @@
-//! The text layer of KDL 2: characters, comments and spaces, strings, numbers, and the places of
+//! The text layer of KDL 2: characters, comments and spaces, strings, numbers, and the spans of
 //! faults.
 #![tactic(auto)]
 

@@ -30,7 +30,7 @@ pub enum Radix {
 }
 
 impl Radix {
-    /// The base as a number.
+    /// Returns the base as a number.
     #[inline]
     pub fn value(self) -> u32
         ensures is { result ≡ radix_of self }
@@ -46,7 +46,7 @@ impl Radix {
     }
 }
 
-/// The base that the letter after a `0` means.
+/// The base that the letter after a `0` denotes.
 fn base_of(c: char) -> Option<Radix>
     ensures { IsBase result (spec.base_of c) }
 {
@@ -61,27 +61,27 @@ fn base_of(c: char) -> Option<Radix>
 /// Why no number was read where one begins.
 #[derive(Clone, Copy)]
 pub enum NumberFault {
-    /// A character follows the digits of a whole number that can't follow them.
+    /// The digits of a whole number are followed by a character that can't follow them.
     Trailing(Radix),
-    /// A character follows the digits of a decimal that can't follow them.
+    /// The digits of a decimal are followed by a character that can't follow them.
     TrailingDecimal,
-    /// No digit of the base where the first has to be: after the prefix of the base, or after the
+    /// No digit of the base where the first is expected: after the prefix of the base, or after the
     /// sign.
     MissingDigits(Radix),
     /// No digit after the point.
     MissingFraction,
     /// No digit in the exponent.
     MissingExponent,
-    /// The whole number is none of `i128`.
+    /// The whole number does not fit in an `i128`.
     OutOfRange,
 }
 
-/// Why no number was made of a text.
+/// Why a text was not read as a number.
 #[derive(Clone, Copy)]
 pub enum NumberFailure {
     /// No number begins there.
     Fault(NumberFault),
-    /// A request for memory was refused.
+    /// An allocation failed.
     Memory,
 }
 
@@ -90,11 +90,11 @@ pub enum NumberFailure {
 pub enum Number {
     /// A whole number.
     Integer(i128),
-    /// A decimal, by its text without `_`.
+    /// A decimal, as its text without `_`.
     Decimal(String),
 }
 
-/// A word after `#` (KDL 2.0.0, Boolean, Null, Keyword Numbers).
+/// A keyword, written after `#` (KDL 2.0.0, Boolean, Null, Keyword Numbers).
 #[derive(Clone, Copy)]
 pub enum Keyword {
     /// `#true`
@@ -114,16 +114,16 @@ pub enum Keyword {
 /// A number without its sign, while its digits are read.
 #[derive(Clone, Copy)]
 enum Magnitude {
-    /// A number of 64 bits, which are enough for most, and fast.
+    /// A number of 64 bits, which is enough for most and fast.
     Small(u64),
     /// A number of 128 bits.
     Large(u128),
-    /// A number past 128 bits.
+    /// A number that needs more than 128 bits.
     Huge,
 }
 
 impl Magnitude {
-    /// The number with one digit more.
+    /// Returns the number with one more digit.
     #[inline]
     fn with_digit(self, radix: u32, digit: u32) -> Self
         requires low { 2 ≤ radix }
@@ -146,7 +146,7 @@ impl Magnitude {
         }
     }
 
-    /// The number with its sign, where it is one of `i128`.
+    /// Returns the number with its sign, if it fits in an `i128`.
     fn signed(self, minus: bool) -> Result<i128, NumberFault>
         ensures { (n : ℕ) → Counts self n
             → result ≡ (if spec.fits minus n then Ok (spec.signed minus n)
@@ -160,7 +160,7 @@ impl Magnitude {
     }
 }
 
-/// The number with its sign, where it is one of `i128`.
+/// Returns the number with its sign, if it fits in an `i128`.
 fn with_sign(minus: bool, n: u128) -> Option<i128>
     ensures { result ≡ (if spec.fits minus n then Some (spec.signed minus n) else None) }
 {
@@ -180,7 +180,7 @@ fn with_sign(minus: bool, n: u128) -> Option<i128>
     }
 }
 
-/// What the character counts, where it is a digit of the base.
+/// The value of the character, if it is a digit of the base.
 #[inline]
 #[tactic(auto, unfolding(crate::specs::Numbers::is_digit_of))]
 fn digit_of(c: char, radix: u32) -> Option<u32>
@@ -191,7 +191,7 @@ fn digit_of(c: char, radix: u32) -> Option<u32>
     c.to_digit(radix)
 }
 
-/// Goes past a sign, if one is here. Whether it is `-`.
+/// Advances past a sign if one is here. Returns whether it is `-`.
 #[inline]
 fn sign(cursor: &mut Cursor) -> bool
     ensures reads { Sign cursor.old.rest cursor.new.rest result }
@@ -225,7 +225,7 @@ fn base_here(cursor: &mut Cursor) -> Option<Radix>
     }
 }
 
-/// Goes past the prefix of a base, if one is here.
+/// Advances past the prefix of a base, if one is here.
 #[inline]
 fn eat_base_prefix(cursor: &mut Cursor) -> Radix
     ensures reads { BasePrefix cursor.old.rest cursor.new.rest (radix_of result) }
@@ -240,7 +240,8 @@ fn eat_base_prefix(cursor: &mut Cursor) -> Radix
     radix
 }
 
-/// Goes past the digits of the base and the `_` here. The number before them, with these digits.
+/// Advances past the digits of the base and the `_` here. Returns the number `before` with these
+/// digits appended.
 fn digits(cursor: &mut Cursor, radix: u32, before: Magnitude) -> Magnitude
     requires low { 2 ≤ radix }
     requires high { radix ≤ 16 }
@@ -264,7 +265,7 @@ fn digits(cursor: &mut Cursor, radix: u32, before: Magnitude) -> Magnitude
     }
 }
 
-/// Goes past an integer of the base, if one is here: a digit, then digits and `_`.
+/// Advances past an integer of the base, if one is here: a digit, then digits and `_`.
 #[inline]
 fn integer(cursor: &mut Cursor, radix: u32) -> Option<Magnitude>
     requires low { 2 ≤ radix }
@@ -295,7 +296,7 @@ fn is_end(cursor: &mut Cursor) -> bool
     }
 }
 
-/// Whether a number begins here: a digit, or a sign and a digit.
+/// Returns whether a number begins here: a digit, or a sign and a digit.
 pub fn begins_number(cursor: &mut Cursor) -> bool
     ensures result { result ≡ spec.begins_number cursor.old.rest }
     ensures stayed { (k : ℕ) × (k ≤ 2) × Stayed k cursor.old cursor.new }
@@ -310,7 +311,7 @@ pub fn begins_number(cursor: &mut Cursor) -> bool
     }
 }
 
-/// A number as far as its first integer.
+/// The front of a number, up to the end of its first integer.
 #[derive(Clone, Copy)]
 struct Front {
     minus: bool,
@@ -318,7 +319,7 @@ struct Front {
     magnitude: Magnitude,
 }
 
-/// Goes past the sign, the prefix of a base and the integer with which a number begins.
+/// Advances past the sign, the prefix of a base and the integer with which a number begins.
 fn read_front(cursor: &mut Cursor) -> Result<Front, NumberFault>
     ensures reads { ReadsFront result cursor.old.rest cursor.new.rest }
     ensures fault { IsFault result cursor.old.rest cursor.new.rest }
@@ -338,7 +339,7 @@ fn read_front(cursor: &mut Cursor) -> Result<Front, NumberFault>
     }
 }
 
-/// Goes past a point and an integer, if a point is here. Whether it is.
+/// Advances past a point and an integer, if a point is here. Returns whether it is.
 fn fraction(cursor: &mut Cursor) -> Result<bool, NumberFault>
     ensures reads { ReadsFraction result cursor.old.rest cursor.new.rest }
     ensures fault { IsPartFault result cursor.old.rest cursor.new.rest }
@@ -354,7 +355,7 @@ fn fraction(cursor: &mut Cursor) -> Result<bool, NumberFault>
     }
 }
 
-/// Goes past an exponent, if its letter is here. Whether it is.
+/// Advances past an exponent, if its letter is here. Returns whether it is.
 fn exponent(cursor: &mut Cursor) -> Result<bool, NumberFault>
     ensures reads { ReadsExponent result cursor.old.rest cursor.new.rest }
     ensures fault { IsPowerFault result cursor.old.rest cursor.new.rest }
@@ -371,7 +372,7 @@ fn exponent(cursor: &mut Cursor) -> Result<bool, NumberFault>
     }
 }
 
-/// Goes past `e` or `E`, if it is here.
+/// Advances past `e` or `E` if it is here, and returns whether it is.
 #[inline]
 fn eat_exponent_letter(cursor: &mut Cursor) -> bool
     ensures { AteExponentLetter result cursor.old cursor.new }
@@ -385,7 +386,7 @@ fn eat_exponent_letter(cursor: &mut Cursor) -> bool
     }
 }
 
-/// Goes past what makes a decimal of an integer: a fraction, an exponent, or both.
+/// Advances past what turns an integer into a decimal: a fraction, an exponent, or both.
 fn decimal_part(cursor: &mut Cursor) -> Result<(), NumberFault>
     ensures reads { ReadsPart result cursor.old.rest cursor.new.rest }
     ensures fault { IsPartFault result cursor.old.rest cursor.new.rest }
@@ -421,7 +422,7 @@ fn has_no_underscore(mut characters: Characters) -> bool
     true
 }
 
-/// Appends the characters, but no `_`.
+/// Appends the characters except each `_`.
 fn push_plain(out: &mut String, mut characters: Characters) -> Result<(), AllocError>
     ensures { IfOk result (λ _. chars (string_bytes out.new)
         ≡ chars (string_bytes out.old) ++ spec.plain characters.entry) }
@@ -453,7 +454,7 @@ fn without_underscores<'a>(
     Ok(text)
 }
 
-/// The number with its sign, where it is one of `i128`.
+/// Returns the number with its sign, if it fits in an `i128`.
 fn whole(number: Front) -> Result<Number, NumberFailure>
     ensures { (n : ℕ) → Counts number.magnitude n
         → result ≡ (if spec.fits number.minus n
@@ -466,11 +467,11 @@ fn whole(number: Front) -> Result<Number, NumberFailure>
     }
 }
 
-/// Goes past a number, and gives its value (KDL 2.0.0, Number).
+/// Advances past a number and returns its value (KDL 2.0.0, Number).
 ///
-/// A fault where no number begins here: a digit is missing, an identifier character follows, or a
-/// whole number is none of `i128`. The cursor is then where the fault was seen. A decimal takes
-/// memory for its text.
+/// Fails if no number begins here: a digit is missing, an identifier character follows, or a whole
+/// number does not fit in an `i128`. The cursor is then where the fault was found. The text of a
+/// decimal is allocated.
 pub fn read_number(alloc: Global, cursor: &mut Cursor) -> Result<Number, NumberFailure>
     ensures reads { ReadsNumber result cursor.old.rest cursor.new.rest }
     ensures fault { IsNumberFault result cursor.old.rest cursor.new.rest }
@@ -499,7 +500,7 @@ pub fn read_number(alloc: Global, cursor: &mut Cursor) -> Result<Number, NumberF
     }
 }
 
-/// The keyword after `#`, by its word.
+/// The keyword with this text after its `#`.
 fn keyword_of(word: &Piece) -> Option<Keyword>
     ensures { WordOf result word.now }
 {
@@ -520,8 +521,9 @@ fn keyword_of(word: &Piece) -> Option<Keyword>
     }
 }
 
-/// Goes past a keyword, and gives it (KDL 2.0.0, Boolean, Null, Keyword Numbers). None where no
-/// keyword begins here; the cursor is then after the word.
+/// Advances past a keyword and returns it (KDL 2.0.0, Boolean, Null, Keyword Numbers). Returns
+/// `None` if no keyword begins here; if a `#` does, the cursor is then after it and the identifier
+/// characters that follow.
 pub fn read_keyword(cursor: &mut Cursor) -> Option<Keyword>
     ensures reads { ReadsKeyword result cursor.old.rest cursor.new.rest }
     ensures moves { Moves cursor.old cursor.new }
@@ -556,7 +558,7 @@ fn is_plain_decimal(text: &str) -> bool
     cursor.look().is_none() && has_no_underscore(cursor.characters(&segment))
 }
 
-/// Whether the keyword is that of a number.
+/// Whether the keyword is a number.
 fn is_of_number(keyword: Keyword) -> bool
     ensures { result ≡ is_of_number keyword }
 {
@@ -566,7 +568,7 @@ fn is_of_number(keyword: Keyword) -> bool
     )
 }
 
-/// Whether the whole text is the keyword of a number: `#inf`, `#-inf` or `#nan`.
+/// Whether the whole text is a keyword that is a number: `#inf`, `#-inf` or `#nan`.
 fn is_float_keyword(text: &str) -> bool
     ensures { IsTrue result ↔ FloatKeyword (chars text.now) }
 {
@@ -577,7 +579,7 @@ fn is_float_keyword(text: &str) -> bool
     }
 }
 
-/// Whether the whole text is a decimal without `_`, or one of `#inf`, `#-inf` and `#nan`.
+/// Returns whether the whole text is a decimal without `_`, or one of `#inf`, `#-inf` and `#nan`.
 pub fn is_float_text(text: &str) -> bool
     ensures { IsTrue result ↔ FloatText (chars text.now) }
 {

@@ -1,13 +1,13 @@
-//! Places in a text, and how grave a diagnostic is.
+//! Spans of a text, and the severity of a diagnostic.
 
-/// A place in a text: where it begins and how long it is, in bytes.
+/// A span of a text: the offset of its start and its length, in bytes.
 #[derive(Clone, Copy, Debug, PartialEq, Eq)]
 pub struct SourceSpan {
     pub offset: usize,
     pub len: usize,
 }
 
-/// How grave a diagnostic is.
+/// The severity of a diagnostic.
 #[derive(Clone, Copy, Debug, Default, PartialEq, Eq)]
 pub enum Severity {
     Advice,

@@ -1,6 +1,7 @@
 //! Readers of strings (KDL 2.0.0, String).
 //!
-//! Each begins at the first character of the string, and leaves the cursor after its last one.
+//! Each reader begins at the first character of the string, and leaves the cursor after its last
+//! one.
 
 ghost use Rattle.kdl_text.specs.Bare as bare;
 ghost use Rattle.kdl_text.specs.Bare.{BareString};
@@ -28,36 +29,36 @@ mod raw;
 
 pub use raw::raw_string;
 
-/// Why a text is no string.
+/// Why a text is not a string.
 #[derive(Clone, Copy, Drop)]
 pub enum StringFault {
-    /// No quote begins it; of a raw string, no number signs and then a quote.
+    /// The text does not begin with a quote, or for a raw string with number signs and then a
+    /// quote.
     Unopened,
     /// The text ends before the closing quote.
     Unclosed,
     /// A backslash without an escape after it.
     BadEscape,
-    /// A newline in a string of a single line.
+    /// A newline in a single-line string.
     Newline,
     /// A character that a document may not contain.
     Banned,
-    /// No newline after the three quotes that begin a string of many lines.
+    /// No newline after the three quotes that begin a multi-line string.
     NoNewline,
-    /// The last line of a string of many lines is not spaces alone.
+    /// The last line of a multi-line string is not only spaces.
     BadLastLine,
-    /// A line of a string of many lines that has not the last line's spaces at its front, and is
-    /// not spaces alone.
+    /// A line of a multi-line string neither begins with the last line's spaces nor is only spaces.
     NoPrefix,
-    /// A raw string of a single line that is one quote or begins with two.
+    /// A single-line raw string whose content is one quote or begins with two.
     LooksMultiLine,
 }
 
 /// Why a string was not read.
 #[derive(Clone, Copy, Drop)]
 pub enum StringFailure {
-    /// No string begins here.
+    /// The text here is not a string.
     Fault(StringFault),
-    /// The memory for its value is missing.
+    /// The allocation for its value failed.
     Memory,
 }
 
@@ -77,7 +78,7 @@ impl From<StringFault> for StringFailure {
     }
 }
 
-/// Goes past the longest run of characters of the class, and gives it.
+/// Advances past the longest run of characters of the class, and returns it.
 #[inline]
 fn run_of<'a>(class: Class, cursor: &mut Cursor<'a>) -> Piece<'a>
     ensures run { Run (in_class class) cursor.old.rest cursor.new.rest }
@@ -97,7 +98,7 @@ fn is_word(piece: &Piece, word: &str) -> bool
     piece.is(word)
 }
 
-/// Whether the piece is one of the words that a bare string may not be.
+/// Whether the piece is one of the words that may not be bare strings.
 fn is_excluded(piece: &Piece) -> bool
     ensures { result ≡ bare.is_excluded piece.now }
 {
@@ -131,8 +132,8 @@ fn follows_sign(cursor: &mut Cursor) -> bool
     }
 }
 
-/// Whether the identifier characters from here to the end of the text are a bare string. They are
-/// this word.
+/// Whether the identifier characters from here to the end of the text, which are `word`, are a bare
+/// string.
 fn has_bare_form(word: &Piece, cursor: &mut Cursor) -> bool
     requires { word.now ≡ cursor.old.rest }
     ensures result { result ≡ bare.bare_form word.now }
@@ -152,8 +153,8 @@ fn has_bare_form(word: &Piece, cursor: &mut Cursor) -> bool
     }
 }
 
-/// Goes past the longest run of identifier characters, and gives it where it is a bare string
-/// (KDL 2.0.0, Identifier String). None: no bare string begins here.
+/// Advances past the longest run of identifier characters. Returns the run if it is a bare string
+/// (KDL 2.0.0, Identifier String), and `None` if no bare string begins here.
 #[inline(always)]
 pub fn bare_string<'a>(cursor: &mut Cursor<'a>) -> Option<Piece<'a>>
     ensures found { IfSome result (λ p. BareString cursor.old.rest cursor.new.rest p) }
@@ -178,7 +179,7 @@ fn is_blank(c: char) -> bool
     is_space(c) || is_newline_char(c)
 }
 
-/// Goes past spaces and newlines.
+/// Advances past spaces and newlines.
 fn skip_blanks(cursor: &mut Cursor)
     ensures run { Run spec.is_escaped_space cursor.old.rest cursor.new.rest }
     ensures moves { Moves cursor.old cursor.new }
@@ -192,7 +193,7 @@ fn skip_blanks(cursor: &mut Cursor)
     }
 }
 
-/// After `\u{`: the character whose number is before the brace.
+/// After `\u{`: reads a hexadecimal number and `}`, and returns the character with that number.
 fn hex_number(cursor: &mut Cursor) -> Option<char>
     ensures found { IfSome result (λ c. HexNumber cursor.old.rest cursor.new.rest c) }
     ensures none { IfNone result ((r : Text) (c : ℕ) → HexNumber cursor.old.rest r c → ⊥) }
@@ -222,7 +223,7 @@ fn hex_number(cursor: &mut Cursor) -> Option<char>
     }
 }
 
-/// The character that a letter after a backslash means.
+/// The character that a letter after a backslash denotes.
 fn letter_escape(letter: char) -> Option<char>
     ensures { result ≡ spec.letter_escape letter }
 {
@@ -238,8 +239,8 @@ fn letter_escape(letter: char) -> Option<char>
     }
 }
 
-/// The character of the escape that begins with this letter: after `u` its number follows, in
-/// braces.
+/// Reads the rest of the escape that begins with this letter, and returns its character. After `u`
+/// the number of the character follows, in braces.
 fn escaped_char(letter: char, cursor: &mut Cursor) -> Option<char>
     ensures found { IfSome result
         (λ c. IsUnit (92 ∷ letter ∷ cursor.old.rest) cursor.new.rest (spec.escape c)) }
@@ -258,7 +259,8 @@ fn escaped_char(letter: char, cursor: &mut Cursor) -> Option<char>
     hex_number(cursor)
 }
 
-/// Reads what follows a backslash: the character of an escape, or none of spaces and newlines.
+/// Reads what follows a backslash. Returns the character of an escape, or `None` for spaces and
+/// newlines.
 pub fn escaped_unit(cursor: &mut Cursor) -> Result<Option<char>, StringFault>
     ensures found { IfOk result
         (λ o. IsUnit (92 ∷ cursor.old.rest) cursor.new.rest (spec.escape_of o)) }
@@ -311,7 +313,7 @@ fn fault_at(c: char) -> StringFault
     }
 }
 
-/// The units of a quoted string and its closing quote.
+/// Reads the units of a quoted string and its closing quote.
 fn quoted_body(alloc: Global, cursor: &mut Cursor) -> Result<String, StringFailure>
     ensures found { IfOk result
         (λ v. QuotedBody cursor.old.rest cursor.new.rest (chars (string_bytes v))) }
@@ -333,9 +335,9 @@ fn quoted_body(alloc: Global, cursor: &mut Cursor) -> Result<String, StringFailu
     }
 }
 
-/// Reads a quoted string, of one line or of many (KDL 2.0.0, Quoted String and Multi-line String):
-/// its value, and the cursor goes past the closing quotes. A fault: no quoted string begins here.
-/// `Memory`: the memory for the value is missing.
+/// Reads a quoted string, single-line or multi-line (KDL 2.0.0, Quoted String and Multi-line
+/// String). Advances past the closing quotes and returns the value. Fails with a fault if no quoted
+/// string begins here, and with `Memory` if the allocation for the value fails.
 pub fn quoted_string(alloc: Global, cursor: &mut Cursor) -> Result<String, StringFailure>
     ensures found { IfOk result
         (λ v. IsQuoted cursor.old.rest cursor.new.rest (chars (string_bytes v))) }

@@ -6,7 +6,7 @@ ghost use Rattle.std.specs.Simd.Lanes.{mask_l};
 
 use std::simd::prelude::*;
 
-/// The bit of each row of a table of ASCII characters. A byte above them is in none.
+/// The bit of each row of a table of ASCII characters. A byte above ASCII is in no row.
 const ROW_BITS: [u8; 16] = [1, 2, 4, 8, 16, 32, 64, 128, 0, 0, 0, 0, 0, 0, 0, 0];
 
 #[inline(always)]
@@ -33,7 +33,7 @@ fn outsiders(v: u8x16, table: u8x16) -> u64
         .to_bitmask()
 }
 
-/// Whether the byte is in the table.
+/// Returns whether the byte is in the table.
 #[inline(always)]
 pub fn is_inside(byte: u8, table: &[u8; 16]) -> bool
     ensures { result ≡ not (outside table.now byte) }
@@ -41,7 +41,7 @@ pub fn is_inside(byte: u8, table: &[u8; 16]) -> bool
     table[(byte & 15) as usize] & ROW_BITS[(byte >> 4) as usize] != 0
 }
 
-/// How many bytes at the front are in the table.
+/// Returns the number of bytes at the front that are in the table.
 #[inline(always)]
 pub fn inside_len(bytes: &[u8], table: &[u8; 16]) -> usize
     ensures { InsideLen table.now bytes.now result }

@@ -13,20 +13,20 @@ use crate::cursor::{Cursor, newline};
 /// What begins at a slash.
 #[derive(Clone, Copy)]
 pub enum SlashRead {
-    /// A block comment, which the cursor went past.
+    /// A block comment. The cursor is after it.
     Block,
-    /// A line comment, which the cursor went past with its newline.
+    /// A line comment. The cursor is after it and its newline.
     Line,
-    /// `/-`, which the cursor went past.
+    /// `/-`. The cursor is after it.
     Dash,
-    /// A block comment that isn't closed. The cursor is at the end of the text.
+    /// An unclosed block comment. The cursor is at the end of the text.
     Unclosed,
     /// None of these. The cursor has not moved.
     Other,
 }
 
-/// Goes past all that follows the `/*` of a block comment. False: it isn't closed, and the cursor
-/// is at the end.
+/// Advances past the rest of a block comment, after its `/*`. Returns false if the comment is
+/// unclosed; the cursor is then at the end of the text.
 fn block_end(cursor: &mut Cursor) -> bool
     ensures reads { Reads Parts result cursor.old.rest cursor.new.rest }
     ensures ended { result ≡ false → cursor.new.rest ≡ [] }
@@ -55,8 +55,8 @@ fn block_end(cursor: &mut Cursor) -> bool
     }
 }
 
-/// Goes past the block comment that begins here (KDL 2.0.0, Multi-line Comments). False: it isn't
-/// closed, and the cursor is at the end.
+/// Advances past the block comment that begins here (KDL 2.0.0, Multi-line Comments). Returns false
+/// if it is unclosed; the cursor is then at the end of the text.
 pub fn block_comment(cursor: &mut Cursor) -> bool
     requires { begins_two 47 42 cursor.old.rest ≡ true }
     ensures reads { Reads BlockComment result cursor.old.rest cursor.new.rest }
@@ -68,7 +68,7 @@ pub fn block_comment(cursor: &mut Cursor) -> bool
     block_end(cursor)
 }
 
-/// Goes past the rest of a line, and the newline that ends it, if one does.
+/// Advances past the rest of a line, and past the newline that ends it, if one does.
 fn line_end(cursor: &mut Cursor)
     ensures reads { Reads Line true cursor.old.rest cursor.new.rest }
     ensures moves { Moves cursor.old cursor.new }
@@ -78,7 +78,7 @@ fn line_end(cursor: &mut Cursor)
     let _ = newline(cursor);
 }
 
-/// Goes past the line comment that begins here, its newline included (KDL 2.0.0, Single-line
+/// Advances past the line comment that begins here, including its newline (KDL 2.0.0, Single-line
 /// Comments).
 pub fn line_comment(cursor: &mut Cursor)
     requires { begins_two 47 47 cursor.old.rest ≡ true }
@@ -90,7 +90,7 @@ pub fn line_comment(cursor: &mut Cursor)
     line_end(cursor);
 }
 
-/// Goes past spaces, as many as there are (KDL 2.0.0, Whitespace).
+/// Advances past all spaces here (KDL 2.0.0, Whitespace).
 #[inline]
 pub fn spaces(cursor: &mut Cursor)
     ensures reads { Longest Space cursor.old.rest cursor.new.rest }
@@ -100,8 +100,8 @@ pub fn spaces(cursor: &mut Cursor)
     cursor.skip(Class::Space);
 }
 
-/// Goes past spaces and block comments, as many as there are. False: one of the comments isn't
-/// closed.
+/// Advances past all spaces and block comments here. Returns false if one of the comments is
+/// unclosed.
 fn ws_run(cursor: &mut Cursor) -> bool
     ensures reads { RunsWs result cursor.old cursor.new }
     ensures moves { Moves cursor.old cursor.new }
@@ -118,8 +118,8 @@ fn ws_run(cursor: &mut Cursor) -> bool
     }
 }
 
-/// Goes past what ends an escline: a line comment, a newline, or nothing at the end of the text.
-/// False: none of these is here.
+/// Advances past what ends an escline: a line comment, a newline, or nothing at the end of the
+/// text. Returns false if none of these is here.
 fn escline_end(cursor: &mut Cursor) -> bool
     ensures reads { Reads EscEnd result cursor.old.rest cursor.new.rest }
     ensures moves { Moves cursor.old cursor.new }
@@ -138,9 +138,9 @@ fn escline_end(cursor: &mut Cursor) -> bool
     }
 }
 
-/// Goes past the escline whose backslash is here (KDL 2.0.0, Line Continuation). False: none is
-/// here, since a block comment isn't closed, or since anything else than a line comment, a newline
-/// or the end of the text follows.
+/// Advances past the escline whose backslash is here (KDL 2.0.0, Line Continuation). Returns false
+/// if the backslash begins no escline: a block comment after it is unclosed, or something other
+/// than a line comment, a newline or the end of the text follows.
 pub fn escline(cursor: &mut Cursor) -> bool
     requires { begins 92 cursor.old.rest ≡ true }
     ensures reads { Reads Escline result cursor.old.rest cursor.new.rest }
@@ -154,7 +154,7 @@ pub fn escline(cursor: &mut Cursor) -> bool
     escline_end(cursor)
 }
 
-/// Goes past `/-`, if it is here (KDL 2.0.0, Slashdash Comments).
+/// Advances past `/-` if it is here, and returns whether it is (KDL 2.0.0, Slashdash Comments).
 #[inline]
 pub fn eat_slashdash(cursor: &mut Cursor) -> bool
     ensures reads { AteTwo 47 45 result cursor.old cursor.new }
@@ -163,8 +163,8 @@ pub fn eat_slashdash(cursor: &mut Cursor) -> bool
     cursor.eat_two('/', '-')
 }
 
-/// Goes past the block comment, the line comment or the `/-` that begins with the slash here, if
-/// one of them does.
+/// Advances past the block comment, the line comment or the `/-` that begins with the slash here,
+/// if one of them does.
 pub fn slash(cursor: &mut Cursor) -> SlashRead
     ensures reads { ReadsSlash result cursor.old cursor.new }
     ensures moves { Moves cursor.old cursor.new }

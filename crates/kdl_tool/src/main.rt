@@ -1,5 +1,5 @@
-//! `kdl-tool`: reads a KDL document from standard input, and writes it, as it is or laid out with or
-//! without its comments, or one of its values to standard output.
+//! `kdl-tool`: reads a KDL document from standard input, and writes it to standard output, as it is or formatted, with
+//! or without its comments, or writes one of its values.
 #![tactic(auto)]
 
 #[cfg(test)]
@@ -14,8 +14,7 @@ use std::{env, io};
 use tool::{Outcome, run};
 use watched::Watched;
 
-/// Runs the tool on the arguments, standard input and standard output, and writes to standard error
-/// why it stopped.
+/// Runs the tool with the arguments, standard input and standard output, and writes to standard error why it stopped.
 fn main(rt: HostRuntime) -> ExitCode {
     let outcome = match arguments(&rt) {
         Ok(words) => {
@@ -23,7 +22,7 @@ fn main(rt: HostRuntime) -> ExitCode {
             let mut writer = Watched::new(rt.stdout());
             run(rt.alloc(), &words, &mut reader, &mut writer)
         }
-        // An argument that is not UTF-8 is no word of the tool.
+        // An argument that is not UTF-8 is not part of a command.
         Err(error) if error.kind() == ErrorKind::InvalidData => Outcome::Usage,
         Err(_) => Outcome::Memory,
     };

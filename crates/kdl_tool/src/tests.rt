@@ -1,4 +1,5 @@
-//! Readers and writers that fail, or that give and take little at a time; their flags, and the reports of each outcome.
+//! Readers and writers that fail, or that read and write little at a time; their flags, and the reports of each
+//! outcome.
 
 use kdl::{KdlDiagnostic, KdlError, Severity, SourceSpan};
 use std::alloc::{AllocError, Global};
@@ -11,7 +12,7 @@ use std::test::Fail;
 use tool::Outcome;
 use watched::Watched;
 
-/// The two values are equal; if not, the message shows both, and the case.
+/// Asserts that the two values are equal. The message shows both, and the case.
 pub fn equal<T: PartialEq + Debug, C: Debug>(rt: &impl Abort, found: &T, wanted: &T, case: &C) {
     assert!(rt;
         *found == *wanted,
@@ -19,12 +20,12 @@ pub fn equal<T: PartialEq + Debug, C: Debug>(rt: &impl Abort, found: &T, wanted:
     );
 }
 
-/// The condition holds; if not, the message shows the case.
+/// Asserts that the condition holds. The message shows the case.
 pub fn holds(rt: &impl Abort, condition: bool, case: &str) {
     assert!(rt; condition, "{case:?}");
 }
 
-/// Gives its bytes a few at a time, and may fail at one read.
+/// A reader that returns its bytes a few at a time, and may fail at one read.
 #[derive(Drop)]
 pub struct Source<'a> {
     bytes: &'a [u8],
@@ -33,11 +34,11 @@ pub struct Source<'a> {
     fails_at: u32,
 }
 
-/// No read or write has this number.
+/// A number that no read or write has.
 pub const NEVER: u32 = u32::MAX;
 
 impl<'a> Source<'a> {
-    /// Gives `step` bytes at a time, and fails at the read numbered `fails_at`, from 0 on.
+    /// Creates a reader that returns `step` bytes at a time, and fails at the read numbered `fails_at`, from 0 on.
     pub fn new(bytes: &'a [u8], step: usize, fails_at: u32) -> Source<'a> {
         Source {
             bytes,
@@ -63,7 +64,7 @@ impl Read for Source<'_> {
     }
 }
 
-/// Takes bytes a few at a time, and may fail at one write. It can be flushed once.
+/// A writer that takes bytes a few at a time, and may fail at one write. It can be flushed once.
 #[derive(Drop)]
 pub struct Sink {
     pub bytes: Vec<u8>,
@@ -74,7 +75,7 @@ pub struct Sink {
 }
 
 impl Sink {
-    /// Takes `step` bytes at a time, and fails at the write numbered `fails_at`, from 0 on.
+    /// Creates a writer that takes `step` bytes at a time, and fails at the write numbered `fails_at`, from 0 on.
     pub fn new(alloc: Global, step: usize, fails_at: u32) -> Sink {
         Sink {
             bytes: Vec::new(alloc),
@@ -128,7 +129,8 @@ fn two_faults(alloc: Global) -> Result<KdlError, AllocError> {
     Ok(KdlError { input, diagnostics })
 }
 
-/// The outcome has this status and this report. A writer that takes nothing, or fails, gets a beginning of it.
+/// Asserts that the outcome has this status and this report. A writer that takes nothing, or fails, gets a prefix of
+/// it.
 fn reported(rt: &impl Abort, alloc: Global, outcome: &Outcome, status: u8, text: &str) {
     equal(rt, &outcome.status(), &status, &text);
     let mut sink = Sink::new(alloc, 1, NEVER);
@@ -141,7 +143,7 @@ fn reported(rt: &impl Abort, alloc: Global, outcome: &Outcome, status: u8, text:
     equal(rt, &full.failed(), &(!text.is_empty()), &"failed");
 }
 
-/// Of a report of more than three bytes, a writer that fails at the fourth has three.
+/// Asserts that of a report of more than three bytes, a writer that fails at the fourth has three.
 fn broken_off(rt: &impl Abort, alloc: Global, outcome: &Outcome, text: &str) {
     let mut broken = Sink::new(alloc, 1, 3);
     let mut writer = Watched::new(&mut broken);
@@ -177,7 +179,7 @@ fn outcome_of(number: u32) -> Outcome {
     }
 }
 
-/// The number of an outcome, its status, and what is reported.
+/// The number of an outcome, its status, and its report.
 const REPORTS: [(u32, u8, &str); 7] = [
     (0, 0, ""),
     (1, 1, "0..0 Input is not UTF-8\n"),

@@ -1,5 +1,5 @@
-//! Runs of the tool: what comes of words, over readers that give a few bytes at a time or fail, and writers that take a
-//! few or fail.
+//! Runs of the tool: the outcomes of commands, with readers that return a few bytes at a time or fail, and writers that
+//! take a few or fail.
 
 use crate::tests::{NEVER, Sink, Source, equal, holds};
 use std::alloc::{AllocError, Global};
@@ -8,7 +8,7 @@ use std::test::Fail;
 use tool::{Outcome, run};
 use watched::Watched;
 
-/// What a run reads: the input, how many bytes a read gives, and which read fails.
+/// What a run reads: the input, how many bytes a read returns, and which read fails.
 #[derive(Clone, Copy)]
 struct Reads<'a> {
     input: &'a [u8],
@@ -16,7 +16,7 @@ struct Reads<'a> {
     fails_at: u32,
 }
 
-/// What comes of a run: the outcome, all that is written, and the whole report.
+/// The result of a run: the outcome, everything that is written, and the whole report.
 #[derive(Clone, Copy)]
 struct Wanted<'a> {
     outcome: &'a str,
@@ -24,7 +24,7 @@ struct Wanted<'a> {
     report: &'a str,
 }
 
-/// The text, all of it in steps of seven bytes.
+/// The whole text, in steps of seven bytes.
 fn text(input: &str) -> Reads<'_> {
     Reads {
         input: input.as_bytes(),
@@ -33,7 +33,7 @@ fn text(input: &str) -> Reads<'_> {
     }
 }
 
-/// Done, with this output.
+/// The result Done, with this output.
 fn done(output: &str) -> Wanted<'_> {
     Wanted {
         outcome: "Done",
@@ -42,7 +42,7 @@ fn done(output: &str) -> Wanted<'_> {
     }
 }
 
-/// Nothing is written, and this is reported.
+/// A result without output, and with this report.
 fn nothing<'a>(outcome: &'a str, report: &'a str) -> Wanted<'a> {
     Wanted {
         outcome,
@@ -51,7 +51,7 @@ fn nothing<'a>(outcome: &'a str, report: &'a str) -> Wanted<'a> {
     }
 }
 
-/// The words of a command line.
+/// The arguments of a command line.
 fn words(alloc: Global, texts: &[&str]) -> Result<Vec<String>, AllocError> {
     let mut words = Vec::new(alloc);
     for text in texts {
@@ -84,7 +84,7 @@ fn status_of(name: &str) -> u8 {
     }
 }
 
-/// The outcome has the status of its name, and this report.
+/// Asserts that the outcome has the status of its name, and this report.
 fn reports(rt: &impl Abort, alloc: Global, outcome: &Outcome, report: &str) {
     let mut told = Sink::new(alloc, 16, NEVER);
     holds(rt, outcome.report(&mut Watched::new(&mut told)), report);
@@ -92,8 +92,9 @@ fn reports(rt: &impl Abort, alloc: Global, outcome: &Outcome, report: &str) {
     equal(rt, &outcome.status(), &status_of(name_of(outcome)), &report);
 }
 
-/// Runs the tool, with a writer that takes so many bytes at a time and fails at the write of that number: what comes of
-/// it is wanted, and the flags of the reader and of the writer are those of the outcome.
+/// Runs the tool, with a writer that takes `writes.0` bytes at a time and fails at the write numbered
+/// `writes.1`. Asserts that the result is the expected one, and that the flags of the reader and of the
+/// writer are those of the outcome.
 fn comes_of(
     rt: &impl Abort,
     alloc: Global,
@@ -170,7 +171,7 @@ fn cat_writes_what_it_reads(rt: HostRuntime) -> Result<(), Fail> {
     Ok(())
 }
 
-/// Words, and what they write of the marked text.
+/// Arguments, and what they write for the marked text.
 const MARKED_RUNS: [(&[&str], &str); 3] = [
     (&["fmt"], "\u{E9} \u{FC}\n"),
     (&["strip"], "\u{E9} \u{FC}\n"),
@@ -192,7 +193,7 @@ fn a_byte_at_a_time(rt: HostRuntime) -> Result<(), Fail> {
     Ok(())
 }
 
-/// Words, an input, and what they write of it.
+/// Arguments, an input, and what they write for it.
 const WRITTEN: [(&[&str], &str, &str); 12] = [
     (&["fmt"], DOCUMENT, FORMATTED),
     (&["fmt"], "", "\n"),
@@ -236,7 +237,7 @@ const NO_VALUE: &str = "4..4 Expected property value\n";
 
 const NO_QUOTE: &str = "2..4 Expected quoted string\n";
 
-/// Words, an input that is refused or lacks the value, the outcome, and what is reported.
+/// Arguments, an input that is refused or lacks the value, the outcome, and the report.
 const REFUSED: [(&[&str], &str, &str, &str); 14] = [
     (&["cat"], ";", "Refused", NO_NAME),
     (&["cat"], "node {", "Refused", UNCLOSED),
@@ -274,7 +275,7 @@ fn what_is_refused(rt: HostRuntime) -> Result<(), Fail> {
     Ok(())
 }
 
-/// Words that are none of the tool's.
+/// Arguments that are not a command.
 const OTHER_WORDS: [&[&str]; 9] = [
     &[],
     &[""],
@@ -339,7 +340,7 @@ fn a_read_that_fails(rt: HostRuntime) -> Result<(), Fail> {
 
 const LINE: &str = "node 1 \"two\" three;\n";
 
-/// Words, an input, how many bytes a write takes and which one fails, and what is written.
+/// Arguments, an input, how many bytes a write takes and which one fails, and what is written.
 const BROKEN_WRITES: [(&[&str], &str, (usize, u32), &str); 9] = [
     (&["cat"], LINE, (1, 0), ""),
     (&["cat"], LINE, (1, 4), "node"),
@@ -388,7 +389,7 @@ fn each_write_that_fails(rt: HostRuntime) -> Result<(), Fail> {
     Ok(())
 }
 
-/// So many nested blocks, laid out.
+/// `depth` nested blocks, formatted.
 fn deep_lines(alloc: Global, depth: usize) -> Result<String, AllocError> {
     let mut lines = String::new(alloc);
     for level in 0..depth {

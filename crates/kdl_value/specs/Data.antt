@@ -2,7 +2,7 @@
 use Rattle.std.specs.Prelude.{ℤ, Bool}
 use Rattle.kdl_text.specs.Chars.{Text}
 
--- a string, a whole number, a float by its text, a boolean, or null
+-- a string, a whole number, a float as its text, a boolean, or null
 pub data Value : Type 0 where
   text : Text → Value
   integer : ℤ → Value

@@ -2,6 +2,6 @@
 use Rattle.kdl_text.specs.Chars.{Text}
 use Rattle.kdl_text.specs.Numbers.{Decimal, FloatText}
 
--- what a decimal represents is a float's text
+-- the text that a decimal represents is a float's
 abbrev pub DecimalsAreFloats : Type 0
 DecimalsAreFloats = (t r w : Text) → Decimal t r w → FloatText w

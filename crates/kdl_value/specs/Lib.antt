@@ -8,7 +8,7 @@ pub mod Order
 pub mod Print
 -- The printed spelling of a string.
 pub mod Spelled
--- Values with every text, and nothing of how memory holds them.
+-- Values with every text, whatever their layout in memory.
 pub mod Tree
 -- Values that memory can hold.
 pub mod WellFormed

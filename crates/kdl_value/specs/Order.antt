@@ -15,11 +15,11 @@ kind_place (float s) = 2
 kind_place (truth b) = 3
 kind_place null = 4
 
--- texts by their bytes in UTF-8
+-- texts in the order of their bytes in UTF-8
 abbrev pub text_order : Text → Text → Ordering
 text_order s t = slice_cmp nat_cmp (encode_utf8_all s) (encode_utf8_all t)
 
--- values by their kinds, and within a kind by what they hold
+-- values in the order of their kinds, and within a kind of their contents
 abbrev pub value_order : Value → Value → Ordering
 value_order (text s) (text t) = text_order s t
 value_order (integer y) (integer z) = int_cmp y z

@@ -1,4 +1,4 @@
--- Values with every text, and nothing of how memory holds them.
+-- Values with every text, whatever their layout in memory.
 use Rattle.std.specs.Prelude.{ℤ, Bool, true, false, Option, Some, None, String, string_bytes}
 use Rattle.std.specs.Str.{chars}
 use Rattle.std.specs.declared.alloc.Global.{Global}
@@ -33,7 +33,7 @@ abbrev pub is_null : Value → Bool
 is_null null = true
 is_null _ = false
 
--- the value that an option represents: null where there is none
+-- the value that an option represents: null for none
 abbrev pub or_null : Option Value → Value
 or_null None = null
 or_null (Some v) = v

@@ -6,7 +6,7 @@ use Rattle.kdl_text.specs.Chars.{is_scalar}
 use Rattle.kdl_text.specs.Numbers.{FloatText}
 use Rattle.kdl_value.specs.Data.{Value, text, integer, float, truth, null}
 
--- a value that memory can hold: a text of Unicode scalar values, a whole number of 128 bits with a sign, the text of a float, a boolean, or null
+-- a value that memory can hold: a text of Unicode scalar values, a signed whole number of 128 bits, the text of a float, a boolean, or null
 abbrev pub IsWellFormed : Value → Type 0
 IsWellFormed (text s) = list_all is_scalar s ≡ true
 IsWellFormed (integer z) = FitsSigned w128 z

@@ -1,4 +1,4 @@
-//! Floats, by their texts.
+//! Floats, kept as their texts.
 
 ghost use Rattle.kdl_text.specs.Numbers.{FloatText};
 ghost use Rattle.std.specs.Prelude.{◌≡◌, ◌↔◌, IfOk, IsErrOf, Some, string_bytes};
@@ -13,20 +13,20 @@ use std::alloc::{AllocError, Global};
 use std::fmt;
 use thiserror::Error;
 
-/// Why no float was made of a text.
+/// Why `KdlFloat::new` failed.
 #[derive(Clone, Copy, Debug, PartialEq, Eq, Error)]
 pub enum FloatFailure {
     /// The text is neither a decimal without `_` nor one of `#inf`, `#-inf` and `#nan`.
     #[error("not a KDL float")]
     NotAFloat,
-    /// A request for memory was refused.
+    /// An allocation failed.
     #[error("out of memory")]
     Memory,
 }
 
-/// A decimal or a number that no digits write, by its text (KDL 2.0.0, Number, Keyword Numbers).
+/// A decimal, an infinity or the value that is not a number, kept as its text (KDL 2.0.0, Number, Keyword Numbers).
 ///
-/// Floats are equal where their texts are, and are ordered by the bytes of their texts.
+/// Floats are equal if their texts are equal, and are ordered by the bytes of their texts.
 #[derive(PartialEq, Eq, PartialOrd, Ord, Hash, Debug, Drop)]
 pub struct KdlFloat {
     text: String,
@@ -36,8 +36,8 @@ pub struct KdlFloat {
 impl KdlFloat {
     ghost use Rattle.kdl_value.specs.Tree.{float_text_of};
 
-    /// A float with a copy of the text: a decimal without `_`, or one of `#inf`, `#-inf` and `#nan`.
-    /// Any other text is `NotAFloat`; `Memory` where a request for memory was refused.
+    /// Creates a float with a copy of the text, which is a decimal without `_`, or one of `#inf`, `#-inf` and `#nan`.
+    /// Returns `NotAFloat` for any other text, and `Memory` if an allocation fails.
     ///
     /// ```
     /// let half = KdlFloat::new(alloc, "0.50")?; // keeps its text: it is not equal to "0.5"
@@ -58,7 +58,7 @@ impl KdlFloat {
         }
     }
 
-    /// The text.
+    /// Returns the text.
     ///
     /// ```
     /// let float = KdlFloat::new(alloc, "1.5E3")?;
@@ -71,7 +71,7 @@ impl KdlFloat {
     }
 }
 
-/// A copy with the same text. Fails where memory runs out.
+/// Returns a copy with the same text, or an error if an allocation fails.
 ///
 /// ```
 /// let float = KdlFloat::new(alloc, "1.5")?;

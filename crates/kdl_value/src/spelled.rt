@@ -29,14 +29,14 @@ fn next_char(s: &str) -> Option<(char, &str)>
     Some((c, chars.as_str()))
 }
 
-/// Whether each character may be in a bare string.
+/// Whether each character is one that a bare string may contain.
 fn all_identifier(s: &str) -> bool
     ensures { result ≡ list_all class.is_identifier_char (chars s.now) }
 {
     s.chars().all(|c| is_identifier_char(c))
 }
 
-/// Whether no digit begins the text after a point.
+/// Whether the text, which follows a point, does not begin with a digit.
 fn after_point(s: &str) -> bool
     ensures { result ≡ bare.after_point (chars s.now) }
 {
@@ -46,7 +46,7 @@ fn after_point(s: &str) -> bool
     }
 }
 
-/// Whether no number begins the text after a sign.
+/// Whether the text, which follows a sign, does not make a number with it.
 fn after_sign(s: &str) -> bool
     ensures { result ≡ bare.after_sign (chars s.now) }
 {
@@ -57,7 +57,7 @@ fn after_sign(s: &str) -> bool
     }
 }
 
-/// Whether the text is the word, which is ASCII.
+/// Whether the text is `word`, which is ASCII.
 fn is_text(s: &str, word: &str) -> bool
     requires { list_all is_ascii word.now ≡ true }
     ensures { result ≡ bytes_eq (chars s.now) word.now }
@@ -65,7 +65,7 @@ fn is_text(s: &str, word: &str) -> bool
     s == word
 }
 
-/// Whether the text is one of the words that would be taken for keywords without their `#`.
+/// Whether the text is a keyword without its `#`, which may not be a bare string.
 fn is_excluded(s: &str) -> bool
     ensures { result ≡ bare.is_excluded (chars s.now) }
 {
@@ -76,7 +76,7 @@ fn is_excluded(s: &str) -> bool
         || is_text(s, "nan")
 }
 
-/// Whether the text has one of the forms of a bare string, by its front.
+/// Whether the front of the text is that of a bare string.
 fn bare_form(s: &str) -> bool
     ensures { result ≡ bare.bare_form (chars s.now) }
 {
@@ -96,7 +96,7 @@ fn prints_bare(s: &str) -> bool
     all_identifier(s) && bare_form(s) && !is_text(s, "-inf")
 }
 
-/// The letter of the short escape of a character, or U+0000 where it has none.
+/// The letter of the short escape of a character, or U+0000 if it has none.
 fn escape_letter(c: char) -> char
     ensures { result ≡ spec.escape_letter c }
 {
@@ -136,7 +136,7 @@ fn is_plain(c: char) -> bool
     escape_letter(c) == '\0' && !is_newline_char(c) && !is_banned(c)
 }
 
-/// The text after the longest run of characters that are printed as they are between quotes.
+/// The text after its longest run of characters that are printed as they are between quotes.
 #[tactic(auto, using(crate::proofs::Spelling::PlainRuns::run_begins, crate::proofs::Spelling::PlainRuns::run_turn))]
 fn skip_plain(s: &str) -> &str
     ensures run { PlainRun s.now result.now }
@@ -152,7 +152,7 @@ fn skip_plain(s: &str) -> &str
     rest
 }
 
-/// The characters of such a run that come before the rest.
+/// The part of the text before its rest.
 fn before<'a>(s: &'a str, rest: &str) -> &'a str
     requires { PlainRun s.now rest.now }
     ensures parts { chars s.now ≡ chars result.now ++ chars rest.now }
@@ -180,7 +180,7 @@ fn write_escaped<W: Write>(s: &str, f: &mut Formatter<W>) -> fmt::Result
     }
 }
 
-/// Writes a string as it is spelled: bare where that reads back, else between quotes (KDL 2.0.0, String).
+/// Writes a string as it is spelled: bare if that reads back, else between quotes (KDL 2.0.0, String).
 ///
 /// ```
 /// write_spelled("eu-west", f)?; // writes eu-west

@@ -15,7 +15,7 @@ use std::fmt;
 
 /// The value of an argument or a property (KDL 2.0.0, Value).
 ///
-/// Values are ordered by their variants, in the order of declaration, and then by what they hold: texts by their bytes.
+/// Values are ordered by their variants, in the order of declaration, and then by their contents: texts by their bytes.
 #[derive(PartialEq, Eq, PartialOrd, Ord, Hash, Debug, Drop)]
 pub enum KdlValue {
     /// A string.
@@ -26,12 +26,12 @@ pub enum KdlValue {
     Float(KdlFloat),
     /// A boolean.
     Bool(bool),
-    /// No value.
+    /// Null: no value.
     Null,
 }
 
 impl KdlValue {
-    /// A string with a copy of the text. Fails where memory runs out; an empty text takes none.
+    /// Creates a string with a copy of the text. Returns an error if an allocation fails; an empty text needs none.
     ///
     /// ```
     /// let plain = KdlValue::from_text(alloc, "eu-west")?; // prints "eu-west"
@@ -43,7 +43,7 @@ impl KdlValue {
         Ok(KdlValue::String(String::from_str(alloc, text)?))
     }
 
-    /// Whether the value is a string.
+    /// Returns whether the value is a string.
     ///
     /// ```
     /// let is_string = KdlValue::from_text(alloc, "#true")?.is_string(); // true: a string, whatever its text
@@ -54,7 +54,7 @@ impl KdlValue {
         matches!(self, KdlValue::String(..))
     }
 
-    /// Whether the value is a whole number.
+    /// Returns whether the value is a whole number.
     ///
     /// ```
     /// let whole = KdlValue::from(2).is_integer(); // true
@@ -66,7 +66,7 @@ impl KdlValue {
         matches!(self, KdlValue::Integer(..))
     }
 
-    /// Whether the value is a float.
+    /// Returns whether the value is a float.
     ///
     /// ```
     /// let is_float = KdlValue::from(KdlFloat::new(alloc, "#inf")?).is_float(); // true
@@ -77,7 +77,7 @@ impl KdlValue {
         matches!(self, KdlValue::Float(..))
     }
 
-    /// Whether the value is a boolean.
+    /// Returns whether the value is a boolean.
     ///
     /// ```
     /// let is_bool = KdlValue::from(false).is_bool(); // true
@@ -88,7 +88,7 @@ impl KdlValue {
         matches!(self, KdlValue::Bool(..))
     }
 
-    /// Whether the value is null.
+    /// Returns whether the value is null.
     ///
     /// ```
     /// let is_null = KdlValue::Null.is_null(); // true
@@ -99,12 +99,12 @@ impl KdlValue {
         matches!(self, KdlValue::Null)
     }
 
-    /// The text, where the value is a string.
+    /// Returns the text, if the value is a string.
     ///
     /// ```
     /// let value = KdlValue::from_text(alloc, "two words")?;
     /// let text = value.as_string(); // the text without quotes
-    /// let none = KdlValue::from(2).as_string().is_none(); // true: a number is no string
+    /// let none = KdlValue::from(2).as_string().is_none(); // true: a number is not a string
     /// ```
     pub fn as_string(&self) -> Option<&str>
         ensures { option_map (λ s. chars s.now) result ≡ text_value (value_tree self.now) }
@@ -115,7 +115,7 @@ impl KdlValue {
         }
     }
 
-    /// The number, where the value is a whole number.
+    /// Returns the number, if the value is a whole number.
     ///
     /// ```
     /// let number = KdlValue::from(0x10).as_integer(); // 16
@@ -130,7 +130,7 @@ impl KdlValue {
         }
     }
 
-    /// The float, where the value is one.
+    /// Returns the float, if the value is a float.
     ///
     /// ```
     /// let value = KdlValue::from(KdlFloat::new(alloc, "1.50")?);
@@ -147,7 +147,7 @@ impl KdlValue {
         }
     }
 
-    /// The boolean, where the value is one.
+    /// Returns the boolean, if the value is a boolean.
     ///
     /// ```
     /// let truth = KdlValue::from(true).as_bool(); // true
@@ -197,7 +197,7 @@ impl From<bool> for KdlValue {
     }
 }
 
-/// A string. It takes no memory.
+/// Converts a string to a value, without allocating.
 ///
 /// ```
 /// let value = KdlValue::from(String::from_str(alloc, "a b")?); // prints "\"a b\""
@@ -231,7 +231,7 @@ impl From<KdlFloat> for KdlValue {
     }
 }
 
-/// Null where there is none.
+/// Converts an option to a value: `None` becomes `Null`.
 ///
 /// ```
 /// let none: Option<KdlValue> = None;
@@ -251,7 +251,7 @@ impl From<Option<KdlValue>> for KdlValue {
     }
 }
 
-/// A copy that says the same. Fails where memory runs out.
+/// Returns an equal copy, or an error if an allocation fails.
 ///
 /// ```
 /// let value = KdlValue::from_text(alloc, "a")?;

@@ -1,4 +1,4 @@
-//! The calls that take memory.
+//! The calls that allocate.
 
 use kdl::{
     FloatFailure, FormatConfig, KdlDocument, KdlEntry, KdlFloat, KdlIdentifier, KdlNode, KdlValue,
@@ -7,7 +7,7 @@ use kdl::{
 use std::alloc::{AllocError, Global};
 use std::fmt::Display;
 
-/// A call, and what it is made on.
+/// A call, with what it is made on.
 pub enum Call {
     ParseDocument,
     ParseCounted,
@@ -61,7 +61,7 @@ pub static CALLS: [Call; 23] = [
     Call::Float,
 ];
 
-/// What the call on the text, or on an item of it, returns.
+/// Returns what the call on the text, or on an item of it, returns.
 pub fn answer(alloc: Global, text: &str, call: &Call) -> Result<String, AllocError> {
     match call {
         Call::ParseDocument => printed(alloc, KdlDocument::parse(alloc, text)),
@@ -105,7 +105,7 @@ fn on_first(alloc: Global, document: &mut KdlDocument, call: &Call) -> Result<St
     }
 }
 
-/// What the call on a node returns. Where memory is refused the node is what it was before.
+/// What the call on a node returns. If an allocation fails, the node is unchanged.
 fn on_node(
     alloc: Global,
     node: &mut KdlNode,
@@ -119,8 +119,7 @@ fn on_node(
     }
 }
 
-/// Makes the call on the node, and once more where it was refused memory. False: the node was changed by a call that
-/// was refused.
+/// Makes the call on the node, and again if an allocation failed. Returns false if the failed call changed the node.
 fn changes(
     alloc: Global,
     node: &mut KdlNode,
@@ -137,12 +136,12 @@ fn changes(
     }
 }
 
-/// Whether a call was not refused. What it gives back is dropped.
+/// Whether a call succeeded. Its result is dropped.
 fn is_done<T: Drop, E: Drop>(given: Result<T, E>) -> bool {
     given.is_ok()
 }
 
-/// The document of the text; an empty one where the text is no document.
+/// The document of the text, or an empty one if the text is not a document.
 fn read(alloc: Global, text: &str) -> Result<KdlDocument, AllocError> {
     match KdlDocument::parse(alloc, text) {
         Ok(document) => Ok(document),
@@ -173,7 +172,7 @@ fn printed<T: Display + Drop>(
     }
 }
 
-/// So many of these.
+/// A number of these.
 fn numbered(alloc: Global, count: u64, what: &str) -> Result<String, AllocError> {
     format!(in alloc; "{count} {what}")
 }
@@ -201,7 +200,7 @@ fn cloned(alloc: Global, document: &KdlDocument) -> Result<String, AllocError> {
     }
 }
 
-/// How long the printed document is.
+/// The length of the printed document.
 fn length(alloc: Global, document: &KdlDocument) -> Result<String, AllocError> {
     numbered(alloc, document.len(alloc)? as u64, "bytes")
 }
@@ -220,7 +219,7 @@ fn new_node(alloc: Global) -> Result<KdlNode, AllocError> {
     }
 }
 
-/// A node put first or last. Where memory is refused the node comes back, and the document is what it was.
+/// Inserts a node first or last. If an allocation fails, the node is returned, and the document is unchanged.
 fn node_put(alloc: Global, document: &mut KdlDocument, first: bool) -> Result<String, AllocError> {
     let before = document.clone()?;
     let is_kept = match put_node(document, new_node(alloc)?, first) {
@@ -234,7 +233,7 @@ fn node_put(alloc: Global, document: &mut KdlDocument, first: bool) -> Result<St
     }
 }
 
-/// Puts the node before the others, or after them.
+/// Inserts the node before the others, or after them.
 fn put_node(
     document: &mut KdlDocument,
     node: KdlNode,
@@ -247,7 +246,7 @@ fn put_node(
     }
 }
 
-/// The node that came back put in, and whether the document was what it was before.
+/// Inserts the node that was returned, and returns whether the document was unchanged.
 fn node_put_again(
     document: &mut KdlDocument,
     before: &KdlDocument,
@@ -259,7 +258,7 @@ fn node_put_again(
     is_kept
 }
 
-/// A child pushed. Where memory is refused the child comes back.
+/// Pushes a child. If an allocation fails, the child is returned.
 fn child_pushed(alloc: Global, node: &mut KdlNode, before: &KdlNode) -> Result<bool, AllocError> {
     match node.push_child(new_node(alloc)?) {
         Ok(()) => Ok(true),
@@ -267,14 +266,14 @@ fn child_pushed(alloc: Global, node: &mut KdlNode, before: &KdlNode) -> Result<b
     }
 }
 
-/// The child that came back pushed, and whether the node was what it was before.
+/// Pushes the child that was returned, and returns whether the node was unchanged.
 fn child_pushed_again(node: &mut KdlNode, before: &KdlNode, child: KdlNode) -> bool {
     let is_kept = *node == *before;
     is_done(node.push_child(child));
     is_kept
 }
 
-/// An entry pushed. Where memory is refused the entry comes back.
+/// Pushes an entry. If an allocation fails, the entry is returned.
 fn pushed(node: &mut KdlNode, before: &KdlNode) -> bool {
     match node.push(KdlEntry::new(KdlValue::from(7))) {
         Ok(()) => true,
@@ -282,14 +281,14 @@ fn pushed(node: &mut KdlNode, before: &KdlNode) -> bool {
     }
 }
 
-/// The entry that came back pushed, and whether the node was what it was before.
+/// Pushes the entry that was returned, and returns whether the node was unchanged.
 fn pushed_again(node: &mut KdlNode, before: &KdlNode, entry: KdlEntry) -> bool {
     let is_kept = *node == *before;
     is_done(node.push(entry));
     is_kept
 }
 
-/// A property inserted.
+/// Inserts a property.
 fn inserted(alloc: Global, node: &mut KdlNode, before: &KdlNode) -> Result<bool, AllocError> {
     if insert_named(alloc, node)? {
         return Ok(true);
@@ -299,13 +298,13 @@ fn inserted(alloc: Global, node: &mut KdlNode, before: &KdlNode) -> Result<bool,
     Ok(is_kept)
 }
 
-/// Inserts a property, and returns whether there was memory for that.
+/// Inserts a property, and returns whether the allocations succeeded.
 fn insert_named(alloc: Global, node: &mut KdlNode) -> Result<bool, AllocError> {
     let key = NodeKey::from_text(alloc, "new key")?;
     Ok(is_done(node.insert(key, KdlEntry::new(KdlValue::Null))))
 }
 
-/// An argument inserted before all others.
+/// Inserts an argument before all others.
 fn inserted_first(node: &mut KdlNode, before: &KdlNode) -> bool {
     if insert_first(node) {
         return true;
@@ -315,13 +314,13 @@ fn inserted_first(node: &mut KdlNode, before: &KdlNode) -> bool {
     is_kept
 }
 
-/// Inserts an argument before all others, and returns whether there was memory for that.
+/// Inserts an argument before all others, and returns whether the allocations succeeded.
 fn insert_first(node: &mut KdlNode) -> bool {
     let entry = KdlEntry::new(KdlValue::from(true));
     is_done(node.insert(NodeKey::Index(0), entry))
 }
 
-/// A null property pushed where there is none.
+/// Pushes a null property if there is none.
 fn null_pushed(node: &mut KdlNode, before: &KdlNode) -> Result<bool, AllocError> {
     if node.get_or_null_mut("nothing").is_ok() {
         return Ok(true);
@@ -331,7 +330,7 @@ fn null_pushed(node: &mut KdlNode, before: &KdlNode) -> Result<bool, AllocError>
     Ok(is_kept)
 }
 
-/// The entries, sorted by their values. Where memory is refused they are there in some order, and are sorted then.
+/// Sorts the entries by their values. If an allocation fails, they are in an unspecified order, and are sorted then.
 fn sorted(node: &mut KdlNode) -> Result<bool, AllocError> {
     if sort(node).is_err() {
         sort(node)?;
@@ -344,13 +343,13 @@ fn sort(node: &mut KdlNode) -> Result<(), AllocError> {
     node.sort_by(|a, b| b.value().cmp(a.value()))
 }
 
-/// The document laid out with its comments.
+/// Formats the document with its comments.
 fn laid_out(alloc: Global, document: &mut KdlDocument) -> Result<String, AllocError> {
     document.autoformat()?;
     document.to_string(alloc)
 }
 
-/// The canonical text of the document, also where laying it out was refused memory before.
+/// The canonical text of the document, also after a layout in which an allocation failed.
 fn stripped(alloc: Global, document: &mut KdlDocument) -> Result<String, AllocError> {
     let _ = document.autoformat();
     if document.autoformat_no_comments().is_err() {
@@ -367,13 +366,13 @@ fn layout() -> Layout<'static> {
     }
 }
 
-/// The document laid out with its comments and blank lines.
+/// Formats the document with its comments and blank lines.
 fn spaced(alloc: Global, document: &mut KdlDocument) -> Result<String, AllocError> {
     document.autoformat_layout(&layout())?;
     document.to_string(alloc)
 }
 
-/// The document with its first node laid out with its comments and blank lines.
+/// Formats the first node of the document with its comments and blank lines.
 fn node_spaced(alloc: Global, document: &mut KdlDocument) -> Result<String, AllocError> {
     if let Some(node) = document.nodes_mut().first_mut() {
         node.autoformat_layout(&layout())?;
@@ -381,7 +380,7 @@ fn node_spaced(alloc: Global, document: &mut KdlDocument) -> Result<String, Allo
     document.to_string(alloc)
 }
 
-/// A name and a value of the text; before them a key.
+/// Creates a key, and then a name and a value of the text.
 fn made(alloc: Global, text: &str) -> Result<String, AllocError> {
     drop(NodeKey::from_text(alloc, text)?);
     let mut made = name_made(alloc, text)?;

@@ -1,4 +1,4 @@
-//! The calls that take no memory. What they are made on is made before.
+//! The calls that do not allocate. What they are made on is created before.
 
 use kdl::{
     FormatConfig, KdlDocument, KdlDocumentFormat, KdlEntry, KdlEntryFormat, KdlIdentifier, KdlNode,
@@ -10,7 +10,7 @@ use std::alloc::{AllocError, Global};
 const TEXT: &str =
     "(t)server 1 2.5 #null #true \"five\" name=a name=b { - 1; - \"two\" 3; port 80; }\n";
 
-/// How many names the calls take.
+/// The number of names that the calls take.
 const NAMES: usize = 8;
 
 /// What the calls are made on: two documents of the text, and names, each of them `name`, which the calls take one by one.
@@ -39,7 +39,7 @@ fn names(alloc: Global) -> Result<Vec<String>, AllocError> {
     Ok(names)
 }
 
-/// The subjects. This takes memory.
+/// Creates the subjects. This allocates.
 pub fn prepare(alloc: Global) -> Result<Subjects, AllocError> {
     let document = document(alloc)?;
     let other = self::document(alloc)?;
@@ -51,7 +51,7 @@ pub fn prepare(alloc: Global) -> Result<Subjects, AllocError> {
     })
 }
 
-/// The next name; an empty one where none is left.
+/// The next name, or an empty one if none is left.
 fn next(alloc: Global, names: &mut Vec<String>) -> String {
     match names.pop() {
         Some(name) => name,
@@ -59,7 +59,7 @@ fn next(alloc: Global, names: &mut Vec<String>) -> String {
     }
 }
 
-/// Whether something was taken out. It is dropped.
+/// Whether something was taken. It is dropped.
 fn is_there<T: Drop>(taken: Option<T>) -> bool {
     taken.is_some()
 }
@@ -103,7 +103,7 @@ fn document_is_read(document: &KdlDocument, other: &KdlDocument) -> bool {
     all & document.iter_dash_args("server").next().is_some()
 }
 
-/// The calls that make and change an entry.
+/// The calls that create and change an entry.
 fn entry_is_made(alloc: Global, names: &mut Vec<String>) -> bool {
     let value = KdlValue::from(Some(KdlValue::from(true)));
     let mut entry = KdlEntry::from((KdlIdentifier::from(next(alloc, names)), value));
@@ -135,7 +135,8 @@ fn entry_is_changed(alloc: Global, entry: &mut KdlEntry) -> bool {
     all & entry.name().is_none() & entry.ty_mut().is_some()
 }
 
-/// The calls that take a node's properties of the name, which is taken too, and then all else that is in the node.
+/// The calls that remove a node's properties of the name, which is taken from the list, and then all else that is in
+/// the node.
 fn node_is_emptied(alloc: Global, node: &mut KdlNode, names: &mut Vec<String>) -> bool {
     let mut all = node.get_mut(NodeKey::Index(0)).is_some();
     all &= node.get(NodeKey::from(next(alloc, names))).is_some();
@@ -155,7 +156,7 @@ fn node_is_emptied(alloc: Global, node: &mut KdlNode, names: &mut Vec<String>) -
     all & node.is_empty() & node.children_mut().is_none()
 }
 
-/// The calls that put something else into a node.
+/// The calls that set the parts of a node.
 fn node_is_changed(alloc: Global, node: &mut KdlNode, names: &mut Vec<String>) -> bool {
     node.set_name(KdlIdentifier::from(next(alloc, names)));
     node.set_ty(KdlIdentifier::from(next(alloc, names)));

@@ -1,8 +1,8 @@
-//! Makes each call that takes memory on two texts, and prints what it returns and what the item is afterwards.
+//! Makes each call that allocates on two texts, and prints what it returns and what the item is afterwards.
 //!
-//! A call that is refused memory is made once more, where the item is then what it was before. So a run in which one request
-//! for memory is refused, whichever it is, prints the same as one in which none is. Where all that was made for a line was
-//! refused, the word `refused` goes to standard error.
+//! If an allocation fails, the call is made again, provided that the item is unchanged. So a run in which any one
+//! allocation fails prints the same as a run in which none does. If all calls for a line failed, `refused` is written
+//! to standard error.
 #![tactic(auto)]
 
 mod calls;
@@ -20,7 +20,7 @@ const HELLO: &str =
 const FORMS: &str =
     "\u{feff}/* c */ (t)\"a\\tb\" 1 -0x1F 0b1_0 0o17 1.5e-3 #true #null #-inf k=(u)#\"raw\"# \\ // e\n /-dropped \"\"\"\n  one\n   two\n  \"\"\" #\"\"\"\n x\n \"\"\"# /-{ x; } { b 2 /* d */; /-c; } /-{} // end\n";
 
-/// Makes what the calls that take no memory are made on, and then, where it is asked to, these calls.
+/// Creates what the calls that do not allocate are made on, and then, if requested, makes these calls.
 fn take_none(rt: &HostRuntime, with_calls: bool) -> io::Result<()> {
     let alloc = rt.alloc();
     let mut subjects = prepare(alloc)?;
@@ -28,7 +28,7 @@ fn take_none(rt: &HostRuntime, with_calls: bool) -> io::Result<()> {
     println!(rt; "{answer}")
 }
 
-/// Makes the call on the text, and once more where it was refused memory, and prints what it returns.
+/// Makes the call on the text, again if an allocation failed, and prints what it returns.
 fn print_answer(rt: &HostRuntime, text: &str, call: &Call) -> io::Result<()> {
     match answer(rt.alloc(), text, call) {
         Ok(line) => rt.println(line),
@@ -39,7 +39,7 @@ fn print_answer(rt: &HostRuntime, text: &str, call: &Call) -> io::Result<()> {
     }
 }
 
-/// Makes each call that takes memory.
+/// Makes each call that allocates.
 fn take_some(rt: &HostRuntime) -> io::Result<()> {
     for text in &[HELLO, FORMS] {
         for call in &CALLS {

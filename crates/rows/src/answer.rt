@@ -1,5 +1,5 @@
-//! The lines that come of a text, and what holds of every text: what is accepted prints it, and the error of what is
-//! refused has places in it.
+//! The lines that a text yields, and what holds for every text: an accepted item prints the text, and the error of a
+//! refused text has spans in it.
 
 use crate::checks::Case;
 use crate::dump::Dump;
@@ -9,7 +9,7 @@ use kdl::{KdlDiagnostic, KdlDocument, KdlError, ParseFailure, Steps};
 use kdl_faults::{Whole, faults};
 use std::alloc::AllocError;
 
-/// Whether the text is accepted. Adds the lines that come of it.
+/// Adds the lines that the text yields, and returns whether it is accepted.
 pub fn answer(case: &Case<'_>, whole: Whole, dump: &mut Dump) -> Result<bool, Fault> {
     match Item::parse(case.alloc(), whole, case.text) {
         Ok(item) => is_accepted(case, whole, &item, dump),
@@ -17,7 +17,7 @@ pub fn answer(case: &Case<'_>, whole: Whole, dump: &mut Dump) -> Result<bool, Fa
     }
 }
 
-/// The item prints the text, in which there is no fault. Adds what the item is.
+/// Checks that the item prints the text, in which there is no fault. Adds the lines of the item.
 fn is_accepted(case: &Case<'_>, whole: Whole, item: &Item, dump: &mut Dump) -> Result<bool, Fault> {
     prints(case, &item.printed(case.alloc())?, case.text)?;
     agrees(case, whole, false)?;
@@ -26,7 +26,7 @@ fn is_accepted(case: &Case<'_>, whole: Whole, item: &Item, dump: &mut Dump) -> R
     Ok(true)
 }
 
-/// The error has a fault, with its place in the text. Adds its diagnostics.
+/// Checks that the error has a fault, with its span in the text. Adds its diagnostics.
 fn is_refused(
     case: &Case<'_>,
     whole: Whole,
@@ -45,7 +45,7 @@ fn is_refused(
     Ok(false)
 }
 
-/// What is printed is the text.
+/// Checks that what is printed is the text.
 pub fn prints(case: &Case<'_>, printed: &str, text: &str) -> Result<(), Fault> {
     if printed == text {
         return Ok(());
@@ -53,7 +53,7 @@ pub fn prints(case: &Case<'_>, printed: &str, text: &str) -> Result<(), Fault> {
     Err(case.differs(text, printed))
 }
 
-/// A fault is found in the text, read as a whole of the kind, exactly where it is refused.
+/// Checks that a fault is found in the text, read as a whole of the kind, exactly if it is refused.
 fn agrees(case: &Case<'_>, whole: Whole, is_refused: bool) -> Result<(), Fault> {
     let faults = faults(case.alloc(), case.text, whole, &mut Steps::new())?;
     match (faults.is_empty(), is_refused) {
@@ -63,10 +63,11 @@ fn agrees(case: &Case<'_>, whole: Whole, is_refused: bool) -> Result<(), Fault> 
     }
 }
 
-/// Of so many diagnostics the text is compared: of all, a text of many faults would take time without end.
+/// The number of diagnostics whose text is compared: to compare all would take too long for a text with many faults.
 const COMPARED: usize = 100;
 
-/// The error has the text, and a diagnostic at least, each with the text and a span in it on character boundaries.
+/// Whether the error has the text and at least one diagnostic, and each diagnostic has the text and a span in it, on
+/// character boundaries.
 fn is_told(error: &KdlError, text: &str) -> bool {
     for (index, told) in error.diagnostics.iter().enumerate() {
         if !is_inside(told, text) || (index < COMPARED && told.input.as_str() != text) {
@@ -76,7 +77,7 @@ fn is_told(error: &KdlError, text: &str) -> bool {
     !error.diagnostics.is_empty() && error.input.as_str() == text
 }
 
-/// The diagnostic has a text of this length, and a span in it on character boundaries.
+/// Whether the diagnostic has a text of this length, and a span in it on character boundaries.
 fn is_inside(diagnostic: &KdlDiagnostic, text: &str) -> bool {
     let start = diagnostic.span.offset;
     let end = start.saturating_add(diagnostic.span.len);
@@ -85,7 +86,7 @@ fn is_inside(diagnostic: &KdlDiagnostic, text: &str) -> bool {
         && text.is_char_boundary(end)
 }
 
-/// Parsing the text takes as many steps as the bounds say.
+/// Checks that the steps of parsing the text are within the bounds.
 pub fn takes(case: &Case<'_>, wanted: &str, bounds: &str) -> Result<(), Fault> {
     let mut steps = Steps::new();
     let is_read = KdlDocument::parse_counted(case.alloc(), case.text, &mut steps).is_ok();

@@ -1,4 +1,4 @@
-//! One text, tried: the lines that come of it, and whether they are those that are expected.
+//! The test of one text: the lines that it yields, and whether they are the expected ones.
 
 use crate::answer::{answer, prints, takes};
 use crate::dump::Dump;
@@ -29,7 +29,7 @@ impl Case<'_> {
         self.row.tell.alloc()
     }
 
-    /// The fault of the text that this was wanted, and something else came.
+    /// Returns the fault that this was expected of the text, and something else was found.
     pub fn differs(&self, wanted: &str, came: &str) -> Fault {
         match self.message(wanted, came) {
             Ok(message) => self.row.tell.wrong("", &message),
@@ -37,14 +37,14 @@ impl Case<'_> {
         }
     }
 
-    /// What was wanted of the text, and what came.
+    /// The message: what was expected of the text, and what was found.
     fn message(&self, wanted: &str, came: &str) -> Result<String, AllocError> {
         let mut message = String::new(self.alloc());
         self.tell(&mut message, wanted, came)?;
         Ok(message)
     }
 
-    /// Puts what was wanted of the text, and what came, into the message.
+    /// Appends what was expected of the text, and what was found, to the message.
     fn tell(&self, message: &mut String, wanted: &str, came: &str) -> Result<(), AllocError> {
         encode(message, "", self.text)?;
         if let Some(place) = self.each {
@@ -55,7 +55,7 @@ impl Case<'_> {
     }
 }
 
-/// Tries the text.
+/// Tests the text.
 pub fn check(case: &Case<'_>) -> Result<(), Fault> {
     match case.call {
         Call::Float => check_float(case),
@@ -66,14 +66,14 @@ pub fn check(case: &Case<'_>) -> Result<(), Fault> {
     }
 }
 
-/// Tries the text as what its call reads.
+/// Tests the text as what its call reads.
 fn check_item(case: &Case<'_>) -> Result<(), Fault> {
     let mut dump = Dump::new(case.alloc(), false);
     answer(case, case.call.whole(), &mut dump)?;
     compare(case, &dump)
 }
 
-/// Tries the text as the text of a float.
+/// Tests the text as the text of a float.
 fn check_float(case: &Case<'_>) -> Result<(), Fault> {
     match KdlFloat::new(case.alloc(), case.text) {
         Ok(float) => {
@@ -85,7 +85,7 @@ fn check_float(case: &Case<'_>) -> Result<(), Fault> {
     }
 }
 
-/// The only line that comes of the text is this one.
+/// Checks that the only line that the text yields is this one.
 fn check_flag(case: &Case<'_>, flag: &str) -> Result<(), Fault> {
     let mut dump = Dump::new(case.alloc(), false);
     dump.text(flag, case.text);
@@ -98,7 +98,7 @@ fn check_string(case: &Case<'_>) -> Result<(), Fault> {
     check_printed(case, &value.to_string(case.alloc())?)
 }
 
-/// This is printed of the text as a name too, is read back, and is what is expected.
+/// Checks that the text as a name prints this too, and that it reads back and is what is expected.
 fn check_printed(case: &Case<'_>, printed: &str) -> Result<(), Fault> {
     let name = KdlIdentifier::from_text(case.alloc(), case.text)?;
     prints(case, &name.to_string(case.alloc())?, printed)?;
@@ -109,7 +109,7 @@ fn check_printed(case: &Case<'_>, printed: &str) -> Result<(), Fault> {
     compare(case, &dump)
 }
 
-/// What was printed is an identifier, and its value is the text.
+/// Checks that what was printed is an identifier, and its value is the text.
 fn reads_back(case: &Case<'_>, printed: &str) -> Result<(), Fault> {
     match KdlIdentifier::parse(case.alloc(), printed) {
         Ok(identifier) => prints(case, identifier.value(), case.text),
@@ -117,7 +117,7 @@ fn reads_back(case: &Case<'_>, printed: &str) -> Result<(), Fault> {
     }
 }
 
-/// Each expected line is what came.
+/// Checks that each expected line was found.
 fn compare(case: &Case<'_>, dump: &Dump) -> Result<(), Fault> {
     dump.outcome()?;
     for notation in case.row.lines {
@@ -129,7 +129,7 @@ fn compare(case: &Case<'_>, dump: &Dump) -> Result<(), Fault> {
     Ok(())
 }
 
-/// The expected line is one of those that came, or what it says holds of the text.
+/// Checks that the expected line is one of those that were found, or that what it says holds for the text.
 fn compare_line(case: &Case<'_>, wanted: &str, dump: &Dump) -> Result<(), Fault> {
     if dump.has(wanted) {
         return Ok(());
@@ -147,7 +147,8 @@ fn compare_line(case: &Case<'_>, wanted: &str, dump: &Dump) -> Result<(), Fault>
     }
 }
 
-/// The expected line is one of layout, and what it says holds of the text; else this came in its place.
+/// Checks that the expected line is one of layout, and that what it says holds for the text. If not, `came` was found
+/// in its place.
 fn compare_layout(case: &Case<'_>, wanted: &str, came: &str) -> Result<(), Fault> {
     match Asked::of(wanted) {
         Some(asked) => lays_out(case, asked),
@@ -155,7 +156,7 @@ fn compare_layout(case: &Case<'_>, wanted: &str, came: &str) -> Result<(), Fault
     }
 }
 
-/// Each line that came with a text is expected.
+/// Checks that each line with a text that was found is expected.
 fn is_whole(case: &Case<'_>, dump: &Dump) -> Result<(), Fault> {
     for came in dump.lines() {
         let line = Line::of(came);
@@ -177,7 +178,7 @@ fn is_given(lines: &[&str], label: &str) -> bool {
     false
 }
 
-/// The document says the same as that of the other text.
+/// Checks that the document has the same data as that of the other text.
 fn says_the_same(case: &Case<'_>, wanted: &str, other: &str) -> Result<(), Fault> {
     let Call::Document = case.call else {
         return Err(case.differs(wanted, "no such line for this call"));
@@ -188,14 +189,15 @@ fn says_the_same(case: &Case<'_>, wanted: &str, other: &str) -> Result<(), Fault
     }
 }
 
-/// The document says the same as the item.
+/// Checks that the document has the same data as the item.
 fn says_the_same_as(case: &Case<'_>, item: &Item) -> Result<(), Fault> {
     let mut own = Dump::new(case.alloc(), true);
     answer(case, Whole::Document, &mut own)?;
     has_data(case, &own, item)
 }
 
-/// The lines are those of the item's data, which are of its one node where a document is read of a node's text.
+/// Checks that the lines are those of the item's data, or those of its only node if a document is read from a node's
+/// text.
 pub fn has_data(case: &Case<'_>, data: &Dump, item: &Item) -> Result<(), Fault> {
     let mut others = Dump::new(case.alloc(), true);
     match item.only_node() {
@@ -212,8 +214,8 @@ pub fn has_data(case: &Case<'_>, data: &Dump, item: &Item) -> Result<(), Fault> 
     Ok(())
 }
 
-/// The value of the first argument of the first node of that name prints the text, or there is no such value where no
-/// text is given.
+/// Checks that the value of the first argument of the first node of that name prints the text, or that there is no such
+/// value if no text is given.
 fn gets(case: &Case<'_>, wanted: &str, name: &str, text: Option<&str>) -> Result<(), Fault> {
     let Call::Document = case.call else {
         return Err(case.differs(wanted, "no such line for this call"));
@@ -224,7 +226,7 @@ fn gets(case: &Case<'_>, wanted: &str, name: &str, text: Option<&str>) -> Result
     }
 }
 
-/// The value prints the text, or neither is there.
+/// Checks that the value prints the text, or that there is neither.
 fn is_value(
     case: &Case<'_>,
     wanted: &str,

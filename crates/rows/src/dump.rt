@@ -1,4 +1,4 @@
-//! What a text is read as, in lines as those of a row.
+//! What a text is read as, in lines like those of a row.
 
 use crate::line::Line;
 use kdl::{
@@ -7,14 +7,14 @@ use kdl::{
 };
 use std::alloc::{AllocError, Global};
 
-/// The lines that come of a text: all of them, or those of data alone, which say what the text means and not how it is
-/// written.
+/// The lines that a text yields: all of them, or only those of its data, which say what the text means and not how it
+/// is written.
 #[derive(Drop)]
 pub struct Dump {
     alloc: Global,
     is_data: bool,
     lines: Vec<String>,
-    /// Whether memory was refused for a line.
+    /// Whether the allocation for a line failed.
     is_short: bool,
 }
 
@@ -69,7 +69,7 @@ impl Dump {
         "no such line"
     }
 
-    /// Whether all lines were taken, or memory was refused for one.
+    /// Returns an error if the allocation for a line failed.
     pub fn outcome(&self) -> Result<(), AllocError> {
         if self.is_short {
             return Err(AllocError);
@@ -77,7 +77,7 @@ impl Dump {
         Ok(())
     }
 
-    /// What was printed: nothing where memory was refused, which is noted.
+    /// Returns what was printed, or nothing if an allocation failed, which is noted.
     fn taken(&mut self, printed: Result<String, AllocError>) -> String {
         match printed {
             Ok(printed) => printed,
@@ -204,7 +204,7 @@ impl Dump {
         self.form(prefix, "after_eq", ": ", &format.after_eq);
     }
 
-    /// Adds the lines of a node's own, without those of its entries and its block.
+    /// Adds a node's own lines, without those of its entries and its block.
     fn own(&mut self, prefix: &str, node: &KdlNode) {
         self.name(prefix, "name", Some(node.name()));
         self.name(prefix, "type", node.ty());
@@ -228,7 +228,7 @@ impl Dump {
         self.form(prefix, "trailing", ": ", &format.trailing);
     }
 
-    /// Adds the lines of a node, but for those in its block, which waits.
+    /// Adds the lines of a node, except those in its block, which is added to `waiting`.
     fn outer<'a>(&mut self, prefix: &str, node: &'a KdlNode, waiting: &mut Vec<Waiting<'a>>) {
         self.own(prefix, node);
         for (index, entry) in node.entries().iter().enumerate() {
@@ -249,7 +249,7 @@ impl Dump {
         }
     }
 
-    /// Adds the lines of a document, but for those in the blocks of its nodes, which wait.
+    /// Adds the lines of a document, except those in the blocks of its nodes, which are added to `waiting`.
     fn level<'a>(
         &mut self,
         prefix: &str,
@@ -265,7 +265,7 @@ impl Dump {
         }
     }
 
-    /// Adds the lines of the documents that wait, and of all in them.
+    /// Adds the lines of the waiting documents, and of all documents in them.
     fn all(&mut self, waiting: &mut Vec<Waiting<'_>>) {
         for _ in 0..usize::MAX {
             let Some(next) = waiting.pop() else {
@@ -275,7 +275,7 @@ impl Dump {
         }
     }
 
-    /// Adds the lines of a document's own.
+    /// Adds a document's own lines.
     fn margins(&mut self, prefix: &str, document: &KdlDocument) {
         self.count(prefix, "nodes", document.nodes().len());
         self.span(prefix, "span", document.span());
@@ -340,7 +340,7 @@ impl Dump {
         self.form("", "severity", ": ", severity(told));
     }
 
-    /// Adds words of a diagnostic, or that there are none.
+    /// Adds a message, label or hint of a diagnostic, or that there is none.
     fn words(&mut self, name: &str, words: &Option<String>) {
         match words {
             Some(words) => self.form("", name, ": ", words),
@@ -349,7 +349,7 @@ impl Dump {
     }
 }
 
-/// How severe the diagnostic is.
+/// The severity of the diagnostic.
 fn severity(told: &KdlDiagnostic) -> &'static str {
     match told.severity {
         Severity::Advice => "advice",
@@ -358,7 +358,7 @@ fn severity(told: &KdlDiagnostic) -> &'static str {
     }
 }
 
-/// The words, or `none`.
+/// The text, or `none`.
 fn words_of(words: &Option<String>) -> &str {
     match words {
         Some(words) => words,

@@ -1,4 +1,4 @@
-//! Why a row fails, and how that is written.
+//! Why a row fails, and how that is reported.
 
 use std::alloc::{AllocError, AllocFailed, Global};
 use std::io::ErrorKind;
@@ -6,9 +6,9 @@ use std::io::ErrorKind;
 /// Why a row fails, or was not run to its end.
 #[derive(Clone, Copy)]
 pub enum Fault {
-    /// Something is wrong, and was written where it was found.
+    /// Something is wrong, and was reported where it was found.
     Wrong,
-    /// The run cannot go on: memory was refused, or nothing can be written.
+    /// The run cannot continue: an allocation or a write failed.
     Stopped(ErrorKind),
 }
 
@@ -39,7 +39,8 @@ impl Teller<'_> {
         self.rt.alloc()
     }
 
-    /// The fault that something is wrong: it is written, but for a row that has to fail.
+    /// Returns the fault that something is wrong, and reports it, except for a row that has to
+    /// fail.
     pub fn wrong(&self, what: &str, words: &str) -> Fault {
         if self.is_wrong {
             return Fault::Wrong;

@@ -12,7 +12,7 @@ pub struct Counts {
     pub failed: usize,
 }
 
-/// The block that is read, the place of its lines in the file, and the section whose lines it shares.
+/// The current block, the place of its lines in the file, and the section whose lines it shares.
 #[derive(Drop)]
 struct Reader<'a> {
     tell: Teller<'a>,
@@ -37,7 +37,7 @@ pub fn run_file(
     run_blocks(tell, &text, counts)
 }
 
-/// Runs the rows of a file's text. A line that begins with `#` is in no block.
+/// Runs the rows of a file's text. A line that begins with `#` is not part of a block.
 fn run_blocks(tell: Teller<'_>, text: &str, counts: &mut Counts) -> io::Result<()> {
     let mut reader = Reader {
         tell,
@@ -66,7 +66,7 @@ impl<'a> Reader<'a> {
         Ok(())
     }
 
-    /// Keeps the lines of a section, or runs the rows of another block, where there is one.
+    /// Keeps the lines of a section, or runs the rows of another block, if there is one.
     fn end_block(&mut self, counts: &mut Counts) -> io::Result<()> {
         let Some(first) = self.lines.first() else {
             return Ok(());
@@ -103,7 +103,7 @@ fn run_block<'a>(
     Ok(())
 }
 
-/// Counts a row, and writes that it did not fail where it had to.
+/// Counts a row, and reports it if it had to fail and did not.
 fn count(tell: &Teller<'_>, outcome: Result<(), Fault>, counts: &mut Counts) -> io::Result<()> {
     counts.rows = counts.rows.saturating_add(1);
     match outcome {

@@ -1,5 +1,5 @@
-//! Many texts made of one: its fronts, each read as a document, a node, an entry and an identifier, and those with one
-//! character replaced, doubled or taken away, read as documents.
+//! Many texts made from one: its prefixes, each read as a document, a node, an entry and an identifier, and the texts
+//! with one character replaced, doubled or removed, read as documents.
 
 use crate::answer::answer;
 use crate::checks::Case;
@@ -9,7 +9,7 @@ use crate::layout::{Asked, lays_out};
 use crate::line::{Call, Kind, Line};
 use kdl_faults::Whole;
 
-/// Tries each front of the text, and the text itself.
+/// Tests each prefix of the text, and the text itself.
 pub fn check_fronts(case: &Case<'_>) -> Result<(), Fault> {
     for (at, _) in case.text.char_indices() {
         check_front(case, at)?;
@@ -17,7 +17,7 @@ pub fn check_fronts(case: &Case<'_>) -> Result<(), Fault> {
     check_front(case, case.text.len())
 }
 
-/// Tries the front of that length.
+/// Tests the prefix of that length.
 fn check_front(case: &Case<'_>, len: usize) -> Result<(), Fault> {
     let front = Case {
         call: Call::Document,
@@ -49,7 +49,7 @@ fn is_accepted(case: &Case<'_>, whole: Whole) -> Result<bool, Fault> {
     answer(case, whole, &mut dump)
 }
 
-/// What an expected line says of one of many texts: that it is read, or laid out where it is a document.
+/// Checks what an expected line says about one of many texts: that it is read, or laid out if it is a document.
 fn check_many(case: &Case<'_>, line: &str, is_document: bool) -> Result<(), Fault> {
     match line {
         "answered" => Ok(()),
@@ -61,7 +61,7 @@ fn check_many(case: &Case<'_>, line: &str, is_document: bool) -> Result<(), Faul
     }
 }
 
-/// Whether the length is among those of the line, each of which is that of a front.
+/// Whether the length is among those of the line, each of which is the length of a prefix.
 fn has_length(case: &Case<'_>, lengths: &str, len: usize) -> Result<bool, Fault> {
     let mut is_there = false;
     for word in lengths.split_whitespace() {
@@ -75,7 +75,7 @@ fn has_length(case: &Case<'_>, lengths: &str, len: usize) -> Result<bool, Fault>
     Ok(is_there)
 }
 
-/// The length of a front that the word says.
+/// The length of a prefix that the word says.
 fn front_of(case: &Case<'_>, word: &str) -> Result<usize, Fault> {
     match word.parse::<usize>() {
         Ok(len) if case.text.is_char_boundary(len) => Ok(len),
@@ -83,7 +83,7 @@ fn front_of(case: &Case<'_>, word: &str) -> Result<usize, Fault> {
     }
 }
 
-/// Tries each text in which one character is replaced by one of those given, doubled or taken away.
+/// Tests each text in which one character is replaced by one of the given ones, doubled or removed.
 pub fn check_replaced(case: &Case<'_>) -> Result<(), Fault> {
     let Some(by) = case.row.setting("by") else {
         return Err(case.differs("by", "no such line in the row"));
@@ -95,7 +95,7 @@ pub fn check_replaced(case: &Case<'_>) -> Result<(), Fault> {
     Ok(())
 }
 
-/// Tries each text in which the character there is replaced, doubled or removed.
+/// Tests each text in which the character there is replaced, doubled or removed.
 fn check_replaced_at(case: &Case<'_>, at: usize, old: char, by: &str) -> Result<(), Fault> {
     let behind = at.saturating_add(old.len_utf8());
     for new in by.chars() {
@@ -105,21 +105,21 @@ fn check_replaced_at(case: &Case<'_>, at: usize, old: char, by: &str) -> Result<
     check_without(case, at, behind)
 }
 
-/// Tries the text with that character in place of what is between the two places.
+/// Tests the text with that character in place of what is between the two places.
 fn check_with(case: &Case<'_>, at: usize, new: char, behind: usize) -> Result<(), Fault> {
     let (front, back) = around(case.text, at, behind);
     let text = format!(in case.alloc(); "{front}{new}{back}")?;
     check_new(case, &text)
 }
 
-/// Tries the text without what is between the two places.
+/// Tests the text without what is between the two places.
 fn check_without(case: &Case<'_>, at: usize, behind: usize) -> Result<(), Fault> {
     let (front, back) = around(case.text, at, behind);
     let text = format!(in case.alloc(); "{front}{back}")?;
     check_new(case, &text)
 }
 
-/// The text before the one place, and after the other.
+/// The text before one place, and the text after the other.
 fn around(text: &str, at: usize, behind: usize) -> (&str, &str) {
     match (text.get(..at), text.get(behind..)) {
         (Some(front), Some(back)) => (front, back),
@@ -127,7 +127,7 @@ fn around(text: &str, at: usize, behind: usize) -> (&str, &str) {
     }
 }
 
-/// Tries a text in which one character is another.
+/// Tests a text in which one character is replaced.
 fn check_new(case: &Case<'_>, text: &str) -> Result<(), Fault> {
     let new = Case {
         call: Call::Document,

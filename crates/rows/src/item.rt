@@ -19,7 +19,7 @@ pub enum Item {
 }
 
 impl Item {
-    /// The text as such an item.
+    /// Parses the text as such an item.
     pub fn parse(alloc: Global, whole: Whole, text: &str) -> Result<Item, ParseFailure> {
         match whole {
             Whole::Document => Ok(Item::Document(KdlDocument::parse(alloc, text)?)),
@@ -29,7 +29,7 @@ impl Item {
         }
     }
 
-    /// The text as a document of version 2.
+    /// Parses the text as a document of version 2.
     pub fn parse_v2(alloc: Global, text: &str) -> Result<Item, ParseFailure> {
         Ok(Item::Document(KdlDocument::parse_v2(alloc, text)?))
     }
@@ -73,7 +73,7 @@ impl Item {
         }
     }
 
-    /// Puts a text into its place of a document or a node.
+    /// Sets a text in its place of a document or a node.
     pub fn put(&mut self, setting: &Setting<'_>) -> Result<(), Fault> {
         match self {
             Item::Document(document) => setting.put_in_document(document),
@@ -125,7 +125,8 @@ impl Item {
         }
     }
 
-    /// Lays out a document or a node at that level, with no more than so many blank lines between two nodes or comments.
+    /// Lays out a document or a node at that level, with at most this number of blank lines between two nodes or
+    /// comments.
     pub fn lay_out_spaced(
         &mut self,
         level: Option<usize>,

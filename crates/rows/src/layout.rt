@@ -1,4 +1,4 @@
-//! Texts that are laid out, with comments or without, and what they print then.
+//! Texts that are laid out, with comments or without, and what they then print.
 
 use crate::answer::prints;
 use crate::checks::{Case, has_data};
@@ -9,8 +9,8 @@ use crate::line::{Call, Line};
 use crate::places::Setting;
 use kdl_faults::Whole;
 
-/// An expected line of layout: its text, where it says what is printed, whether comments are left out, whether the
-/// first entry of the first node is flagged to keep its form, and how many blank lines stay, where the line says it.
+/// An expected line of layout: its text, if it says what is printed, whether comments are removed, whether the first
+/// entry of the first node is flagged to keep its form, and how many blank lines are kept, if the line says so.
 #[derive(Clone, Copy)]
 pub struct Asked<'a> {
     line: &'a str,
@@ -21,7 +21,7 @@ pub struct Asked<'a> {
 }
 
 impl<'a> Asked<'a> {
-    /// What the line asks for, if it is one of layout.
+    /// What the line requests, if it is a line of layout.
     pub fn of(line: &'a str) -> Option<Asked<'a>> {
         let Line { label, text } = Line::of(line);
         let (label, blank_lines) = counted(label);
@@ -52,8 +52,8 @@ fn counted(label: &str) -> (&str, Option<usize>) {
     (label, None)
 }
 
-/// The text laid out prints what is wanted, which has the same data. Laid out again it prints the same, and so does what
-/// is read of it; where an entry is kept, it prints what the row's other line says.
+/// Checks that the text after layout prints what is expected, which has the same data. After a second layout it prints
+/// the same, and so does what is read from it; if an entry is kept, it prints what the row's other line says.
 pub fn lays_out(case: &Case<'_>, asked: Asked<'_>) -> Result<(), Fault> {
     match case.call {
         Call::Document | Call::Node => {}
@@ -65,7 +65,7 @@ pub fn lays_out(case: &Case<'_>, asked: Asked<'_>) -> Result<(), Fault> {
     }
 }
 
-/// The item, with the texts of the row in its places, does so.
+/// Checks the same for the item, with the texts of the row in its places.
 fn item_lays_out(case: &Case<'_>, asked: Asked<'_>, item: &mut Item) -> Result<(), Fault> {
     let mut data = Dump::new(case.alloc(), true);
     item.add_to(&mut data);
@@ -80,7 +80,7 @@ fn item_lays_out(case: &Case<'_>, asked: Asked<'_>, item: &mut Item) -> Result<(
     lays_out_again(case, asked, item, &printed)
 }
 
-/// Puts the texts of the row's lines into their places of the item.
+/// Sets the texts of the row's lines in their places of the item.
 fn put_places(case: &Case<'_>, item: &mut Item) -> Result<(), Fault> {
     for line in case.row.lines {
         let line = Line::of(line);
@@ -93,7 +93,7 @@ fn put_places(case: &Case<'_>, item: &mut Item) -> Result<(), Fault> {
     Ok(())
 }
 
-/// Puts the text into that place of the item.
+/// Sets the text in that place of the item.
 fn put_place(case: &Case<'_>, item: &mut Item, place: &str, notation: &str) -> Result<(), Fault> {
     let text = case.fills.decoded(notation)?;
     item.put(&Setting {
@@ -121,7 +121,7 @@ fn lay_out(case: &Case<'_>, asked: Asked<'_>, item: &mut Item) -> Result<(), Fau
     Ok(())
 }
 
-/// The level of the outermost nodes, if the row says one.
+/// The level of the outermost nodes, if the row has one.
 fn level(case: &Case<'_>) -> Result<Option<usize>, Fault> {
     let Some(text) = case.row.setting("level") else {
         return Ok(None);
@@ -132,8 +132,8 @@ fn level(case: &Case<'_>) -> Result<Option<usize>, Fault> {
     }
 }
 
-/// What is printed is read back. A node with texts set in its places prints a document of that one node: a dropped node
-/// may come after it, which a node's own text can't have there.
+/// Checks that what is printed reads back. A node with texts set in its places prints a document of only that node: a
+/// slashdashed node may come after it, which a text that is one node can't have there.
 fn is_read_back(
     case: &Case<'_>,
     asked: Asked<'_>,
@@ -151,7 +151,8 @@ fn is_read_back(
     }
 }
 
-/// The item that was read back has the same data, and prints the same once it is laid out, unless an entry was kept.
+/// Checks that the item that was read back has the same data, and prints the same after layout, unless an entry was
+/// kept.
 fn is_same(
     case: &Case<'_>,
     asked: Asked<'_>,
@@ -166,7 +167,7 @@ fn is_same(
     prints_laid_out(case, asked, item, printed)
 }
 
-/// The item prints the text once it is laid out again, or where an entry was kept that of the row's other line.
+/// Checks that the item prints the text after a second layout, or that of the row's other line if an entry was kept.
 fn lays_out_again(
     case: &Case<'_>,
     asked: Asked<'_>,
@@ -184,7 +185,7 @@ fn lays_out_again(
     prints_laid_out(case, asked, item, &other)
 }
 
-/// The item prints the text once it is laid out.
+/// Checks that the item prints the text after layout.
 fn prints_laid_out(
     case: &Case<'_>,
     asked: Asked<'_>,

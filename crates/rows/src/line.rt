@@ -38,15 +38,15 @@ impl Call {
 /// What a line is for.
 #[derive(Clone, Copy)]
 pub enum Kind {
-    /// It has a text to be tried.
+    /// A text to be tested.
     Text(Call),
-    /// It says which texts are made of the row's.
+    /// Says which texts are made from the row's.
     Making,
-    /// It says how texts are laid out.
+    /// Says how texts are laid out.
     Layout,
-    /// It sets a text in a place before that.
+    /// Sets a text in a place before layout.
     Place,
-    /// It says what is expected.
+    /// Says what is expected.
     Wanted,
 }
 
@@ -67,7 +67,7 @@ const KINDS: [(&str, Kind); 13] = [
     ("level", Kind::Layout),
 ];
 
-/// A line of a row: its label, and its text, or none where it is the label alone.
+/// A line of a row: its label, and its text, or none if the line is only a label.
 #[derive(Clone, Copy)]
 pub struct Line<'a> {
     pub label: &'a str,
@@ -95,7 +95,7 @@ impl<'a> Line<'a> {
         }
     }
 
-    /// The text of the line, which is empty where there is none.
+    /// Returns the text of the line, or an empty text if there is none.
     pub fn words(&self) -> &'a str {
         match self.text {
             Some(text) => text,
@@ -127,7 +127,7 @@ impl<'a> Line<'a> {
         }
     }
 
-    /// Whether the line says what a text prints once it is laid out.
+    /// Whether the line says what a text prints after layout.
     pub fn is_layout(&self) -> bool {
         self.label.contains("strip") || self.label.contains("fmt")
     }

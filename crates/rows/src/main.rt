@@ -1,8 +1,8 @@
 //! Runs files of rows: what texts are read as, what they print, and which are refused.
 //!
-//! Its arguments name the files. In those after the word `wrong` each row has to fail. Each row that fails is written to
-//! standard output, with what was wanted and what came, and at the end how many rows there were and how many failed.
-//! `README.md` of this crate describes the format of the files.
+//! Its arguments name the files. In the files after the argument `wrong` each row has to fail. Each row that fails is
+//! written to standard output, with what was expected and what was found, and at the end the number of rows and of
+//! failures. `README.md` of this crate describes the format of the files.
 #![tactic(auto)]
 
 mod answer;

@@ -1,11 +1,11 @@
-//! The notation of texts in rows: marks for what is invisible, repeated pieces, and the place of a member or of the
+//! The notation of texts in rows: marks for invisible characters, repeated pieces, and the place of a member or of the
 //! row's own text.
 
 use crate::fault::{Fault, Teller};
 use crate::line::Line;
 use std::alloc::AllocError;
 
-/// The texts in place of `◊` and of `□`, and what reports that there is none.
+/// The texts in place of `◊` and `□`, and what reports that there is none.
 #[derive(Clone, Copy)]
 pub struct Fills<'a> {
     pub tell: &'a Teller<'a>,
@@ -14,7 +14,7 @@ pub struct Fills<'a> {
 }
 
 impl Fills<'_> {
-    /// The text that the notation means.
+    /// Returns the text that the notation denotes.
     pub fn decoded(&self, notation: &str) -> Result<String, Fault> {
         let mut text = String::new(self.tell.alloc());
         self.push(&mut text, notation)?;
@@ -38,7 +38,7 @@ impl Fills<'_> {
         Ok(())
     }
 
-    /// Adds what the notation means to the text.
+    /// Appends what the notation denotes to the text.
     fn push(&self, text: &mut String, notation: &str) -> Result<(), Fault> {
         let mut decoder = Decoder {
             fills: *self,
@@ -74,13 +74,13 @@ struct Decoder<'a> {
     fills: Fills<'a>,
     notation: &'a str,
     part: Part,
-    /// Where the repeated piece begins in the text, and how often it is to be there: 0 where there is none.
+    /// Where the repeated piece begins in the text, and how often it is repeated: 0 if there is none.
     start: usize,
     count: u32,
 }
 
 impl Decoder<'_> {
-    /// The fault that this is wrong with the notation.
+    /// Returns the fault that this is wrong with the notation.
     fn wrong(&self, what: &str) -> Fault {
         self.fills.tell.wrong(what, self.notation)
     }
@@ -170,7 +170,7 @@ fn character(code: &str) -> Option<char> {
     }
 }
 
-/// The character that a mark, or another character, means.
+/// The character that a mark, or another character, denotes.
 fn plain(c: char) -> char {
     match c {
         '⏎' => '\n',
@@ -181,7 +181,7 @@ fn plain(c: char) -> char {
     }
 }
 
-/// Adds words, and after them the notation of the text, to a message: of its front, where it is long.
+/// Appends words and the notation of the text to a message, or the notation of a prefix if the text is long.
 pub fn encode(message: &mut String, words: &str, text: &str) -> Result<(), AllocError> {
     message.push_str(words)?;
     for c in text.chars().take(400) {
@@ -198,7 +198,7 @@ fn push_mark(message: &mut String, c: char) -> Result<(), AllocError> {
     }
 }
 
-/// The mark of the notation for the character, where it has one.
+/// The mark of the notation for the character, if it has one.
 fn mark(c: char) -> Option<char> {
     match c {
         '\n' => Some('⏎'),

@@ -1,4 +1,4 @@
-//! Texts set by hand in the places of formats, where an item is laid out.
+//! Texts set by hand in the places of formats, before an item is laid out.
 
 use crate::fault::{Fault, Teller};
 use kdl::{KdlDocument, KdlDocumentFormat, KdlEntry, KdlEntryFormat, KdlNode, KdlNodeFormat};
@@ -75,7 +75,7 @@ pub struct Setting<'a> {
 }
 
 impl Setting<'_> {
-    /// Puts the text into its place of the document, or of each of its nodes.
+    /// Sets the text in its place of the document, or of each of its nodes.
     pub fn put_in_document(&self, document: &mut KdlDocument) -> Result<(), Fault> {
         if !self.place.contains(' ') {
             return self.put_in_margin(document, self.place);
@@ -86,7 +86,7 @@ impl Setting<'_> {
         Ok(())
     }
 
-    /// Puts the text into its place of the node, of each of its entries, or of its block, where it has one.
+    /// Sets the text in its place of the node, of each of its entries, or of its block, if it has one.
     pub fn put_in_node(&self, node: &mut KdlNode) -> Result<(), Fault> {
         let (owner, place) = self.place.split_once(' ').unwrap_or(("", ""));
         match owner {
@@ -97,7 +97,7 @@ impl Setting<'_> {
         }
     }
 
-    /// Puts the text into that place of the format of a node.
+    /// Sets the text in that place of the format of a node.
     fn put_in_format(&self, format: Option<&mut KdlNodeFormat>, place: &str) -> Result<(), Fault> {
         match format {
             Some(format) => self.put(node_place(format, place)),
@@ -105,7 +105,7 @@ impl Setting<'_> {
         }
     }
 
-    /// Puts the text into that place of each entry.
+    /// Sets the text in that place of each entry.
     fn put_in_entries(&self, entries: &mut Vec<KdlEntry>, place: &str) -> Result<(), Fault> {
         for entry in entries.iter_mut() {
             match entry.format_mut() {
@@ -116,7 +116,7 @@ impl Setting<'_> {
         Ok(())
     }
 
-    /// Puts the text into that place of the block, where there is one.
+    /// Sets the text in that place of the block, if there is one.
     fn put_in_block(&self, block: &mut Option<KdlDocument>, place: &str) -> Result<(), Fault> {
         match block {
             Some(block) => self.put_in_margin(block, place),
@@ -124,7 +124,7 @@ impl Setting<'_> {
         }
     }
 
-    /// Puts the text into that place of the document or block.
+    /// Sets the text in that place of the document or block.
     fn put_in_margin(&self, document: &mut KdlDocument, place: &str) -> Result<(), Fault> {
         match document.format_mut() {
             Some(format) => self.put(margin(format, place)),
@@ -132,7 +132,7 @@ impl Setting<'_> {
         }
     }
 
-    /// Puts the text into the place, if there is one.
+    /// Sets the text in the place, if there is one.
     fn put(&self, place: Option<&mut String>) -> Result<(), Fault> {
         let Some(place) = place else {
             return Err(self.tell.wrong("nothing has the place ", self.place));

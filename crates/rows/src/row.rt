@@ -1,4 +1,4 @@
-//! A row: the texts that it tries, each with the settings of its lines.
+//! A row: the texts that it tests, each with the settings of its lines.
 
 use crate::checks::{Case, check};
 use crate::fault::{Fault, Teller};
@@ -19,7 +19,7 @@ pub struct Row<'a> {
 struct Seen {
     has_text: bool,
     has_wanted: bool,
-    /// A line that says how texts are laid out, or sets a text before that.
+    /// Whether there is a line that says how texts are laid out, or that sets a text before layout.
     has_setting: bool,
     has_layout: bool,
 }
@@ -86,7 +86,7 @@ fn placing(line: Line<'_>) -> Option<&'static str> {
 }
 
 impl<'a> Row<'a> {
-    /// The row has a text, expects something, and each of its lines is right.
+    /// Checks that the row has a text, expects something, and each of its lines is right.
     pub fn is_whole(&self) -> Result<(), Fault> {
         let mut seen = Seen {
             has_text: false,
@@ -127,7 +127,7 @@ impl<'a> Row<'a> {
         false
     }
 
-    /// Tries a text of the row, with each member of a class where the row says so.
+    /// Tests a text of the row, with each member of a class if the row says so.
     pub fn run(&'a self, call: Call, text: &str) -> Result<(), Fault> {
         let Some(class) = self.setting("each") else {
             return self.run_text(call, text, None);
@@ -154,7 +154,7 @@ impl<'a> Row<'a> {
         text.contains('◊')
     }
 
-    /// Tries the text with that member.
+    /// Tests the text with that member.
     fn run_text(&'a self, call: Call, text: &str, member: Option<&'a str>) -> Result<(), Fault> {
         let fills = Fills {
             tell: self.tell,
@@ -165,7 +165,7 @@ impl<'a> Row<'a> {
         self.run_own(call, &own, member)
     }
 
-    /// Tries the decoded text with that member.
+    /// Tests the decoded text with that member.
     fn run_own(&'a self, call: Call, own: &'a str, member: Option<&'a str>) -> Result<(), Fault> {
         let fills = Fills {
             tell: self.tell,
@@ -182,13 +182,13 @@ impl<'a> Row<'a> {
         self.run_places(&case)
     }
 
-    /// Tries the text, with a line `set each` once for each place.
+    /// Tests the text, with a line `set each` once for each place.
     fn run_places(&self, case: &Case<'_>) -> Result<(), Fault> {
         if self.setting("set each").is_none() {
             return self.run_patterns(case);
         }
         for place in &PLACES {
-            // A node has none of the places of a document's own.
+            // A node does not have the places of a document.
             if place.contains(' ') || !case.call.is_node() {
                 self.run_patterns(&Case {
                     each: Some(place),
@@ -199,7 +199,7 @@ impl<'a> Row<'a> {
         Ok(())
     }
 
-    /// Tries the text, or each pattern with the text in its place.
+    /// Tests the text, or each pattern with the text in its place.
     fn run_patterns(&self, case: &Case<'_>) -> Result<(), Fault> {
         if self.setting("within").is_none() {
             return check(case);
@@ -214,7 +214,7 @@ impl<'a> Row<'a> {
     }
 }
 
-/// Tries the pattern with the text in its place.
+/// Tests the pattern with the text in its place.
 fn run_pattern(case: &Case<'_>, pattern: &str) -> Result<(), Fault> {
     let text = case.fills.decoded(pattern)?;
     check(&Case {

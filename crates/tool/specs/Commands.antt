@@ -1,4 +1,4 @@
--- What the tool's words ask for, and what is written for them.
+-- The tool's commands, and what they write.
 use Rattle.std.specs.Prelude.{◌≡◌, ℕ, true, List, [], ◌∷◌, Option, Some, option_map, codes, chars, encode_utf8_all}
 use Rattle.kdl_value.specs.Data.{Value}
 use Rattle.kdl_value.specs.Print.{print_value}
@@ -15,25 +15,25 @@ use Rattle.tool.specs.Reports.{line}
 use Rattle.tool.specs.declared.Command.{Command}
 use Rattle.tool.specs.declared.Command.TheVariants.{Cat, Fmt, Strip, Get}
 
--- what the words ask for: the text itself, the text laid out, its canonical text, or the value at a name, given by its bytes
+-- a command: write the text itself, the text laid out, its canonical text, or the value at a name, given by its bytes
 pub data Asked : Type 0 where
   cat : Asked
   fmt : Asked
   strip : Asked
   get : List ℕ → Asked
 
--- its words
+-- the arguments of a command
 abbrev pub words_of : Asked → List (List ℕ)
 words_of cat = codes "cat" ∷ []
 words_of fmt = codes "fmt" ∷ []
 words_of strip = codes "strip" ∷ []
 words_of (get name) = codes "get" ∷ name ∷ []
 
--- the words are none of the tool's
+-- the arguments are not a command
 abbrev pub AreOther : List (List ℕ) → Type 0
 AreOther words = (a : Asked) → words ≡ words_of a → ⊥
 
--- what a command in memory asks for
+-- the command in memory
 abbrev pub asked_by : Command → Asked
 asked_by Cat = cat
 asked_by Fmt = fmt
@@ -44,7 +44,7 @@ asked_by (Get name) = get name.now
 abbrev pub value_line : Option Value → Option (List ℕ)
 value_line = option_map (λ v. line (encode_utf8_all (print_value v)))
 
--- what the document of a text, which says x, prints once it is laid out: a text that says x too
+-- what the document of a text with the data x prints after layout: a text with the data x too
 pub record IsLaidOut (text : List ℕ) (x : Nodes) (out : List ℕ) : Type 0 where
   pub before : Document
   pub after : Document
@@ -53,7 +53,7 @@ pub record IsLaidOut (text : List ℕ) (x : Nodes) (out : List ℕ) : Type 0 whe
   pub prints : out ≡ encode_utf8_all (print_document after 0)
   pub says : IsDocument true (print_document after 0) x
 
--- what is written of a text that says x; None where there is no such value
+-- what is written for a text with the data x; None if there is no such value
 abbrev pub IsWritten : Asked → List ℕ → Nodes → Option (List ℕ) → Type 0
 IsWritten cat text x o = o ≡ Some text
 IsWritten fmt text x o = (out : List ℕ) × IsLaidOut text x out × (o ≡ Some out)

@@ -1,6 +1,6 @@
--- What the tool's words ask for, and what is written for them.
+-- The tool's commands, and what they write.
 pub mod Commands
--- The exit status of each outcome, and what is written of it to standard error.
+-- The exit status of each outcome, and what is written to standard error.
 pub mod Reports
 -- What a run of the tool reads, writes and returns.
 pub mod Runs

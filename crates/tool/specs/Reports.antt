@@ -1,4 +1,4 @@
--- The exit status of each outcome, and what is written of it to standard error.
+-- The exit status of each outcome, and what is written to standard error.
 use Rattle.std.specs.Prelude.{ℕ, ◌+◌, ◌-◌, ◌^◌, min, List, [], ◌∷◌, ◌++◌, flat_map, Option, Some, None, codes, decimal, String, string_bytes}
 use Rattle.std.specs.declared.alloc.Global.{Global}
 use Rattle.kdl_text.specs.declared.error.KdlDiagnostic.{KdlDiagnostic}
@@ -7,7 +7,7 @@ use Rattle.kdl_text.specs.declared.span.SourceSpan.{SourceSpan}
 use Rattle.tool.specs.declared.Outcome.{Outcome}
 use Rattle.tool.specs.declared.Outcome.TheVariants.{Done, Refused, NotUtf8, NoValue, Usage, ReadFailed, WriteFailed, Memory}
 
--- 0 where all is done, 1 where the input is refused, 2 for other words, 3 where a read, a write or memory failed
+-- 0 on success, 1 if the input is refused, 2 for other arguments, 3 if a read, a write or an allocation failed
 abbrev pub status_of : Outcome → ℕ
 status_of Done = 0
 status_of (Refused e) = 1
@@ -22,11 +22,11 @@ status_of Memory = 3
 abbrev pub line : List ℕ → List ℕ
 line text = text ++ (10 ∷ [])
 
--- where a place ends, in bytes
+-- the end of a span, in bytes
 abbrev pub span_end : SourceSpan → ℕ
 span_end s = min (s.offset + s.len) (2 ^ 64 - 1)
 
--- the message, where there is one
+-- the message, if there is one
 abbrev pub message_of : Option (String Global) → List ℕ
 message_of (Some m) = string_bytes m
 message_of None = codes "Unexpected error"

@@ -10,7 +10,7 @@ use Rattle.tool.specs.declared.Outcome.TheVariants.{Done, Refused, NotUtf8, NoVa
 use Rattle.tool.specs.declared.Unread.{Unread}
 use Rattle.tool.specs.declared.Unread.TheVariants.{Failed}
 
--- the outcome of words that are none of the tool's
+-- the outcome for arguments that are not a command
 abbrev pub IsUsage : Outcome → Type 0
 IsUsage Usage = Unit {0}
 IsUsage _ = ⊥
@@ -20,7 +20,7 @@ abbrev pub is_read_failed : Outcome → Bool
 is_read_failed ReadFailed = true
 is_read_failed _ = false
 
--- the outcome of a write that failed, or took no byte
+-- the outcome of a write that failed, or wrote no byte
 abbrev pub is_write_failed : Outcome → Bool
 is_write_failed WriteFailed = true
 is_write_failed _ = false
@@ -30,12 +30,12 @@ abbrev pub is_unread_failed : {X : Type 0} → Result X Unread → Bool
 is_unread_failed (Err Failed) = true
 is_unread_failed _ = false
 
--- all is done
+-- the run succeeded
 abbrev pub IsDone : Outcome → Type 0
 IsDone Done = Unit {0}
 IsDone _ = ⊥
 
--- the reader had exactly these bytes, and gave them all
+-- the reader had exactly these bytes, and returned all of them
 abbrev pub IsInput : Option (List ℕ) → Option (List ℕ) → List ℕ → Type 0
 IsInput had left bytes = Consumes had left bytes × IsAtEnd left
 
@@ -45,7 +45,7 @@ pub record Says (bytes : List ℕ) (x : Nodes) : Type 0 where
   pub derived : IsDocument true (chars bytes) x
   pub alone : (y : Nodes) → IsDocument true (chars bytes) y → y ≡ x
 
--- what a run with these words writes of these bytes; None where they have no such value
+-- what a run with these arguments writes for these bytes; None if they have no such value
 pub record Output (words : List (List ℕ)) (bytes : List ℕ) (out : Option (List ℕ)) : Type 0 where
   pub asked : Asked
   pub by : words ≡ words_of asked
@@ -57,10 +57,10 @@ pub record Output (words : List (List ℕ)) (bytes : List ℕ) (out : Option (Li
 abbrev pub AreNoDocument : List ℕ → Type 0
 AreNoDocument bytes = IsUtf8 bytes × ((x : Nodes) → IsDocument true (chars bytes) x → ⊥)
 
--- what each outcome of these words says of the whole input, and of the bytes that the writer held and holds
+-- what each outcome of these arguments says about the whole input, and about the bytes that the writer held and holds
 abbrev pub Answered : Outcome → List (List ℕ) → List ℕ → Option (List ℕ) → Option (List ℕ) → Type 0
 Answered Done words bytes held holds = (out : List ℕ) × Output words bytes (Some out) × Appends held holds out
--- a beginning of what Done would write
+-- a prefix of what Done would write
 Answered WriteFailed words bytes held holds = (out : List ℕ) × Output words bytes (Some out) × ((n : ℕ) × (n < length out) × Appends held holds (take n out))
 Answered NoValue words bytes held holds = Output words bytes None
 -- the error has the faults of the bytes
@@ -71,21 +71,21 @@ Answered Memory words bytes held holds = Unit {0}
 Answered Usage words bytes held holds = ⊥
 Answered ReadFailed words bytes held holds = ⊥
 
--- what each outcome of these words says of the bytes that the reader had and has left, and that the writer held and holds:
--- but for Usage, ReadFailed and Memory the whole input was read
+-- what each outcome of these arguments says about the bytes that the reader had and has left, and that the writer held and holds:
+-- except for Usage, ReadFailed and Memory the whole input was read
 abbrev pub Ran : Outcome → List (List ℕ) → Option (List ℕ) → Option (List ℕ) → Option (List ℕ) → Option (List ℕ) → Type 0
 Ran Usage words had left held holds = Unit {0}
 Ran ReadFailed words had left held holds = Unit {0}
 Ran Memory words had left held holds = Unit {0}
 Ran o words had left held holds = (bytes : List ℕ) × IsInput had left bytes × Answered o words bytes held holds
 
--- nothing is written, but with Done and WriteFailed
+-- nothing is written, except with Done and WriteFailed
 abbrev pub WritesNothing : Outcome → Type 0
 WritesNothing Done = ⊥
 WritesNothing WriteFailed = ⊥
 WritesNothing _ = Unit {0}
 
--- what each outcome says of the flags: a read failed, the reader is at its end, a write failed
+-- what each outcome says about the flags: a read failed, the reader is at its end, a write failed
 abbrev pub Flagged : Outcome → Bool → Bool → Bool → Type 0
 Flagged ReadFailed read_failed ended write_failed = IsTrue read_failed
 Flagged WriteFailed read_failed ended write_failed = IsTrue ended × IsTrue write_failed

@@ -3,7 +3,7 @@ use Rattle.std.specs.Prelude.{◌≡◌, ℕ, ◌<◌, Bool, true, false, List, 
 use Rattle.std.specs.Io.KnownBytes.{Appends}
 use Rattle.watched.specs.declared.Watched.{Watched}
 
--- with true all the bytes are written, and no write failed; with false not all are, only a beginning, and a write failed
+-- with true all the bytes are written, and no write failed; with false only a prefix is written, not all, and a write failed
 abbrev pub Writes : {W : Type 0} → (W → Option (List ℕ)) → Watched W → Watched W → List ℕ → Bool → Type 0
 Writes contents old new bytes true = Appends (contents old.inner) (contents new.inner) bytes × (new.failed ≡ old.failed)
 Writes contents old new bytes false =

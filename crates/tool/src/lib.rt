@@ -15,34 +15,34 @@ use std::alloc::{AllocError, Global};
 use std::io::{Read, Write};
 use watched::Watched;
 
-/// How many bytes are asked for at a time.
+/// The number of bytes requested at a time.
 const READ_SIZE: usize = 65536;
 
-/// How many decimal digits a `usize` has at most.
+/// The greatest number of decimal digits of a `usize`.
 const MOST_DIGITS: usize = 20;
 
-/// What a run came to.
+/// The outcome of a run.
 #[derive(Debug, Drop)]
 pub enum Outcome {
-    /// The output is written, all of it.
+    /// The whole output is written.
     Done,
-    /// The input is no KDL document.
+    /// The input is not a KDL document.
     Refused(KdlError),
-    /// The input is no UTF-8.
+    /// The input is not UTF-8.
     NotUtf8,
     /// The document has no such value.
     NoValue,
-    /// The words are none of the tool's.
+    /// The arguments are not a command of the tool.
     Usage,
     /// A `read` failed.
     ReadFailed,
-    /// A `write` failed, or took no byte.
+    /// A `write` failed, or wrote no byte.
     WriteFailed,
     /// A request for memory was refused.
     Memory,
 }
 
-/// What the words ask for.
+/// A command of the tool.
 #[derive(Clone, Copy)]
 enum Command<'a> {
     /// The document as it is.
@@ -62,21 +62,19 @@ enum Unread {
     Memory,
 }
 
-/// Runs the tool on its words:
+/// Runs the tool with these arguments:
 ///
 /// - `cat` writes the document that it reads as it is;
-/// - `fmt` writes it laid out, in one layout for all documents: comments, and what a slashdash drops,
-///   stay where `KdlDocument::autoformat` keeps them; the spellings of names and values go;
-/// - `strip` writes it laid out, without comments and without what a slashdash drops;
+/// - `fmt` formats it, in one layout for all documents: comments and slashdashed pieces are kept where
+///   `KdlDocument::autoformat` keeps them; the spellings of names and values are removed;
+/// - `strip` formats it without comments and slashdashed pieces;
 /// - `get NAME` writes the value of the first argument of the first node of that name, as values
-///   print, and a newline. `NoValue`: there is no such node, or it has no argument, whatever
-///   later nodes have.
+///   print, and a newline. `NoValue` if there is no such node, or if it has no argument, whatever later nodes have.
 ///
-/// Any other words are `Usage`, and nothing is read.
+/// For any other arguments returns `Usage`, and nothing is read.
 ///
-/// The whole input is read and parsed before the first byte is written. The first error of a
-/// `read` or a `write` ends the run, an interrupted one too. Nothing is flushed: that is for the
-/// owner of a writer with a buffer.
+/// The whole input is read and parsed before the first byte is written. The first error of a `read` or a `write` ends
+/// the run, even an interrupted one. Nothing is flushed: the owner of a buffered writer has to do that.
 pub fn run<R: Read, W: Write>(
     alloc: Global,
     words: &[String],
@@ -102,7 +100,7 @@ pub fn run<R: Read, W: Write>(
     }
 }
 
-/// What the words ask for, where they are the tool's.
+/// The command, if the arguments are one.
 fn command_of(words: &[String]) -> Option<Command<'_>>
     ensures { MatchOption result (AreOther (map string_bytes words.now))
         (λ c. map string_bytes words.now ≡ words_of (asked_by c)) }
@@ -130,7 +128,7 @@ fn command_of(words: &[String]) -> Option<Command<'_>>
     }
 }
 
-/// All that the reader has left, up to the first read that gives no byte.
+/// Reads everything that the reader has left, up to the first read that returns no byte.
 fn read_whole<R: Read>(alloc: Global, reader: &mut Watched<R>) -> Result<Vec<u8>, Unread>
     ensures whole { IfOk result
         (λ input. IsInput (R.remaining reader.old.inner)
@@ -153,7 +151,7 @@ fn read_whole<R: Read>(alloc: Global, reader: &mut Watched<R>) -> Result<Vec<u8>
     }
 }
 
-/// Parses the input, and writes what the command asks of it.
+/// Parses the input, and writes the output of the command.
 fn answer<W: Write>(
     alloc: Global,
     command: Command<'_>,
@@ -183,7 +181,7 @@ fn answer<W: Write>(
     }
 }
 
-/// What the command writes of a text, where it has the value that is asked for.
+/// The output of the command for a text, or `None` if it lacks the requested value.
 fn output(alloc: Global, command: Command<'_>, text: &str) -> Result<Option<String>, ParseFailure>
     ensures output { IfOk result
         (λ o. Output (words_of (asked_by command.entry)) text.now (option_map string_bytes o)) }
@@ -222,8 +220,8 @@ fn value_line(
     Ok(Some(line))
 }
 
-/// Writes the bytes, and returns whether all were written. It stops at the first error, and at
-/// the first write that takes no byte.
+/// Writes the bytes, and returns whether all were written. Stops at the first error, and at the first write that writes
+/// no byte.
 #[tactic(auto, using(crate::proofs::LoopSteps::written_more))]
 fn write_whole<W: Write>(bytes: &[u8], writer: &mut Watched<W>) -> bool
     ensures { Writes W.contents writer.old writer.new bytes.now result }
@@ -250,7 +248,7 @@ fn write_pieces<W: Write>(pieces: &[&[u8]], writer: &mut Watched<W>) -> bool
     true
 }
 
-/// Puts the decimal digits of the number at the front of the buffer, and returns how many they are.
+/// Writes the decimal digits of the number to the front of the buffer, and returns how many there are.
 fn put_decimal(number: usize, buffer: &mut [u8]) -> usize
     requires { length (decimal number) ≤ length buffer.old }
     ensures count { result ≡ length (decimal number) }
@@ -266,8 +264,8 @@ fn put_decimal(number: usize, buffer: &mut [u8]) -> usize
 }
 
 impl Outcome {
-    /// The exit status: 0 where all is done, 1 where the input is refused, 2 for words that are
-    /// none of the tool's, and 3 where a read, a write or a request for memory failed.
+    /// Returns the exit status: 0 on success, 1 if the input is refused, 2 for arguments that are not a command, and 3
+    /// if a read, a write or an allocation failed.
     pub fn status(&self) -> u8
         ensures { result ≡ status_of self.now }
     {
@@ -279,9 +277,8 @@ impl Outcome {
         }
     }
 
-    /// Writes a line for each fault, and returns whether all lines were written: where they were not,
-    /// a write failed. It stops at the first error, an interrupted one too, and at the first write
-    /// that takes no byte.
+    /// Writes a line for each fault, and returns whether all lines were written; if not, a write failed. Stops at the
+    /// first error, even an interrupted one, and at the first write that writes no byte.
     ///
     /// A line of a refused input is `offset..end message`, in bytes of the input.
     pub fn report<W: Write>(&self, writer: &mut Watched<W>) -> bool

@@ -1,4 +1,4 @@
-//! Lays out KDL files, with their comments and groups, and writes them one after another.
+//! Formats KDL files, with their comments and groups, and writes them one after another.
 #![tactic(auto)]
 
 ghost use Rattle.kdl.specs.Words.{IsDocument, IsSyntax, Nodes, TellsOnSyntax, text_of};
@@ -12,15 +12,15 @@ use std::alloc::Global;
 use std::process::ExitCode;
 use std::{env, fs, io};
 
-/// The document of the text, laid out.
+/// Returns the document of the text, formatted.
 fn laid_out(alloc: Global, text: &str) -> Result<String, ParseFailure>
-    // The output is a document that says what the text says.
+    // The output is a document with the data of the text.
     ensures says { IfOk result (λ out. (x : Nodes) → IsDocument true (chars text.now) x
         → IsDocument true (text_of out) x) }
-    // It is the text laid out, with one blank line at most between two nodes or comments: its comments stay, and a
+    // It is the text laid out, with at most one blank line between two nodes or comments: its comments are kept, and a
     // second layout changes nothing.
     ensures laid_out { IfOk result (λ out. IsSpacedOut 1 (chars text.now) (text_of out)) }
-    // A text that is refused is no document, and the error has its faults.
+    // A refused text is not a document, and the error has its faults.
     ensures refused { IsSyntax result → (x : Nodes) → IsDocument true (chars text.now) x → ⊥ }
     ensures told { TellsOnSyntax text.now result }
 {
@@ -35,7 +35,7 @@ fn laid_out(alloc: Global, text: &str) -> Result<String, ParseFailure>
     Ok(document.to_string(alloc)?)
 }
 
-/// Writes the file laid out, or its faults, and returns whether it has none.
+/// Writes the formatted file, or its faults, and returns whether it has none.
 fn show(rt: &HostRuntime, name: &str) -> io::Result<bool> {
     let text = fs::read_to_string(rt, name)?;
     match laid_out(rt.alloc(), &text) {

@@ -1,4 +1,4 @@
--- Which rule is broken where in a document, by what the document says.
+-- Which rule is broken where in a document, given the data of the document.
 use Rattle.std.specs.List.{list_any}
 use Rattle.std.specs.Option.{option_map_or}
 use Rattle.std.specs.Prelude.{◌≡◌, ℕ, Bool, true, not, ◌&&◌, ◌||◌, nat_le, if◌then◌else◌, List, [], ◌∷◌, ◌++◌, Contains, chars, filter, find, length, map, Option, Some, is_some, codes}
@@ -20,7 +20,7 @@ is_kind Text v = is_some (text_value v)
 is_kind Whole v = is_some (integer_value v)
 is_kind Boolean v = is_some (truth_value v)
 
--- what an entry says is a property of that name and kind
+-- the data of an entry are a property of that name and kind
 abbrev pub is_property : EntryData → List ℕ → Kind → Bool
 is_property e name kind = has_key (chars name) e && is_kind kind e.value
 
@@ -32,11 +32,11 @@ is_listed r e = list_any (λ p. is_property e p.0.now p.1) r.properties.now
 abbrev pub is_entry : Rule → EntryData → Bool
 is_entry r e = has_no_key e || is_listed r e
 
--- what an entry in memory says
+-- the data of an entry in memory
 abbrev pub entry_says : KdlEntry → EntryData
 entry_says e = entry_data (entry_tree e)
 
--- a node says as many arguments as the rule allows
+-- a node has as many arguments as the rule allows
 abbrev pub has_arguments : Rule → NodeData → Bool
 has_arguments r n = nat_le r.arguments.0 (length (said_arguments n)) && nat_le (length (said_arguments n)) r.arguments.1
 
@@ -68,7 +68,7 @@ entry_breaches r es = map (λ e. record { span = (entry_tree e).span; what = cod
 abbrev pub own_breaches : Rule → KdlNode → List BreachView
 own_breaches r n = argument_breaches r n ++ entry_breaches r (entries_of n)
 
--- the breaches of a node in a block of the rule `above`, but for those in its own block
+-- the breaches of a node in a block of the rule `above`, without those in its own block
 abbrev pub breaches_at : List Rule → Rule → KdlNode → List BreachView
 breaches_at rules above n =
     if is_allowed above (node_says n) then option_map_or (λ r. own_breaches r n) (rule_of rules (node_says n)) []
@@ -80,7 +80,7 @@ pub data IsBreach (rules : List Rule) : Rule → List KdlNode → BreachView →
   below : {above r : Rule} {ns : List KdlNode} {n : KdlNode} {d : KdlDocument} {b : BreachView} → Contains ns n → is_allowed above (node_says n) ≡ true → rule_of rules (node_says n) ≡ Some r → child_block n ≡ Some d
       → IsBreach rules r (nodes_of d) b → IsBreach rules above ns b
 
--- a breach in the document, in which the first rule is that of the top; without rules there is none
+-- a breach in the document; the first rule is that of the top, and without rules there is no breach
 abbrev pub IsBreachIn : List Rule → KdlDocument → BreachView → Type 0
 IsBreachIn [] d b = ⊥
 IsBreachIn (top ∷ rules) d b = IsBreach (top ∷ rules) top (nodes_of d) b
@@ -93,7 +93,7 @@ pub record Block : Type 0 where
 abbrev pub block_of : Due → Block
 block_of d = record { nodes = d.nodes.now; above = d.above.now }
 
--- the block of a node, where it is to be checked
+-- the block of a node, if it is to be checked
 abbrev pub blocks_at : List Rule → Rule → KdlNode → List Block
 blocks_at rules above n =
     if is_allowed above (node_says n) then option_map_or (λ r. option_map_or (λ d. record { nodes = nodes_of d; above = r } ∷ []) (child_block n) []) (rule_of rules (node_says n)) [] else []

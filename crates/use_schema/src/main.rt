@@ -30,7 +30,7 @@ static RULES: [Rule<'static>; 3] = [
     },
 ];
 
-/// Prints each breach, and returns success where there is none.
+/// Prints each breach, and returns success if there is none.
 fn show(rt: &HostRuntime, document: &KdlDocument) -> io::Result<ExitCode> {
     let mut code = ExitCode::SUCCESS;
     for breach in &breaches(rt.alloc(), &RULES, document)? {

@@ -9,7 +9,7 @@ use kdl::{KdlDocument, KdlEntry, KdlNode, KdlValue, SourceSpan};
 use kdl_laws::said::{arguments_are_counted, texts_are_compared};
 use std::alloc::{AllocError, Global};
 
-/// What a property says.
+/// The kind of a property's value.
 #[derive(Clone, Copy)]
 pub enum Kind {
     Text,
@@ -17,7 +17,8 @@ pub enum Kind {
     Boolean,
 }
 
-/// What a node of that name may have: the least and the most number of arguments, properties, and names of children.
+/// What a node of that name may have: the least and the greatest number of arguments, properties, and names of
+/// children.
 #[derive(Clone, Copy)]
 pub struct Rule<'a> {
     pub name: &'a str,
@@ -84,7 +85,7 @@ fn is_entry(rule: &Rule<'_>, entry: &KdlEntry) -> bool
     entry.name().is_none() || is_listed(rule, entry)
 }
 
-/// Whether the node has as many arguments as it may have.
+/// Whether the node has an allowed number of arguments.
 fn has_arguments(rule: &Rule<'_>, node: &KdlNode) -> bool
     ensures { result ≡ has_arguments rule.now (node_says node.now) }
 {
@@ -115,7 +116,7 @@ fn rule_of<'a>(rules: &'a [Rule<'a>], node: &KdlNode) -> Option<&'a Rule<'a>>
     rules.iter().find(|rule| is_named(node, rule.name))
 }
 
-/// Notes where a node of that rule has too few arguments, or too many.
+/// Notes if a node of that rule has too few arguments, or too many.
 fn check_arguments(
     rule: &Rule<'_>,
     node: &KdlNode,
@@ -155,7 +156,7 @@ fn check_entries(
     Ok(())
 }
 
-/// Notes what is wrong with a node of that rule, but for its block.
+/// Notes what is wrong with a node of that rule, except for its block.
 fn check(rule: &Rule<'_>, node: &KdlNode, found: &mut Vec<Breach>) -> Result<(), AllocError>
     ensures { OnOk result (map breach_view found.new.items ≡
         map breach_view found.old.items ++ own_breaches rule.now node.now) }
@@ -164,7 +165,7 @@ fn check(rule: &Rule<'_>, node: &KdlNode, found: &mut Vec<Breach>) -> Result<(),
     check_entries(rule, node.entries(), found)
 }
 
-/// Notes what is wrong with a node in a block of that rule, but for its own block, which is due then.
+/// Notes what is wrong with a node in a block of that rule, except for its own block, which is to be checked then.
 fn check_node<'a>(
     rules: &'a [Rule<'a>],
     above: &Rule<'_>,
@@ -198,7 +199,7 @@ fn check_node<'a>(
     Ok(())
 }
 
-/// The same for each of the nodes that are due.
+/// The same for each of the nodes that are to be checked.
 fn check_nodes<'a>(
     rules: &'a [Rule<'a>],
     next: Due<'a>,
@@ -216,7 +217,8 @@ fn check_nodes<'a>(
     Ok(())
 }
 
-/// Each breach of the rules, the first of which is that of the top; those in a block come after those of the nodes beside it.
+/// Returns each breach of the rules. The first rule is that of the top. Breaches in a block come after those of the
+/// nodes at the level above.
 pub fn breaches<'a>(
     alloc: Global,
     rules: &'a [Rule<'a>],

@@ -10,23 +10,24 @@ use kdl_laws::sets::argument_is_set;
 use kdl_laws::values::values_are_well_formed;
 use std::alloc::Global;
 
-/// The text with the number as the first argument of the first node of that name. None where there is no such argument.
+/// Returns the text with the number as the first argument of the first node of that name, or `None` if there is no such
+/// argument.
 pub fn edit(
     alloc: Global,
     text: &str,
     name: &str,
     number: i128,
 ) -> Result<Option<String>, ParseFailure>
-    // The output is a document. It says what the text says, with the number in its place.
+    // The output is a document with the data of the text, with the number in its place.
     ensures says { IfOk result (λ o. IfSome o (λ out. (x : Nodes) → IsDocument true (chars text.now) x
         → IsDocument true (text_of out) (with_said_arg (chars name.now) (integer number) x))) }
-    // It is the text, with the number in place of the former value: all other bytes stay.
+    // It is the text, with the number in place of the former value: all other bytes are unchanged.
     ensures bytes { IfOk result (λ o. IfSome o (λ out.
         HasInstead (print_value (integer number)) (chars text.now) (text_of out))) }
     // Without an output, the text has no such argument.
     ensures missing { IfOk result (λ o. IfNone o ((x : Nodes) → IsDocument true (chars text.now) x
         → said_arg (chars name.now) x ≡ None)) }
-    // A text that is refused is no document, and the error has its faults.
+    // A refused text is not a document, and the error has its faults.
     ensures refused { IsSyntax result → (x : Nodes) → IsDocument true (chars text.now) x → ⊥ }
     ensures told { TellsOnSyntax text.now result }
 {
@@ -43,7 +44,7 @@ pub fn edit(
     Ok(Some(document.to_string(alloc)?))
 }
 
-/// Sets the first argument of the first node of that name, where there is one, with its spelling.
+/// Sets the first argument of the first node of that name, if there is one, with its spelling.
 fn set(document: &mut KdlDocument, name: &str, value: KdlValue, spelling: String)
     requires reads { DocumentReadsBack document.old }
     requires spells { text_of spelling ≡ print_value (value_tree value) }
@@ -64,7 +65,7 @@ fn set(document: &mut KdlDocument, name: &str, value: KdlValue, spelling: String
     respell(entry, value, spelling);
 }
 
-/// Sets the value, and its spelling where the entry has a format. The type and the texts around the value stay.
+/// Sets the value, and its spelling if the entry has a format. The type and the texts around the value are unchanged.
 fn respell(entry: &mut KdlEntry, value: KdlValue, spelling: String)
     requires { text_of spelling ≡ print_value (value_tree value) }
     ensures { entry_tree entry.new ≡ respelled (value_tree value) (entry_tree entry.old) }

@@ -9,7 +9,7 @@ use kdl::ParseFailure;
 use std::process::ExitCode;
 use std::{env, io};
 
-/// Tells why nothing is written.
+/// Reports why nothing is written.
 fn refuse(rt: &HostRuntime, why: &str) -> io::Result<ExitCode> {
     eprintln!(rt; "use_set: {why}")?;
     Ok(ExitCode::FAILURE)

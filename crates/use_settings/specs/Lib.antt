@@ -1,2 +1,2 @@
--- Settings, and what is wrong with them, by what a document says.
+-- Settings, and what is wrong with them, given the data of a document.
 pub mod Settings

@@ -1,4 +1,4 @@
--- Settings, and what is wrong with them, by what a text says.
+-- Settings, and what is wrong with them, given the data of a text.
 use Rattle.std.specs.Option.{option_map_or}
 use Rattle.std.specs.Prelude.{ℕ, ℤ, pos, Bool, false, ◌&&◌, int_le, if◌then◌else◌, List, [], ◌∷◌, ◌++◌, Option, Some, None, IsSome, option_and_then, Result, Err, chars, codes}
 use Rattle.kdl.specs.Words.{Nodes, Text, Value, argument_named, document_says, document_span_of, entry_tree, integer_value, said_arg, text_value, truth_value}
@@ -12,24 +12,24 @@ use Rattle.use_settings.specs.declared.settings.Refused.TheVariants.{Syntax, Unf
 abbrev pub number_value : ℤ → Value → Option ℤ
 number_value most v = option_and_then (λ n. if int_le (pos 1) n && int_le n most then Some n else None) (integer_value v)
 
--- the default where nothing is said, else what is said, if it is of that type
+-- the default if there is no value, else the value, if it is of that type
 abbrev pub setting : {A : Type 0} → (Value → Option A) → A → Option Value → Option A
 setting read default None = Some default
 setting read default (Some v) = read v
 
--- the host that a text says, a string
+-- the host of a text, a string
 abbrev pub host : Nodes → Option Text
 host x = option_and_then text_value (said_arg (chars (codes "host")) x)
 
--- the port, 8080 where the text has none
+-- the port, 8080 if the text has none
 abbrev pub port : Nodes → Option ℤ
 port x = setting (number_value (pos 65535)) (pos 8080) (said_arg (chars (codes "port")) x)
 
--- whether to be verbose, off where the text says nothing
+-- whether to be verbose, off if the text has no such setting
 abbrev pub verbose : Nodes → Option Bool
 verbose x = setting truth_value false (said_arg (chars (codes "verbose")) x)
 
--- each setting is there, or has a default, and is of its type
+-- each setting exists, or has a default, and is of its type
 pub record Fits (x : Nodes) : Type 0 where
   pub host : IsSome (host x)
   pub port : IsSome (port x)
@@ -52,7 +52,7 @@ pub record FaultView : Type 0 where
 abbrev pub fault_view : Fault → FaultView
 fault_view f = record { wants = f.wants.now; span = f.span }
 
--- where the first argument of the first node of that name is, or the document where there is none
+-- the span of the first argument of the first node of that name, or of the document if there is none
 abbrev pub place_of : List ℕ → KdlDocument → SourceSpan
 place_of name d = option_map_or (λ e. (entry_tree e).span) (argument_named name d) (document_span_of d)
 

@@ -1,4 +1,4 @@
-//! Loads settings from KDL files, and prints what each says, or what is wrong with it.
+//! Loads settings from KDL files, and prints those of each, or what is wrong with it.
 #![tactic(auto)]
 
 mod settings;
@@ -7,7 +7,7 @@ use crate::settings::{Refused, load};
 use std::process::ExitCode;
 use std::{env, fs, io};
 
-/// The line and the column of a byte of the text, from 1 on.
+/// Returns the line and the column of a byte of the text, counted from 1.
 fn place(text: &str, byte: usize) -> (usize, usize) {
     let before = text.get(..byte).unwrap_or(text);
     let line = before.split('\n').count();
@@ -35,7 +35,8 @@ fn show_refused(rt: &HostRuntime, name: &str, text: &str, refused: &Refused) -> 
     Ok(())
 }
 
-/// Prints the settings of the file, or what is wrong with it, and returns whether nothing is.
+/// Prints the settings of the file, or what is wrong with it, and returns whether the file has
+/// settings.
 fn show(rt: &HostRuntime, name: &str) -> io::Result<bool> {
     let text = fs::read_to_string(rt, name)?;
     match load(rt.alloc(), &text) {

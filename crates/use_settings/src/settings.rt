@@ -16,7 +16,7 @@ pub struct Settings {
     pub verbose: bool,
 }
 
-/// A setting that is missing or of another type, and where.
+/// A setting that is missing or of another type, and its span.
 #[derive(Clone, Copy)]
 pub struct Fault {
     pub wants: &'static str,
@@ -26,27 +26,27 @@ pub struct Fault {
 /// Why a text has no settings.
 #[derive(Drop)]
 pub enum Refused {
-    /// The text is no document.
+    /// The text is not a document.
     Syntax(KdlError),
     /// Settings are missing, or of another type.
     Unfit(Vec<Fault>),
-    /// Memory ran out.
+    /// An allocation failed.
     Memory,
 }
 
-/// The settings of a text: the host has to be there, the port is 8080 where the text has none, and `verbose` is off.
+/// Returns the settings of a text. The host is required; by default the port is 8080, and `verbose` is off.
 pub fn load(alloc: Global, text: &str) -> Result<Settings, Refused>
-    // Each setting is what the text says, or the default where the text says nothing.
+    // Each setting is that of the text, or the default if the text has none.
     ensures host { IfOk result (λ s. (x : Nodes) → IsDocument true (chars text.now) x
         → said.host x ≡ Some (text_of s.host)) }
     ensures port { IfOk result (λ s. (x : Nodes) → IsDocument true (chars text.now) x
         → said.port x ≡ Some s.port) }
     ensures verbose { IfOk result (λ s. (x : Nodes) → IsDocument true (chars text.now) x
         → said.verbose x ≡ Some s.verbose) }
-    // Settings are refused where one is missing, or of another type.
+    // Settings are refused if one is missing, or of another type.
     ensures unfit { IsUnfit result → (x : Nodes) → IsDocument true (chars text.now) x
         → Fits x → ⊥ }
-    // A text that is refused is no document.
+    // A refused text is not a document.
     ensures refused { IsSyntax result → (x : Nodes) → IsDocument true (chars text.now) x → ⊥ }
 {
     let document = match KdlDocument::parse(alloc, text) {
@@ -62,7 +62,7 @@ pub fn load(alloc: Global, text: &str) -> Result<Settings, Refused>
     }
 }
 
-/// The settings of a document; none, and a fault for each that does not fit, where one does not.
+/// Returns the settings of a document, or a fault for each setting that does not fit.
 fn read(
     alloc: Global,
     document: &KdlDocument,
@@ -91,7 +91,7 @@ fn read(
     }
 }
 
-/// The host, which has to be there.
+/// The host, which is required.
 fn host<'a>(
     document: &'a KdlDocument,
     faults: &mut Vec<Fault>,
@@ -110,7 +110,7 @@ fn host<'a>(
     Ok(None)
 }
 
-/// The port, 8080 where there is none.
+/// The port, 8080 if there is none.
 fn port(document: &KdlDocument, faults: &mut Vec<Fault>) -> Result<Option<i128>, AllocError>
     ensures value { IfOk result (λ o. o ≡ said.port (document_says document.now)) }
     ensures faults { OnOk result (map fault_view faults.new.items ≡
@@ -129,7 +129,7 @@ fn port(document: &KdlDocument, faults: &mut Vec<Fault>) -> Result<Option<i128>,
     }
 }
 
-/// Whether to be verbose, which is off where nothing says so.
+/// Whether to be verbose, which is off by default.
 fn verbose(document: &KdlDocument, faults: &mut Vec<Fault>) -> Result<Option<bool>, AllocError>
     ensures value { IfOk result (λ o. o ≡ said.verbose (document_says document.now)) }
     ensures faults { OnOk result (map fault_view faults.new.items ≡
@@ -160,7 +160,7 @@ fn note(
     Ok(())
 }
 
-/// Where the first argument of the first node of that name is, or the document where there is none.
+/// The span of the first argument of the first node of that name, or of the document if there is none.
 fn place(document: &KdlDocument, name: &str) -> SourceSpan
     ensures { result ≡ place_of name.now document.now }
 {

@@ -1,4 +1,4 @@
-//! A reader or a writer with two flags: that a call on it failed, and that it is read to its end.
+//! A reader or a writer with two flags: whether a call on it failed, and whether it is read to its end.
 //!
 //! The flags are private to this crate, and only `read` and `write` set them.
 #![tactic(auto)]
@@ -11,7 +11,7 @@ ghost use Rattle.watched.specs.Flags.{gave_none, is_refused};
 use std::io;
 use std::io::{Read, Write};
 
-/// A reader or a writer, and what its calls so far came to.
+/// A reader or a writer, with flags for the calls on it so far.
 #[derive(Drop)]
 pub struct Watched<T> {
     inner: T,
@@ -20,7 +20,7 @@ pub struct Watched<T> {
 }
 
 impl<T> Watched<T> {
-    /// `inner` before any call on it: neither flag is set.
+    /// Wraps `inner`, with neither flag set.
     pub fn new(inner: T) -> Watched<T>
         ensures inner { result.inner ≡ inner }
         ensures failed { result.failed ≡ false }
@@ -33,16 +33,15 @@ impl<T> Watched<T> {
         }
     }
 
-    /// Whether some `read` or `write` so far failed, an interrupted one too, or some `write` was given
-    /// bytes and took none.
+    /// Returns whether a `read` or `write` so far failed, including an interrupted one, or a `write` of some bytes
+    /// wrote none.
     pub fn failed(&self) -> bool
         ensures { result ≡ self.now.failed }
     {
         self.failed
     }
 
-    /// Whether the last `read` into a buffer with room gave no byte, so that the reader is at its
-    /// end.
+    /// Returns whether the last `read` into a non-empty buffer returned no byte, so that the reader is at its end.
     pub fn ended(&self) -> bool
         ensures { result ≡ self.now.ended }
     {
@@ -53,7 +52,7 @@ impl<T> Watched<T> {
 impl<R: Read> Read for Watched<R> {
     ghost remaining = { λ w. R.remaining w.inner };
 
-    /// One `read` of the inner reader.
+    /// Calls `read` of the inner reader.
     fn read(&mut self, buf: &mut [u8]) -> io::Result<usize>
         ensures bound { ReadsAtMost result buf.new }
         ensures bytes { ReadConsumes (R.remaining self.old.inner)
@@ -81,7 +80,7 @@ impl<R: Read> Read for Watched<R> {
 impl<W: Write> Write for Watched<W> {
     ghost contents = { λ w. W.contents w.inner };
 
-    /// One `write` of the inner writer.
+    /// Calls `write` of the inner writer.
     fn write(&mut self, buf: &[u8]) -> io::Result<usize>
         ensures bound { WritesAtMost result buf.now }
         ensures bytes { WriteAppends (W.contents self.old.inner)
@@ -98,7 +97,7 @@ impl<W: Write> Write for Watched<W> {
         outcome
     }
 
-    /// One `flush` of the inner writer. It sets no flag.
+    /// Calls `flush` of the inner writer. Sets no flag.
     fn flush(&mut self) -> io::Result<()>
         ensures bytes { Keeps (W.contents self.old.inner) (W.contents self.new.inner) }
         ensures failed { self.new.failed ≡ self.old.failed }

@@ -1,4 +1,4 @@
--- What copies there are, where some of the nodes and blocks are copied.
+-- Which copies there are when some of the nodes and blocks are copied.
 use Rattle.std.specs.Prelude.{List, [], ◌∷◌, ◌++◌, map, option_map, Option}
 use Rattle.kdl_grammar.specs.Tree.{Node, node, children, children_of}
 use Rattle.kdl.specs.Tree.{head_tree, node_tree, document_tree, document_of}
@@ -15,7 +15,7 @@ with_children n o = node (head_tree (out-KdlNode n)) (children_of (option_map do
 abbrev pub with_block : KdlNode → KdlDocument → List Node → Node
 with_block n d ns = node (head_tree (out-KdlNode n)) (children (document_of d ns))
 
--- the copies up to that of an open block's node, where its block is of these
+-- the copies up to that of an open block's node, if its block has these nodes
 abbrev pub closed : Open → List Node → List Node
 closed o ns = map node_tree o.before.items ++ with_block o.node.now o.block.now ns ∷ []
 

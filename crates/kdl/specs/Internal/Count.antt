@@ -1,4 +1,4 @@
--- How many documents and nodes there are in documents and nodes: what dropping goes by.
+-- How many documents and nodes there are in documents and nodes: the measure by which dropping ends.
 use Rattle.std.specs.Prelude.{ℕ, ◌+◌, List, [], ◌∷◌, map, Option, None, Some, option_map}
 use Rattle.kdl.specs.declared.node.KdlNode.{KdlNode}
 use Rattle.kdl.specs.declared.document.KdlDocument.{KdlDocument}
@@ -15,15 +15,15 @@ abbrev pub or_none : Option ℕ → ℕ
 or_none None = 0
 or_none (Some n) = n
 
--- a document, where those in its nodes are counted
+-- the count of a document, given the counts of its nodes
 abbrev pub doc_step : KdlDocument-F ℕ ℕ → ℕ
 doc_step d = 1 + total d.nodes.items
 
--- a node, where those in its children are counted
+-- the count of a node, given the count of its children
 abbrev pub node_step : KdlNode-F ℕ ℕ → ℕ
 node_step n = 1 + or_none n.children
 
--- how many there are in a document, itself among them
+-- how many there are in a document, including itself
 abbrev pub count_doc : KdlDocument → ℕ
 count_doc = fold-KdlDocument ℕ ℕ doc_step node_step
 

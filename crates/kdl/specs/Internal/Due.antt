@@ -12,7 +12,7 @@ use Rattle.kdl.specs.declared.document.KdlDocument.TheViews.{out-KdlDocument, ou
 abbrev pub empty_node_format : NodeFormat
 empty_node_format = record { leading = []; before_ty_name = []; after_ty_name = []; after_ty = []; before_children = []; before_terminator = []; terminator = []; trailing = [] }
 
--- a format, where there is none
+-- the format, or an empty one if there is none
 abbrev pub formed : Option NodeFormat → Option NodeFormat
 formed None = Some empty_node_format
 formed (Some f) = Some f
@@ -31,7 +31,7 @@ pub record BecomesDue (old new : KdlDocument) : Type 0 where
   pub span : (out-KdlDocument new).span ≡ (out-KdlDocument old).span
   pub nodes : map node_tree (out-KdlDocument new).nodes.items ≡ map due (map node_tree (out-KdlDocument old).nodes.items)
 
--- where the first nodes of a document aren't due and all others are, the latter begin at this place
+-- if the first nodes of a document aren't due and all others are, the others begin at this place
 abbrev pub AreDueFrom : KdlDocument → ℕ → Type 0
 AreDueFrom d at = (done left : List KdlNode) → (out-KdlDocument d).nodes.items ≡ done ++ left → All (λ n. is_due n ≡ false) done → All (λ n. is_due n ≡ true) left → at ≡ length done
 
@@ -46,7 +46,7 @@ pub record HasInstead (block other : Option KdlDocument) (n m : KdlNode) : Type 
   pub has : out-KdlNode m ≡ record (out-KdlNode n) { children = block }
   pub had : other ≡ (out-KdlNode n).children
 
--- the node at the place is exchanged for another one, R holds between the two, and nothing else changed
+-- the node at the place is replaced by another one, R holds between the two, and nothing else changed
 pub record ExchangedAt (old new : KdlDocument) (at : ℕ) (R : KdlNode → KdlNode → Type 0) : Type 0 where
   pub was : KdlNode
   pub is : KdlNode

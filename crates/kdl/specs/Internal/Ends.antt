@@ -21,7 +21,7 @@ use Rattle.kdl.specs.declared.document.KdlDocument.{KdlDocument, out-KdlDocument
 use Rattle.kdl.specs.declared.ends.Rest.{Rest}
 use Rattle.kdl.specs.declared.node.KdlNode.{KdlNode, out-KdlNode}
 
--- newlines at the end of a format: of its terminator, or of what is after that
+-- newlines at the end of a format: of its terminator, or of the text after that
 abbrev pub end_newlines : Text → ℕ → NodeFormat → NodeFormat
 end_newlines [] e f = record f { terminator = f.terminator ++ newlines e }
 end_newlines (c ∷ s) e f = record f { trailing = f.trailing ++ newlines e }
@@ -30,12 +30,12 @@ end_newlines (c ∷ s) e f = record f { trailing = f.trailing ++ newlines e }
 abbrev pub with_newlines : NodeFormat → ℕ → ℕ → NodeFormat
 with_newlines f b e = end_newlines f.trailing e (record f { before_terminator = f.before_terminator ++ newlines b })
 
--- b newlines before the terminator and e at the end: at most two, and those before the terminator only where no text follows them
+-- b newlines before the terminator and e at the end: at most two, and those before the terminator only if no text follows them
 pub record Lacks (f : NodeFormat) (b e : ℕ) : Type 0 where
   pub few : b + e ≤ 2
   pub joins : (b ≡ 0) ⊎ ((f.terminator ≡ []) × (f.trailing ≡ []))
 
--- a format in place of f, where one is given: f with one or two newlines more at its end
+-- a format in place of f, if one is given: f with one or two more newlines at its end
 abbrev pub IsEnded : NodeFormat → Option NodeFormat → Type 0
 IsEnded f None = Unit {0}
 IsEnded f (Some g) = (k : ℕ) × (k < 2) × EndsWith (suc k) f g
@@ -45,31 +45,31 @@ abbrev pub block_if : Bool → Children
 block_if true = children new_document
 block_if false = no_children
 
--- t is a text before an empty terminator; with b newlines more it is one before every terminator
+-- t is a text before an empty terminator; with b more newlines it is one before every terminator
 abbrev pub PlaceSays : Children → Text → ℕ → Type 0
 PlaceSays k t b = BeforeTerminator k t [] → (r v : Text) → Terminator r v → BeforeTerminator k ((t ++ newlines b) ++ r) r
 
--- t is a terminator and a gap; with e newlines more it ends the node before whatever follows
+-- t is a terminator and a gap; with e more newlines it ends the node before whatever follows
 abbrev pub EndSays : Text → ℕ → Type 0
 EndSays t e = (v : Text) → Terminator t v → Gap true v [] → Terminates Anything (t ++ newlines e)
 
--- t is a text between nodes; with n newlines more it stays one before whatever follows
+-- t is a text between nodes; with n more newlines it stays one before whatever follows
 abbrev pub GapSays : Text → ℕ → Type 0
 GapSays t n = Gap true t [] → AddsNothing (t ++ newlines n)
 
--- where the end of a node by the format f reads back before some rests, that by g does before what follows; nothing is said of the end of the text
+-- if the end of a node by the format f reads back before some rests, that by g does before what follows; nothing is said about the end of the text
 abbrev pub EndsReadAs : Rest → Children → NodeFormat → NodeFormat → Type 0
 EndsReadAs Rest.End k f g = Unit {0}
 EndsReadAs Rest.Brace k f g = (P : Rests) (b : DocumentFormat) → EndReads P k f → EndReads (BlockEnd (Some b)) k g
 EndsReadAs Rest.Text k f g = (P : Rests) → EndReads P k f → EndReads Anything k g
 
--- where n reads back before some rests, m does before what follows; at the end of the text it is n itself
+-- if n reads back before some rests, m does before what follows; at the end of the text m is n itself
 abbrev pub EndsAs : Rest → KdlNode → KdlNode → Type 0
 EndsAs Rest.End n m = m ≡ n
 EndsAs Rest.Brace n m = (P : Rests) (b : DocumentFormat) → NodeReads P (node_tree n) → NodeReads (BlockEnd (Some b)) (node_tree m)
 EndsAs Rest.Text n m = (P : Rests) → NodeReads P (node_tree n) → NodeReads Anything (node_tree m)
 
--- the node with the format, where one is given
+-- the node with the format, if one is given
 abbrev pub end_with : Option KdlNodeFormat → KdlNode → KdlNode
 end_with None n = n
 end_with (Some f) n = with_format n (Some f)
@@ -84,7 +84,7 @@ pub record PutBehind (i : ℕ) (n : KdlNode) (d e : KdlDocument) : Type 0 where
   pub rest : e ≡ with_nodes d (out-KdlDocument e).nodes
   pub reads : EndsAs Rest.Text last (end_with format last)
 
--- a leading text in place of the old one, where one is given: it got the newlines that it lacked
+-- a leading text in place of the old one, if one is given: it got the newlines that it lacked
 abbrev pub LeadingEnded : Option DocumentFormat → Option Text → Type 0
 LeadingEnded o None = GapSays (without_bom (leading_text o)) 0
 LeadingEnded o (Some t) = (f : DocumentFormat) × (k : ℕ) × (k < 2) × (o ≡ Some f) × (t ≡ f.leading ++ newlines (suc k)) × GapSays (without_bom f.leading) (suc k)
@@ -105,20 +105,20 @@ pub record PutFirst (n : KdlNode) (d e : KdlDocument) : Type 0 where
   pub nodes : nodes_of e ≡ insert (nodes_of d) 0 n
   pub span : (out-KdlDocument e).span ≡ (out-KdlDocument d).span
 
--- the text before a new block, where it differs from the text before the terminator: that text with a newline
+-- the text before a new block, if it differs from the text before the terminator: that text with a newline
 abbrev pub BeforeNewBlock : Option NodeFormat → Option Text → Type 0
 BeforeNewBlock o None = Unit {0}
 BeforeNewBlock o (Some t) = (f : NodeFormat) × (o ≡ Some f) × (t ≡ f.before_terminator ++ newlines 1)
 
--- with that text, or else as it is, what is before the terminator of the format is before a block, where it may be there alone
+-- that text, or else the text before the terminator of the format, may be before a block, if the latter may be alone before the terminator
 abbrev pub BlockSays : Option NodeFormat → Option Text → Type 0
 BlockSays o t = (f : NodeFormat) → o ≡ Some f → BeforeChildren f.before_terminator [] → (s : Text) → BeforeChildren (unwrap_or t f.before_terminator ++ (123 ∷ s)) (123 ∷ s)
 
--- f with the given text before the block, or with its own text before the terminator where none is given
+-- f with the given text before the block, or with its own text before the terminator if none is given
 abbrev pub block_format : Option Text → NodeFormat → NodeFormat
 block_format o f = record f { before_children = unwrap_or o f.before_terminator; before_terminator = [] }
 
--- m' is m with such a format, and all else as it was
+-- m' is m with such a format, and all else unchanged
 abbrev pub BlockBegins : Option Text → KdlNode → KdlNode → Type 0
 BlockBegins o m m' = (g : Option KdlNodeFormat) × (m' ≡ with_format m g) × (node_texts g ≡ option_map (block_format o) (node_texts (out-KdlNode m).format))
 
@@ -136,7 +136,7 @@ ReadsIn true d = BlockReadsBack d
 abbrev pub IsLast : ℕ → KdlDocument → Type 0
 IsLast i d = (length (nodes_of d) ≤ i) × (trailing_text (texts_around d) ≡ [])
 
--- what follows a node that is put at the place i, in a whole text or in a block
+-- what follows a node that is inserted at the place i, in a whole text or in a block
 abbrev pub IsRestAt : Bool → ℕ → KdlDocument → Rest → Type 0
 IsRestAt b i d Rest.End = (b ≡ false) × IsLast i d
 IsRestAt b i d Rest.Brace = (b ≡ true) × (f : DocumentFormat) × (texts_around d ≡ Some f) × IsLast i d
@@ -169,12 +169,12 @@ FewestBefore Rest.End c f k = Unit {0}
 FewestBefore Rest.Brace c f k = FormatFewest c f k × (terminator_text f ≡ [] → FormatFewest c f (k + 1))
 FewestBefore Rest.Text c f k = FormatFewest c f k
 
--- the format in place of f, where there is one, has k newlines more at its end
+-- the format in place of f, if there is one, has k more newlines at its end
 abbrev pub IsEndedBy : ℕ → NodeFormat → Option NodeFormat → Type 0
 IsEndedBy k f None = k ≡ 0
 IsEndedBy k f (Some g) = (0 < k) × (k ≤ 2) × EndsWith k f g
 
--- before what follows these are the fewest
+-- before what follows these newlines are the fewest
 abbrev pub IsEndedExactly : Rest → Children → NodeFormat → Option NodeFormat → Type 0
 IsEndedExactly rest c f o = (k : ℕ) × IsEndedBy k f o × FewestBefore rest c f k
 
@@ -194,22 +194,22 @@ LacksBefore Rest.End k n = k ≡ 0
 LacksBefore Rest.Brace k n = LacksBeforeBrace k n
 LacksBefore Rest.Text k n = LacksBeforeText k n
 
--- with the format, where there is one, the node has just the newlines more that it lacks
+-- with the format, if there is one, the node has exactly the newlines more that it lacks
 abbrev pub EndsExactly : Rest → KdlNode → Option KdlNodeFormat → Type 0
 EndsExactly rest n o = (k : ℕ) × (k ≤ 2) × WithNewlines k (node_tree n) (node_tree (end_with o n)) × LacksBefore rest k n
 
--- so has the leading text, with the one in its place where there is one
+-- so has the leading text, with the one in its place if there is one
 abbrev pub LeadsExactly : Option DocumentFormat → Option Text → Type 0
 LeadsExactly o l = (k : ℕ) × (k ≤ 2) × LeadsWith k o (led_with l o) × GapSays (without_bom (leading_text o)) k × GapFewest (without_bom (leading_text o)) k
 
--- e is d with the node n after the one at i, or before the others, and what is before it has just the newlines more that it lacked
+-- e is d with the node n after the one at i, or before the others, and what is before it has exactly the newlines more that it lacked
 abbrev pub PutBehindExactly : ℕ → KdlNode → KdlDocument → KdlDocument → Type 0
 PutBehindExactly i n d e = (p : PutBehind i n d e) × EndsExactly Rest.Text p.last p.format
 
 abbrev pub PutFirstExactly : KdlNode → KdlDocument → KdlDocument → Type 0
 PutFirstExactly n d e = (p : PutFirst n d e) × LeadsExactly (texts_around d) p.leading
 
--- a node is put in at i, in a text or a block
+-- a node is inserted at i, in a text or a block
 abbrev pub PutExactly : Bool → ℕ → KdlNode → KdlDocument → KdlDocument → Type 0
 PutExactly false = IsPutExactly
 PutExactly true = IsPutInBlock

@@ -1,4 +1,4 @@
--- How far layout has come, where some blocks are open.
+-- How far layout has come while some blocks are open.
 use Rattle.std.specs.Prelude.{◌≡◌, ℕ, zero, suc, ◌+◌, ◌<◌, List, [], ◌∷◌, map, drop, Option, option_map}
 use Rattle.kdl_value.specs.Tree.{text_of}
 use Rattle.kdl_grammar.specs.Tree.{Node, node, node_data, Children, children_of}
@@ -22,13 +22,13 @@ filled_block o ns = children_of (option_map (λ d. document_of d ns) o)
 abbrev pub filled : KdlNode → List Node → Node
 filled n ns = node (head_tree (out-KdlNode n)) (filled_block (out-KdlNode n).children ns)
 
--- nodes, where the one at a place counts as another
+-- nodes, with another one in place of the one at a place
 abbrev pub with_at : (KdlNode → Node) → List KdlNode → ℕ → List Node
 with_at f [] i = []
 with_at f (n ∷ ns) zero = f n ∷ map node_tree ns
 with_at f (n ∷ ns) (suc i) = node_tree n ∷ with_at f ns i
 
--- the outermost nodes: the blocks above, the outermost first, where the innermost block is of these nodes
+-- the outermost nodes, given the blocks above, the outermost first, and the nodes of the innermost block
 abbrev pub outermost : List Block → List Node → List Node
 outermost [] ns = ns
 outermost (b ∷ above) ns = with_at (λ n. filled n (outermost above ns)) b.nodes.items b.at
@@ -41,7 +41,7 @@ whole above inner = outermost above (map node_tree inner.nodes.items)
 abbrev pub Laid : Layout → ℕ → Before → Node → Node → Type 0
 Laid l level b n n' = IsSpacedNode l.blank_lines (settings l.config) level b n n' × IsWellFormedNode (node_data n)
 
--- what comes before the thing after a node
+-- what comes before whatever follows a node
 abbrev pub PassesAt : Layout → Node → Before → Type 0
 PassesAt l n b = PassesNode l.blank_lines (settings l.config) n b
 
@@ -51,19 +51,19 @@ AreLaid l level b [] [] = Unit {0}
 AreLaid l level b (o ∷ olds) (n ∷ ns) = (b' : Before) × Laid l level b o n × PassesAt l o b' × AreLaid l level b' olds ns
 AreLaid l level b _ _ = ⊥
 
--- the first i nodes are laid out, the others are as they were; `next` comes before the first of these
+-- the first i nodes are laid out, the others are unchanged; `next` comes before the first of these
 abbrev pub Partly : Layout → ℕ → Before → List Node → List KdlNode → ℕ → Before → Type 0
 Partly l level b olds ns zero next = (next ≡ b) × (map node_tree ns ≡ olds)
 Partly l level b (o ∷ olds) (n ∷ ns) (suc i) next = (b' : Before) × Laid l level b o (node_tree n) × PassesAt l o b' × Partly l level b' olds ns i next
 Partly l level b _ _ (suc i) next = ⊥
 
--- the same, but for the node at i; `next` comes before the one after it
+-- the same, except for the node at i; `next` comes before the one after it
 abbrev pub PartlyOpen : Layout → ℕ → Before → (Before → Node → KdlNode → Type 0) → List Node → List KdlNode → ℕ → Before → Type 0
 PartlyOpen l level b Open (o ∷ olds) (n ∷ ns) zero next = Open b o n × PassesAt l o next × (map node_tree ns ≡ olds)
 PartlyOpen l level b Open (o ∷ olds) (n ∷ ns) (suc i) next = (b' : Before) × Laid l level b o (node_tree n) × PassesAt l o b' × PartlyOpen l level b' Open olds ns i next
 PartlyOpen l level b Open _ _ i next = ⊥
 
--- a node is laid out where the nodes in its block are, the first of them after `first`
+-- a node is laid out once the nodes in its block are, the first of them after `first`
 abbrev pub LaidBut : Layout → ℕ → Before → Node → Before → List Node → KdlNode → Type 0
 LaidBut l level b o first olds n = (ms : List Node) → AreLaid l (level + 1) first olds ms → Laid l level b o (filled n ms)
 
@@ -82,7 +82,7 @@ IsUnderWay l level c olds (b ∷ above) inner =
 abbrev pub left : List Block → Block → ℕ
 left above inner = count_left (λ b. drop (b.at + 1) b.nodes.items) (drop inner.at inner.nodes.items) above
 
--- a step: what was under way is, and less is left
+-- a step: the layout is in progress as before, and less is left
 abbrev pub GoesOn : Layout → List Block → Block → List Block → Block → Type 0
 GoesOn l above inner above' inner' =
     ((level : ℕ) (c : Before) (olds : List Node) → IsUnderWay l level c olds above inner → IsUnderWay l level c olds above' inner') × (left above' inner' < left above inner)

@@ -1,4 +1,4 @@
--- What is left to print where some of the nodes and blocks are printed.
+-- What is left to print when some of the nodes and blocks are printed.
 use Rattle.std.specs.Prelude.{ℕ, ◌+◌, List, [], ◌∷◌, ◌++◌, length, map, option_map}
 use Rattle.kdl_text.specs.Chars.{Text}
 use Rattle.kdl_entry.specs.Tree.{entry_tree}

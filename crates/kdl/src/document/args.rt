@@ -22,7 +22,8 @@ use std::marker::Model;
 use std::slice;
 
 impl KdlDocument {
-    /// The values of the arguments of the first node of that name, in order; none where there is no such node.
+    /// Returns an iterator over the values of the arguments of the first node of that name, in order. It is empty if
+    /// there is no such node.
     ///
     /// ```
     /// let document = KdlDocument::parse(alloc, "ports 80 tls=#true 443")?;
@@ -41,8 +42,8 @@ impl KdlDocument {
         }
     }
 
-    /// The value of the first argument of each child named `-` that has one, in order, among the children of the first
-    /// node of that name; none where there is no such node.
+    /// Returns an iterator over the values of the first arguments of the children named `-` of the first node of that
+    /// name, in order. A child without arguments is skipped. The iterator is empty if there is no such node.
     ///
     /// ```
     /// let document = KdlDocument::parse(alloc, "list { - 1; - 2 3; other 4; - }")?;
@@ -64,7 +65,7 @@ impl KdlDocument {
     }
 }
 
-/// The children of a node, none without a child block.
+/// The children of a node, or none without a child block.
 fn children(node: &KdlNode) -> &[KdlNode]
     ensures { result.now ≡ child_nodes node.now }
 {
@@ -89,7 +90,7 @@ fn next_dash_argument<'a>(nodes: &mut slice::Iter<'a, KdlNode>) -> Option<&'a Kd
     None
 }
 
-/// The values of the first arguments of a node's children named `-`, in order.
+/// An iterator over the values of the first arguments of a node's children named `-`, in order.
 #[derive(Drop)]
 pub struct DashArgsIter<'a> {
     nodes: slice::Iter<'a, KdlNode>,
@@ -117,7 +118,7 @@ impl<'a> Iterator for DashArgsIter<'a> {
         next_dash_argument(&mut self.nodes)
     }
 
-    /// At most as many as children are left.
+    /// From 0 up to the number of children that are left.
     fn size_hint(&self) -> (usize, Option<usize>)
         ensures lower { IsWithinCount result.0 (at_most (length self.now)) }
         ensures upper { IfSome result.1 (UpTo (at_most (length self.now))) }

@@ -17,7 +17,7 @@ impl KdlDocument {
         set_nodes_due(&mut self.nodes);
     }
 
-    /// Drops the format and the spellings of the node at the place, and takes out its block, which stays as it is.
+    /// Drops the format and the spellings of the node at the place, and takes its block, which is unchanged.
     pub(crate) fn clear_at(&mut self, at: usize) -> Option<KdlDocument>
         requires { at < length (out-KdlDocument self.old).nodes.items }
         ensures { ExchangedAt self.old self.new at (IsAlone result) }
@@ -25,7 +25,7 @@ impl KdlDocument {
         self.nodes[at].clear_alone()
     }
 
-    /// Puts another block into the node at the place, and returns the one that it had.
+    /// Replaces the block of the node at the place, and returns the old one.
     pub(crate) fn exchange_block(
         &mut self,
         at: usize,
@@ -37,7 +37,7 @@ impl KdlDocument {
         self.nodes[at].exchange_children(block)
     }
 
-    /// The place of the first node that is due, where all nodes after it are due and none before it.
+    /// The place of the first node that is due. All nodes after it have to be due, and none before it.
     pub(crate) fn due_from(&self) -> usize
         ensures { AreDueFrom self.now result }
     {

@@ -1,4 +1,4 @@
-//! The parts of a document, to be set or to be changed in place, and its printed length.
+//! Setters of a document's parts and mutable references to them, and its printed length.
 
 ghost use Rattle.kdl.specs.Change.{with_nodes, with_document_format, nodes_row};
 ghost use Rattle.kdl.specs.Cleared.{cleared_document};
@@ -21,10 +21,10 @@ use std::alloc::{AllocError, Global};
 use std::vec::IntoIter;
 
 impl KdlDocument {
-    /// The nodes, to be changed in place.
+    /// Returns a mutable reference to the nodes.
     ///
-    /// No newline is added between them: a node put after one without a terminator joins it. To add and remove nodes use
-    /// `push_node`, `insert_node` and `remove_node`.
+    /// No newline is added between the nodes: a node that follows one without a terminator is joined to it in the
+    /// printed text. To add and remove nodes use `push_node`, `insert_node` and `remove_node`.
     ///
     /// ```
     /// let mut document = KdlDocument::parse(alloc, "a\nb\nc\n")?;
@@ -38,7 +38,7 @@ impl KdlDocument {
         &mut self.nodes
     }
 
-    /// The texts around the nodes, to be changed in place, where the document keeps them.
+    /// Returns a mutable reference to the texts around the nodes, if the document keeps them.
     ///
     /// ```
     /// let mut document = KdlDocument::parse(alloc, "a\n")?;
@@ -66,7 +66,7 @@ impl KdlDocument {
         self.format = Some(format);
     }
 
-    /// Drops the document's own format, and nothing else: its nodes stay as they are.
+    /// Drops the document's own format, and nothing else: its nodes are unchanged.
     ///
     /// ```
     /// let mut document = KdlDocument::parse(alloc, "a // one\n// two")?;
@@ -90,7 +90,8 @@ impl KdlDocument {
         clear_all(self);
     }
 
-    /// The length of the printed text, in bytes. The document is printed for it, which fails where memory runs out.
+    /// Returns the length of the printed text, in bytes. This prints the document, so it returns an error if an
+    /// allocation fails.
     ///
     /// ```
     /// let document = KdlDocument::parse(alloc, "naïve")?;
@@ -102,7 +103,8 @@ impl KdlDocument {
         Ok(self.to_string(alloc)?.len())
     }
 
-    /// Whether the printed text is empty. The document is printed for it, which fails where memory runs out.
+    /// Returns whether the printed text is empty. This prints the document, so it returns an error if an allocation
+    /// fails.
     ///
     /// ```
     /// let document = KdlDocument::parse(alloc, "// a comment")?;
@@ -115,7 +117,7 @@ impl KdlDocument {
     }
 }
 
-/// The nodes, in order; the document's format and span are dropped.
+/// Iterates over the nodes, in order. The document's format and span are dropped.
 ///
 /// ```
 /// let document = KdlDocument::parse(alloc, "a; b")?;

@@ -1,4 +1,4 @@
-//! The iterator over a document's nodes that its parent lends.
+//! The iterator over a document's nodes, for the node that contains the document.
 
 ghost use Rattle.kdl.specs.Change.{with_nodes};
 ghost use Rattle.kdl.specs.contracts.document.KdlDocument.{the_row};
@@ -14,7 +14,7 @@ use crate::node::KdlNode;
 use std::slice;
 
 impl KdlDocument {
-    /// The nodes, in order, to be changed in place.
+    /// Returns a mutable iterator over the nodes, in order.
     pub(crate) fn iter_nodes_mut(&mut self) -> slice::IterMut<'_, KdlNode>
         ensures* writes_back { sem 𝓛 (follows the_row (Array node_row 0) self.entry.ghost_name
             (iter_mut_name result)

@@ -22,16 +22,18 @@ use kdl_fmt::{Before, FormatConfig, Layout};
 use std::alloc::AllocError;
 
 impl KdlDocument {
-    /// Lays out the document: each node on a line of its own, four spaces for each level, one space between the parts
-    /// of a node. A document without nodes prints one newline. What the document says stays, and so do the spans.
+    /// Formats the document: each node on its own line, four spaces for each level, one space between the parts of a
+    /// node. A document without nodes prints one newline. The data and the spans are unchanged.
     ///
-    /// Comments, and what a slashdash drops, stay between nodes, after a node on its line, between entries, and before a
+    /// Comments and slashdashed pieces are kept between nodes, after a node on its line, between entries, and before a
     /// block. They are removed inside a type or after it, around `=` and after an entry's value. Spellings are removed
-    /// too, but an entry that is flagged to keep its form keeps the spelling of its value and the text before it.
+    /// too, but an entry that is flagged to keep its form (`KdlEntry::keep_format`) keeps the spelling of its value and
+    /// the text before it.
     ///
-    /// Where no entry is flagged, the printed text is a document that says the same, and a second call changes nothing.
+    /// If no entry is flagged, the printed text is a document with the same data, and a second call changes nothing.
     ///
-    /// Fails where memory runs out: then the document says what it said, and some of it may be laid out.
+    /// If an allocation fails, returns an error. The data of the document is then unchanged, and some of it may be
+    /// formatted.
     ///
     /// ```
     /// let mut document = KdlDocument::parse(alloc, "a  0x10 // one\n/- b 2;c /* two */ {  }")?;
@@ -52,11 +54,12 @@ impl KdlDocument {
         self.autoformat_config(&config)
     }
 
-    /// Lays out the document like `autoformat`, and removes its comments, and what a slashdash drops.
+    /// Formats the document like `autoformat`, and removes its comments and slashdashed pieces.
     ///
-    /// Where no entry is flagged, two documents that are laid out so print the same text exactly where they say the same.
+    /// If no entry is flagged, two documents that are formatted so print equal texts exactly if their data are equal.
     ///
-    /// Fails where memory runs out: then the document says what it said, and some of it may be laid out.
+    /// If an allocation fails, returns an error. The data of the document is then unchanged, and some of it may be
+    /// formatted.
     ///
     /// ```
     /// let mut document = KdlDocument::parse(alloc, "a  0x10; /* b */ \"b\" { c }")?;
@@ -78,11 +81,11 @@ impl KdlDocument {
         self.autoformat_config(&config)
     }
 
-    /// Lays out the document as the configuration says: from its level on, with its indent for each level, with or
+    /// Formats the document as the configuration says: from its level on, with its indent for each level, with or
     /// without comments, and with all entries flagged or not.
     ///
-    /// Fails where memory runs out, or where the level of a child would pass `usize`: then the document says what it
-    /// said, and some of it may be laid out.
+    /// Returns an error if an allocation fails, or if the level of a child would exceed `usize::MAX`. The data of the
+    /// document is then unchanged, and some of it may be formatted.
     ///
     /// ```
     /// let config = FormatConfig::builder().indent("\t").build();
@@ -120,12 +123,12 @@ impl KdlDocument {
         self.lay_out(&layout)
     }
 
-    /// Lays out the document like `autoformat_config`, and keeps blank lines between nodes, and between comments and what
-    /// a slashdash drops where these stay: as many as there are, but no more than the layout's number. There are none at
-    /// the start and at the end of the document, and of a block.
+    /// Formats the document like `autoformat_config`, and keeps blank lines between nodes, and between comments and
+    /// slashdashed pieces that are kept: as many as there are, but at most the layout's number. There are none at the
+    /// start and at the end of the document, and of a block.
     ///
-    /// Fails where memory runs out, or where the level of a child, or a number of newlines, would pass `usize`: then the
-    /// document says what it said, and some of it may be laid out.
+    /// Returns an error if an allocation fails, or if the level of a child, or a number of newlines, would exceed
+    /// `usize::MAX`. The data of the document is then unchanged, and some of it may be formatted.
     ///
     /// ```
     /// let layout = Layout { config: FormatConfig::default(), blank_lines: 1 };
@@ -176,7 +179,7 @@ impl KdlDocument {
         lay_out_nodes(&mut self.nodes, layout, level, first)
     }
 
-    /// Lays out the document as the block of a node at a level, between braces, but for its nodes. Returns what comes
+    /// Lays out the document as the block of a node at a level, between braces, but not its nodes. Returns what comes
     /// before the first of these.
     pub(crate) fn lay_out_block(
         &mut self,

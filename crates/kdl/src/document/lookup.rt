@@ -45,7 +45,7 @@ fn place(nodes: &[KdlNode], name: &str) -> Option<usize>
     nodes.iter().position(|node| is_named(node, name))
 }
 
-/// The place of the first node of that name, where it has an argument.
+/// The place of the first node of that name, if it has an argument.
 fn place_with_argument(nodes: &[KdlNode], name: &str) -> Option<usize>
     ensures place { IfSome result (λ i. Some i ≡ position (is_node_named name.now) nodes.now) }
     ensures bound { IfSome result (λ i. i < length nodes.now) }
@@ -64,7 +64,7 @@ fn place_with_argument(nodes: &[KdlNode], name: &str) -> Option<usize>
 }
 
 impl KdlDocument {
-    /// The first node of that name. The name's value counts, not its spelling.
+    /// Returns the first node of that name. Names are compared by their values, not by their spellings.
     ///
     /// ```
     /// let document = KdlDocument::parse(alloc, "host 1\n\"host\" 2")?;
@@ -79,8 +79,8 @@ impl KdlDocument {
         first_named(&self.nodes, name)
     }
 
-    /// The first node of that name, to be changed in place. All else stays as it is, and so do all bytes of the printed
-    /// text before and after those of the node.
+    /// Returns a mutable reference to the first node of that name. All else is unchanged, and so are all bytes of the
+    /// printed text before and after those of the node.
     ///
     /// ```
     /// let mut document = KdlDocument::parse(alloc, "host a; port 1 // kept")?;
@@ -94,7 +94,7 @@ impl KdlDocument {
         ensures value { option_map (λ n. n.now) result ≡ node_named name.now self.old }
         ensures said { option_map (λ n. node_says n.now) result ≡
             said_node (chars name.now) (document_says self.old) }
-        // With a node in its place that reads back as it did, the document reads back as before.
+        // With a node in its place that reads back as the old one did, the document reads back as before.
         ensures reads { IfSome result (λ n. (m : KdlNode) → ReadsAs n.now m
             → DocumentReadsBack self.old
             → DocumentReadsBack (with_node_named name.now self.old m)) }
@@ -111,7 +111,7 @@ impl KdlDocument {
         }
     }
 
-    /// The value of the first argument of the first node of that name.
+    /// Returns the value of the first argument of the first node of that name.
     ///
     /// ```
     /// let document = KdlDocument::parse(alloc, "port udp=#true 8080 8081")?;
@@ -130,8 +130,8 @@ impl KdlDocument {
         }
     }
 
-    /// The value that `get_arg` returns, to be changed in place. The entry's format, with the spelling of the value, and
-    /// all else stay as they are.
+    /// Returns a mutable reference to the value that `get_arg` returns. The entry's format, with the spelling of the
+    /// value, and all else are unchanged.
     ///
     /// ```
     /// let mut document = KdlDocument::parse(alloc, "port 0x10")?;

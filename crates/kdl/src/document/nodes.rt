@@ -21,19 +21,20 @@ use kdl_parts::KdlNodeFormat;
 use std::alloc::AllocError;
 
 impl KdlDocument {
-    /// Puts the node after the others.
+    /// Appends the node.
     ///
-    /// A newline is added where the printed text would not read back without it: after an open line comment or escline,
-    /// and at the end of a node without a terminator. The text before the new node gets it, which is the last node or
-    /// the document's leading text. The new node itself gets it only where the document has a trailing text. No other
-    /// text changes. A node without a format that needs a newline gets a format, of the texts that it prints at depth 0.
+    /// Adds a newline if the printed text would not read back without it: after a line comment or a line continuation
+    /// without its newline, and at the end of a node without a terminator. The newline is added to the text before the
+    /// new node, which is the last node or the document's leading text. It is added to the new node itself only if the
+    /// document has a trailing text. No other text changes. A node without a format that needs a newline gets a format,
+    /// of the texts that it prints at depth 0.
     ///
-    /// No newline is added that is not lacking: where the last node ends by itself and no text is after it, the new text
-    /// is the old one and then the node.
+    /// No superfluous newline is added: if the last node ends by itself and no text follows it, the new text is the old
+    /// one followed by the node.
     ///
-    /// In a block use `KdlNode::push_child`, since a `}` follows there.
+    /// For a block use `KdlNode::push_child`, since a `}` follows there.
     ///
-    /// Fails where memory runs out: then the node comes back, and the document is as it was.
+    /// If an allocation fails, returns the node in the error, and leaves the document unchanged.
     ///
     /// ```
     /// let mut document = KdlDocument::parse(alloc, "a // one")?;
@@ -59,14 +60,14 @@ impl KdlDocument {
         self.insert_node(index, node)
     }
 
-    /// Puts the node before the one at the index, or after the last one. The index is at most the number of nodes. At
-    /// index 0 it goes before the comments at the head of the document, which belong to the first node, and after
-    /// U+FEFF.
+    /// Inserts the node before the one at the index, or after the last one. The index has to be at most the number of
+    /// nodes. At index 0 the node is inserted before the comments at the head of the document, which belong to the
+    /// first node, and after U+FEFF.
     ///
-    /// Newlines are added as by `push_node`: at the end of what is before the node, and of the node itself where anything
+    /// Adds newlines as `push_node` does: at the end of the text before the node, and of the node itself if anything
     /// follows it.
     ///
-    /// Fails where memory runs out: then the node comes back, and the document is as it was.
+    /// If an allocation fails, returns the node in the error, and leaves the document unchanged.
     ///
     /// ```
     /// let mut document = KdlDocument::parse(alloc, "// one\na")?;
@@ -87,8 +88,8 @@ impl KdlDocument {
         self.put(index, node, false)
     }
 
-    /// Removes and returns the node at the index, which has to be there. All that the node prints is removed, with the
-    /// comments before it, and no other text.
+    /// Removes and returns the node at the index, which has to exist. Everything that the node prints is removed,
+    /// including the comments before it, and no other text.
     ///
     /// ```
     /// let mut document = KdlDocument::parse(alloc, "a // one\n// two\nb\nc")?;
@@ -107,8 +108,8 @@ impl KdlDocument {
         self.nodes.remove(index)
     }
 
-    /// Puts the node before the one at the index, or after the last one. The document is a whole text, or the block of a
-    /// node.
+    /// Inserts the node before the one at the index, or after the last one. The document is a whole text, or the block
+    /// of a node.
     pub(crate) fn put(
         &mut self,
         index: usize,
@@ -144,7 +145,7 @@ impl KdlDocument {
         }
     }
 
-    /// What follows a node that is put in at the index.
+    /// What follows a node that is inserted at the index.
     fn rest_at(&self, index: usize, in_block: bool) -> Rest
         ensures { IsRestAt in_block index self.now result }
     {
@@ -160,7 +161,7 @@ impl KdlDocument {
         }
     }
 
-    /// Puts the node, with its new format, after the one at `last`, which gets the newlines that it lacks.
+    /// Inserts the node, with its new format, after the one at `last`, which gets the newlines that it lacks.
     fn put_behind(
         &mut self,
         last: usize,
@@ -183,7 +184,8 @@ impl KdlDocument {
         Ok(())
     }
 
-    /// Puts the node, with its new format, before the others. The leading text before it gets the newlines that it lacks.
+    /// Inserts the node, with its new format, before the others. The leading text before it gets the newlines that it
+    /// lacks.
     fn put_first(
         &mut self,
         node: KdlNode,
@@ -205,7 +207,7 @@ impl KdlDocument {
         Ok(())
     }
 
-    /// The leading text with the newlines that it lacks, or none where it lacks none.
+    /// The leading text with the newlines that it lacks, or `None` if it lacks none.
     fn ended_leading(&self) -> Result<Option<String>, AllocError>
         ensures ended { IfOk result (λ o.
             LeadingEnded (texts_around self.now) (option_map text_of o)) }
@@ -224,7 +226,7 @@ impl KdlDocument {
         Ok(Some(leading))
     }
 
-    /// Sets the leading text, where the document has a format.
+    /// Sets the leading text, if the document has a format.
     fn lead_with(&mut self, leading: String)
         ensures nodes { (out-KdlDocument self.new).nodes ≡ (out-KdlDocument self.old).nodes }
         ensures texts { texts_around self.new ≡
@@ -236,7 +238,7 @@ impl KdlDocument {
         }
     }
 
-    /// Puts the node at the index, with that format where one is given.
+    /// Inserts the node at the index, with that format if one is given.
     fn put_at(
         &mut self,
         index: usize,

@@ -19,20 +19,21 @@ use std::alloc::AllocError;
 use std::mem;
 
 impl KdlNode {
-    /// Puts the node after the other children, into a new block where there is none.
+    /// Appends the node to the children, in a new block if there is none.
     ///
-    /// A newline is added where the printed text would not read back without it: after an open line comment or escline,
-    /// and at the end of a child without a terminator. The text before the new child gets it, which is the last child or
-    /// the leading text of the block. The new child gets it before a trailing text, and before an indented `}` (a block
-    /// without a format has one). Directly before a `}` the new child gets a newline only after an open line comment or
-    /// escline. No other text changes. A child without a format that needs a newline gets a format, of the texts that it
-    /// prints at depth 0.
+    /// Adds a newline if the printed text would not read back without it: after a line comment or a line continuation
+    /// without its newline, and at the end of a child without a terminator. The newline is added to the text before the
+    /// new child, which is the last child or the leading text of the block. It is added to the new child before a
+    /// trailing text, and before an indented `}` (a block without a format has one). Directly before a `}`, it is added
+    /// to the new child only after a line comment or a line continuation without its newline. No other text changes. A
+    /// child without a format that needs a newline gets a format, of the texts that it prints at depth 0.
     ///
-    /// The text before the node's terminator goes before a new block, with a newline after an open escline.
+    /// The text before the node's terminator is moved before a new block, with a newline if it ends in a line
+    /// continuation without one.
     ///
-    /// Where the child reads back, the node reads back before each text before which it did.
+    /// If the child reads back, the node reads back before each text before which it did.
     ///
-    /// Fails where memory runs out: then the child comes back, and the node is as it was.
+    /// If an allocation fails, returns the child in the error, and leaves the node unchanged.
     ///
     /// ```
     /// let mut node = KdlNode::parse(alloc, "a { b; c }")?;
@@ -57,10 +58,10 @@ impl KdlNode {
         }
     }
 
-    /// Puts the node before the child at the index, or after the last one. The index is at most the number of children,
-    /// which is 0 without a block. All else is as in `push_child`.
+    /// Inserts the node before the child at the index, or after the last one. The index has to be at most the number of
+    /// children, which is 0 without a block. All else is as in `push_child`.
     ///
-    /// Fails where memory runs out: then the child comes back, and the node is as it was.
+    /// If an allocation fails, returns the child in the error, and leaves the node unchanged.
     ///
     /// ```
     /// let mut node = KdlNode::parse(alloc, "a { b; c }")?;
@@ -81,7 +82,7 @@ impl KdlNode {
         }
     }
 
-    /// Puts the node into a block of its own, where there is no block.
+    /// Puts the node into a new block, if there is no block.
     fn put_in_new_block(&mut self, node: KdlNode) -> Result<(), (KdlNode, AllocError)>
         requires { (out-KdlNode self.old).children ≡ None }
         ensures nodes { OnOk result (ChildPut 0 node self.old self.new) }
@@ -102,7 +103,7 @@ impl KdlNode {
         Ok(())
     }
 
-    /// The text before a new block, or none where it is the text before the terminator.
+    /// The text before a new block, or `None` if it is the text before the terminator.
     fn before_new_block(&self) -> Result<Option<String>, AllocError>
         ensures text { IfOk result (λ o. BeforeNewBlock
             (node_texts (out-KdlNode self.now).format) (option_map text_of o)) }
@@ -124,7 +125,7 @@ impl KdlNode {
         Ok(Some(before))
     }
 
-    /// Moves the text before the terminator to before the block, or puts the given one there in its place.
+    /// Moves the text before the terminator to the place before the block, or puts the given text there.
     fn begin_block(&mut self, before: Option<String>)
         ensures { BlockBegins (option_map text_of before) self.old self.new }
     {
@@ -135,7 +136,7 @@ impl KdlNode {
         }
     }
 
-    /// The format that the node needs before the rest, or none where it keeps its own.
+    /// The format that the node needs before the rest, or `None` if it keeps its own.
     pub(crate) fn ended(&self, rest: Rest) -> Result<Option<KdlNodeFormat>, AllocError>
         ensures is_ended { IfOk result (λ o. IsEnded
             (format_or_printed (head_tree (out-KdlNode self.now))) (node_texts o)) }
@@ -151,7 +152,7 @@ impl KdlNode {
         )
     }
 
-    /// Sets the format, where one is given.
+    /// Sets the format, if one is given.
     pub(crate) fn end(&mut self, format: Option<KdlNodeFormat>)
         ensures { self.new ≡ end_with format self.old }
     {

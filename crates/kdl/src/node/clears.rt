@@ -13,11 +13,11 @@ use kdl_parts::edit::clear_formats;
 
 impl KdlNode {
     /// Drops the node's format, the spelling of its name, the formats and spellings of its entries, and likewise those
-    /// of all nodes below it and the formats of the child documents. The spelling of the type stays, at each depth.
+    /// of all nodes below it and the formats of the child documents. The spellings of types are kept, at each depth.
     ///
     /// ```
     /// let mut node = KdlNode::parse(alloc, "\"a\"  0x1 { /* b */ b; }")?;
-    /// node.clear_format_recursive(); // what it says stays: the name `a`, the argument 1, the child `b`
+    /// node.clear_format_recursive(); // its data are unchanged: the name `a`, the argument 1, the child `b`
     /// ```
     pub fn clear_format_recursive(&mut self)
         ensures { node_tree self.new ≡ cleared_node (node_tree self.old) }
@@ -28,7 +28,7 @@ impl KdlNode {
         }
     }
 
-    /// Gives the node an empty format, where it has none.
+    /// Gives the node an empty format, if it has none.
     pub(crate) fn make_due(&mut self)
         ensures { node_tree self.new ≡ due (node_tree self.old) }
     {
@@ -37,8 +37,8 @@ impl KdlNode {
         }
     }
 
-    /// Drops the node's format, the spelling of its name, and the formats and spellings of its entries, and takes out its
-    /// block, which stays as it is.
+    /// Drops the node's format, the spelling of its name, and the formats and spellings of its entries, and takes its
+    /// block, which is unchanged.
     pub(crate) fn clear_alone(&mut self) -> Option<KdlDocument>
         ensures { IsAlone result self.old self.new }
     {

@@ -33,7 +33,7 @@ use std::alloc::AllocError;
 use std::cmp::Ordering;
 
 impl KdlNode {
-    /// The number of entries.
+    /// Returns the number of entries.
     ///
     /// ```
     /// let node = KdlNode::parse(alloc, "a 1 2 b=3")?;
@@ -45,7 +45,8 @@ impl KdlNode {
         self.entries.len()
     }
 
-    /// How many of the entries are arguments. `remove` takes an index below this number, and `insert` one up to it.
+    /// Returns the number of arguments among the entries. `remove` takes an index below this number, and `insert` one
+    /// up to it.
     ///
     /// ```
     /// let node = KdlNode::parse(alloc, "a 1 2 b=3")?;
@@ -64,7 +65,7 @@ impl KdlNode {
         count
     }
 
-    /// Whether there are no entries.
+    /// Returns whether there are no entries.
     ///
     /// ```
     /// let node = KdlNode::parse(alloc, "a { b 1; }")?;
@@ -76,8 +77,8 @@ impl KdlNode {
         self.entries.is_empty()
     }
 
-    /// The entries, to be changed in place. All else stays as it is. A node with a format prints the same before its
-    /// entries, and after them.
+    /// Returns a mutable reference to the entries. All else is unchanged. A node with a format prints the same text
+    /// before its entries, and after them.
     ///
     /// ```
     /// let mut node = KdlNode::parse(alloc, "a 1 2 3 // kept")?;
@@ -95,7 +96,7 @@ impl KdlNode {
         &mut self.entries
     }
 
-    /// Drops all entries. All else stays as it is.
+    /// Drops all entries. All else is unchanged.
     ///
     /// ```
     /// let mut node = KdlNode::parse(alloc, "a 1 b=2 // kept")?;
@@ -110,8 +111,7 @@ impl KdlNode {
         edit::clear(&mut self.entries);
     }
 
-    /// Puts the entry after the others. Where memory runs out, the entry comes back with the error, and the node is as
-    /// it was.
+    /// Appends the entry. If an allocation fails, returns the entry in the error, and leaves the node unchanged.
     ///
     /// ```
     /// let mut node = KdlNode::parse(alloc, "a 1 // kept")?;
@@ -137,17 +137,17 @@ impl KdlNode {
         edit::push(&mut self.entries, entry)
     }
 
-    /// Puts the entry in under the key.
+    /// Inserts the entry under the key.
     ///
-    /// Under a name, an entry without a name gets this name. It replaces the last property of that name, which is
-    /// returned. Where there is none, the entry goes last. Under an index, the entry goes directly before the argument
-    /// at that place among the arguments, or last where the index is the number of arguments.
+    /// Under a name, an entry without a name gets this name. The entry replaces the last property of that name, which
+    /// is returned, or is appended if there is none. Under an index, the entry is inserted directly before the argument
+    /// at that place among the arguments, or appended if the index is the number of arguments.
     ///
     /// The entry must have no name, or, under a name, one of equal value. The index must be at most the number of
     /// arguments.
     ///
-    /// A replacement takes no memory. Otherwise, where memory runs out, the entry comes back with the error, with the
-    /// key as its name where it had none, and the node is as it was.
+    /// A replacement does not allocate. If an allocation fails, returns the entry in the error, with the key as its
+    /// name if it had none, and leaves the node unchanged.
     ///
     /// ```
     /// let mut node = KdlNode::parse(alloc, "a b=1 // kept")?;
@@ -189,8 +189,8 @@ impl KdlNode {
         edit::insert(&mut self.entries, key, entry)
     }
 
-    /// Removes and returns the first property whose name has the key's value, or the argument at the key's place
-    /// among the arguments, which has to be there. All else stays as it is.
+    /// Removes and returns the first property whose name has the key's value, or the argument at the key's place among
+    /// the arguments, which has to exist. All else is unchanged.
     ///
     /// ```
     /// let mut node = KdlNode::parse(alloc, "a 1 b=2 b=3")?;
@@ -212,8 +212,8 @@ impl KdlNode {
         edit::remove(&mut self.entries, key)
     }
 
-    /// Keeps, in order, the entries for which `keep` returns true. It is asked once for each entry, in order. All else
-    /// stays as it is.
+    /// Retains, in order, the entries for which `keep` returns true. `keep` is called exactly once for each entry, in
+    /// order. All else is unchanged.
     ///
     /// ```
     /// let mut node = KdlNode::parse(alloc, "a 1 b=2 3")?;
@@ -230,8 +230,8 @@ impl KdlNode {
         edit::retain(&mut self.entries, keep);
     }
 
-    /// Sorts the entries by `compare`, a total preorder; entries that compare as equal keep their order. Fails where
-    /// memory ran out: then the entries are in some order.
+    /// Sorts the entries by `compare`, which has to be a total preorder; entries that compare as equal keep their
+    /// order. If an allocation fails, returns an error, and the entries are in an unspecified order.
     ///
     /// ```
     /// let mut node = KdlNode::parse(alloc, "a 3 1 2")?;
@@ -253,8 +253,8 @@ impl KdlNode {
         edit::sort_by(&mut self.entries, compare)
     }
 
-    /// Sorts the entries by the key that `f` returns for each; entries with equal keys keep their order. Fails where
-    /// memory ran out: then the entries are in some order.
+    /// Sorts the entries by the key that `f` returns for each; entries with equal keys keep their order. If an
+    /// allocation fails, returns an error, and the entries are in an unspecified order.
     ///
     /// ```
     /// let mut node = KdlNode::parse(alloc, "a b=1 2 c=3 4")?;

@@ -1,4 +1,4 @@
-//! The parts of a node, to be set or to be changed in place.
+//! Setters of a node's parts, and mutable references to them.
 
 ghost use Rattle.kdl.specs.Bytes.{IsExchangedInDocument, IsExchangedInNode};
 ghost use Rattle.kdl.specs.Change.{with_name, with_ty, with_children, with_format, ty_row, children_row};
@@ -27,8 +27,8 @@ use kdl_text::span::SourceSpan;
 use std::alloc::{AllocError, Global};
 
 impl KdlNode {
-    /// A node of that name, without a type, entries and children. The texts of its format are empty, but for the
-    /// trailing one, which is one newline; the span is 0 of length 0. Fails where memory runs out.
+    /// Creates a node of that name, without a type, entries and children. The texts of its format are empty, except the
+    /// trailing one, which is a newline. Its span has offset and length 0. Returns an error if an allocation fails.
     ///
     /// ```
     /// let name = KdlIdentifier::from_text(alloc, "two words")?;
@@ -36,7 +36,7 @@ impl KdlNode {
     /// ```
     pub fn new(name: KdlIdentifier) -> Result<KdlNode, AllocError>
         ensures made { IfOk result (λ n. node_tree n ≡ new_node (identifier_tree name)) }
-        // It reads back before any text, where the name has no spelling, or one that is that name.
+        // It reads back before any text, if the name has no spelling, or one that is that name.
         ensures ends { IfOk result (λ n. (identifier_tree name).repr ≡ None → NodeEnds n) }
         ensures ends_spelled { IfOk result (λ n. IsIdentifierText true
             (print_identifier (identifier_tree name)) (identifier_tree name).value → NodeEnds n) }
@@ -60,7 +60,7 @@ impl KdlNode {
         })
     }
 
-    /// The name, to be changed in place.
+    /// Returns a mutable reference to the name.
     ///
     /// ```
     /// let mut node = KdlNode::parse(alloc, "old 1 // kept")?;
@@ -86,7 +86,7 @@ impl KdlNode {
         self.name = name;
     }
 
-    /// The type or none, to be changed in place.
+    /// Returns a mutable reference to the optional type.
     ///
     /// ```
     /// let mut node = KdlNode::parse(alloc, "(date)today")?;
@@ -112,7 +112,7 @@ impl KdlNode {
         self.ty = Some(ty);
     }
 
-    /// The children or none, to be changed in place.
+    /// Returns a mutable reference to the optional children.
     ///
     /// ```
     /// let mut node = KdlNode::parse(alloc, "a { b; c; }")?;
@@ -138,11 +138,11 @@ impl KdlNode {
         &mut self.children
     }
 
-    /// Sets the children, in place of those that were there, and nothing else.
+    /// Sets the children, which replace the old ones, and nothing else.
     ///
     /// ```
     /// let mut node = KdlNode::parse(alloc, "a 1")?;
-    /// node.set_children(KdlDocument::parse(alloc, "b; c")?); // in place of those that were there
+    /// node.set_children(KdlDocument::parse(alloc, "b; c")?); // replaces the old ones
     /// ```
     pub fn set_children(&mut self, children: KdlDocument)
         ensures { self.new ≡ with_children self.old (Some children) }
@@ -162,9 +162,9 @@ impl KdlNode {
         self.children = None;
     }
 
-    /// The children, to be changed in place; where the node has no child block it gets an empty new one. It takes no
-    /// memory. The text before the node's terminator stays there, so a comment or an escline in it comes after the new
-    /// block; `push_child` puts it before.
+    /// Returns a mutable reference to the children. A node without a child block gets an empty new one, without
+    /// allocating. The text before the node's terminator stays there, so a comment or a line continuation in it comes
+    /// after the new block; `push_child` moves it before the block.
     ///
     /// ```
     /// let mut node = KdlNode::parse(alloc, "a")?;
@@ -185,7 +185,7 @@ impl KdlNode {
         self.children.get_or_insert(KdlDocument::new(alloc))
     }
 
-    /// The texts around the parts, to be changed in place, where the node keeps them.
+    /// Returns a mutable reference to the texts around the parts, if the node keeps them.
     ///
     /// ```
     /// let mut node = KdlNode::parse(alloc, "a 1")?;
@@ -213,7 +213,7 @@ impl KdlNode {
         self.format = Some(format);
     }
 
-    /// Drops the node's own format, and nothing else: the spellings, and the formats of entries and children, stay.
+    /// Drops the node's own format, and nothing else: the spellings, and the formats of entries and children, are kept.
     ///
     /// ```
     /// let mut node = KdlNode::parse(alloc, "a  0x1 ; ")?;

@@ -1,4 +1,4 @@
-//! Nodes as they are read.
+//! Nodes, created from their parsed parts.
 
 ghost use Rattle.kdl.specs.Tree.{node_tree};
 ghost use Rattle.kdl_grammar.specs.Laid.{node_span};

@@ -25,7 +25,7 @@ use std::{fmt, slice};
 impl KdlNode {
     ghost use Rattle.kdl_entry.specs.contracts.entry.KdlEntry.{the_row as entry_row};
 
-    /// The entries, arguments and properties, in order.
+    /// Returns an iterator over the entries, arguments and properties, in order.
     ///
     /// ```
     /// let node = KdlNode::parse(alloc, "a 1 b=2")?;
@@ -42,7 +42,7 @@ impl KdlNode {
         entry_iter(&self.entries)
     }
 
-    /// The entries, in order, to be changed in place.
+    /// Returns a mutable iterator over the entries, in order.
     ///
     /// ```
     /// let mut node = KdlNode::parse(alloc, "a 0x1 0x2")?;
@@ -58,7 +58,7 @@ impl KdlNode {
         entry_iter_mut(&mut self.entries)
     }
 
-    /// The children, in order; none without a child block.
+    /// Returns an iterator over the children, in order. It is empty without a child block.
     ///
     /// ```
     /// let node = KdlNode::parse(alloc, "a { b; c; }")?;
@@ -77,7 +77,8 @@ impl KdlNode {
         }
     }
 
-    /// The children, in order, to be changed in place; none without a child block. All else of the node stays as it is.
+    /// Returns a mutable iterator over the children, in order. It is empty without a child block. All else of the node
+    /// is unchanged.
     ///
     /// ```
     /// let mut node = KdlNode::parse(alloc, "a { b 1; c 2; }")?;
@@ -98,7 +99,7 @@ impl KdlNode {
     }
 }
 
-/// The nodes of a child block, in order, to be changed in place; none without a block.
+/// Returns a mutable iterator over the nodes of a child block, in order. It is empty without a block.
 fn lent_nodes(children: &mut Option<KdlDocument>) -> slice::IterMut<'_, KdlNode>
     ensures { iter_mut_rest result ≡ nodes_in children.old }
 {
@@ -108,7 +109,7 @@ fn lent_nodes(children: &mut Option<KdlDocument>) -> slice::IterMut<'_, KdlNode>
     }
 }
 
-/// The children of a node, in order.
+/// An iterator over the children of a node, in order.
 #[derive(Debug, Drop)]
 pub struct ChildrenIter<'a>(Option<slice::Iter<'a, KdlNode>>);
 
@@ -139,7 +140,7 @@ impl<'a> Iterator for ChildrenIter<'a> {
         self.0.as_mut()?.next()
     }
 
-    /// How many children are left.
+    /// The exact number of children that are left.
     fn size_hint(&self) -> (usize, Option<usize>)
         ensures lower { IsWithinCount result.0 (at_most (length self.now)) }
         ensures upper { IfSome result.1 (UpTo (at_most (length self.now))) }
@@ -153,10 +154,10 @@ impl<'a> Iterator for ChildrenIter<'a> {
     }
 }
 
-/// The children of a node, in order, each to be changed in place.
+/// A mutable iterator over the children of a node, in order.
 ///
-/// The node lends its child block, and the first call of `next` enters it: so the contract of `iter_children_mut` can say
-/// that all else of the node stays.
+/// The iterator borrows the node's child block, and the first call of `next` enters it. So the contract of
+/// `iter_children_mut` can say that all else of the node is unchanged.
 #[derive(Drop)]
 pub struct ChildrenIterMut<'a> {
     /// The block as a list of one, until it is entered.
@@ -204,7 +205,7 @@ impl<'a> Iterator for ChildrenIterMut<'a> {
         self.nodes.as_mut()?.next()
     }
 
-    /// How many children are left.
+    /// The exact number of children that are left.
     fn size_hint(&self) -> (usize, Option<usize>)
         ensures lower { IsWithinCount result.0 (at_most (length (nodes_left self.now))) }
         ensures upper { IfSome result.1 (UpTo (at_most (length (nodes_left self.now)))) }

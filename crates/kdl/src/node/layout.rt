@@ -29,17 +29,18 @@ use std::alloc::AllocError;
 use std::mem;
 
 impl KdlNode {
-    /// Lays out the node and all below it: the node on a line of its own at level 0, four spaces for each level below
-    /// it, one space between the parts of a node. What the node says stays.
+    /// Formats the node and all nodes below it: the node on its own line at level 0, four spaces for each level below
+    /// it, one space between the parts of a node. The data of the node is unchanged.
     ///
-    /// Comments, and what a slashdash drops, stay before or after the node or one below it, between entries, and before
-    /// a block or a terminator. They are removed inside a type or after it, around `=` and after an entry's value.
-    /// Spellings are removed too, but an entry that is flagged to keep its form keeps the spelling of its value and the
-    /// text before it.
+    /// Comments and slashdashed pieces are kept before or after the node or one below it, between entries, and before a
+    /// block or a terminator. They are removed inside a type or after it, around `=` and after an entry's value.
+    /// Spellings are removed too, but an entry that is flagged to keep its form (`KdlEntry::keep_format`) keeps the
+    /// spelling of its value and the text before it.
     ///
-    /// Where no entry is flagged, the node prints a document of that one node, and a second call changes nothing.
+    /// If no entry is flagged, the node prints a document of that one node, and a second call changes nothing.
     ///
-    /// Fails where memory runs out: then the node says what it said, and some of it may be laid out.
+    /// If an allocation fails, returns an error. The data of the node is then unchanged, and some of it may be
+    /// formatted.
     ///
     /// ```
     /// let mut node = KdlNode::parse(alloc, "\"a\"  /* b */ 0x10 // c")?;
@@ -61,9 +62,10 @@ impl KdlNode {
         self.autoformat_config(&config)
     }
 
-    /// Lays out the node like `autoformat`, and removes its comments, and what a slashdash drops.
+    /// Formats the node like `autoformat`, and removes its comments and slashdashed pieces.
     ///
-    /// Fails where memory runs out: then the node says what it said, and some of it may be laid out.
+    /// If an allocation fails, returns an error. The data of the node is then unchanged, and some of it may be
+    /// formatted.
     ///
     /// ```
     /// let mut node = KdlNode::parse(alloc, "\"a\"   0x10 { /* b */ b; }")?;
@@ -86,11 +88,11 @@ impl KdlNode {
         self.autoformat_config(&config)
     }
 
-    /// Lays out the node and all below it as the configuration says: from its level on, with its indent for each level,
-    /// with or without comments, and with all entries flagged or not.
+    /// Formats the node and all nodes below it as the configuration says: from its level on, with its indent for each
+    /// level, with or without comments, and with all entries flagged or not.
     ///
-    /// Fails where memory runs out, or where the level of a child would pass `usize`: then the node says what it
-    /// said, and some of it may be laid out.
+    /// Returns an error if an allocation fails, or if the level of a child would exceed `usize::MAX`. The data of the
+    /// node is then unchanged, and some of it may be formatted.
     ///
     /// ```
     /// let config = FormatConfig::builder().indent("\t").indent_level(1).build();
@@ -129,12 +131,12 @@ impl KdlNode {
         self.lay_out_alone(&layout)
     }
 
-    /// Lays out the node like `autoformat_config`, and keeps blank lines between the nodes in its blocks, and between
-    /// comments and what a slashdash drops where these stay: as many as there are, but no more than the layout's number.
-    /// There are none before the node, and none at the start and at the end of a block.
+    /// Formats the node like `autoformat_config`, and keeps blank lines between the nodes in its blocks, and between
+    /// comments and slashdashed pieces that are kept: as many as there are, but at most the layout's number. There are
+    /// none before the node, and none at the start and at the end of a block.
     ///
-    /// Fails where memory runs out, or where the level of a child, or a number of newlines, would pass `usize`: then the
-    /// node says what it said, and some of it may be laid out.
+    /// Returns an error if an allocation fails, or if the level of a child, or a number of newlines, would exceed
+    /// `usize::MAX`. The data of the node is then unchanged, and some of it may be formatted.
     ///
     /// ```
     /// let layout = Layout { config: FormatConfig::default(), blank_lines: 1 };
@@ -224,14 +226,14 @@ impl KdlNode {
         Ok((behind, first))
     }
 
-    /// What comes before the thing after the node, which is not laid out.
+    /// Returns what comes before whatever follows the node. That is not laid out.
     pub(crate) fn behind(&self, layout: &Layout) -> Result<Before, AllocError>
         ensures { IfOk result (λ b. PassesAt layout.now (node_tree self.now) b) }
     {
         behind_line(&self.format, *self.entries.allocator(), layout)
     }
 
-    /// Puts other nodes into the node's block and returns those that it had. Without a block, it returns the given nodes.
+    /// Replaces the nodes in the node's block and returns the old ones. Without a block, returns the given nodes.
     pub(crate) fn exchange_nodes(&mut self, nodes: Vec<KdlNode>) -> Vec<KdlNode>
         ensures had { MatchOption (out-KdlNode self.old).children (result ≡ nodes)
             (λ d. result ≡ (out-KdlDocument d).nodes) }
@@ -255,7 +257,7 @@ impl KdlNode {
     }
 }
 
-/// Lays out the block of a node at a level, but for the nodes in it. Returns what comes before the first of these.
+/// Lays out the block of a node at a level, but not the nodes in it. Returns what comes before the first of these.
 fn lay_out_block(
     children: &mut Option<KdlDocument>,
     layout: &Layout,

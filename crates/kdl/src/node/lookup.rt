@@ -28,8 +28,8 @@ use std::alloc::AllocError;
 use std::ops::{Index, IndexMut};
 
 impl KdlNode {
-    /// The entry that the key finds: the last property whose name has the key's value, or the argument at the key's
-    /// place among the arguments.
+    /// Returns the entry that the key finds: the last property whose name has the key's value, or the argument at the
+    /// key's place among the arguments.
     ///
     /// ```
     /// let node = KdlNode::parse(alloc, "a 1 b=2 3")?;
@@ -46,7 +46,7 @@ impl KdlNode {
         lookup::entry(&self.entries, key)
     }
 
-    /// The value of the entry that the key finds: of the last property whose name has the key's value, or of the
+    /// Returns the value of the entry that the key finds: the last property whose name has the key's value, or the
     /// argument at the key's place among the arguments.
     ///
     /// ```
@@ -66,8 +66,8 @@ impl KdlNode {
         lookup::value(&self.entries, key)
     }
 
-    /// Whether the node has a property of that name. The name's value counts, not its spelling. Where it has one,
-    /// `node[name]` may be used.
+    /// Returns whether the node has a property of that name. Names are compared by their values, not by their
+    /// spellings. If it has one, `node[name]` may be used.
     ///
     /// ```
     /// let node = KdlNode::parse(alloc, "a b=1 c")?;
@@ -87,8 +87,8 @@ impl KdlNode {
     ghost use Rattle.kdl_entry.specs.contracts.entry.KdlEntry.{the_row as entry_row};
     ghost use Rattle.kdl_value.specs.contracts.value.KdlValue.{the_row as value_row};
 
-    /// The entry that `entry` returns, to be changed in place. All else stays as it is. In the printed text of a node
-    /// with a format, all bytes before and after those of the entry stay too.
+    /// Returns a mutable reference to the entry that `entry` returns. All else is unchanged. In the printed text of a
+    /// node with a format, all bytes before and after those of the entry are unchanged too.
     ///
     /// ```
     /// let mut node = KdlNode::parse(alloc, "a 0x10")?;
@@ -122,8 +122,8 @@ impl KdlNode {
         lookup::entry_mut(&mut self.entries, key)
     }
 
-    /// The value that `get` returns, to be changed in place. The entry's format, with the spelling of the value, and all
-    /// else stay as they are.
+    /// Returns a mutable reference to the value that `get` returns. The entry's format, with the spelling of the value,
+    /// and all else are unchanged.
     ///
     /// ```
     /// let mut node = KdlNode::parse(alloc, "a b=1")?;
@@ -143,9 +143,9 @@ impl KdlNode {
         lookup::value_mut(&mut self.entries, key)
     }
 
-    /// The value of the last property of that name, to be changed in place. Where there is none, a property of that
-    /// name with the value null is pushed first. Only this takes memory. Where memory runs out, the entries are as they
-    /// were.
+    /// Returns a mutable reference to the value of the last property of that name. If there is none, first appends a
+    /// property of that name with the value null; only this allocates. If an allocation fails, returns an error and
+    /// leaves the entries unchanged.
     ///
     /// ```
     /// let mut node = KdlNode::parse(alloc, "a")?;
@@ -168,7 +168,8 @@ impl KdlNode {
     }
 }
 
-/// The value of the argument at that place among the arguments, from 0. It has to be there, as `get` says.
+/// Returns the value of the argument at that place among the arguments, counted from 0. It has to exist: `get` returns
+/// it then.
 ///
 /// ```
 /// let node = KdlNode::parse(alloc, "a b=1 2")?;
@@ -187,7 +188,7 @@ impl Index<usize> for KdlNode {
     }
 }
 
-/// The value of the last property of that name. It has to be there, as `has_property` says.
+/// Returns the value of the last property of that name. It has to exist: `has_property` returns true then.
 ///
 /// ```
 /// let node = KdlNode::parse(alloc, "a b=1 2")?;
@@ -206,7 +207,7 @@ impl<'q> Index<&'q str> for KdlNode {
     }
 }
 
-/// The value that `node[index]` gives, to be changed in place. All else stays as it is.
+/// Returns a mutable reference to the value that `node[index]` returns. All else is unchanged.
 ///
 /// ```
 /// let mut node = KdlNode::parse(alloc, "a 1")?;

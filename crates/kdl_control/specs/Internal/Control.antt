@@ -2,7 +2,7 @@
 use Rattle.std.specs.Prelude.{Bool, true, false, List, [], ◌∷◌, Option, Some, None}
 use Rattle.kdl_lexer.specs.Internal.Tokens.{Token, space, newline, slashdash, string, value, left, right, opening, closing, equals, semicolon}
 
--- in a node before its block: directly after the name or an entry, which may be a key, or after spaces, or after a block that is slashdashed
+-- in a node before its block: directly after the name or an entry, which may be a key, or after spaces, or after a slashdashed block
 pub data Spot : Type 0 where
   fresh : Bool → Spot
   spaced : Bool → Spot
@@ -22,7 +22,7 @@ pub data Phase : Type 0 where
   kept : Phase
   kept_slashdash : Phase
 
--- the block of a node, a block that is slashdashed, or one that does so after the node's block
+-- the block of a node, a slashdashed block before it, or a slashdashed block after it
 pub data Frame : Type 0 where
   in_block : Frame
   in_dropped : Frame
@@ -45,7 +45,7 @@ spaced_of (fresh b) = spaced b
 spaced_of (spaced b) = spaced b
 spaced_of later = later
 
--- after a slashdash: an entry or a block may come, but after a dropped block a block alone
+-- after a slashdash: an entry or a block may come, but after a slashdashed block only a block
 abbrev pub slashdash_at : Spot → Phase
 slashdash_at (fresh b) = entry_slashdash
 slashdash_at (spaced b) = entry_slashdash
@@ -67,7 +67,7 @@ abbrev pub for_value : Bool → Control → Option Control
 for_value true c = Some c
 for_value false c = None
 
--- the control after the token; none where the token may not come
+-- the control after the token; none if the token may not come here
 abbrev pub step : Control → Token → Option Control
 step (at gap fs) space = Some (at gap fs)
 step (at gap fs) newline = Some (at gap fs)
@@ -126,7 +126,7 @@ finish (at (in_node p) []) = true
 finish (at kept []) = true
 finish _ = false
 
--- there is one, of which f holds
+-- there is a control, and f holds of it
 abbrev pub held : (Control → Bool) → Option Control → Bool
 held f None = false
 held f (Some c) = f c
@@ -141,18 +141,18 @@ abbrev pub is_gap : Control → Bool
 is_gap (at gap []) = true
 is_gap _ = false
 
--- what is dropped in a node ends directly after a value or a block
+-- what a slashdash drops in a node may end here, directly after a value or a block
 abbrev pub is_over : Control → Bool
 is_over (at (in_node (fresh false)) []) = true
 is_over (at (in_node later) []) = true
 is_over _ = false
 
--- it is a block
+-- what ends here is a block
 abbrev pub is_block : Control → Bool
 is_block (at (in_node later) []) = true
 is_block _ = false
 
--- a string may be a key: it ends where no `=` follows
+-- a string here may be a key: it is an argument if no `=` follows
 abbrev pub is_word : Control → Bool
 is_word (at (in_node (fresh true)) []) = true
 is_word (at (in_node (spaced true)) []) = true

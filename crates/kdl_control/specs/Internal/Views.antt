@@ -21,7 +21,7 @@ abbrev pub owner_view : Owner → Bool
 owner_view Name = false
 owner_view Value = true
 
--- whether a string is there that may be a key
+-- whether a string that may be a key is here
 abbrev pub word_view : Word → Bool
 word_view MayBeKey = true
 word_view NoKey = false
@@ -49,7 +49,7 @@ frame_view Node = c.in_block
 frame_view Dropped = c.in_dropped
 frame_view LaterBlock = c.in_later
 
--- the open blocks, with those in acc around them; the last one is on top
+-- the open blocks, with those in acc around them; the last one is the innermost
 abbrev pub stacked : List c.Frame → List Frame → List c.Frame
 stacked acc [] = acc
 stacked acc (f ∷ fs) = stacked (frame_view f ∷ acc) fs
@@ -57,7 +57,7 @@ stacked acc (f ∷ fs) = stacked (frame_view f ∷ acc) fs
 abbrev pub control_view : Control → c.Control
 control_view m = c.at (phase_view m.phase) (stacked [] m.frames.items)
 
--- where a move goes, with these blocks open
+-- the control after a move, with these blocks open
 abbrev pub move_view : Move → List c.Frame → Option c.Control
 move_view (To p) fs = Some (c.at (phase_view p) fs)
 move_view (Open f) fs = Some (c.at c.gap (frame_view f ∷ fs))

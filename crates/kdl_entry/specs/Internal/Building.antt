@@ -46,14 +46,14 @@ item_view it = record {
   after = text_of it.after;
 }
 
--- what a step did; for a refused token its first character is reported; running out of memory says nothing
+-- what a step did; for a refused token its first character is reported; an allocation failure says nothing
 abbrev pub Did : Answer → Spot → Result (Option Given) LexFailure → items.Item → Type 0
 Did o place (Ok None) it = o ≡ goes it
 Did o place (Ok (Some g)) it = o ≡ gives (option_map key_view g.key) (option_map type_view g.ty) (value_tree g.value)
 Did o place (Err (Faulty span)) it = (o ≡ refuses) × IsFaultAt place span
 Did o place (Err Memory) it = Unit {0}
 
--- the item counts or not as before, and begins where it began
+-- the item is kept or not as before, and begins where it began
 pub record Holds (old new : items.Item) : Type 0 where
   pub kept : new.kept ≡ old.kept
   pub leading : new.leading ≡ old.leading

@@ -1,4 +1,4 @@
--- What a call took for the texts that it sliced: at most a step for each of their bytes.
+-- What a call costs for the texts that it slices: at most a step for each of their bytes.
 use Rattle.std.specs.Prelude.{ℕ, ◌+◌, ◌≤◌, if◌then◌else◌, Bool, Option, Some, None, Result, Ok, Err}
 use Rattle.kdl_text.specs.Internal.Here.{Here}
 use Rattle.kdl_entry.specs.declared.items.item.Given.{Given}
@@ -9,7 +9,7 @@ use Rattle.kdl_lexer.specs.declared.lexer.LexFailure.TheVariants.{Faulty, Memory
 pub record Sliced (m n : ℕ) (old new : Here) : Type 0 where
   pub most : new.steps + n ≤ old.steps + m
 
--- in an item that counts, up to where its place under way begins now, or up to its value; and else nothing, nor where a token is refused
+-- in an item that is kept, the text up to the start of the current place, or up to its value, was sliced; nothing was if the item is not kept or a token is refused
 abbrev pub ItemSliced : Result (Option Given) LexFailure → Bool → ℕ → ℕ → ℕ → Here → Here → Type 0
 ItemSliced (Ok None) kept m now value old new = Sliced m (if kept then now else m) old new
 ItemSliced (Ok (Some g)) kept m now value old new = Sliced m (if kept then value else m) old new

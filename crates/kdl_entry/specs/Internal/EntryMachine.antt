@@ -1,5 +1,5 @@
--- The machine that reads a text that is one entry: it goes over the tokens once. The token k is in the text s before r, in the text `whole`.
--- Where a place began is kept as the text from there on. Of an entry that is slashdashed no text is held.
+-- The machine that reads a text that is one entry: it reads the tokens once. The token k is in the text s before r, in the text `whole`.
+-- The start of a place is kept as the text from there on. No text of a slashdashed entry is kept.
 use Rattle.std.specs.Prelude.{◌≡◌, Bool, true, false, [], Option, Some, None, option_map}
 use Rattle.kdl_text.specs.Chars.{Text}
 use Rattle.kdl_text.specs.declared.span.SourceSpan.{SourceSpan}
@@ -10,15 +10,15 @@ use Rattle.kdl_entry.specs.Places.{span_of, between}
 use Rattle.kdl_lexer.specs.Internal.Tokens.{Token, space, newline, slashdash, string, value, left, equals, BeginsToken}
 use Rattle.kdl_entry.specs.Tree.{Identifier, EntryFormat, Entry, no_span, plain_identifier}
 
--- a string that may yet be a key: what comes before it, what it represents, its spelling, and its span
+-- a string that may still be a key: what comes before it, what it represents, its spelling, and its span
 pub record Word : Type 0 where
   pub leading : Text
   pub value : Text
   pub repr : Text
   pub span : SourceSpan
 
--- ahead of the entry, after line-spaces alone; after a slashdash; in an entry that has a type or a key;
--- after an entry that is slashdashed, which may be a key or not, directly or after spaces;
+-- before the entry, after only line-spaces; after a slashdash; in an entry that has a type or a key;
+-- after a slashdashed entry, which may be a key or not, directly or after spaces;
 -- after a string that may be a key; after the entry
 pub data State : Type 0 where
   ahead : State
@@ -28,11 +28,11 @@ pub data State : Type 0 where
   word : Word → Text → State
   done : Entry → Text → State
 
--- an entry under way, after the `(` of its type
+-- an entry being read, after the `(` of its type
 abbrev pub opened_item : Text → Bool → Text → Text → Item
 opened_item whole kept leading r = record { kept = kept; valued = true; stage = opened; leading = leading; start = whole; from = r; key = None; name = plain_identifier []; before = []; after = [] }
 
--- an entry under way, after the `=` that comes after its key and this text
+-- an entry being read, after the `=` that follows its key and this text
 abbrev pub keyed_item : Text → Bool → Text → Identifier → Text → Text → Item
 keyed_item whole kept leading name before r = record { kept = kept; valued = true; stage = keyed; leading = leading; start = whole; from = r; key = None; name = name; before = before; after = [] }
 
@@ -56,7 +56,7 @@ abbrev pub given : Bool → Text → Option KeyParts → Option TypeParts → Va
 given true leading k y v s r = done (entry_by leading k y v (between s r)) r
 given false leading k y v s r = dropped false false
 
--- what the item came to
+-- the state after an answer of the item
 abbrev pub came : Item → Answer → Text → Text → Option State
 came it (goes next) s r = Some (under next)
 came it (gives k y v) s r = Some (given it.kept it.leading k y v s r)
@@ -97,7 +97,7 @@ with_trailing p f = record f { trailing = p }
 abbrev pub ended : Text → Text → Entry → Entry
 ended whole p e = record e { format = option_map (with_trailing p) e.format; span = span_of whole whole [] }
 
--- what the machine returns where the text ends
+-- what the machine returns at the end of the text
 abbrev pub finish : Text → State → Option Entry
 finish whole (word w from) = Some (ended whole (between from []) (argument_of w))
 finish whole (done e from) = Some (ended whole (between from []) e)

@@ -34,14 +34,14 @@ state_view (Done e from) = done (entry_tree e) from.rest
 abbrev pub EndsIn : Text → Text → Type 0
 EndsIn t s = (p : Text) × (t ≡ p ++ s)
 
--- the place under way began before s
+-- the current place began before s
 abbrev pub Stands : machine.State → Text → Type 0
 Stands (under it) s = EndsIn it.from s
 Stands (word w from) s = EndsIn from s
 Stands (done e from) s = EndsIn from s
 Stands _ s = Unit {0}
 
--- what a step did, by the machine's; for a refused token its first character is reported; running out of memory says nothing
+-- what a step did, by the machine's; for a refused token its first character is reported; an allocation failure says nothing
 abbrev pub Stepped : Option machine.State → Spot → Result State LexFailure → Type 0
 Stepped o place (Ok st) = o ≡ Some (state_view st)
 Stepped o place (Err (Faulty span)) = (o ≡ None) × IsFaultAt place span

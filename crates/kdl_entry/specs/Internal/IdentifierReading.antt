@@ -9,7 +9,7 @@ use Rattle.kdl_entry.specs.declared.identifier.KdlIdentifier.{KdlIdentifier}
 use Rattle.kdl_lexer.specs.declared.lexer.LexFailure.{LexFailure}
 use Rattle.kdl_lexer.specs.declared.lexer.LexFailure.TheVariants.{Faulty, Memory}
 
--- the identifier, laid in the text; for a refused text a place is reported
+-- the identifier, located in the text; for a refused text a place is reported
 abbrev pub AnswersIdentifierText : Text → Result KdlIdentifier LexFailure → Type 0
 AnswersIdentifierText t (Ok i) = LaidIdentifierText true (identifier_tree i) t
 AnswersIdentifierText t (Err (Faulty span)) = ((v : Text) → IsIdentifierText true t v → ⊥) × InText t span

@@ -1,5 +1,5 @@
--- An item under way: the type and value of an entry after its key, or the type and name of a node, token by token.
--- The token k is in the text s before r, in the text `whole`. Where a place began is kept as the text from there on.
+-- An item being read, token by token: the type and value of an entry after its key, or the type and name of a node.
+-- The token k is in the text s before r, in the text `whole`. The start of a place is kept as the text from there on.
 use Rattle.std.specs.Prelude.{Bool, true, false, [], Option, Some, None}
 use Rattle.kdl_text.specs.Chars.{Text}
 use Rattle.kdl_text.specs.declared.span.SourceSpan.{SourceSpan}
@@ -87,8 +87,8 @@ pub data Stage : Type 0 where
   closed : Stage
   keyed : Stage
 
--- an item under way; the name and the texts around it are those of its type, or after `=` those of its key.
--- Of an item that is not kept no text is held; one that is not valued takes a string alone.
+-- an item being read; the name and the texts around it are those of its type, or after `=` those of its key.
+-- No text of an item that is not kept is held; an item that is not valued takes only a string.
 pub record Item : Type 0 where
   pub kept : Bool
   pub valued : Bool
@@ -105,28 +105,28 @@ pub record Item : Type 0 where
 abbrev pub no_item : Text → Item
 no_item s = record { kept = false; valued = false; stage = opened; leading = []; start = s; from = s; key = None; name = plain_identifier []; before = []; after = [] }
 
--- the item goes on, or gives its key, its type and its value, or the token may not be here
+-- the item continues, or gives its key, its type and its value, or the token may not be here
 pub data Answer : Type 0 where
   goes : Item → Answer
   gives : Option KeyParts → Option TypeParts → Value → Answer
   refuses : Answer
 
--- the item with the name of its type, and the text before it, where it is kept
+-- the item with the name of its type, and the text before it, if it is kept
 abbrev pub named_at : Bool → Identifier → Text → Text → Item → Item
 named_at true i before r it = record it { stage = named; name = i; before = before; from = r }
 named_at false i before r it = record it { stage = named; from = r }
 
--- the item with the text after the name of its type, where it is kept
+-- the item with the text after the name of its type, if it is kept
 abbrev pub closed_at : Bool → Text → Text → Item → Item
 closed_at true after r it = record it { stage = closed; after = after; from = r }
 closed_at false after r it = record it { stage = closed; from = r }
 
--- the type, where what follows it begins at s
+-- the type, if what follows it begins at s
 abbrev pub type_at : Bool → Item → Text → Option TypeParts
 type_at true it s = Some (record { name = it.name; before = it.before; after = it.after; behind = between it.from s })
 type_at false it s = None
 
--- the key, where what follows its `=` begins at s
+-- the key, if what follows its `=` begins at s
 abbrev pub key_at : Bool → Item → Text → Option KeyParts
 key_at true it s = Some (record { name = it.name; before = it.before; behind = between it.from s })
 key_at false it s = None
@@ -140,7 +140,7 @@ emptied false it = it
 abbrev pub reopened : Option KeyParts → Text → Item → Item
 reopened k r it = record (emptied it.kept it) { stage = opened; valued = true; key = k; from = r }
 
--- a number or a keyword gives a value alone, and no name
+-- a number or a keyword gives only a value, and not a name
 abbrev pub if_valued : Bool → Answer → Answer
 if_valued true a = a
 if_valued false a = refuses

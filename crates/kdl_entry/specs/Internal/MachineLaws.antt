@@ -11,6 +11,6 @@ use Rattle.kdl_entry.specs.Tree.{Entry, entry_data}
 abbrev pub OneEntryAnswer : Type 0
 OneEntryAnswer = (t : Text) (d e : Entry) → AnswersEntry t d → AnswersEntry t e → d ≡ e
 
--- It returns exactly where the text is an entry, with its data, and what it returns is laid in the text, with its spans
+-- it returns exactly if the text is an entry, with its data, and what it returns is located in the text, with its spans
 abbrev pub EntryAnswers : Type 0
 EntryAnswers = ((t : Text) (x : data'.Entry) → IsEntryText true t x ↔ ((e : Entry) × AnswersEntry t e × (entry_data e ≡ x))) × ((t : Text) (e : Entry) → AnswersEntry t e → LaidEntryText true t e)

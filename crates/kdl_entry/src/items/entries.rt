@@ -23,38 +23,38 @@ use kdl_text::span::SourceSpan;
 use kdl_value::KdlValue;
 use std::alloc::{AllocError, Global};
 
-/// The span of an entry whose text has not come to its end.
+/// The span of an entry before the end of its text is read.
 const UNPLACED: SourceSpan = SourceSpan { offset: 0, len: 0 };
 
-/// A string that may yet be a key.
+/// A string that may still be a key.
 #[derive(Drop)]
 struct Word<'a> {
-    /// What comes before it.
+    /// The text before it.
     leading: String,
     value: String,
-    /// Its spelling, which becomes a text of its own where it is not the string.
+    /// Its spelling, which is copied if it differs from the string.
     repr: Piece<'a>,
     span: SourceSpan,
 }
 
-/// What was read of the text so far.
+/// What of the text was read so far.
 #[derive(Drop)]
 enum State<'a> {
-    /// Line-spaces alone.
+    /// Only line-spaces.
     Start,
     /// A slashdash.
     EntrySlashdash,
-    /// An entry under way, which has a type or a key.
+    /// An entry being read, which has a type or a key.
     Under(Item<'a>),
-    /// An entry that is slashdashed: whether it is a string, which may yet be a key, and whether spaces follow.
+    /// A slashdashed entry: whether it is a string, which may still be a key, and whether spaces follow.
     Dropped(bool, bool),
-    /// A string that may yet be a key, and where it ended.
+    /// A string that may still be a key, and where it ended.
     Pending(Word<'a>, Checkpoint<'a>),
     /// The entry, and where it ended.
     Done(KdlEntry, Checkpoint<'a>),
 }
 
-/// An entry under way, after the `(` of its type.
+/// Begins an entry after the `(` of its type.
 fn opened<'a>(
     alloc: Global,
     whole: &Checkpoint<'a>,
@@ -69,7 +69,7 @@ fn opened<'a>(
     item
 }
 
-/// An entry under way, after the `=` of its key.
+/// Begins an entry after the `=` of its key.
 fn keyed<'a>(
     alloc: Global,
     whole: &Checkpoint<'a>,
@@ -88,7 +88,7 @@ fn keyed<'a>(
     item
 }
 
-/// The string that is between two places, and what comes before it.
+/// The string between two places, and the text before it.
 #[tactic(auto, unfolding(crate::specs::Places::span_of))]
 fn word_between<'a>(
     alloc: Global,
@@ -113,7 +113,7 @@ fn word_between<'a>(
     })
 }
 
-/// The value that is between two places, as an argument, and what comes before it.
+/// The value between two places, as an argument, and the text before it.
 fn argument_between<'a>(
     alloc: Global,
     lexer: &mut Lexer<'a>,
@@ -156,7 +156,7 @@ fn argument(alloc: Global, word: Word) -> Result<KdlEntry, AllocError>
     ))
 }
 
-/// A token ahead of the entry.
+/// Takes a token before the entry.
 fn at_start<'a>(
     alloc: Global,
     lexer: &mut Lexer<'a>,
@@ -190,7 +190,7 @@ fn at_start<'a>(
     }
 }
 
-/// A token after a slashdash.
+/// Takes a token after a slashdash.
 fn at_slashdash<'a>(
     alloc: Global,
     whole: &Checkpoint<'a>,
@@ -210,7 +210,7 @@ fn at_slashdash<'a>(
     }
 }
 
-/// A token in an entry under way.
+/// Takes a token in an entry.
 fn at_under<'a>(
     mut item: Item<'a>,
     alloc: Global,
@@ -237,7 +237,7 @@ fn at_under<'a>(
     Ok(State::Done(entry, end.copied()))
 }
 
-/// A token directly after an entry that is slashdashed, which is a string or not.
+/// Takes a token directly after a slashdashed entry, which is a string or not.
 fn at_dropped<'a>(
     word: bool,
     alloc: Global,
@@ -264,7 +264,7 @@ fn at_dropped<'a>(
     }
 }
 
-/// A token after an entry that is slashdashed and spaces.
+/// Takes a token after a slashdashed entry and spaces.
 fn at_spaced<'a>(
     word: bool,
     alloc: Global,
@@ -287,7 +287,7 @@ fn at_spaced<'a>(
     }
 }
 
-/// A token after a string that may yet be a key.
+/// Takes a token after a string that may still be a key.
 fn at_pending<'a>(
     word: Word<'a>,
     from: Checkpoint<'a>,
@@ -321,7 +321,7 @@ fn at_pending<'a>(
     }
 }
 
-/// A token after the entry.
+/// Takes a token after the entry.
 fn at_done<'a>(
     entry: KdlEntry,
     from: Checkpoint<'a>,
@@ -364,7 +364,7 @@ fn ended<'a>(
 }
 
 impl<'a> State<'a> {
-    /// One token. A fault where the token may not be here.
+    /// Takes a token. Fails if the token may not be here.
     fn take(
         self,
         alloc: Global,
@@ -396,7 +396,7 @@ impl<'a> State<'a> {
         }
     }
 
-    /// The entry, where the text ends; `None` where it has not come.
+    /// Returns the entry at the end of the text, or `None` if there is none.
     fn finish(
         self,
         alloc: Global,
@@ -421,7 +421,7 @@ impl<'a> State<'a> {
     }
 }
 
-/// The entry that the text is, of which the lexer is at the start.
+/// Reads the entry that the text is; the lexer is at its start.
 #[tactic(auto, using(crate::proofs::Reading::EntryLoop::starts_going, crate::proofs::Reading::EntryLoop::next_going, crate::proofs::Reading::EntryLoop::whole_start, crate::proofs::Reading::EntryLoop::from_start, crate::proofs::Reading::EntryLoop::start_end, crate::proofs::Reading::EntryLoop::lexer_told, crate::proofs::Reading::EntryLoop::take_told, crate::proofs::Reading::EntryLoop::all_read, crate::proofs::Reading::EntryLoop::from_end, crate::proofs::Reading::EntryLoop::at_the_end, crate::proofs::Reading::EntryLoop::no_end, crate::proofs::Reading::EntryLoop::nearer))]
 fn read_tokens<'a>(
     alloc: Global,
@@ -443,7 +443,7 @@ fn read_tokens<'a>(
     }
 }
 
-/// The entry that the text is.
+/// Reads the entry that the text is.
 fn read_entry(alloc: Global, text: &str) -> Result<KdlEntry, LexFailure>
     ensures { AnswersEntryText (chars text.now) result }
 {
@@ -460,10 +460,10 @@ impl KdlEntry {
     ghost use Rattle.kdl_entry.specs.Tree.{entry_data};
     ghost use Rattle.kdl_text.specs.Failures.{IsSyntax, TellsOnSyntax};
 
-    /// The entry that the text is, with every byte of its form: line-spaces and entries that are slashdashed before
-    /// it, and line-spaces after it (KDL 2.0.0, Argument, Property). Its span is the whole text. `Syntax`: the text is
-    /// none. Its error has a diagnostic for each fault that is found, up to what can be in no entry, and one at
-    /// least. `Memory`: a request for memory was refused. Nothing is made then.
+    /// Parses a text that is exactly one entry, and keeps every byte of its form: line-spaces and slashdashed entries
+    /// before it, and line-spaces after it (KDL 2.0.0, Argument, Property). The span of the entry is the whole text.
+    /// Returns `Syntax` if the text is not an entry; its error has a diagnostic for each fault, up to the first piece
+    /// that no entry can contain, and at least one. Returns `Memory` if an allocation fails.
     ///
     /// ```
     /// let entry = KdlEntry::parse(alloc, "port=(u16)0x1F90")?; // prints the text
@@ -478,10 +478,11 @@ impl KdlEntry {
         ensures only { IfOk result
             (λ e. (x : data'.Entry) → IsEntryText true (chars text.now) x
             → x ≡ entry_data (entry_tree e)) }
-        // The entry lies in the text, each place in its class and each span where its piece is, and prints it.
+        // The entry is located in the text, with each place in its class and each span at its piece, and prints the
+        // text.
         ensures laid { IfOk result (λ e. LaidEntryText true (chars text.now) (entry_tree e)) }
         ensures prints { IfOk result (λ e. print_entry (entry_tree e) ≡ chars text.now) }
-        // What is refused is not derived, and an error tells where.
+        // A refused text is not derived, and the error reports where.
         ensures refused { IsSyntax result → (x : data'.Entry) → IsEntryText true (chars text.now) x
             → ⊥ }
         ensures told { TellsOnSyntax text.now result }

@@ -20,7 +20,7 @@ fn is_end(place: &Checkpoint) -> bool
     place.char_span().len == 0
 }
 
-/// The identifier that the text is, of which the lexer is at the start.
+/// Reads the identifier that the text is; the lexer is at its start.
 #[tactic(auto)]
 fn read_token<'a>(
     alloc: Global,
@@ -46,7 +46,7 @@ fn read_token<'a>(
     Ok(identifier_between(alloc, lexer, whole, value, &start, &end)?)
 }
 
-/// The identifier that the text is.
+/// Reads the identifier that the text is.
 fn read_identifier(alloc: Global, text: &str) -> Result<KdlIdentifier, LexFailure>
     ensures { AnswersIdentifierText (chars text.now) result }
 {
@@ -64,9 +64,10 @@ impl KdlIdentifier {
     ghost use Rattle.kdl_text.specs.Failures.{IsSyntax, TellsOnSyntax};
     ghost use Rattle.std.specs.Prelude.{true, IfOk};
 
-    /// The identifier that the text is: one string in any spelling (KDL 2.0.0, String), with nothing before and after
-    /// it. Its spelling and its span are the whole text. `Syntax`: the text is none. Its error tells what is wrong with
-    /// the string, or where what is none begins. `Memory`: a request for memory was refused. Nothing is made then.
+    /// Parses a text that is exactly one identifier: one string in any spelling (KDL 2.0.0, String), with nothing
+    /// before or after it. Its spelling and its span are the whole text. Returns `Syntax` if the text is not an
+    /// identifier; its error reports the fault in the string, or the place of what is not part of one. Returns `Memory`
+    /// if an allocation fails.
     ///
     /// ```
     /// let name = KdlIdentifier::parse(alloc, "\"two words\"")?; // the string `two words`, which prints its quotes
@@ -81,11 +82,11 @@ impl KdlIdentifier {
         ensures only { IfOk result
             (λ i. (v : Text) → IsIdentifierText true (chars text.now) v
             → v ≡ (identifier_tree i).value) }
-        // The identifier lies in the text: its spelling and its span are the whole text, which it prints.
+        // The identifier is located in the text: its spelling and its span are the whole text, which it prints.
         ensures laid { IfOk result
             (λ i. LaidIdentifierText true (identifier_tree i) (chars text.now)) }
         ensures prints { IfOk result (λ i. print_identifier (identifier_tree i) ≡ chars text.now) }
-        // What is refused is not derived, and an error tells where.
+        // A refused text is not derived, and the error reports where.
         ensures refused { IsSyntax result → (v : Text) → IsIdentifierText true (chars text.now) v
             → ⊥ }
         ensures told { TellsOnSyntax text.now result }

@@ -1,6 +1,6 @@
-//! Items under way: the type and value of an entry, or the type and name of a node, token by token.
+//! Items being read, token by token: the type and value of an entry, or the type and name of a node.
 //!
-//! The rules of types, keys and values, for entries alone and for those of a document.
+//! The rules of types, keys and values, both for an entry that is a whole text and for those of a document.
 
 ghost use Rattle.kdl_entry.specs.Internal.Building.{key_view, type_view, item_view, Did, Holds, Stays};
 ghost use Rattle.kdl_entry.specs.Internal.Counted.{Sliced, ItemSliced};
@@ -40,8 +40,7 @@ pub struct KeyParts {
     pub behind: String,
 }
 
-/// Where in an item: after the `(` of its type, after the type's name, after its `)`; after the `=` of a
-/// property.
+/// A stage of an item: after the `(` of its type, after the type's name, after its `)`, or after the `=` of a property.
 #[derive(Clone, Copy)]
 pub enum Stage {
     Opened,
@@ -50,18 +49,18 @@ pub enum Stage {
     Keyed,
 }
 
-/// An item under way. The name and the texts around it are those of its type, or after `=` those of its key.
+/// An item being read. The name and the texts around it are those of its type, or after `=` those of its key.
 #[derive(Drop)]
 pub struct Item<'a> {
-    /// Whether the item counts. Of one that doesn't no text is held.
+    /// Whether the item is kept, and not slashdashed. No text is held of an item that is not kept.
     pub kept: bool,
-    /// Whether any value may follow, or a string alone.
+    /// Whether any value may follow, or only a string.
     pub valued: bool,
     pub stage: Stage,
-    /// What comes before the item.
+    /// The text before the item.
     pub leading: String,
     pub start: Checkpoint<'a>,
-    /// Where the place under way began.
+    /// Where the current place began.
     pub from: Checkpoint<'a>,
     pub key: Option<KeyParts>,
     pub name: KdlIdentifier,
@@ -69,7 +68,7 @@ pub struct Item<'a> {
     pub after: String,
 }
 
-/// What an item came to.
+/// The result of an item.
 #[derive(Drop)]
 pub struct Given {
     pub key: Option<KeyParts>,
@@ -77,7 +76,7 @@ pub struct Given {
     pub value: KdlValue,
 }
 
-/// The piece of the text between two places. A step for each of its bytes.
+/// Returns the piece of the text between two places. Costs a step for each of its bytes.
 ///
 /// ```
 /// let mut lexer = Lexer::new("ab=1", Steps::new());
@@ -101,7 +100,7 @@ pub fn piece_between<'a>(
     lexer.slice_between(from, to)
 }
 
-/// The text between two places. A step for each of its bytes.
+/// Returns a copy of the text between two places. Costs a step for each of its bytes.
 ///
 /// ```
 /// let mut lexer = Lexer::new("ab=1", Steps::new());
@@ -124,7 +123,7 @@ pub fn text_between<'a>(
     piece_between(lexer, from, to).to_string(alloc)
 }
 
-/// The span of what is between two places, in the text that begins at `whole`.
+/// Returns the span between two places, in the text that begins at `whole`.
 ///
 /// ```
 /// let mut lexer = Lexer::new("ab=1", Steps::new());
@@ -140,7 +139,7 @@ pub fn span_at(whole: &Checkpoint, start: &Checkpoint, end: &Checkpoint) -> Sour
     whole.span_between(start, end)
 }
 
-/// The string that is between two places, in the text that begins at `whole`.
+/// Returns the identifier between two places, in the text that begins at `whole`.
 ///
 /// ```
 /// let mut lexer = Lexer::new("\"ab\"=1", Steps::new());
@@ -171,7 +170,7 @@ pub fn identifier_between<'a>(
     sliced_identifier(alloc, value, &piece, span)
 }
 
-/// An empty text, which takes no memory.
+/// Returns an empty text. Does not allocate.
 ///
 /// ```
 /// let nothing = empty(alloc); // ""
@@ -183,7 +182,7 @@ pub fn empty(alloc: Global) -> String
     String::new(alloc)
 }
 
-/// An entry by its parts, without a text after it.
+/// Creates an entry from its parts, without a text after it.
 ///
 /// ```
 /// let span = SourceSpan { offset: 0, len: 5 };
@@ -242,11 +241,11 @@ pub fn entry_from(
 }
 
 impl<'a> Item<'a> {
-    /// No item yet, at the place. It takes no memory.
+    /// Creates a reader of items at the place, without an item. Does not allocate.
     ///
     /// ```
     /// let lexer = Lexer::new("(u8)1", Steps::new());
-    /// let item = Item::new(alloc, &lexer.checkpoint()); // to be opened: `open` and `open_keyed` begin one in it
+    /// let item = Item::new(alloc, &lexer.checkpoint()); // empty: `open` and `open_keyed` begin an item in it
     /// ```
     pub fn new(alloc: Global, place: &Checkpoint<'a>) -> Item<'a>
         ensures is { item_view result ≡ spec.no_item place.now.rest }
@@ -274,7 +273,7 @@ impl<'a> Item<'a> {
     /// let start = lexer.checkpoint();
     /// let left = lexer.next(alloc)?; // `(`
     /// let mut item = Item::new(alloc, &start);
-    /// item.open(true, true, empty(alloc), &start, &lexer.checkpoint()); // the type's name is due
+    /// item.open(true, true, empty(alloc), &start, &lexer.checkpoint()); // the type's name is expected
     /// ```
     pub fn open(
         &mut self,
@@ -315,7 +314,7 @@ impl<'a> Item<'a> {
     /// let tokens = (lexer.next(alloc)?, lexer.next(alloc)?); // `a` and `=`
     /// let name = KdlIdentifier::from_text(alloc, "a")?;
     /// let mut item = Item::new(alloc, &start);
-    /// item.open_keyed(true, empty(alloc), &start, name, empty(alloc), &lexer.checkpoint()); // its value is due
+    /// item.open_keyed(true, empty(alloc), &start, name, empty(alloc), &lexer.checkpoint()); // its value is expected
     /// ```
     pub fn open_keyed(
         &mut self,
@@ -354,7 +353,7 @@ impl<'a> Item<'a> {
         self.before = before;
     }
 
-    /// Goes on after the string that is the type's name.
+    /// Continues after the string that is the type's name.
     fn take_name(
         &mut self,
         alloc: Global,
@@ -386,7 +385,7 @@ impl<'a> Item<'a> {
         Ok(())
     }
 
-    /// Goes on after the `)` of the type.
+    /// Continues after the `)` of the type.
     #[tactic(auto, using(crate::proofs::Slicing::SliceCost::ahead_fewer))]
     fn close(
         &mut self,
@@ -415,7 +414,7 @@ impl<'a> Item<'a> {
         Ok(())
     }
 
-    /// The type, where the value begins.
+    /// The type, at the start of the value.
     fn type_parts(
         &mut self,
         alloc: Global,
@@ -450,7 +449,7 @@ impl<'a> Item<'a> {
         }))
     }
 
-    /// The key, where its value or type begins.
+    /// The key, at the start of its value or type.
     fn key_parts(
         &mut self,
         alloc: Global,
@@ -540,7 +539,7 @@ impl<'a> Item<'a> {
         })
     }
 
-    /// A token after the `(` of a type.
+    /// Takes a token after the `(` of a type.
     fn at_opened(
         &mut self,
         alloc: Global,
@@ -570,7 +569,7 @@ impl<'a> Item<'a> {
         }
     }
 
-    /// A token after the name of a type.
+    /// Takes a token after the name of a type.
     fn at_named(
         &mut self,
         alloc: Global,
@@ -600,7 +599,7 @@ impl<'a> Item<'a> {
         }
     }
 
-    /// A token after the `)` of a type.
+    /// Takes a token after the `)` of a type.
     fn at_closed(
         &mut self,
         alloc: Global,
@@ -634,7 +633,7 @@ impl<'a> Item<'a> {
         }
     }
 
-    /// A token after the `=` of a property.
+    /// Takes a token after the `=` of a property.
     #[tactic(auto, using(crate::proofs::Slicing::SliceCost::ahead_fewer))]
     fn at_keyed(
         &mut self,
@@ -676,8 +675,8 @@ impl<'a> Item<'a> {
         }
     }
 
-    /// One token. It returns what the item came to, where its value is in the token, and `None` where the
-    /// item goes on. A fault where the token may not be here.
+    /// Takes a token. Returns the result of the item if the token is its value, and `None` if the item continues. Fails
+    /// if the token may not be here.
     ///
     /// ```
     /// let taken = item.take(alloc, &mut lexer, &whole, token.kind, &token.start, &token.end)?;

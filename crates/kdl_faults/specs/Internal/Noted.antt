@@ -1,4 +1,4 @@
--- What a reader of faults holds: places and spans of the text that it reads.
+-- The places and spans that a reader of faults keeps are in the text that it reads.
 use Rattle.std.specs.Prelude.{◌≡◌, ℕ, ◌+◌, ◌*◌, ◌≤◌, ◌++◌, List, All}
 use Rattle.kdl_text.specs.Chars.{Text}
 use Rattle.kdl_text.specs.Internal.Here.{Here, Spot}
@@ -10,7 +10,7 @@ use Rattle.kdl_faults.specs.declared.reader.Fault.{Fault}
 use Rattle.kdl_faults.specs.declared.esclines.Candidate.{Candidate}
 use Rattle.kdl_faults.specs.declared.reader.Reader.{Reader}
 
--- the place lies in the text
+-- the place is in the text
 abbrev pub LiesIn : Text → Spot → Type 0
 LiesIn text place = (p : Text) × (text ≡ p ++ place.rest)
 
@@ -26,7 +26,7 @@ Opened text blocks = All (λ (b : Block). InText text b.span) blocks
 abbrev pub Candidates : Text → List Candidate → Type 0
 Candidates text candidates = All (λ (c : Candidate). InText text c.fault.span) candidates
 
--- a reader of the text: all its places are in the text, all its spans too
+-- a reader of the text: all its places and all its spans are in the text
 pub record IsReaderOf (text : Text) (r : Reader) : Type 0 where
   pub whole : r.whole.rest ≡ text
   pub here : (p : Text) × (text ≡ p ++ r.cursor.rest)
@@ -35,23 +35,23 @@ pub record IsReaderOf (text : Text) (r : Reader) : Type 0 where
   pub blocks : Opened text r.blocks.items
   pub candidates : Candidates text r.candidates.items
 
--- what a reader holds of a text stays of the text
+-- a reader of a text stays a reader of the text
 abbrev pub Keeps : Reader → Reader → Type 0
 Keeps old new = (text : Text) → IsReaderOf text old → IsReaderOf text new
 
--- where two places are of the text, what a reader holds of it stays of the text
+-- if two places are in the text, a reader of the text stays one
 abbrev pub KeepsBetween : Spot → Spot → Reader → Reader → Type 0
 KeepsBetween a b old new = (text : Text) → IsReaderOf text old → LiesIn text a → LiesIn text b → IsReaderOf text new
 
--- where a piece is of the text, what a reader holds of it stays of the text
+-- if a piece is of the text, a reader of the text stays one
 abbrev pub KeepsAt : Piece → Reader → Reader → Type 0
 KeepsAt p old new = (text : Text) → IsReaderOf text old → Stands text p → IsReaderOf text new
 
--- where a piece and two places are of the text, what a reader holds of it stays of the text
+-- if a piece is of the text and two places are in it, a reader of the text stays one
 abbrev pub KeepsUpTo : Piece → Spot → Spot → Reader → Reader → Type 0
 KeepsUpTo p a b old new = (text : Text) → IsReaderOf text old → Stands text p → LiesIn text a → LiesIn text b → IsReaderOf text new
 
--- where a piece is of the text that is read, the place is too
+-- if a piece is of the text that is read, the place is in that text
 abbrev pub IsPlaceAt : Reader → Piece → Spot → Type 0
 IsPlaceAt r p place = (text : Text) → IsReaderOf text r → Stands text p → LiesIn text place
 

@@ -1,4 +1,4 @@
--- What the readers of pieces and value ends go past, and what that costs.
+-- What the readers of pieces and value ends advance past, and what that costs.
 use Rattle.std.specs.Prelude.{◌≡◌, ℕ, ◌+◌, ◌-◌, ◌*◌, ◌<◌, ◌≤◌, ◌++◌, Option, Some, None}
 use Rattle.std.specs.Option.{IfSome}
 use Rattle.kdl_text.specs.Chars.{Text}
@@ -27,7 +27,7 @@ MostFrom k c from to old new = new.steps ≤ old.steps + k * (bytes from.rest - 
 abbrev pub NoEarlier : Spot → Spot → Spot → Spot → Type 0
 NoEarlier a b c place = (from : Spot) → Ahead from a → Ahead from b → Ahead from c → Ahead from place
 
--- the place lies in what the cursor went past, or at one of its ends
+-- the place is in what the cursor passed, or at one of its ends
 pub record Passed (old : Here) (spot : Spot) (new : Here) : Type 0 where
   pub before : (p : Text) × (old.rest ≡ p ++ spot.rest)
   pub behind : (p : Text) × (spot.rest ≡ p ++ new.rest)
@@ -38,7 +38,7 @@ pub record IsUnclosed (old : Here) (c : Unclosed) (new : Here) : Type 0 where
   pub start : Passed old c.start new
   pub end : (p : Text) × (c.start.rest ≡ p ++ c.end.rest)
 
--- where such a comment was met
+-- if there is a comment, it was met so
 abbrev pub OnUnclosed : Here → Option Unclosed → Here → Type 0
 OnUnclosed old None new = Unit {0}
 OnUnclosed old (Some c) new = IsUnclosed old c new
@@ -58,15 +58,15 @@ abbrev pub OnFound : Here → Option Found → Here → Type 0
 OnFound old None new = Unit {0}
 OnFound old (Some f) new = Passed old f.place new
 
--- what is found where a fault was found before, or else one is at the place
+-- the fault that was found before, or else one at the place
 abbrev pub FindsAlso : Option Found → Spot → Option Found → Type 0
 FindsAlso fault place found = (old new : Here) → OnFound old fault new → Passed old place new → OnFound old found new
 
--- what is found, from wherever reading began, once the cursor went on: what was found before, or a fault after it
+-- the fault found so far, wherever reading began: the one found before, or one that is after the old cursor
 abbrev pub FindsOn : Option Found → Here → Option Found → Here → Type 0
 FindsOn fault old found new = (start : Here) → Moves start old → OnFound start fault old → OnFound start found new
 
--- where a piece is, in a text of which the rest is given: its places are at or after its start
+-- the places of a piece, in a text of which the rest is given: they are at or after its start
 pub record Stands (rest : Text) (p : Piece) : Type 0 where
   pub start : (q : Text) × (rest ≡ q ++ p.start.rest)
   pub next : (q : Text) × (p.start.rest ≡ q ++ p.next.rest)
@@ -74,7 +74,7 @@ pub record Stands (rest : Text) (p : Piece) : Type 0 where
   pub backslash : IfSome p.backslash (λ b. (q : Text) × (p.start.rest ≡ q ++ b.rest))
   pub comment : (c : Unclosed) → p.comment ≡ Some c → (q r : Text) × (rest ≡ q ++ c.start.rest) × (c.start.rest ≡ r ++ c.end.rest)
 
--- the cursor went past a piece, or the text ends here
+-- the cursor passed a piece, or the text ends here
 abbrev pub WentPast : PieceKind → Here → Here → Type 0
 WentPast End old new = new.rest ≡ old.rest
 WentPast _ old new = bytes new.rest < bytes old.rest
@@ -88,12 +88,12 @@ pub record Spans (start : Start) : Type 0 where
   pub next : (q : Text) × (start.place.rest ≡ q ++ start.next.rest)
   pub at : start.next.at + bytes start.next.rest ≡ start.place.at + bytes start.place.rest
 
--- the place where a piece begins, and one after it by a character at least
+-- the place where a piece begins, and one after it by at least a character
 pub record Begins (start : Start) : Type 0 where
   pub spans : Spans start
   pub fewer : bytes start.next.rest < bytes start.place.rest
 
--- a piece that begins at the place or after it, and is not the end of the text; the cursor went past it
+-- a piece that begins at the place or after it, and is not the end of the text; the cursor passed it
 pub record IsPiece (place : Spot) (p : Piece) (new : Here) : Type 0 where
   pub stands : Stands place.rest p
   pub more : p.kind ≡ End → ⊥

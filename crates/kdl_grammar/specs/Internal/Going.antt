@@ -1,19 +1,19 @@
--- How far the machine without data goes in a text.
+-- How far the machine without data reads in a text.
 use Rattle.std.specs.Prelude.{◌≡◌, false, [], ◌∷◌, ◌++◌, Some, None}
 use Rattle.kdl_text.specs.Chars.{Text, begins}
 use Rattle.kdl_lexer.specs.Internal.Tokens.{Token, BeginsToken}
 use Rattle.kdl_control.specs.Internal.Control.{Control, at, gap, step}
 
--- over the tokens of s up to the rest r it goes from one state to the other
+-- it goes from one state to the other by the tokens of s up to the rest r
 pub data Goes : Control → Text → Control → Text → Type 0 where
   here : {c : Control} {s : Text} → Goes c s c s
   goes : {c c' d : Control} {s t r : Text} {k : Token} → BeginsToken s k t → step c k ≡ Some c' → Goes c' t d r → Goes c s d r
 
--- over the text t of a document up to the rest r: over its tokens, after U+FEFF where it begins with that
+-- it reaches the state by the text t of a document up to the rest r: by its tokens, after the U+FEFF that t may begin with
 pub data Reaches : Text → Control → Text → Type 0 where
   no_bom : {t r : Text} {c : Control} → begins 0xFEFF t ≡ false → Goes (at gap []) t c r → Reaches t c r
   behind_bom : {t r : Text} {c : Control} → Goes (at gap []) t c r → Reaches (0xFEFF ∷ t) c r
 
--- it refuses each token that begins a text with this front
+-- it refuses each token at the start of a text with this front
 abbrev pub RefusesFront : Control → Text → Type 0
 RefusesFront c f = (u r : Text) (k : Token) → BeginsToken (f ++ u) k r → step c k ≡ None

@@ -1,6 +1,6 @@
--- The machine that builds the tree: it goes over the tokens of a text once, with a stack of open blocks.
--- The token k is in the text s before r. Where a place or an item began is kept as the text from there on.
--- A `None` in the place of a node or of nodes is inside what is slashdashed, of which nothing is built.
+-- The machine that builds the tree: it reads the tokens of a text once, with a stack of open blocks.
+-- The token k is in the text s before r. The start of a place or an item is kept as the text from there on.
+-- A `None` for a node or for nodes says that they are slashdashed, so that nothing of them is built.
 use Rattle.std.specs.Prelude.{◌≡◌, Bool, true, false, List, [], ◌∷◌, ◌++◌, Option, Some, None}
 use Rattle.kdl_text.specs.Chars.{Text}
 use Rattle.kdl_value.specs.Data.{Value, text}
@@ -11,7 +11,7 @@ use Rattle.kdl_entry.specs.Tree.{Identifier, Entry}
 use Rattle.kdl_grammar.specs.Laid.{node_format, content_span, with_bom}
 use Rattle.kdl_grammar.specs.Tree.{Node, node, Children, no_children, children, Document, document, Nodes, none, first, join}
 
--- a node under way
+-- a node being read
 pub record Under : Type 0 where
   pub leading : Text
   pub start : Text
@@ -25,7 +25,7 @@ pub record Kept : Type 0 where
   pub before : Text
   pub block : Document
 
--- what a type and a string or value are for: a node's name or a value, which are kept or not
+-- what a type and a string or value belong to: a node's name or a value, which are kept or not
 pub data Slot : Type 0 where
   no_name : Slot
   for_name : Text → Text → Slot
@@ -36,7 +36,7 @@ pub data Slot : Type 0 where
 pub data Pending : Type 0 where
   pending : Slot → Identifier → Text → Pending
 
--- in a node before its block: directly after the name or an entry, or after spaces, or after a block that is slashdashed
+-- in a node before its block: directly after the name or an entry, or after spaces, or after a slashdashed block
 pub data Spot : Type 0 where
   fresh : Option Pending → Spot
   spaced : Option Pending → Spot
@@ -56,34 +56,34 @@ pub data Phase : Type 0 where
   kept : Option Kept → Phase
   kept_slashdash : Option Kept → Phase
 
--- an open block: of the node under way, or one that is slashdashed before or after the node's own; with the nodes around it
+-- an open block, with the nodes around it: of the current node, or a slashdashed one before or after the node's own
 pub data Frame : Type 0 where
   in_block : Option Under → Text → Option Nodes → Frame
   in_dropped : Option Under → Option Nodes → Frame
   in_later : Option Kept → Option Nodes → Frame
 
--- where the machine is: its phase, the nodes so far, the open blocks, and where the place under way began
+-- the state of the machine: its phase, the nodes so far, the open blocks, and where the current place began
 pub data State : Type 0 where
   at : Phase → Option Nodes → List Frame → Text → State
 
--- the place under way begins anew with an item that is kept
+-- the start of the current place once an item begins: a new one if the item is kept
 abbrev pub origin : {A : Type 0} → Option A → Text → Text → Text
 origin None from t = from
 origin (Some x) from t = t
 
--- the place under way begins anew, at t, after what is kept
+-- the start of the current place after an item: t if the item is kept
 abbrev pub moved : Slot → Text → Text → Text
 moved no_name from t = from
 moved (for_name leading start) from t = t
 moved (no_value u) from t = from
 moved (for_value u leading start k) from t = t
 
--- the slot of a node's name, where nodes are built
+-- the slot of a node's name, if nodes are built
 abbrev pub name_slot : Option Nodes → Text → Text → Slot
 name_slot None leading start = no_name
 name_slot (Some ns) leading start = for_name leading start
 
--- the slot of an entry's value, where the node is built
+-- the slot of an entry's value, if the node is built
 abbrev pub entry_slot : Option Under → Text → Text → Slot
 entry_slot None leading start = no_value None
 entry_slot (Some u) leading start = for_value u leading start None
@@ -97,7 +97,7 @@ keyed c k = c
 abbrev pub with_entry : Under → Entry → Under
 with_entry u e = record u { entries = u.entries ++ (e ∷ []) }
 
--- the node under way once its name, or the value of an entry, is in s before r
+-- the current node once its name, or the value of an entry, is in s before r
 abbrev pub filled : Text → Slot → Option TypeParts → Value → Text → Text → Option Under
 filled whole no_name y v s r = None
 filled whole (for_name leading start) y (text v) s r = Some (record { leading = leading; start = start; ty = y; name = identifier_at whole v s r; entries = [] })
@@ -115,12 +115,12 @@ node_at whole u k before_children before_terminator end s = node (record {
   span = span_of whole u.start s;
 }) k
 
--- that node, where it is built
+-- that node, if it is built
 abbrev pub closed : Text → Option Under → Children → Text → Text → Text → Text → Option Node
 closed whole None k before place end s = None
 closed whole (Some u) k before place end s = Some (node_at whole u k before place end s)
 
--- the node with its block, where it is built
+-- the node with its block, if it is built
 abbrev pub closed_kept : Text → Option Kept → Text → Text → Text → Option Node
 closed_kept whole None place end s = None
 closed_kept whole (Some x) place end s = closed whole (Some x.under) (children x.block) x.before place end s
@@ -131,17 +131,17 @@ ended None l = l
 ended (Some x) None = None
 ended (Some x) (Some ns) = Some (join ns (first x none))
 
--- the nodes inside a block that opens: none yet, where its node is built
+-- the nodes inside a block that opens: an empty list, if its node is built
 abbrev pub inside : Option Under → Option Nodes
 inside None = None
 inside (Some u) = Some none
 
--- the nodes, and the place after them; without nodes it comes before them, and s is what follows
+-- the nodes, and the text after them; without nodes it is the leading text, and s is what follows
 abbrev pub content_at : Text → Nodes → Text → Text → Document
 content_at whole none place s = document (Some (record { leading = place; trailing = [] })) (span_of whole s s) none
 content_at whole (first n ns) place s = document (Some (record { leading = []; trailing = place })) (content_span (span_of whole s s) (first n ns)) (first n ns)
 
--- the node with the block of these nodes, where both are built
+-- the node with the block of these nodes, if both are built
 abbrev pub with_block : Text → Option Under → Text → Option Nodes → Text → Text → Option Kept
 with_block whole None before l place s = None
 with_block whole (Some u) before None place s = None
@@ -160,13 +160,13 @@ spaced_of (fresh o) = spaced o
 spaced_of (spaced o) = spaced o
 spaced_of later = later
 
--- after `/-` at that spot: an entry or a block may follow, after a block that is slashdashed a block alone
+-- after `/-` at that spot: an entry or a block may follow, after a slashdashed block only a block
 abbrev pub slashdash_at : Option Under → Spot → Phase
 slashdash_at u (fresh o) = entry_slashdash u
 slashdash_at u (spaced o) = entry_slashdash u
 slashdash_at u later = block_slashdash u
 
--- an entry comes after spaces alone
+-- an entry comes only after spaces
 abbrev pub from_spaced : Spot → State → Option State
 from_spaced (spaced o) st = Some st
 from_spaced _ st = None
@@ -195,7 +195,7 @@ given whole c y v o l fs from s r = at (in_node (filled whole c y v s r) (fresh 
 abbrev pub worded : Text → Slot → Text → Option Nodes → List Frame → Text → Text → Text → State
 worded whole c v l fs from s r = given whole c None (text v) (Some (pending c (identifier_at whole v s r) r)) l fs from s r
 
--- the type, where what follows its `)` begins at s
+-- the type, if what follows its `)` begins at s
 abbrev pub typed : Text → Identifier → Text → Text → Text → Option TypeParts
 typed before i after a s = Some (record { name = i; before = before; after = after; behind = between a s })
 
@@ -251,13 +251,13 @@ step whole (at (kept_slashdash x) l fs from) newline s r = Some (at (kept_slashd
 step whole (at (kept_slashdash x) l fs from) opening s r = Some (at gap None (in_later x l ∷ fs) from)
 step _ _ _ _ _ = None
 
--- the document where the text ends: no block may be open
+-- the document at the end of the text: no block may be open
 abbrev pub at_end : Text → Option Nodes → List Frame → Text → Option Document
 at_end whole l (f ∷ fs) from = None
 at_end whole None [] from = None
 at_end whole (Some ns) [] from = Some (content_at whole ns (between from []) [])
 
--- what the machine returns where the text ends
+-- what the machine returns at the end of the text
 abbrev pub finish : Text → State → Option Document
 finish whole (at gap l fs from) = at_end whole l fs from
 finish whole (at (in_node u p) l fs from) = at_end whole (ended (closed whole u no_children [] (between from []) [] []) l) fs (origin u from [])
@@ -273,7 +273,7 @@ pub data Runs (whole : Text) (d : Document) : State → Text → Type 0 where
   stops : {st : State} → finish whole st ≡ Some d → Runs whole d st []
   reads : {st st' : State} {s r : Text} {k : Token} → BeginsToken s k r → step whole st k s r ≡ Some st' → Runs whole d st' r → Runs whole d st s
 
--- the machine's result on a text: where U+FEFF begins it, the rest is read
+-- the machine's result on a text, which it reads after a U+FEFF if the text begins with one
 pub data AnswersDocument : Text → Document → Type 0 where
   no_bom : {t : Text} {d : Document} → Runs t d (initial t) t → AnswersDocument t d
   behind_bom : {t : Text} {d : Document} → Runs (0xFEFF ∷ t) d (initial t) t → AnswersDocument (0xFEFF ∷ t) (with_bom d)

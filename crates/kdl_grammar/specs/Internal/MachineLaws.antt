@@ -12,14 +12,14 @@ use Rattle.kdl_grammar.specs.Tree.{Document, document_data}
 abbrev pub IsLexed : Type 0
 IsLexed = (wide : Bool) (t : Text) (x : data'.Nodes) → IsDocument wide t x → (ks : List Token) × Lexes t ks
 
--- the machine has one result at most
+-- the machine has at most one result
 abbrev pub OneAnswer : Type 0
 OneAnswer = (t : Text) (d e : Document) → AnswersDocument t d → AnswersDocument t e → d ≡ e
 
--- the machine returns exactly where the text is a document, with its data
+-- the machine returns exactly if the text is a document, with its data
 abbrev pub AnswersDocuments : Type 0
 AnswersDocuments = (t : Text) (x : data'.Nodes) → IsDocument true t x ↔ ((d : Document) × AnswersDocument t d × (document_data d ≡ x))
 
--- what the machine returns is laid in the text, with its spans
+-- what the machine returns is located in the text, with its spans
 abbrev pub AnswersAreLaid : Type 0
 AnswersAreLaid = (t : Text) (d : Document) → AnswersDocument t d → LaidDocument true d t

@@ -19,7 +19,7 @@ use Rattle.kdl_items.specs.declared.lacks.GapPiece.TheVariants.{Until, Last}
 use Rattle.kdl_items.specs.declared.lacks.PlacePiece.{PlacePiece}
 use Rattle.kdl_items.specs.declared.lacks.PlacePiece.TheVariants.{Onward, InEscline}
 
--- how a line ends: before a rest, in a CR, or at the end of the text; none where neither a newline nor the end is here
+-- how a line ends: before a rest, in a CR, or at the end of the text; none if neither a newline nor the end is here
 abbrev pub LineEnds : Text → Option Ending → Type 0
 LineEnds e (Some (Before r)) = (w : Text) → Newline (e ++ w) (chars r.now ++ w)
 LineEnds e (Some InReturn) = e ≡ 13 ∷ []
@@ -54,12 +54,12 @@ pub data HasOpenEnd : Text → Text → Bool → Type 0 where
   ended : {u v : Text} → Break u v → (line_end u ≡ [] → ⊥) → HasOpenEnd u v false
   unended : {u v : Text} → Break u v → line_end u ≡ [] → HasOpenEnd u v true
 
--- whether the node-spaces that are the whole text need an LF to end before whatever follows them
+-- whether the whole text, which is node-spaces, needs an LF to end before whatever follows
 abbrev pub SpacesLack : Text → Bool → Type 0
 SpacesLack t true = (w : Text) → Star NodeSpace (t ++ (10 ∷ w)) w
 SpacesLack t false = (w : Text) → Star NodeSpace (t ++ w) w
 
--- what comes before r in s adds nothing to the nodes after it, and s is a gap exactly where r is one
+-- what comes before r in s adds nothing to the nodes after it, and s is a gap exactly if r is one
 pub record Through (s r : Text) : Type 0 where
   pub on : Gap true s [] → Gap true r []
   pub back : Gap true r [] → Gap true s []
@@ -74,18 +74,18 @@ Fewest s k = (j : ℕ) → suc j ≡ k → (xs : Nodes) → AreNodes true ((s ++
 abbrev pub GapEnds : Text → ℕ → Type 0
 GapEnds s k = (k ≤ 2) × Gap true s [] × AddsNothing (s ++ newlines k) × Fewest s k
 
--- the text is such a gap; or it is no gap
+-- the text is such a gap; or it is not a gap
 abbrev pub GapAnswer : Text → Option ℕ → Type 0
 GapAnswer s (Some k) = GapEnds s k
 GapAnswer s None = Gap true s [] → ⊥
 
--- the first piece of a gap ends before a rest; or it is the whole text, and lacks k newlines; or the text is no gap
+-- the first piece of a gap ends before a rest; or it is the whole text, and lacks k newlines; or the text is not a gap
 abbrev pub PieceEnds : Text → Option GapPiece → Type 0
 PieceEnds s (Some (Until r)) = Through s (chars r.now) × (length (chars r.now) < length s)
 PieceEnds s (Some (Last k)) = GapEnds s k
 PieceEnds s None = Gap true s [] → ⊥
 
--- s in the place p goes on as r in the place q: each of the two has items where the other has, and s may be before what r may be before
+-- s in the place p continues as r in the place q: each of the two has items if the other has, and s may come before what r may come before
 pub record PlaceThrough (p : Place) (s : Text) (q : Place) (r : Text) : Type 0 where
   pub on : (is : List Item) → PlaceItems p s is → (js : List Item) × PlaceItems q r js
   pub back : (js : List Item) → PlaceItems q r js → (is : List Item) × PlaceItems p s is

@@ -20,7 +20,7 @@ abbrev pub of_spaces : Token → Bool
 of_spaces space = true
 of_spaces _ = false
 
--- the text r is in s after so many bytes
+-- the text r is in s after n bytes
 abbrev pub Before : Text → ℕ → Text → Type 0
 Before s n r = (p : Text) × (s ≡ p ++ r) × (bytes p ≡ n)
 
@@ -33,12 +33,12 @@ abbrev pub AnswersDroppedNode : Text → Option NodeEnd → Type 0
 AnswersDroppedNode t (Some e) = EndsAt t e
 AnswersDroppedNode t None = (e : passing.NodeEnd) → NodePasses (at node_slashdash []) t t e → ⊥
 
--- an entry or a block that is dropped in the place ends there
+-- an entry or a block that is slashdashed in the place ends there
 abbrev pub AnswersDroppedPart : Place → Text → Option PartEnd → Type 0
 AnswersDroppedPart p t (Some e) = (u : Text) × PartPasses (slashdash_in p) t t e.is_block u × Before t e.at u
 AnswersDroppedPart p t None = (b : Bool) (u : Text) → PartPasses (slashdash_in p) t t b u → ⊥
 
--- the place after what was dropped
+-- the place after what was slashdashed
 abbrev pub BehindPart : Place → Bool → Option Place → Type 0
 BehindPart p false o = o ≡ Some (spaced false p)
 BehindPart p true (Some q) = (takes_blocks p ≡ true) × (q ≡ behind_block)

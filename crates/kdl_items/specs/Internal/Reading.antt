@@ -24,7 +24,7 @@ place_view (BeforeEntry b) = before_entry b
 place_view BeforeBlock = before_block
 place_view BehindBlock = behind_block
 
--- a piece of so many bytes begins the text
+-- a piece of n bytes begins the text
 abbrev pub Cut : Text → ℕ → Type 0
 Cut s n = (p : Text) × (r : Text) × (s ≡ p ++ r) × (bytes p ≡ n)
 
@@ -42,7 +42,7 @@ Adds X s None old new = (r : Text) (is : List items.Item) → X s r is → ⊥
 abbrev pub AddsHeld : (X : Text → Text → List items.Item → Type 0) → Text → Option (Bor (List ℕ)) → List Item → List Item → Type 0
 AddsHeld X s o old new = Adds X s (option_map (λ r. chars r.now) o) (items_view old) (items_view new)
 
--- the text is a gap with the items that were handed out, or it is none
+-- the text is a gap with the items that were returned, or it is not a gap
 abbrev pub IsGapWith : Text → Option (List items.Item) → Type 0
 IsGapWith s (Some is) = GapItems s is
 IsGapWith s None = (is : List items.Item) → GapItems s is → ⊥

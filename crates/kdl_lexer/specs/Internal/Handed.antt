@@ -1,4 +1,4 @@
--- What the lexer hands out.
+-- What the lexer returns.
 use Rattle.std.specs.Prelude.{◌≡◌, ℕ, Bool, false, ◌||◌, ◌==◌, [], ◌∷◌, Option, Some, None, Result, Ok, Err}
 use Rattle.kdl_text.specs.Chars.{Text, Plus}
 use Rattle.kdl_text.specs.Internal.Here.{Here, Spot, first_len}
@@ -47,19 +47,19 @@ pub record NoToken (s : Text) : Type 0 where
   pub begun : s ≡ [] → ⊥
   pub none : (r : Text) (k : tokens.Token) → BeginsToken s k r → ⊥
 
--- the kind of the token that was read at s, before r; for a fault the character at the place is reported
+-- the kind of the token that was read at s, before r; a fault is reported at the character there
 abbrev pub ReadsKind : Text → Spot → Result TokenKind LexFailure → Text → Type 0
 ReadsKind s place (Ok k) r = Cuts s (kind_view k) r
 ReadsKind s place (Err (Faulty span)) r = NoToken s × IsFaultAt place span
 ReadsKind s place (Err Memory) r = Unit {0}
 
--- what it took: at most k steps for each byte, of which there is one at least; where none begins here, at most k for each byte that was read, and k more
+-- what a token costs: at most k steps for each byte, and it has at least one; if no token begins here, at most k for each byte that was read, and k more
 abbrev pub KindCosts : {A : Type 0} → ℕ → Result A LexFailure → Here → Here → Type 0
 KindCosts k (Ok x) old new = PieceCosts k old new
 KindCosts k (Err (Faulty span)) old new = Costs k k old new
 KindCosts k (Err Memory) old new = Unit {0}
 
--- a string's fault is reported as one at the place, and running out of memory as itself
+-- a string's fault is reported as a fault at the place, and an allocation failure as such
 abbrev pub Passes : Spot → StringFailure → LexFailure → Type 0
 Passes place (StringFaulty e) (Faulty span) = IsFaultAt place span
 Passes place StringMemory Memory = Unit {0}
@@ -69,7 +69,7 @@ Passes place _ _ = ⊥
 abbrev pub is_single : ℕ → Bool
 is_single c = ((c == 40 || c == 41) || (c == 123 || c == 125)) || ((c == 61 || c == 59) || c == 0xFEFF)
 
--- the kind of the token that the character c is, or that it is none by itself
+-- the kind of the token that the character c is, or that it is not a token by itself
 abbrev pub IsPunctuation : ℕ → Option TokenKind → Type 0
 IsPunctuation c (Some k) = (r : Text) → BeginsToken (c ∷ r) (kind_view k) r
 IsPunctuation c None = is_single c ≡ false
@@ -82,15 +82,15 @@ pub record HandsOut (old : Here) (t : Token) (new : Here) : Type 0 where
   pub end_rest : t.end.rest ≡ new.rest
   pub end_at : t.end.at ≡ new.at
 
--- what a call handed out
+-- what a call returns
 abbrev pub Lexed : Here → Result (Option Token) LexFailure → Here → Type 0
 Lexed old (Ok (Some t)) new = HandsOut old t new
 Lexed old (Ok None) new = old.rest ≡ []
 Lexed old (Err (Faulty span)) new = NoToken old.rest × IsFaultAt (record { rest = old.rest; at = old.at }) span
 Lexed old (Err Memory) new = Unit {0}
 
--- a token that was handed out took at most 24 steps for each byte, and at least one for each character; the end of the text one;
--- where no token begins, each byte that was read took at most 24, and the fault itself 24
+-- a token costs at most 24 steps for each byte, and at least one for each character; the end of the text costs one;
+-- if no token begins here, each byte that was read costs at most 24, and the fault itself 24
 abbrev pub LexCosts : Result (Option Token) LexFailure → Here → Here → Type 0
 LexCosts (Ok (Some t)) old new = Costs 24 0 old new
 LexCosts (Ok None) old new = Costs 24 1 old new

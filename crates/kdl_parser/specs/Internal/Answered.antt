@@ -1,4 +1,4 @@
--- What is returned for what the lexer has before it, by the tree of a node.
+-- What is returned for the text before the lexer, in terms of the tree of a node.
 use Rattle.std.specs.Prelude.{◌≡◌, Option, Some, None, Result, Ok, Err}
 use Rattle.kdl_text.specs.Chars.{Text}
 use Rattle.kdl_text.specs.Internal.Here.{Spot}
@@ -11,13 +11,13 @@ use Rattle.kdl_grammar.specs.Tree.{Node, Document}
 use Rattle.kdl_parser.specs.Internal.Parts.{document_by}
 use Rattle.kdl_parser.specs.declared.node_parts.DocumentParts.{DocumentParts}
 
--- what the machine returns on u, the text t or what follows its U+FEFF; for a refused text a place is reported
+-- what the machine returns on u, which is the text t or what follows its U+FEFF; for a refused text a place is reported
 abbrev pub AnswersParts : {N : Type 0} → (N → Node) → Text → Text → Result (DocumentParts N) LexFailure → Type 0
 AnswersParts tree t u (Ok d) = Runs t (document_by tree d) (initial u) u
 AnswersParts tree t u (Err (Faulty span)) = ((d : Document) → Runs t d (initial u) u → ⊥) × InText t span
 AnswersParts tree t u (Err Memory) = Unit {0}
 
--- what is returned where the text ends, by the machine's; for a refused text the place is reported
+-- what is returned at the end of the text, given what the machine returns; for a refused text the place is reported
 abbrev pub Finished : {N : Type 0} → (N → Node) → Option Document → Spot → Result (DocumentParts N) LexFailure → Type 0
 Finished tree o place (Ok d) = o ≡ Some (document_by tree d)
 Finished tree o place (Err (Faulty span)) = (o ≡ None) × IsFaultAt place span

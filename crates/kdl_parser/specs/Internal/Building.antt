@@ -39,7 +39,7 @@ under_view u = record {
   entries = map entry_tree u.entries.items;
 }
 
--- what is made of nodes, by the tree of a node
+-- a node with its block, in terms of the tree of a node
 abbrev pub kept_view : {N : Type 0} → (N → Node) → Kept N → machine.Kept
 kept_view tree k = record { under = under_view k.under; before = text_of k.before; block = document_by tree k.block }
 
@@ -51,19 +51,19 @@ frame_view tree (Block under before nodes) = machine.in_block (option_map under_
 frame_view tree (DroppedBlock under nodes) = machine.in_dropped (option_map under_view under) (nodes_view tree nodes)
 frame_view tree (LaterBlock kept nodes) = machine.in_later (option_map (kept_view tree) kept) (nodes_view tree nodes)
 
--- the open blocks, with those in acc around them; the last one is on top
+-- the open blocks, with those in acc around them; the last one is the innermost
 abbrev pub stacked : {N : Type 0} → (N → Node) → List machine.Frame → List (Frame N) → List machine.Frame
 stacked tree acc [] = acc
 stacked tree acc (f ∷ fs) = stacked tree (frame_view tree f ∷ acc) fs
 
--- a string that waits is an argument, unless `=` follows; it comes before the place where what is under way began
+-- the pending string as an identifier: it is an argument unless `=` follows, and ends where the current place begins
 abbrev pub word_name : Text → Text → WaitingWord → Identifier
 word_name whole from w = record { value = text_of w.value; repr = Some w.repr; span = span_of whole w.start.rest from }
 
 abbrev pub word_entry : Text → Text → WaitingWord → Entry
 word_entry whole from w = entry_at (span_of whole w.start.rest from) (text_of w.leading) None None (text (text_of w.value)) w.repr
 
--- the node under way, with the string that waits as its last argument
+-- the current node, with the pending string as its last argument
 abbrev pub under_now : Text → Text → Waiting → Option machine.Under → Option machine.Under
 under_now whole from (Word w) (Some u) = Some (with_entry u (word_entry whole from w))
 under_now whole from _ o = o
@@ -74,7 +74,7 @@ pending_now whole from Dropped o = Some (pending (no_value o) (plain_identifier 
 pending_now whole from (Word w) None = Some (pending (no_value None) (plain_identifier []) [])
 pending_now whole from (Word w) (Some u) = Some (pending (for_value u (text_of w.leading) w.start.rest None) (word_name whole from w) from)
 
--- what a string or a value is for
+-- the slot of a string or a value
 abbrev pub name_slot : Bool → Text → Text → Slot
 name_slot true leading start = for_name leading start
 name_slot false leading start = no_name
@@ -88,14 +88,14 @@ abbrev pub slot_of : Bool → Option machine.Under → items.Item → Option Key
 slot_of true o it k = entry_slot it.kept o it.leading it.start k
 slot_of false o it k = name_slot it.kept it.leading it.start
 
--- after `=` the key is not yet in the slot
+-- the phase inside an item; after `=` the key is not yet in the slot
 abbrev pub item_phase : Stage → Option machine.Under → items.Item → machine.Phase
 item_phase opened o it = machine.type_open it.valued (slot_of it.valued o it it.key) it.from
 item_phase named o it = machine.type_name it.valued (slot_of it.valued o it it.key) it.before it.name it.from
 item_phase closed o it = machine.type_done it.valued (slot_of it.valued o it it.key) it.before it.name it.after it.from
 item_phase keyed o it = machine.property (slot_of true o it None) it.name it.before it.from
 
--- once the item went on or gave its value, which is in s before r
+-- whether the item takes any value, given its stage
 abbrev pub valued_at : Stage → Bool → Bool
 valued_at keyed b = true
 valued_at _ b = b
@@ -117,7 +117,7 @@ phase_view BlockSlashdash whole from w o k it = machine.block_slashdash (under_n
 phase_view Behind whole from w o k it = machine.kept k
 phase_view BehindSlashdash whole from w o k it = machine.kept_slashdash k
 
--- the node under way, with the string that waits
+-- the current node, with the pending string
 abbrev pub node_now : {N : Type 0} → Builder N → Option machine.Under
 node_now b = under_now b.whole.rest b.from.rest b.waiting (option_map under_view b.under)
 
@@ -130,7 +130,7 @@ state_view tree b =
     at (phase_view b.phase b.whole.rest b.from.rest b.waiting (option_map under_view b.under) (option_map (kept_view tree) b.kept) (item_view b.item))
     (nodes_view tree b.nodes) (frames_view tree b) b.from.rest
 
--- what the machine holds of an item that is slashdashed says nothing
+-- the first if the slot is kept, and the second if it is slashdashed
 abbrev pub only : {A : Type 0} → Slot → A → A → A
 only no_name x y = y
 only (for_name leading start) x y = x
@@ -160,19 +160,19 @@ frame_held f = f
 abbrev pub held : State → State
 held (at p l fs from) = at (phase_held p) l (map frame_held fs) from
 
--- what a step did, by the machine's; for a refused token its first character is reported; running out of memory says nothing
+-- what a step did, by the machine's; for a refused token its first character is reported; an allocation failure says nothing
 abbrev pub Did : {A : Type 0} → Option State → Spot → Result A LexFailure → State → Type 0
 Did o place (Ok x) st = option_map held o ≡ Some (held st)
 Did o place (Err (Faulty span)) st = (o ≡ None) × IsFaultAt place span
 Did o place (Err Memory) st = Unit {0}
 
--- what a step did that is refused at no token, by the machine's state after it
+-- what a step did that never refuses a token, given the machine's state after it
 abbrev pub Does : {A : Type 0} → State → Result A LexFailure → State → Type 0
 Does want (Ok x) st = st ≡ want
 Does want (Err (Faulty span)) st = ⊥
 Does want (Err Memory) st = Unit {0}
 
--- the places under way begin before s
+-- the current places begin before s
 abbrev pub phase_placed : machine.Phase → Text → Type 0
 phase_placed (machine.type_open b c a) s = EndsIn a s
 phase_placed (machine.type_name b c q i a) s = EndsIn a s

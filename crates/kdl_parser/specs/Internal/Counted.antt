@@ -1,4 +1,4 @@
--- The steps of a parse: for the texts that the builder slices, and for what the lexer has before it.
+-- The steps of a parse: for the texts that the builder slices, and for the text before the lexer.
 use Rattle.std.specs.Prelude.{ℕ, ◌+◌, ◌*◌, ◌≤◌, Bool, true, false, Option, Some, None, length, Result, Ok, Err}
 use Rattle.kdl_text.specs.Internal.Here.{Here}
 use Rattle.kdl_text.specs.Spans.{bytes, raise}
@@ -11,12 +11,12 @@ use Rattle.kdl_parser.specs.declared.builder.Builder.{Builder}
 use Rattle.kdl_parser.specs.declared.builder.Phase.{Phase}
 use Rattle.kdl_parser.specs.declared.builder.Phase.TheVariants.{InItem}
 
--- what is sliced up to n bytes before the end where it counts, and else not
+-- what is sliced up to n bytes before the end if it is kept, and else not
 abbrev pub up_to : {A : Type 0} → Option A → ℕ → ℕ → ℕ
 up_to None m n = m
 up_to (Some x) m n = n
 
--- in an item: the bytes from where its place began on, if it counts, and else from where the builder's place began on
+-- in an item: the bytes from the start of its place on, if it is kept, and else from the start of the builder's place on
 abbrev pub item_unsliced : {A : Type 0} → Bool → Bool → Option A → ℕ → ℕ → ℕ
 item_unsliced false entry o from item = from
 item_unsliced true false o from item = item
@@ -31,7 +31,7 @@ unsliced_at _ kept entry o from item = from
 abbrev pub unsliced : {N : Type 0} → Builder N → ℕ
 unsliced b = unsliced_at b.phase b.item.kept (valued_at (stage_view b.item.stage) b.item.valued) b.under (bytes b.from.rest) (bytes b.item.from.rest)
 
--- of the m bytes before the end of the text that were not sliced yet, all but the last n may have been; where a token is refused, all
+-- of the m bytes before the end of the text that were not sliced yet, all but the last n may have been; if a token is refused, all may have been
 abbrev pub SlicedOn : {A : Type 0} → Result A LexFailure → ℕ → ℕ → Here → Here → Type 0
 SlicedOn (Ok x) m n old new = Sliced m n old new
 SlicedOn (Err (Faulty span)) m n old new = Sliced m 0 old new

@@ -1,4 +1,4 @@
--- Line-spaces alone, up to the end of a text.
+-- Only line-spaces, up to the end of a text.
 use Rattle.std.specs.Prelude.{Bool, true, false, [], Result, Ok, Err}
 use Rattle.kdl_text.specs.Chars.{Text, Star}
 use Rattle.kdl_text.specs.Spans.{InText}
@@ -14,7 +14,7 @@ is_line_space Space = true
 is_line_space Newline = true
 is_line_space _ = false
 
--- whether the text t is line-spaces alone; else a place of it is reported
+-- whether the text t is only line-spaces; else a place in it is reported
 abbrev pub AreLineSpaces : Text → Result (Unit {0}) LexFailure → Type 0
 AreLineSpaces t (Ok _) = Star LineSpace t []
 AreLineSpaces t (Err (Faulty span)) = (Star LineSpace t [] → ⊥) × InText t span

@@ -18,7 +18,7 @@ abbrev pub trailed : Text → Option NodeFormat → Option NodeFormat
 trailed t None = None
 trailed t (Some f) = Some (record f { trailing = t })
 
--- the node with the text after its terminator, and the span of the text that it is
+-- the node with the text after its terminator, and the span of the whole text
 abbrev pub with_text_behind : Node → Text → SourceSpan → Node
 with_text_behind (node h k) t at = node (record h { format = trailed t h.format; span = at }) k
 
@@ -29,29 +29,29 @@ text_by tree n = with_text_behind (tree n.node) (text_of n.trailing) n.span
 abbrev pub RunsOnText : Text → Document → Type 0
 RunsOnText t d = Runs t d (initial t) t
 
--- It returns a document of these nodes, with this format
+-- the machine returns a document of these nodes, with this format
 abbrev pub RunsToNodes : Text → Option DocumentFormat → Nodes → Type 0
 RunsToNodes t f ns = (at : SourceSpan) × RunsOnText t (document f at ns)
 
--- It returns a document of these nodes
+-- the machine returns a document of these nodes
 abbrev pub ReadsSome : Text → Nodes → Type 0
 ReadsSome t ns = (f : Option DocumentFormat) × RunsToNodes t f ns
 
--- It returns a document of the one node, with this text after it
+-- the machine returns a document of the one node, with this text after it
 abbrev pub ReadsOne : Text → Node → Text → Type 0
 ReadsOne t x trailing = (leading : Text) × RunsToNodes t (Some (record { leading = leading; trailing = trailing })) (first x none)
 
--- the text is no node, and a place of it is reported
+-- the text is not a node, and a place in it is reported
 abbrev pub NoNode : Text → LexFailure → Type 0
 NoNode t (Faulty span) = ((x : data'.Node) → IsNodeText true t x → ⊥) × InText t span
 NoNode t Memory = Unit {0}
 
--- the one node that there is; or the text is none
+-- the only node; or the text is not a node
 abbrev pub IsOnly : {N : Type 0} → Text → List N → Result N LexFailure → Type 0
 IsOnly t ns (Ok n) = ns ≡ n ∷ []
 IsOnly t ns (Err e) = NoNode t e
 
--- the node that is laid in the text, which it is; or the text is none
+-- the node that the text is, located in it; or the text is not a node
 abbrev pub AnswersNodeText : {N : Type 0} → (N → Node) → Text → Result (NodeText N) LexFailure → Type 0
 AnswersNodeText tree t (Ok n) = LaidNodeText true t (text_by tree n)
 AnswersNodeText tree t (Err e) = NoNode t e

@@ -1,4 +1,4 @@
--- The trees of nodes and documents by their parts, where a node's own tree is given.
+-- The trees of nodes and documents from their parts, for a given tree of a node.
 use Rattle.std.specs.Prelude.{List, [], Some, map, option_map}
 use Rattle.kdl_entry.specs.Internal.Building.{type_view}
 use Rattle.kdl_entry.specs.Internal.Items.{type_of, before_name, after_name, behind_type}

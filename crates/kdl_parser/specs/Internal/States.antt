@@ -1,4 +1,4 @@
--- The states to which the builder's methods bring it, as the machine has them, and what is not sliced there yet.
+-- The states to which the builder's methods bring it, in terms of the machine, and what is not sliced there yet.
 -- A token is at s and ends at r.
 use Rattle.std.specs.Prelude.{ℕ, Bool, true, false, if◌then◌else◌, [], ◌∷◌, Option, Some, None, option_map, Result}
 use Rattle.std.specs.declared.alloc.Global.{Global}
@@ -37,15 +37,15 @@ item_step tree b kind s r =
     item_answer b.whole.rest (option_map under_view b.under) (item_view b.item) (nodes_view tree b.nodes) (frames_view tree b) b.from.rest s.rest r.rest
     (items.step b.whole.rest (item_view b.item) (kind_view kind) s.rest r.rest)
 
--- in another phase, and else as it was
+-- the builder's state in another phase
 abbrev pub in_phase : {N : Type 0} → (N → Node) → Builder N → machine.Phase → State
 in_phase tree b p = at p (nodes_view tree b.nodes) (frames_view tree b) b.from.rest
 
--- the node with its block, which is after it
+-- the current node with its block, after the block
 abbrev pub kept_now : {N : Type 0} → (N → Node) → Builder N → Option machine.Kept
 kept_now tree b = option_map (kept_view tree) b.kept
 
--- the nodes, and the node under way after them: it has no block, and ends at s with the terminator
+-- the nodes, and after them the current node: it has no block, and ends at s with the terminator
 abbrev pub nodes_and : {N : Type 0} → (N → Node) → Builder N → Spot → Text → Option Nodes
 nodes_and tree b s terminator = machine.ended (machine.closed b.whole.rest (node_now b) no_children [] (between b.from.rest s.rest) terminator s.rest) (nodes_view tree b.nodes)
 
@@ -73,17 +73,17 @@ around_node tree b s r = machine.popped b.whole.rest (nodes_and tree b s []) (fr
 abbrev pub around_kept : {N : Type 0} → (N → Node) → Builder N → Spot → Spot → Option State
 around_kept tree b s r = machine.popped b.whole.rest (nodes_and_kept tree b s []) (frames_view tree b) (machine.origin (kept_now tree b) b.from.rest s.rest) s.rest r.rest
 
--- in the block of the node under way, which the token opens
+-- in the block of the current node, which the token opens
 abbrev pub block_opened : {N : Type 0} → (N → Node) → Builder N → Spot → Spot → State
 block_opened tree b s r =
     at machine.gap (machine.inside (node_now b)) (machine.in_block (node_now b) (between b.from.rest s.rest) (nodes_view tree b.nodes) ∷ frames_view tree b)
     (machine.origin (node_now b) b.from.rest r.rest)
 
--- in a block that is slashdashed, before the node's own
+-- in a slashdashed block, before the node's own
 abbrev pub dropped_opened : {N : Type 0} → (N → Node) → Builder N → State
 dropped_opened tree b = at machine.gap None (machine.in_dropped (node_now b) (nodes_view tree b.nodes) ∷ frames_view tree b) b.from.rest
 
--- in a block that is slashdashed, after the node's own
+-- in a slashdashed block, after the node's own
 abbrev pub later_opened : {N : Type 0} → (N → Node) → Builder N → State
 later_opened tree b = at machine.gap None (machine.in_later (kept_now tree b) (nodes_view tree b.nodes) ∷ frames_view tree b) b.from.rest
 
@@ -93,15 +93,15 @@ block_closed tree b under before nodes s r =
     at (machine.kept (machine.with_block b.whole.rest (option_map under_view under) (text_of before) (nodes_view tree b.nodes) (between b.from.rest s.rest) s.rest))
     (nodes_view tree nodes) (frames_view tree b) (machine.origin (option_map under_view under) b.from.rest r.rest)
 
--- what a string is for that begins a node here, and where it counts
+-- the slot of a string that begins a node here
 abbrev pub node_slot : {N : Type 0} → Builder N → Bool → Spot → machine.Slot
 node_slot b counts s = name_slot counts (between b.from.rest s.rest) s.rest
 
--- what a value is for that is an argument of the node under way, and where it counts
+-- the slot of a value that is an argument of the current node
 abbrev pub argument_slot : {N : Type 0} → Builder N → Bool → Spot → machine.Slot
 argument_slot b counts s = entry_slot counts (node_now b) (between b.from.rest s.rest) s.rest None
 
--- what a name is for, and a value with its key
+-- the slot of a name, or of a value with its key
 abbrev pub named_slot : Slot → machine.Slot
 named_slot slot = name_slot slot.kept (text_of slot.leading) slot.start.rest
 
@@ -117,17 +117,17 @@ abbrev pub worded : {N : Type 0} → (N → Node) → Builder N → Text → Spo
 worded tree b value s r =
     machine.worded b.whole.rest (machine.entry_slot (node_now b) (between b.from.rest s.rest) s.rest) value (nodes_view tree b.nodes) (frames_view tree b) b.from.rest s.rest r.rest
 
--- after a string that may be a key, where it is slashdashed
+-- after a slashdashed string that may be a key
 abbrev pub dropped_worded : {N : Type 0} → (N → Node) → Builder N → State
 dropped_worded tree b = in_phase tree b (machine.in_node (node_now b) (machine.fresh (Some (machine.pending (machine.no_value (node_now b)) (plain_identifier []) []))))
 
--- after the `=`, where a string waits for it
+-- after the `=` that follows the pending string
 abbrev pub property_opened : {N : Type 0} → (N → Node) → Builder N → Spot → Spot → Option State
 property_opened tree b s r =
     machine.stay (nodes_view tree b.nodes) (frames_view tree b) b.from.rest
     (machine.value_from (machine.fresh (pending_now b.whole.rest b.from.rest b.waiting (option_map under_view b.under))) s.rest r.rest)
 
--- after the `=` of a property that is slashdashed
+-- after the `=` of a slashdashed property
 abbrev pub dropped_property : {N : Type 0} → (N → Node) → Builder N → Spot → State
 dropped_property tree b r = in_phase tree b (machine.property (machine.no_value (option_map under_view b.under)) (plain_identifier []) [] r.rest)
 
@@ -139,11 +139,11 @@ name_opened tree b counts s r = in_phase tree b (machine.type_open false (node_s
 abbrev pub value_opened : {N : Type 0} → (N → Node) → Builder N → Bool → Spot → Spot → State
 value_opened tree b counts s r = in_phase tree b (machine.type_open true (argument_slot b counts s) r.rest)
 
--- the document where the text ends here
+-- the document if the text ends here
 abbrev pub document_now : {N : Type 0} → (N → Node) → Builder N → Option Document
 document_now tree b = machine.finish b.whole.rest (state_view tree b)
 
--- the document of the nodes, where no block is open
+-- the document of the nodes, if no block is open
 abbrev pub document_of_nodes : {N : Type 0} → (N → Node) → Builder N → Option Document
 document_of_nodes tree b = machine.at_end b.whole.rest (nodes_view tree b.nodes) (frames_view tree b) b.from.rest
 
@@ -151,30 +151,30 @@ document_of_nodes tree b = machine.at_end b.whole.rest (nodes_view tree b.nodes)
 abbrev pub spot_of : Here → Spot
 spot_of here = record { rest = here.rest; at = here.at }
 
--- what a token of the kind did, by the machine's step
+-- what a token of the kind did, given the machine's step
 abbrev pub Takes : {A N : Type 0} → (N → Node) → Builder N → TokenKind → Spot → Spot → Result A LexFailure → Builder N → Type 0
 Takes tree old kind s r result new = Did (token_step tree old kind s r) s result (state_view tree new)
 
--- a step by the machine's o, at a token that is at s
+-- a step at a token that is at s, given the machine's result o
 abbrev pub Steps : {A N : Type 0} → (N → Node) → Option State → Spot → Result A LexFailure → Builder N → Type 0
 Steps tree o s result new = Did o s result (state_view tree new)
 
--- a step that is refused at no token, to that state
+-- a step that never refuses a token, to that state
 abbrev pub Reaches : {A N : Type 0} → (N → Node) → State → Result A LexFailure → Builder N → Type 0
 Reaches tree want result new = Does want result (state_view tree new)
 
--- of the m bytes that were not sliced yet, all may have been but those that are not sliced now
+-- of the m bytes that were not sliced yet, all may have been sliced but those that are still not
 abbrev pub Slices : {A N : Type 0} → ℕ → Result A LexFailure → Builder N → Here → Here → Type 0
 Slices m result new before behind = SlicedOn result m (unsliced new) before behind
 
--- not sliced after a name that begins at s, if it counts, and else after the place under way
+-- the bytes not sliced after a name that begins at s, if it is kept, and else after the start of the current place
 abbrev pub name_unsliced : {N : Type 0} → Builder N → Bool → Spot → ℕ
 name_unsliced b kept s = if kept then bytes s.rest else bytes b.from.rest
 
--- not sliced after an entry that begins at s, if it and its node count, and else after the place under way
+-- the bytes not sliced after an entry that begins at s, if it and its node are kept, and else after the start of the current place
 abbrev pub entry_unsliced : {N : Type 0} → Builder N → Bool → Spot → ℕ
 entry_unsliced b kept s = if kept then up_to b.under (bytes b.from.rest) (bytes s.rest) else bytes b.from.rest
 
--- from the one place on, the text up to the other one may have been sliced where x counts, and else nothing
+-- the text from one place to the other may have been sliced if x is kept, and else nothing
 abbrev pub SlicedUpTo : {A : Type 0} → Option A → Spot → Spot → Here → Here → Type 0
 SlicedUpTo x from to old new = Sliced (bytes from.rest) (up_to x (bytes from.rest) (bytes to.rest)) old new

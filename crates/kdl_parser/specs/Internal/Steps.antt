@@ -10,7 +10,7 @@ pub record Counted (t : Text) (old new : ℕ) : Type 0 where
   pub least : raise old (length t) ≤ new
   pub most : new ≤ old + 32 * (bytes t + 1)
 
--- what reading the text took; where it is refused, no more than that
+-- what reading the text costs; if it is refused, no more than that
 abbrev pub CountedOn : {A : Type 0} → Result A LexFailure → Text → ℕ → ℕ → Type 0
 CountedOn (Ok x) t old new = Counted t old new
 CountedOn (Err (Faulty span)) t old new = new ≤ old + 32 * (bytes t + 1)

@@ -10,7 +10,7 @@ use Rattle.kdl_grammar.specs.Tree.{Node, Document}
 use Rattle.kdl_parser.specs.Internal.Parts.{document_by}
 use Rattle.kdl_parser.specs.declared.document_text.DocumentText.{DocumentText}
 
--- the document, with U+FEFF before its leading text where the text begins with one
+-- the document, with U+FEFF before its leading text if the text begins with one
 abbrev pub with_bom_if : Bool → Document → Document
 with_bom_if true d = with_bom d
 with_bom_if false d = d

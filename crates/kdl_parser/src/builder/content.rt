@@ -1,4 +1,4 @@
-//! Nodes, blocks and documents by their parts.
+//! Nodes, blocks and documents, from their parts.
 
 ghost use Rattle.kdl_grammar.specs.Internal.Machine as machine;
 ghost use Rattle.kdl_grammar.specs.Internal.Machine.{at};
@@ -28,7 +28,7 @@ use kdl_text::span::SourceSpan;
 use std::alloc::{AllocError, Global};
 use std::mem;
 
-/// Puts the item after the others. A full list doubles, from one on.
+/// Appends the item. Capacity grows 1, 2, 4, and so on.
 #[inline(always)]
 pub(super) fn add<T: Drop>(items: &mut Vec<T>, item: T) -> Result<(), AllocError>
     ensures { OnOk result (items.new.items ≡ items.old.items ++ (item ∷ [])) }
@@ -41,8 +41,8 @@ pub(super) fn add<T: Drop>(items: &mut Vec<T>, item: T) -> Result<(), AllocError
     Ok(())
 }
 
-/// Puts the value in the place, and drops the one that was there. An assignment does the same; as a call, what is
-/// dropped is in one proof, and not at each place.
+/// Assigns the value to the place, and drops the old one. A plain assignment does the same, but as a call the drop is
+/// proved once, and not at each place.
 #[inline]
 pub(super) fn put<T: Drop>(place: &mut T, value: T)
     ensures { place.new ≡ value }
@@ -50,7 +50,7 @@ pub(super) fn put<T: Drop>(place: &mut T, value: T)
     drop(mem::replace(place, value));
 }
 
-/// The string that waits becomes an argument of the node under way.
+/// Adds the pending string to the current node, as an argument.
 #[tactic(auto, using(crate::proofs::Stepping::Views::entry_pushed))]
 pub(super) fn settle<'a>(
     alloc: Global,
@@ -83,7 +83,7 @@ pub(super) fn settle<'a>(
     Ok(())
 }
 
-/// An entry, whose value is between two places.
+/// Creates an entry whose value is between two places.
 #[inline]
 pub(super) fn entry_between<'a>(
     alloc: Global,
@@ -115,7 +115,7 @@ pub(super) fn entry_between<'a>(
     Ok(entry_from(alloc, span, slot.leading, key, ty, value, repr))
 }
 
-/// The node of what is under way, its block and the texts after its entries.
+/// Creates a node from what was read of it, its block and the texts after its entries.
 #[inline(always)]
 pub(super) fn node_from<N: ParsedNode>(
     alloc: Global,
@@ -162,7 +162,7 @@ pub(super) fn node_from<N: ParsedNode>(
     )
 }
 
-/// One more node, where the nodes count.
+/// Appends a node, if the nodes are kept.
 #[inline(always)]
 #[tactic(auto, using(crate::proofs::Stepping::Views::node_pushed))]
 fn push_node<N: ParsedNode>(nodes: &mut Option<Vec<N>>, node: N) -> Result<(), AllocError>
@@ -178,8 +178,7 @@ fn push_node<N: ParsedNode>(nodes: &mut Option<Vec<N>>, node: N) -> Result<(), A
     }
 }
 
-/// Takes out the node under way, which ends at `start`, with its terminator, and puts it after the nodes, where it
-/// counts.
+/// Takes the current node, which ends at `start`, with its terminator, and appends it to the nodes, if it is kept.
 pub(super) fn push_ended<'a, N: ParsedNode>(
     alloc: Global,
     lexer: &mut Lexer<'a>,
@@ -214,8 +213,8 @@ pub(super) fn push_ended<'a, N: ParsedNode>(
     push_node(nodes, node)
 }
 
-/// Takes out the node with its block, which ends at `start`, with its terminator, and puts it after the nodes, where
-/// it counts.
+/// Takes the node with its block, which ends at `start`, with its terminator, and appends it to the nodes, if it is
+/// kept.
 pub(super) fn push_kept<'a, N: ParsedNode>(
     alloc: Global,
     lexer: &mut Lexer<'a>,
@@ -257,7 +256,7 @@ pub(super) fn push_kept<'a, N: ParsedNode>(
     push_node(nodes, node)
 }
 
-/// The span from where the first node begins to where the last one ends; without nodes the span given.
+/// The span from the start of the first node to the end of the last one; without nodes the given span.
 #[tactic(auto, using(crate::proofs::Stepping::NodeSpans::spans, crate::proofs::Stepping::NodeSpans::nothing, crate::proofs::Stepping::NodeSpans::no_last))]
 pub(super) fn content_span<N: ParsedNode>(nodes: &[N], place: SourceSpan) -> SourceSpan
     ensures { result ≡ laid.content_span place (nodes_tree N.tree nodes.now) }
@@ -276,7 +275,7 @@ pub(super) fn content_span<N: ParsedNode>(nodes: &[N], place: SourceSpan) -> Sou
     }
 }
 
-/// The nodes, and the place after them, before `end`; without nodes it comes before them.
+/// The nodes, and the text after them, up to `end`; without nodes it is the leading text.
 #[tactic(auto, using(crate::proofs::Stepping::NodeSpans::without, crate::proofs::Stepping::NodeSpans::within))]
 pub(super) fn content<N: ParsedNode>(
     alloc: Global,
@@ -307,7 +306,7 @@ pub(super) fn content<N: ParsedNode>(
     }
 }
 
-/// The node with the block of these nodes, where they count.
+/// The node with the block of these nodes, if they are kept.
 #[tactic(auto, using(crate::proofs::Stepping::TurnCost::fewer))]
 pub(super) fn with_block<'a, N: ParsedNode>(
     alloc: Global,
@@ -353,7 +352,7 @@ pub(super) fn with_block<'a, N: ParsedNode>(
     }))
 }
 
-/// A value alone, without a type or a key.
+/// A value without a type and a key.
 pub(super) fn lone(value: KdlValue) -> Given
     ensures key { result.key ≡ None }
     ensures ty { result.ty ≡ None }

@@ -28,7 +28,7 @@ use std::alloc::{AllocError, Global};
 use std::mem;
 
 impl<'a, N: ParsedNode> Builder<'a, N> {
-    /// The string that waits becomes an argument.
+    /// Turns the pending string into an argument.
     pub(super) fn settle_word(&mut self, alloc: Global) -> Result<(), AllocError>
         ensures under { OnOk result (option_map under_view self.new.under ≡ node_now self.old) }
         ensures rest { OnOk result (self.new ≡
@@ -42,7 +42,7 @@ impl<'a, N: ParsedNode> Builder<'a, N> {
         settle(alloc, &self.whole, &self.from, waiting, &mut self.under)
     }
 
-    /// Ends the node under way, which has no block.
+    /// Ends the current node, which has no block.
     pub(super) fn end_node(
         &mut self,
         alloc: Global,
@@ -72,7 +72,7 @@ impl<'a, N: ParsedNode> Builder<'a, N> {
         Ok(())
     }
 
-    /// Ends the node under way, which has a block.
+    /// Ends the current node, which has a block.
     pub(super) fn end_kept(
         &mut self,
         alloc: Global,
@@ -101,7 +101,7 @@ impl<'a, N: ParsedNode> Builder<'a, N> {
         Ok(())
     }
 
-    /// Opens the block of the node under way.
+    /// Opens the block of the current node.
     #[tactic(auto, using(crate::proofs::Stepping::TurnCost::fewer, crate::proofs::Stepping::Views::frame_pushed))]
     pub(super) fn open_block(
         &mut self,
@@ -133,7 +133,7 @@ impl<'a, N: ParsedNode> Builder<'a, N> {
         Ok(())
     }
 
-    /// Opens a block that is slashdashed, before the node's own.
+    /// Opens a slashdashed block, before the node's own.
     #[tactic(auto, using(crate::proofs::Stepping::Views::frame_pushed))]
     pub(super) fn open_dropped(&mut self, alloc: Global) -> Result<(), LexFailure>
         ensures opened { Reaches N.tree (dropped_opened N.tree self.old) result self.new }
@@ -148,7 +148,7 @@ impl<'a, N: ParsedNode> Builder<'a, N> {
         Ok(())
     }
 
-    /// Opens a block that is slashdashed, after the node's own.
+    /// Opens a slashdashed block, after the node's own.
     #[tactic(auto, using(crate::proofs::Stepping::Views::frame_pushed))]
     pub(super) fn open_later(&mut self) -> Result<(), LexFailure>
         ensures opened { Reaches N.tree (later_opened N.tree self.old) result self.new }
@@ -162,7 +162,7 @@ impl<'a, N: ParsedNode> Builder<'a, N> {
         Ok(())
     }
 
-    /// Gives the node its block, which ends here, and goes back to the nodes before it.
+    /// Gives the node its block, which ends here, and continues with the nodes before it.
     #[tactic(auto, using(crate::proofs::Stepping::TurnCost::fewer))]
     pub(super) fn close_block(
         &mut self,
@@ -206,7 +206,7 @@ impl<'a, N: ParsedNode> Builder<'a, N> {
         Ok(())
     }
 
-    /// Goes back to the node around the block that ends here.
+    /// Continues with the node around the block that ends here.
     #[tactic(auto, using(crate::proofs::Stepping::Views::frame_pushed, crate::proofs::Stepping::StepsDone::does_did))]
     pub(super) fn close(
         &mut self,
@@ -296,7 +296,7 @@ impl<'a, N: ParsedNode> Builder<'a, N> {
         Ok(())
     }
 
-    /// Gives the node under way an entry, whose value is between two places.
+    /// Adds an entry to the current node. Its value is between two places.
     #[tactic(auto, using(crate::proofs::Stepping::Views::entry_pushed))]
     pub(super) fn add_entry(
         &mut self,
@@ -335,7 +335,7 @@ impl<'a, N: ParsedNode> Builder<'a, N> {
         Ok(())
     }
 
-    /// A string in a node, which may be a key.
+    /// Keeps a string in a node, which may be a key, as the pending one.
     pub(super) fn wait(
         &mut self,
         alloc: Global,
@@ -370,7 +370,7 @@ impl<'a, N: ParsedNode> Builder<'a, N> {
         Ok(())
     }
 
-    /// What follows the `=` of a property, where a string waits for it.
+    /// Begins a property at its `=`; its key is the pending string.
     #[tactic(auto, using(crate::proofs::Stepping::TurnCost::fewer))]
     pub(super) fn open_property(
         &mut self,
@@ -416,7 +416,7 @@ impl<'a, N: ParsedNode> Builder<'a, N> {
         }
     }
 
-    /// What follows the `=` of a property that is slashdashed.
+    /// Begins a slashdashed property at its `=`.
     pub(super) fn open_dropped_property(
         &mut self,
         alloc: Global,
@@ -434,7 +434,7 @@ impl<'a, N: ParsedNode> Builder<'a, N> {
         self.phase = Phase::InItem;
     }
 
-    /// What follows the `(` before a node's name.
+    /// Begins the type of a node at its `(`.
     #[tactic(auto, using(crate::proofs::Stepping::TurnCost::fewer))]
     pub(super) fn open_name(
         &mut self,
@@ -462,7 +462,7 @@ impl<'a, N: ParsedNode> Builder<'a, N> {
         Ok(())
     }
 
-    /// What follows the `(` before an entry's value.
+    /// Begins the type of a value at its `(`.
     #[tactic(auto, using(crate::proofs::Stepping::TurnCost::fewer))]
     pub(super) fn open_value(
         &mut self,
@@ -491,7 +491,7 @@ impl<'a, N: ParsedNode> Builder<'a, N> {
         Ok(())
     }
 
-    /// A value that is an argument.
+    /// Adds a value that is an argument.
     pub(super) fn add_argument(
         &mut self,
         alloc: Global,
@@ -524,7 +524,7 @@ impl<'a, N: ParsedNode> Builder<'a, N> {
         Ok(())
     }
 
-    /// A token inside a type, or after the `=` of a property.
+    /// Takes a token inside a type, or after the `=` of a property.
     #[tactic(auto, using(crate::proofs::Stepping::TurnCost::stays_entry, crate::proofs::Stepping::TurnCost::item_went, crate::proofs::Stepping::TurnCost::on_entry_given, crate::proofs::Stepping::TurnCost::on_name_given, crate::proofs::Stepping::StepsDone::does_did))]
     pub(super) fn at_item(
         &mut self,
@@ -558,7 +558,7 @@ impl<'a, N: ParsedNode> Builder<'a, N> {
         self.begin_node(alloc, lexer, slot, given, start, end)
     }
 
-    /// A string that is a node's name.
+    /// Takes a string that is a node's name.
     pub(super) fn name_node(
         &mut self,
         alloc: Global,
@@ -595,7 +595,7 @@ impl<'a, N: ParsedNode> Builder<'a, N> {
         self.begin_node(alloc, lexer, slot, given, start, end)
     }
 
-    /// A string after `/-`, which may be a key.
+    /// Takes a string after `/-`, which may be a key.
     pub(super) fn wait_dropped(&mut self, alloc: Global) -> Result<(), LexFailure>
         ensures waits { Reaches N.tree (dropped_worded N.tree self.old) result self.new }
         ensures whole { self.new.whole ≡ self.old.whole }
@@ -607,7 +607,7 @@ impl<'a, N: ParsedNode> Builder<'a, N> {
         Ok(())
     }
 
-    /// `/-` in a node, before its block.
+    /// Takes a `/-` in a node, before its block.
     pub(super) fn behind_slashdash(&mut self, alloc: Global) -> Result<(), LexFailure>
         ensures slashdash { Reaches N.tree (in_phase N.tree self.old
             (machine.entry_slashdash (node_now self.old))) result self.new }
@@ -619,7 +619,7 @@ impl<'a, N: ParsedNode> Builder<'a, N> {
         Ok(())
     }
 
-    /// The `}` after a node without a block.
+    /// Takes the `}` after a node without a block.
     #[tactic(auto, using(crate::proofs::Stepping::Origins::between_none, crate::proofs::Stepping::Origins::origin_ends, crate::proofs::Stepping::StepsDone::failed))]
     pub(super) fn close_node(
         &mut self,
@@ -640,7 +640,7 @@ impl<'a, N: ParsedNode> Builder<'a, N> {
         self.close(alloc, lexer, start, end)
     }
 
-    /// The `}` after a node with a block.
+    /// Takes the `}` after a node with a block.
     #[tactic(auto, using(crate::proofs::Stepping::Origins::between_none, crate::proofs::Stepping::Origins::origin_ends, crate::proofs::Stepping::StepsDone::failed))]
     pub(super) fn close_kept(
         &mut self,

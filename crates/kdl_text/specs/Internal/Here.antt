@@ -8,13 +8,13 @@ use Rattle.kdl_text.specs.Spans.{bytes, raise}
 use Rattle.kdl_text.specs.declared.chars.Class.{Class}
 use Rattle.kdl_text.specs.declared.chars.Class.TheVariants.{Space, Identifier, Literal, Line, Unquoted, NumberSign, Quote, Comment}
 
--- what a cursor has before it: the characters to come, where it is in bytes, and the steps so far
+-- the state of a cursor: the characters to come, its offset in bytes, and the steps so far
 pub record Here : Type 0 where
   pub rest : Text
   pub at : ℕ
   pub steps : ℕ
 
--- a place to which a slice can go back: the characters that follow it, and where it is in bytes
+-- a place to which a slice can go back: the characters that follow it, and its offset in bytes
 pub record Spot : Type 0 where
   pub rest : Text
   pub at : ℕ
@@ -59,7 +59,7 @@ abbrev pub Took : Option ℕ → Here → Here → Type 0
 Took None old new = (old.rest ≡ []) × (new ≡ looked old)
 Took (Some c) old new = (old.rest ≡ c ∷ new.rest) × (new.at ≡ old.at + len_utf8 c) × (new.steps ≡ raise old.steps 1)
 
--- a look whether c is here, and a step past it where it is
+-- a look whether c is here, and a step past it if it is
 abbrev pub Ate : ℕ → Bool → Here → Here → Type 0
 Ate c true old new = Took (Some c) old new
 Ate c false old new = (begins c old.rest ≡ false) × (new ≡ looked old)
@@ -88,7 +88,7 @@ pub record TookTwo (a b : ℕ) (old new : Here) : Type 0 where
   pub at : new.at ≡ old.at + len_utf8 a + len_utf8 b
   pub steps : new.steps ≡ raise old.steps 2
 
--- a look at two characters, and a step past them where they are these
+-- a look at two characters, and a step past them if they are a and b
 abbrev pub AteTwo : ℕ → ℕ → Bool → Here → Here → Type 0
 AteTwo a b true old new = TookTwo a b old new
 AteTwo a b false old new = (begins_two a b old.rest ≡ false) × Stayed 2 old new
@@ -112,7 +112,7 @@ pub record Ran (p : ℕ → Bool) (run : Text) (old new : Here) : Type 0 where
   pub at : new.at ≡ old.at + bytes run
   pub steps : new.steps ≡ raise old.steps (length run + 1)
 
--- so many ASCII characters of the class begin the UTF-8 text `old` and leave `new`, where no other follows
+-- `count` ASCII characters of the class begin the UTF-8 text `old` and leave `new`, which begins with no other
 pub record AsciiOf (p : ℕ → Bool) (old new : List ℕ) (count : ℕ) : Type 0 where
   pub run : Text
   pub text : chars old ≡ run ++ chars new
@@ -122,7 +122,7 @@ pub record AsciiOf (p : ℕ → Bool) (old new : List ℕ) (count : ℕ) : Type 
   pub count_is : length run ≡ count
   pub bytes_is : bytes run ≡ count
 
--- a run of the class begins the UTF-8 text `old` and leaves `new`, where it stops; it has so many characters
+-- a run of `count` characters of the class begins the UTF-8 text `old` and leaves `new`, where it stops
 pub record RunOf (p : ℕ → Bool) (old new : List ℕ) (count : ℕ) : Type 0 where
   pub run : Text
   pub text : chars old ≡ run ++ chars new

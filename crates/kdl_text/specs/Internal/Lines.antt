@@ -1,4 +1,4 @@
--- Lines of strings of many lines, as they are read.
+-- Lines of multi-line strings, as they are read.
 use Rattle.std.specs.Prelude.{◌≡◌, ℕ, ◌+◌, ◌*◌, ◌≤◌, Bool, true, false, not, List, [], ◌∷◌, ◌++◌, length}
 use Rattle.std.specs.List.{list_all}
 use Rattle.kdl_text.specs.Chars.{Text}
@@ -19,12 +19,12 @@ abbrev pub line_units : Line → List LineUnit
 line_units (Plain p) = literals p
 line_units (Units us) = us.items
 
--- room for the value of a line and a line feed, as far as each unit is a byte
+-- room for the value of a line and a line feed, if each unit is a byte
 abbrev pub line_room : Line → ℕ
 line_room (Plain p) = bytes p + 1
 line_room (Units us) = length us.items + 1
 
--- and for the values of lines
+-- room for the values of lines
 abbrev pub lines_room : List Line → ℕ
 lines_room [] = 0
 lines_room (line ∷ lines) = line_room line + lines_room lines
@@ -38,7 +38,7 @@ bytes_again (Units us) = 0
 abbrev pub line_steps : Line → ℕ
 line_steps line = 2 * (bytes_again line + 1)
 
--- and how many steps lines take
+-- how many steps lines take at most
 abbrev pub lines_steps : List Line → ℕ
 lines_steps [] = 0
 lines_steps (line ∷ lines) = line_steps line + lines_steps lines
@@ -57,7 +57,7 @@ EatsUnits us false s r = (m : List LineUnit) → literals s ≡ us ++ m → ⊥
 abbrev pub is_one_line : List LineUnit → Bool
 is_one_line us = list_all (λ u. not (is_line_end u)) us
 
--- the units us are in one line; an X begins the text s with them, and ends in t, or goes on after a newline
+-- the units us are in one line; an X begins the text s with them, and ends in t, or continues after a newline
 abbrev pub ReadsLine : (Text → Text → List LineUnit → Type 0) → Bool → Text → List LineUnit → Text → Type 0
 ReadsLine X true s us t = (is_one_line us ≡ true) × X s t us
 ReadsLine X false s us t = (is_one_line us ≡ true) × Goes X s (us ++ (LineEnd ∷ [])) t

@@ -1,4 +1,4 @@
--- How far a reader of numbers has come in the text while the number is under way.
+-- How far a reader of numbers has come in the text.
 use Rattle.std.specs.Prelude.{◌≡◌, ℕ, ◌<◌, ◌≤◌, ◌^◌, ◌↔◌, true, false, Option, Some, None, Result, Ok, Err}
 use Rattle.std.specs.Prelude.{string_bytes, ◌∷◌, Bool}
 use Rattle.std.specs.Str.{chars}
@@ -28,7 +28,7 @@ radix_of Octal = 8
 radix_of Decimal = 10
 radix_of Hexadecimal = 16
 
--- the base that a letter means
+-- the base that a letter denotes
 abbrev pub IsBase : Option Radix → Option ℕ → Type 0
 IsBase (Some b) k = k ≡ Some (radix_of b)
 IsBase None k = k ≡ None
@@ -44,12 +44,12 @@ Counts (Small v) n = v ≡ n
 Counts (Large v) n = v ≡ n
 Counts Huge n = 2 ^ 128 ≤ n
 
--- what the character counts as a digit of the base, or that it is none
+-- the value of the character as a digit of the base, or that it is not one
 abbrev pub IsDigit : ℕ → ℕ → Option ℕ → Type 0
 IsDigit radix c None = is_digit_of radix c ≡ false
 IsDigit radix c (Some d) = (is_digit_of radix c ≡ true) × (d ≡ digit_value c) × (d < radix)
 
--- the digits and `_` here were read, and follow the number that is under way
+-- the digits and `_` here were read, and are appended to the number read so far
 abbrev pub ReadsDigits : ℕ → Magnitude → Magnitude → Text → Text → Type 0
 ReadsDigits radix before after s rest = (w : Text) × Digits radix s rest w × ((n : ℕ) → Counts before n → Counts after (digits_value_after radix n w))
 
@@ -58,7 +58,7 @@ abbrev pub ReadsInteger : ℕ → Option Magnitude → Text → Text → Type 0
 ReadsInteger radix (Some m) s rest = (w : Text) × Integer radix s rest w × Counts m (digits_value radix w)
 ReadsInteger radix None s rest = (rest ≡ s) × (starts (is_digit_of radix) s ≡ false)
 
--- the front of a number, as far as its first integer
+-- the front of a number, up to the end of its first integer
 pub record IsFront (f : Front) (t rest : Text) : Type 0 where
   pub behind_sign : Text
   pub behind_base : Text
@@ -103,7 +103,7 @@ FaultAt MissingFraction t rest = (u : Text) × Begun Decimal t u × PartFault Mi
 FaultAt MissingExponent t rest = (u : Text) × Begun Decimal t u × PartFault MissingExponent u rest
 FaultAt TrailingDecimal t rest = (u : Text) × Begun Decimal t u × PartFault TrailingDecimal u rest
 
--- where a fault is returned, it is the one that is there
+-- if a fault is returned, it is the one that is there
 abbrev pub IsFault : {A : Type 0} → Result A NumberFault → Text → Text → Type 0
 IsFault (Ok x) t rest = Unit {0}
 IsFault (Err e) t rest = FaultAt e t rest
@@ -118,7 +118,7 @@ abbrev pub IsPowerFault : {A : Type 0} → Result A NumberFault → Text → Tex
 IsPowerFault (Ok x) t rest = Unit {0}
 IsPowerFault (Err e) t rest = (e ≡ MissingExponent) × PowerFault t rest
 
--- likewise where memory may be refused
+-- likewise where an allocation may fail
 abbrev pub IsNumberFault : {A : Type 0} → Result A NumberFailure → Text → Text → Type 0
 IsNumberFault (Err (Fault e)) t rest = FaultAt e t rest
 IsNumberFault _ t rest = Unit {0}
@@ -138,7 +138,7 @@ abbrev pub ReadsExponent : Result Bool NumberFault → Text → Text → Type 0
 ReadsExponent (Ok b) s rest = Exponent s rest b
 ReadsExponent (Err e) s rest = (r : Text) (b : Bool) → Exponent s r b → ⊥
 
--- the part was read that makes a decimal of an integer, or none is here
+-- the part was read that turns an integer into a decimal, or none is here
 abbrev pub ReadsPart : {A : Type 0} → Result A NumberFault → Text → Text → Type 0
 ReadsPart (Ok x) s rest = DecimalPart s rest
 ReadsPart (Err e) s rest = (r : Text) → DecimalPart s r → ⊥
@@ -148,28 +148,28 @@ abbrev pub number_value : Number → NumberValue
 number_value (IntegerNumber n) = whole_value n
 number_value (DecimalNumber s) = decimal_text (chars (string_bytes s))
 
--- a number begins here, and its only value is x; or none begins here; or memory was refused
+-- a number begins here, and its only value is x; or none begins here; or an allocation failed
 abbrev pub ReadsNumber : Result Number NumberFailure → Text → Text → Type 0
 ReadsNumber (Ok x) s rest = (r : Text) (v : NumberValue) → IsNumber s r v ↔ ((r ≡ rest) × (v ≡ number_value x))
 ReadsNumber (Err (Fault e)) s rest = (r : Text) (v : NumberValue) → IsNumber s r v → ⊥
 ReadsNumber (Err Memory) s rest = Unit {0}
 
--- a keyword begins here, and it is k alone; or none begins here
+-- a keyword begins here, and it is only k; or none begins here
 abbrev pub ReadsKeyword : Option Keyword → Text → Text → Type 0
 ReadsKeyword (Some k) s rest = (r : Text) (x : Keyword) → IsKeyword s r x ↔ ((r ≡ rest) × (x ≡ k))
 ReadsKeyword None s rest = (r : Text) (x : Keyword) → IsKeyword s r x → ⊥
 
--- `e` or `E` was read where it is, and else the cursor stayed
+-- `e` or `E` was read if it is here, and else the cursor stayed
 abbrev pub AteExponentLetter : Bool → Here → Here → Type 0
 AteExponentLetter true old new = (c : ℕ) × (is_exponent_letter c ≡ true) × Took (Some c) old new
 AteExponentLetter false old new = (starts is_exponent_letter old.rest ≡ false) × Stayed 1 old new
 
--- the keyword whose word after `#` this is, or none has it
+-- the keyword with this text after its `#`, or no keyword has it
 abbrev pub WordOf : Option Keyword → Text → Type 0
 WordOf (Some k) w = keyword_text k ≡ 35 ∷ w
 WordOf None w = (k : Keyword) → keyword_text k ≡ 35 ∷ w → ⊥
 
--- the keyword is that of a number
+-- the keyword is a number
 abbrev pub is_of_number : Keyword → Bool
 is_of_number Infinity = true
 is_of_number NegativeInfinity = true

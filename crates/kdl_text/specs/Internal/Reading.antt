@@ -9,7 +9,7 @@ abbrev pub Reads : (Text → Text → Type 0) → Bool → Text → Text → Typ
 Reads R true s rest = (r : Text) → R s r ↔ (r ≡ rest)
 Reads R false s rest = (r : Text) → R s r → ⊥
 
--- the cursor went on in the same text, and its count did not fall
+-- the cursor advanced in the same text, and its count did not fall
 pub record Moves (old new : Here) : Type 0 where
   pub piece : (p : Text) × (old.rest ≡ p ++ new.rest)
   pub at : new.at + bytes new.rest ≡ old.at + bytes old.rest
@@ -24,7 +24,7 @@ pub record Costs (k c : ℕ) (old new : Here) : Type 0 where
 abbrev pub Longest : (Text → Text → Type 0) → Text → Text → Type 0
 Longest R s rest = Star R s rest × ((t : Text) → R rest t → ⊥)
 
--- a newline was read where one begins, and else nothing
+-- a newline was read if one begins here, and else nothing
 abbrev pub ReadsNewline : Bool → Here → Here → Type 0
 ReadsNewline true old new = Newline old.rest new.rest
 ReadsNewline false old new = Stayed 1 old new × ((t : Text) → Newline old.rest t → ⊥)

@@ -8,17 +8,17 @@ use Rattle.kdl_text.specs.Trivia.{BlockComment, LineComment, Ws}
 use Rattle.kdl_text.specs.declared.trivia.SlashRead.{SlashRead}
 use Rattle.kdl_text.specs.declared.trivia.SlashRead.TheVariants.{Block, Line, Dash, Unclosed, Other}
 
--- the cursor went on by a character at least, at no more than k steps for each byte
+-- the cursor advanced by at least a character, at no more than k steps for each byte
 pub record PieceCosts (k : ℕ) (old new : Here) : Type 0 where
   pub fewer : bytes new.rest < bytes old.rest
   pub costs : Costs k 0 old new
 
--- a block comment begins here, and it isn't closed
+-- a block comment begins here, and it is unclosed
 pub record Opens (s : Text) : Type 0 where
   pub opens : begins_two 47 42 s ≡ true
   pub unclosed : (r : Text) → BlockComment s r → ⊥
 
--- the longest run of spaces and block comments was read, or one of the comments isn't closed
+-- the longest run of spaces and block comments was read, or one of the comments is unclosed
 abbrev pub RunsWs : Bool → Here → Here → Type 0
 RunsWs true old new = Longest Ws old.rest new.rest × (begins_two 47 42 new.rest ≡ false)
 RunsWs false old new = (u : Text) × Star Ws old.rest u × Opens u

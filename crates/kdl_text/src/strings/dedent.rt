@@ -18,7 +18,7 @@ use crate::cursor::{Characters, Cursor, Segment};
 use crate::strings::{StringFailure, StringFault};
 use std::alloc::{AllocError, Global};
 
-/// A unit of a string of many lines, from which space escapes are taken out.
+/// A unit of a multi-line string, after its whitespace escapes are removed.
 #[derive(Clone, Copy, Drop, PartialEq, Eq)]
 pub enum LineUnit {
     /// A literal character.
@@ -29,12 +29,12 @@ pub enum LineUnit {
     LineEnd,
 }
 
-/// A line of a string of many lines, without its newline.
+/// A line of a multi-line string, without its newline.
 #[derive(Drop)]
 pub enum Line<'a> {
-    /// One without escapes.
+    /// A line without escapes.
     Plain(Segment<'a>),
-    /// The units of one with escapes.
+    /// The units of a line with escapes.
     Units(Vec<LineUnit>),
 }
 
@@ -87,7 +87,7 @@ fn is_space_unit(unit: LineUnit) -> bool
     }
 }
 
-/// Goes past spaces. Whether the text ends after them.
+/// Advances past spaces. Returns whether the text ends after them.
 fn is_all_space(cursor: &mut Cursor) -> bool
     ensures result { result ≡ list_all is_space cursor.old.rest }
     ensures counted { Counted (bytes cursor.old.rest + 2) cursor.old cursor.new }
@@ -96,7 +96,7 @@ fn is_all_space(cursor: &mut Cursor) -> bool
     cursor.look().is_none()
 }
 
-/// Whether the segment is spaces alone.
+/// Whether the segment is only spaces.
 fn is_space_segment<'a>(segment: &Segment<'a>, cursor: &mut Cursor<'a>) -> bool
     ensures result { result ≡ list_all is_space segment.now }
     ensures returned { Returned (bytes segment.now + 2) cursor.old cursor.new }
@@ -107,14 +107,14 @@ fn is_space_segment<'a>(segment: &Segment<'a>, cursor: &mut Cursor<'a>) -> bool
     is_all
 }
 
-/// Whether the units are spaces alone.
+/// Whether the units are only spaces.
 fn is_space_units(units: &[LineUnit]) -> bool
     ensures { result ≡ spec.is_blank_line units.now }
 {
     units.iter().all(|unit| is_space_unit(*unit))
 }
 
-/// Whether the line is spaces alone.
+/// Whether the line is only spaces.
 fn is_blank<'a>(line: &Line<'a>, cursor: &mut Cursor<'a>) -> bool
     ensures result { result ≡ spec.is_blank_line (line_units line.now) }
     ensures returned { Returned (bytes_again line.now + 2) cursor.old cursor.new }
@@ -194,7 +194,7 @@ fn push_units(
     Ok(())
 }
 
-/// Takes the next character. Whether it is that of the unit.
+/// Takes the next character. Returns whether it is the unit's.
 fn eat_unit(unit: LineUnit, characters: &mut Characters) -> bool
     ensures { EatsUnits (unit ∷ []) result characters.old characters.new }
 {
@@ -207,7 +207,7 @@ fn eat_unit(unit: LineUnit, characters: &mut Characters) -> bool
     }
 }
 
-/// Takes the prefix, if it comes next. Whether it does.
+/// Takes the prefix if it comes next. Returns whether it does.
 fn eat_prefix(prefix: &[LineUnit], characters: &mut Characters) -> bool
     ensures { EatsUnits prefix.now result characters.old characters.new }
 {
@@ -296,8 +296,8 @@ fn push_lines<'a>(
     Ok(())
 }
 
-/// The bytes of the line's value after a prefix of so many units, and of a line feed, as far as
-/// each unit is a byte.
+/// The number of bytes of the line's value after a prefix of `prefix` units, and of a line feed, if
+/// each unit is one byte.
 fn room_of(line: &Line, prefix: usize) -> usize
     ensures { result ≤ line_room line.now }
 {
@@ -308,7 +308,7 @@ fn room_of(line: &Line, prefix: usize) -> usize
     len.saturating_sub(prefix).saturating_add(1)
 }
 
-/// The bytes to make room for before the lines' values are appended.
+/// The number of bytes to reserve before the lines' values are appended.
 fn room_for(lines: &[Line], prefix: usize) -> usize
     ensures { result ≤ lines_room lines.now }
 {
@@ -319,10 +319,10 @@ fn room_for(lines: &[Line], prefix: usize) -> usize
     room
 }
 
-/// The value of the lines, without the last, whose spaces are taken from the front of the others
-/// (KDL 2.0.0, Multi-line String). The cursor reads lines without escapes again, and comes back to
-/// where it is. A fault: the last line is not spaces alone, or another has not these spaces at its
-/// front and is not spaces alone.
+/// Returns the value of the lines but the last, whose spaces are removed from the front of the
+/// others (KDL 2.0.0, Multi-line String). The cursor reads lines without escapes again, and returns
+/// to its place. Fails if the last line is not only spaces, or if another line neither begins with
+/// these spaces nor is only spaces.
 pub fn dedent<'a>(
     alloc: Global,
     lines: &[Line<'a>],

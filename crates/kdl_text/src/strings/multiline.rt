@@ -1,4 +1,4 @@
-//! Strings of many lines between three quotes.
+//! Multi-line strings, between three quotes.
 
 ghost use Rattle.kdl_text.specs.Chars.{Newline, Text, is_newline_char};
 ghost use Rattle.kdl_text.specs.Dedent.{lines_of};
@@ -18,7 +18,7 @@ use crate::strings::dedent::{Line, LineUnit, add_line, dedent, push_literals, pu
 use crate::strings::{StringFailure, StringFault, escaped_unit};
 use std::alloc::Global;
 
-/// After the first character c of a newline: goes past what else belongs to it.
+/// After the first character c of a newline: advances past the rest of the newline.
 pub fn end_newline(c: char, cursor: &mut Cursor)
     requires { is_newline_char c ≡ true }
     ensures newline { Newline (c ∷ cursor.old.rest) cursor.new.rest }
@@ -30,7 +30,7 @@ pub fn end_newline(c: char, cursor: &mut Cursor)
     }
 }
 
-/// What ends literal characters.
+/// What ends a run of literal characters.
 #[derive(Clone, Copy)]
 enum Stop {
     /// A newline.
@@ -41,8 +41,8 @@ enum Stop {
     Escape,
 }
 
-/// Goes past literal characters, quotes among them, and past what ends them in a string of many
-/// lines.
+/// Advances past literal characters, including quotes, and past what ends them in a multi-line
+/// string.
 fn plain_part<'a>(cursor: &mut Cursor<'a>) -> Result<(Segment<'a>, Stop), StringFault>
     ensures found { IfOk result
         (λ (p, stop). ReadsPlain Content stop cursor.old.rest p cursor.new.rest) }
@@ -94,7 +94,7 @@ fn push_escape(cursor: &mut Cursor, units: &mut Vec<LineUnit>) -> Result<(), Str
     }
 }
 
-/// After the backslash of an escape: appends the units of the line from the backslash on. Gives
+/// After the backslash of an escape: appends the units of the line from the backslash on. Returns
 /// whether three quotes end the line.
 fn escaped_line<'a>(
     cursor: &mut Cursor<'a>,
@@ -125,7 +125,7 @@ fn escaped_line<'a>(
     }
 }
 
-/// Reads a line and its newline, or three quotes. Gives whether it was these.
+/// Reads a line, and the newline or the three quotes that end it. Returns whether three quotes do.
 fn read_line<'a>(alloc: Global, cursor: &mut Cursor<'a>) -> Result<(Line<'a>, bool), StringFailure>
     ensures found { IfOk result
         (λ (line, closed). ReadsLine Content closed cursor.old.rest
@@ -150,7 +150,7 @@ fn read_line<'a>(alloc: Global, cursor: &mut Cursor<'a>) -> Result<(Line<'a>, bo
     }
 }
 
-/// The lines up to three quotes, and these.
+/// Reads the lines up to three quotes, and the three quotes.
 fn content<'a>(alloc: Global, cursor: &mut Cursor<'a>) -> Result<Vec<Line<'a>>, StringFailure>
     ensures found { IfOk result
         (λ ls. (us : List LineUnit) × Content cursor.old.rest cursor.new.rest us
@@ -171,7 +171,7 @@ fn content<'a>(alloc: Global, cursor: &mut Cursor<'a>) -> Result<Vec<Line<'a>>, 
     }
 }
 
-/// After three quotes: the value of a string of many lines.
+/// After three quotes: reads the rest of a multi-line string, and returns its value.
 pub fn many_lines(alloc: Global, cursor: &mut Cursor) -> Result<String, StringFailure>
     ensures found { IfOk result
         (λ v. MultiLineBody cursor.old.rest cursor.new.rest (chars (string_bytes v))) }

@@ -1,4 +1,4 @@
-//! Raw strings, of one line and of many.
+//! Raw strings, single-line and multi-line.
 
 ghost use Rattle.kdl_text.specs.Chars.{Text, begins, times};
 ghost use Rattle.kdl_text.specs.Dedent.{lines_of};
@@ -19,7 +19,7 @@ use crate::strings::multiline::end_newline;
 use crate::strings::{StringFailure, StringFault, fault_at};
 use std::alloc::Global;
 
-/// Goes past all number signs, and counts them.
+/// Advances past all number signs, and counts them.
 fn count_signs(cursor: &mut Cursor) -> usize
     ensures text { cursor.old.rest ≡ times result 35 ++ cursor.new.rest }
     ensures stops { begins 35 cursor.new.rest ≡ false }
@@ -31,7 +31,7 @@ fn count_signs(cursor: &mut Cursor) -> usize
     cursor.at() - start
 }
 
-/// Goes past all quotes, and counts them.
+/// Advances past all quotes, and counts them.
 fn count_quotes(cursor: &mut Cursor) -> usize
     ensures text { cursor.old.rest ≡ times result 34 ++ cursor.new.rest }
     ensures stops { begins 34 cursor.new.rest ≡ false }
@@ -43,7 +43,7 @@ fn count_quotes(cursor: &mut Cursor) -> usize
     cursor.at() - start
 }
 
-/// Goes past number signs, at most so many, and counts them.
+/// Advances past at most `most` number signs, and counts them.
 fn eat_signs(cursor: &mut Cursor, most: usize) -> usize
     ensures text { cursor.old.rest ≡ times result 35 ++ cursor.new.rest }
     ensures few { result ≤ most }
@@ -61,7 +61,8 @@ fn eat_signs(cursor: &mut Cursor, most: usize) -> usize
     count
 }
 
-/// The line up to the first quote that so many number signs follow; the cursor goes past these.
+/// Reads the line up to the first quote with `signs` number signs after it, and advances past
+/// these. Returns the line.
 fn line_content<'a>(cursor: &mut Cursor<'a>, signs: usize) -> Result<Piece<'a>, StringFault>
     requires { 0 < signs }
     ensures found { IfOk result
@@ -86,7 +87,7 @@ fn line_content<'a>(cursor: &mut Cursor<'a>, signs: usize) -> Result<Piece<'a>, 
     }
 }
 
-/// The place after so many of the quotes at a place.
+/// The place after this many of the quotes at a place.
 fn behind_quotes<'a>(
     place: &Checkpoint<'a>,
     count: usize,
@@ -105,8 +106,8 @@ fn behind_quotes<'a>(
     behind
 }
 
-/// After the quote at a place: goes past the quotes that follow, and past the number signs where
-/// these are two or more. Gives where the closing begins, if one is there.
+/// After the quote at a place: advances past the quotes that follow, and past the number signs if
+/// these quotes are two or more. Returns where the closing begins, if there is one.
 fn closing_place<'a>(
     quote: &Checkpoint<'a>,
     cursor: &mut Cursor<'a>,
@@ -134,8 +135,8 @@ fn closing_place<'a>(
     Some(behind_quotes(quote, more - 2, cursor))
 }
 
-/// Reads a line and its newline, or the closing of three quotes and so many number signs. Gives
-/// whether it was this.
+/// Reads a line, and the newline that ends it or the closing of three quotes and `signs` number
+/// signs. Returns whether the closing ends it.
 fn read_line<'a>(cursor: &mut Cursor<'a>, signs: usize) -> Result<(Segment<'a>, bool), StringFault>
     requires { 0 < signs }
     ensures found { IfOk result
@@ -169,8 +170,8 @@ fn read_line<'a>(cursor: &mut Cursor<'a>, signs: usize) -> Result<(Segment<'a>, 
     }
 }
 
-/// The lines up to the first three quotes that so many number signs follow; the cursor goes past
-/// these.
+/// Reads the lines up to the first three quotes with `signs` number signs after them, and advances
+/// past these. Returns the lines.
 fn lines_content<'a>(
     alloc: Global,
     cursor: &mut Cursor<'a>,
@@ -197,7 +198,8 @@ fn lines_content<'a>(
     }
 }
 
-/// After the number signs and three quotes: the value of a raw string of many lines.
+/// After the number signs and three quotes: reads the rest of a multi-line raw string, and returns
+/// its value.
 fn raw_lines(alloc: Global, cursor: &mut Cursor, signs: usize) -> Result<String, StringFailure>
     requires { 0 < signs }
     ensures found { IfOk result
@@ -215,10 +217,10 @@ fn raw_lines(alloc: Global, cursor: &mut Cursor, signs: usize) -> Result<String,
     dedent(alloc, &lines, cursor)
 }
 
-/// Reads a raw string, of one line or of many (KDL 2.0.0, Raw String): its value, and the cursor
-/// goes past the closing. A fault: no raw string begins here; `Unopened`: no number signs with a
-/// quote after them.
-/// `Memory`: the memory for the value is missing.
+/// Reads a raw string, single-line or multi-line (KDL 2.0.0, Raw String). Advances past the closing
+/// and returns the value. Fails with a fault if no raw string begins here: `Unopened` if there are
+/// no number signs with a quote after them. Fails with `Memory` if the allocation for the value
+/// fails.
 pub fn raw_string(alloc: Global, cursor: &mut Cursor) -> Result<String, StringFailure>
     ensures found { IfOk result
         (λ v. IsRaw cursor.old.rest cursor.new.rest (chars (string_bytes v))) }

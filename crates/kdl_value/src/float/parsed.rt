@@ -1,4 +1,5 @@
-//! Floats as they are read. A file of its own: no contract in the file of `KdlFloat` can cite specs that name the type.
+//! Floats as they are read. They are in a separate file, since no contract in the file of `KdlFloat` can cite specs
+//! that name the type.
 
 ghost use Rattle.kdl_text.specs.Numbers.{FloatText};
 ghost use Rattle.kdl_value.specs.Tree.{float_text_of};
@@ -7,7 +8,7 @@ ghost use Rattle.std.specs.Str.{chars};
 
 use super::KdlFloat;
 
-/// A float as it was read: its text, which is a float's.
+/// Returns a float with this text, which has to be a float's.
 ///
 /// ```
 /// let float = parsed_float(String::from_str(alloc, "1.5")?); // the caller knows that this is a float's text
