@@ -501,6 +501,39 @@ fn groups_in_a_node(rt: HostRuntime) {
     node_becomes_spaced(&rt, alloc, &mut node, &spaced(0), none);
 }
 
+/// The document of nodes `a` and `b` prints the text, laid out with up to two blank lines, where the first node has one
+/// text in a place, and the second node another one before it.
+fn set_texts_become(
+    rt: &impl Abort,
+    alloc: Global,
+    place: Place,
+    first: &str,
+    leading: &str,
+    text: &str,
+) {
+    let mut document = read(rt, alloc, "a\nb\n");
+    break_at(rt, alloc, &mut document, (0, place, first));
+    break_at(rt, alloc, &mut document, (1, Place::Leading, leading));
+    becomes_spaced(rt, alloc, &mut document, &spaced(2), text);
+}
+
+#[test]
+fn a_newline_in_two_texts(rt: HostRuntime) {
+    let alloc = rt.alloc();
+    set_texts_become(&rt, alloc, Place::Terminator, "\r", "\n", "a\nb\n");
+    set_texts_become(&rt, alloc, Place::Terminator, "\r", "\n\n", "a\n\nb\n");
+    set_texts_become(&rt, alloc, Place::Trailing, "\r", "\n", "a\n\nb\n");
+    set_texts_become(&rt, alloc, Place::Trailing, "\r", "\r\n", "a\n\n\nb\n");
+}
+
+#[test]
+fn an_escline_in_two_texts(rt: HostRuntime) {
+    let alloc = rt.alloc();
+    let kept = "a\n/* x */\nb\n";
+    set_texts_become(&rt, alloc, Place::Trailing, "\\", " /* x */\n\n", kept);
+    set_texts_become(&rt, alloc, Place::Trailing, "\\ /* x */", "\n\n", kept);
+}
+
 /// Asserts that the entries have the same spans.
 fn entries_have_the_spans(rt: &impl Abort, entries: &[KdlEntry], others: &[KdlEntry]) {
     for (entry, other) in entries.iter().zip(others) {

@@ -1,9 +1,9 @@
 -- What layout makes of nodes and documents in memory.
 pub use Rattle.kdl_fmt.specs.Comments.{NodeCommentsStay}
 pub use Rattle.kdl_fmt.specs.Config.{IndentsBySpaces}
+use Rattle.kdl_fmt.specs.Blank.{at_start}
 use Rattle.kdl_fmt.specs.Config.{Settings, settings}
 use Rattle.kdl_fmt.specs.Spaced.{IsSpacedDocument, IsSpacedNode}
-use Rattle.kdl_fmt.specs.declared.blank.Before.TheVariants.{Nothing}
 use Rattle.kdl_fmt.specs.declared.config.Layout.{Layout}
 use Rattle.kdl_fmt.specs.Formatted.{DocumentKeepsNone, NodeKeepsNone, bare_document, bare_node, formatted_document, formatted_node}
 use Rattle.kdl_fmt.specs.WithComments.{IsFormattedDocument, IsFormattedNode}
@@ -35,7 +35,7 @@ DocumentLaidOut s d e = IsFormattedDocument s s.indent_level (document_tree d) (
 
 -- m is n, laid out so with blank lines, after nothing; for documents, e is d
 abbrev pub NodeSpaced : Layout → KdlNode → KdlNode → Type 0
-NodeSpaced l n m = IsSpacedNode l.blank_lines (settings l.config) l.config.indent_level Nothing (node_tree n) (node_tree m)
+NodeSpaced l n m = IsSpacedNode l.blank_lines (settings l.config) l.config.indent_level at_start (node_tree n) (node_tree m)
 
 abbrev pub DocumentSpaced : Layout → KdlDocument → KdlDocument → Type 0
 DocumentSpaced l d e = IsSpacedDocument l.blank_lines (settings l.config) l.config.indent_level (document_tree d) (document_tree e)

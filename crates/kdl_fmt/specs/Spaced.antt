@@ -4,13 +4,12 @@ use Rattle.kdl_text.specs.Chars.{Text}
 use Rattle.kdl_entry.specs.Tree.{unspelled}
 use Rattle.kdl_grammar.specs.Tree.{NodeFormat, DocumentFormat, Head, Node, node, Children, no_children, children, Document, document, Nodes, none, first}
 use Rattle.kdl_items.specs.Items.{Item, GapItems}
-use Rattle.kdl_fmt.specs.Blank.{past_items, past_node, empty_lines, spaced_lines}
+use Rattle.kdl_fmt.specs.Blank.{at_start, past_items, past_node, empty_lines, spaced_lines}
 use Rattle.kdl_fmt.specs.Config.{Settings, indentation}
 use Rattle.kdl_fmt.specs.Formatted.{or_empty, or_empty_document, in_braces}
 use Rattle.kdl_fmt.specs.Kept.{KeptLines, KeptTail, KeptBeforeBlock, last_place, KeptEnd, without_bom}
 use Rattle.kdl_fmt.specs.WithComments.{AreFormattedEntries, NodeTexts, line_of, content_of, has_block}
 use Rattle.kdl_fmt.specs.declared.blank.Before.{Before}
-use Rattle.kdl_fmt.specs.declared.blank.Before.TheVariants.{Nothing}
 
 -- what comes before a text between nodes, and after it; a text that can't be in the place counts nothing
 pub data Passes (left_out : Bool) (b : Before) (place : Text) : Before → Type 0 where
@@ -71,7 +70,7 @@ PassesNodes number s b (first n (first m ns)) e = PassesNodes number s b (first 
 pub record SpacesContent (number : ℕ) (s : Settings) (level : ℕ) (ns : Nodes) (f : DocumentFormat) (b : Before) (before behind : Text) : Type 0 where
   pub last : Before
   pub behind_it : Before
-  pub leading : SpacedLines number s level Nothing (without_bom f.leading) before b
+  pub leading : SpacedLines number s level at_start (without_bom f.leading) before b
   pub passes : PassesNodes number s b ns last
   pub trailing : SpacedLines number s level last f.trailing behind behind_it
 

@@ -1,6 +1,6 @@
 //! The blank lines between nodes and comments: how many a text has, and how many stay.
 
-ghost use Rattle.kdl_fmt.specs.Blank.{blank_lines, counts, empty_lines, from_item, newlines, one_if, past_item, past_items, past_node, read, spaced_lines};
+ghost use Rattle.kdl_fmt.specs.Blank.{after_char, blank_lines, counts, empty_lines, from_item, goes_on, last_after_item, last_before, last_in, last_of, newlines, one_if, past_item, past_items, past_node, read, spaced_lines};
 ghost use Rattle.kdl_items.specs.Internal.Reading.{item_view, items_view};
 ghost use Rattle.kdl_items.specs.Written.{item_text};
 ghost use Rattle.kdl_text.specs.Chars.{is_newline_char, times};
@@ -14,14 +14,25 @@ use kdl_text::chars::is_newline_char;
 use std::alloc::AllocError;
 use std::slice;
 
+/// What comes last before a character in the texts between two nodes, as far as it says whether a newline counts there.
+#[derive(Clone, Copy)]
+pub enum Last {
+    /// Anything else: a newline counts.
+    Other,
+    /// A CR: an LF belongs to the same newline.
+    Cr,
+    /// The `\` of an escline, and spaces and block comments: a newline ends the escline, and does not count.
+    Escline,
+}
+
 /// What comes before a node, or before an item between nodes, in the same document or block.
 #[derive(Clone, Copy)]
 pub enum Before {
-    /// Nothing.
-    Nothing,
+    /// No other node or item; and what comes last.
+    Nothing(Last),
     /// Another node or item. The first number is the most blank lines in the runs that are over since, the second one
-    /// the newlines so far in the run that goes on.
-    Thing(usize, usize),
+    /// the newlines so far in the run that goes on; then what comes last in it.
+    Thing(usize, usize, Last),
 }
 
 /// The first character, and the text after it.
@@ -43,18 +54,59 @@ fn same(text: &str) -> &str
     text
 }
 
-/// Whether a newline after the character `last` counts: it is not that of an escline, and not the LF of a CR LF.
-fn counts(last: char, c: char) -> bool
-    ensures { result ≡ counts last c }
-{
-    !(last == '\\' || (last == '\r' && c == '\n'))
+impl Last {
+    /// Whether the newline `c` counts: it is not that of an escline, and not the LF of a CR LF.
+    fn counts(self, c: char) -> bool
+        ensures { result ≡ counts self c }
+    {
+        match self {
+            Last::Other => true,
+            Last::Cr => c != '\n',
+            Last::Escline => false,
+        }
+    }
+
+    /// What comes last after a space or a block comment: an escline goes on.
+    fn goes_on(self) -> Last
+        ensures { result ≡ goes_on self }
+    {
+        match self {
+            Last::Escline => Last::Escline,
+            Last::Other | Last::Cr => Last::Other,
+        }
+    }
+
+    /// What comes last after the character.
+    fn after_char(self, c: char) -> Last
+        ensures { result ≡ after_char self c }
+    {
+        if c == '\r' {
+            Last::Cr
+        } else if is_newline_char(c) {
+            Last::Other
+        } else if c == '\\' {
+            Last::Escline
+        } else {
+            self.goes_on()
+        }
+    }
+
+    /// What comes last after the item. In an escline a piece is a block comment, and a line comment ends the escline.
+    fn after_item(self, item: Item) -> Last
+        ensures { result ≡ last_after_item (item_view item.entry) self }
+    {
+        match item {
+            Item::Comment(_) => Last::Other,
+            Item::Piece(_) => self.goes_on(),
+        }
+    }
 }
 
 /// One newline more, where it counts.
-fn one_more(count: usize, last: char, c: char) -> Result<usize, AllocError>
+fn one_more(count: usize, last: Last, c: char) -> Result<usize, AllocError>
     ensures { IfOk result (λ n. n ≡ count + one_if (counts last c)) }
 {
-    if !counts(last, c) {
+    if !last.counts(c) {
         return Ok(count);
     }
     match count.checked_add(1) {
@@ -63,27 +115,26 @@ fn one_more(count: usize, last: char, c: char) -> Result<usize, AllocError>
     }
 }
 
-/// Adds the newlines in a text between nodes up to its first item, and returns the text from there on.
-fn newlines(count: usize, text: &str) -> Result<(usize, &str), AllocError>
-    ensures { IfOk result (λ (n, rest). (n ≡ count + newlines 32 (chars text.now))
-        × (chars rest.now ≡ from_item (chars text.now))) }
+/// Adds the newlines in a text between nodes up to its first item. Returns what comes last there, and the text from there
+/// on.
+fn newlines(count: usize, last: Last, text: &str) -> Result<(usize, Last, &str), AllocError>
+    ensures { IfOk result (λ (n, l, rest). (n ≡ count + newlines last (chars text.now))
+        × (l ≡ last_of last (chars text.now)) × (chars rest.now ≡ from_item (chars text.now))) }
 {
     let mut count = count;
+    let mut last = last;
     let mut rest = text;
-    let mut last = ' ';
     'chars: while let Some((c, behind)) = next_char(rest) {
         if c == '/' {
             break;
         }
         if is_newline_char(c) {
             count = one_more(count, last, c)?;
-            last = c;
-        } else if last != '\\' {
-            last = c;
         }
+        last = last.after_char(c);
         rest = same(behind);
     }
-    Ok((count, rest))
+    Ok((count, last, rest))
 }
 
 /// The text without as many characters at its start as the item has.
@@ -117,13 +168,13 @@ impl Before {
             × (chars rest.now ≡ from_item (chars text.now))) }
     {
         match self {
-            Before::Nothing => {
-                let (_, rest) = newlines(0, text)?;
-                Ok((self, rest))
+            Before::Nothing(last) => {
+                let (_, last, rest) = newlines(0, last, text)?;
+                Ok((Before::Nothing(last), rest))
             }
-            Before::Thing(most, count) => {
-                let (count, rest) = newlines(count, text)?;
-                Ok((Before::Thing(most, count), rest))
+            Before::Thing(most, count, last) => {
+                let (count, last, rest) = newlines(count, last, text)?;
+                Ok((Before::Thing(most, count, last), rest))
             }
         }
     }
@@ -133,19 +184,36 @@ impl Before {
         ensures { result ≡ blank_lines self }
     {
         match self {
-            Before::Nothing => 0,
-            Before::Thing(most, count) => most.max(count.saturating_sub(1)),
+            Before::Nothing(_) => 0,
+            Before::Thing(most, count, _) => most.max(count.saturating_sub(1)),
+        }
+    }
+
+    /// What comes last before the thing.
+    fn last(self) -> Last
+        ensures { result ≡ last_before self }
+    {
+        match self {
+            Before::Nothing(last) | Before::Thing(_, _, last) => last,
         }
     }
 
     /// What comes before the next thing, after an item that is left out.
-    fn past_item(self) -> Before
-        ensures { result ≡ past_item true self }
+    fn past_item(self, item: Item) -> Before
+        ensures { result ≡ past_item true (item_view item.entry) self }
     {
+        let last = self.last().after_item(item);
         match self {
-            Before::Nothing => self,
-            Before::Thing(most, count) => Before::Thing(most.max(count.saturating_sub(1)), 0),
+            Before::Nothing(_) => Before::Nothing(last),
+            Before::Thing(..) => Before::Thing(self.blank_lines(), 0, last),
         }
+    }
+
+    /// What comes before the next thing, after an item that is written.
+    fn past_written_item(self, item: Item) -> Before
+        ensures { result ≡ past_item false (item_view item.entry) self }
+    {
+        Before::Thing(0, 0, self.last().after_item(item))
     }
 }
 
@@ -156,14 +224,26 @@ fn has_newline(text: &str) -> bool
     text.chars().any(is_newline_char)
 }
 
+/// What comes last in a terminator.
+fn last_in(terminator: &str) -> Last
+    ensures { result ≡ last_in (chars terminator.now) }
+{
+    if terminator.ends_with('\r') {
+        Last::Cr
+    } else {
+        Last::Other
+    }
+}
+
 /// What comes before the next thing, after a node with this terminator.
 pub(crate) fn past_node(terminator: &str) -> Before
     ensures { result ≡ past_node (chars terminator.now) }
 {
+    let last = last_in(terminator);
     if has_newline(terminator) {
-        Before::Thing(0, 1)
+        Before::Thing(0, 1, last)
     } else {
-        Before::Thing(0, 0)
+        Before::Thing(0, 0, last)
     }
 }
 
@@ -176,7 +256,7 @@ pub(crate) fn past_items(before: Before, text: &str, items: &[Item]) -> Result<B
     let mut rest = text;
     for item in items {
         let (at_item, from) = before.read(rest)?;
-        before = at_item.past_item();
+        before = at_item.past_item(*item);
         rest = same(behind_item(from, *item));
     }
     let (at_end, _) = before.read(rest)?;
@@ -191,8 +271,8 @@ pub(crate) fn past_written(before: Before, text: &str, items: &[Item]) -> Result
     let mut before = before;
     let mut rest = text;
     for item in items {
-        let (_, from) = before.read(rest)?;
-        before = Before::Thing(0, 0);
+        let (at_item, from) = before.read(rest)?;
+        before = at_item.past_written_item(*item);
         rest = same(behind_item(from, *item));
     }
     let (at_end, _) = before.read(rest)?;
@@ -240,7 +320,7 @@ pub(crate) fn push_spaced_lines(
         let (at_item, from) = before.read(rest)?;
         push_empty_lines(out, number, at_item)?;
         push_lines(out, indentation, slice::from_ref(item))?;
-        before = Before::Thing(0, 0);
+        before = at_item.past_written_item(*item);
         rest = same(behind_item(from, *item));
     }
     let (at_end, _) = before.read(rest)?;

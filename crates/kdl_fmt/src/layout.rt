@@ -1,7 +1,7 @@
 //! Layout of the texts around nodes and documents, and of entries.
 
 ghost use Rattle.kdl_entry.specs.Tree.{cleared, entry_data, entry_tree, identifier_tree, unspelled};
-ghost use Rattle.kdl_fmt.specs.Blank.{empty_lines};
+ghost use Rattle.kdl_fmt.specs.Blank.{at_start, empty_lines};
 ghost use Rattle.kdl_fmt.specs.Config.{indentation, settings};
 ghost use Rattle.kdl_fmt.specs.Formatted.{newline_if_none, or_empty, or_empty_document};
 ghost use Rattle.kdl_fmt.specs.Kept.{KeptBefore, KeptBeforeBlock, KeptEnd, KeptLines, KeptTail, WrittenUnless, last_place, without_bom};
@@ -9,7 +9,6 @@ ghost use Rattle.kdl_fmt.specs.Plain.{newline_if};
 ghost use Rattle.kdl_fmt.specs.Spaced.{IsSpacedBraced, IsSpacedContent, IsSpacedLine, Passes, PassesFormat, PassesNodes, SpacedLines, Spaces, SpacesContent};
 ghost use Rattle.kdl_fmt.specs.WellFormed.{AreWellFormedEntries, IsWellFormedEntry};
 ghost use Rattle.kdl_fmt.specs.WithComments.{AreFormattedEntries, IsFormattedEntry, behind};
-ghost use Rattle.kdl_fmt.specs.declared.blank.Before.TheVariants.{Nothing};
 ghost use Rattle.kdl_grammar.specs.Tree.{Nodes};
 ghost use Rattle.kdl_items.specs.Items.{GapItems};
 ghost use Rattle.kdl_items.specs.Internal.Reading.{place_view};
@@ -25,7 +24,7 @@ ghost use Rattle.std.specs.Prelude.{◌≡◌, ◌+◌, ◌++◌, ◌∷◌, [],
 ghost use Rattle.std.specs.Str.{chars};
 
 use crate::blank::{
-    Before, past_items, past_node, past_written, push_empty_lines, push_spaced_lines,
+    Before, Last, past_items, past_node, past_written, push_empty_lines, push_spaced_lines,
 };
 use crate::config::{FormatConfig, Layout};
 use kdl_entry::{KdlEntry, KdlEntryFormat, KdlIdentifier, KdlValue};
@@ -522,10 +521,10 @@ fn content_leading(
     format: &Option<KdlDocumentFormat>,
 ) -> Result<(String, Before), AllocError>
     ensures { IfOk result (λ (t, b).
-        SpacedLines layout.now.blank_lines (settings layout.now.config) level Nothing
+        SpacedLines layout.now.blank_lines (settings layout.now.config) level at_start
         (without_bom (or_empty_document (document_texts format.now)).leading) (text_of t) b) }
 {
-    let mut first = Before::Nothing;
+    let mut first = Before::Nothing(Last::Other);
     let place = match format {
         Some(format) => without_bom(format.leading.as_str()),
         None => "",

@@ -6,5 +6,5 @@ mod blank;
 mod config;
 pub mod layout;
 
-pub use blank::Before;
+pub use blank::{Before, Last};
 pub use config::{FormatConfig, FormatConfigBuilder, Layout, is_kdl_space};

@@ -5,12 +5,12 @@ use Rattle.kdl_text.specs.Chars.{Text, is_space}
 use Rattle.kdl_grammar.specs.Data as data'
 use Rattle.kdl_grammar.specs.Grammar.{IsDocument}
 use Rattle.kdl_grammar.specs.Tree.{Document, Node}
+use Rattle.kdl_fmt.specs.Blank.{at_start}
 use Rattle.kdl_fmt.specs.Canonical.{canonical, Canonical}
 use Rattle.kdl_fmt.specs.Config.{IndentsBySpaces, Settings}
 use Rattle.kdl_fmt.specs.Formatted.{DocumentKeepsNone, NodeKeepsNone}
 use Rattle.kdl_fmt.specs.WithComments.{IsFormattedDocument, IsFormattedNode}
 use Rattle.kdl_fmt.specs.Spaced.{IsSpacedDocument, IsSpacedNode}
-use Rattle.kdl_fmt.specs.declared.blank.Before.TheVariants.{Nothing}
 use Rattle.kdl_fmt.proofs.Spacing.Again as spaced
 use Rattle.kdl_fmt.proofs.Spacing.Zero.{document_formatted, document_spaced, node_formatted, node_spaced}
 use Rattle.kdl_fmt.proofs.Formatting.Again.{document_stays, node_stays}
@@ -46,7 +46,7 @@ node_again s level n x y ok keep none f g = node_stays s level ok keep n x y f n
 pub spaced_again : (number : ℕ) (s : Settings) (level : ℕ) (d x y : Document) → IndentsBySpaces s → s.entry_autoformate_keep ≡ false → DocumentKeepsNone d → IsSpacedDocument number s level d x → IsSpacedDocument number s level x y → y ≡ x
 spaced_again number s level d x y ok keep none f g = spaced.document_stays number s level ok keep d x y f none g
 
-pub spaced_node_again : (number : ℕ) (s : Settings) (level : ℕ) (n x y : Node) → IndentsBySpaces s → s.entry_autoformate_keep ≡ false → NodeKeepsNone n → IsSpacedNode number s level Nothing n x → IsSpacedNode number s level Nothing x y → y ≡ x
+pub spaced_node_again : (number : ℕ) (s : Settings) (level : ℕ) (n x y : Node) → IndentsBySpaces s → s.entry_autoformate_keep ≡ false → NodeKeepsNone n → IsSpacedNode number s level at_start n x → IsSpacedNode number s level at_start x y → y ≡ x
 spaced_node_again number s level n x y ok keep none f g = spaced.node_stays number s level ok keep n x y f none g
 
 pub spaced_twice : {A E : Type 0} (r : Result A E) (number : ℕ) (s : Settings) (level : ℕ) (d x y : Document) → list_all is_space s.indent ≡ true → s.entry_autoformate_keep ≡ false → DocumentKeepsNone d
@@ -58,5 +58,5 @@ spaced_twice (Err v) number s level d x y ok keep none f g = tt
 pub unspaced_document : (s : Settings) (level : ℕ) (d x : Document) → IsSpacedDocument 0 s level d x ↔ IsFormattedDocument s level d x
 unspaced_document s level d x = (document_formatted s level d x, document_spaced s level d x)
 
-pub unspaced_node : (s : Settings) (level : ℕ) (n x : Node) → IsSpacedNode 0 s level Nothing n x ↔ IsFormattedNode s level n x
-unspaced_node s level n x = (node_formatted s level Nothing n x, node_spaced s level Nothing n x)
+pub unspaced_node : (s : Settings) (level : ℕ) (n x : Node) → IsSpacedNode 0 s level at_start n x ↔ IsFormattedNode s level n x
+unspaced_node s level n x = (node_formatted s level at_start n x, node_spaced s level at_start n x)

@@ -3,11 +3,11 @@
 ghost use Rattle.kdl.specs.Layout.{DocumentKeepsNoForm, DocumentLaidOut, DocumentSpaced};
 ghost use Rattle.kdl.specs.Tree.{document_prints, document_tree, node_tree};
 ghost use Rattle.kdl.specs.declared.document.KdlDocument.{KdlDocument};
+ghost use Rattle.kdl_fmt.specs.Blank.{at_start};
 ghost use Rattle.kdl_fmt.specs.Comments.{CommentsStay};
 ghost use Rattle.kdl_fmt.specs.Config.{IndentsBySpaces, Settings, defaults, settings};
 ghost use Rattle.kdl_fmt.specs.Formatted.{DocumentKeepsNone, NodeKeepsNone};
 ghost use Rattle.kdl_fmt.specs.Spaced.{IsSpacedDocument, IsSpacedNode};
-ghost use Rattle.kdl_fmt.specs.declared.blank.Before.TheVariants.{Nothing};
 ghost use Rattle.kdl_fmt.specs.declared.config.Layout.{Layout};
 ghost use Rattle.kdl_fmt.specs.WithComments.{IsFormattedDocument, IsFormattedNode};
 ghost use Rattle.kdl_grammar.specs.Laid.{LaidDocument};
@@ -99,7 +99,7 @@ pub fn second_spaced_layout()
         → IsSpacedDocument number s level d x → IsSpacedDocument number s level x y → y ≡ x }
     ensures node { (number : ℕ) (s : Settings) (level : ℕ) (n x y : Node) → IndentsBySpaces s
         → s.entry_autoformate_keep ≡ false → NodeKeepsNone n
-        → IsSpacedNode number s level Nothing n x → IsSpacedNode number s level Nothing x y
+        → IsSpacedNode number s level at_start n x → IsSpacedNode number s level at_start x y
         → y ≡ x }
 {}
 
@@ -109,7 +109,7 @@ pub fn layout_without_blank_lines()
     ensures document { (s : Settings) (level : ℕ) (d x : Document)
         → IsSpacedDocument 0 s level d x ↔ IsFormattedDocument s level d x }
     ensures node { (s : Settings) (level : ℕ) (n x : Node)
-        → IsSpacedNode 0 s level Nothing n x ↔ IsFormattedNode s level n x }
+        → IsSpacedNode 0 s level at_start n x ↔ IsFormattedNode s level n x }
 {}
 
 /// The text in memory that a document prints after layout with its comments is the text of the document, laid out.

@@ -6,6 +6,7 @@ use Rattle.kdl_grammar.specs.Data as data'
 use Rattle.kdl_grammar.specs.Grammar.{IsDocument}
 use Rattle.kdl_grammar.specs.Print.{print_document, print_node}
 use Rattle.kdl_grammar.specs.Tree.{Document, document_data, Node, node_data}
+use Rattle.kdl_fmt.specs.Blank.{at_start}
 use Rattle.kdl_fmt.specs.Canonical.{canonical, canonical_node, Canonical, CanonicalNode}
 use Rattle.kdl_fmt.specs.Comments.{CommentsStay}
 use Rattle.kdl_fmt.specs.Config.{Settings, IsPlain, defaults, without_comments}
@@ -13,7 +14,6 @@ use Rattle.kdl_fmt.specs.Formatted.{formatted_document, formatted_node, Document
 use Rattle.kdl_fmt.specs.WellFormed.{AreWellFormed, IsWellFormedNode}
 use Rattle.kdl_fmt.specs.Spaced.{IsSpacedDocument, IsSpacedNode}
 use Rattle.kdl_fmt.specs.WithComments.{IsFormattedDocument, IsFormattedNode}
-use Rattle.kdl_fmt.specs.declared.blank.Before.TheVariants.{Nothing}
 use Rattle.kdl_fmt.proofs.Spacing.Stays as spaced
 use Rattle.kdl_fmt.proofs.Spacing.Zero.{document_formatted, node_formatted}
 use Rattle.kdl_fmt.proofs.Formatting.CommentsReadBack.{document_derived, node_derived}
@@ -38,8 +38,8 @@ if_both (Err e) f p q = p
 pub formatted : {A E : Type 0} (r : Result A E) (s : Settings) (level : ℕ) (x d : Document) → IfOk r (λ _. IsSpacedDocument 0 s level d x) → IfOk r (λ _. IsFormattedDocument s level d x)
 formatted r s level x d h = if_ok r (λ (f : IsSpacedDocument 0 s level d x). document_formatted s level d x f) h
 
-pub node_is_formatted : {A E : Type 0} (r : Result A E) (s : Settings) (level : ℕ) (x n : Node) → IfOk r (λ _. IsSpacedNode 0 s level Nothing n x) → IfOk r (λ _. IsFormattedNode s level n x)
-node_is_formatted r s level x n h = if_ok r (λ (f : IsSpacedNode 0 s level Nothing n x). node_formatted s level Nothing n x f) h
+pub node_is_formatted : {A E : Type 0} (r : Result A E) (s : Settings) (level : ℕ) (x n : Node) → IfOk r (λ _. IsSpacedNode 0 s level at_start n x) → IfOk r (λ _. IsFormattedNode s level n x)
+node_is_formatted r s level x n h = if_ok r (λ (f : IsSpacedNode 0 s level at_start n x). node_formatted s level at_start n x f) h
 
 of_none : (number : ℕ) (P : ℕ → Type 0) → P number → number ≡ 0 → P 0
 of_none number P p e = subst P e p
@@ -81,35 +81,35 @@ module _ {A E : Type 0} (r : Result A E) (number : ℕ) (s : Settings) (level : 
     reads h = if_ok r (λ (w : AreWellFormed (document_data d)). λ ok. canonical_reads s.indent ok level (document_data d) w) h
 
   module _ (x n : Node) where
-    pub node_plainly : IfOk r (λ _. IsSpacedNode number s level Nothing n x) → IfOk r (λ _. number ≡ 0 → IsFormattedNode s level n x)
-    node_plainly h = if_ok r (λ (f : IsSpacedNode number s level Nothing n x). λ e. node_formatted s level Nothing n x (of_none number (λ (k : ℕ). IsSpacedNode k s level Nothing n x) f e)) h
+    pub node_plainly : IfOk r (λ _. IsSpacedNode number s level at_start n x) → IfOk r (λ _. number ≡ 0 → IsFormattedNode s level n x)
+    node_plainly h = if_ok r (λ (f : IsSpacedNode number s level at_start n x). λ e. node_formatted s level at_start n x (of_none number (λ (k : ℕ). IsSpacedNode k s level at_start n x) f e)) h
 
-    pub node_plain : IfOk r (λ _. IsSpacedNode number s level Nothing n x) → IfOk r (λ _. number ≡ 0 → s.no_comments ≡ true → x ≡ formatted_node s level n)
+    pub node_plain : IfOk r (λ _. IsSpacedNode number s level at_start n x) → IfOk r (λ _. number ≡ 0 → s.no_comments ≡ true → x ≡ formatted_node s level n)
     node_plain h =
-        if_ok r (λ (f : IsSpacedNode number s level Nothing n x). λ e k. layout.left_out s level n x k (node_formatted s level Nothing n x (of_none number (λ (y : ℕ). IsSpacedNode y s level Nothing n x) f e))) h
+        if_ok r (λ (f : IsSpacedNode number s level at_start n x). λ e k. layout.left_out s level n x k (node_formatted s level at_start n x (of_none number (λ (y : ℕ). IsSpacedNode y s level at_start n x) f e))) h
 
-    pub node_levels : IfOk r (λ _. IsSpacedNode number s level Nothing n x) → IfOk r (λ _. NodeLevelsFit level n)
-    node_levels h = if_ok r (λ (f : IsSpacedNode number s level Nothing n x). spaced.levels_fit number s level Nothing n x f) h
+    pub node_levels : IfOk r (λ _. IsSpacedNode number s level at_start n x) → IfOk r (λ _. NodeLevelsFit level n)
+    node_levels h = if_ok r (λ (f : IsSpacedNode number s level at_start n x). spaced.levels_fit number s level at_start n x f) h
 
-    pub node_keeps_none_then : IfOk r (λ _. IsSpacedNode number s level Nothing n x) → IfOk r (λ _. NodeKeepsNone x)
-    node_keeps_none_then h = if_ok r (λ (f : IsSpacedNode number s level Nothing n x). spaced.keeps_none number s level Nothing n x f) h
+    pub node_keeps_none_then : IfOk r (λ _. IsSpacedNode number s level at_start n x) → IfOk r (λ _. NodeKeepsNone x)
+    node_keeps_none_then h = if_ok r (λ (f : IsSpacedNode number s level at_start n x). spaced.keeps_none number s level at_start n x f) h
 
-    pub node_derives : IfOk r (λ _. IsSpacedNode number s level Nothing n x) → IfOk r (λ _. IsWellFormedNode (node_data n))
+    pub node_derives : IfOk r (λ _. IsSpacedNode number s level at_start n x) → IfOk r (λ _. IsWellFormedNode (node_data n))
         → IfOk r (λ _. list_all is_space s.indent ≡ true → s.entry_autoformate_keep ≡ false → NodeKeepsNone n → IsDocument true (print_node x 0) (data'.first (node_data n) data'.none))
     node_derives h w =
-        if_both r (λ (f : IsSpacedNode number s level Nothing n x) (fit : IsWellFormedNode (node_data n)). λ ok keep none. node_derived number s ok keep level 0 Nothing n x f none fit) h w
+        if_both r (λ (f : IsSpacedNode number s level at_start n x) (fit : IsWellFormedNode (node_data n)). λ ok keep none. node_derived number s ok keep level 0 at_start n x f none fit) h w
 
-    pub node_comments : IfOk r (λ _. IsSpacedNode number s level Nothing n x) → IfOk r (λ _. IsWellFormedNode (node_data n))
+    pub node_comments : IfOk r (λ _. IsSpacedNode number s level at_start n x) → IfOk r (λ _. IsWellFormedNode (node_data n))
         → IfOk r (λ _. list_all is_space s.indent ≡ true → s.entry_autoformate_keep ≡ false → s.no_comments ≡ false → NodeKeepsNone n → NodeCommentsStay n (print_node x 0))
     node_comments h w =
         if_both r
-        (λ (f : IsSpacedNode number s level Nothing n x) (fit : IsWellFormedNode (node_data n)). λ ok keep with none e is i l. node_comments_stay number s ok keep with level 0 Nothing n x e is i f none fit l) h w
+        (λ (f : IsSpacedNode number s level at_start n x) (fit : IsWellFormedNode (node_data n)). λ ok keep with none e is i l. node_comments_stay number s ok keep with level 0 at_start n x e is i f none fit l) h w
 
-    pub node_prints : IfOk r (λ _. IsSpacedNode number s level Nothing n x) → IfOk r (λ _. number ≡ 0 → IsPlain s → NodeKeepsNone n → print_node x 0 ≡ canonical_node s.indent level (node_data n))
+    pub node_prints : IfOk r (λ _. IsSpacedNode number s level at_start n x) → IfOk r (λ _. number ≡ 0 → IsPlain s → NodeKeepsNone n → print_node x 0 ≡ canonical_node s.indent level (node_data n))
     node_prints h =
         if_ok r
-        (λ (f : IsSpacedNode number s level Nothing n x). λ e p k. ap (λ (y : Node). print_node y 0)
-        (layout.left_out s level n x p.0 (node_formatted s level Nothing n x (of_none number (λ (y : ℕ). IsSpacedNode y s level Nothing n x) f e))) ∙ node_canonical s level 0 n p k)
+        (λ (f : IsSpacedNode number s level at_start n x). λ e p k. ap (λ (y : Node). print_node y 0)
+        (layout.left_out s level n x p.0 (node_formatted s level at_start n x (of_none number (λ (y : ℕ). IsSpacedNode y s level at_start n x) f e))) ∙ node_canonical s level 0 n p k)
         h
 
     pub node_reads : IfOk r (λ _. IsWellFormedNode (node_data n)) → IfOk r (λ _. list_all is_space s.indent ≡ true → CanonicalNode s.indent level (node_data n))

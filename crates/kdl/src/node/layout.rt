@@ -8,12 +8,12 @@ ghost use Rattle.kdl.specs.Layout.{IndentsBySpaces, NodeCommentsStay, NodeLaidOu
 ghost use Rattle.kdl.specs.Tree.{document_tree, node_prints, node_says, node_tree, nodes_tree};
 ghost use Rattle.kdl.specs.declared.document.KdlDocument.{out-KdlDocument};
 ghost use Rattle.kdl.specs.declared.node.KdlNode.{out-KdlNode};
+ghost use Rattle.kdl_fmt.specs.Blank.{at_start};
 ghost use Rattle.kdl_fmt.specs.Canonical.{CanonicalNode, canonical_node};
 ghost use Rattle.kdl_fmt.specs.Config.{IsPlain, defaults, indentation, settings, without_comments};
 ghost use Rattle.kdl_fmt.specs.Formatted.{NodeLevelsFit, bare_children, bare_node};
 ghost use Rattle.kdl_fmt.specs.WellFormed.{IsWellFormedNode};
 ghost use Rattle.kdl_fmt.specs.Spaced.{AreSpacedNodes, IsSpacedChildren, IsSpacedNode};
-ghost use Rattle.kdl_fmt.specs.declared.blank.Before.TheVariants.{Nothing};
 ghost use Rattle.kdl_grammar.specs.Data as data';
 ghost use Rattle.kdl_grammar.specs.Grammar.{IsDocument};
 ghost use Rattle.kdl_grammar.specs.Tree.{Node, children_of, listed_nodes};
@@ -24,7 +24,7 @@ use crate::document::KdlDocument;
 use crate::lays::lay_out_nodes;
 use crate::node::KdlNode;
 use kdl_fmt::layout::{behind_line, clear_spelling, indentation, lay_out_entries, lay_out_line};
-use kdl_fmt::{Before, FormatConfig, Layout};
+use kdl_fmt::{Before, FormatConfig, Last, Layout};
 use std::alloc::AllocError;
 use std::mem;
 
@@ -192,10 +192,10 @@ impl KdlNode {
         requires { chars before.now ≡ indentation (settings layout.now.config) level }
         ensures kept { node_bare self.new ≡ node_bare self.old }
         ensures formatted { OnOk result (IsSpacedNode layout.now.blank_lines
-            (settings layout.now.config) level Nothing (node_tree self.old) (node_tree self.new)) }
+            (settings layout.now.config) level at_start (node_tree self.old) (node_tree self.new)) }
         ensures well_formed { OnOk result (IsWellFormedNode (node_says self.old)) }
     {
-        let (_, first) = self.lay_out_own(layout, level, before, Before::Nothing)?;
+        let (_, first) = self.lay_out_own(layout, level, before, Before::Nothing(Last::Other))?;
         lay_out_below(&mut self.children, layout, level, first)
     }
 
@@ -277,7 +277,7 @@ fn lay_out_block(
 {
     match children {
         Some(children) => children.lay_out_block(layout, level, before),
-        None => Ok(Before::Nothing),
+        None => Ok(Before::Nothing(Last::Other)),
     }
 }
 

@@ -22,11 +22,10 @@ use Rattle.kdl_fmt.specs.Config.{Settings, indentation}
 use Rattle.kdl_fmt.specs.Formatted.{with_keep_if, or_empty, or_empty_document, newline_if_none, in_braces, EntriesKeepNone, NodeKeepsNone, ChildrenKeepNone, DocumentKeepsNone, NodesKeepNone}
 use Rattle.kdl_fmt.specs.Kept.{last_place, without_bom, entry_leading, is_kept_format, KeptBefore}
 use Rattle.kdl_fmt.specs.WellFormed.{AreScalars, AreWellFormedEntries, IsWellFormedNode, AreWellFormedChildren, AreWellFormed}
-use Rattle.kdl_fmt.specs.Blank.{past_node}
+use Rattle.kdl_fmt.specs.Blank.{at_start, past_node}
 use Rattle.kdl_fmt.specs.Spaced.{SpacesTexts, SpacesContent, IsSpacedNode, IsSpacedChildren, AreSpacedNodes, IsSpacedDocument}
 use Rattle.kdl_fmt.specs.WithComments.{behind, IsFormattedEntry, AreFormattedEntries, NodeTexts, line_of, content_of, has_block}
 use Rattle.kdl_fmt.specs.declared.blank.Before.{Before}
-use Rattle.kdl_fmt.specs.declared.blank.Before.TheVariants.{Nothing}
 use Rattle.kdl_fmt.proofs.Spacing.Lines.{before_gap, lines_gap}
 use Rattle.kdl_fmt.proofs.EntryTexts.{name_of, type_text, key_text, type_joined, key_joined, no_format, piece_text}
 use Rattle.kdl_fmt.proofs.Keeping.KeptPlaces.{space_ends, newline_gap, gap_nodes, indentation_gap, Tail, tail_of, tail_ends, tail_spaced, LineEnd, line_end_of, line_terminator, last_text, last_ends}
@@ -126,7 +125,7 @@ module _ (number : ℕ) (s : Settings) (ok : list_all is_space s.indent ≡ true
   line_end level has b f t k = line_end_of s.no_comments f.terminator t.space t.comment k.end
 
   content_gap : (level : ℕ) (ns : Nodes) (f : DocumentFormat) (b : Before) (x y : Text) → SpacesContent number s level ns f b x y → (t : Text) → Gap true (x ++ t) t
-  content_gap level ns f b x y k t = lines_gap s ok number level Nothing b (without_bom f.leading) x k.leading no_gap
+  content_gap level ns f b x y k t = lines_gap s ok number level at_start b (without_bom f.leading) x k.leading no_gap
 
   content_end : (level : ℕ) (ns : Nodes) (f : DocumentFormat) (b : Before) (x y : Text) → SpacesContent number s level ns f b x y → {t r : Text} → Gap true t r → Gap true (y ++ t) r
   content_end level ns f b x y k g = lines_gap s ok number level k.last k.behind_it f.trailing y k.trailing g

@@ -21,11 +21,10 @@ use Rattle.kdl_fmt.specs.Config.{Settings, indentation}
 use Rattle.kdl_fmt.specs.Formatted.{or_empty, or_empty_document, newline_if_none, in_braces, NodeKeepsNone, ChildrenKeepNone, DocumentKeepsNone, NodesKeepNone}
 use Rattle.kdl_fmt.specs.Kept.{last_place, without_bom}
 use Rattle.kdl_fmt.specs.WellFormed.{IsWellFormedNode, AreWellFormedChildren, AreWellFormed}
-use Rattle.kdl_fmt.specs.Blank.{past_node}
+use Rattle.kdl_fmt.specs.Blank.{at_start, past_node}
 use Rattle.kdl_fmt.specs.Spaced.{SpacesTexts, SpacesContent, IsSpacedNode, IsSpacedChildren, AreSpacedNodes, IsSpacedDocument}
 use Rattle.kdl_fmt.specs.WithComments.{NodeTexts, line_of, content_of, has_block}
 use Rattle.kdl_fmt.specs.declared.blank.Before.{Before}
-use Rattle.kdl_fmt.specs.declared.blank.Before.TheVariants.{Nothing}
 use Rattle.kdl_fmt.proofs.Spacing.Lines.{before_front, lines_front}
 use Rattle.kdl_fmt.proofs.Keeping.GapFronts.{Front, nothing, joined, alone, here, newline, newline_if, indented, gap_without_bom}
 use Rattle.kdl_fmt.proofs.Keeping.KeptItems.{KeptIn, kept_in, kept_end, kept_last}
@@ -142,7 +141,7 @@ module _ (number : ℕ) (s : Settings) (ok : list_all is_space s.indent ≡ true
   -- what is kept of the texts around nodes
   content_front : (level : ℕ) (ns : Nodes) (f : DocumentFormat) (b : Before) (x y : Text) → SpacesContent number s level ns f b x y → {is : List Item} → ItemsIn (GapItems (without_bom f.leading)) is
       → Front x (map on_line is)
-  content_front level ns f b x y k i = lines_front s ok with number level Nothing b (without_bom f.leading) x k.leading i
+  content_front level ns f b x y k i = lines_front s ok with number level at_start b (without_bom f.leading) x k.leading i
 
   content_end : (level : ℕ) (ns : Nodes) (f : DocumentFormat) (b : Before) (x y : Text) → SpacesContent number s level ns f b x y → {is : List Item} → ItemsIn (GapItems f.trailing) is → Front y (map on_line is)
   content_end level ns f b x y k i = lines_front s ok with number level k.last k.behind_it f.trailing y k.trailing i

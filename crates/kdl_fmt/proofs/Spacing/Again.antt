@@ -11,14 +11,15 @@ use Rattle.kdl_items.specs.Items.{Item, GapItems}
 use Rattle.kdl_items.specs.Written.{on_line}
 use Rattle.kdl_items.proofs.Listing.ItemsUnique.{gap_items_det}
 use Rattle.kdl_items.proofs.Rewriting.LinesAgain.{newline_items}
-use Rattle.kdl_fmt.specs.Blank.{empty_lines, one_if, past_items, past_node, read, spaced_lines, newlines}
+use Rattle.kdl_fmt.specs.Blank.{at_start, empty_lines, last_in, one_if, past_items, past_node, read, spaced_lines, newlines}
 use Rattle.kdl_fmt.specs.Config.{Settings, indentation}
 use Rattle.kdl_fmt.specs.Formatted.{or_empty, or_empty_document, newline_if_none, EntriesKeepNone, NodeKeepsNone, ChildrenKeepNone, DocumentKeepsNone, NodesKeepNone}
 use Rattle.kdl_fmt.specs.Kept.{without_bom}
 use Rattle.kdl_fmt.specs.Spaced.{Passes, Spaces, SpacesTexts, IsSpacedLine, IsSpacedHead, PassesNode, PassesNodes, IsSpacedContent, IsSpacedBraced, IsSpacedNode, IsSpacedChildren, AreSpacedNodes, IsSpacedDocument}
 use Rattle.kdl_fmt.specs.WithComments.{NodeTexts, line_of, has_block}
 use Rattle.kdl_fmt.specs.declared.blank.Before.{Before}
-use Rattle.kdl_fmt.specs.declared.blank.Before.TheVariants.{Nothing, Thing}
+use Rattle.kdl_fmt.specs.declared.blank.Before.TheVariants.{Thing}
+use Rattle.kdl_fmt.specs.declared.blank.Last.TheVariants.{Other}
 use Rattle.kdl_fmt.proofs.Formatting.Again as plain
 use Rattle.kdl_fmt.proofs.Formatting.PrintsCanonical.{unspelled_twice}
 use Rattle.kdl_fmt.proofs.Keeping.GapFronts.{alone, joined, newline_if, indented, gap_without_bom}
@@ -74,7 +75,7 @@ module _ (number : ℕ) (s : Settings) (ok : list_all is_space s.indent ≡ true
   pass_stays b b' c t r k (Passes.items {is = js} d) = ap (past_items s.no_comments (again b) (t ++ r)) (same_det k.gap d) ∙ k.state
 
   -- after the LF of a block
-  stay_first : (b' c : Before) (t u : Text) → Known s.no_comments number (indentation s level) Nothing b' t [] → Spaces number s level Nothing (10 ∷ t) u c → (u ≡ t) × (c ≡ again b')
+  stay_first : (b' c : Before) (t u : Text) → Known s.no_comments number (indentation s level) at_start b' t [] → Spaces number s level at_start (10 ∷ t) u c → (u ≡ t) × (c ≡ again b')
   stay_first b' c t u k w =
       let g : GapItems t k.items = subst (λ (x : Text). GapItems x k.items) (append-nil t) k.gap in
       go u c w (joined_first g)
@@ -82,15 +83,15 @@ module _ (number : ℕ) (s : Settings) (ok : list_all is_space s.indent ≡ true
       joined_first : GapItems t k.items → GapItems (10 ∷ t) k.items
       joined_first g = newline_items g
 
-      go : (u : Text) (c : Before) → Spaces number s level Nothing (10 ∷ t) u c → GapItems (10 ∷ t) k.items → (u ≡ t) × (c ≡ again b')
+      go : (u : Text) (c : Before) → Spaces number s level at_start (10 ∷ t) u c → GapItems (10 ∷ t) k.items → (u ≡ t) × (c ≡ again b')
       go _ _ (Spaces.no_gap f) h = absurd (f k.items h)
       go _ _ (Spaces.items {is = js} d) h =
           let e = same_det h d in
-          let x = subst (λ (y : Text). (if s.no_comments then [] else spaced_lines number (indentation s level) Nothing y k.items) ≡ t) (append-nil t) k.text in
-          let z = subst (λ (y : Text). past_items s.no_comments Nothing y k.items ≡ read [] (again b')) (append-nil t) k.state in (
-            ap (λ (l : List Item). if s.no_comments then [] else spaced_lines number (indentation s level) Nothing (10 ∷ t) l) e
+          let x = subst (λ (y : Text). (if s.no_comments then [] else spaced_lines number (indentation s level) at_start y k.items) ≡ t) (append-nil t) k.text in
+          let z = subst (λ (y : Text). past_items s.no_comments at_start y k.items ≡ read [] (again b')) (append-nil t) k.state in (
+            ap (λ (l : List Item). if s.no_comments then [] else spaced_lines number (indentation s level) at_start (10 ∷ t) l) e
                 ∙ ap (λ (y : Text). if s.no_comments then [] else y) (spaced_first number (indentation s level) t k.items) ∙ x,
-            ap (past_items s.no_comments Nothing (10 ∷ t)) e ∙ past_first s.no_comments t k.items ∙ z ∙ read_nothing (again b'),
+            ap (past_items s.no_comments at_start (10 ∷ t)) e ∙ past_first s.no_comments t k.items ∙ z ∙ read_nothing (again b'),
           )
 
 pass_det : {x : Bool} {b p q : Before} {place : Text} → Passes x b place p → Passes x b place q → q ≡ p
@@ -108,14 +109,20 @@ newline_there : list_any is_newline_char (10 ∷ []) ≡ true
 unfolding is_newline_char
 newline_there = refl
 
-line_ended : (t : Text) → past_node (t ++ (10 ∷ [])) ≡ Thing 0 1
+lf_last : (t : Text) → last_in (t ++ (10 ∷ [])) ≡ Other
+lf_last [] = refl
+lf_last (c ∷ []) = refl
+lf_last (c ∷ d ∷ t) = lf_last (d ∷ t)
+
+line_ended : (t : Text) → past_node (t ++ (10 ∷ [])) ≡ Thing 0 1 Other
 line_ended t =
-    ap (λ (x : Bool). Thing 0 (one_if x)) (list_any-append is_newline_char t (10 ∷ []) ∙ ap (λ (x : Bool). list_any is_newline_char t || x) newline_there ∙ or_true (list_any is_newline_char t))
+    ap (Thing 0 (one_if (list_any is_newline_char (t ++ (10 ∷ []))))) (lf_last t)
+    ∙ ap (λ (x : Bool). Thing 0 (one_if x) Other) (list_any-append is_newline_char t (10 ∷ []) ∙ ap (λ (x : Bool). list_any is_newline_char t || x) newline_there ∙ or_true (list_any is_newline_char t))
 
 -- the number of blank lines is at least one
 module _ (n : ℕ) (s : Settings) (ok : list_all is_space s.indent ≡ true) where
-  spaces_none : (level : ℕ) → newlines 32 (indentation s level) ≡ 0
-  spaces_none level = subst (λ (t : Text). newlines 32 t ≡ 0) (append-nil (indentation s level)) (spaces_count 32 (indentation s level) [] (level_spaces s.indent ok level) tt)
+  spaces_none : (level : ℕ) → newlines Other (indentation s level) ≡ 0
+  spaces_none level = subst (λ (t : Text). newlines Other t ≡ 0) (append-nil (indentation s level)) (spaces_count (indentation s level) [] (level_spaces s.indent ok level) tt)
 
   before_stays : (level : ℕ) (has : Bool) (b : Before) (f : NodeFormat) (k l : NodeTexts) (w : SpacesTexts (suc n) s level has b f k) → SpacesTexts (suc n) s level has (again b) (line_of (indentation s level) k) l
       → l.before ≡ k.before
@@ -138,7 +145,7 @@ module _ (n : ℕ) (s : Settings) (ok : list_all is_space s.indent ≡ true) whe
       → l.behind ≡ k.behind
   behind_stays level has b f k l w v =
       (stay (suc n) s ok level (past_node f.terminator) w.behind_it v.behind_it k.behind [] l.behind (node_known level has b f k w)
-      (subst (λ (t : Text). Spaces (suc n) s level (Thing 0 1) t l.behind v.behind_it) (sym (append-nil k.behind))
+      (subst (λ (t : Text). Spaces (suc n) s level (Thing 0 1 Other) t l.behind v.behind_it) (sym (append-nil k.behind))
       (subst (λ (c : Before). Spaces (suc n) s level c k.behind l.behind v.behind_it) (line_ended k.comment) v.behind))).0
 
   texts_stay : (level : ℕ) (has : Bool) (b : Before) (f : NodeFormat) (k l : NodeTexts) → SpacesTexts (suc n) s level has b f k → SpacesTexts (suc n) s level has (again b) (line_of (indentation s level) k) l
@@ -166,8 +173,8 @@ module _ (n : ℕ) (s : Settings) (ok : list_all is_space s.indent ≡ true) whe
       let same : w.behind_it ≡ p = pass_det x (spaces_pass w.behind) in
       let z : Passes s.no_comments (past_node (k.comment ++ (10 ∷ []))) k.behind q =
       subst (λ (o : Option NodeFormat). Passes s.no_comments (past_node (or_empty o).terminator) (or_empty o).trailing q) e y in
-      let z' : Passes s.no_comments (Thing 0 1) (k.behind ++ []) q =
-      subst (λ (t : Text). Passes s.no_comments (Thing 0 1) t q) (sym (append-nil k.behind)) (subst (λ (c : Before). Passes s.no_comments c k.behind q) (line_ended k.comment) z) in
+      let z' : Passes s.no_comments (Thing 0 1 Other) (k.behind ++ []) q =
+      subst (λ (t : Text). Passes s.no_comments (Thing 0 1 Other) t q) (sym (append-nil k.behind)) (subst (λ (c : Before). Passes s.no_comments c k.behind q) (line_ended k.comment) z) in
       pass_stays (suc n) s ok level (past_node f.terminator) w.behind_it q k.behind [] (node_known level has b f k w) z' ∙ read_nothing (again w.behind_it) ∙ ap again same
 
   node_passes : (level : ℕ) (b p q : Before) (m m' : Node) → IsSpacedNode (suc n) s level b m m' → PassesNode (suc n) s m p → PassesNode (suc n) s m' q → q ≡ again p
@@ -204,11 +211,11 @@ module _ (n : ℕ) (s : Settings) (ok : list_all is_space s.indent ≡ true) whe
   trailing_stays level last last' next next' place t u r a g e c =
       (stay (suc n) s ok level last next next' t r u (known (suc n) s ok level last next place t a r g) (subst (λ (x : Before). Spaces (suc n) s level x (t ++ r) u next') e c)).0
 
-  leading_stays : (level : ℕ) (b c : Before) (place t u : Text) → Spaces (suc n) s level Nothing place t b → Spaces (suc n) s level Nothing (without_bom t) u c → (u ≡ t) × (c ≡ again b)
+  leading_stays : (level : ℕ) (b c : Before) (place t u : Text) → Spaces (suc n) s level at_start place t b → Spaces (suc n) s level at_start (without_bom t) u c → (u ≡ t) × (c ≡ again b)
   leading_stays level b c place t u a d =
-      let k = known (suc n) s ok level Nothing b place t a [] GapItems.none in
+      let k = known (suc n) s ok level at_start b place t a [] GapItems.none in
       let g : GapItems t k.items = subst (λ (x : Text). GapItems x k.items) (append-nil t) k.gap in
-      let z = stay (suc n) s ok level Nothing b c t [] u k (subst (λ (x : Text). Spaces (suc n) s level Nothing x u c) (gap_without_bom t g ∙ sym (append-nil t)) d) in
+      let z = stay (suc n) s ok level at_start b c t [] u k (subst (λ (x : Text). Spaces (suc n) s level at_start x u c) (gap_without_bom t g ∙ sym (append-nil t)) d) in
       (z.0, z.1 ∙ read_nothing (again b))
 
   content_stays : (level : ℕ) (b c : Before) (ns ns' : Nodes) (f : DocumentFormat) (g h : Option DocumentFormat) → AreSpacedNodes (suc n) s level b ns ns'
@@ -227,7 +234,7 @@ module _ (n : ℕ) (s : Settings) (ok : list_all is_space s.indent ≡ true) whe
       let z = subst (λ (o : Option DocumentFormat). IsSpacedBraced (suc n) s level ns' (or_empty_document o) c h) e second in
       let v = z.2 in
       let ind = indentation s level in
-      let l = stay_first (suc n) s ok (level + 1) b c x z.0 (known (suc n) s ok (level + 1) Nothing b (without_bom f.leading) x w.leading [] GapItems.none) v.leading in
+      let l = stay_first (suc n) s ok (level + 1) b c x z.0 (known (suc n) s ok (level + 1) at_start b (without_bom f.leading) x w.leading [] GapItems.none) v.leading in
       let last = nodes_pass (level + 1) b w.last v.last ns ns' nodes w.passes (subst (λ (d : Before). PassesNodes (suc n) s d ns' v.last) l.1 v.passes) in
       let t = trailing_stays (level + 1) w.last v.last w.behind_it v.behind_it f.trailing y z.1 (newline_if_none ns ++ ind) w.trailing (alone (joined (newline_if ns) (indented s ok level))) last
       (subst (λ (q : Text). Spaces (suc n) s (level + 1) v.last q z.1 v.behind_it) (append_assoc y (newline_if_none ns) ind) v.trailing) in
@@ -287,6 +294,6 @@ document_stays (suc n) s level ok keep d d' d'' f m g = document_again n s ok ke
 
 -- of a node that is laid out alone
 pub node_stays : (number : ℕ) (s : Settings) (level : ℕ) → list_all is_space s.indent ≡ true → s.entry_autoformate_keep ≡ false → (m m' m'' : Node)
-    → IsSpacedNode number s level Nothing m m' → NodeKeepsNone m → IsSpacedNode number s level Nothing m' m'' → m'' ≡ m'
-node_stays zero s level ok keep m m' m'' f k g = plain.node_stays s level ok keep m m' m'' (node_formatted s level Nothing m m' f) k (node_formatted s level Nothing m' m'' g)
-node_stays (suc n) s level ok keep m m' m'' f k g = node_again n s ok keep level Nothing m m' m'' f k g
+    → IsSpacedNode number s level at_start m m' → NodeKeepsNone m → IsSpacedNode number s level at_start m' m'' → m'' ≡ m'
+node_stays zero s level ok keep m m' m'' f k g = plain.node_stays s level ok keep m m' m'' (node_formatted s level at_start m m' f) k (node_formatted s level at_start m' m'' g)
+node_stays (suc n) s level ok keep m m' m'' f k g = node_again n s ok keep level at_start m m' m'' f k g

@@ -11,13 +11,12 @@ use Rattle.kdl_items.specs.Items.{Item, GapItems}
 use Rattle.kdl_items.specs.Written.{item_text, line_text, on_line}
 use Rattle.kdl_items.proofs.Listing.ItemsUnique.{gap_items_det}
 use Rattle.kdl_items.proofs.Rewriting.LinesAgain.{AreStanding, gap_items, one_line, one_gap, spaces_before, spaces_gap}
-use Rattle.kdl_fmt.specs.Blank.{after_item, blank_lines, empty_lines, read, spaced_lines}
+use Rattle.kdl_fmt.specs.Blank.{after_item, blank_lines, empty_lines, past_item, read, spaced_lines}
 use Rattle.kdl_fmt.specs.Comments.{ItemsIn}
 use Rattle.kdl_fmt.specs.Config.{Settings, indentation}
 use Rattle.kdl_fmt.specs.Spaced.{SpacedLines, Spaces, SpacesTexts}
 use Rattle.kdl_fmt.specs.WithComments.{NodeTexts}
 use Rattle.kdl_fmt.specs.declared.blank.Before.{Before}
-use Rattle.kdl_fmt.specs.declared.blank.Before.TheVariants.{Thing}
 use Rattle.kdl_fmt.proofs.Keeping.GapFronts.{Front, nothing, joined, newline, kept_front}
 use Rattle.kdl_fmt.proofs.Keeping.KeptPlaces.{newline_gap, kept_gap}
 
@@ -38,14 +37,14 @@ module _ (number : ℕ) (ind : Text) (ok : list_all is_space ind ≡ true) where
   all_items : (b : Before) (s : Text) (is : List Item) → AreStanding is → {r : Text} {js : List Item} → GapItems r js → GapItems (spaced_lines number ind b s is ++ r) (map on_line is ++ js)
   all_items b s [] a g = g
   all_items b s (i ∷ is) a {r} {js} g =
-      rw (line_joined (empty_lines number (read s b)) ind (line_text (item_text i)) (spaced_lines number ind (Thing 0 0) (after_item i s) is) r)
-      ((times_front (min number (blank_lines (read s b)))).items (spaces_before ind ok (one_line a.0 (all_items (Thing 0 0) (after_item i s) is a.1 g))))
+      rw (line_joined (empty_lines number (read s b)) ind (line_text (item_text i)) (spaced_lines number ind (past_item false i (read s b)) (after_item i s) is) r)
+      ((times_front (min number (blank_lines (read s b)))).items (spaces_before ind ok (one_line a.0 (all_items (past_item false i (read s b)) (after_item i s) is a.1 g))))
 
   all_gap : (b : Before) (s : Text) (is : List Item) → AreStanding is → {t r : Text} → Gap true t r → Gap true (spaced_lines number ind b s is ++ t) r
   all_gap b s [] a g = g
   all_gap b s (i ∷ is) a {t} {r} g =
-      rw (line_joined (empty_lines number (read s b)) ind (line_text (item_text i)) (spaced_lines number ind (Thing 0 0) (after_item i s) is) t)
-      (times_gap (min number (blank_lines (read s b))) (spaces_gap ind ok (one_gap a.0 (all_gap (Thing 0 0) (after_item i s) is a.1 g))))
+      rw (line_joined (empty_lines number (read s b)) ind (line_text (item_text i)) (spaced_lines number ind (past_item false i (read s b)) (after_item i s) is) t)
+      (times_gap (min number (blank_lines (read s b))) (spaces_gap ind ok (one_gap a.0 (all_gap (past_item false i (read s b)) (after_item i s) is a.1 g))))
 
   pub spaced_items : (b : Before) (s : Text) {p : Text} (is : List Item) → GapItems p is → {r : Text} {js : List Item} → GapItems r js → GapItems (spaced_lines number ind b s is ++ r) (map on_line is ++ js)
   spaced_items b s is d g = all_items b s is (gap_items d) g

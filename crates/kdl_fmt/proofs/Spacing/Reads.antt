@@ -66,8 +66,8 @@ no_text true = refl
 no_text false = refl
 
 pub read_nothing : (b : Before) → read [] b ≡ b
-read_nothing Nothing = refl
-read_nothing (Thing most n) = let e : n + 0 ≡ n = omega arith in ap (Thing most) e
+read_nothing (Nothing l) = refl
+read_nothing (Thing most n l) = let e : n + 0 ≡ n = omega arith in ap (λ (k : ℕ). Thing most k l) e
 
 pub lines_empty : (number : ℕ) (s : Settings) (level : ℕ) (b : Before) (place t : Text) → (number ≡ 0 → ⊥) → place ≡ [] → t ≡ [] → SpacedLines number s level b place t b
 lines_empty ℕ.zero s level b place t h p e = absurd (h refl)

@@ -3,14 +3,13 @@ use Rattle.std.proofs.Common.{◌≡◌, ℕ, ◌+◌, Bool, [], ◌++◌, refl,
 use Rattle.std.proofs.Math.Nat.{zero-min}
 use Rattle.kdl_text.specs.Chars.{Text, times}
 use Rattle.kdl_grammar.specs.Tree.{NodeFormat, DocumentFormat, Head, Node, node, Children, no_children, children, Document, document, Nodes, none, first}
-use Rattle.kdl_fmt.specs.Blank.{blank_lines, empty_lines}
+use Rattle.kdl_fmt.specs.Blank.{at_start, blank_lines, empty_lines}
 use Rattle.kdl_fmt.specs.Config.{Settings}
 use Rattle.kdl_fmt.specs.Formatted.{or_empty, or_empty_document}
 use Rattle.kdl_fmt.specs.Kept.{KeptLines}
 use Rattle.kdl_fmt.specs.Spaced.{SpacesTexts, IsSpacedHead, PassesNode, PassesNodes, SpacesContent, IsSpacedNode, IsSpacedChildren, AreSpacedNodes, IsSpacedDocument}
 use Rattle.kdl_fmt.specs.WithComments.{NodeTexts, KeepsTexts, IsFormattedHead, ContentTexts, has_block, IsFormattedNode, IsFormattedChildren, AreFormattedNodes, IsFormattedDocument}
 use Rattle.kdl_fmt.specs.declared.blank.Before.{Before}
-use Rattle.kdl_fmt.specs.declared.blank.Before.TheVariants.{Nothing}
 
 pub no_lines : (b : Before) → empty_lines 0 b ≡ []
 no_lines b = ap (λ (n : ℕ). times n 10) (zero-min (blank_lines b))
@@ -28,8 +27,8 @@ module _ (s : Settings) where
   texts_spaced : (level : ℕ) (has : Bool) (b : Before) (f : NodeFormat) (k : NodeTexts) → KeepsTexts s level has f k → SpacesTexts 0 s level has b f k
   texts_spaced level has b f k w = record {
     lines = k.before;
-    at_node = Nothing;
-    behind_it = Nothing;
+    at_node = at_start;
+    behind_it = at_start;
     leading = w.before;
     before = sym (append-nil k.before);
     before_block = w.before_block;
@@ -51,18 +50,18 @@ module _ (s : Settings) where
   content_formatted : (level : ℕ) (ns : Nodes) (f : DocumentFormat) (b : Before) (before behind : Text) → SpacesContent 0 s level ns f b before behind → ContentTexts s level f before behind
   content_formatted level ns f b before behind w = record { leading = w.leading; trailing = w.trailing }
 
-  node_passed : (n : Node) → PassesNode 0 s n Nothing
+  node_passed : (n : Node) → PassesNode 0 s n at_start
   node_passed (node h k) = tt
 
   last_passed : (b : Before) (ns : Nodes) → (e : Before) × PassesNodes 0 s b ns e
   last_passed b none = (b, refl)
-  last_passed b (first n none) = (Nothing, node_passed n)
+  last_passed b (first n none) = (at_start, node_passed n)
   last_passed b (first n (first m ns)) = last_passed b (first m ns)
 
   content_spaced : (level : ℕ) (ns : Nodes) (f : DocumentFormat) (b : Before) (before behind : Text) → ContentTexts s level f before behind → SpacesContent 0 s level ns f b before behind
   content_spaced level ns f b before behind w =
       let e = last_passed b ns in
-      record { last = e.0; behind_it = Nothing; leading = w.leading; passes = e.1; trailing = w.trailing }
+      record { last = e.0; behind_it = at_start; leading = w.leading; passes = e.1; trailing = w.trailing }
 
   mutual
     pub node_formatted : (level : ℕ) (b : Before) (n n' : Node) → IsSpacedNode 0 s level b n n' → IsFormattedNode s level n n'
@@ -90,13 +89,13 @@ module _ (s : Settings) where
     children_spaced level no_children (children d) c = absurd c
     children_spaced level (children (document f span ns)) no_children c = absurd c
     children_spaced level (children (document f span ns)) (children (document f' span' ns')) ((x, y, w, e), same, nodes, fits) =
-        (Nothing, (x, y, content_spaced (level + 1) ns (or_empty_document f) Nothing x y w, e), same, nodes_spaced (level + 1) Nothing ns ns' nodes, fits)
+        (at_start, (x, y, content_spaced (level + 1) ns (or_empty_document f) at_start x y w, e), same, nodes_spaced (level + 1) at_start ns ns' nodes, fits)
 
     nodes_spaced : (level : ℕ) (b : Before) (ns ns' : Nodes) → AreFormattedNodes s level ns ns' → AreSpacedNodes 0 s level b ns ns'
     nodes_spaced level b none none f = tt
     nodes_spaced level b none (first n' ns') f = absurd f
     nodes_spaced level b (first n ns) none f = absurd f
-    nodes_spaced level b (first n ns) (first n' ns') f = (Nothing, node_spaced level b n n' f.0, node_passed n, nodes_spaced level Nothing ns ns' f.1)
+    nodes_spaced level b (first n ns) (first n' ns') f = (at_start, node_spaced level b n n' f.0, node_passed n, nodes_spaced level at_start ns ns' f.1)
 
   pub document_formatted : (level : ℕ) (d d' : Document) → IsSpacedDocument 0 s level d d' → IsFormattedDocument s level d d'
   document_formatted level (document f span ns) (document f' span' ns') (b, (x, y, w, e), same, nodes) =
@@ -104,4 +103,4 @@ module _ (s : Settings) where
 
   pub document_spaced : (level : ℕ) (d d' : Document) → IsFormattedDocument s level d d' → IsSpacedDocument 0 s level d d'
   document_spaced level (document f span ns) (document f' span' ns') ((x, y, w, e), same, nodes) =
-      (Nothing, (x, y, content_spaced level ns (or_empty_document f) Nothing x y w, e), same, nodes_spaced level Nothing ns ns' nodes)
+      (at_start, (x, y, content_spaced level ns (or_empty_document f) at_start x y w, e), same, nodes_spaced level at_start ns ns' nodes)

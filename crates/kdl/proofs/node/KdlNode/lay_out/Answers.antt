@@ -2,7 +2,7 @@ use Rattle.std.proofs.Common.{rules, sym, ap, ◌∙◌, map}
 use Rattle.kdl.specs.Iterators.{child_nodes, nodes_in}
 use Rattle.kdl.specs.Tree.{node_tree}
 use Rattle.kdl.specs.declared.document.KdlDocument.TheViews.{out-KdlNode, roll-KdlNode, out-roll-KdlNode}
-use Rattle.kdl_fmt.specs.declared.blank.Before.TheVariants.{Nothing}
+use Rattle.kdl_fmt.specs.Blank.{at_start}
 use Rattle.kdl_fmt.specs.Formatted.{bare_node}
 use Rattle.kdl.proofs.LayOut.BlockSteps.{node_is, node_below, laid_below, bare_filled}
 use Rattle.kdl.proofs.LayOut.PartsLaid.{if_ok}
@@ -24,7 +24,7 @@ returns-clause-formatted c =
     let o = c.lay_out_below.new.children in
     let fields = record (out-KdlNode n) { children = o } in
     if_ok c.lay_out_below.result (λ l. l.0)
-    (laid_below c.lay_out_below.result c.args.layout.now c.args.level Nothing c.in_ok-first.first c.args.self.now n (roll-KdlNode fields) o (node_below n (roll-KdlNode fields) o (out-roll-KdlNode fields) c.lay_out_below.ensures.block)
+    (laid_below c.lay_out_below.result c.args.layout.now c.args.level at_start c.in_ok-first.first c.args.self.now n (roll-KdlNode fields) o (node_below n (roll-KdlNode fields) o (out-roll-KdlNode fields) c.lay_out_below.ensures.block)
     c.lay_out_own.ensures.block (c.in_ok-first.ensures.laid (search rules)).1 c.lay_out_below.ensures.laid)
 
 pub returns-clause-well_formed : goal.returns-clause-well_formed
@@ -33,5 +33,5 @@ returns-clause-well_formed c =
     let o = c.lay_out_below.new.children in
     let fields = record (out-KdlNode n) { children = o } in
     if_ok c.lay_out_below.result (λ l. l.1)
-    (laid_below c.lay_out_below.result c.args.layout.now c.args.level Nothing c.in_ok-first.first c.args.self.now n (roll-KdlNode fields) o (node_below n (roll-KdlNode fields) o (out-roll-KdlNode fields) c.lay_out_below.ensures.block)
+    (laid_below c.lay_out_below.result c.args.layout.now c.args.level at_start c.in_ok-first.first c.args.self.now n (roll-KdlNode fields) o (node_below n (roll-KdlNode fields) o (out-roll-KdlNode fields) c.lay_out_below.ensures.block)
     c.lay_out_own.ensures.block (c.in_ok-first.ensures.laid (search rules)).1 c.lay_out_below.ensures.laid)
