@@ -51,7 +51,7 @@ fn print_rate(rt: &HostRuntime, rate: u128) -> io::Result<()> {
     print!(rt; "{speed:>9}")
 }
 
-/// Tenths of megabytes of the text in a second.
+/// The speed of the call on the text, in tenths of megabytes per second.
 fn rate(rt: &HostRuntime, call: Call, text: &str) -> io::Result<u128> {
     let time = least_time(rt, call, text, turns(text))?;
     Ok((text.len() as u128).saturating_mul(10_000) / time.as_nanos().max(1))

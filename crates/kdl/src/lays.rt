@@ -151,14 +151,17 @@ impl Blocks {
 }
 
 /// Returns what comes before the text after the nodes, which are not laid out, or `None` if there are no nodes.
-pub(crate) fn behind_nodes(nodes: &[KdlNode], layout: &Layout) -> Result<Option<Before>, AllocError>
+pub(crate) fn before_trailing(
+    nodes: &[KdlNode],
+    layout: &Layout,
+) -> Result<Option<Before>, AllocError>
     ensures end { IfOk result (λ o. newline_if (is_none o) ≡ newline_if_none (nodes_tree nodes.now)) }
     ensures passes { IfOk result (λ o. (b : Before)
         → PassesNodes layout.now.blank_lines (settings layout.now.config) b
         (nodes_tree nodes.now) (unwrap_or o b)) }
 {
     match nodes.last() {
-        Some(node) => Ok(Some(node.behind(layout)?)),
+        Some(node) => Ok(Some(node.before_next(layout)?)),
         None => Ok(None),
     }
 }

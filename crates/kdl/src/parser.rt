@@ -90,7 +90,7 @@ impl KdlDocument {
         ensures edited { IfOk result (λ d. (e : Document)
             → EachDocument IsEdited (document_tree d) e
             → IsDocument true (print_document e 0) (document_data e)) }
-        // It reads back, and so it does after the edits that say so.
+        // It reads back, also after the edits whose contracts say so.
         ensures reads { IfOk result (λ d. DocumentReadsBack d) }
     {
         let mut steps = Steps::new();
@@ -203,7 +203,7 @@ impl KdlNode {
             → IsSyntax result → ⊥ }
         ensures former { (x : data'.Node) → IsFormerNodeText (chars text.now) x
             → IfOk result (λ n. node_says n ≡ x) }
-        // It reads back, and so it does after the edits that say so.
+        // It reads back, also after the edits whose contracts say so.
         ensures reads { IfOk result (λ n. NodeReadsBack n) }
     {
         read_node(alloc, text)

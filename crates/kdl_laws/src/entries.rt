@@ -60,7 +60,7 @@ pub fn unambiguous_entry()
     ensures { OneEntry }
 {}
 
-/// Equal formats leave equal hashers equal: each format's hash writes the same bytes.
+/// Equal formats leave equal hashers equal: their hashes write the same bytes.
 pub fn hash_formats<H: Hasher>(a: &KdlEntryFormat, b: &KdlEntryFormat, one: &mut H, other: &mut H)
     requires { entry_format_tree a.now ≡ entry_format_tree b.now }
     ensures first { one.new ≡ fold H.write one.old (⟦<KdlEntryFormat as Hash>⟧.hash_input a.now) }
@@ -72,7 +72,7 @@ pub fn hash_formats<H: Hasher>(a: &KdlEntryFormat, b: &KdlEntryFormat, one: &mut
     b.hash(other);
 }
 
-/// Equal identifiers, of any spans, leave equal hashers equal: the hash of the first writes the same bytes to both.
+/// Equal identifiers, of any spans, leave equal hashers equal: their hashes write the same bytes.
 pub fn hash_identifiers<H: Hasher>(a: &KdlIdentifier, b: &KdlIdentifier, one: &mut H, other: &mut H)
     requires { without_span (identifier_tree a.now) ≡ without_span (identifier_tree b.now) }
     ensures first { one.new ≡ fold H.write one.old (⟦<KdlIdentifier as Hash>⟧.hash_input a.now) }
@@ -84,7 +84,7 @@ pub fn hash_identifiers<H: Hasher>(a: &KdlIdentifier, b: &KdlIdentifier, one: &m
     b.hash(other);
 }
 
-/// Equal entries, of any spans, leave equal hashers equal: the hash of the first writes the same bytes to both.
+/// Equal entries, of any spans, leave equal hashers equal: their hashes write the same bytes.
 pub fn hash_entries<H: Hasher>(a: &KdlEntry, b: &KdlEntry, one: &mut H, other: &mut H)
     requires { without_spans (entry_tree a.now) ≡ without_spans (entry_tree b.now) }
     ensures first { one.new ≡ fold H.write one.old (⟦<KdlEntry as Hash>⟧.hash_input a.now) }

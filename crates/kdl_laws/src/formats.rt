@@ -20,7 +20,7 @@ pub fn equal_document_formats(a: &KdlDocumentFormat, b: &KdlDocumentFormat) -> b
     a == b
 }
 
-/// Equal formats leave equal hashers equal: each format's hash writes the same bytes.
+/// Equal formats leave equal hashers equal: their hashes write the same bytes.
 pub fn hash_node_formats<H: Hasher>(
     a: &KdlNodeFormat,
     b: &KdlNodeFormat,
@@ -37,7 +37,7 @@ pub fn hash_node_formats<H: Hasher>(
     b.hash(other);
 }
 
-/// Equal formats leave equal hashers equal: each format's hash writes the same bytes.
+/// Equal formats leave equal hashers equal: their hashes write the same bytes.
 pub fn hash_document_formats<H: Hasher>(
     a: &KdlDocumentFormat,
     b: &KdlDocumentFormat,

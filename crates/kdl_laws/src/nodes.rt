@@ -26,7 +26,7 @@ pub fn equal_documents(a: &KdlDocument, b: &KdlDocument) -> bool
     a == b
 }
 
-/// Equal nodes, of any spans, leave equal hashers equal: the hash of the first writes the same bytes to both.
+/// Equal nodes, of any spans, leave equal hashers equal: their hashes write the same bytes.
 pub fn hash_nodes<H: Hasher>(a: &KdlNode, b: &KdlNode, one: &mut H, other: &mut H)
     requires { node_without_spans (node_tree a.now) ≡ node_without_spans (node_tree b.now) }
     ensures first { one.new ≡ fold H.write one.old (⟦<KdlNode as Hash>⟧.hash_input a.now) }
@@ -37,7 +37,7 @@ pub fn hash_nodes<H: Hasher>(a: &KdlNode, b: &KdlNode, one: &mut H, other: &mut 
     b.hash(other);
 }
 
-/// Equal documents, of any spans, leave equal hashers equal: the hash of the first writes the same bytes to both.
+/// Equal documents, of any spans, leave equal hashers equal: their hashes write the same bytes.
 pub fn hash_documents<H: Hasher>(a: &KdlDocument, b: &KdlDocument, one: &mut H, other: &mut H)
     requires { document_without_spans (document_tree a.now)
         ≡ document_without_spans (document_tree b.now) }

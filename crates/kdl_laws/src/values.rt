@@ -64,7 +64,7 @@ pub fn values_are_ordered()
     ensures { IsTotalOrder ⟦<KdlValue as Ord>⟧.cmp }
 {}
 
-/// Equal floats leave equal hashers equal: the hash of the first writes the same bytes to both.
+/// Equal floats leave equal hashers equal: their hashes write the same bytes.
 pub fn hash_floats<H: Hasher>(a: &KdlFloat, b: &KdlFloat, one: &mut H, other: &mut H)
     requires { float_text_of a.now ≡ float_text_of b.now }
     ensures first { one.new ≡ fold H.write one.old (⟦<KdlFloat as Hash>⟧.hash_input a.now) }
@@ -75,7 +75,7 @@ pub fn hash_floats<H: Hasher>(a: &KdlFloat, b: &KdlFloat, one: &mut H, other: &m
     b.hash(other);
 }
 
-/// Equal values leave equal hashers equal: the hash of the first writes the same bytes to both.
+/// Equal values leave equal hashers equal: their hashes write the same bytes.
 pub fn hash_values<H: Hasher>(a: &KdlValue, b: &KdlValue, one: &mut H, other: &mut H)
     requires { value_tree a.now ≡ value_tree b.now }
     ensures first { one.new ≡ fold H.write one.old (⟦<KdlValue as Hash>⟧.hash_input a.now) }

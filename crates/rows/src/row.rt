@@ -182,7 +182,7 @@ impl<'a> Row<'a> {
         self.run_places(&case)
     }
 
-    /// Tests the text, with a line `set each` once for each place.
+    /// Tests the text, and for a line `set each` tests it once for each place.
     fn run_places(&self, case: &Case<'_>) -> Result<(), Fault> {
         if self.setting("set each").is_none() {
             return self.run_patterns(case);

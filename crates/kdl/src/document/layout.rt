@@ -16,7 +16,7 @@ ghost use Rattle.std.specs.Prelude.{◌≡◌, ◌+◌, ◌<◌, ◌^◌, IfOk, 
 ghost use Rattle.std.specs.Str.{chars};
 
 use crate::document::KdlDocument;
-use crate::lays::{behind_nodes, lay_out_nodes};
+use crate::lays::{before_trailing, lay_out_nodes};
 use kdl_fmt::layout::{lay_out_braces, lay_out_content};
 use kdl_fmt::{Before, FormatConfig, Layout};
 use std::alloc::AllocError;
@@ -174,7 +174,7 @@ impl KdlDocument {
     {
         let alloc = *self.nodes.allocator();
         let level = layout.config.indent_level;
-        let last = behind_nodes(&self.nodes, layout)?;
+        let last = before_trailing(&self.nodes, layout)?;
         let first = lay_out_content(&mut self.format, alloc, layout, level, last)?;
         lay_out_nodes(&mut self.nodes, layout, level, first)
     }
@@ -201,7 +201,7 @@ impl KdlDocument {
             return Err(AllocError);
         };
         let alloc = *self.nodes.allocator();
-        let last = behind_nodes(&self.nodes, layout)?;
+        let last = before_trailing(&self.nodes, layout)?;
         lay_out_braces(&mut self.format, alloc, layout, inner, before, last)
     }
 }

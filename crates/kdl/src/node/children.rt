@@ -42,7 +42,7 @@ impl KdlNode {
     pub fn push_child(&mut self, node: KdlNode) -> Result<(), (KdlNode, AllocError)>
         ensures nodes { OnOk result
             (ChildPut (length (child_nodes self.old)) node self.old self.new) }
-        // With a child that reads back, it reads back wherever it did.
+        // With a child that reads back, the node reads back wherever it did before.
         ensures reads { NodeReadsBack node → ReadsAs self.old self.new }
         ensures exact { OnOk result
             (ChildPutExactly (length (child_nodes self.old)) node self.old self.new) }
@@ -70,7 +70,7 @@ impl KdlNode {
     pub fn insert_child(&mut self, index: usize, node: KdlNode) -> Result<(), (KdlNode, AllocError)>
         requires { index ≤ length (child_nodes self.old) }
         ensures nodes { OnOk result (ChildPut index node self.old self.new) }
-        // With a child that reads back, it reads back wherever it did.
+        // With a child that reads back, the node reads back wherever it did before.
         ensures reads { NodeReadsBack node → ReadsAs self.old self.new }
         ensures exact { OnOk result (ChildPutExactly index node self.old self.new) }
         ensures back { IfErr result (λ e. e.0 ≡ node) }
@@ -86,7 +86,7 @@ impl KdlNode {
     fn put_in_new_block(&mut self, node: KdlNode) -> Result<(), (KdlNode, AllocError)>
         requires { (out-KdlNode self.old).children ≡ None }
         ensures nodes { OnOk result (ChildPut 0 node self.old self.new) }
-        // With a child that reads back, it reads back wherever it did.
+        // With a child that reads back, the node reads back wherever it did before.
         ensures reads { NodeReadsBack node → ReadsAs self.old self.new }
         ensures exact { OnOk result (ChildPutExactly 0 node self.old self.new) }
         ensures back { IfErr result (λ e. e.0 ≡ node) }

@@ -105,7 +105,7 @@ impl KdlNode {
     pub fn clear(&mut self)
         ensures items { entries_of self.new ≡ [] }
         ensures rest { self.new ≡ with_entries self.old (held_entries self.new) }
-        // It reads back as before.
+        // The node reads back as before.
         ensures reads { ReadsAs self.old self.new }
     {
         edit::clear(&mut self.entries);
@@ -130,7 +130,7 @@ impl KdlNode {
             (IsAdded (entry_tree entry).value self.old self.new)) }
         ensures sets { OnOk result (IfSome (entry_tree entry).name (λ name.
             IsSet (encode_utf8_all name.value) (entry_tree entry).value self.old self.new)) }
-        // With an entry that reads back, or is without format and spelling, it reads back as before.
+        // With an entry that reads back, or is without format and spelling, the node reads back as before.
         ensures reads { EntryReadsBack entry → ReadsAs self.old self.new }
         ensures reads_unformed { IsUnformed (entry_tree entry) → ReadsAs self.old self.new }
     {
@@ -180,7 +180,7 @@ impl KdlNode {
             IsSet name (entry_tree entry).value self.old self.new)) }
         ensures puts { OnOk result (IfSome (key_index key) (λ i.
             IsPutIn i (entry_tree entry).value self.old self.new)) }
-        // With an entry that reads back, or is without format and spelling, it reads back as before.
+        // With an entry that reads back, or is without format and spelling, the node reads back as before.
         ensures reads { EntryReads (under (sought key) (entry_tree entry))
             → ReadsAs self.old self.new }
         ensures reads_unformed { IsUnformed (under (sought key) (entry_tree entry))
@@ -206,7 +206,7 @@ impl KdlNode {
             IsExchangedInNode (piece_of result) [] self.old self.new }
         ensures takes { IfSome (key_name key) (λ name. IsTakenOut name self.old self.new) }
         ensures takes_at { IfSome (key_index key) (λ i. IsTakenOutAt i self.old self.new) }
-        // It reads back as before.
+        // The node reads back as before.
         ensures reads { ReadsAs self.old self.new }
     {
         edit::remove(&mut self.entries, key)
@@ -224,7 +224,7 @@ impl KdlNode {
         ensures items { IsFiltered (CalledAt F.FnMut) keep
             (entries_of self.old) (entries_of self.new) }
         ensures rest { self.new ≡ with_entries self.old (held_entries self.new) }
-        // It reads back as before.
+        // The node reads back as before.
         ensures reads { ReadsAs self.old self.new }
     {
         edit::retain(&mut self.entries, keep);
@@ -247,7 +247,7 @@ impl KdlNode {
         ensures stable { IsStableByClosure F.FnMut compare
             (entries_of self.old) (entries_of self.new) }
         ensures rest { self.new ≡ with_entries self.old (held_entries self.new) }
-        // It reads back as before.
+        // The node reads back as before.
         ensures reads { ReadsAs self.old self.new }
     {
         edit::sort_by(&mut self.entries, compare)
@@ -269,7 +269,7 @@ impl KdlNode {
         ensures stable { IsStableByKeyClosure F.FnMut K.cmp f
             (entries_of self.old) (entries_of self.new) }
         ensures rest { self.new ≡ with_entries self.old (held_entries self.new) }
-        // It reads back as before.
+        // The node reads back as before.
         ensures reads { ReadsAs self.old self.new }
     {
         edit::sort_by_key(&mut self.entries, f)

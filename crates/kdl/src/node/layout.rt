@@ -227,7 +227,7 @@ impl KdlNode {
     }
 
     /// Returns what comes before whatever follows the node. That is not laid out.
-    pub(crate) fn behind(&self, layout: &Layout) -> Result<Before, AllocError>
+    pub(crate) fn before_next(&self, layout: &Layout) -> Result<Before, AllocError>
         ensures { IfOk result (λ b. PassesAt layout.now (node_tree self.now) b) }
     {
         behind_line(&self.format, *self.entries.allocator(), layout)

@@ -2,7 +2,7 @@ use Rattle.std.proofs.Common.{refl}
 use Rattle.std.proofs.lemmas.Result.{IfOk-weaker}
 use Rattle.kdl.specs.declared.document.KdlDocument.TheViews.{out-KdlNode}
 use Rattle.kdl.proofs.LayOut.PartsLaid.{own_passes}
-use Rattle.kdl.proofs.node.KdlNode.behind.Goals as goal
+use Rattle.kdl.proofs.node.KdlNode.before_next.Goals as goal
 
 pub returns : goal.returns
 returns c = IfOk-weaker c.behind_line.result _ _ (λ b p. own_passes c.args.layout.now c.args.self.now b (out-KdlNode c.args.self.now).format refl p) c.behind_line.ensures

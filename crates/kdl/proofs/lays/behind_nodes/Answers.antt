@@ -1,6 +1,0 @@
-use Rattle.std.proofs.Common.{sym}
-use Rattle.kdl.proofs.LayOut.PartsLaid.{last_passes}
-use Rattle.kdl.proofs.lays.behind_nodes.Goals as goal
-
-pub returns-in_ok-behind-in-Some-clause-passes : goal.returns-in_ok-behind-in-Some-clause-passes
-returns-in_ok-behind-in-Some-clause-passes c = λ b. last_passes c.args.layout.now c.args.nodes.now c.in-Some.node.now c.in_ok-behind-in-Some.field-0 b (sym c.in-Some.ensures.value) c.in_ok-behind-in-Some.ensures
