@@ -54,7 +54,7 @@ abbrev pub after_item : Item → Text → Text
 after_item i s = drop (length (item_text i)) (from_item s)
 
 -- what comes before a thing, in the same document or block: nothing; or another thing, with the most blank lines in the runs that are over since, and the newlines so far in the run that goes on; and what comes last
--- nothing, where no text is before
+-- before the first text of a document or block
 abbrev pub at_start : Before
 at_start = Nothing Other
 

@@ -14,24 +14,24 @@ use kdl_text::chars::is_newline_char;
 use std::alloc::AllocError;
 use std::slice;
 
-/// What comes last before a character in the texts between two nodes, as far as it says whether a newline counts there.
+/// What comes last in the texts between two things, as far as it says whether the next newline counts.
 #[derive(Clone, Copy)]
 pub enum Last {
-    /// Anything else: a newline counts.
+    /// Anything else: the next newline counts.
     Other,
-    /// A CR: an LF belongs to the same newline.
+    /// A CR: an LF after it is part of the same newline.
     Cr,
-    /// The `\` of an escline, and spaces and block comments: a newline ends the escline, and does not count.
+    /// An escline that goes on: its `\`, and spaces and block comments. The next newline ends it, and does not count.
     Escline,
 }
 
 /// What comes before a node, or before an item between nodes, in the same document or block.
 #[derive(Clone, Copy)]
 pub enum Before {
-    /// No other node or item; and what comes last.
+    /// Nothing but spaces, newlines and items that are left out; and what comes last.
     Nothing(Last),
     /// Another node or item. The first number is the most blank lines in the runs that are over since, the second one
-    /// the newlines so far in the run that goes on; then what comes last in it.
+    /// the newlines so far in the run that goes on; and what comes last.
     Thing(usize, usize, Last),
 }
 

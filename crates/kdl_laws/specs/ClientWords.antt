@@ -31,7 +31,8 @@ pub use Rattle.kdl_laws.specs.Pieces.{IsPiece, IsPieceOf, said_entry_in}
 pub use Rattle.kdl_laws.specs.Pushed.{IsLineEnded, LastEnds}
 -- The data of a document with another value for an argument, and texts with another piece.
 pub use Rattle.kdl_laws.specs.ArgumentSet.{HasInstead, with_said_arg}
--- What layout makes of a text.
+-- What comes before a node that is laid out alone; what layout makes of a text.
+pub use Rattle.kdl_fmt.specs.Blank.{at_start}
 pub use Rattle.kdl_laws.specs.LaidOut.{IsLaidOut, IsSpacedOut}
 -- Whether two texts have the same bytes, or the same characters.
 pub use Rattle.kdl_parts.specs.EntryLists.{same_text}
