@@ -4,7 +4,7 @@ use Rattle.std.proofs.lemmas.List.{map-append}
 use Rattle.std.specs.List.{AllZip}
 use Rattle.kdl_entry.specs.declared.entry.KdlEntry.{KdlEntry}
 use Rattle.kdl_entry.specs.Tree.{identifier_tree, entry_tree}
-use Rattle.kdl_grammar.specs.Tree.{Document, document, Node, node, Nodes, none, first, join, listed_nodes, children_of}
+use Rattle.kdl_grammar.specs.Tree.{Document, document, Node, node, first, join, listed_nodes, children_of}
 use Rattle.kdl.specs.Tree.{head_tree, document_step, node_step, document_tree, node_tree, nodes_tree}
 use Rattle.kdl_parts.specs.Formats.{document_format_tree, node_format_tree}
 use Rattle.kdl.specs.declared.node.KdlNode.{KdlNode}
@@ -53,14 +53,6 @@ nodes_of-append (x ∷ xs) ys = ap (first x) (nodes_of-append xs ys)
 
 pub nodes_tree-append : (xs ys : List KdlNode) → nodes_tree (xs ++ ys) ≡ join (nodes_tree xs) (nodes_tree ys)
 nodes_tree-append xs ys = ap listed_nodes (map-append node_tree xs ys) ∙ nodes_of-append (map node_tree xs) (map node_tree ys)
-
-pub join_none : (ns : Nodes) → join ns none ≡ ns
-join_none none = refl
-join_none (first n ns) = ap (first n) (join_none ns)
-
-pub join_assoc : (ns ms ks : Nodes) → join (join ns ms) ks ≡ join ns (join ms ks)
-join_assoc none ms ks = refl
-join_assoc (first n ns) ms ks = ap (first n) (join_assoc ns ms ks)
 
 -- clones have the same trees
 pub entries_cloned : (xs ys : List KdlEntry) → AllZip (λ x y. entry_tree y ≡ entry_tree x) xs ys → map entry_tree ys ≡ map entry_tree xs

@@ -1,8 +1,8 @@
 //! Nodes.
 
-ghost use Rattle.kdl_grammar.specs.Tree.{node, children_of};
+ghost use Rattle.kdl_grammar.specs.Tree.{node};
 ghost use Rattle.kdl.specs.Said.{said_children, said_entries, said_name, said_type};
-ghost use Rattle.kdl.specs.Tree.{document_says, document_tree, node_says, node_tree};
+ghost use Rattle.kdl.specs.Tree.{document_says, node_says, node_tree};
 ghost use Rattle.kdl_parser.specs.Internal.NodeText.{text_by};
 ghost use Rattle.kdl_grammar.specs.Print.{print_node};
 ghost use Rattle.kdl.specs.Internal.Copied.{with_children};

@@ -75,9 +75,6 @@ turning_fails f a b over n t m x = record { most = omega (arith, t.most, still_l
 pub turning_stops : (f a b e : Here) (over : Bool) → over ≡ false → Turning f a over → Moves a b → Most 37 41 a b → Moves b e → Most 24 24 b e → Bounded 124 f e
 turning_stops f a b e over n t m x m' x' = record { most = omega (arith, t.most, still_left over n, fewer_bytes m, fewer_bytes m'); counts = omega (arith, t.counts, m.counts, m'.counts) }
 
-pub turning_ends : (f a : Here) (over : Bool) → Turning f a over → Bounded 124 f a
-turning_ends f a over t = record { most = omega (arith, t.most); counts = t.counts }
-
 -- where the cursor stays
 pub same_cursor : (a b : Here) → b ≡ a → Moves a b × Most 24 24 a b
 same_cursor a b e = (rw e (stays a), rw e (omega arith))

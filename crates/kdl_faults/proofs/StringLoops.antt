@@ -1,6 +1,6 @@
 -- The loops over the units of a string, of which the first fault is kept.
 use Rattle.std.proofs.Common.{◌≡◌, ℕ, ◌+◌, ◌-◌, ◌*◌, ◌≤◌, ◌++◌, Bool, ap, arith}
-use Rattle.std.specs.Prelude.{Option, None}
+use Rattle.std.specs.Prelude.{Option}
 use Rattle.kdl_text.specs.Chars.{Text}
 use Rattle.kdl_text.specs.Internal.Here.{Here, Spot, Skips, looked}
 use Rattle.kdl_text.specs.Spans.{bytes}
@@ -16,9 +16,6 @@ pub record Scanned (k c : ℕ) (f : Here) (kept : Option Found) (a : Here) : Typ
   pub fault : OnFound f kept a
   pub moves : Moves f a
   pub most : Most k c f a
-
-pub scan_begins : (k : ℕ) (f : Here) → Scanned k 0 f None f
-scan_begins k f = record { fault = tt; moves = stays f; most = omega arith }
 
 -- after a run of plain characters and a look at what follows them
 pub record AtUnit (f a b e : Here) (kept : Option Found) : Type 0 where

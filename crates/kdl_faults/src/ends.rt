@@ -1,6 +1,6 @@
 //! Value ends (KDL 2.0.0, Value): where a string, a number or a keyword may end.
 
-ghost use Rattle.kdl_faults.specs.Internal.Reading.{Most, IsEnd, IsUnclosed, OnUnclosed, StandsBehind};
+ghost use Rattle.kdl_faults.specs.Internal.Reading.{Most, IsEnd, OnUnclosed, StandsBehind};
 ghost use Rattle.kdl_text.specs.Chars.{begins};
 ghost use Rattle.kdl_text.specs.Internal.Here.{Stayed};
 ghost use Rattle.kdl_text.specs.Spans.{bytes};

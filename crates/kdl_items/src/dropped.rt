@@ -1,7 +1,7 @@
 //! What a slashdash drops.
 
 ghost use Rattle.kdl_lexer.specs.Internal.Handed.{Cuts, kind_view};
-ghost use Rattle.kdl_lexer.specs.Internal.Tokens.{newline, semicolon, space};
+ghost use Rattle.kdl_lexer.specs.Internal.Tokens.{newline, semicolon};
 ghost use Rattle.kdl_control.specs.Internal.Control.{at, finish, is_word};
 ghost use Rattle.kdl_items.specs.Internal.Passing.{follows_word, slashdash_in};
 ghost use Rattle.kdl_items.specs.Items.{ItemEnd};

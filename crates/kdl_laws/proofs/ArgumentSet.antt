@@ -1,5 +1,5 @@
 -- What a document says, and prints, once an argument has another value.
-use Rattle.std.proofs.Common.{◌≡◌, ℕ, suc, ◌+◌, Bool, true, false, not, nat_lt, length, List, [], ◌∷◌, ◌++◌, map, cond, set, Option, Some, None, IsSome, is_none, option_and_then, option_map, slice_get, string_bytes, IsUtf8, chars, refl, ap, ◌∙◌, sym, subst, arith, append_assoc, append-nil}
+use Rattle.std.proofs.Common.{◌≡◌, ℕ, suc, ◌+◌, Bool, true, false, not, nat_lt, length, List, [], ◌∷◌, ◌++◌, map, cond, set, Option, Some, None, is_none, option_map, string_bytes, IsUtf8, chars, refl, ap, ◌∙◌, sym, subst, arith, append_assoc, append-nil}
 use Rattle.std.proofs.lemmas.Option.{none-some}
 use Rattle.std.proofs.lemmas.Str.{IsUtf8-string_bytes}
 use Rattle.std.specs.List.{find, position_or_len}
@@ -21,12 +21,11 @@ use Rattle.kdl_parts.specs.EntryLists.{is_argument, nth_place, nth_step, same_te
 use Rattle.kdl_parts.specs.Written.{set_entry_there}
 use Rattle.kdl_parts.specs.declared.key.NodeKey.TheVariants.{Index}
 use Rattle.kdl.specs.Bytes.{IsExchanged, IsExchangedInNode}
-use Rattle.kdl.specs.Change.{with_entries}
 use Rattle.kdl.specs.DocumentLookups.{is_node_named, node_named, node_place, nodes_of, with_node_named, with_node_there}
 use Rattle.kdl.specs.Fields.{held_entries}
-use Rattle.kdl.specs.Lookups.{entries_of, found_entry, key_place, with_entry_there, with_found_entry}
+use Rattle.kdl.specs.Lookups.{entries_of, found_entry, key_place, with_found_entry}
 use Rattle.kdl.specs.ReadsBack.{DocumentReadsBack, EntryReadsBack, respelled}
-use Rattle.kdl.specs.Said.{has_no_key, is_called, said_name}
+use Rattle.kdl.specs.Said.{has_no_key, is_called}
 use Rattle.kdl.specs.Tree.{document_prints, document_says, document_tree, node_says, nodes_tree}
 use Rattle.kdl.specs.declared.document.KdlDocument.{KdlDocument}
 use Rattle.kdl.specs.declared.document.KdlDocument.TheViews.{out-KdlDocument, out-KdlNode, out-roll-KdlDocument}

@@ -16,7 +16,7 @@ pub mod ListExists
 pub mod PiecesOfText
 -- New entries have neither a format nor a spelling.
 pub mod NewEntries
--- A text has a list of items exactly where it may be in its place.
+-- Items before the nodes of a document, and in a terminator.
 pub mod PlaceItems
 -- Spans are not printed, and say nothing.
 pub mod SpansPrintNothing

@@ -1,5 +1,5 @@
 -- Names and arguments in memory, by what they say.
-use Rattle.std.proofs.Common.{◌≡◌, ℕ, List, IsUtf8, ap, chars, length, map, filter, sym, ◌∙◌}
+use Rattle.std.proofs.Common.{◌≡◌, ℕ, List, IsUtf8, ap, chars, length, filter, sym, ◌∙◌}
 use Rattle.std.proofs.lemmas.List.{length-map}
 use Rattle.std.proofs.lemmas.List.Sums.{length-filter}
 use Rattle.std.specs.List.{count_by}

@@ -52,10 +52,6 @@ pub name_compared : (o : Option KdlIdentifier) (k : KdlIdentifier) (b s : List �
 name_compared None k b s e u c = absurd (none-some _ (sym e))
 name_compared (Some i) k b s e u c = ap (λ t. same_text t s) (same_bytes b (string_bytes i.value) u (IsUtf8-string_bytes i.value) (c ∙ ap name_text e))
 
-pub no_name : (o : Option KdlIdentifier) (s : List ℕ) → None ≡ option_map identifier_tree o → false ≡ is_name s o
-no_name None s e = refl
-no_name (Some i) s e = absurd (none-some _ e)
-
 arguments_most : (es : List KdlEntry) → length (arguments es) ≤ length es
 arguments_most es = omega (arith, length-map (filter is_argument es) (λ e. value_tree e.value), length-filter is_argument es, count_by-le-length is_argument es)
 

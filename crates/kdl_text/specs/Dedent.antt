@@ -73,9 +73,3 @@ pub record Dedents (us : List LineUnit) (v : Text) : Type 0 where
   pub each : List Text
   pub values : LineValues prefix lines each
   pub value : v ≡ joined each
-
--- the value of lines under a given prefix
-pub record Lines (prefix us : List LineUnit) (v : Text) : Type 0 where
-  pub each : List Text
-  pub values : LineValues prefix (lines_of us) each
-  pub value : v ≡ joined each

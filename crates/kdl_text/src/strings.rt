@@ -11,10 +11,9 @@ ghost use Rattle.kdl_text.specs.MultiLine.{IsQuoted};
 ghost use Rattle.kdl_text.specs.Internal.Reading.{Moves, Costs};
 ghost use Rattle.kdl_text.specs.Strings as spec;
 ghost use Rattle.kdl_text.specs.Strings.{QuotedBody, StringUnit, IsUnit, HexNumber, Run, unit_value};
-ghost use Rattle.kdl_text.specs.declared.chars.Class.TheVariants.{Literal};
 ghost use Rattle.kdl_text.specs.declared.strings.StringFault.TheVariants.{Newline, Banned};
 ghost use Rattle.kdl_text.specs.declared.strings.StringFailure.TheVariants.{Memory, Fault};
-ghost use Rattle.std.specs.Prelude.{◌≡◌, ◌&&◌, ◌||◌, not, ℕ, true, false, ◌∷◌, ◌++◌, MatchOption, MatchResult, IfSome, IfNone, IfOk, IfErr, string_bytes};
+ghost use Rattle.std.specs.Prelude.{◌≡◌, ◌&&◌, ◌||◌, ℕ, true, false, ◌∷◌, ◌++◌, MatchOption, MatchResult, IfSome, IfNone, IfOk, IfErr, string_bytes};
 ghost use Rattle.std.specs.List.{list_all};
 ghost use Rattle.std.specs.Str.{chars, bytes_eq};
 

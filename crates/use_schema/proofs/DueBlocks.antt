@@ -149,14 +149,6 @@ next_due rules d found found' due ds due' x e f g h = rw (f, g) (λ b. (λ k. (h
       | inr c ↦ checked b (found_or_in rules x.above x.nodes b (subst (λ (z : Block). IsBreach rules z.above z.nodes b) (sym (only x y c)) i))
     ]
 
--- where nothing is due, all is found
-pub all_found : (rules : List Rule) (d : KdlDocument) (found : List BreachView) (due : List Block) (b : BreachView) → due ≡ [] → IsComplete rules d found due → Contains found b ↔ IsBreachIn rules d b
-all_found rules d found due b e h = (λ c. (h b).0 (inl c), λ i. left ((h b).1 i))
-  where
-    left : Contains found b ⊎ InBlocks rules due b → Contains found b
-    left (inl c) = c
-    left (inr (x, c, i)) = absurd (none_in_nil x (subst (λ (l : List Block). Contains l x) e c))
-
 -- how much is due: each block counts once, and so does each node and block in it
 abbrev size : Block → ℕ
 size x = 1 + count_nodes x.nodes

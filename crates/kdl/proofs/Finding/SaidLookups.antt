@@ -104,10 +104,6 @@ filter_mapped {A = A} {B = B} f p q h (x ∷ xs) = go (p x) (q (f x)) (h x) (fil
     go false true e k = cc
     go false false e k = k
 
-values_mapped : {A B C : Type 0} (f : A → B) (g : A → C) (h : B → Option C) → ((x : A) → Some (g x) ≡ h (f x)) → (xs : List A) → map g xs ≡ filter_map h (map f xs)
-values_mapped f g h e [] = refl
-values_mapped f g h e (x ∷ xs) = ap (λ l. g x ∷ l) (values_mapped f g h e xs) ∙ ap (λ o. cons_option o (filter_map h (map f xs))) (e x)
-
 given_mapped : {A B C : Type 0} (f : A → B) (g : A → Option C) (h : B → Option C) → ((x : A) → g x ≡ h (f x)) → (xs : List A) → filter_map g xs ≡ filter_map h (map f xs)
 given_mapped f g h e [] = refl
 given_mapped f g h e (x ∷ xs) = ap (λ o. cons_option o (filter_map g xs)) (e x) ∙ ap (cons_option (h (f x))) (given_mapped f g h e xs)

@@ -1,17 +1,16 @@
 -- Nodes and documents whose parts were laid out.
-use Rattle.std.proofs.Common.{◌≡◌, ℕ, suc, ◌+◌, Bool, true, false, List, [], ◌∷◌, length, map, Option, None, Some, option_map, refl, sym, ap, ◌∙◌, subst, Result, Ok, Err, IfOk, Vec, Global, arith}
-use Rattle.std.specs.Prelude.{is_some, slice_get, ◌<◌, ◌-◌}
+use Rattle.std.proofs.Common.{◌≡◌, ℕ, suc, ◌+◌, Bool, List, [], ◌∷◌, length, map, Option, None, Some, option_map, refl, sym, ap, ◌∙◌, subst, Result, Ok, Err, IfOk, Vec, Global, arith}
+use Rattle.std.specs.Prelude.{is_some, slice_get, ◌-◌}
 use Rattle.kdl_value.proofs.WellFormed.{text_scalars}
-use Rattle.kdl_entry.specs.Tree.{Identifier, identifier_tree, Entry, entry_tree, entry_data, unspelled, cleared}
+use Rattle.kdl_entry.specs.Tree.{identifier_tree, entry_tree, entry_data, unspelled}
 use Rattle.kdl_text.specs.declared.span.SourceSpan.{SourceSpan}
-use Rattle.kdl_grammar.specs.Tree.{NodeFormat, document_data, Node, node, Nodes, listed_nodes, Document, document, Children, children_of, node_data, nodes_data, children_data, DocumentFormat}
+use Rattle.kdl_grammar.specs.Tree.{NodeFormat, document_data, Node, Nodes, listed_nodes, Document, document, children_of, node_data, nodes_data, children_data, DocumentFormat}
 use Rattle.kdl_fmt.specs.Config.{Settings, settings}
 use Rattle.kdl_fmt.specs.Spaced.{IsSpacedLine, IsSpacedContent, IsSpacedBraced, IsSpacedNode, IsSpacedChildren, AreSpacedNodes, IsSpacedDocument, PassesFormat, PassesNodes}
 use Rattle.kdl_fmt.specs.declared.blank.Before.{Before}
 use Rattle.kdl_fmt.specs.declared.config.Layout.{Layout}
 use Rattle.kdl_parts.specs.declared.format.KdlNodeFormat.{KdlNodeFormat}
-use Rattle.kdl_fmt.specs.Formatted.{or_empty, or_empty_document, newline_if_none, bare_node, bare_nodes, bare_children, bare_document}
-use Rattle.kdl_fmt.specs.Plain.{newline_if}
+use Rattle.kdl_fmt.specs.Formatted.{or_empty, or_empty_document, bare_node, bare_nodes, bare_document}
 use Rattle.kdl_fmt.specs.WellFormed.{IsWellFormedNode, AreWellFormed, AreWellFormedChildren, AreWellFormedEntries}
 use Rattle.kdl_fmt.specs.WithComments.{AreFormattedEntries, has_block}
 use Rattle.kdl_fmt.proofs.Entries.{scalars}
@@ -46,28 +45,6 @@ last_passes l [] n e b h p = absurd (cc)
 last_passes l (m ∷ []) n e b h p = let k : m ≡ n = cc in rw k p
 last_passes l (m ∷ o ∷ ns) n e b h p = let k : length (m ∷ o ∷ ns) - 1 ≡ suc (length (o ∷ ns) - 1) = omega arith in last_passes l (o ∷ ns) n e b (rw k at h) p
 
-pub none_pass : (l : Layout) (ns : List KdlNode) (b : Before) → length ns ≡ 0 → PassesNodes l.blank_lines (settings l.config) b (nodes_tree ns) b
-none_pass l [] b h = refl
-none_pass l (n ∷ ns) b h = absurd (omega (arith, h))
-
--- whether there are no nodes
-pub some_there : (ns : List KdlNode) → 0 < length ns → newline_if false ≡ newline_if_none (nodes_tree ns)
-some_there [] h = absurd (omega arith)
-some_there (n ∷ ns) h = refl
-
-pub none_are_there : (ns : List KdlNode) → length ns ≡ 0 → newline_if true ≡ newline_if_none (nodes_tree ns)
-none_are_there [] h = refl
-none_are_there (n ∷ ns) h = absurd (omega (arith, h))
-
--- a node, by its parts
-abbrev node_from : Option Identifier → Identifier → List Entry → SourceSpan → Option NodeFormat → Children → Node
-node_from y i es at f k = node (record { ty = y; name = i; entries = es; format = f; span = at }) k
-
-bare_made : (y y' : Option Identifier) (i i' : Identifier) (es es' : List Entry) (at at' : SourceSpan) (f f' : Option NodeFormat) (k k' : Children)
-    → option_map unspelled y ≡ option_map unspelled y' → unspelled i ≡ unspelled i' → map cleared es ≡ map cleared es' → at ≡ at' → bare_children k ≡ bare_children k'
-    → bare_node (node_from y i es at f k) ≡ bare_node (node_from y' i' es' at' f' k')
-bare_made y y' i i' es es' at at' f f' k k' a b c d e = rw (a, b, c, d, e) refl
-
 bare_content : (f f' : Option DocumentFormat) (at at' : SourceSpan) (ns ns' : Nodes) → at ≡ at' → bare_nodes ns ≡ bare_nodes ns' → bare_document (document f at ns) ≡ bare_document (document f' at' ns')
 bare_content f f' at at' ns ns' a b = rw (a, b) refl
 
@@ -78,17 +55,6 @@ block_there (Some d) b e = e
 
 -- a node of which the parts are known
 module _ (m n : KdlNode) where
-  pub same_node : option_map unspelled (option_map identifier_tree (out-KdlNode m).ty) ≡ option_map unspelled (option_map identifier_tree (out-KdlNode n).ty)
-      → unspelled (identifier_tree (out-KdlNode m).name) ≡ unspelled (identifier_tree (out-KdlNode n).name)
-      → map cleared (map entry_tree (out-KdlNode m).entries.items) ≡ map cleared (map entry_tree (out-KdlNode n).entries.items)
-      → (out-KdlNode m).span ≡ (out-KdlNode n).span
-      → bare_children (children_of (option_map document_tree (out-KdlNode m).children)) ≡ bare_children (children_of (option_map document_tree (out-KdlNode n).children))
-      → bare_node (node_tree m) ≡ bare_node (node_tree n)
-  same_node ty name entries span k =
-      ap bare_node (node_tree_out m)
-      ∙ bare_made _ _ (identifier_tree (out-KdlNode m).name) (identifier_tree (out-KdlNode n).name) _ _ _ _ (option_map node_format_tree (out-KdlNode m).format) (option_map node_format_tree (out-KdlNode n).format) _ _ ty name entries span k
-      ∙ sym (ap bare_node (node_tree_out n))
-
   pub laid_node : (number : ℕ) (s : Settings) (level : ℕ) (c : Before) (b : Bool) (ms : List Node) → b ≡ is_some (out-KdlNode n).children
       → option_map identifier_tree (out-KdlNode m).ty ≡ option_map unspelled (option_map identifier_tree (out-KdlNode n).ty)
       → identifier_tree (out-KdlNode m).name ≡ unspelled (identifier_tree (out-KdlNode n).name)

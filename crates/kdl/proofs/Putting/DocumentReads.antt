@@ -29,11 +29,6 @@ use Rattle.kdl.proofs.Putting.PutReads.{content_put, content_put_first}
 use Rattle.kdl.proofs.Putting.Puts.{insert_trees, texts_kept}
 use Rattle.kdl.proofs.Trees.{document_tree_out}
 
--- before fewer rests
-last_weaker : (P Q : Rests) (t : Text) {n : Node} → ((r : Text) → MayFollow Q r → MayFollow P r) → NodeReads (last_rests t P) n → NodeReads (last_rests t Q) n
-last_weaker P Q [] w x = weaker x w
-last_weaker P Q (c ∷ t) w x = x
-
 nodes_weaker : (P Q : Rests) {ns : Nodes} → ((r : Text) → MayFollow Q r → MayFollow P r) → NodesRead P ns → NodesRead Q ns
 nodes_weaker P Q w no_node = no_node
 nodes_weaker P Q w (last_node x) = last_node (weaker x w)

@@ -31,6 +31,7 @@ use Rattle.kdl.proofs.Putting.NodeEnds.{ends_with}
 use Rattle.kdl.proofs.Putting.Puts.{behind_put_is, insert_trees, put_printed_as, span_kept, texts_kept}
 use Rattle.kdl.proofs.Printing.PrintedParts.{document_printed}
 use Rattle.kdl.proofs.Trees.{node_tree_out, node_tree_roll}
+use Rattle.kdl.proofs.Putting.PutReads.{block_of, is_some_mapped}
 
 -- what a format lacks
 pub something_lacking : (rest : Rest) (c : Children) (f g : NodeFormat) (b e : ℕ) → Lacks f b e → 0 < b + e → g ≡ with_newlines f b e → FewestBefore rest c f (b + e) → IsEndedExactly rest c f (Some g)
@@ -52,17 +53,9 @@ same_more c h (reads {f = f} e head kids end) =
     let same : h ≡ record h { format = Some (lengthened 0 0 (format_or_printed h)) } = ap (λ (o : Option NodeFormat). record h { format = o }) (e ∙ ap Some (sym own ∙ sym (same_length (format_or_printed h)))) in
     subst (λ (z : Head). NodeReads Anything (node z c)) same (reads e head kids end)
 
--- its block, as a tree
-abbrev block_of : KdlNode → Option Document
-block_of n = option_map document_tree (out-KdlNode n).children
-
 as_block : (o : Option Document) (f : NodeFormat) → EndReads Anything (children_of o) f → EndReads Anything (block_if (is_some o)) f
 as_block None f x = x
 as_block (Some d) f x = record { place = λ r p t. x.place r p t; terminator = x.terminator }
-
-is_some_mapped : (o : Option KdlDocument) → is_some o ≡ is_some (option_map document_tree o)
-is_some_mapped None = refl
-is_some_mapped (Some d) = refl
 
 -- what a node lacks before any text
 module _ (n : KdlNode) (b : Bool) (k : b ≡ is_some (out-KdlNode n).children) where

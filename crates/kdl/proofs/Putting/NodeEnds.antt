@@ -86,10 +86,6 @@ is_ended f g b e l h k =
     let few = l.few in
     (b + e - 1, omega arith, subst P (omega arith) q)
 
-pub formless_ended : (es : List Entry) (g : NodeFormat) → g ≡ record (printed_format es) { terminator = 10 ∷ [] } → IsEnded (printed_format es) (Some g)
-formless_ended es g k =
-    (0, omega arith, record { texts = ap (λ (f : NodeFormat). end_text (Some f)) k; rest = k ∙ ap (λ (f : NodeFormat). record (printed_format es) { before_terminator = f.before_terminator; terminator = f.terminator; trailing = f.trailing }) (sym k) })
-
 -- a node with another format
 formatted : (n : KdlNode) (f : KdlNodeFormat) → node_tree (end_with (Some f) n) ≡ node (record (head_tree (out-KdlNode n)) { format = Some (node_format_tree f) }) (children_of (option_map document_tree (out-KdlNode n).children))
 formatted n f = node_tree_roll (record (out-KdlNode n) { format = Some f })
@@ -138,12 +134,6 @@ copy_put now copy old k h e = e ∙ ap (λ (z : List ℕ). chars z ++ newlines k
 
 pub leading_ended : (o : Option DocumentFormat) (f : DocumentFormat) (t : Text) (k : ℕ) → o ≡ Some f → 0 < k → k ≤ 2 → t ≡ f.leading ++ newlines k → GapSays (without_bom f.leading) k → LeadingEnded o (Some t)
 leading_ended o f t k h l m e x = let q : k ≡ suc (k - 1) = omega arith in (f, k - 1, omega arith, h, e ∙ ap (λ (n : ℕ). f.leading ++ newlines n) q, subst (GapSays (without_bom f.leading)) q x)
-
-pub leading_ends : (o : Option DocumentFormat) (f : DocumentFormat) (k : ℕ) → o ≡ Some f → k ≡ 0 → GapSays (without_bom f.leading) k → LeadingEnded o None
-leading_ends o f k h z x = subst (λ (y : Option DocumentFormat). LeadingEnded y None) (sym h) (subst (GapSays (without_bom f.leading)) z x)
-
-pub no_leading : (o : Option DocumentFormat) → o ≡ None → LeadingEnded o None
-no_leading o h = subst (λ (y : Option DocumentFormat). LeadingEnded y None) (sym h) (λ g r s xs p d. d)
 
 pub before_begun : (o : Option NodeFormat) (f : NodeFormat) (t : Text) (k : ℕ) → o ≡ Some f → 0 < k → k ≤ 1 → t ≡ f.before_terminator ++ newlines k → BeforeNewBlock o (Some t)
 before_begun o f t k h l m e = let q : k ≡ 1 = omega arith in (f, h, e ∙ ap (λ (n : ℕ). f.before_terminator ++ newlines n) q)

@@ -286,7 +286,7 @@ has_format : (P : Rests) (h : Head) (c : Children) → NodeReads P (node h c) �
 has_format P h c (reads {f = f} e head kids end) = (f, e)
 
 -- its block, as a tree
-abbrev block_of : KdlNode → Option Document
+abbrev pub block_of : KdlNode → Option Document
 block_of n = option_map document_tree (out-KdlNode n).children
 
 node_changed : (P Q : Rests) (n : KdlNode) (o : Option KdlNodeFormat) → IsEnded (format_or_printed (head_tree (out-KdlNode n))) (node_texts o)
@@ -303,7 +303,7 @@ node_changed P Q n (Some g) w x r =
     let rest = w.2.rest ∙ ap (λ (z : NodeFormat). record z { before_terminator = t.before_terminator; terminator = t.terminator; trailing = t.trailing }) same in
     subst (NodeReads Q) (sym (node_tree_roll (record (out-KdlNode n) { format = Some g }))) (format_exchanged P Q h c f t e rest (x f e) old)
 
-is_some_mapped : (o : Option KdlDocument) → is_some o ≡ is_some (option_map document_tree o)
+pub is_some_mapped : (o : Option KdlDocument) → is_some o ≡ is_some (option_map document_tree o)
 is_some_mapped None = refl
 is_some_mapped (Some d) = refl
 
@@ -344,13 +344,6 @@ terminator_read rest k f e some says = to rest
     to Rest.End = tt
     to Rest.Brace = λ P d end. any_end (BlockEnd (Some d)) k (with_newlines f 0 e) (go P (terminator_text f) refl end)
     to Rest.Text = λ P end. go P (terminator_text f) refl end
-
-pub nothing_added : (rest : Rest) (k : Children) (f : NodeFormat) (b e : ℕ) → b ≡ 0 → e ≡ 0 → EndsReadAs rest k f (with_newlines f b e) → EndsReadAs rest k f f
-nothing_added rest k f b e h q x = subst (EndsReadAs rest k f) (ap (λ (n : ℕ). with_newlines f n e) h ∙ ap (with_newlines f 0) q ∙ none_more f f.trailing) x
-  where
-    none_more : (f : NodeFormat) (t : Text) → end_newlines t 0 (record f { before_terminator = f.before_terminator ++ newlines 0; trailing = t }) ≡ record f { trailing = t }
-    none_more f [] = rw (append-nil f.before_terminator, append-nil f.terminator) refl
-    none_more f (c ∷ s) = rw (append-nil f.before_terminator, append-nil (c ∷ s)) refl
 
 pub says_as : (a b t u : Text) (n : ℕ) → a ≡ t → b ≡ u → EndSays (a ++ b) n → EndSays (t ++ u) n
 says_as a b t u n e f x = subst (λ (z : Text). EndSays (t ++ z) n) f (subst (λ (z : Text). EndSays (z ++ b) n) e x)

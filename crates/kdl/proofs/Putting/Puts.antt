@@ -8,21 +8,21 @@ use Rattle.std.specs.List.{insert, remove}
 use Rattle.kdl_text.specs.Chars.{Text}
 use Rattle.kdl_grammar.specs.Data as data'
 use Rattle.kdl_grammar.specs.Print.{print_node, print_nodes, leading_text, trailing_text}
-use Rattle.kdl_grammar.specs.Tree.{DocumentFormat, Node, Nodes, document, document_data, listed_nodes, node_data, nodes_data}
+use Rattle.kdl_grammar.specs.Tree.{DocumentFormat, Node, Nodes, document_data, listed_nodes, node_data, nodes_data}
 use Rattle.kdl_parts.specs.Formats.{document_format_tree, node_texts}
 use Rattle.kdl_parts.specs.declared.format.KdlNodeFormat.{KdlNodeFormat}
 use Rattle.kdl.specs.Change.{with_nodes}
 use Rattle.kdl.specs.DocumentLookups.{nodes_of}
 use Rattle.kdl.specs.Internal.Ends.{EndsAs, IsEnded, LeadingEnded, PutBehind, PutFirst, end_with, lead_with, led_with}
 use Rattle.kdl.specs.Nodes.{EndedBefore, IsPut, LeadsWith, PrintsPut, PrintsWithout, WithNewlines, format_or_printed, newlines, said_with, said_without, text_from, text_up_to, texts_around, trees}
-use Rattle.kdl.specs.Tree.{document_prints, document_says, document_tree, head_tree, node_prints, node_says, node_tree, nodes_tree}
+use Rattle.kdl.specs.Tree.{document_prints, document_says, head_tree, node_prints, node_says, node_tree, nodes_tree}
 use Rattle.kdl.specs.declared.document.KdlDocument.{KdlDocument}
 use Rattle.kdl.specs.declared.document.KdlDocument.TheViews.{out-KdlDocument, out-KdlNode, out-roll-KdlDocument, roll-KdlDocument}
 use Rattle.kdl.specs.declared.ends.Rest.TheVariants as Rest
 use Rattle.kdl.specs.declared.node.KdlNode.{KdlNode}
 use Rattle.kdl.proofs.Putting.NodeEnds.{newlines_printed, newlines_said, node_ended}
 use Rattle.kdl.proofs.Printing.PrintedParts.{document_printed, print_nodes-join}
-use Rattle.kdl.proofs.Trees.{document_tree_out, document_tree_roll, nodes_of-append}
+use Rattle.kdl.proofs.Trees.{document_tree_out, nodes_of-append}
 
 -- what is printed of nodes at depth 0
 abbrev text : List Node → Text
@@ -173,14 +173,6 @@ put_first n own d e h p =
       nodes = ap (map node_tree) p.nodes ∙ insert_trees (nodes_of d) 0 (end_with own n);
       span = p.span;
     }
-
--- a document with the nodes that it had
-pub nodes_same : (d e : KdlDocument) → e ≡ with_nodes d (out-KdlDocument e).nodes → nodes_of e ≡ nodes_of d → document_tree e ≡ document_tree d
-nodes_same d e r h =
-    ap document_tree r
-    ∙ document_tree_roll (record (out-KdlDocument d) { nodes = (out-KdlDocument e).nodes })
-    ∙ ap (λ (z : List KdlNode). document (texts_around d) (out-KdlDocument d).span (nodes_tree z)) h
-    ∙ sym (document_tree_out d)
 
 -- a node taken out
 taken_printed : (i : ℕ) (ns : List Node) (x : Node) (depth : ℕ) → slice_get ns i ≡ Some x

@@ -12,10 +12,6 @@ use Rattle.kdl_lexer.specs.Internal.Tokens.{Token, space, newline, string as str
 use Rattle.kdl_lexer.proofs.Lexing.TokenUnique.{token_det, no_token}
 use Rattle.kdl_lexer.proofs.Lexing.StringUnique.{string_det, plain_det, string_or_plain}
 
--- the text begins with the token
-abbrev Begins : Token → Text → Type 0
-Begins k s = (r : Text) × BeginsToken s k r
-
 -- where a token begins that is no node-space, none begins
 no_space : {s r t : Text} {k : Token} → BeginsToken s k t → (space ≡ k → ⊥) → NodeSpace s r → ⊥
 no_space t n x = n (token_det (t_space x) t).1
@@ -36,9 +32,6 @@ plain_same (a_plain q f) (a_string (string p e)) = absurd (string_or_plain p q)
 -- two runs of node-spaces from one text to where none begins
 spaces_same : {s r t : Text} → Star NodeSpace s r → ((u : Text) → NodeSpace r u → ⊥) → Star NodeSpace s t → ((u : Text) → NodeSpace t u → ⊥) → r ≡ t
 spaces_same p x q y = longest_det node_space_dets p x q y
-
-no_space_at : {s t : Text} {k : Token} → BeginsToken s k t → (space ≡ k → ⊥) → (u : Text) → NodeSpace s u → ⊥
-no_space_at t n u x = no_space t n x
 
 at_string : {a : Bool} {s r v : Text} → IsString a s r v → (u : Text) → NodeSpace s u → ⊥
 at_string (string p e) u x = no_space (t_string p) (λ h. cc) x

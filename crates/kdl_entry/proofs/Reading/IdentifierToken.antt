@@ -16,7 +16,7 @@ use Rattle.kdl_entry.specs.Internal.Items.{identifier_at}
 use Rattle.kdl_entry.specs.Laid.{LaidIdentifier, LaidIdentifierText, spelled}
 use Rattle.kdl_entry.specs.Places.{Is, between}
 use Rattle.kdl_lexer.specs.Internal.Tokens as tokens
-use Rattle.kdl_lexer.specs.Internal.Tokens.{BeginsToken, t_space, t_string}
+use Rattle.kdl_lexer.specs.Internal.Tokens.{t_space, t_string}
 use Rattle.kdl_value.specs.Tree.{text_of}
 use Rattle.kdl_entry.specs.Tree.{Identifier}
 use Rattle.kdl_text.specs.declared.span.SourceSpan.{SourceSpan}

@@ -1,7 +1,7 @@
 -- Small texts that are documents, and small texts that are none.
 use Rattle.std.proofs.Common.{true, [], ◌∷◌, Some, None, refl}
 use Rattle.std.specs.Prelude.{pos}
-use Rattle.kdl_text.specs.Chars.{Text, starts, begins, begins_with, is_identifier_char, is_space, is_newline_char, is_banned, is_punctuation, is_sign}
+use Rattle.kdl_text.specs.Chars.{Text, is_identifier_char, is_space, is_newline_char, is_banned, is_punctuation}
 use Rattle.kdl_text.specs.Bare.{is_bare}
 use Rattle.kdl_text.specs.Numbers.{is_digit_of}
 use Rattle.kdl_text.specs.Trivia.{NodeSpace, Break}

@@ -2,7 +2,7 @@
 use Rattle.std.proofs.Common.{◌≡◌, ℕ, true, false, List, [], ◌∷◌, Option, Some, None, option_map, option_and_then, refl, sym, ap, subst, ◌∙◌}
 use Rattle.std.specs.Prelude.{pos}
 use Rattle.std.specs.Str.Parse.{digits_value}
-use Rattle.kdl_text.specs.Chars.{Text, starts, begins, begins_with, is_identifier_char, is_space, is_newline_char, is_banned, is_punctuation, is_sign}
+use Rattle.kdl_text.specs.Chars.{Text, starts, begins, begins_with, is_identifier_char, is_space, is_newline_char, is_sign}
 use Rattle.kdl_text.specs.Bare.{is_bare}
 use Rattle.kdl_text.specs.Numbers.{is_digit_of, is_part, base_prefix, fits}
 use Rattle.kdl_text.specs.Trivia.{NodeSpace, Break}

@@ -1,5 +1,6 @@
 -- Comments and strings that the end of the text leaves open go on to a token.
 use Rattle.std.proofs.Common.{◌≡◌, ℕ, zero, suc, ◌≤◌, Bool, true, false, ◌&&◌, ◌==◌, List, [], ◌∷◌, ◌++◌, length, Some, refl, sym, ap, subst, ◌∙◌, append_assoc, length-append, arith}
+use Rattle.std.proofs.Math.Bool.{and-false}
 use Rattle.std.proofs.lemmas.Bool.{eqb-true, and_parts}
 use Rattle.std.proofs.lemmas.List.{append-nil}
 use Rattle.kdl_text.specs.Chars.{Text, begins_two, begins_with, starts, is_space, is_newline_char}
@@ -16,10 +17,6 @@ data Closing (s : Text) : Type 0 where
   closed : (p r : Text) → s ≡ p ++ r → ((w : Text) → first (p ++ w) ≡ first s) → ((w : Text) → Parts (p ++ w) w) → Closing s
   goes_on : (u : Text) → ((w : Text) → Parts (s ++ (u ++ w)) w) → Closing s
 
-and_false : (b : Bool) → (b && false) ≡ false
-and_false true = refl
-and_false false = refl
-
 two_other : (a b c : ℕ) (s t : Text) → first s ≡ first t → begins_two a b (c ∷ s) ≡ begins_two a b (c ∷ t)
 two_other a b c [] [] e = refl
 two_other a b c [] (y ∷ t) e = cc
@@ -27,7 +24,7 @@ two_other a b c (x ∷ s) [] e = cc
 two_other a b c (x ∷ s) (y ∷ t) e = let f : x ≡ y = cc in ap (λ z. (c == a) && (z == b)) f
 
 one_open : (c : ℕ) → Closing (c ∷ [])
-one_open c = goes_on (32 ∷ 42 ∷ 47 ∷ []) (λ w. other (and_false (c == 47)) (and_false (c == 42)) (other refl refl close))
+one_open c = goes_on (32 ∷ 42 ∷ 47 ∷ []) (λ w. other (and-false (c == 47)) (and-false (c == 42)) (other refl refl close))
 
 -- a comment in it, and what comes after that
 after_nested : {s : Text} → Closing s → ((r : Text) → length r ≤ length s → Closing r) → Closing (47 ∷ 42 ∷ s)

@@ -1,10 +1,10 @@
 -- Raw strings of many lines up to a character that no line has begin no token, whatever follows it.
-use Rattle.std.proofs.Common.{◌≡◌, ℕ, zero, suc, ◌<◌, Bool, true, false, ◌&&◌, ◌||◌, ◌==◌, List, [], ◌∷◌, ◌++◌, refl, sym, ap, subst, ◌∙◌, append_assoc}
+use Rattle.std.proofs.Common.{◌≡◌, ℕ, zero, suc, Bool, true, false, ◌&&◌, ◌||◌, ◌==◌, List, [], ◌∷◌, ◌++◌, refl, sym, ap, subst, ◌∙◌}
 use Rattle.std.proofs.lemmas.Bool.{and_parts, eqb-true}
 use Rattle.std.proofs.lemmas.List.{append_cancel_right}
 use Rattle.std.proofs.lemmas.List.Folds.{list_all-append}
 use Rattle.std.specs.List.{list_all}
-use Rattle.kdl_text.specs.Chars.{Text, Newline, begins_with, times, is_newline_char, is_raw}
+use Rattle.kdl_text.specs.Chars.{Text, begins_with, times, is_newline_char, is_raw}
 use Rattle.kdl_text.specs.Internal.Here.{first}
 use Rattle.kdl_text.specs.Raw.{closing, RawUnit, RawUnits, RawContent}
 use Rattle.kdl_text.specs.declared.strings.dedent.LineUnit.{LineUnit}

@@ -1,5 +1,6 @@
 -- After a string, a number or a keyword, the first two characters of a rest that is no value end begin no token that may come.
-use Rattle.std.proofs.Common.{◌≡◌, ◌≢◌, Bool, true, false, ◌&&◌, ◌==◌, [], ◌∷◌, ◌++◌, take, Option, Some, None, refl}
+use Rattle.std.proofs.Common.{◌≡◌, ◌≢◌, true, false, ◌==◌, [], ◌∷◌, ◌++◌, take, Option, Some, None, refl}
+use Rattle.std.proofs.Math.Bool.{and-false}
 use Rattle.kdl_text.specs.Chars.{Text, begins, is_newline_char, crlf, one, space as a_space}
 use Rattle.kdl_text.specs.Trivia.{ValueEnd, escline}
 use Rattle.kdl_lexer.specs.Internal.Tokens.{Token, BeginsToken}
@@ -7,10 +8,6 @@ use Rattle.kdl_lexer.proofs.Lexing.TokenUnique.{end_behind}
 use Rattle.kdl_control.specs.Internal.Control.{Control, step}
 use Rattle.kdl_grammar.specs.Internal.Going.{RefusesFront}
 use Rattle.kdl_grammar.proofs.Reading.Viable.{worded, next_end}
-
-and_false : (b : Bool) → (b && false) ≡ false
-and_false true = refl
-and_false false = refl
 
 return_char : is_newline_char 13 ≡ true
 unfolding is_newline_char
@@ -22,7 +19,7 @@ value_end_two [] u n m some v = absurd (some refl)
 value_end_two (c ∷ []) u n m some (ValueEnd.punctuation x) = ValueEnd.punctuation x
 value_end_two (c ∷ []) u n m some (ValueEnd.space (a_space x)) = ValueEnd.space (a_space x)
 value_end_two (c ∷ []) u n m some (ValueEnd.newline crlf) = ValueEnd.newline (one return_char refl)
-value_end_two (c ∷ []) u n m some (ValueEnd.newline (one x y)) = ValueEnd.newline (one x (and_false (c == 13)))
+value_end_two (c ∷ []) u n m some (ValueEnd.newline (one x y)) = ValueEnd.newline (one x (and-false (c == 13)))
 value_end_two (c ∷ []) u n m some (ValueEnd.escline (escline p e)) = cc
 value_end_two (c ∷ []) u n m some ValueEnd.line_comment = absurd (m refl)
 value_end_two (c ∷ []) u n m some ValueEnd.block_comment = absurd (m refl)

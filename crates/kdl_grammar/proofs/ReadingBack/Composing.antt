@@ -1,7 +1,6 @@
 -- What reads back, put together and taken apart.
 use Rattle.std.proofs.Common.{ℕ, zero, suc, ◌+◌, ◌<◌, List, [], ◌∷◌, ◌++◌, length, take, drop, arith}
 use Rattle.std.proofs.lemmas.List.Elements.{All-cons, All-nil}
-use Rattle.std.specs.Prelude.{slice_index_or}
 use Rattle.std.specs.List.{All}
 use Rattle.kdl_text.specs.Chars.{Text}
 use Rattle.kdl_entry.specs.Tree.{Entry}
@@ -34,12 +33,6 @@ block_reads (reads e head (a_block c b) end) = b
 
 -- lists of nodes
 
--- nodes that end by themselves, before any rests
-pub all_end_before : (P : Rests) {ns : Nodes} → NodesRead Anything ns → NodesRead P ns
-all_end_before P no_node = no_node
-all_end_before P (last_node x) = last_node (ends_before P x)
-all_end_before P (next_node x xs) = next_node x (all_end_before P xs)
-
 -- a node before nodes
 pub node_before : {P : Rests} {n : Node} {ns : Nodes} → NodeReads Anything n → NodesRead P ns → NodesRead P (first n ns)
 node_before {P = P} x no_node = last_node (ends_before P x)
@@ -70,28 +63,8 @@ nodes_take (suc k) [] h x = no_node
 nodes_take (suc k) (n ∷ []) h x = absurd (omega arith)
 nodes_take (suc k) (n ∷ m ∷ ns) h (next_node x xs) = node_before x (nodes_take k (m ∷ ns) (omega arith) xs)
 
--- the first nodes, before the same rests
-pub nodes_first : {P : Rests} (k : ℕ) (ns : List Node) → NodesRead P (listed_nodes ns) → NodesRead P (listed_nodes (take k ns))
-nodes_first zero ns x = no_node
-nodes_first (suc k) [] x = no_node
-nodes_first (suc zero) (n ∷ []) x = x
-nodes_first (suc (suc k)) (n ∷ []) x = x
-nodes_first (suc k) (n ∷ m ∷ ns) (next_node x xs) = node_before x (nodes_first k (m ∷ ns) xs)
-
 -- each node, before the rests of the last one
 pub each_reads : {P : Rests} (ns : List Node) → NodesRead P (listed_nodes ns) → All (NodeReads P) ns
 each_reads [] x = λ k d h. absurd (omega arith)
 each_reads {P = P} (n ∷ []) (last_node x) = All-cons (NodeReads P) n [] x (All-nil (NodeReads P))
 each_reads {P = P} (n ∷ m ∷ ns) (next_node x xs) = All-cons (NodeReads P) n (m ∷ ns) (ends_before P x) (each_reads (m ∷ ns) xs)
-
--- each node before another ends by itself
-pub each_ends : {P : Rests} (ns : List Node) → NodesRead P (listed_nodes ns) → (k : ℕ) (d : Node) → k + 1 < length ns → NodeReads Anything (slice_index_or ns k d)
-each_ends [] x k d h = absurd (omega arith)
-each_ends (n ∷ []) x k d h = absurd (omega arith)
-each_ends (n ∷ m ∷ ns) (next_node x xs) zero d h = x
-each_ends (n ∷ m ∷ ns) (next_node x xs) (suc k) d h = each_ends (m ∷ ns) xs k d (omega arith)
-
--- nodes, each of which ends by itself
-pub all_end : (ns : List Node) → All (NodeReads Anything) ns → NodesRead Anything (listed_nodes ns)
-all_end [] c = no_node
-all_end (n ∷ ns) c = node_before (c zero n (omega arith)) (all_end ns (λ k d h. c (suc k) d (omega arith)))

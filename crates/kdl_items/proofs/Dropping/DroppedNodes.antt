@@ -15,7 +15,7 @@ use Rattle.kdl_control.specs.Internal.Control.{gap, node_slashdash, Control, at,
 use Rattle.kdl_grammar.proofs.Reading.Sound.{derives}
 use Rattle.kdl_items.specs.Items.{Item, piece, EsclineItems, SpaceItems, LineSpaceItems, ItemEnd, EndsTight, GapItems}
 use Rattle.kdl_items.specs.Internal.Passing.{moved, NodeEnd, returned, ended, NodePasses, returns, ends, goes}
-use Rattle.kdl_items.proofs.Dropping.Paths.{Tail, before_block, behind_block, at_brace, halts_nodes, Back, Here, ToGap, over_node, drop_node, tail_spaces}
+use Rattle.kdl_items.proofs.Dropping.Paths.{Tail, before_block, behind_block, at_brace, halts_nodes, Back, Here, over_node, drop_node, tail_spaces}
 
 -- the control passes over a text in one way at most
 pub passes_det : {c : Control} {last s : Text} {e e' : NodeEnd} → NodePasses c last s e → NodePasses c last s e' → e ≡ e'
@@ -62,9 +62,6 @@ all_over c d last s r k t e g o w x = one_more t e x
 
 all_here : Here (λ c last s. Accepted c s) []
 all_here p d last s r k t e g x = one_more t e x
-
-all_gap : ToGap (λ c last s. Accepted c s) []
-all_gap p last s r k t e x = one_more t e x
 
 -- without what they hold
 more_ws : {s t r : Text} → Ws s t → Escline (92 ∷ t) r → Escline (92 ∷ s) r

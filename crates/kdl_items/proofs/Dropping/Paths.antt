@@ -1,6 +1,7 @@
 -- Where the grammar derives a piece, the control goes on over it.
 -- `P c last s` says something of the control before the text s, where the last token that is no node-space ended before `last`.
 use Rattle.std.proofs.Common.{◌≡◌, Bool, true, false, ◌&&◌, not, List, [], ◌∷◌, Option, Some, refl, sym, ap, subst, ◌∙◌}
+use Rattle.std.proofs.Math.Bool.{and-false}
 use Rattle.kdl_text.specs.Chars.{Text, Star, plus}
 use Rattle.kdl_text.specs.Chars.Star.{none as no_star, more}
 use Rattle.kdl_text.specs.Trivia.{NodeSpace, Break, LineSpace, slashdash}
@@ -62,10 +63,6 @@ word_inside (in_node (spaced false)) f fs k = refl
 word_inside (in_node (spaced true)) f fs k = refl
 word_inside (in_node later) f fs k = refl
 word_inside _ f fs k = refl
-
-and_false : (b : Bool) → (b && false) ≡ false
-and_false true = refl
-and_false false = refl
 
 slashdash_spaced : (q : Spot) → slashdash_at (spaced_of q) ≡ slashdash_at q
 slashdash_spaced (fresh b) = refl
@@ -146,10 +143,10 @@ module _ (P : Control → Text → Text → Type 0) (over : Back P) where
 
   -- after the key
   equals_in : {fs : List Frame} {s u : Text} → Star NodeSpace s (61 ∷ u) → P (at property fs) u u → (last : Text) → P (at (in_node (fresh true)) fs) last s
-  equals_in {fs = fs} no_star x last = back t_equals refl refl refl (and_false (is_word (at (in_node (fresh true)) fs))) x
+  equals_in {fs = fs} no_star x last = back t_equals refl refl refl (and-false (is_word (at (in_node (fresh true)) fs))) x
   equals_in {fs = fs} (more n m) x last =
-      let w = and_false (is_word (at (in_node (spaced true)) fs)) in
-      back (t_space n) refl refl refl (and_false (is_word (at (in_node (fresh true)) fs))) (stay (at (in_node (spaced true)) fs) (λ last s r n x. back (t_space n) refl refl refl w x) m (back t_equals refl refl refl w x))
+      let w = and-false (is_word (at (in_node (spaced true)) fs)) in
+      back (t_space n) refl refl refl (and-false (is_word (at (in_node (fresh true)) fs))) (stay (at (in_node (spaced true)) fs) (λ last s r n x. back (t_space n) refl refl refl w x) m (back t_equals refl refl refl w x))
 
   -- an entry, from where one may begin
   pub entry : {fs : List Frame} {s r : Text} {e : Entry} → IsEntry true s r e → (p : Phase) → HereAt P fs p → ((v : Text) → step (at p fs) (string v) ≡ Some (at (in_node (fresh true)) fs))

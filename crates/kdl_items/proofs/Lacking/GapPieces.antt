@@ -58,14 +58,6 @@ lf_space r = LineSpace.«break» (Break.newline (lf r))
 pub through_start : (s : Text) → Through s s
 through_start s = record { on = λ g. g; back = λ g. g; adds = λ g w z xs e ds. ds; off = λ g w xs ds. ds }
 
-pub through_then : {s t r : Text} → Through s t → Through t r → Through s r
-through_then a b = record {
-  on = λ g. b.on (a.on g);
-  back = λ g. a.back (b.back g);
-  adds = λ g w z xs e ds. a.adds (b.back g) w z xs e (b.adds g w z xs e ds);
-  off = λ g w xs ds. b.off g w xs (a.off (b.back g) w xs ds);
-}
-
 -- line-spaces
 off_line : {s t : Text} → LineSpace s t → Gap true s [] → Gap true t []
 off_line n no_gap = absurd (omega (arith, line_space_shorter n))
@@ -506,9 +498,3 @@ gap_last s t k q (b, g, f, few) = (
   λ j e xs ds.
       few j e xs (subst (λ (y : Text). AreNodes true y [] xs) (sym (append_assoc t (newlines j) letter)) (q.off g (newlines j ++ letter) xs (subst (λ (y : Text). AreNodes true y [] xs) (append_assoc s (newlines j) letter) ds))),
 )
-
-pub gap_turn : (s t u : Text) (r : Bor (List ℕ)) → Through s t → PieceEnds t (Some (Until r)) → u ≡ chars r.now → Through s u
-gap_turn s t u r q (k, l) e = subst (λ (y : Text). Through s y) (sym e) (through_then q k)
-
-pub gap_none : (s t : Text) → Through s t → PieceEnds t None → Gap true s [] → ⊥
-gap_none s t q k g = k (q.on g)

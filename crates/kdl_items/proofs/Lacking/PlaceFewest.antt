@@ -9,7 +9,7 @@ use Rattle.kdl_entry.specs.Entries.{string as a_string', untyped}
 use Rattle.kdl_entry.specs.Places.{DroppedEntry, dropped as dropped_e}
 use Rattle.kdl_entry.proofs.Moving.EntryMoves.{punctuation_end}
 use Rattle.kdl_grammar.specs.Data as nodes'
-use Rattle.kdl_grammar.specs.Data.{Node, Nodes, node, no_children, children}
+use Rattle.kdl_grammar.specs.Data.{Node, node, no_children, children}
 use Rattle.kdl_grammar.specs.Grammar.{Terminator, IsNode, named, AfterName, Blocks, AfterBlock, dropped_later, no_more, no_gap, dropped_node, last_gap, braces}
 use Rattle.kdl_grammar.specs.Places.{DroppedBlock, dropped as dropped_b, AfterChildren, after, before}
 use Rattle.kdl_items.specs.Items.{Place, before_entry, before_block, behind_block, takes_blocks}

@@ -52,14 +52,6 @@ spaced_back b behind_block s z d = d
 pub place_start : (p : Place) (s : Text) → PlaceThrough p s p s
 place_start p s = record { on = λ is d. (is, d); back = λ is d. (is, d); adds = λ js d w z e x. x; blocks = λ h. h }
 
-pub place_then : {p q o : Place} {s t r : Text} → PlaceThrough p s q t → PlaceThrough q t o r → PlaceThrough p s o r
-place_then a b = record {
-  on = λ is d. let x = a.on is d in b.on x.0 x.1;
-  back = λ js d. let x = b.back js d in a.back x.0 x.1;
-  adds = λ js d w z e x. let y = b.back js d in a.adds y.0 y.1 w z e (b.adds js d w z e x);
-  blocks = λ h. b.blocks (a.blocks h);
-}
-
 -- node-spaces
 off_space : (p : Place) {s t : Text} → NodeSpace s t → Has p s → Has (spaced true p) t
 off_space p n h = let d = space_items n in let x = (place_space d.1 h.0).0 h.1 in (x.0, x.2)
@@ -230,10 +222,6 @@ nowhere p b u true (Some q) x f e = absurd cc
 
 pub part_nowhere : (p : held.Place) (s b : Text) (e : PartEnd) (o : Option held.Place) → s ≡ 47 ∷ 45 ∷ b → AnswersDroppedPart (place_view p) b (Some e) → BehindPart (place_view p) e.is_block (option_map place_view o) → o ≡ None → PlaceGoes p s None
 part_nowhere p s b e o f (u, x, c) g h = λ is d. nowhere (place_view p) b u e.is_block (option_map place_view o) x g (ap (option_map place_view) h) is (subst (λ (y : Text). PlaceItems (place_view p) y is) f d)
-
--- the place so far
-pub place_turn : (p q o : Place) (s t u : Text) (r : Bor (List ℕ)) → PlaceThrough p s q t → PlaceThrough q t o (chars r.now) → u ≡ chars r.now → PlaceThrough p s o u
-place_turn p q o s t u r a b e = subst (λ (y : Text). PlaceThrough p s o y) (sym e) (place_then a b)
 
 no_blocks_end : (q : Place) → takes_blocks q ≡ true → may_end q ≡ true
 no_blocks_end (before_entry b) h = cc

@@ -4,10 +4,10 @@ use Rattle.std.proofs.lemmas.Bool.{and_parts}
 use Rattle.std.proofs.lemmas.Bool.Decides.{nat_tests}
 use Rattle.std.specs.List.{list_all}
 use Rattle.std.specs.Prelude.{if◌then◌else◌, map}
-use Rattle.kdl_text.specs.Chars.{Text, starts, is_space, is_newline_char, Newline, crlf, one, Star, none, more, plus, space as a_space}
+use Rattle.kdl_text.specs.Chars.{Text, starts, is_space, is_newline_char, Star, none, more, plus, space as a_space}
 use Rattle.kdl_text.specs.Internal.Here.{first}
-use Rattle.kdl_text.specs.Trivia.{BlockComment, block as a_block, Line, LineComment, line as a_line, Ws, NodeSpace, Break, LineSpace, Slashdash, slashdash, ValueEnd}
-use Rattle.kdl_text.proofs.Spacing.SpaceUnique.{newline_begins, newline_no_space, slash_no_space, backslash_no_space}
+use Rattle.kdl_text.specs.Trivia.{BlockComment, Line, LineComment, line as a_line, Ws, NodeSpace, Break, LineSpace, Slashdash, ValueEnd}
+use Rattle.kdl_text.proofs.Spacing.SpaceUnique.{newline_begins}
 use Rattle.kdl_entry.specs.Places.{between}
 use Rattle.kdl_entry.proofs.Slicing.Between.{between_is, is_between}
 use Rattle.kdl_entry.proofs.Moving.EntryMoves.{move_spaces, move_slashdash, punctuation_end, spaces_end}
@@ -290,33 +290,6 @@ spaces_items (c ∷ cs) ok =
     let (here, others) = and_parts (is_space c) (list_all is_space cs) ok in
     GapItems.space (LineSpaceItems.space (SpaceItems.space (a_space here))) (spaces_items cs others)
 
--- and has no other items
-space_first : (c : ℕ) (s : Text) → list_all is_space (c ∷ s) ≡ true → (is_space c ≡ true) × (list_all is_space s ≡ true)
-space_first c s ok = let h = and_parts (is_space c) (list_all is_space s) ok in (h.0, h.1)
-
-no_slash : (s : Text) → list_all is_space (47 ∷ s) ≡ true → ⊥
-no_slash s ok = let h = (space_first 47 s ok).0 in let k = slash_no_space in cc
-
-no_backslash : (s : Text) → list_all is_space (92 ∷ s) ≡ true → ⊥
-no_backslash s ok = let h = (space_first 92 s ok).0 in let k = backslash_no_space in cc
-
-no_newline : {s r : Text} → list_all is_space s ≡ true → Newline s r → ⊥
-no_newline ok (crlf {r = r}) = newline_no_space 13 (newline_begins (crlf {r = r})) (space_first 13 (10 ∷ r) ok).0
-no_newline ok (one {c = c} {r = r} x y) = newline_no_space c x (space_first c r ok).0
-
-only_space : {s t : Text} {is : List Item} → list_all is_space s ≡ true → LineSpaceItems s t is → (is ≡ []) × (list_all is_space t ≡ true)
-only_space ok (LineSpaceItems.space (SpaceItems.space (a_space {c = c} {r = r} x))) = (refl, (space_first c r ok).1)
-only_space ok (LineSpaceItems.space (SpaceItems.block (a_block {s = s} p))) = absurd (no_slash (42 ∷ s) ok)
-only_space ok (LineSpaceItems.space (SpaceItems.escline {s = s} d)) = absurd (no_backslash s ok)
-only_space ok (LineSpaceItems.newline n) = absurd (no_newline ok n)
-only_space ok (LineSpaceItems.line (a_line {s = s} l)) = absurd (no_slash (47 ∷ s) ok)
-
-pub no_items : {s : Text} {is : List Item} → list_all is_space s ≡ true → GapItems s is → is ≡ []
-no_items ok GapItems.none = refl
-no_items ok (GapItems.space {is = is} {js = js} d g) = let h = only_space ok d in ap (λ (ks : List Item). ks ++ js) h.0 ∙ no_items h.1 g
-no_items ok (GapItems.dropped_node (slashdash {s = s} ls) n e g) = absurd (no_slash (45 ∷ s) ok)
-no_items ok (last_node (slashdash {s = s} ls) n tight ss g) = absurd (no_slash (45 ∷ s) ok)
-
 -- with spaces alone after the lines
 pub lines_spaces : (before after : Text) → list_all is_space before ≡ true → list_all is_space after ≡ true → {s : Text} {is : List Item} → GapItems s is → GapItems (lines before is ++ after) (map on_line is)
 lines_spaces before after ok ok' {s} {is} d =
@@ -336,14 +309,6 @@ pub text_on_line : (i : Item) → item_text (on_line i) ≡ line_text (item_text
 text_on_line (comment t) = refl
 text_on_line (piece t) = refl
 
-pub on_line_again : (i : Item) → on_line (on_line i) ≡ on_line i
-on_line_again (comment t) = ap comment (line_text_again t)
-on_line_again (piece t) = ap piece (line_text_again t)
-
 pub lines_on_line : (before : Text) (is : List Item) → lines before (map on_line is) ≡ lines before is
 lines_on_line before [] = refl
 lines_on_line before (i ∷ is) = rw (text_on_line i, line_text_again (item_text i), lines_on_line before is) refl
-
-pub all_on_line_again : (is : List Item) → map on_line (map on_line is) ≡ map on_line is
-all_on_line_again [] = refl
-all_on_line_again (i ∷ is) = rw (on_line_again i, all_on_line_again is) refl

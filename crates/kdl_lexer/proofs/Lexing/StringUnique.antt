@@ -27,7 +27,7 @@ or_true : (b : Bool) → (b || true) ≡ true
 or_true true = refl
 or_true false = refl
 
-at_identifier : (s : Text) → starts is_identifier_char s ≡ true → starts begins_piece s ≡ true
+pub at_identifier : (s : Text) → starts is_identifier_char s ≡ true → starts begins_piece s ≡ true
 at_identifier [] h = h
 at_identifier (c ∷ s) h = rw h refl
 
@@ -39,7 +39,7 @@ at_sign : (s : Text) → starts (λ c. c == 35) s ≡ true → starts begins_pie
 at_sign [] h = h
 at_sign (c ∷ s) h = rw (h, or_true (c == 34), or_true (is_identifier_char c)) refl
 
-number_front : (s : Text) → begins_number s ≡ true → starts is_identifier_char s ≡ true
+pub number_front : (s : Text) → begins_number s ≡ true → starts is_identifier_char s ≡ true
 number_front [] h = h
 number_front (c ∷ s) h = number_identifier c s h
 

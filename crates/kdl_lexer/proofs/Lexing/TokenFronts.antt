@@ -1,10 +1,8 @@
 -- The first two characters of a token tell which tokens are refused with it.
-use Rattle.std.proofs.Common.{◌≡◌, ℕ, ◌<◌, Bool, true, false, ◌||◌, ◌&&◌, ◌==◌, [], ◌∷◌, ◌++◌, length, take, refl, sym, ap, subst, ◌∙◌, arith}
+use Rattle.std.proofs.Common.{◌≡◌, ℕ, Bool, true, false, ◌==◌, [], ◌∷◌, ◌++◌, take, refl, sym, ap, subst, ◌∙◌}
 use Rattle.std.proofs.lemmas.Bool.{eqb-true}
-use Rattle.kdl_text.specs.Chars.{Text, is_identifier_char, is_digit, is_sign, starts, times}
-use Rattle.kdl_text.specs.Numbers.{IsNumber, NumberValue, IsKeyword, begins_number}
-use Rattle.kdl_text.specs.Raw.{IsRaw}
-use Rattle.kdl_text.specs.declared.numbers.Keyword.{Keyword}
+use Rattle.kdl_text.specs.Chars.{Text, is_identifier_char, is_digit, is_sign}
+use Rattle.kdl_text.specs.Numbers.{begins_number}
 use Rattle.kdl_text.proofs.Numeric.DecimalUnique.{number_begins}
 use Rattle.kdl_text.proofs.Numeric.KeywordUnique.{keyword_begins}
 use Rattle.kdl_text.proofs.Numeric.NumberUnique.{number_not_bare}
@@ -14,10 +12,10 @@ use Rattle.kdl_text.specs.Trivia.{BlockComment, LineComment}
 use Rattle.kdl_text.proofs.Spacing.SpaceUnique.{block_begins, line_comment_begins}
 use Rattle.kdl_value.specs.Data.{Value}
 use Rattle.kdl_lexer.specs.Pieces.{StringPiece, bare, quoted, raw, PlainPiece, number, keyword}
-use Rattle.kdl_lexer.specs.Internal.Tokens.{Token, space, newline, slashdash, string, value, left, right, opening, closing, equals, semicolon, bom, BeginsToken, t_space, t_newline, t_slashdash, t_string, t_value, t_left, t_right, t_opening, t_closing, t_equals, t_semicolon, t_bom}
+use Rattle.kdl_lexer.specs.Internal.Tokens.{Token, space, newline, slashdash, string, value, left, right, opening, closing, equals, semicolon, bom, BeginsToken, t_string, t_value}
 use Rattle.kdl_lexer.proofs.Lexing.FirstCharacters.{number_identifier}
 use Rattle.kdl_lexer.proofs.Lexing.StringUnique.{quote_identifier, sign_identifier, quote_sign, raw_second}
-use Rattle.kdl_lexer.proofs.Lexing.TokenUnique.{kind, kind_of, kind_is, kind_front, kind_first, no_token, no_slash, Alien, no_alien}
+use Rattle.kdl_lexer.proofs.Lexing.TokenUnique.{kind_of, kind_is, kind_front, kind_first, no_token, no_slash, Alien, no_alien}
 
 -- where the first token may not come, nor may the second: it is of the same kind, or a number or keyword in place of a string
 abbrev pub RefusedWith : Token → Token → Type 0

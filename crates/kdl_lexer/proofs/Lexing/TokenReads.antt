@@ -54,10 +54,9 @@ use Rattle.kdl_lexer.specs.declared.lexer.LexFailure.{LexFailure}
 use Rattle.kdl_lexer.specs.declared.lexer.LexFailure.TheVariants.{Faulty, Memory}
 use Rattle.kdl_lexer.specs.declared.lexer.TokenKind.{TokenKind}
 use Rattle.kdl_lexer.proofs.Lexing.TokenUnique.{no_piece, no_slash, no_backslash, no_alien, Alien}
-use Rattle.kdl_lexer.proofs.Lexing.FirstCharacters.{no_quote, number_identifier}
 use Rattle.kdl_lexer.proofs.Fitting.{number_fits}
 use Rattle.kdl_value.proofs.Floating.DecimalTexts.{decimal_float as read_float}
-use Rattle.kdl_lexer.proofs.Lexing.StringUnique.{begins_piece, keyword_front}
+use Rattle.kdl_lexer.proofs.Lexing.StringUnique.{begins_piece, keyword_front, at_identifier, number_front, quote_identifier, sign_identifier}
 use Rattle.kdl_lexer.proofs.Lexing.TokenCost.{first_is, clash, fewer, plain_costs, more_costs}
 
 -- no token, where no string, number or keyword begins with a character of theirs
@@ -68,26 +67,6 @@ alone (c ∷ s) h f g = record { begun = λ e. cc; none = no_piece c s h f g }
 -- bare strings
 pub a_bare_here : (s r p v : Text) → BareString s r p → v ≡ p → Cuts s (string v) r
 a_bare_here s r p v b e = one (t_string (bare (rw e b)))
-
-at_identifier : (s : Text) → starts is_identifier_char s ≡ true → starts begins_piece s ≡ true
-at_identifier [] h = h
-at_identifier (c ∷ s) h = rw h refl
-
-quote_identifier : (s : Text) → starts (λ c. c == 34) s ≡ true → starts is_identifier_char s ≡ true → ⊥
-quote_identifier [] h k = cc
-quote_identifier (c ∷ s) h k = no_quote c k (eqb-true c 34 h)
-
-sign_punctuation : is_identifier_char 35 ≡ false
-unfolding is_identifier_char is_space is_newline_char is_banned is_punctuation
-sign_punctuation = refl
-
-sign_identifier : (s : Text) → starts (λ c. c == 35) s ≡ true → starts is_identifier_char s ≡ true → ⊥
-sign_identifier [] h k = cc
-sign_identifier (c ∷ s) h k = let e : is_identifier_char c ≡ is_identifier_char 35 = ap is_identifier_char (eqb-true c 35 h) in let m = sign_punctuation in cc
-
-number_front : (s : Text) → begins_number s ≡ true → starts is_identifier_char s ≡ true
-number_front [] h = h
-number_front (c ∷ s) h = number_identifier c s h
 
 no_bare : (s : Text) → starts is_identifier_char s ≡ true → begins_number s ≡ false → ((r v : Text) → BareString s r v → ⊥) → NoToken s
 no_bare s h k n = alone s (at_identifier s h) strings plains

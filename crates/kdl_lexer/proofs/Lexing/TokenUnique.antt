@@ -1,5 +1,5 @@
 -- A text begins with one token at most; before a token that may come after a value, a value ends.
-use Rattle.std.proofs.Common.{◌≡◌, ℕ, ◌<◌, List, Bool, true, false, [], ◌∷◌, length, cond, refl, sym, subst, ap, ◌∙◌, ◌==◌, ◌||◌, arith}
+use Rattle.std.proofs.Common.{◌≡◌, ℕ, ◌<◌, List, Bool, true, false, [], ◌∷◌, length, cond, refl, sym, ap, ◌∙◌, ◌==◌, ◌||◌, arith}
 use Rattle.std.proofs.lemmas.Bool.Decides.{nat_tests}
 use Rattle.kdl_text.specs.Chars.{Text, crlf, is_space, is_newline_char, is_banned, is_punctuation, is_identifier_char, begins, starts}
 use Rattle.kdl_text.specs.Chars.Newline.{one as newline_char}
@@ -11,14 +11,14 @@ use Rattle.kdl_text.specs.Trivia.Ws.{space as ws_space, comment as ws_comment}
 use Rattle.kdl_text.specs.Trivia.Escline.{escline}
 use Rattle.kdl_text.specs.Trivia.NodeSpace.{ws, escline as node_escline}
 use Rattle.kdl_text.specs.Trivia.Break.{newline as break_newline, comment as break_comment}
-use Rattle.kdl_text.proofs.Looking.Ends.{End, here, also}
+use Rattle.kdl_text.proofs.Looking.Ends.{End}
 use Rattle.kdl_text.proofs.Spacing.SpaceUnique.{node_space_det, break_det, newline_no_space}
-use Rattle.kdl_text.proofs.Spacing.SpacePieces.{EndOf, node_space_end, break_end, node_space_shorter, break_shorter}
+use Rattle.kdl_text.proofs.Spacing.SpacePieces.{EndOf, node_space_shorter, break_shorter}
 use Rattle.kdl_text.proofs.Spacing.ValueEnds.{space_ends, break_ends}
 use Rattle.kdl_value.specs.Data.{Value}
 use Rattle.kdl_lexer.specs.Pieces.{StringPiece, PlainPiece}
 use Rattle.kdl_lexer.specs.Internal.Tokens.{Token, space, newline, slashdash, string, value, left, right, opening, closing, equals, semicolon, bom, BeginsToken, t_space, t_newline, t_slashdash, t_string, t_value, t_left, t_right, t_opening, t_closing, t_equals, t_semicolon, t_bom, Lexes, done, next}
-use Rattle.kdl_lexer.proofs.Lexing.StringUnique.{begins_piece, string_det, string_begins, string_end, string_shorter, string_or_plain, plain_det, plain_begins, plain_end, plain_shorter}
+use Rattle.kdl_lexer.proofs.Lexing.StringUnique.{begins_piece, string_det, string_begins, string_shorter, string_or_plain, plain_det, plain_begins, plain_shorter}
 
 -- the kinds of tokens, as their first two characters tell them; strings, numbers and keywords are of one kind
 pub data Kind : Type 0 where
@@ -155,26 +155,6 @@ no_token t = omega (arith, token_shorter t)
 
 pub end_of : {s r : Text} → EndOf s r → End s r
 end_of e = record { piece = e.0; text = e.1 }
-
-pub token_end : {s r : Text} {k : Token} → BeginsToken s k r → End s r
-token_end (t_space x) = end_of (node_space_end x)
-token_end (t_newline x) = end_of (break_end x)
-token_end t_slashdash = also 47 (also 45 here)
-token_end (t_string p) = string_end p
-token_end (t_value p) = plain_end p
-token_end t_left = also 40 here
-token_end t_right = also 41 here
-token_end t_opening = also 123 here
-token_end t_closing = also 125 here
-token_end t_equals = also 61 here
-token_end t_semicolon = also 59 here
-token_end t_bom = also 0xFEFF here
-
-pub lexes_det : {s : Text} {ks js : List Token} → Lexes s ks → Lexes s js → ks ≡ js
-lexes_det done done = refl
-lexes_det done (next t l) = absurd (no_token t)
-lexes_det (next t l) done = absurd (no_token t)
-lexes_det {js = js} (next {k = k} t l) (next {ks = js'} u m) = let d = token_det t u in let e = lexes_det l (subst (λ r. Lexes r js') (sym d.0) m) in cc
 
 -- the token may come after a value
 abbrev pub is_end : Token → Bool

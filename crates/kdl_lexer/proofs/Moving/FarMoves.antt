@@ -1,5 +1,6 @@
 -- Spaces, comments and breaks come before each rest that begins with no LF. One that the end of the text ends does so with an LF after it.
-use Rattle.std.proofs.Common.{◌≡◌, ℕ, Bool, true, false, ◌&&◌, ◌==◌, [], ◌∷◌, ◌++◌, refl, ap, ◌∙◌}
+use Rattle.std.proofs.Common.{◌≡◌, ℕ, true, false, ◌&&◌, ◌==◌, [], ◌∷◌, ◌++◌, refl, ap, ◌∙◌}
+use Rattle.std.proofs.Math.Bool.{and-false}
 use Rattle.kdl_text.specs.Chars.{Text, begins, begins_two, is_newline_char, Star, none, more, Newline, crlf, one, space as a_space}
 use Rattle.kdl_text.specs.Internal.Here.{first}
 use Rattle.kdl_text.specs.Trivia.{Parts, close, nested, block, Line, LineComment, line, Ws, EscEnd, escline, NodeSpace, Break}
@@ -22,10 +23,6 @@ record MoveShut (R : Text → Text → Type 0) (s r : Text) : Type 0 where
   full : (u : Text) → first (at.put u) ≡ first s
   there : (u : Text) → R (at.put u) u
 
-and_false : (b : Bool) → (b && false) ≡ false
-and_false true = refl
-and_false false = refl
-
 two_same : (a b c : ℕ) (s t : Text) → first s ≡ first t → begins_two a b (c ∷ s) ≡ begins_two a b (c ∷ t)
 two_same a b c s t e = ap (λ x. (c == a) && x) (begins_first b s t e)
 
@@ -38,7 +35,7 @@ a_feed u = one feed refl
 
 far_newline : {s r : Text} → Newline s r → MoveFar Newline s r
 far_newline crlf = record { at = also 13 (also 10 stands); glue = []; there = λ u h. crlf }
-far_newline (one {c = c} x y) = record { at = also c stands; glue = []; there = λ u h. one x (ap (λ b. (c == 13) && b) h ∙ and_false (c == 13)) }
+far_newline (one {c = c} x y) = record { at = also c stands; glue = []; there = λ u h. one x (ap (λ b. (c == 13) && b) h ∙ and-false (c == 13)) }
 
 far_line : {s r : Text} → Line s r → MoveFar Line s r
 far_line Line.ends = record { at = stands; glue = 10 ∷ []; there = λ u h. Line.newline (a_feed u) }

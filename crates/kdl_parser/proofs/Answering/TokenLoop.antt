@@ -1,5 +1,5 @@
 -- The turns of the loop over the tokens of a text, and what they return.
-use Rattle.std.proofs.Common.{◌≡◌, ◌↔◌, ℕ, ◌+◌, ◌<◌, ◌≤◌, length, [], ◌∷◌, ◌++◌, Some, None, option_map, Result, Ok, Err, refl, sym, ap, subst, ◌∙◌, arith, append_assoc, append-nil}
+use Rattle.std.proofs.Common.{◌≡◌, ◌↔◌, ◌+◌, ◌<◌, ◌≤◌, length, [], ◌∷◌, ◌++◌, Some, None, option_map, Result, Ok, Err, refl, sym, ap, subst, ◌∙◌, arith}
 use Rattle.kdl_text.specs.Chars.{Text, Star, plus}
 use Rattle.kdl_text.specs.Chars.Star.{none as no_star, more}
 use Rattle.kdl_text.specs.Internal.Here.{Here, Spot, first_len}
@@ -7,8 +7,8 @@ use Rattle.kdl_text.specs.Internal.Reading.{Moves}
 use Rattle.kdl_text.specs.Spans.{InText, bytes}
 use Rattle.kdl_text.specs.Trivia.{NodeSpace}
 use Rattle.kdl_text.specs.declared.span.SourceSpan.{SourceSpan}
-use Rattle.kdl_text.proofs.Looking.MovesJoin.{bytes-append}
 use Rattle.kdl_entry.specs.Internal.Building.{Stays}
+use Rattle.kdl_entry.proofs.Reading.EntryLoop.{bytes_before, char_in}
 use Rattle.kdl_lexer.specs.Internal.Handed.{Cuts, one, spaces, NoToken, IsFaultAt, kind_view, HandsOut, Lexed}
 use Rattle.kdl_lexer.specs.Internal.Tokens.{Token, t_space}
 use Rattle.kdl_lexer.specs.declared.lexer.LexFailure.{LexFailure}
@@ -99,14 +99,6 @@ cut_shorter (spaces (plus n m)) = omega (arith, token_shorter (t_space n), space
 
 pub nearer : (before mid after : Here) (k : CodeToken) → HandsOut before k mid → Stays mid after → length after.rest < length before.rest
 nearer before mid after k h y = omega (arith, cut_shorter h.cuts, ap length y.rest)
-
--- the character at a place of the text
-bytes_before : (p s t : Text) (at : ℕ) → t ≡ p ++ s → at + bytes s ≡ bytes t → at ≡ bytes p
-bytes_before p s t at e f = omega (arith, ap bytes e, bytes-append p s, f)
-
-char_in : (s p t : Text) (span : SourceSpan) → t ≡ p ++ s → span.offset ≡ bytes p → span.len ≡ first_len s → InText t span
-char_in [] p t span e f g = (p, [], [], e ∙ simp append-nil, f, g)
-char_in (c ∷ s) p t span e f g = (p, c ∷ [], s, e ∙ sym (append_assoc p (c ∷ []) s), f, omega (arith, g))
 
 pub told : {N : Type 0} (tree : N → Node) (b : Builder N) (here : Here) (t u : Text) (place : Spot) (span : SourceSpan) → Going tree b here t u → place.rest ≡ here.rest → place.at ≡ here.at → IsFaultAt place span → InText t span
 told tree b here t u place span g e f x =

@@ -2,24 +2,9 @@
 use Rattle.std.proofs.Common.{◌≡◌, true, false, List, [], ◌∷◌, Option, Some, None, option_map, map, refl, sym, ap, ◌∙◌}
 use Rattle.kdl_text.specs.Chars.{Text}
 use Rattle.kdl_lexer.specs.Internal.Tokens.{Token, space, value, closing}
-use Rattle.kdl_grammar.specs.Internal.Machine.{no_name, for_name, no_value, for_value, Pending, pending, fresh, spaced, later, Phase, gap, node_slashdash, type_open, type_name, type_done, in_node, property, entry_slashdash, block_slashdash, kept, kept_slashdash, Frame, in_block, in_dropped, in_later, State, at, popped, step, finish, Runs, stops, reads}
-use Rattle.kdl_parser.specs.Internal.Building.{pending_held, phase_held, frame_held, held}
+use Rattle.kdl_grammar.specs.Internal.Machine.{no_name, for_name, no_value, for_value, pending, fresh, spaced, later, Phase, gap, node_slashdash, type_open, type_name, type_done, in_node, property, entry_slashdash, block_slashdash, kept, kept_slashdash, Frame, in_block, in_dropped, in_later, State, at, popped, step, finish, Runs, stops, reads}
+use Rattle.kdl_parser.specs.Internal.Building.{phase_held, frame_held, held}
 use Rattle.kdl_grammar.specs.Tree.{Document, Nodes}
-
-pending_twice : (o : Option Pending) → pending_held (pending_held o) ≡ pending_held o
-pending_twice None = refl
-pending_twice (Some (pending no_name k a)) = refl
-pending_twice (Some (pending (for_name q b) k a)) = refl
-pending_twice (Some (pending (no_value u) k a)) = refl
-pending_twice (Some (pending (for_value u q b j) k a)) = refl
-
-phase_twice : (p : Phase) → phase_held (phase_held p) ≡ phase_held p
-phase_twice (type_name b no_name q i a) = refl
-phase_twice (type_done b no_name q i d a) = refl
-phase_twice (property no_name k b a) = refl
-phase_twice (in_node u (fresh o)) = ap (λ (z : Option Pending). in_node u (fresh z)) (pending_twice o)
-phase_twice (in_node u (spaced o)) = ap (λ (z : Option Pending). in_node u (spaced z)) (pending_twice o)
-phase_twice _ = refl
 
 frame_twice : (f : Frame) → frame_held (frame_held f) ≡ frame_held f
 frame_twice (in_block None q l) = refl
@@ -28,9 +13,6 @@ frame_twice _ = refl
 stack_twice : (fs : List Frame) → map frame_held (map frame_held fs) ≡ map frame_held fs
 stack_twice [] = refl
 stack_twice (f ∷ fs) = let x = frame_twice f in let y = stack_twice fs in cc
-
-pub held_held : (st : State) → held (held st) ≡ held st
-held_held (at p l fs from) = let x = phase_twice p in let y = stack_twice fs in cc
 
 module _ (whole : Text) where
   popped_stack : (l : Option Nodes) (fs : List Frame) (from s r : Text) → option_map held (popped whole l (map frame_held fs) from s r) ≡ option_map held (popped whole l fs from s r)

@@ -1,5 +1,5 @@
 -- What the turns of the loop over the tokens take, and what an item takes.
-use Rattle.std.proofs.Common.{◌≡◌, ℕ, ◌+◌, ◌*◌, ◌≤◌, length, [], ◌++◌, if◌then◌else◌, Bool, true, false, Option, Some, None, Result, Ok, Err, is_some, refl, ap, sym, ◌∙◌, arith, length-append}
+use Rattle.std.proofs.Common.{◌≡◌, ℕ, ◌+◌, ◌*◌, ◌≤◌, length, [], if◌then◌else◌, Bool, true, false, Option, Some, None, Result, Ok, Err, is_some, refl, ap, sym, ◌∙◌, arith, length-append}
 use Rattle.kdl_text.specs.Chars.{Text}
 use Rattle.kdl_text.specs.Internal.Here.{Here, Spot, Ahead}
 use Rattle.kdl_text.specs.Spans.{bytes, raise}
@@ -55,9 +55,6 @@ counting_ends (Err Memory) start before after last n g e v c d y = tt
 -- what is ahead has fewer bytes
 pub fewer : (from to : Spot) → Ahead from to → bytes to.rest ≤ bytes from.rest
 fewer from to a = ahead_fewer from to a
-
-pub split : (p s : Text) → bytes (p ++ s) ≡ bytes p + bytes s
-split p s = bytes-append p s
 
 -- whether it is an entry stays, where an item goes on
 abbrev entry_of : items.Item → Bool

@@ -1,7 +1,6 @@
 //! Nodes, blocks and documents, from their parts.
 
 ghost use Rattle.kdl_grammar.specs.Internal.Machine as machine;
-ghost use Rattle.kdl_grammar.specs.Internal.Machine.{at};
 ghost use Rattle.kdl_parser.specs.Internal.Building.{under_view, kept_view, nodes_view, under_now, valued_at};
 ghost use Rattle.kdl_parser.specs.Internal.States.{SlicedUpTo};
 ghost use Rattle.kdl_grammar.specs.Laid as laid;

@@ -59,6 +59,3 @@ fewer_bytes {a = a} {b = b} m = omega (arith, ap bytes m.piece.1, bytes-append m
 
 pub costs_less : {k : ℕ} {a b : Here} → Costs k 0 a b → Costs k 1 a b
 costs_less c = record { most = omega (arith, c.most); least = c.least }
-
-pub costs_at : {k : ℕ} {a b : Here} → Costs k 0 a b → Costs k 2 a b
-costs_at c = record { most = omega (arith, c.most); least = c.least }

@@ -1,8 +1,8 @@
 -- A cursor that goes into a segment and comes back.
-use Rattle.std.proofs.Common.{◌≡◌, ℕ, ◌+◌, ◌*◌, ◌≤◌, [], length, ap, sym, ◌∙◌, arith}
+use Rattle.std.proofs.Common.{◌≡◌, ℕ, ◌+◌, ◌≤◌, [], ap, sym, ◌∙◌, arith}
 use Rattle.kdl_text.specs.Chars.{Text}
 use Rattle.kdl_text.specs.Internal.Here.{Here, Spot, Counted, Returned}
-use Rattle.kdl_text.specs.Internal.Reading.{Moves, Costs}
+use Rattle.kdl_text.specs.Internal.Reading.{Moves}
 use Rattle.kdl_text.specs.Spans.{bytes}
 
 pub comes_back : (k : ℕ) (a i o d : Here) (place : Spot) (x : Text) → i ≡ record { rest = x; at = 0; steps = a.steps } → place.rest ≡ a.rest → place.at ≡ a.at → Counted k i o → d ≡ record { rest = place.rest; at = place.at; steps = o.steps } → Returned k a d
@@ -18,12 +18,6 @@ comes_back k a i o d place x e r t n f =
 
 pub moves_returned : {k : ℕ} {a b : Here} → Returned k a b → Moves a b
 moves_returned r = record { piece = ([], sym r.rest); at = omega (arith, r.at, ap bytes r.rest); counts = r.counts }
-
-pub costs_returned : (m k : ℕ) (a b : Here) → Returned k a b → Costs m k a b
-costs_returned m k a b r = record {
-  most = omega (arith, r.most, ap (λ z. m * bytes z) r.rest);
-  least = omega (arith, r.counts, ap length r.rest);
-}
 
 pub returned_less : (j k : ℕ) (a b : Here) → j ≤ k → Returned j a b → Returned k a b
 returned_less j k a b h r = record { rest = r.rest; at = r.at; most = omega (arith, r.most, h); counts = r.counts }

@@ -273,9 +273,6 @@ plain_keeps c s ne = go (c == 95) refl
     go true e = absurd (ne (eqb-true c 95 e))
     go false e = rw e refl
 
-pub no_underscore_ends : (c : ℕ) (s : Text) → c ≡ 95 → has_no_underscore (c ∷ s) ≡ false
-no_underscore_ends c s e = rw e refl
-
 pub no_underscore_here : (c : ℕ) (s : Text) → (c ≡ 95 → ⊥) → has_no_underscore (c ∷ s) ≡ has_no_underscore s
 no_underscore_here c s ne = go (c == 95) refl
   where

@@ -8,10 +8,9 @@ use Rattle.kdl_text.specs.Internal.Here.{Here, Returned}
 use Rattle.kdl_text.specs.Spans.{bytes}
 use Rattle.kdl_text.specs.Internal.Reading.{Costs}
 use Rattle.kdl_text.specs.Strings.{Run}
-use Rattle.kdl_text.proofs.Looking.MovesJoin.{bytes-append, costs_then}
+use Rattle.kdl_text.proofs.Looking.MovesJoin.{bytes-append}
 use Rattle.kdl_text.proofs.Looking.Runs.{length-bytes}
 use Rattle.kdl_text.proofs.Looking.SliceCost.{all_of_run}
-use Rattle.kdl_text.proofs.Looking.Returns.{costs_returned}
 use Rattle.kdl_text.proofs.Quoted.UnitUnique.{run_same}
 
 bare_parts : (w : Text) → is_bare w ≡ true → (list_all is_identifier_char w ≡ true) × (bare_form w ≡ true)
@@ -56,10 +55,6 @@ module _ (x t r : Text) (i : Run is_identifier_char t r) (e : t ≡ x ++ r) wher
   past_none v s w (bare f h k) =
       let (ends, same) = past_only s w (bare f h k) in
       false≢true (sym v ∙ ap bare_form (sym same) ∙ (bare_parts w h).1)
-
--- the run, and looks at its front
-pub past_costs : (a e d : Here) → Costs 2 1 a e → Returned 3 e d → Costs 2 4 a d
-past_costs a e d k r = costs_then 2 1 3 a e d k (costs_returned 2 3 e d r)
 
 pub past_cost : (x : Text) (a e d : Here) → a.rest ≡ x ++ e.rest → bare_form x ≡ true → Costs 2 1 a e → Returned 3 e d → Costs 24 0 a d
 past_cost x a e d t v k r =

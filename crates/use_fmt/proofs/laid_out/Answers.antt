@@ -1,5 +1,5 @@
 use Rattle.std.proofs.Common.{◌≡◌, ◌∙◌, false, true, chars, refl, ap, subst, sym}
-use Rattle.kdl.specs.Words.{IndentsBySpaces, IsDocument, Settings, Text, defaults, document_prints, document_says, settings, text_of}
+use Rattle.kdl.specs.Words.{IndentsBySpaces, IsDocument, Settings, Text, defaults, document_prints, settings}
 use Rattle.kdl_text.specs.Chars.{is_space}
 use Rattle.use_fmt.proofs.laid_out.Goals as goal
 
