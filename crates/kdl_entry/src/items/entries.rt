@@ -3,7 +3,7 @@
 ghost use Rattle.kdl_entry.specs.Internal.Building.{item_view, Stays};
 ghost use Rattle.kdl_entry.specs.Internal.EntryMachine as machine;
 ghost use Rattle.kdl_entry.specs.Internal.EntryMachine.{argument_of, ended, finish, keyed_item, entry_by, opened_item, step, word_at};
-ghost use Rattle.kdl_entry.specs.Internal.EntryReading.{word_view, state_view, AnswersEntryText, Stands, Stepped, Ended};
+ghost use Rattle.kdl_entry.specs.Internal.EntryReading.{dropped_view, word_view, state_view, AnswersEntryText, Stands, Stepped, Ended};
 ghost use Rattle.kdl_lexer.specs.Internal.Handed.{kind_view};
 ghost use Rattle.kdl_entry.specs.Places.{between};
 ghost use Rattle.kdl_value.specs.Tree.{text_of, value_tree};
@@ -37,6 +37,13 @@ struct Word<'a> {
     span: SourceSpan,
 }
 
+/// A slashdashed entry: a string, which may still be a key, or something else.
+#[derive(Clone, Copy)]
+enum Dropped {
+    MayBeKey,
+    NoKey,
+}
+
 /// What of the text was read so far.
 #[derive(Drop)]
 enum State<'a> {
@@ -46,8 +53,10 @@ enum State<'a> {
     EntrySlashdash,
     /// An entry being read, which has a type or a key.
     Under(Item<'a>),
-    /// A slashdashed entry: whether it is a string, which may still be a key, and whether spaces follow.
-    Dropped(bool, bool),
+    /// A slashdashed entry.
+    Dropped(Dropped),
+    /// Spaces after a slashdashed entry.
+    Spaced(Dropped),
     /// A string that may still be a key, and where it ended.
     Pending(Word<'a>, Checkpoint<'a>),
     /// The entry, and where it ended.
@@ -203,8 +212,8 @@ fn at_slashdash<'a>(
 {
     match kind {
         TokenKind::Space | TokenKind::Newline => Ok(State::EntrySlashdash),
-        TokenKind::String(_) => Ok(State::Dropped(true, false)),
-        TokenKind::Value(_) => Ok(State::Dropped(false, false)),
+        TokenKind::String(_) => Ok(State::Dropped(Dropped::MayBeKey)),
+        TokenKind::Value(_) => Ok(State::Dropped(Dropped::NoKey)),
         TokenKind::Left => Ok(State::Under(opened(alloc, whole, false, empty(alloc), end))),
         _ => Err(LexFailure::Faulty(fault_at(start))),
     }
@@ -230,28 +239,28 @@ fn at_under<'a>(
         return Ok(State::Under(item));
     };
     if !item.kept {
-        return Ok(State::Dropped(false, false));
+        return Ok(State::Dropped(Dropped::NoKey));
     }
     let repr = text_between(alloc, lexer, start, end)?;
     let entry = entry_from(alloc, UNPLACED, item.leading, key, ty, value, repr);
     Ok(State::Done(entry, end.copied()))
 }
 
-/// Takes a token directly after a slashdashed entry, which is a string or not.
+/// Takes a token directly after a slashdashed entry.
 fn at_dropped<'a>(
-    word: bool,
+    dropped: Dropped,
     alloc: Global,
     whole: &Checkpoint<'a>,
     kind: TokenKind,
     start: &Checkpoint<'a>,
     end: &Checkpoint<'a>,
 ) -> Result<State<'a>, LexFailure>
-    ensures { Stepped (step whole.now.rest (machine.dropped word false)
+    ensures { Stepped (step whole.now.rest (machine.dropped (dropped_view dropped) false)
         (kind_view kind) start.now.rest end.now.rest) start.now result }
 {
     match kind {
-        TokenKind::Space => Ok(State::Dropped(word, true)),
-        TokenKind::Equals if word => Ok(State::Under(keyed(
+        TokenKind::Space => Ok(State::Spaced(dropped)),
+        TokenKind::Equals if matches!(dropped, Dropped::MayBeKey) => Ok(State::Under(keyed(
             alloc,
             whole,
             false,
@@ -266,7 +275,7 @@ fn at_dropped<'a>(
 
 /// Takes a token after a slashdashed entry and spaces.
 fn at_spaced<'a>(
-    word: bool,
+    dropped: Dropped,
     alloc: Global,
     lexer: &mut Lexer<'a>,
     whole: &Checkpoint<'a>,
@@ -276,12 +285,12 @@ fn at_spaced<'a>(
 ) -> Result<State<'a>, LexFailure>
     requires leading { Ahead whole.now start.now }
     requires token { Ahead start.now end.now }
-    ensures did { Stepped (step whole.now.rest (machine.dropped word true)
+    ensures did { Stepped (step whole.now.rest (machine.dropped (dropped_view dropped) true)
         (kind_view kind) start.now.rest end.now.rest) start.now result }
     ensures stays { Stays lexer.old lexer.new }
 {
     match kind {
-        TokenKind::Space | TokenKind::Equals => at_dropped(word, alloc, whole, kind, start, end),
+        TokenKind::Space | TokenKind::Equals => at_dropped(dropped, alloc, whole, kind, start, end),
         TokenKind::Newline => Err(LexFailure::Faulty(fault_at(start))),
         kind => at_start(alloc, lexer, whole, kind, start, end),
     }
@@ -385,10 +394,8 @@ impl<'a> State<'a> {
             State::Start => at_start(alloc, lexer, whole, kind, &start, &end),
             State::EntrySlashdash => at_slashdash(alloc, whole, kind, &start, &end),
             State::Under(item) => at_under(item, alloc, lexer, whole, kind, &start, &end),
-            State::Dropped(word, true) => {
-                at_spaced(word, alloc, lexer, whole, kind, &start, &end)
-            }
-            State::Dropped(word, false) => at_dropped(word, alloc, whole, kind, &start, &end),
+            State::Dropped(dropped) => at_dropped(dropped, alloc, whole, kind, &start, &end),
+            State::Spaced(dropped) => at_spaced(dropped, alloc, lexer, whole, kind, &start, &end),
             State::Pending(word, from) => {
                 at_pending(word, from, alloc, lexer, whole, kind, &start, &end)
             }
