@@ -8,6 +8,7 @@ ghost use Rattle.kdl_grammar.specs.Data.{Nodes};
 ghost use Rattle.kdl_grammar.specs.Grammar.{IsDocument, IsNodeText};
 ghost use Rattle.kdl_grammar.specs.Laid.{LaidNodeText};
 ghost use Rattle.kdl_grammar.specs.Internal.Machine.{AnswersDocument};
+ghost use Rattle.kdl_parser.specs.Earliest.{EarliestOnSyntax};
 ghost use Rattle.kdl_text.specs.Failures.{IsSyntax, TellsOnSyntax};
 ghost use Rattle.kdl_text.specs.Spans.{raise};
 ghost use Rattle.std.specs.Prelude.{◌≡◌, ◌+◌, ◌*◌, ◌≤◌, length, true, IfOk, OnOk};
@@ -25,6 +26,7 @@ fn parse_from(alloc: Global, text: &str, steps: &mut Steps) -> Result<KdlDocumen
     ensures answers { IfOk result (λ d. AnswersDocument (chars text.now) (document_tree d)) }
     ensures refused { IsSyntax result → (x : Nodes) → IsDocument true (chars text.now) x → ⊥ }
     ensures told { TellsOnSyntax text.now result }
+    ensures earliest { EarliestOnSyntax text.now result }
     ensures least { OnOk result (raise steps.old (length (chars text.now)) ≤ steps.new) }
     ensures most { OnOk result (steps.new ≤ steps.old + 32 * (length text.now + 1)) }
     ensures told_most { IsSyntax result → steps.new ≤ steps.old + 160 * (length text.now + 1) }
@@ -58,7 +60,8 @@ impl KdlDocument {
     /// The document of a text, with every byte of its form (KDL 2.0.0, Document).
     ///
     /// Fails with `Syntax` where the text is no document. The error has a diagnostic for each fault that is found, in
-    /// the order of reading, and one at least; reading goes on after a fault. Fails with `Memory` where memory runs out.
+    /// the order of reading, and one at least; reading goes on after a fault. The first one is at the earliest fault that
+    /// there can be. Fails with `Memory` where memory runs out.
     ///
     /// ```
     /// let text = "host localhost // here\nport 0x1F90\n";
@@ -79,6 +82,8 @@ impl KdlDocument {
         // What is refused is not derived, and the error has the places of its faults.
         ensures refused { IsSyntax result → (x : Nodes) → IsDocument true (chars text.now) x → ⊥ }
         ensures told { TellsOnSyntax text.now result }
+        // No fault is earlier than the first: what is before the place where the text is refused begins a document.
+        ensures earliest { EarliestOnSyntax text.now result }
         // What the former language derives is not refused, and is read as before.
         ensures kept { (x : Nodes) → IsFormerDocument (chars text.now) x → IsSyntax result → ⊥ }
         ensures former { (x : Nodes) → IsFormerDocument (chars text.now) x
@@ -120,6 +125,7 @@ impl KdlDocument {
         ensures keeps_none { IfOk result (λ d. DocumentKeepsNoForm d) }
         ensures refused { IsSyntax result → (x : Nodes) → IsDocument true (chars text.now) x → ⊥ }
         ensures told { TellsOnSyntax text.now result }
+        ensures earliest { EarliestOnSyntax text.now result }
         ensures kept { (x : Nodes) → IsFormerDocument (chars text.now) x → IsSyntax result → ⊥ }
         ensures former { (x : Nodes) → IsFormerDocument (chars text.now) x
             → IfOk result (λ d. document_says d ≡ x) }
@@ -152,6 +158,7 @@ impl KdlDocument {
         ensures keeps_none { IfOk result (λ d. DocumentKeepsNoForm d) }
         ensures refused { IsSyntax result → (x : Nodes) → IsDocument true (chars text.now) x → ⊥ }
         ensures told { TellsOnSyntax text.now result }
+        ensures earliest { EarliestOnSyntax text.now result }
         ensures kept { (x : Nodes) → IsFormerDocument (chars text.now) x → IsSyntax result → ⊥ }
         ensures former { (x : Nodes) → IsFormerDocument (chars text.now) x
             → IfOk result (λ d. document_says d ≡ x) }
