@@ -8,6 +8,7 @@ ghost use Rattle.kdl_grammar.specs.Data.{Nodes};
 ghost use Rattle.kdl_grammar.specs.Grammar.{IsDocument, IsNodeText};
 ghost use Rattle.kdl_grammar.specs.Laid.{LaidNodeText};
 ghost use Rattle.kdl_grammar.specs.Internal.Machine.{AnswersDocument};
+ghost use Rattle.kdl_parser.specs.Earliest.{EarliestOnSyntax};
 ghost use Rattle.kdl_text.specs.Failures.{IsSyntax, TellsOnSyntax};
 ghost use Rattle.kdl_text.specs.Spans.{raise};
 ghost use Rattle.std.specs.Prelude.{◌≡◌, ◌+◌, ◌*◌, ◌≤◌, length, true, IfOk, OnOk};
@@ -25,6 +26,7 @@ fn parse_from(alloc: Global, text: &str, steps: &mut Steps) -> Result<KdlDocumen
     ensures answers { IfOk result (λ d. AnswersDocument (chars text.now) (document_tree d)) }
     ensures refused { IsSyntax result → (x : Nodes) → IsDocument true (chars text.now) x → ⊥ }
     ensures told { TellsOnSyntax text.now result }
+    ensures earliest { EarliestOnSyntax text.now result }
     ensures least { OnOk result (raise steps.old (length (chars text.now)) ≤ steps.new) }
     ensures most { OnOk result (steps.new ≤ steps.old + 32 * (length text.now + 1)) }
     ensures told_most { IsSyntax result → steps.new ≤ steps.old + 160 * (length text.now + 1) }
@@ -58,8 +60,8 @@ impl KdlDocument {
     /// Parses a document, and keeps every byte of its form (KDL 2.0.0, Document).
     ///
     /// Returns `Syntax` if the text is not a document. Faults are reported in the order in which reading meets them, an
-    /// unclosed block when the text ends; reading continues after a fault. There is at least one diagnostic. Returns
-    /// `Memory` if an allocation fails.
+    /// unclosed block when the text ends; reading continues after a fault. There is at least one diagnostic; the first
+    /// one is at the earliest fault that the text can have. Returns `Memory` if an allocation fails.
     ///
     /// ```
     /// let text = "host localhost // here\nport 0x1F90\n";
@@ -81,6 +83,8 @@ impl KdlDocument {
         // A refused text is not derived, and the error has the spans of its faults.
         ensures refused { IsSyntax result → (x : Nodes) → IsDocument true (chars text.now) x → ⊥ }
         ensures told { TellsOnSyntax text.now result }
+        // The first diagnostic is where the text is refused: the text before that place begins a document.
+        ensures earliest { EarliestOnSyntax text.now result }
         // A text of the former language is not refused, and is read as before.
         ensures kept { (x : Nodes) → IsFormerDocument (chars text.now) x → IsSyntax result → ⊥ }
         ensures former { (x : Nodes) → IsFormerDocument (chars text.now) x
@@ -122,6 +126,7 @@ impl KdlDocument {
         ensures keeps_none { IfOk result (λ d. DocumentKeepsNoForm d) }
         ensures refused { IsSyntax result → (x : Nodes) → IsDocument true (chars text.now) x → ⊥ }
         ensures told { TellsOnSyntax text.now result }
+        ensures earliest { EarliestOnSyntax text.now result }
         ensures kept { (x : Nodes) → IsFormerDocument (chars text.now) x → IsSyntax result → ⊥ }
         ensures former { (x : Nodes) → IsFormerDocument (chars text.now) x
             → IfOk result (λ d. document_says d ≡ x) }
@@ -154,6 +159,7 @@ impl KdlDocument {
         ensures keeps_none { IfOk result (λ d. DocumentKeepsNoForm d) }
         ensures refused { IsSyntax result → (x : Nodes) → IsDocument true (chars text.now) x → ⊥ }
         ensures told { TellsOnSyntax text.now result }
+        ensures earliest { EarliestOnSyntax text.now result }
         ensures kept { (x : Nodes) → IsFormerDocument (chars text.now) x → IsSyntax result → ⊥ }
         ensures former { (x : Nodes) → IsFormerDocument (chars text.now) x
             → IfOk result (λ d. document_says d ≡ x) }

@@ -3,6 +3,7 @@
 ghost use Rattle.kdl_grammar.specs.Data.{Nodes};
 ghost use Rattle.kdl_grammar.specs.Grammar.{IsDocument};
 ghost use Rattle.kdl_grammar.specs.Internal.Machine.{AnswersDocument};
+ghost use Rattle.kdl_parser.specs.Earliest.{EarliestOnSyntax};
 ghost use Rattle.kdl_parser.specs.Internal.Steps.{CountedOn};
 ghost use Rattle.kdl_parser.specs.Internal.Whole.{AnswersDocumentText, whole_by};
 ghost use Rattle.kdl_text.specs.Failures.{IsSyntax, TellsOnSyntax};
@@ -11,8 +12,8 @@ ghost use Rattle.std.specs.Prelude.{◌≡◌, ◌+◌, ◌*◌, ◌≤◌, leng
 ghost use Rattle.std.specs.Str.{chars};
 
 use crate::node_parts::{DocumentParts, ParsedNode};
+use crate::refusal::refusal;
 use crate::token_loop::build;
-use kdl_faults::{Whole, failure};
 use kdl_lexer::{LexFailure, Lexer};
 use kdl_text::cursor::Steps;
 use kdl_text::error::ParseFailure;
@@ -76,9 +77,11 @@ pub fn read_document<N: ParsedNode>(
 ) -> Result<DocumentText<N>, ParseFailure>
     // The result is the machine's result on the text.
     ensures found { IfOk result (λ d. AnswersDocument (chars text.now) (whole_by N.tree d)) }
-    // A refused text is not derived, and the error reports where.
+    // A refused text is not derived, and the error reports where: its first diagnostic is at the earliest fault that the
+    // text can have.
     ensures refused { IsSyntax result → (x : Nodes) → IsDocument true (chars text.now) x → ⊥ }
     ensures told { TellsOnSyntax text.now result }
+    ensures earliest { EarliestOnSyntax text.now result }
     // At least a step for each character is counted, and at most 32 for each byte and 32 more; for a refused text and
     // the report of its faults, at most 160.
     ensures least { OnOk result (raise steps.old (length (chars text.now)) ≤ steps.new) }
@@ -88,7 +91,7 @@ pub fn read_document<N: ParsedNode>(
 {
     match read_counted(alloc, text, steps) {
         Ok(document) => Ok(document),
-        Err(LexFailure::Faulty(span)) => Err(failure(alloc, text, Whole::Document, span, steps)),
+        Err(LexFailure::Faulty(span)) => Err(refusal(alloc, text, span, steps)),
         Err(LexFailure::Memory) => Err(ParseFailure::Memory),
     }
 }

@@ -14,7 +14,7 @@ use kdl_text::cursor::Checkpoint;
 use std::alloc::Global;
 
 /// Returns the machine's result on the text before the lexer, by a builder that has not taken a token yet.
-#[tactic(auto, using(crate::proofs::Stepping::TurnCost::counting_starts, crate::proofs::Stepping::TurnCost::counting_ends, crate::proofs::Answering::TokenLoop::starts, crate::proofs::Answering::TokenLoop::goes_on, crate::proofs::Answering::TokenLoop::placed_start, crate::proofs::Answering::TokenLoop::start_end, crate::proofs::Answering::TokenLoop::lexer_told, crate::proofs::Answering::TokenLoop::take_told, crate::proofs::Answering::TokenLoop::all_read, crate::proofs::Answering::TokenLoop::stops_going, crate::proofs::Answering::TokenLoop::from_now, crate::proofs::Answering::TokenLoop::finish_told, crate::proofs::Answering::TokenLoop::nearer))]
+#[tactic(auto, using(crate::proofs::Stepping::TurnCost::counting_ends, crate::proofs::Answering::TokenLoop::goes_on, crate::proofs::Answering::TokenLoop::placed_start, crate::proofs::Answering::TokenLoop::start_end, crate::proofs::Answering::TokenLoop::lexer_told, crate::proofs::Answering::TokenLoop::take_told, crate::proofs::Answering::TokenLoop::all_read, crate::proofs::Answering::TokenLoop::stops_going, crate::proofs::Answering::TokenLoop::from_now, crate::proofs::Answering::TokenLoop::finish_told, crate::proofs::Answering::TokenLoop::nearer))]
 fn build_with<'a, N: ParsedNode>(
     alloc: Global,
     builder: &mut Builder<'a, N>,

@@ -12,16 +12,16 @@ use Rattle.kdl_control.specs.Internal.Control as c
 use Rattle.kdl_grammar.proofs.Reading.Complete.{runs_det, placed, built, bom_data}
 use Rattle.kdl_grammar.proofs.Reading.Sound.{derives}
 
-abbrev is_there : Option Pending → Bool
+abbrev pub is_there : Option Pending → Bool
 is_there None = false
 is_there (Some s) = true
 
-abbrev a_spot : Spot → c.Spot
+abbrev pub a_spot : Spot → c.Spot
 a_spot (fresh o) = c.fresh (is_there o)
 a_spot (spaced o) = c.spaced (is_there o)
 a_spot later = c.later
 
-abbrev a_phase : Phase → c.Phase
+abbrev pub a_phase : Phase → c.Phase
 a_phase gap = c.gap
 a_phase node_slashdash = c.node_slashdash
 a_phase (type_open b s a) = c.type_open b
@@ -34,16 +34,17 @@ a_phase (block_slashdash h) = c.block_slashdash
 a_phase (kept x) = c.kept
 a_phase (kept_slashdash x) = c.kept_slashdash
 
-abbrev a_frame : Frame → c.Frame
+abbrev pub a_frame : Frame → c.Frame
 a_frame (in_block h q l) = c.in_block
 a_frame (in_dropped h l) = c.in_dropped
 a_frame (in_later x l) = c.in_later
 
-abbrev a_stack : List Frame → List c.Frame
+abbrev pub a_stack : List Frame → List c.Frame
 a_stack [] = []
 a_stack (f ∷ fs) = a_frame f ∷ a_stack fs
 
-abbrev a_state : State → c.Control
+-- the state without data and places
+abbrev pub a_state : State → c.Control
 a_state (at p l fs from) = c.at (a_phase p) (a_stack fs)
 
 module _ (whole : Text) where
@@ -53,7 +54,8 @@ module _ (whole : Text) where
   popped_is l (in_dropped h m ∷ fs) from s r = refl
   popped_is l (in_later x m ∷ fs) from s r = refl
 
-  erased : (st : State) (k : Token) (s r : Text) → c.step (a_state st) k ≡ option_map a_state (step whole st k s r)
+  -- a step of the one is a step of the other
+  pub erased : (st : State) (k : Token) (s r : Text) → c.step (a_state st) k ≡ option_map a_state (step whole st k s r)
   erased (at gap l fs f) closing s r = popped_is l fs _ s r
   erased (at (kept x) l fs f) closing s r = popped_is _ fs _ s r
   erased (at (in_node h (fresh None)) l fs f) closing s r = popped_is _ fs _ s r

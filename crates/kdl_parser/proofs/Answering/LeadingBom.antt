@@ -9,7 +9,7 @@ use Rattle.kdl_parser.specs.Internal.Answered.{AnswersParts}
 use Rattle.kdl_parser.specs.Internal.Building.{EndsIn}
 use Rattle.kdl_parser.specs.Internal.Whole.{AnswersDocumentText}
 use Rattle.kdl_parser.specs.declared.node_parts.DocumentParts.{DocumentParts}
-use Rattle.kdl_parser.proofs.Answering.Outcomes.{not_begins, plain_answer, plain_failure, bom_answer, bom_failure}
+use Rattle.kdl_parser.proofs.Answering.Outcomes.{plain_answer, plain_failure, bom_answer, bom_failure}
 
 -- what is left after the U+FEFF, or where there is none
 pub bom_ends : (w : Text) (eaten : Bool) (old new : Here) → w ≡ old.rest → Ate 0xFEFF eaten old new → EndsIn w new.rest
@@ -34,5 +34,4 @@ whole_failure tree t w true old new failure e f a x =
     bom_failure tree t new.rest failure (sym f ∙ a.0) (subst (λ (z : Text). AnswersParts tree z new.rest (Err failure)) e x)
 whole_failure tree t w false old new failure e f a x =
     let u : new.rest ≡ t = ap (λ (h : Here). h.rest) a.1 ∙ f in
-    let n = not_begins t (ap (begins 0xFEFF) (sym f) ∙ a.0) in
-    plain_failure tree t failure n (subst (λ (z : Text). AnswersParts tree t z (Err failure)) u (subst (λ (z : Text). AnswersParts tree z new.rest (Err failure)) e x))
+    plain_failure tree t failure (ap (begins 0xFEFF) (sym f) ∙ a.0) (subst (λ (z : Text). AnswersParts tree t z (Err failure)) u (subst (λ (z : Text). AnswersParts tree z new.rest (Err failure)) e x))

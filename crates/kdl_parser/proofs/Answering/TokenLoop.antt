@@ -1,5 +1,5 @@
 -- The turns of the loop over the tokens of a text, and what they return.
-use Rattle.std.proofs.Common.{◌≡◌, ◌↔◌, ◌+◌, ◌<◌, ◌≤◌, length, [], ◌∷◌, ◌++◌, Some, None, option_map, Result, Ok, Err, refl, sym, ap, subst, ◌∙◌, arith}
+use Rattle.std.proofs.Common.{◌≡◌, ◌↔◌, ◌+◌, ◌<◌, ◌≤◌, length, [], ◌∷◌, ◌++◌, Some, None, option_map, Result, Ok, Err, inl, refl, sym, ap, subst, ◌∙◌, arith}
 use Rattle.kdl_text.specs.Chars.{Text, Star, plus}
 use Rattle.kdl_text.specs.Chars.Star.{none as no_star, more}
 use Rattle.kdl_text.specs.Internal.Here.{Here, Spot, first_len}
@@ -14,7 +14,11 @@ use Rattle.kdl_lexer.specs.Internal.Tokens.{Token, t_space}
 use Rattle.kdl_lexer.specs.declared.lexer.LexFailure.{LexFailure}
 use Rattle.kdl_lexer.specs.declared.lexer.LexFailure.TheVariants.{Faulty, Memory}
 use Rattle.kdl_lexer.specs.declared.lexer.Token.{Token as CodeToken}
-use Rattle.kdl_lexer.proofs.Lexing.TokenUnique.{token_shorter}
+use Rattle.kdl_lexer.proofs.Lexing.TokenUnique.{token_shorter, no_token}
+use Rattle.kdl_control.specs.Internal.Control as control
+use Rattle.kdl_grammar.specs.Internal.Going.{Goes}
+use Rattle.kdl_grammar.specs.Internal.Going as going
+use Rattle.kdl_grammar.proofs.Reading.Erased.{a_state}
 use Rattle.kdl_parser.specs.Internal.Answered.{AnswersParts, Finished}
 use Rattle.kdl_grammar.specs.Internal.Machine.{State, step, finish, initial, Runs}
 use Rattle.kdl_parser.specs.Internal.Building.{state_view, held, Did, EndsIn, Placed}
@@ -23,7 +27,10 @@ use Rattle.kdl_parser.specs.Internal.Parts.{document_by}
 use Rattle.kdl_parser.specs.declared.builder.Builder.{Builder}
 use Rattle.kdl_parser.specs.declared.node_parts.DocumentParts.{DocumentParts}
 use Rattle.kdl_parser.proofs.Stepping.PlacesAhead.{placed_step, then_ends}
+use Rattle.kdl_parser.specs.Earliest.{BeginsNone}
+use Rattle.kdl_parser.specs.Internal.Stopping.{Stops, Stuck}
 use Rattle.kdl_parser.proofs.Stepping.MachineSteps.{read_cut, refuses, faults, at_stop}
+use Rattle.kdl_parser.proofs.Stepping.WithoutData.{stepped, refused_step, over_cut, stuck_cut}
 
 -- the machine returns from here on what it returns on u
 abbrev pub Same : Text → Text → State → Text → Type 0
@@ -34,6 +41,7 @@ pub record Going {N : Type 0} (tree : N → Node) (b : Builder N) (here : Here) 
   pub same : Same t u (state_view tree b) here.rest
   pub whole : b.whole.rest ≡ t
   pub placed : Placed (state_view tree b) here.rest
+  pub went : Goes (control.at control.gap []) u (a_state (state_view tree b)) here.rest
   pub text : EndsIn t here.rest
   pub at : here.at + bytes here.rest ≡ bytes t
 
@@ -43,6 +51,9 @@ start_same t u s st e f d = rw (e, f) (λ a. a, λ a. a)
 
 start_placed : (u s : Text) (st : State) → st ≡ initial u → s ≡ u → Placed st s
 start_placed u s st e f = subst (λ (z : State). Placed z s) (sym e) (([], sym f), tt)
+
+start_went : (u s : Text) (st : State) → st ≡ initial u → s ≡ u → Goes (control.at control.gap []) u (a_state st) s
+start_went u s st e f = subst (λ (z : Text). Goes (control.at control.gap []) u (a_state st) z) (sym f) (subst (λ (z : State). Goes (control.at control.gap []) u (a_state z) u) (sym e) going.here)
 
 told_step : (w t s r s' r' : Text) (st st' : State) (k : Token) → w ≡ t → s' ≡ s → r' ≡ r → option_map held (step w st k s' r') ≡ Some (held st') → option_map held (step t st k s r) ≡ Some (held st')
 told_step w t s r s' r' st st' k e f g h = rw (e, f, g) at h
@@ -62,6 +73,7 @@ starts tree t u b here e w f x n = record {
   same = start_same t u here.rest (state_view tree b) e f;
   whole = w;
   placed = start_placed u here.rest (state_view tree b) e f;
+  went = start_went u here.rest (state_view tree b) e f;
   text = subst (λ (z : Text). EndsIn t z) (sym f) x;
   at = ap (λ (z : Text). here.at + bytes z) f ∙ n;
 }
@@ -77,6 +89,7 @@ goes_on tree b b' before mid after t u k g h m e w y =
       same = same_at t u mid.rest after.rest (state_view tree b') y.rest (turn_same t u before.rest mid.rest (state_view tree b) (state_view tree b') (kind_view k.kind) g.same h.cuts e');
       whole = ap (λ (z : Spot). z.rest) w ∙ g.whole;
       placed = subst (λ (z : Text). Placed (state_view tree b') z) (sym y.rest) placed;
+      went = subst (λ (z : Text). Goes (control.at control.gap []) u (a_state (state_view tree b')) z) (sym y.rest) (over_cut g.went h.cuts (stepped t (state_view tree b) (state_view tree b') (kind_view k.kind) before.rest mid.rest e'));
       text = subst (λ (z : Text). EndsIn t z) (sym y.rest) (then_ends g.text piece);
       at = omega (arith, y.at, ap bytes y.rest, m.at, g.at);
     }
@@ -113,14 +126,32 @@ no_turn tree b before mid t u k g h e d a =
     let e' = told_none b.whole.rest t before.rest mid.rest k.start.rest k.end.rest (state_view tree b) (kind_view k.kind) g.whole h.start_rest h.end_rest e in
     refuses t d (state_view tree b) before.rest mid.rest (kind_view k.kind) h.cuts e' ((g.same d).1 a)
 
+-- the machine without data stops there
+stops_there : {N : Type 0} (tree : N → Node) (b : Builder N) (before : Here) (t u : Text) (span : SourceSpan) → Going tree b before t u → span.offset ≡ before.at → Stuck (a_state (state_view tree b)) before.rest → Stops t u span
+stops_there tree b before t u span g e s = record {
+  control = a_state (state_view tree b);
+  rest = before.rest;
+  goes = g.went;
+  text = g.text;
+  place = omega (arith, e, g.at);
+  stuck = s;
+}
+
+stuck_turn : {N : Type 0} (tree : N → Node) (b : Builder N) (before mid : Here) (k : CodeToken) → HandsOut before k mid → step b.whole.rest (state_view tree b) (kind_view k.kind) k.start.rest k.end.rest ≡ None → Stuck (a_state (state_view tree b)) before.rest
+stuck_turn tree b before mid k h e = stuck_cut (a_state (state_view tree b)) h.cuts (refused_step b.whole.rest (state_view tree b) (kind_view k.kind) k.start.rest k.end.rest e)
+
+stuck_end : {N : Type 0} (tree : N → Node) (b : Builder N) (here : Here) → here.rest ≡ [] → Stuck (a_state (state_view tree b)) here.rest
+stuck_end tree b here e = inl (subst BeginsNone (sym e) (λ r k x. no_token x))
+
 -- the lexer's failure, and a token that is refused
 pub lexer_told : {N : Type 0} (tree : N → Node) (b : Builder N) (before after : Here) (t u : Text) (e : LexFailure) → Going tree b before t u → Lexed before (Err e) after → AnswersParts tree t u (Err e)
-lexer_told tree b before after t u (Faulty span) g x = (no_reading tree b before t u g x.0, told tree b before t u (record { rest = before.rest; at = before.at }) span g refl refl x.1)
+lexer_told tree b before after t u (Faulty span) g x = (no_reading tree b before t u g x.0, told tree b before t u (record { rest = before.rest; at = before.at }) span g refl refl x.1, stops_there tree b before t u span g x.1.offset (inl x.0.none))
 lexer_told tree b before after t u Memory g x = tt
 
 pub take_told : {N : Type 0} (tree : N → Node) (b b' : Builder N) (before mid : Here) (t u : Text) (k : CodeToken) (e : LexFailure) → Going tree b before t u → HandsOut before k mid
     → Did {A = Unit {0}} (step b.whole.rest (state_view tree b) (kind_view k.kind) k.start.rest k.end.rest) k.start (Err e) (state_view tree b') → AnswersParts tree t u (Err e)
-take_told tree b b' before mid t u k (Faulty span) g h x = (no_turn tree b before mid t u k g h x.0, told tree b before t u k.start span g h.start_rest h.start_at x.1)
+take_told tree b b' before mid t u k (Faulty span) g h x =
+    (no_turn tree b before mid t u k g h x.0, told tree b before t u k.start span g h.start_rest h.start_at x.1, stops_there tree b before t u span g (x.1.offset ∙ h.start_at) (stuck_turn tree b before mid k h x.0))
 take_told tree b b' before mid t u k Memory g h x = tt
 
 -- the end of the text
@@ -138,6 +169,7 @@ stops_going tree b before after t u g e m =
       same = same_at t u before.rest after.rest (state_view tree b) f g.same;
       whole = g.whole;
       placed = subst (λ (z : Text). Placed (state_view tree b) z) (sym f) g.placed;
+      went = subst (λ (z : Text). Goes (control.at control.gap []) u (a_state (state_view tree b)) z) (sym f) g.went;
       text = subst (λ (z : Text). EndsIn t z) (sym f) g.text;
       at = m.at ∙ g.at;
     }
@@ -167,5 +199,5 @@ no_end tree b here t u g e f =
 pub finish_told : {N : Type 0} (tree : N → Node) (b : Builder N) (here : Here) (t u : Text) (place : Spot) (result : Result (DocumentParts N) LexFailure) → Going tree b here t u → here.rest ≡ [] → place.rest ≡ here.rest → place.at ≡ here.at
     → Finished tree (finish b.whole.rest (state_view tree b)) place result → AnswersParts tree t u result
 finish_told tree b here t u place (Ok d) g e f n x = at_the_end tree b here t u d g e x
-finish_told tree b here t u place (Err (Faulty span)) g e f n x = (no_end tree b here t u g e x.0, told tree b here t u place span g f n x.1)
+finish_told tree b here t u place (Err (Faulty span)) g e f n x = (no_end tree b here t u g e x.0, told tree b here t u place span g f n x.1, stops_there tree b here t u span g (x.1.offset ∙ n) (stuck_end tree b here e))
 finish_told tree b here t u place (Err Memory) g e f n x = tt

@@ -9,12 +9,13 @@ use Rattle.kdl_lexer.specs.declared.lexer.LexFailure.TheVariants.{Faulty, Memory
 use Rattle.kdl_grammar.specs.Internal.Machine.{initial, Runs}
 use Rattle.kdl_grammar.specs.Tree.{Node, Document}
 use Rattle.kdl_parser.specs.Internal.Parts.{document_by}
+use Rattle.kdl_parser.specs.Internal.Stopping.{Stops}
 use Rattle.kdl_parser.specs.declared.node_parts.DocumentParts.{DocumentParts}
 
--- what the machine returns on u, which is the text t or what follows its U+FEFF; for a refused text a place is reported
+-- what the machine returns on u, which is the text t or what follows its U+FEFF; for a refused text the place where it is refused is reported
 abbrev pub AnswersParts : {N : Type 0} → (N → Node) → Text → Text → Result (DocumentParts N) LexFailure → Type 0
 AnswersParts tree t u (Ok d) = Runs t (document_by tree d) (initial u) u
-AnswersParts tree t u (Err (Faulty span)) = ((d : Document) → Runs t d (initial u) u → ⊥) × InText t span
+AnswersParts tree t u (Err (Faulty span)) = ((d : Document) → Runs t d (initial u) u → ⊥) × InText t span × Stops t u span
 AnswersParts tree t u (Err Memory) = Unit {0}
 
 -- what is returned at the end of the text, given what the machine returns; for a refused text the place is reported

@@ -1,6 +1,12 @@
+use Rattle.kdl_parser.proofs.Answering.FirstFault.{earliest}
 use Rattle.kdl_parser.proofs.Answering.Outcomes.{told_counted}
 use Rattle.kdl_parser.proofs.document_text.read_document.Goals as goal
 
 pub returns-in-Err-Faulty-clause-told_most : goal.returns-in-Err-Faulty-clause-told_most
 returns-in-Err-Faulty-clause-told_most g c =
-    λ _. told_counted c.args.text.now c.args.steps.now c.read_counted.new.steps c.failure.new.steps c.utf8.text (rw (c.in-Err-Faulty.is, c.in-Err-Faulty.field-0-is) at c.read_counted.ensures.counted) c.failure.ensures.most
+    λ _. told_counted c.args.text.now c.args.steps.now c.read_counted.new.steps c.refusal.new.steps c.utf8.text (rw (c.in-Err-Faulty.is, c.in-Err-Faulty.field-0-is) at c.read_counted.ensures.counted) c.refusal.ensures.most
+
+pub returns-in-Err-Faulty-clause-earliest : goal.returns-in-Err-Faulty-clause-earliest
+returns-in-Err-Faulty-clause-earliest g c =
+    let a = rw (c.in-Err-Faulty.is, c.in-Err-Faulty.field-0-is) at c.read_counted.ensures.answers in
+    earliest c.args.text.now c.in-Err-Faulty.span.offset c.refusal.result c.utf8.text a.2 c.refusal.ensures.near

@@ -1,6 +1,14 @@
-use Rattle.kdl_parser.proofs.Stepping.TurnCost.{counting_goes_on}
-use Rattle.kdl_parser.proofs.Answering.TokenLoop.{goes_on}
+use Rattle.std.proofs.Common.{refl}
+use Rattle.kdl_parser.specs.Internal.Counted.{unsliced}
+use Rattle.kdl_parser.proofs.Stepping.TurnCost.{counting_starts, counting_goes_on}
+use Rattle.kdl_parser.proofs.Answering.TokenLoop.{starts, goes_on}
 use Rattle.kdl_parser.proofs.token_loop.build_with.Goals as goal
+
+pub tokens-init : goal.tokens-init
+tokens-init g c = (
+  starts g.N.ParsedNode.tree c.args.builder.now.whole.rest c.args.lexer.now.rest c.args.builder.now c.args.lexer.now c.requires.state refl refl c.requires.text c.requires.at,
+  counting_starts c.args.lexer.now (unsliced c.args.builder.now) c.requires.unsliced,
+)
 
 pub tokens-preserved : goal.tokens-preserved
 tokens-preserved g c =
