@@ -1,4 +1,4 @@
--- Where the first fault of a refused document is: nowhere later than where the text is refused, and no fault can be earlier.
+-- Where the first fault of a refused document is: near the place where the text is refused. No fault is earlier, since some document begins with what is before that place.
 use Rattle.std.specs.Prelude.{◌≡◌, ◌⊎◌, ℕ, ◌+◌, ◌≤◌, List, ◌∷◌, ◌++◌, take, Result, Ok, Err}
 use Rattle.std.specs.Str.{chars}
 use Rattle.kdl_text.specs.Chars.{Text}
@@ -42,15 +42,16 @@ pub record IsEarliest (t : Text) (span : SourceSpan) : Type 0 where
   pub refused : IsRefusedAt t place
   pub near : IsNear span place (bytes t)
 
--- the first diagnostic of the error is
+-- the first diagnostic of the error is at such a span
 abbrev pub ReportsEarliest : Text → KdlError → Type 0
 ReportsEarliest t e = (d : KdlDiagnostic) × (ds : List KdlDiagnostic) × (e.diagnostics.items ≡ d ∷ ds) × IsEarliest t d.span
 
--- where the text is refused, the first diagnostic of its error is
+-- where the text is refused, its error reports the earliest fault first; running out of memory says nothing
 abbrev pub FailsEarliest : List ℕ → ParseFailure → Type 0
 FailsEarliest text (Syntax e) = ReportsEarliest (chars text) e
 FailsEarliest text Memory = Unit {0}
 
+-- the same of a result
 abbrev pub EarliestOnSyntax : {A : Type 0} → List ℕ → Result A ParseFailure → Type 0
 EarliestOnSyntax text (Ok x) = Unit {0}
 EarliestOnSyntax text (Err e) = FailsEarliest text e

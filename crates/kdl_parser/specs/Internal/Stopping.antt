@@ -34,6 +34,7 @@ BeginNear ds n end = (d : KdlDiagnostic) × (rest : List KdlDiagnostic) × (ds �
 abbrev pub ReportsNear : List ℕ → ℕ → KdlError → Type 0
 ReportsNear text n e = BeginNear e.diagnostics.items n (length text)
 
+-- where the text is refused, it is
 abbrev pub FailsNear : List ℕ → ℕ → ParseFailure → Type 0
 FailsNear text n (Syntax e) = ReportsNear text n e
 FailsNear text n Memory = Unit {0}
