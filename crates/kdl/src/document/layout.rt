@@ -26,8 +26,9 @@ impl KdlDocument {
     /// of a node. A document without nodes prints one newline. What the document says stays, and so do the spans.
     ///
     /// Comments, and what a slashdash drops, stay between nodes, after a node on its line, between entries, and before a
-    /// block. They are removed inside a type or after it, around `=` and after an entry's value. Spellings are removed
-    /// too, but an entry that is flagged to keep its form keeps the spelling of its value and the text before it.
+    /// block. They are removed inside a type or after it, around `=`, and after the value of an entry that
+    /// `KdlEntry::parse` read. Spellings are removed too, but an entry that is flagged to keep its form keeps the
+    /// spelling of its value and the text before it.
     ///
     /// Where no entry is flagged, the printed text is a document that says the same, and a second call changes nothing.
     ///

@@ -33,9 +33,9 @@ impl KdlNode {
     /// it, one space between the parts of a node. What the node says stays.
     ///
     /// Comments, and what a slashdash drops, stay before or after the node or one below it, between entries, and before
-    /// a block or a terminator. They are removed inside a type or after it, around `=` and after an entry's value.
-    /// Spellings are removed too, but an entry that is flagged to keep its form keeps the spelling of its value and the
-    /// text before it.
+    /// a block or a terminator. They are removed inside a type or after it, around `=`, and after the value of an entry
+    /// that `KdlEntry::parse` read. Spellings are removed too, but an entry that is flagged to keep its form keeps the
+    /// spelling of its value and the text before it.
     ///
     /// Where no entry is flagged, the node prints a document of that one node, and a second call changes nothing.
     ///
