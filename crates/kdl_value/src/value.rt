@@ -34,8 +34,8 @@ impl KdlValue {
     /// Creates a string with a copy of the text. Returns an error if an allocation fails; an empty text needs none.
     ///
     /// ```
-    /// let plain = KdlValue::from_text(alloc, "eu-west")?; // prints "eu-west"
-    /// let quoted = KdlValue::from_text(alloc, "two words")?; // prints "\"two words\""
+    /// let plain = KdlValue::from_text(alloc, "eu-west")?; // prints `eu-west`, without quotes
+    /// let quoted = KdlValue::from_text(alloc, "two words")?; // prints `"two words"`
     /// ```
     pub fn from_text(alloc: Global, text: &str) -> Result<KdlValue, AllocError>
         ensures { IfOk result (λ v. value_tree v ≡ data'.text (chars text.now)) }
@@ -274,7 +274,8 @@ impl Clone for KdlValue {
     }
 }
 
-/// A string as it is spelled, a whole number in base 10, a float as it is, else a keyword.
+/// A string, bare where that reads back and else between quotes, a whole number in base 10, a float as it is, else a
+/// keyword.
 ///
 /// ```
 /// let text = KdlValue::from_text(alloc, "#true")?.to_string(alloc)?; // "\"#true\"": quoted, since it is a string

@@ -26,9 +26,9 @@ impl KdlDocument {
     /// node. A document without nodes prints one newline. The data and the spans are unchanged.
     ///
     /// Comments and slashdashed pieces are kept between nodes, after a node on its line, between entries, and before a
-    /// block. They are removed inside a type or after it, around `=` and after an entry's value. Spellings are removed
-    /// too, but an entry that is flagged to keep its form (`KdlEntry::keep_format`) keeps the spelling of its value and
-    /// the text before it.
+    /// block. They are removed inside a type or after it, around `=`, and after the value of an entry that
+    /// `KdlEntry::parse` read. Spellings are removed too, but an entry that is flagged to keep its form
+    /// (`KdlEntry::keep_format`) keeps the spelling of its value and the text before it.
     ///
     /// If no entry is flagged, the printed text is a document with the same data, and a second call changes nothing.
     ///

@@ -33,9 +33,9 @@ impl KdlNode {
     /// it, one space between the parts of a node. The data of the node is unchanged.
     ///
     /// Comments and slashdashed pieces are kept before or after the node or one below it, between entries, and before a
-    /// block or a terminator. They are removed inside a type or after it, around `=` and after an entry's value.
-    /// Spellings are removed too, but an entry that is flagged to keep its form (`KdlEntry::keep_format`) keeps the
-    /// spelling of its value and the text before it.
+    /// block or a terminator. They are removed inside a type or after it, around `=`, and after the value of an entry
+    /// that `KdlEntry::parse` read. Spellings are removed too, but an entry that is flagged to keep its form
+    /// (`KdlEntry::keep_format`) keeps the spelling of its value and the text before it.
     ///
     /// If no entry is flagged, the node prints a document of that one node, and a second call changes nothing.
     ///
