@@ -1,10 +1,7 @@
 //! What look-ups find after an entry is inserted, pushed or removed.
 
 ghost use Rattle.kdl.specs.Words.{argument_count, IsAdded, IsPutIn, IsSet, IsTakenOut, IsTakenOutAt, value_at, value_of, value_tree};
-ghost use Rattle.kdl.specs.contracts.node.KdlNode.{the_row};
 ghost use Rattle.kdl.specs.declared.node.KdlNode.{KdlNode};
-ghost use Rattle.std.specs.Borrow.{sem};
-ghost use Rattle.std.specs.Io.BufRead.{Rests};
 ghost use Rattle.std.specs.Prelude.{◌≡◌, ◌<◌, IfOk, OnOk, Some, option_map, string_bytes};
 
 use kdl::{KdlEntry, KdlIdentifier, KdlNode, KdlValue, NodeKey};
@@ -20,21 +17,22 @@ pub fn add_argument(node: &mut KdlNode, value: KdlValue) -> Result<(), AllocErro
     }
 }
 
-/// Pushes two arguments to a node that has none, and looks the first one up. Once the borrow ends, the node has both.
+/// Pushes two arguments to a node that has none, and returns a copy of the first one that it has then.
 pub fn first_of_two(
     node: &mut KdlNode,
     first: KdlValue,
     second: KdlValue,
-) -> Result<Option<&KdlValue>, AllocError>
+) -> Result<Option<KdlValue>, AllocError>
     requires { argument_count node.old ≡ 0 }
-    ensures first { IfOk result (λ found.
-        option_map (λ v. value_tree v.now) found ≡ Some (value_tree first)) }
-    ensures* second { sem 𝓛 (Rests the_row node.entry (λ new.
-        OnOk result (value_at 1 new ≡ Some (value_tree second)))) }
+    ensures first { IfOk result (λ found. option_map value_tree found ≡ Some (value_tree first)) }
+    ensures second { OnOk result (value_at 1 node.new ≡ Some (value_tree second)) }
 {
     add_argument(node, first)?;
     add_argument(node, second)?;
-    Ok(node.get(NodeKey::Index(0)))
+    match node.get(NodeKey::Index(0)) {
+        Some(found) => Ok(Some(found.clone()?)),
+        None => Ok(None),
+    }
 }
 
 /// Pushes an argument, and removes and returns the first one: the node has as many arguments as before.

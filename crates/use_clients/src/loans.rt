@@ -1,9 +1,6 @@
 //! What look-ups find after a value is written through a loan.
 
 ghost use Rattle.kdl.specs.Words.{IsArgumentSet, IsSet, IsSetIn, property_value, value_at, value_named, value_tree};
-ghost use Rattle.kdl.specs.contracts.document.KdlDocument.{the_row};
-ghost use Rattle.std.specs.Borrow.{sem};
-ghost use Rattle.std.specs.Io.BufRead.{Rests};
 ghost use Rattle.std.specs.Prelude.{◌≡◌, IfOk, IfSome, OnSome, is_some, true};
 
 use kdl::{KdlDocument, KdlNode, KdlValue, NodeKey};
@@ -73,20 +70,23 @@ pub fn write_setting(document: &mut KdlDocument, name: &str, value: KdlValue) ->
     true
 }
 
-/// Writes a setting and looks it up: the look-up finds the value where the setting is there. Once the borrow ends, the
-/// document is one with that setting.
-pub fn write_and_get<'a>(
-    document: &'a mut KdlDocument,
+/// Writes a setting, looks it up, and returns a copy of what that finds: the value, where the setting is there.
+pub fn write_and_get(
+    document: &mut KdlDocument,
     name: &str,
     value: KdlValue,
-) -> Option<&'a KdlValue>
-    ensures there { is_some result ≡ is_some (value_named name.now document.old) }
-    ensures found { IfSome result (λ v. value_tree v.now ≡ value_tree value) }
-    ensures* sets { sem 𝓛 (Rests the_row document.entry (λ new.
-        OnSome result (IsSetIn name.now (value_tree value) document.old new))) }
+) -> Result<Option<KdlValue>, AllocError>
+    ensures there { IfOk result (λ found.
+        is_some found ≡ is_some (value_named name.now document.old)) }
+    ensures found { IfOk result (λ found. IfSome found (λ v. value_tree v ≡ value_tree value)) }
+    ensures sets { IfOk result (λ found. OnSome found
+        (IsSetIn name.now (value_tree value) document.old document.new)) }
 {
     if !write_setting(document, name, value) {
-        return None;
+        return Ok(None);
     }
-    document.get_arg(name)
+    match document.get_arg(name) {
+        Some(found) => Ok(Some(found.clone()?)),
+        None => Ok(None),
+    }
 }

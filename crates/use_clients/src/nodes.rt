@@ -86,10 +86,10 @@ pub fn add_child(document: &mut KdlDocument, name: &str, child: KdlNode) -> Resu
     let Some(node) = document.get_mut(name) else {
         return Ok(());
     };
-    match node.push_child(child) {
-        Ok(()) => Ok(()),
-        Err((_, error)) => Err(error),
-    }
+    let Ok(()) = node.push_child(child) else {
+        return Err(AllocError);
+    };
+    Ok(())
 }
 
 /// The document of a text, with the node of another text as the last child of its first node of a name: it reads back.

@@ -78,18 +78,22 @@ pub fn push_typed(
     let mut entry = KdlEntry::new(value);
     entry.set_name(Some(KdlIdentifier::from_text(alloc, name)?));
     entry.set_ty(KdlIdentifier::from_text(alloc, ty)?);
-    match node.push(entry) {
-        Ok(()) => Ok(()),
-        Err((_, error)) => Err(error),
-    }
+    let Ok(()) = node.push(entry) else {
+        return Err(AllocError);
+    };
+    Ok(())
 }
 
-/// The text of a document that reads back is a document with its data.
+/// The text of a document that reads back is a document with its data, and with no others.
 fn printed(alloc: Global, document: &KdlDocument) -> Result<String, AllocError>
     requires { DocumentReadsBack document.now }
-    ensures { IfOk result (λ out. IsDocument true (text_of out) (document_says document.now)) }
+    ensures document { IfOk result (λ out.
+        IsDocument true (text_of out) (document_says document.now)) }
+    ensures only { IfOk result (λ out. (y : Nodes)
+        → IsDocument true (text_of out) y → y ≡ document_says document.now) }
 {
     printed_reads_back();
+    printed_reads_once();
     Ok(document.to_string(alloc)?)
 }
 
