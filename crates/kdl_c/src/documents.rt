@@ -1,8 +1,9 @@
 //! Documents read from a text, and printed.
 
 ghost use Rattle.kdl.specs.Words.{IsDocument, LaidDocument, Nodes, document_prints, document_says, document_tree};
+ghost use Rattle.kdl_c.specs.Statuses.{IsAmong};
 ghost use Rattle.kdl_calls.specs.Answers.{printed_bytes};
-ghost use Rattle.std.specs.Prelude.{◌≡◌, ◌++◌, IfSome, IsNone, IsSome, None, drop, length, true};
+ghost use Rattle.std.specs.Prelude.{◌≡◌, ◌++◌, ◌<◌, ◌∷◌, [], IfSome, IsNone, IsSome, IsSomeAnd, None, drop, length, true};
 ghost use Rattle.std.specs.Str.{IsUtf8, chars};
 
 use kdl::KdlDocument;
@@ -27,6 +28,7 @@ pub extern "C" fn kdl_parse(alloc: Global, text: &[u8], document: &mut Handle) -
     ensures utf8 { result ≡ 2 → IsUtf8 text.now → ⊥ }
     ensures refused { result ≡ 1 → (x : Nodes) → IsDocument true (chars text.now) x → ⊥ }
     ensures kept { (result ≡ 0 → ⊥) → document.new.held.document ≡ document.old.held.document }
+    ensures statuses { IsAmong (0 ∷ 1 ∷ 2 ∷ 3 ∷ []) result }
 {
     let Ok(text) = std::str::from_utf8(text) else {
         return NOT_UTF8;
@@ -60,14 +62,16 @@ pub extern "C" fn kdl_print(
     needed: &mut usize,
 ) -> u32
     ensures same { document.new.held.document ≡ document.old.held.document }
-    ensures printed { result ≡ 0 → IfSome document.old.held.document (λ d.
+    ensures printed { result ≡ 0 → IsSomeAnd document.old.held.document (λ d.
         out.new ≡ printed_bytes d ++ drop (length (printed_bytes d)) out.old) }
     ensures whole { result ≡ 0 → IfSome document.old.held.document (λ d.
         needed.new ≡ length (printed_bytes d)) }
-    ensures small { result ≡ 4 → IfSome document.old.held.document (λ d.
+    ensures small { result ≡ 4 → IsSomeAnd document.old.held.document (λ d.
         needed.new ≡ length (printed_bytes d)) }
+    ensures room { result ≡ 4 → length out.old < needed.new }
+    ensures kept { (result ≡ 0 → ⊥) → out.new ≡ out.old }
     ensures missing { result ≡ 5 → IsNone document.old.held.document }
-    ensures parses_nothing { result ≡ 1 → ⊥ }
+    ensures statuses { IsAmong (0 ∷ 3 ∷ 4 ∷ 5 ∷ []) result }
 {
     *needed = 0;
     let Some(held) = document.take(alloc) else {

@@ -1,9 +1,11 @@
 //! Nodes found by their name, entries by their key.
 
 ghost use Rattle.kdl.specs.Words.{argument_named, entry_data, entry_tree, is_node_named, nodes_of, property_place};
+ghost use Rattle.kdl_c.specs.Statuses.{IsAmong};
 ghost use Rattle.kdl_calls.specs.Paths.{node_at, nodes_at};
 ghost use Rattle.kdl_calls.specs.Says.{IsWithin, SaysEntry};
-ghost use Rattle.std.specs.Prelude.{◌≡◌, ◌≤◌, ◌<◌, IfSome, IsNone, IsSome, None, Some, length, option_and_then, position, take};
+ghost use Rattle.std.specs.Prelude.{◌≡◌, ◌≤◌, ◌∷◌, [], IfSome, IsNone, IsSome, IsSomeAnd, None, Some, length, option_and_then, position, take};
+ghost use Rattle.std.specs.Str.{IsUtf8};
 
 use kdl_calls::names::{first_argument, first_named, last_property, put_index};
 use kdl_calls::path::{node_at, nodes_at};
@@ -23,9 +25,9 @@ pub extern "C" fn kdl_get(
     strings: &mut [u8],
     string_len: &mut usize,
 ) -> u32
-    ensures there { result ≡ 0 → IfSome document.old.held.document (λ d.
+    ensures there { IsAmong (0 ∷ 4 ∷ []) result → IsSomeAnd document.old.held.document (λ d.
         IsSome (argument_named name.now d)) }
-    ensures missing { result ≡ 6 → IfSome document.old.held.document (λ d.
+    ensures absent { result ≡ 6 → IsSomeAnd document.old.held.document (λ d.
         IsNone (argument_named name.now d)) }
     ensures says { result ≡ 0 → IfSome document.old.held.document (λ d.
         IfSome (argument_named name.now d) (λ e.
@@ -33,6 +35,7 @@ pub extern "C" fn kdl_get(
     ensures within { result ≡ 0 → IsWithin string_len.new row.new }
     ensures strings { result ≡ 0 → string_len.new ≤ length strings.old }
     ensures same { document.new.held.document ≡ document.old.held.document }
+    ensures missing { result ≡ 5 → IsNone document.old.held.document }
     ensures parses_nothing { result ≡ 1 → ⊥ }
 {
     *string_len = 0;
@@ -60,14 +63,16 @@ pub extern "C" fn kdl_find(
     name: &[u8],
     index: &mut usize,
 ) -> u32
-    ensures found { result ≡ 0 → IfSome document.old.held.document (λ d.
+    ensures found { result ≡ 0 → IsSomeAnd document.old.held.document (λ d.
         option_and_then (position (is_node_named name.now)) (nodes_at path.now (nodes_of d))
         ≡ Some index.new) }
-    ensures missing { result ≡ 6 → IfSome document.old.held.document (λ d.
+    ensures absent { result ≡ 6 → IsSomeAnd document.old.held.document (λ d.
         option_and_then (position (is_node_named name.now)) (nodes_at path.now (nodes_of d))
         ≡ None) }
     ensures same { document.new.held.document ≡ document.old.held.document }
-    ensures parses_nothing { result ≡ 1 → ⊥ }
+    ensures utf8 { result ≡ 2 → IsUtf8 name.now → ⊥ }
+    ensures missing { result ≡ 5 → IsNone document.old.held.document }
+    ensures statuses { IsAmong (0 ∷ 2 ∷ 5 ∷ 6 ∷ []) result }
 {
     *index = 0;
     let Ok(name) = std::str::from_utf8(name) else {
@@ -93,13 +98,15 @@ pub extern "C" fn kdl_find_entry(
     name: &[u8],
     index: &mut usize,
 ) -> u32
-    ensures found { result ≡ 0 → IfSome document.old.held.document (λ d.
+    ensures found { result ≡ 0 → IsSomeAnd document.old.held.document (λ d.
         option_and_then (property_place name.now) (node_at path.now (nodes_of d))
         ≡ Some index.new) }
-    ensures missing { result ≡ 6 → IfSome document.old.held.document (λ d.
+    ensures absent { result ≡ 6 → IsSomeAnd document.old.held.document (λ d.
         option_and_then (property_place name.now) (node_at path.now (nodes_of d)) ≡ None) }
     ensures same { document.new.held.document ≡ document.old.held.document }
-    ensures parses_nothing { result ≡ 1 → ⊥ }
+    ensures utf8 { result ≡ 2 → IsUtf8 name.now → ⊥ }
+    ensures missing { result ≡ 5 → IsNone document.old.held.document }
+    ensures statuses { IsAmong (0 ∷ 2 ∷ 5 ∷ 6 ∷ []) result }
 {
     *index = 0;
     let Ok(name) = std::str::from_utf8(name) else {

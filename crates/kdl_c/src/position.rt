@@ -1,8 +1,9 @@
 //! Lines and columns of a text.
 
+ghost use Rattle.kdl_c.specs.Statuses.{IsAmong};
 ghost use Rattle.kdl_calls.specs.Positions.{IsNoPosition, IsPosition};
-ghost use Rattle.std.specs.Prelude.{◌≡◌};
-ghost use Rattle.std.specs.Str.{chars};
+ghost use Rattle.std.specs.Prelude.{◌≡◌, ◌∷◌, []};
+ghost use Rattle.std.specs.Str.{IsUtf8, chars};
 
 use kdl_calls::place;
 use kdl_calls::status::{NOT_FOUND, NOT_UTF8, OK};
@@ -18,7 +19,9 @@ pub extern "C" fn kdl_position(
 ) -> u32
     ensures found { result ≡ 0 → IsPosition (chars text.now) offset line.new column.new }
     ensures missing { result ≡ 6 → IsNoPosition (chars text.now) offset }
-    ensures parses_nothing { result ≡ 1 → ⊥ }
+    ensures utf8 { result ≡ 2 → IsUtf8 text.now → ⊥ }
+    ensures cleared { (result ≡ 0 → ⊥) → (line.new ≡ 0) × (column.new ≡ 0) }
+    ensures statuses { IsAmong (0 ∷ 2 ∷ 6 ∷ []) result }
 {
     *line = 0;
     *column = 0;

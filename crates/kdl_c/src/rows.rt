@@ -1,11 +1,11 @@
 //! The rows of a document, all at once and one at a time.
 
-ghost use Rattle.kdl.specs.Words.{document_says, entries_of, entry_data, entry_tree, node_says, nodes_of};
-ghost use Rattle.kdl.specs.declared.node.KdlNode.{out-KdlNode};
+ghost use Rattle.kdl.specs.Words.{document_says, entries_of, entry_data, entry_tree, node_says, node_span_of, nodes_of};
+ghost use Rattle.kdl_c.specs.Statuses.{IsAmong};
 ghost use Rattle.kdl_rows.specs.Flat.{SayAll, flattened};
 ghost use Rattle.kdl_calls.specs.Paths.{node_at, nodes_at};
 ghost use Rattle.kdl_calls.specs.Says.{IsWithin, SaysEntry, SaysNode};
-ghost use Rattle.std.specs.Prelude.{◌≡◌, ◌≤◌, ◌<◌, All, IfSome, IsNone, length, slice_get, take};
+ghost use Rattle.std.specs.Prelude.{◌≡◌, ◌≤◌, ◌<◌, ◌∷◌, [], All, IfSome, IsNone, IsSome, IsSomeAnd, length, slice_get, take};
 
 use kdl_calls::path::{node_at, nodes_at};
 use kdl_calls::row::{KdlRow, put_found, put_node};
@@ -33,7 +33,9 @@ pub extern "C" fn kdl_tree(
     ensures says { result ≡ 0 → IfSome document.old.held.document (λ d.
         SayAll (take string_len.new strings.new) (take row_count.new rows.new)
         (flattened (document_says d))) }
-    ensures parses_nothing { result ≡ 1 → ⊥ }
+    ensures held { IsAmong (0 ∷ 4 ∷ []) result → IsSome document.old.held.document }
+    ensures missing { result ≡ 5 → IsNone document.old.held.document }
+    ensures statuses { IsAmong (0 ∷ 3 ∷ 4 ∷ 5 ∷ []) result }
 {
     *row_count = 0;
     *string_len = 0;
@@ -56,12 +58,14 @@ pub extern "C" fn kdl_node_count(
     path: &[usize],
     count: &mut usize,
 ) -> u32
-    ensures counted { result ≡ 0 → IfSome document.old.held.document (λ d.
-        IfSome (nodes_at path.now (nodes_of d)) (λ ns. count.new ≡ length ns)) }
-    ensures missing { result ≡ 6 → IfSome document.old.held.document (λ d.
+    ensures counted { result ≡ 0 → IsSomeAnd document.old.held.document (λ d.
+        IsSomeAnd (nodes_at path.now (nodes_of d)) (λ ns. count.new ≡ length ns)) }
+    ensures absent { result ≡ 6 → IsSomeAnd document.old.held.document (λ d.
         IsNone (nodes_at path.now (nodes_of d))) }
+    ensures cleared { (result ≡ 0 → ⊥) → count.new ≡ 0 }
     ensures same { document.new.held.document ≡ document.old.held.document }
-    ensures parses_nothing { result ≡ 1 → ⊥ }
+    ensures missing { result ≡ 5 → IsNone document.old.held.document }
+    ensures statuses { IsAmong (0 ∷ 5 ∷ 6 ∷ []) result }
 {
     *count = 0;
     let Some(held) = document.take(alloc) else {
@@ -89,20 +93,21 @@ pub extern "C" fn kdl_node(
     strings: &mut [u8],
     string_len: &mut usize,
 ) -> u32
-    ensures counted { result ≡ 0 → IfSome document.old.held.document (λ d.
-        IfSome (node_at path.now (nodes_of d)) (λ n. entries.new ≡ length (entries_of n))) }
-    ensures missing { result ≡ 6 → IfSome document.old.held.document (λ d.
+    ensures there { IsAmong (0 ∷ 4 ∷ []) result → IsSomeAnd document.old.held.document (λ d.
+        IsSomeAnd (node_at path.now (nodes_of d)) (λ n. entries.new ≡ length (entries_of n))) }
+    ensures absent { result ≡ 6 → IsSomeAnd document.old.held.document (λ d.
         IsNone (node_at path.now (nodes_of d))) }
-    ensures start { result ≡ 0 → IfSome document.old.held.document (λ d.
+    ensures span { IsAmong (0 ∷ 4 ∷ []) result → IfSome document.old.held.document (λ d.
         IfSome (node_at path.now (nodes_of d)) (λ n.
-        row.new.start ≡ (out-KdlNode n).span.offset)) }
+        (row.new.start ≡ (node_span_of n).offset) × (row.new.len ≡ (node_span_of n).len))) }
     ensures within { result ≡ 0 → IsWithin string_len.new row.new }
     ensures says { result ≡ 0 → IfSome document.old.held.document (λ d.
         IfSome (node_at path.now (nodes_of d)) (λ n.
         SaysNode (take string_len.new strings.new) row.new (node_says n))) }
     ensures same { document.new.held.document ≡ document.old.held.document }
     ensures strings { result ≡ 0 → string_len.new ≤ length strings.old }
-    ensures parses_nothing { result ≡ 1 → ⊥ }
+    ensures missing { result ≡ 5 → IsNone document.old.held.document }
+    ensures statuses { IsAmong (0 ∷ 4 ∷ 5 ∷ 6 ∷ []) result }
 {
     *entries = 0;
     *string_len = 0;
@@ -132,14 +137,17 @@ pub extern "C" fn kdl_entry(
     strings: &mut [u8],
     string_len: &mut usize,
 ) -> u32
-    ensures there { result ≡ 0 → IfSome document.old.held.document (λ d.
-        IfSome (node_at path.now (nodes_of d)) (λ n. index < length (entries_of n))) }
+    ensures there { IsAmong (0 ∷ 4 ∷ []) result → IsSomeAnd document.old.held.document (λ d.
+        IsSomeAnd (node_at path.now (nodes_of d)) (λ n. index < length (entries_of n))) }
     ensures within { result ≡ 0 → IsWithin string_len.new row.new }
     ensures says { result ≡ 0 → IfSome document.old.held.document (λ d.
         IfSome (node_at path.now (nodes_of d)) (λ n. IfSome (slice_get (entries_of n) index) (λ e.
         SaysEntry (take string_len.new strings.new) row.new (entry_data (entry_tree e))))) }
+    ensures absent { result ≡ 6 → IsSomeAnd document.old.held.document (λ d.
+        IfSome (node_at path.now (nodes_of d)) (λ n. length (entries_of n) ≤ index)) }
     ensures same { document.new.held.document ≡ document.old.held.document }
     ensures strings { result ≡ 0 → string_len.new ≤ length strings.old }
+    ensures missing { result ≡ 5 → IsNone document.old.held.document }
     ensures parses_nothing { result ≡ 1 → ⊥ }
 {
     *string_len = 0;

@@ -1,0 +1,2 @@
+-- Which statuses a call returns.
+pub mod Statuses
