@@ -1,6 +1,6 @@
 -- Edits of a node, and of a node inside a document or a block.
-use Rattle.std.specs.Prelude.{◌≡◌, ℕ, List, Some, IfSome, IsSome}
-use Rattle.kdl.specs.Words.{IsAdded, IsArgumentSet, IsTakenOut, Value, block_of, node_named, value_at, with_children, with_node_named}
+use Rattle.std.specs.Prelude.{◌≡◌, ℕ, List, Option, Some, IfSome, IsSome, option_and_then}
+use Rattle.kdl.specs.Words.{IsAdded, IsArgumentSet, IsTakenOut, Value, block_of, node_format_of, node_named, value_at, with_children, with_node_named}
 use Rattle.kdl.specs.declared.document.KdlDocument.{KdlDocument}
 use Rattle.kdl.specs.declared.node.KdlNode.{KdlNode}
 
@@ -15,6 +15,10 @@ InBlock P n m = IfSome (block_of n) (λ d. (e : KdlDocument) × (m ≡ with_chil
 -- where n has arguments, the first one has the value
 abbrev pub IsFirstSet : Value → KdlNode → KdlNode → Type 0
 IsFirstSet v n m = IsSome (value_at 0 n) → IsArgumentSet 0 v n m
+
+-- the value of the argument at that place, none where the node has no format
+abbrev pub formed_value_at : ℕ → KdlNode → Option Value
+formed_value_at i n = option_and_then (λ _. value_at i n) (node_format_of n)
 
 -- a property of that name is removed, then an argument pushed, then the value of the first argument set
 pub record IsEdited (s : List ℕ) (one other : Value) (n m : KdlNode) : Type 0 where

@@ -1,20 +1,21 @@
 //! An edit in a nested block: all bytes of the text outside that piece stay.
 
-ghost use Rattle.kdl.specs.Words.{IsExchanged, IsExchangedInDocument, IsExchangedInNode, block_of, document_prints, entry_tree, node_format_of, node_named, print_piece, value_at, value_of};
-ghost use Rattle.std.specs.Prelude.{◌≡◌, IfSome, IsSome, option_and_then};
+ghost use Rattle.kdl.specs.Words.{IsExchanged, IsExchangedInDocument, IsExchangedInNode, block_of, document_prints, document_tree, entry_tree, node_named, node_tree, print_piece, value_of};
+ghost use Rattle.std.specs.Prelude.{◌≡◌, IfNone, IfSome, option_and_then};
+ghost use Rattle.use_theorems.specs.Edits.{formed_value_at};
 
 use kdl::{KdlDocument, KdlEntry, KdlNode, NodeKey};
 use std::mem::replace;
 
-/// Exchanges an argument of a node with a format, and returns the old one, or none where there is none.
+/// Exchanges an argument of a node with a format, and returns the old one. None where the node has no format or no such
+/// argument: then it stays as it is.
 pub fn exchange_entry(node: &mut KdlNode, index: usize, entry: KdlEntry) -> Option<KdlEntry>
     ensures bytes { IfSome result (λ old. IsExchangedInNode
         (print_piece (entry_tree old)) (print_piece (entry_tree entry)) node.old node.new) }
-    ensures old { IsSome (node_format_of node.old) → value_of result ≡ value_at index node.old }
+    ensures old { value_of result ≡ formed_value_at index node.old }
+    ensures stays { IfNone result (node_tree node.new ≡ node_tree node.old) }
 {
-    if node.format().is_none() {
-        return None;
-    }
+    node.format()?;
     let Some(place) = node.entry_mut(NodeKey::Index(index)) else {
         return None;
     };
@@ -30,8 +31,9 @@ pub fn exchange_in_document(
 ) -> Option<KdlEntry>
     ensures bytes { IfSome result (λ old. IsExchangedInDocument
         (print_piece (entry_tree old)) (print_piece (entry_tree entry)) document.old document.new) }
-    ensures old { IfSome (node_named name.now document.old) (λ n.
-        IsSome (node_format_of n) → value_of result ≡ value_at index n) }
+    ensures old { value_of result ≡
+        option_and_then (formed_value_at index) (node_named name.now document.old) }
+    ensures stays { IfNone result (document_tree document.new ≡ document_tree document.old) }
 {
     let Some(node) = document.get_mut(name) else {
         return None;
@@ -49,8 +51,9 @@ pub fn exchange_in_block(
 ) -> Option<KdlEntry>
     ensures bytes { IfSome result (λ old. IsExchangedInNode
         (print_piece (entry_tree old)) (print_piece (entry_tree entry)) node.old node.new) }
-    ensures old { IfSome (option_and_then (node_named name.now) (block_of node.old)) (λ n.
-        IsSome (node_format_of n) → value_of result ≡ value_at index n) }
+    ensures old { value_of result ≡ option_and_then (formed_value_at index)
+        (option_and_then (node_named name.now) (block_of node.old)) }
+    ensures stays { IfNone result (node_tree node.new ≡ node_tree node.old) }
 {
     let Some(block) = node.children_mut() else {
         return None;
@@ -70,9 +73,10 @@ pub fn exchange_nested(
     ensures bytes { IfSome result (λ old. IsExchanged
         (print_piece (entry_tree old)) (print_piece (entry_tree entry))
         (document_prints document.old) (document_prints document.new)) }
-    ensures old { IfSome (option_and_then (node_named inner.now)
-        (option_and_then block_of (node_named outer.now document.old))) (λ n.
-        IsSome (node_format_of n) → value_of result ≡ value_at index n) }
+    ensures old { value_of result ≡ option_and_then (formed_value_at index)
+        (option_and_then (node_named inner.now)
+        (option_and_then block_of (node_named outer.now document.old))) }
+    ensures stays { IfNone result (document_tree document.new ≡ document_tree document.old) }
 {
     let Some(node) = document.get_mut(outer) else {
         return None;

@@ -1,7 +1,7 @@
 //! Documents that calls build: what they print reads back.
 
-ghost use Rattle.kdl.specs.Words.{DocumentReadsBack, IsDocument, NodeEnds, NodeReadsBack, Nodes, document_says, node_says, said_nodes, text_of};
-ghost use Rattle.std.specs.Prelude.{◌≡◌, ◌++◌, [], ◌∷◌, IfOk, true};
+ghost use Rattle.kdl.specs.Words.{ChildPut, DocumentReadsBack, IsDocument, NodeEnds, NodeReadsBack, Nodes, child_nodes, document_says, integer, node_says, said_argument, said_entries, said_name, said_nodes, said_property, text_of, value_tree};
+ghost use Rattle.std.specs.Prelude.{◌≡◌, ◌++◌, [], ◌∷◌, IfOk, Some, chars, codes, length, map, pos, true};
 
 use crate::reads_back::{add_argument, insert_property, printed};
 use kdl::{KdlDocument, KdlIdentifier, KdlNode, KdlValue};
@@ -17,7 +17,12 @@ pub fn one_node(
     one: KdlValue,
     other: KdlValue,
 ) -> Result<KdlNode, AllocError>
-    ensures { IfOk result NodeEnds }
+    ensures ends { IfOk result NodeEnds }
+    ensures name { IfOk result (λ n. said_name (node_says n) ≡ chars name.now) }
+    ensures argument { IfOk result (λ n.
+        said_argument 0 (node_says n) ≡ Some (value_tree one)) }
+    ensures property { IfOk result (λ n.
+        said_property (chars property.now) (node_says n) ≡ Some (value_tree other)) }
 {
     let mut node = KdlNode::new(KdlIdentifier::from_text(alloc, name)?)?;
     add_argument(&mut node, one)?;
@@ -53,11 +58,16 @@ pub fn two_nodes(alloc: Global, one: KdlNode, other: KdlNode) -> Result<String, 
     printed(alloc, &document)
 }
 
-/// A node with a child. It reads back before any text where it did without it.
+/// A node with a child more, after the others. It reads back before any text where it did without it, and its own part
+/// says the same.
 pub fn with_block(mut node: KdlNode, child: KdlNode) -> Result<KdlNode, AllocError>
     requires node { NodeEnds node }
     requires child { NodeReadsBack child }
-    ensures { IfOk result NodeEnds }
+    ensures ends { IfOk result NodeEnds }
+    ensures child { IfOk result (ChildPut (length (child_nodes node)) child node) }
+    ensures name { IfOk result (λ n. said_name (node_says n) ≡ said_name (node_says node)) }
+    ensures entries { IfOk result (λ n.
+        said_entries (node_says n) ≡ said_entries (node_says node)) }
 {
     match node.push_child(child) {
         Ok(()) => Ok(node),
@@ -65,9 +75,13 @@ pub fn with_block(mut node: KdlNode, child: KdlNode) -> Result<KdlNode, AllocErr
     }
 }
 
-/// A text of two nodes, the first of them with a child: each has an argument and a property.
+/// A text of two nodes, the first of them with a child: each has an argument and a property. The text says both names and
+/// both ports.
 pub fn servers(alloc: Global, one: &str, other: &str) -> Result<String, AllocError>
-    ensures { IfOk result (λ out. (x : Nodes) × IsDocument true (text_of out) x) }
+    ensures { IfOk result (λ out. (x : Nodes) × IsDocument true (text_of out) x
+        × (map said_name (said_nodes x) ≡ chars one.now ∷ chars other.now ∷ [])
+        × (map (said_property (chars (codes "port"))) (said_nodes x) ≡
+        Some (integer (pos 8080)) ∷ Some (integer (pos 8081)) ∷ [])) }
 {
     ended_reads_back();
     let first = one_node(alloc, one, "port", KdlValue::from(1), KdlValue::from(8080))?;

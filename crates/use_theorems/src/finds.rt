@@ -1,7 +1,7 @@
 //! What look-ups find after an entry is inserted, pushed or removed.
 
 ghost use Rattle.kdl.specs.Words.{IsSet, value_tree};
-ghost use Rattle.std.specs.Prelude.{◌≡◌, IfOk, Some, option_map};
+ghost use Rattle.std.specs.Prelude.{◌≡◌, IfOk, OnOk, Some, option_map};
 
 use kdl::{KdlEntry, KdlNode, KdlValue, NodeKey};
 use std::alloc::{AllocError, Global};
@@ -22,17 +22,20 @@ pub fn set_property(
     }
 }
 
-/// Sets a property and looks it up by another key of the same name: the look-up finds the value.
-pub fn set_and_get<'a>(
+/// Sets a property, looks it up by another key of the same name, and returns a copy of what that finds: the value.
+pub fn set_and_get(
     alloc: Global,
-    node: &'a mut KdlNode,
+    node: &mut KdlNode,
     name: &str,
     value: KdlValue,
-) -> Result<Option<&'a KdlValue>, AllocError>
-    ensures { IfOk result (λ found.
-        option_map (λ v. value_tree v.now) found ≡ Some (value_tree value)) }
+) -> Result<Option<KdlValue>, AllocError>
+    ensures sets { OnOk result (IsSet name.now (value_tree value) node.old node.new) }
+    ensures found { IfOk result (λ found. option_map value_tree found ≡ Some (value_tree value)) }
 {
     set_property(alloc, node, name, value)?;
     let again = NodeKey::from_text(alloc, name)?;
-    Ok(node.get(again))
+    match node.get(again) {
+        Some(found) => Ok(Some(found.clone()?)),
+        None => Ok(None),
+    }
 }

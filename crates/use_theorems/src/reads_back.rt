@@ -1,12 +1,14 @@
 //! Edited documents: what they print reads back.
 
 ghost use Rattle.kdl.specs.ReadsBack.{DocumentReadsBack, ReadsAs, respelled};
-ghost use Rattle.kdl.specs.Words.{IsAdded, IsDocument, IsSet, document_says, entry_tree, node_says, print_value, said_name, text_of, value_tree};
-ghost use Rattle.std.specs.Prelude.{◌≡◌, IfOk, OnOk, true};
+ghost use Rattle.kdl.specs.Words.{IsAdded, IsDocument, IsSet, argument_named, document_says, entry_tree, node_says, print_value, property_value, said_name, text_of, truth, value_tree};
+ghost use Rattle.kdl_laws.specs.ClientWords.{with_said_arg};
+ghost use Rattle.std.specs.Prelude.{◌≡◌, All, IfOk, IsSome, OnOk, Some, chars, true};
 ghost use Rattle.use_theorems.specs.Edits.{InBlock, InNode, IsEdited, IsFirstSet};
 
 use kdl::{KdlDocument, KdlEntry, KdlNode, KdlValue, NodeKey};
 use kdl_laws::reading_back::{new_entries_are_unformed, printed_reads_back};
+use kdl_laws::sets::argument_is_set;
 use kdl_laws::values::values_are_well_formed;
 use std::alloc::{AllocError, Global};
 
@@ -158,13 +160,17 @@ fn respell(entry: &mut KdlEntry, value: KdlValue, spelling: String)
     }
 }
 
-/// Another value as the first argument of the first node of a name, with its spelling.
+/// Another value as the first argument of the first node of a name, with its spelling: the document says what it said, with
+/// that value in its place.
 pub fn set_argument(document: &mut KdlDocument, name: &str, value: KdlValue, spelling: String)
     requires reads { DocumentReadsBack document.old }
     requires spells { text_of spelling ≡ print_value (value_tree value) }
-    ensures { DocumentReadsBack document.new }
+    ensures reads { DocumentReadsBack document.new }
+    ensures says { IsSome (argument_named name.now document.old) → document_says document.new ≡
+        with_said_arg (chars name.now) (value_tree value) (document_says document.old) }
 {
     values_are_well_formed(&value);
+    argument_is_set();
     let Some(node) = document.get_mut(name) else {
         return;
     };
@@ -174,7 +180,19 @@ pub fn set_argument(document: &mut KdlDocument, name: &str, value: KdlValue, spe
     respell(entry, value, spelling);
 }
 
-/// The properties of these names, of value true, in the first node of a name.
+/// Properties of these names, of value true, in a node: it reads back as before.
+pub fn insert_each(alloc: Global, node: &mut KdlNode, names: &[&str]) -> Result<(), AllocError>
+    ensures sets { OnOk result
+        (All (λ name. property_value name.now node.new ≡ Some (truth true)) names.now) }
+    ensures reads { ReadsAs node.old node.new }
+{
+    for name in names {
+        insert_property(alloc, node, *name, KdlValue::from(true))?;
+    }
+    Ok(())
+}
+
+/// The same in the first node of a name.
 pub fn set_each(
     alloc: Global,
     document: &mut KdlDocument,
@@ -182,10 +200,13 @@ pub fn set_each(
     names: &[&str],
 ) -> Result<(), AllocError>
     requires { DocumentReadsBack document.old }
-    ensures { DocumentReadsBack document.new }
+    ensures sets { OnOk result (InNode node.now (λ _ m.
+        All (λ name. property_value name.now m ≡ Some (truth true)) names.now)
+        document.old document.new) }
+    ensures reads { DocumentReadsBack document.new }
 {
-    for name in names {
-        set_property(alloc, document, node, *name, KdlValue::from(true))?;
-    }
-    Ok(())
+    let Some(found) = document.get_mut(node) else {
+        return Ok(());
+    };
+    insert_each(alloc, found, names)
 }
