@@ -24,6 +24,13 @@ ghost use Rattle.std.specs.declared.alloc.Global.{Global};
 use kdl::{FormatConfig, KdlDocument, KdlNode, Layout};
 use std::alloc::AllocError;
 
+/// The default settings indent by spaces of KDL, as clauses `derived` and `comments` of layout require.
+#[tactic(auto, unfolding(kdl_text::specs::Chars::is_space))]
+pub fn defaults_indent_by_spaces()
+    ensures { IndentsBySpaces defaults }
+{
+}
+
 /// After layout without comments, two documents in which no entry is flagged to keep its form print equal texts exactly
 /// if their data are equal.
 pub fn same_text_same_data(a: &mut KdlDocument, b: &mut KdlDocument) -> Result<(), AllocError>

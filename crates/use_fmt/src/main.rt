@@ -6,7 +6,7 @@ ghost use Rattle.kdl_laws.specs.ClientWords.{IsSpacedOut};
 ghost use Rattle.std.specs.Prelude.{IfOk, chars, true};
 
 use kdl::{FormatConfig, KdlDocument, Layout, ParseFailure};
-use kdl_laws::layout::texts_are_spaced_out;
+use kdl_laws::layout::{defaults_indent_by_spaces, texts_are_spaced_out};
 use kdl_laws::reading_back::printed_reads_once;
 use std::alloc::Global;
 use std::process::ExitCode;
@@ -24,6 +24,7 @@ fn laid_out(alloc: Global, text: &str) -> Result<String, ParseFailure>
     ensures refused { IsSyntax result → (x : Nodes) → IsDocument true (chars text.now) x → ⊥ }
     ensures told { TellsOnSyntax text.now result }
 {
+    defaults_indent_by_spaces();
     texts_are_spaced_out();
     printed_reads_once();
     let mut document = KdlDocument::parse(alloc, text)?;

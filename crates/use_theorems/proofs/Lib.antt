@@ -1,3 +1,3 @@
--- Lemmas that several proofs share: what stays, and what nodes say that are made or get a child.
+-- Lemmas that several proofs share: what stays, and what nodes say that were made.
 pub mod Stays
 pub mod MadeNodes

@@ -51,6 +51,3 @@ pub block_none : {A : Type 0} (r : Option A) (n : KdlNode) (d e : KdlDocument) �
     → IfNone r (node_tree (with_children n (Some e)) ≡ node_tree n)
 block_none None n d e h k = block_stays n (Some e) (ap Some k ∙ ap (option_map document_tree) h)
 block_none (Some x) n d e h k = tt
-
-pub no_block : (n : KdlNode) → None ≡ block_of n → node_tree (with_children n None) ≡ node_tree n
-no_block n h = block_stays n None (ap (option_map document_tree) h)
