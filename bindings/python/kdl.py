@@ -46,7 +46,7 @@ import sys
 import tempfile
 from typing import (
     Any, Callable, Dict, Iterable, Iterator, List, Mapping, NamedTuple, Optional, Sequence, Tuple,
-    Union,
+    Union, overload,
 )
 
 __all__ = [
@@ -460,15 +460,69 @@ class _Rows:
 
     def node(self, index: int) -> Node:
         """The node at the index, made anew."""
+        begins = self._begins()
+        return _nodes_of(self.rows[begins[index] : begins[index + 1]], self.strings, self.text)[0]
+
+    def __len__(self) -> int:
+        """How many nodes there are."""
+        return len(self._begins()) - 1
+
+    def _begins(self) -> List[int]:
         if not self.begins:
-            depth = 0
+            depth, begins = 0, []
             for at, (kind, has_block) in enumerate(_outline.iter_unpack(self.rows)):
                 if kind == _NODE and not depth:
-                    self.begins.append(at * _row.size)
+                    begins.append(at * _row.size)
                 depth += has_block - (kind == _END)
-            self.begins.append(len(self.rows))
-        rows = self.rows[self.begins[index] : self.begins[index + 1]]
-        return _nodes_of(rows, self.strings, self.text)[0]
+            # At once, since another thread may be here too.
+            self.begins = [*begins, len(self.rows)]
+        return self.begins
+
+
+class _Nodes(Sequence[Node]):
+    """The nodes of a document as they are in its rows. A node is made where it is first used, and is
+    the same one from then on. The nodes can be changed, but not which they are."""
+
+    __slots__ = ("_rows", "_made")
+
+    def __init__(self, rows: _Rows) -> None:
+        self._rows = rows
+        self._made: Dict[int, Node] = {}
+
+    def __len__(self) -> int:
+        return len(self._rows)
+
+    @overload
+    def __getitem__(self, index: int) -> Node: ...
+    @overload
+    def __getitem__(self, index: slice) -> List[Node]: ...
+
+    def __getitem__(self, index: Union[int, slice]) -> Union[Node, List[Node]]:
+        places = range(len(self))[index]
+        return [self._at(it) for it in places] if isinstance(places, range) else self._at(places)
+
+    def _at(self, index: int) -> Node:
+        if index not in self._made:
+            self._made.setdefault(index, self._rows.node(index))
+        return self._made[index]
+
+    def __iter__(self) -> Iterator[Node]:
+        # All in one pass, which is faster than one at a time.
+        if len(self._made) < len(self):
+            for index, node in enumerate(self._rows.nodes()):
+                self._made.setdefault(index, node)
+        return map(self._made.__getitem__, range(len(self)))
+
+    def __eq__(self, other: object) -> bool:
+        return list(self) == list(other) if isinstance(other, (list, _Nodes)) else NotImplemented
+
+    __hash__ = None  # type: ignore[assignment]
+
+    def __repr__(self) -> str:
+        return repr(list(self))
+
+    def __reduce__(self) -> Any:
+        return list, (list(self),)
 
 
 def _nodes_of(rows: memoryview, strings: bytes, text: str) -> List[Node]:
@@ -613,18 +667,20 @@ class Document:
     # Look-ups
 
     @property
-    def nodes(self) -> List[Node]:
-        """The nodes as data of their own: a change of them does not change the document.
+    def nodes(self) -> Sequence[Node]:
+        """The nodes as data of their own: a change of them does not change the document, nor does an
+        edit of the document change them.
 
-        Each use makes all nodes anew. Keep the list where it is used again; `document[0]` and
-        `document["name"]` make one node alone.
+        Each use gives another sequence, with nodes of its own. It makes a node when it is first
+        used. `list(document)` is a list of the nodes, of which some can be taken away.
 
         >>> document = Document.parse("a 1; b")
         >>> nodes = document.nodes
-        >>> nodes.pop().name, len(nodes), len(document), "b" in document
-        ('b', 1, 2, True)
+        >>> nodes[0].name = "c"
+        >>> nodes, nodes[-1].name, len(nodes[1:]), document[0].name
+        ([Node('c', entries=[Entry(1)]), Node('b')], 'b', 1, 'a')
         """
-        return self._rows().nodes()
+        return _Nodes(self._rows())
 
     def _rows(self) -> _Rows:
         read = self._read
@@ -645,7 +701,7 @@ class Document:
         return memoryview(rows)[: count.value * _row.size], ctypes.string_at(strings, used.value)
 
     def __iter__(self) -> Iterator[Node]:
-        return iter(self.nodes)
+        return iter(self._rows().nodes())
 
     def __len__(self) -> int:
         return self._node_count(())
@@ -1004,7 +1060,7 @@ def loads(text: Union[str, bytes]) -> List[Node]:
     [Node('a', entries=[Entry(1), Entry(True, 'k')], children=[...])]
     """
     with Document(text) as document:
-        return document.nodes
+        return list(document)
 
 
 def dumps(nodes: Iterable[Node]) -> str:

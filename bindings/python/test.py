@@ -10,6 +10,7 @@ import sys
 import tempfile
 import threading
 import time
+from collections.abc import Sequence
 
 HERE = pathlib.Path(__file__).resolve().parent
 sys.path[:0] = [str(HERE), str(HERE.parent)]
@@ -48,7 +49,7 @@ def field(nodes, label):
     is none. KeyError where the module does not tell the field."""
     words, at = label.split(" "), nodes
     while len(words) > 1:
-        if isinstance(at, list) and words[0].isdigit():
+        if isinstance(at, Sequence) and words[0].isdigit():
             at = at[int(words.pop(0)) - 1]
         elif isinstance(at, Node) and words[0] == "block":
             at = at.children
@@ -71,7 +72,7 @@ def field(nodes, label):
             "value": lambda it: spelled(it.value),
         },
     }
-    return fields[type(at)][" ".join(words)](at)
+    return fields[list if isinstance(at, Sequence) else type(at)][" ".join(words)](at)
 
 
 def has_fields(case, nodes, prefix=""):
@@ -323,7 +324,8 @@ def same_nodes():
             node.entries.append(Entry(7))
             node.entries[0].value = 8
             node.children = [Node("more")]
-        del given[:]
+        if isinstance(given, list):
+            del given[:]
         assert document.nodes == list(document) == want and len(document) == 4
         assert [document[it] for it in range(-4, 4)] == want * 2
         assert [document.node(it) for it in paths] == at_paths and at_paths[5].args == ["é"]
@@ -343,6 +345,43 @@ def same_nodes():
     empty = Document("// c\n")
     assert len(empty) == 0 and not empty and empty.nodes == list(empty) == [] and empty.get("a") is None
     raises(IndexError, lambda: empty[0])
+
+
+def sequences():
+    """The nodes of a document are a sequence as they were, which nothing is added to or taken from."""
+    text = "a 1; b { c; }; a 2; d"
+    document, want = Document(text), kdl.loads(text)
+    for made in (lambda: document.nodes, lambda: [*document.nodes] and document.nodes):
+        assert len(made()) == 4 and made() and isinstance(made(), Sequence)
+        assert made() == want and want == made() and made() == made() and not made() != want
+        assert made() != want[1:] and made() != tuple(want) and repr(made()) == repr(want)
+        assert [made()[it] for it in range(-4, 4)] == want * 2 and [*reversed(made())] == want[::-1]
+        for part in (slice(1, 3), slice(None), slice(-1, None), slice(None, None, -2), slice(9, 12)):
+            assert type(made()[part]) is list and made()[part] == want[part]
+        assert want[2] in made() and Node("a") not in made()
+        assert made().index(want[3]) == 3 and made().count(want[0]) == 1
+        for index in (4, -5, 2**64):
+            raises(IndexError, made().__getitem__, index)
+        for wrong in ("a", 1.0, None):
+            raises(TypeError, made().__getitem__, wrong)
+        raises(TypeError, hash, made())
+        for name in ("append", "pop", "sort", "__setitem__", "__delitem__"):
+            assert not hasattr(made(), name)
+        for other in (copy.copy(made()), copy.deepcopy(made()), pickle.loads(pickle.dumps(made()))):
+            assert other == want
+    # each sequence has nodes of its own, the same ones however they are asked for
+    nodes, others = document.nodes, document.nodes
+    nodes[1].name = "changed"
+    assert nodes[1] is [*nodes][1] is nodes[1:][0] and nodes[1].name == "changed"
+    assert others == want and nodes != want and kdl.dumps(nodes).startswith("a 1\nchanged {")
+    document.remove_node(0)
+    document.insert_node((), "e")
+    assert others == want and others[3].name == "d" and document.nodes[3].name == "e"
+    empty = Document("// c\n").nodes
+    assert len(empty) == 0 and not empty and empty == [] and [*empty] == empty[:] == []
+    # to ask for each node by its index takes no more than one pass does
+    many = Document("a 1 k=2 { b; }\n" * 20000)
+    assert all(many.nodes[it].args == [1] for it in range(20000))
 
 
 def places():
@@ -512,5 +551,5 @@ def examples():
 
 
 if __name__ == "__main__":
-    for test in (data, floats, edits, same_nodes, places, errors, lives, threads, examples, command_line, all_rows):
+    for test in (data, floats, edits, same_nodes, sequences, places, errors, lives, threads, examples, command_line, all_rows):
         test()
