@@ -28,8 +28,7 @@ use std::alloc::AllocError;
 #[tactic(auto, unfolding(kdl_text::specs::Chars::is_space))]
 pub fn defaults_indent_by_spaces()
     ensures { IndentsBySpaces defaults }
-{
-}
+{}
 
 /// After layout without comments, two documents in which no entry is flagged to keep its form print equal texts exactly
 /// if their data are equal.

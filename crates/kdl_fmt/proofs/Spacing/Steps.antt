@@ -3,10 +3,10 @@ use Rattle.std.proofs.Common.{◌≡◌, ℕ, ◌+◌, ◌<◌, ◌≤◌, Bool,
 use Rattle.std.proofs.lemmas.List.{drop_all, drop_more}
 use Rattle.std.specs.Str.{chars}
 use Rattle.kdl_text.specs.Chars.{Text, times}
-use Rattle.kdl_items.specs.Items as items
-use Rattle.kdl_items.specs.Written.{item_text, line_text, lines}
-use Rattle.kdl_items.specs.Internal.Reading.{item_view, items_view}
-use Rattle.kdl_items.specs.declared.item.Item.{Item}
+use Rattle.kdl_comments.specs.Items as items
+use Rattle.kdl_comments.specs.Written.{item_text, line_text, lines}
+use Rattle.kdl_comments.specs.Internal.Reading.{item_view, items_view}
+use Rattle.kdl_comments.specs.declared.item.Item.{Item}
 use Rattle.kdl_fmt.specs.Blank.{after_item, empty_lines, past_item, past_items, read, spaced_lines}
 use Rattle.kdl_fmt.specs.declared.blank.Before.{Before}
 use Rattle.kdl_fmt.proofs.Texts.{newline_text}
