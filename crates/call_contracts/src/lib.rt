@@ -2,7 +2,7 @@
 //! which the check proves from the call's own contract. A must-fail edit replaces the call by a wrong body: if the
 //! contract here refuses it, the call's own contract does too. In this small crate such an edit is cheap to check.
 //!
-//! `callers` has what a caller proves for the edits with a `requires`, and `lines` a call of `kdl_items` that layout
+//! `callers` has what a caller proves for the edits with a `requires`, and `lines` a call of `kdl_comments` that layout
 //! makes.
 #![tactic(auto)]
 

@@ -1,7 +1,7 @@
 //! How many newlines a text around nodes lacks for what follows it not to become part of it.
 
 use crate::reading::equal;
-use kdl_items::{Place, gap_lacks, place_lacks, terminator_lacks};
+use kdl_comments::{Place, gap_lacks, place_lacks, terminator_lacks};
 use std::alloc::Global;
 use std::process::Abort;
 

@@ -7,7 +7,7 @@ use Rattle.kdl.specs.Tree.{head_tree, node_tree}
 use Rattle.kdl.specs.declared.node.KdlNode.{KdlNode}
 use Rattle.kdl.specs.declared.document.KdlDocument.{KdlDocument}
 use Rattle.kdl.specs.declared.document.KdlDocument.TheViews.{out-KdlDocument, out-KdlNode}
-use Rattle.kdl.specs.declared.copies.Open.{Open}
+use Rattle.kdl.specs.declared.clone.Open.{Open}
 use Rattle.kdl.proofs.Trees.{document_tree_out, node_tree_out}
 
 -- one more block that is open

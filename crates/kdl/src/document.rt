@@ -18,17 +18,17 @@ ghost use Rattle.std.specs.Prelude.{◌≡◌, IfOk, None, Some, map, option_map
 ghost use Rattle.std.specs.Str.{encode_utf8_all};
 
 pub mod args;
-mod clears;
+mod clear;
 mod fields;
 mod iter;
 mod layout;
 mod lookup;
 mod nodes;
 
-use crate::copies::copy_nodes;
-use crate::drops::dismantle;
+use crate::clone::copy_nodes;
+use crate::drop::dismantle;
 use crate::node::KdlNode;
-use crate::prints::write_nodes;
+use crate::print::write_nodes;
 use kdl_parser::{DocumentParts, DocumentText};
 use kdl_parts::KdlDocumentFormat;
 use kdl_parts::format::behind_bom;

@@ -12,8 +12,8 @@ ghost use Rattle.kdl_value.specs.Tree.{text_of};
 ghost use Rattle.std.specs.Prelude.{◌≡◌, ◌≢◌, ◌≤◌, ◌+◌, ◌++◌, ◌∷◌, [], IfOk, MatchBool, None, OnOk, Some, map, unwrap_or};
 ghost use Rattle.std.specs.Str.{chars};
 
+use kdl_comments::{Place, gap_lacks, place_lacks, push_text, terminator_lacks};
 use kdl_entry::KdlEntry;
-use kdl_items::{Place, gap_lacks, place_lacks, push_text, terminator_lacks};
 use kdl_parts::KdlNodeFormat;
 use std::alloc::{AllocError, Global};
 

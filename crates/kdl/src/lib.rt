@@ -55,15 +55,15 @@
 //! its last one. What `KdlNode::parse` or `KdlEntry::parse` returns spans the whole text.
 #![tactic(auto)]
 
-mod clears;
-mod copies;
+mod clear;
+mod clone;
 mod document;
-mod drops;
+mod drop;
 mod ends;
-mod lays;
+mod layout;
 mod node;
 mod parser;
-mod prints;
+mod print;
 
 pub use document::KdlDocument;
 pub use document::args::DashArgsIter;

@@ -17,7 +17,7 @@ ghost use Rattle.std.specs.Prelude.{◌≡◌, IfOk, None, Some, map, is_some, o
 ghost use Rattle.std.specs.Str.{encode_utf8_all};
 
 mod children;
-mod clears;
+mod clear;
 mod edit;
 mod fields;
 mod from_parts;
@@ -26,7 +26,7 @@ mod layout;
 mod lookup;
 
 use crate::document::KdlDocument;
-use crate::prints::write_nodes;
+use crate::print::write_nodes;
 use kdl_entry::{KdlEntry, KdlIdentifier};
 use kdl_parser::NodeText;
 use kdl_parts::KdlNodeFormat;

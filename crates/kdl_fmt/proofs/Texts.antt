@@ -14,7 +14,7 @@ use Rattle.kdl_entry.specs.declared.entry.KdlEntryFormat.{KdlEntryFormat}
 use Rattle.kdl_grammar.specs.Tree.{NodeFormat, Nodes}
 use Rattle.kdl_parts.specs.Formats.{node_format_tree, document_format_tree}
 use Rattle.kdl_parts.specs.declared.format.KdlNodeFormat.{KdlNodeFormat}
-use Rattle.kdl_items.proofs.Rewriting.Pushing.{no_bytes}
+use Rattle.kdl_comments.proofs.Rewriting.Pushing.{no_bytes}
 use Rattle.kdl_fmt.specs.Formatted.{newline_if_none, in_braces}
 use Rattle.kdl_fmt.specs.Kept.{without_bom}
 use Rattle.kdl_fmt.specs.WithComments.{NodeTexts, line_of, content_of, behind}

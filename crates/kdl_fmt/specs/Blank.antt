@@ -2,8 +2,8 @@
 use Rattle.std.specs.Prelude.{ℕ, ◌+◌, ◌-◌, min, max, Bool, true, false, ◌&&◌, not, ◌==◌, if◌then◌else◌, List, [], ◌∷◌, ◌++◌, length, drop}
 use Rattle.std.specs.List.{list_any}
 use Rattle.kdl_text.specs.Chars.{Text, is_newline_char, times}
-use Rattle.kdl_items.specs.Items.{Item, comment, piece}
-use Rattle.kdl_items.specs.Written.{item_text, line_text}
+use Rattle.kdl_comments.specs.Items.{Item, comment, piece}
+use Rattle.kdl_comments.specs.Written.{item_text, line_text}
 use Rattle.kdl_fmt.specs.declared.blank.Before.{Before}
 use Rattle.kdl_fmt.specs.declared.blank.Before.TheVariants.{Nothing, Thing}
 use Rattle.kdl_fmt.specs.declared.blank.Last.{Last}

@@ -7,8 +7,8 @@ use Rattle.kdl_entry.specs.Places.{between}
 use Rattle.kdl_entry.specs.Tree.{Entry}
 use Rattle.kdl_grammar.specs.Laid.{LaidDocument}
 use Rattle.kdl_grammar.specs.Tree.{DocumentFormat, Head, Node, node, Children, no_children, children, Document, document, Nodes, none, first}
-use Rattle.kdl_items.specs.Items.{Item, comment, line_end, GapItems, before_entry, before_block, PlaceItems}
-use Rattle.kdl_items.specs.Written.{on_line}
+use Rattle.kdl_comments.specs.Items.{Item, comment, line_end, GapItems, before_entry, before_block, PlaceItems}
+use Rattle.kdl_comments.specs.Written.{on_line}
 use Rattle.kdl_fmt.specs.Formatted.{or_empty, or_empty_document}
 use Rattle.kdl_fmt.specs.Kept.{last_place, without_bom, entry_leading}
 use Rattle.kdl_fmt.specs.WithComments.{has_block}

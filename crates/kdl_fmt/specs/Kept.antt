@@ -4,8 +4,8 @@ use Rattle.kdl_text.specs.Chars.{Text}
 use Rattle.kdl_text.specs.Trivia.{LineComment}
 use Rattle.kdl_entry.specs.Places.{between}
 use Rattle.kdl_entry.specs.Tree.{EntryFormat}
-use Rattle.kdl_items.specs.Items.{Item, line_end, GapItems, Place, before_entry, before_block, behind_block, PlaceItems}
-use Rattle.kdl_items.specs.Written.{lines, tail}
+use Rattle.kdl_comments.specs.Items.{Item, line_end, GapItems, Place, before_entry, before_block, behind_block, PlaceItems}
+use Rattle.kdl_comments.specs.Written.{lines, tail}
 use Rattle.kdl_fmt.specs.Config.{Settings, indentation}
 
 -- the items that a text has, written in some way; nothing where it has none, since it can't be in the place

@@ -1,15 +1,15 @@
 //! The blank lines between nodes and comments: how many a text has, and how many stay.
 
 ghost use Rattle.kdl_fmt.specs.Blank.{after_char, blank_lines, counts, empty_lines, from_item, goes_on, last_after_item, last_before, last_in, last_of, newlines, one_if, past_item, past_items, past_node, read, spaced_lines};
-ghost use Rattle.kdl_items.specs.Internal.Reading.{item_view, items_view};
-ghost use Rattle.kdl_items.specs.Written.{item_text};
+ghost use Rattle.kdl_comments.specs.Internal.Reading.{item_view, items_view};
+ghost use Rattle.kdl_comments.specs.Written.{item_text};
 ghost use Rattle.kdl_text.specs.Chars.{is_newline_char, times};
 ghost use Rattle.kdl_value.specs.Tree.{text_of};
 ghost use Rattle.std.specs.List.{list_any};
 ghost use Rattle.std.specs.Prelude.{◌≡◌, ◌+◌, ◌++◌, ◌∷◌, [], IfOk, MatchOption, OnOk, drop, false, length, true};
 ghost use Rattle.std.specs.Str.{chars};
 
-use kdl_items::{Item, push_lines, push_text};
+use kdl_comments::{Item, push_lines, push_text};
 use kdl_text::chars::is_newline_char;
 use std::alloc::AllocError;
 use std::slice;

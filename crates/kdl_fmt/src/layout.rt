@@ -10,9 +10,9 @@ ghost use Rattle.kdl_fmt.specs.Spaced.{IsSpacedBraced, IsSpacedContent, IsSpaced
 ghost use Rattle.kdl_fmt.specs.WellFormed.{AreWellFormedEntries, IsWellFormedEntry};
 ghost use Rattle.kdl_fmt.specs.WithComments.{AreFormattedEntries, IsFormattedEntry, behind};
 ghost use Rattle.kdl_grammar.specs.Tree.{Nodes};
-ghost use Rattle.kdl_items.specs.Items.{GapItems};
-ghost use Rattle.kdl_items.specs.Internal.Reading.{place_view};
-ghost use Rattle.kdl_items.specs.Written.{lines};
+ghost use Rattle.kdl_comments.specs.Items.{GapItems};
+ghost use Rattle.kdl_comments.specs.Internal.Reading.{place_view};
+ghost use Rattle.kdl_comments.specs.Written.{lines};
 ghost use Rattle.kdl_parts.specs.Formats.{document_texts, node_format_tree, node_texts};
 ghost use Rattle.kdl_text.specs.Chars.{Text};
 ghost use Rattle.kdl_value.specs.Print.{print_value};
@@ -27,8 +27,8 @@ use crate::blank::{
     Before, Last, past_items, past_node, past_written, push_empty_lines, push_spaced_lines,
 };
 use crate::config::{FormatConfig, Layout};
+use kdl_comments::{Place, gap_items, line_comment, place_items, push_lines, push_tail, push_text};
 use kdl_entry::{KdlEntry, KdlEntryFormat, KdlIdentifier, KdlValue};
-use kdl_items::{Place, gap_items, line_comment, place_items, push_lines, push_tail, push_text};
 use kdl_parts::{KdlDocumentFormat, KdlNodeFormat};
 use std::alloc::{AllocError, Global};
 

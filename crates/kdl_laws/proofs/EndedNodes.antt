@@ -11,7 +11,7 @@ use Rattle.kdl_grammar.specs.Places.{BeforeChildren, AfterChildren}
 use Rattle.kdl_grammar.specs.ReadsBack.{Anything, TextEnd, BeforeTerminator, EndReads, NodeReads, reads, Terminates, terminator_text}
 use Rattle.kdl_grammar.specs.Tree.{NodeFormat, Head, node, Children, no_children, children, children_of}
 use Rattle.kdl_grammar.proofs.Moving.Moves.{move_after, move_before, terminator_end}
-use Rattle.kdl_items.proofs.Rewriting.BeforeNewlines.{a_newline}
+use Rattle.kdl_comments.proofs.Rewriting.BeforeNewlines.{a_newline}
 use Rattle.kdl_parts.specs.Formats.{node_format_tree}
 use Rattle.kdl_parts.specs.declared.format.KdlNodeFormat.{KdlNodeFormat}
 use Rattle.kdl.specs.Fields.{node_format_of}

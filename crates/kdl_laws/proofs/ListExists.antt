@@ -4,7 +4,7 @@ use Rattle.kdl_text.specs.Chars.{Text}
 use Rattle.kdl_entry.specs.Tree.{Entry}
 use Rattle.kdl_entry.specs.Places.{between}
 use Rattle.kdl_grammar.specs.Tree.{Node, node, Children, no_children, children, Document, document, Nodes, none, first}
-use Rattle.kdl_items.specs.Items.{Item, comment, line_end, GapItems, before_entry, before_block, PlaceItems}
+use Rattle.kdl_comments.specs.Items.{Item, comment, line_end, GapItems, before_entry, before_block, PlaceItems}
 use Rattle.kdl_fmt.specs.Comments.{ItemsIn, EndItems, EntriesItems, NodeItems, of_node, ChildrenItems, NodesItems, DocumentItems, of_document}
 use Rattle.kdl_fmt.specs.Config.{Settings}
 use Rattle.kdl_fmt.specs.Formatted.{or_empty, or_empty_document, DocumentKeepsNone, NodeKeepsNone}

@@ -24,7 +24,7 @@ use Rattle.kdl.specs.declared.document.KdlDocument.TheViews.{out-KdlDocument}
 use Rattle.kdl.proofs.ReadingBack.{nodes_read_back}
 use Rattle.kdl.proofs.Trees.{document_tree_out, document_tree_roll}
 use Rattle.kdl_laws.specs.Pushed.{EndsBefore, LastEnds}
-use Rattle.kdl_items.proofs.Listing.PlaceTexts.{gap_items}
+use Rattle.kdl_comments.proofs.Listing.PlaceTexts.{gap_items}
 
 -- a node after the last one, which ends by itself
 nodes_pushed : {P : Rests} (n : KdlNode) (ns : List KdlNode) (put : Node) → ((x : KdlNode) → slice_get (n ∷ ns) (length ns) ≡ Some x → NodeEnds x) → NodeReads P put → NodesRead P (nodes_tree (n ∷ ns))

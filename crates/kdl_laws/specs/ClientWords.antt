@@ -11,7 +11,7 @@ pub use Rattle.kdl_value.specs.Spelled.{SpelledReadsBack, SpelledReadsBackBefore
 pub use Rattle.kdl_value.specs.Floats.{DecimalsAreFloats}
 pub use Rattle.kdl_entry.specs.Formless.{FormlessReadsBack}
 -- Items: the lists of a place, of a node and of a document.
-pub use Rattle.kdl_items.specs.Items.{GapItems, Item, Place, PlaceItems, before_block, before_entry, behind_block}
+pub use Rattle.kdl_comments.specs.Items.{GapItems, Item, Place, PlaceItems, before_block, before_entry, behind_block}
 pub use Rattle.kdl_fmt.specs.Comments.{DocumentItems, EndItems, NodeItems}
 -- The texts that may be in a place.
 pub use Rattle.kdl_text.specs.Trivia.{LineComment}
@@ -21,7 +21,7 @@ pub use Rattle.kdl_grammar.specs.Places.{AfterChildren, BeforeChildren}
 pub use Rattle.kdl_fmt.specs.Kept.{without_bom}
 pub use Rattle.kdl_laws.specs.Leading.{DocumentLeading}
 -- Written items.
-pub use Rattle.kdl_items.specs.Written.{lines, on_line, tail}
+pub use Rattle.kdl_comments.specs.Written.{lines, on_line, tail}
 -- Keys, errors and their parts, which `==` compares.
 pub use Rattle.kdl_laws.specs.Keys.{sought_anywhere}
 pub use Rattle.kdl_laws.specs.Errors.{Diagnostic, Failure, Refusal, diagnostic_tree, error_tree, failure_tree, memory, syntax'}

@@ -10,8 +10,8 @@ ghost use Rattle.kdl_fmt.specs.WithComments.{IsFormattedDocument, IsFormattedNod
 ghost use Rattle.kdl_grammar.specs.Grammar.{Gap};
 ghost use Rattle.kdl_grammar.specs.Places.{AfterChildren, BeforeChildren};
 ghost use Rattle.kdl_grammar.specs.Tree.{Document, Node};
-ghost use Rattle.kdl_items.specs.Items.{GapItems, Item, Place, PlaceItems, before_block, before_entry, behind_block};
-ghost use Rattle.kdl_items.specs.Written.{lines, on_line, tail};
+ghost use Rattle.kdl_comments.specs.Items.{GapItems, Item, Place, PlaceItems, before_block, before_entry, behind_block};
+ghost use Rattle.kdl_comments.specs.Written.{lines, on_line, tail};
 ghost use Rattle.kdl_laws.specs.Leading.{DocumentLeading};
 ghost use Rattle.kdl_text.specs.Chars.{Text, is_space};
 ghost use Rattle.kdl_text.specs.Trivia.{LineComment};

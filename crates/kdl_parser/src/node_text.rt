@@ -13,7 +13,7 @@ ghost use Rattle.std.specs.Str.{chars};
 use crate::line_spaces::trailing_line_spaces;
 use crate::node_parts::{DocumentParts, ParsedNode};
 use crate::token_loop::build;
-use kdl_faults::{Whole, failure};
+use kdl_diagnostics::{Whole, failure};
 use kdl_lexer::{LexFailure, Lexer};
 use kdl_text::cursor::Steps;
 use kdl_text::error::ParseFailure;

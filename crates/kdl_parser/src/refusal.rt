@@ -8,7 +8,7 @@ ghost use Rattle.std.specs.Prelude.{◌≡◌, ◌+◌, ◌*◌, ◌≤◌, leng
 ghost use Rattle.std.specs.Rc.{rc_str_bytes};
 ghost use Rattle.std.specs.Str.{chars};
 
-use kdl_faults::{Kind, Whole, failure};
+use kdl_diagnostics::{Kind, Whole, failure};
 use kdl_text::cursor::Steps;
 use kdl_text::error::{KdlDiagnostic, KdlError, ParseFailure};
 use kdl_text::span::{Severity, SourceSpan};

@@ -6,7 +6,7 @@ use crate::dump::Dump;
 use crate::fault::Fault;
 use crate::item::Item;
 use kdl::{KdlDiagnostic, KdlDocument, KdlError, ParseFailure, Steps};
-use kdl_faults::{Whole, faults};
+use kdl_diagnostics::{Whole, faults};
 use std::alloc::AllocError;
 
 /// Adds the lines that the text yields, and returns whether it is accepted.

@@ -10,7 +10,7 @@ use crate::line::{Call, Kind, Line};
 use crate::notation::{Fills, encode};
 use crate::row::Row;
 use kdl::{FloatFailure, KdlFloat, KdlIdentifier, KdlValue};
-use kdl_faults::Whole;
+use kdl_diagnostics::Whole;
 use std::alloc::{AllocError, Global};
 
 /// A text, the call on it, its row, what is filled into the row's lines, and the place for `set each`.

@@ -7,7 +7,7 @@ use crate::dump::Dump;
 use crate::fault::Fault;
 use crate::layout::{Asked, lays_out};
 use crate::line::{Call, Kind, Line};
-use kdl_faults::Whole;
+use kdl_diagnostics::Whole;
 
 /// Tests each prefix of the text, and the text itself.
 pub fn check_fronts(case: &Case<'_>) -> Result<(), Fault> {

@@ -6,7 +6,7 @@ use crate::places::Setting;
 use kdl::{
     FormatConfig, KdlDocument, KdlEntry, KdlIdentifier, KdlNode, KdlValue, Layout, ParseFailure,
 };
-use kdl_faults::Whole;
+use kdl_diagnostics::Whole;
 use std::alloc::{AllocError, Global};
 
 /// What a text is read as.

@@ -7,7 +7,7 @@ use crate::fault::Fault;
 use crate::item::Item;
 use crate::line::{Call, Line};
 use crate::places::Setting;
-use kdl_faults::Whole;
+use kdl_diagnostics::Whole;
 
 /// An expected line of layout: its text, if it says what is printed, whether comments are removed, whether the first
 /// entry of the first node is flagged to keep its form, and how many blank lines are kept, if the line says so.

@@ -1,6 +1,6 @@
 //! The lines of a row, and what each is for.
 
-use kdl_faults::Whole;
+use kdl_diagnostics::Whole;
 
 /// What is called on a text.
 #[derive(Clone, Copy)]

@@ -17,7 +17,7 @@ use Rattle.kdl.specs.Tree.{head_tree, node_tree, document_tree}
 use Rattle.kdl.specs.declared.node.KdlNode.{KdlNode}
 use Rattle.kdl.specs.declared.document.KdlDocument.{KdlDocument}
 use Rattle.kdl.specs.declared.document.KdlDocument.TheViews.{out-KdlDocument, out-KdlNode, out-roll-KdlDocument}
-use Rattle.kdl.specs.declared.lays.Block.{Block}
+use Rattle.kdl.specs.declared.layout.Block.{Block}
 use Rattle.kdl.proofs.NodeCounts.{line_counted, block_counted, end_counted}
 use Rattle.kdl.proofs.Trees.{node_tree_out, document_tree_out}
 

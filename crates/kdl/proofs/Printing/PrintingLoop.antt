@@ -17,7 +17,7 @@ use Rattle.kdl.specs.Tree.{head_tree, node_tree, nodes_tree, document_tree}
 use Rattle.kdl.specs.declared.node.KdlNode.{KdlNode}
 use Rattle.kdl.specs.declared.document.KdlDocument.{KdlDocument}
 use Rattle.kdl.specs.declared.document.KdlDocument.TheViews.{out-KdlDocument, out-KdlNode}
-use Rattle.kdl.specs.declared.prints.Open.{Open}
+use Rattle.kdl.specs.declared.print.Open.{Open}
 use Rattle.kdl.proofs.Printing.PrintedParts.{node_printed}
 use Rattle.kdl.proofs.Trees.{document_tree_out}
 

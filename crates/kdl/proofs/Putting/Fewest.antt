@@ -5,8 +5,8 @@ use Rattle.kdl_text.specs.Bare.BareString.{bare as a_bare}
 use Rattle.kdl_text.specs.Chars.{Text, Newline}
 use Rattle.kdl_lexer.specs.Internal.Tokens.{t_newline, t_space}
 use Rattle.kdl_lexer.proofs.Lexing.TokenUnique.{token_det}
-use Rattle.kdl_items.specs.Internal.Lacking.{letter}
-use Rattle.kdl_items.proofs.Lacking.SpaceEnds.{a_space}
+use Rattle.kdl_comments.specs.Internal.Lacking.{letter}
+use Rattle.kdl_comments.proofs.Lacking.SpaceEnds.{a_space}
 use Rattle.kdl_text.specs.Chars.Star.{none as no_star}
 use Rattle.kdl_text.specs.Trivia.{Break, LineComment, NodeSpace, ValueEnd, Ws}
 use Rattle.kdl_text.proofs.Spacing.ValueEnds.{value_end_no_identifier}
@@ -20,11 +20,11 @@ use Rattle.kdl_grammar.specs.ReadsBack.{Anything, AddsNothing, BeforeTerminator,
 use Rattle.kdl_grammar.specs.Tree.{Children, no_children, children, NodeFormat}
 use Rattle.kdl_grammar.proofs.Laying.LaidIsDerived.{braced_of, later_of, plain_of}
 use Rattle.kdl_grammar.proofs.Moving.Moves.{before_end}
-use Rattle.kdl_items.specs.Items.{ItemEnd, Place, before_block, behind_block}
-use Rattle.kdl_items.specs.Lacks.{GapLacks, PlaceLacks, TerminatorLacks}
-use Rattle.kdl_items.proofs.Dropping.DroppedNodes.{passes_det, passes_node}
-use Rattle.kdl_items.proofs.Lacking.Fewest.{a, a_piece, letter_node}
-use Rattle.kdl_items.proofs.Rewriting.BeforeNewlines.{a_newline, newline_end}
+use Rattle.kdl_comments.specs.Items.{ItemEnd, Place, before_block, behind_block}
+use Rattle.kdl_comments.specs.Lacks.{GapLacks, PlaceLacks, TerminatorLacks}
+use Rattle.kdl_comments.proofs.Dropping.DroppedNodes.{passes_det, passes_node}
+use Rattle.kdl_comments.proofs.Lacking.Fewest.{a, a_piece, letter_node}
+use Rattle.kdl_comments.proofs.Rewriting.BeforeNewlines.{a_newline, newline_end}
 use Rattle.kdl.specs.Internal.Ends.{EndFewest, FewestBefore, FormatFewest, GapFewest, PlaceFewest, block_if, newline_count}
 use Rattle.kdl.specs.Exact.{lengthened}
 use Rattle.kdl.specs.Nodes.{newlines}

@@ -16,10 +16,10 @@ use Rattle.kdl_grammar.specs.ReadsBack.{Rests, Anything, TextEnd, BlockEnd, MayF
 use Rattle.kdl_grammar.specs.Tree.{DocumentFormat, NodeFormat, Head, Node, node, Children, no_children, children, children_of, Document, document, listed_nodes}
 use Rattle.kdl_grammar.proofs.Moving.Moves.{move_after, move_before, terminator_end}
 use Rattle.kdl_grammar.proofs.ReadingBack.Composing.{ends_before, node_before, nodes_append, nodes_drop, nodes_take, each_reads}
-use Rattle.kdl_items.specs.Items.{Place, before_block, behind_block}
-use Rattle.kdl_items.specs.Lacks.{GapLacks, PlaceLacks, TerminatorLacks, Terminating}
-use Rattle.kdl_items.proofs.Lacking.Alone.{after_before_close, before_alone, gap_before_close, terminator_before_close}
-use Rattle.kdl_items.proofs.Rewriting.BeforeNewlines.{a_newline}
+use Rattle.kdl_comments.specs.Items.{Place, before_block, behind_block}
+use Rattle.kdl_comments.specs.Lacks.{GapLacks, PlaceLacks, TerminatorLacks, Terminating}
+use Rattle.kdl_comments.proofs.Lacking.Alone.{after_before_close, before_alone, gap_before_close, terminator_before_close}
+use Rattle.kdl_comments.proofs.Rewriting.BeforeNewlines.{a_newline}
 use Rattle.kdl.specs.DocumentLookups.{nodes_of}
 use Rattle.kdl.specs.Internal.Ends.{EndSays, EndsAs, EndsReadAs, GapSays, IsEnded, PlaceSays, block_if, end_newlines, end_with, newline_count, with_newlines}
 use Rattle.kdl_parts.specs.Formats.{node_format_tree, node_texts}

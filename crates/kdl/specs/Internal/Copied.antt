@@ -5,7 +5,7 @@ use Rattle.kdl.specs.Tree.{head_tree, node_tree, document_tree, document_of}
 use Rattle.kdl.specs.declared.node.KdlNode.{KdlNode}
 use Rattle.kdl.specs.declared.document.KdlDocument.{KdlDocument}
 use Rattle.kdl.specs.declared.document.KdlDocument.TheViews.{out-KdlNode}
-use Rattle.kdl.specs.declared.copies.Open.{Open}
+use Rattle.kdl.specs.declared.clone.Open.{Open}
 
 -- a node, with other children
 abbrev pub with_children : KdlNode → Option KdlDocument → Node

@@ -12,7 +12,7 @@ use Rattle.kdl.specs.Tree.{head_tree, node_tree, document_of}
 use Rattle.kdl.specs.declared.node.KdlNode.{KdlNode}
 use Rattle.kdl.specs.declared.document.KdlDocument.{KdlDocument}
 use Rattle.kdl.specs.declared.document.KdlDocument.TheViews.{out-KdlNode}
-use Rattle.kdl.specs.declared.lays.Block.{Block}
+use Rattle.kdl.specs.declared.layout.Block.{Block}
 
 -- a block, with other nodes in it
 abbrev pub filled_block : Option KdlDocument → List Node → Children

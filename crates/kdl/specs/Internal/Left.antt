@@ -9,7 +9,7 @@ use Rattle.kdl.specs.Tree.{head_tree, nodes_tree}
 use Rattle.kdl.specs.declared.node.KdlNode.{KdlNode}
 use Rattle.kdl.specs.declared.document.KdlDocument.{KdlDocument}
 use Rattle.kdl.specs.declared.document.KdlDocument.TheViews.{out-KdlDocument, out-KdlNode}
-use Rattle.kdl.specs.declared.prints.Open.{Open}
+use Rattle.kdl.specs.declared.print.Open.{Open}
 
 -- a node up to its last entry, at a depth
 abbrev pub front : KdlNode → ℕ → Text

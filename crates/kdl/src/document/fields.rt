@@ -13,7 +13,7 @@ ghost use Rattle.std.specs.Borrow.{Lends, LendsIf, sem};
 ghost use Rattle.std.specs.Prelude.{◌≡◌, ◌↔◌, IfOk, IsTrue, [], None, Some, option_map};
 ghost use Rattle.std.specs.Vec.Iter.{into_iter_items};
 
-use crate::clears::clear_all;
+use crate::clear::clear_all;
 use crate::document::KdlDocument;
 use crate::node::KdlNode;
 use kdl_parts::KdlDocumentFormat;

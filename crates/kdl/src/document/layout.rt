@@ -16,7 +16,7 @@ ghost use Rattle.std.specs.Prelude.{◌≡◌, ◌+◌, ◌<◌, ◌^◌, IfOk, 
 ghost use Rattle.std.specs.Str.{chars};
 
 use crate::document::KdlDocument;
-use crate::lays::{before_trailing, lay_out_nodes};
+use crate::layout::{before_trailing, lay_out_nodes};
 use kdl_fmt::layout::{lay_out_braces, lay_out_content};
 use kdl_fmt::{Before, FormatConfig, Layout};
 use std::alloc::AllocError;

@@ -21,7 +21,7 @@ ghost use Rattle.std.specs.Prelude.{◌≡◌, ◌↔◌, ◌+◌, ◌<◌, IfOk
 ghost use Rattle.std.specs.Str.{chars};
 
 use crate::document::KdlDocument;
-use crate::lays::lay_out_nodes;
+use crate::layout::lay_out_nodes;
 use crate::node::KdlNode;
 use kdl_fmt::layout::{behind_line, clear_spelling, indentation, lay_out_entries, lay_out_line};
 use kdl_fmt::{Before, FormatConfig, Last, Layout};

@@ -15,7 +15,7 @@ ghost use Rattle.std.specs.Str.{chars};
 use super::item::{Given, Item, empty, entry_from, piece_between, text_between};
 use crate::entry::KdlEntry;
 use crate::identifier::{KdlIdentifier, sliced_identifier};
-use kdl_faults::{Whole, failure};
+use kdl_diagnostics::{Whole, failure};
 use kdl_lexer::{LexFailure, Lexer, Token, TokenKind, fault_at};
 use kdl_text::cursor::{Checkpoint, Piece, Steps};
 use kdl_text::error::ParseFailure;

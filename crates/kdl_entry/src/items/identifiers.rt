@@ -6,7 +6,7 @@ ghost use Rattle.std.specs.Str.{chars};
 
 use super::item::identifier_between;
 use crate::identifier::KdlIdentifier;
-use kdl_faults::{Whole, failure};
+use kdl_diagnostics::{Whole, failure};
 use kdl_lexer::{LexFailure, Lexer, Token, TokenKind, fault_at};
 use kdl_text::cursor::{Checkpoint, Steps};
 use kdl_text::error::ParseFailure;

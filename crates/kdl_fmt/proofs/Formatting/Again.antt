@@ -5,8 +5,8 @@ use Rattle.kdl_text.specs.Chars.{Text, is_space}
 use Rattle.kdl_text.specs.declared.span.SourceSpan.{SourceSpan}
 use Rattle.kdl_entry.specs.Tree.{Identifier, Entry, EntryFormat, unspelled, cleared, autoformatted, autoformatted_format}
 use Rattle.kdl_grammar.specs.Tree.{NodeFormat, DocumentFormat, Head, Node, node, Children, no_children, children, Document, document, Nodes, none, first}
-use Rattle.kdl_items.specs.Items.{before_entry, PlaceItems}
-use Rattle.kdl_items.specs.Written.{tail}
+use Rattle.kdl_comments.specs.Items.{before_entry, PlaceItems}
+use Rattle.kdl_comments.specs.Written.{tail}
 use Rattle.kdl_fmt.specs.Config.{Settings, indentation}
 use Rattle.kdl_fmt.specs.Formatted.{with_keep_if, or_empty, or_empty_document, newline_if_none, EntriesKeepNone, NodeKeepsNone, ChildrenKeepNone, DocumentKeepsNone, NodesKeepNone}
 use Rattle.kdl_fmt.specs.Kept.{WrittenUnless, KeptBefore, entry_leading, is_kept_format, without_bom}

@@ -17,7 +17,7 @@ use Rattle.kdl_grammar.specs.Grammar.{named, AfterName, Gap, no_gap, AreNodes, l
 use Rattle.kdl_grammar.specs.Print.{print_piece, print_pieces, print_head, print_node, print_tail, print_nodes, print_document}
 use Rattle.kdl_grammar.specs.Tree.{NodeFormat, DocumentFormat, Head, Node, node, Children, no_children, children, Document, document, Nodes, none, first, node_data, children_data, document_data, nodes_data}
 use Rattle.kdl_grammar.proofs.Laying.LaidIsDerived.{first_entry, plain_of, braced_of, later_of}
-use Rattle.kdl_items.specs.Items.{before_entry, before_block}
+use Rattle.kdl_comments.specs.Items.{before_entry, before_block}
 use Rattle.kdl_fmt.specs.Config.{Settings, indentation}
 use Rattle.kdl_fmt.specs.Formatted.{with_keep_if, or_empty, or_empty_document, newline_if_none, in_braces, EntriesKeepNone, NodeKeepsNone, ChildrenKeepNone, DocumentKeepsNone, NodesKeepNone}
 use Rattle.kdl_fmt.specs.Kept.{last_place, without_bom, entry_leading, is_kept_format, KeptBefore}

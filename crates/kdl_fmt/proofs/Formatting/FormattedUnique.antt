@@ -4,9 +4,9 @@ use Rattle.std.specs.Prelude.{◌||◌}
 use Rattle.kdl_text.specs.Chars.{Text}
 use Rattle.kdl_entry.specs.Tree.{Entry, EntryFormat, cleared, autoformatted}
 use Rattle.kdl_grammar.specs.Tree.{NodeFormat, DocumentFormat, Head, Node, node, Children, no_children, children, Document, document, Nodes, none, first}
-use Rattle.kdl_items.specs.Items.{Item, GapItems, Place, before_entry, before_block, PlaceItems}
-use Rattle.kdl_items.specs.Written.{lines, tail}
-use Rattle.kdl_items.proofs.Listing.ItemsUnique.{gap_items_det, place_items_det}
+use Rattle.kdl_comments.specs.Items.{Item, GapItems, Place, before_entry, before_block, PlaceItems}
+use Rattle.kdl_comments.specs.Written.{lines, tail}
+use Rattle.kdl_comments.proofs.Listing.ItemsUnique.{gap_items_det, place_items_det}
 use Rattle.kdl_fmt.specs.Config.{Settings, indentation}
 use Rattle.kdl_fmt.specs.Formatted.{with_keep_if, formatted_entry, or_empty, or_empty_document, content_format, in_braces, formatted_head, formatted_node, formatted_children, formatted_nodes, formatted_document, EntriesKeepNone}
 use Rattle.kdl_fmt.specs.Kept.{Written, WrittenUnless, KeptLines, KeptTail, KeptBeforeBlock, last_place, WrittenEnd, KeptEnd, without_bom, entry_leading, is_kept_format, KeptBefore}

@@ -16,8 +16,8 @@ use Rattle.kdl_entry.proofs.Moving.EntryMoves.{punctuation_end}
 use Rattle.kdl_entry.proofs.Laying.ValueReadsBack.{printed_string, printed_value}
 use Rattle.kdl_grammar.specs.Laid.{LaidEntries, no_entry, an_entry}
 use Rattle.kdl_grammar.specs.Print.{print_piece, print_pieces}
-use Rattle.kdl_items.specs.Items.{Item, before_entry, PlaceItems}
-use Rattle.kdl_items.specs.Written.{tail, on_line}
+use Rattle.kdl_comments.specs.Items.{Item, before_entry, PlaceItems}
+use Rattle.kdl_comments.specs.Written.{tail, on_line}
 use Rattle.kdl_fmt.specs.Comments.{ItemsIn, EntriesItems}
 use Rattle.kdl_fmt.specs.Config.{Settings}
 use Rattle.kdl_fmt.specs.Formatted.{with_keep_if, EntriesKeepNone}

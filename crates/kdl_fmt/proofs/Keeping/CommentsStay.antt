@@ -14,8 +14,8 @@ use Rattle.kdl_grammar.specs.Places.{BeforeChildren, AfterChildren}
 use Rattle.kdl_grammar.specs.Print.{print_pieces, print_head, print_node, print_tail, print_nodes, print_document}
 use Rattle.kdl_grammar.specs.Tree.{NodeFormat, DocumentFormat, Head, Node, node, Children, no_children, children, Document, document, Nodes, none, first, node_data, children_data, document_data, nodes_data}
 use Rattle.kdl_grammar.proofs.Reading.Complete.OneLaid.{one_laid_document}
-use Rattle.kdl_items.specs.Items.{Item, before_block, GapItems, PlaceItems}
-use Rattle.kdl_items.specs.Written.{on_line}
+use Rattle.kdl_comments.specs.Items.{Item, before_block, GapItems, PlaceItems}
+use Rattle.kdl_comments.specs.Written.{on_line}
 use Rattle.kdl_fmt.specs.Comments.{ItemsIn, NodeItems, of_node, ChildrenItems, block, NodesItems, DocumentItems, of_document}
 use Rattle.kdl_fmt.specs.Config.{Settings, indentation}
 use Rattle.kdl_fmt.specs.Formatted.{or_empty, or_empty_document, newline_if_none, in_braces, NodeKeepsNone, ChildrenKeepNone, DocumentKeepsNone, NodesKeepNone}

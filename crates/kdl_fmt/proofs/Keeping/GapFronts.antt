@@ -13,12 +13,12 @@ use Rattle.kdl_lexer.specs.Internal.Tokens.{t_space, t_newline, t_bom}
 use Rattle.kdl_lexer.proofs.Lexing.TokenUnique.{token_det}
 use Rattle.kdl_grammar.specs.Grammar.{Gap, no_gap}
 use Rattle.kdl_grammar.specs.Tree.{Nodes, first}
-use Rattle.kdl_items.specs.Items.{Item, SpaceItems, LineSpaceItems, GapItems}
-use Rattle.kdl_items.specs.Written.{lines, on_line}
-use Rattle.kdl_items.proofs.Rewriting.BeforeNewlines.{a_newline}
-use Rattle.kdl_items.proofs.Listing.ItemsUnique.{gap_items_det}
-use Rattle.kdl_items.proofs.Listing.SpaceItems.{gap_none}
-use Rattle.kdl_items.proofs.Rewriting.LinesAgain.{lines_again, lines_gap}
+use Rattle.kdl_comments.specs.Items.{Item, SpaceItems, LineSpaceItems, GapItems}
+use Rattle.kdl_comments.specs.Written.{lines, on_line}
+use Rattle.kdl_comments.proofs.Rewriting.BeforeNewlines.{a_newline}
+use Rattle.kdl_comments.proofs.Listing.ItemsUnique.{gap_items_det}
+use Rattle.kdl_comments.proofs.Listing.SpaceItems.{gap_none}
+use Rattle.kdl_comments.proofs.Rewriting.LinesAgain.{lines_again, lines_gap}
 use Rattle.kdl_fmt.specs.Comments.{ItemsIn}
 use Rattle.kdl_fmt.specs.Config.{Settings, indentation}
 use Rattle.kdl_fmt.specs.Formatted.{newline_if_none}

@@ -7,12 +7,12 @@ use Rattle.kdl_text.specs.Chars.{Text, is_space, is_newline_char, Newline, crlf,
 use Rattle.kdl_text.specs.Trivia.{LineComment, line as a_line, block as a_block, Slashdash, slashdash}
 use Rattle.kdl_text.proofs.Spacing.SpaceUnique.{no_line_comment}
 use Rattle.kdl_grammar.specs.Tree.{Nodes, first}
-use Rattle.kdl_items.specs.Items.{Item, SpaceItems, LineSpaceItems, GapItems, last_node, Place, before_entry, before_block, takes_blocks, PlaceItems, ends, dropped_entry, dropped_block}
-use Rattle.kdl_items.specs.Written.{lines, tail, on_line}
-use Rattle.kdl_items.proofs.Rewriting.BeforeNewlines.{a_newline}
-use Rattle.kdl_items.proofs.Listing.ItemsUnique.{gap_items_det, place_items_det}
-use Rattle.kdl_items.proofs.Rewriting.LinesAgain.{comment_part, comment_again, comment_text, comment_item, lines_again, spaces_items, lines_on_line}
-use Rattle.kdl_items.proofs.Rewriting.PlacesAgain.{tail_alone, tail_spaced}
+use Rattle.kdl_comments.specs.Items.{Item, SpaceItems, LineSpaceItems, GapItems, last_node, Place, before_entry, before_block, takes_blocks, PlaceItems, ends, dropped_entry, dropped_block}
+use Rattle.kdl_comments.specs.Written.{lines, tail, on_line}
+use Rattle.kdl_comments.proofs.Rewriting.BeforeNewlines.{a_newline}
+use Rattle.kdl_comments.proofs.Listing.ItemsUnique.{gap_items_det, place_items_det}
+use Rattle.kdl_comments.proofs.Rewriting.LinesAgain.{comment_part, comment_again, comment_text, comment_item, lines_again, spaces_items, lines_on_line}
+use Rattle.kdl_comments.proofs.Rewriting.PlacesAgain.{tail_alone, tail_spaced}
 use Rattle.kdl_fmt.specs.Config.{Settings, indentation}
 use Rattle.kdl_fmt.specs.Formatted.{newline_if_none}
 use Rattle.kdl_fmt.specs.Kept.{Written, items, WrittenUnless, KeptLines, KeptTail, KeptBeforeBlock, last_place, WrittenEnd, KeptEnd, without_bom}

@@ -9,13 +9,13 @@ use Rattle.kdl_text.proofs.Spacing.SpaceUnique.{no_line_comment}
 use Rattle.kdl_entry.specs.Places.{between}
 use Rattle.kdl_entry.proofs.Slicing.Between.{is_between}
 use Rattle.kdl_entry.proofs.Moving.EntryEnds.{end_slashdash}
-use Rattle.kdl_items.specs.Items.{Item, comment, piece, line_end, EsclineItems, SpaceItems, Place, before_entry, before_block, behind_block, may_end, takes_blocks, spaced, PlaceItems}
-use Rattle.kdl_items.specs.Written.{line_text, tail, on_line}
-use Rattle.kdl_items.proofs.Rewriting.BeforeNewlines.{piece_kept}
-use Rattle.kdl_items.proofs.Listing.ItemsUnique.{place_items_det}
-use Rattle.kdl_items.proofs.Rewriting.LastCharacters.{Last, last_behind, last_end, entry_last, block_last, ws_last}
-use Rattle.kdl_items.proofs.Rewriting.PlacesAgain.{tail_alone, tail_spaced}
-use Rattle.kdl_items.proofs.Rewriting.LinesAgain.{line_part, comment_part, comment_again, comment_text, comment_item}
+use Rattle.kdl_comments.specs.Items.{Item, comment, piece, line_end, EsclineItems, SpaceItems, Place, before_entry, before_block, behind_block, may_end, takes_blocks, spaced, PlaceItems}
+use Rattle.kdl_comments.specs.Written.{line_text, tail, on_line}
+use Rattle.kdl_comments.proofs.Rewriting.BeforeNewlines.{piece_kept}
+use Rattle.kdl_comments.proofs.Listing.ItemsUnique.{place_items_det}
+use Rattle.kdl_comments.proofs.Rewriting.LastCharacters.{Last, last_behind, last_end, entry_last, block_last, ws_last}
+use Rattle.kdl_comments.proofs.Rewriting.PlacesAgain.{tail_alone, tail_spaced}
+use Rattle.kdl_comments.proofs.Rewriting.LinesAgain.{line_part, comment_part, comment_again, comment_text, comment_item}
 use Rattle.kdl_fmt.specs.Comments.{ItemsIn, EndItems}
 use Rattle.kdl_fmt.specs.Kept.{Written, WrittenUnless, KeptEnd, WrittenEnd, last_place}
 use Rattle.kdl_fmt.proofs.Keeping.KeptPlaces.{Tail}

@@ -10,10 +10,10 @@ use Rattle.kdl_entry.specs.Places.{leading}
 use Rattle.kdl_grammar.specs.Data.{Nodes}
 use Rattle.kdl_grammar.specs.Grammar.{Terminator, Gap, no_gap, line_space, dropped_node, AreNodes, last_gap, node_then}
 use Rattle.kdl_grammar.specs.Places.{AfterChildren, BeforeChildren}
-use Rattle.kdl_items.specs.Items.{Item, GapItems, Place, before_entry, before_block, behind_block, PlaceItems}
-use Rattle.kdl_items.specs.Written.{lines, tail}
-use Rattle.kdl_items.proofs.Rewriting.PlacesAgain.{PlaceText, tail_leading, tail_before, tail_before_line, tail_behind, tail_behind_line}
-use Rattle.kdl_items.proofs.Rewriting.LinesAgain.{comment_part, comment_again, comment_item, lines_gap}
+use Rattle.kdl_comments.specs.Items.{Item, GapItems, Place, before_entry, before_block, behind_block, PlaceItems}
+use Rattle.kdl_comments.specs.Written.{lines, tail}
+use Rattle.kdl_comments.proofs.Rewriting.PlacesAgain.{PlaceText, tail_leading, tail_before, tail_before_line, tail_behind, tail_behind_line}
+use Rattle.kdl_comments.proofs.Rewriting.LinesAgain.{comment_part, comment_again, comment_item, lines_gap}
 use Rattle.kdl_fmt.specs.Config.{Settings, indentation}
 use Rattle.kdl_fmt.specs.Kept.{Written, WrittenUnless, KeptLines, last_place, WrittenEnd, KeptEnd}
 

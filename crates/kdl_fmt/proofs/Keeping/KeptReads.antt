@@ -6,9 +6,9 @@ use Rattle.kdl_text.specs.Chars.{Text}
 use Rattle.kdl_text.specs.Trivia.{LineComment}
 use Rattle.kdl_entry.specs.Places.{between}
 use Rattle.kdl_entry.specs.Tree.{EntryFormat}
-use Rattle.kdl_items.specs.Items.{Item, line_end, GapItems, Place, before_entry, PlaceItems}
-use Rattle.kdl_items.specs.Written.{lines, tail}
-use Rattle.kdl_items.proofs.Listing.SpaceItems.{place_end}
+use Rattle.kdl_comments.specs.Items.{Item, line_end, GapItems, Place, before_entry, PlaceItems}
+use Rattle.kdl_comments.specs.Written.{lines, tail}
+use Rattle.kdl_comments.proofs.Listing.SpaceItems.{place_end}
 use Rattle.kdl_fmt.specs.Kept.{Written, WrittenUnless, KeptLines, KeptTail, WrittenEnd, KeptEnd, KeptBefore, is_kept_format}
 use Rattle.kdl_fmt.specs.Config.{Settings, indentation}
 

@@ -4,8 +4,8 @@ use Rattle.kdl_text.specs.Chars.{Text}
 use Rattle.kdl_entry.specs.Places.{between}
 use Rattle.kdl_entry.specs.Tree.{Entry, autoformatted}
 use Rattle.kdl_grammar.specs.Tree.{DocumentFormat, Node, node, Children, no_children, children, Document, document, Nodes, none, first}
-use Rattle.kdl_items.specs.Items.{Item, comment, line_end, GapItems, before_entry, before_block, PlaceItems}
-use Rattle.kdl_items.specs.Written.{lines, tail}
+use Rattle.kdl_comments.specs.Items.{Item, comment, line_end, GapItems, before_entry, before_block, PlaceItems}
+use Rattle.kdl_comments.specs.Written.{lines, tail}
 use Rattle.kdl_fmt.specs.Comments.{ItemsIn, EndItems, EntriesItems, NodeItems, of_node, ChildrenItems, NodesItems, DocumentItems, of_document}
 use Rattle.kdl_fmt.specs.Config.{Settings, indentation}
 use Rattle.kdl_fmt.specs.Formatted.{with_keep_if, or_empty, or_empty_document, EntriesKeepNone, NodeKeepsNone, ChildrenKeepNone, DocumentKeepsNone, NodesKeepNone}

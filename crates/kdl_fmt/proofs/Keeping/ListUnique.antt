@@ -3,8 +3,8 @@ use Rattle.std.proofs.Common.{◌≡◌, List, ◌++◌, refl}
 use Rattle.kdl_text.specs.Chars.{Text}
 use Rattle.kdl_entry.specs.Tree.{Entry}
 use Rattle.kdl_grammar.specs.Tree.{Node, Children, Document, Nodes}
-use Rattle.kdl_items.specs.Items.{Item, GapItems, Place, PlaceItems}
-use Rattle.kdl_items.proofs.Listing.ItemsUnique.{gap_items_det, place_items_det}
+use Rattle.kdl_comments.specs.Items.{Item, GapItems, Place, PlaceItems}
+use Rattle.kdl_comments.proofs.Listing.ItemsUnique.{gap_items_det, place_items_det}
 use Rattle.kdl_fmt.specs.Comments.{ItemsIn, EndItems, EntriesItems, NodeItems, of_node, ChildrenItems, NodesItems, DocumentItems, of_document}
 
 in_det : {Has : List Item → Type 0} {is js : List Item} → ((is js : List Item) → Has is → Has js → is ≡ js) → ItemsIn Has is → ItemsIn Has js → is ≡ js

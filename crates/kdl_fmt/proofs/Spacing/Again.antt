@@ -7,10 +7,10 @@ use Rattle.kdl_text.specs.Chars.{Text, is_space, is_newline_char}
 use Rattle.kdl_text.specs.declared.span.SourceSpan.{SourceSpan}
 use Rattle.kdl_entry.specs.Tree.{unspelled}
 use Rattle.kdl_grammar.specs.Tree.{NodeFormat, DocumentFormat, Head, Node, node, Children, no_children, children, Document, document, Nodes, none, first}
-use Rattle.kdl_items.specs.Items.{Item, GapItems}
-use Rattle.kdl_items.specs.Written.{on_line}
-use Rattle.kdl_items.proofs.Listing.ItemsUnique.{gap_items_det}
-use Rattle.kdl_items.proofs.Rewriting.LinesAgain.{newline_items}
+use Rattle.kdl_comments.specs.Items.{Item, GapItems}
+use Rattle.kdl_comments.specs.Written.{on_line}
+use Rattle.kdl_comments.proofs.Listing.ItemsUnique.{gap_items_det}
+use Rattle.kdl_comments.proofs.Rewriting.LinesAgain.{newline_items}
 use Rattle.kdl_fmt.specs.Blank.{at_start, empty_lines, last_in, one_if, past_items, past_node, read, spaced_lines, newlines}
 use Rattle.kdl_fmt.specs.Config.{Settings, indentation}
 use Rattle.kdl_fmt.specs.Formatted.{or_empty, or_empty_document, newline_if_none, EntriesKeepNone, NodeKeepsNone, ChildrenKeepNone, DocumentKeepsNone, NodesKeepNone}

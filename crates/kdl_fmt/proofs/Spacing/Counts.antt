@@ -7,9 +7,9 @@ use Rattle.std.specs.List.{list_all}
 use Rattle.std.specs.Prelude.{if◌then◌else◌, ◌&&◌, min, max}
 use Rattle.kdl_text.specs.Chars.{Text, is_space, is_newline_char, times}
 use Rattle.kdl_text.specs.Trivia.{BlockComment, block as a_block, slashdash}
-use Rattle.kdl_items.specs.Items.{Item, comment, piece, GapItems}
-use Rattle.kdl_items.specs.Written.{item_text, line_text, on_line}
-use Rattle.kdl_items.proofs.Rewriting.LinesAgain.{AreStanding, Standing, DroppedLine, gap_items, line_text_again}
+use Rattle.kdl_comments.specs.Items.{Item, comment, piece, GapItems}
+use Rattle.kdl_comments.specs.Written.{item_text, line_text, on_line}
+use Rattle.kdl_comments.proofs.Rewriting.LinesAgain.{AreStanding, Standing, DroppedLine, gap_items, line_text_again}
 use Rattle.kdl_fmt.specs.Blank.{after_item, at_start, blank_lines, empty_lines, from_item, last_after_item, last_before, last_of, newlines, one_if, past_item, past_items, read, spaced_lines}
 use Rattle.kdl_fmt.specs.declared.blank.Before.{Before}
 use Rattle.kdl_fmt.specs.declared.blank.Before.TheVariants.{Nothing, Thing}

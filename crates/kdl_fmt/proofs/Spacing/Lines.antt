@@ -7,10 +7,10 @@ use Rattle.std.specs.Prelude.{if◌then◌else◌, min}
 use Rattle.kdl_text.specs.Chars.{Text, is_space, times}
 use Rattle.kdl_grammar.specs.Grammar.{Gap}
 use Rattle.kdl_grammar.specs.Tree.{NodeFormat}
-use Rattle.kdl_items.specs.Items.{Item, GapItems}
-use Rattle.kdl_items.specs.Written.{item_text, line_text, on_line}
-use Rattle.kdl_items.proofs.Listing.ItemsUnique.{gap_items_det}
-use Rattle.kdl_items.proofs.Rewriting.LinesAgain.{AreStanding, gap_items, one_line, one_gap, spaces_before, spaces_gap}
+use Rattle.kdl_comments.specs.Items.{Item, GapItems}
+use Rattle.kdl_comments.specs.Written.{item_text, line_text, on_line}
+use Rattle.kdl_comments.proofs.Listing.ItemsUnique.{gap_items_det}
+use Rattle.kdl_comments.proofs.Rewriting.LinesAgain.{AreStanding, gap_items, one_line, one_gap, spaces_before, spaces_gap}
 use Rattle.kdl_fmt.specs.Blank.{after_item, blank_lines, empty_lines, past_item, read, spaced_lines}
 use Rattle.kdl_fmt.specs.Comments.{ItemsIn}
 use Rattle.kdl_fmt.specs.Config.{Settings, indentation}

@@ -2,10 +2,10 @@
 use Rattle.std.proofs.Common.{◌≡◌, ℕ, ◌+◌, Bool, arith, true, false, List, [], ◌++◌, refl, sym, ap, subst, ◌∙◌}
 use Rattle.std.specs.Prelude.{if◌then◌else◌}
 use Rattle.kdl_text.specs.Chars.{Text}
-use Rattle.kdl_items.specs.Items as items
-use Rattle.kdl_items.specs.Items.{GapItems}
-use Rattle.kdl_items.specs.Internal.Reading.{items_view}
-use Rattle.kdl_items.specs.declared.item.Item.{Item}
+use Rattle.kdl_comments.specs.Items as items
+use Rattle.kdl_comments.specs.Items.{GapItems}
+use Rattle.kdl_comments.specs.Internal.Reading.{items_view}
+use Rattle.kdl_comments.specs.declared.item.Item.{Item}
 use Rattle.kdl_grammar.specs.Tree.{NodeFormat}
 use Rattle.kdl_parts.specs.Formats.{empty_node_format}
 use Rattle.kdl_fmt.specs.Blank.{past_items, past_node, read, spaced_lines}

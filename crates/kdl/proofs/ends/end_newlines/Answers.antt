@@ -2,7 +2,7 @@ use Rattle.kdl.proofs.Putting.Fewest.{end_fewest}
 use Rattle.std.proofs.Common.{◌≡◌, ◌++◌, ◌∙◌, ap, subst}
 use Rattle.std.specs.Str.{chars}
 use Rattle.kdl_text.specs.Chars.{Text}
-use Rattle.kdl_items.specs.Lacks.{TerminatorLacks}
+use Rattle.kdl_comments.specs.Lacks.{TerminatorLacks}
 use Rattle.kdl.proofs.Putting.NodeEnds.{empty_string}
 use Rattle.kdl.proofs.Putting.PutReads.{end_found, end_missing}
 use Rattle.kdl.proofs.ends.end_newlines.Goals as goal

@@ -2,7 +2,7 @@ use Rattle.kdl.proofs.Putting.Fewest.{gap_fewest}
 use Rattle.std.proofs.Common.{subst}
 use Rattle.std.specs.Str.{chars}
 use Rattle.kdl_fmt.specs.Kept.{without_bom}
-use Rattle.kdl_items.specs.Lacks.{GapLacks}
+use Rattle.kdl_comments.specs.Lacks.{GapLacks}
 use Rattle.kdl.proofs.Putting.PutReads.{gap_found, gap_missing}
 use Rattle.kdl.proofs.ends.gap_newlines.Goals as goal
 

@@ -1,9 +1,9 @@
 use Rattle.kdl.proofs.Putting.Fewest.{place_fewest}
 use Rattle.std.proofs.Common.{◌≡◌, ◌∙◌, ℕ, ap, sym, subst}
 use Rattle.std.specs.Str.{chars}
-use Rattle.kdl_items.specs.Internal.Reading.{place_view}
+use Rattle.kdl_comments.specs.Internal.Reading.{place_view}
 use Rattle.kdl.specs.Internal.Ends.{PlaceSays, block_if, PlaceFewest}
-use Rattle.kdl_items.specs.Lacks.{PlaceLacks}
+use Rattle.kdl_comments.specs.Lacks.{PlaceLacks}
 use Rattle.kdl.proofs.Putting.PutReads.{place_found, place_missing, place_of}
 use Rattle.kdl.proofs.ends.place_newlines.Goals as goal
 use Rattle.kdl.proofs.ends.place_newlines.Goals.{then-has_block, else-has_block}

@@ -5,7 +5,7 @@ use Rattle.std.proofs.lemmas.Str.Pattern.{ends_char}
 use Rattle.std.specs.Char.{encode_utf8}
 use Rattle.std.specs.Str.{chars, encode_utf8_all, IsUtf8}
 use Rattle.kdl_text.specs.Chars.{Text}
-use Rattle.kdl_items.proofs.Rewriting.Pushing.{one_char}
+use Rattle.kdl_comments.proofs.Rewriting.Pushing.{one_char}
 use Rattle.kdl_fmt.specs.Blank.{last_in}
 use Rattle.kdl_fmt.specs.declared.blank.Last.TheVariants.{Cr, Other}
 use Rattle.kdl_fmt.proofs.blank.last_in.Goals as goal

@@ -2,7 +2,7 @@ use Rattle.std.proofs.Common.{◌≡◌, drop, true}
 use denote.Text.{Utf8}
 use denote.Shadow.{shadow}
 use Rattle.std.specs.Str.{chars}
-use Rattle.kdl_items.specs.Internal.Reading.{items_view}
+use Rattle.kdl_comments.specs.Internal.Reading.{items_view}
 use Rattle.kdl_fmt.specs.Blank.{past_items}
 use Rattle.kdl_fmt.proofs.blank.past_items.Given as goal
 

@@ -2,7 +2,7 @@ use Rattle.std.proofs.Common.{◌≡◌, ◌++◌, drop, false}
 use denote.Text.{Utf8}
 use denote.Shadow.{shadow}
 use Rattle.std.specs.Str.{chars}
-use Rattle.kdl_items.specs.Internal.Reading.{items_view}
+use Rattle.kdl_comments.specs.Internal.Reading.{items_view}
 use Rattle.kdl_value.specs.Tree.{text_of}
 use Rattle.kdl_fmt.specs.Blank.{past_items, spaced_lines}
 use Rattle.kdl_fmt.proofs.blank.push_spaced_lines.Given as goal

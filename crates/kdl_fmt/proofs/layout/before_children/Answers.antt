@@ -3,7 +3,7 @@ use Rattle.std.proofs.lemmas.Result.{IfOk-weaker}
 use Rattle.std.specs.Str.{chars}
 use Rattle.kdl_text.specs.Chars.{Text}
 use Rattle.kdl_value.specs.Tree.{text_of}
-use Rattle.kdl_items.specs.Items.{before_block}
+use Rattle.kdl_comments.specs.Items.{before_block}
 use Rattle.kdl_fmt.specs.Config.{settings}
 use Rattle.kdl_fmt.specs.Kept.{KeptBeforeBlock, KeptTail}
 use Rattle.kdl_fmt.proofs.Texts.{no_text, space_text}

@@ -2,10 +2,10 @@ use Rattle.std.proofs.Common.{◌≡◌, ◌++◌, List, ap, sym, ◌∙◌}
 use Rattle.std.specs.Str.{chars}
 use Rattle.kdl_text.specs.Chars.{Text}
 use Rattle.kdl_value.specs.Tree.{text_of}
-use Rattle.kdl_items.specs.Items.{GapItems}
-use Rattle.kdl_items.specs.Internal.Reading.{items_view}
-use Rattle.kdl_items.specs.Written.{lines}
-use Rattle.kdl_items.specs.declared.item.Item.{Item}
+use Rattle.kdl_comments.specs.Items.{GapItems}
+use Rattle.kdl_comments.specs.Internal.Reading.{items_view}
+use Rattle.kdl_comments.specs.Written.{lines}
+use Rattle.kdl_comments.specs.declared.item.Item.{Item}
 use Rattle.kdl_fmt.specs.Config.{indentation, settings}
 use Rattle.kdl_fmt.proofs.Keeping.KeptReads.{no_elements, kept_none, kept_items, kept_nothing, written_behind}
 use Rattle.kdl_fmt.proofs.Texts.{no_text}

@@ -1,9 +1,9 @@
 use Rattle.std.proofs.Common.{ap, ◌∙◌}
 use Rattle.std.specs.Str.{chars}
 use Rattle.kdl_value.specs.Tree.{text_of}
-use Rattle.kdl_items.specs.Items.{GapItems}
-use Rattle.kdl_items.specs.Internal.Reading.{items_view}
-use Rattle.kdl_items.specs.Written.{lines}
+use Rattle.kdl_comments.specs.Items.{GapItems}
+use Rattle.kdl_comments.specs.Internal.Reading.{items_view}
+use Rattle.kdl_comments.specs.Written.{lines}
 use Rattle.kdl_fmt.proofs.Keeping.KeptReads.{kept_none, kept_items, kept_nothing, written_behind}
 use Rattle.kdl_fmt.proofs.Texts.{no_text}
 use Rattle.kdl_fmt.proofs.layout.kept_lines.Goals as goal

@@ -3,7 +3,7 @@ use Rattle.kdl_value.specs.Data.{Value}
 use Rattle.kdl_value.specs.WellFormed.{IsWellFormed}
 use Rattle.kdl_value.specs.Tree.{text_of}
 use Rattle.kdl_entry.specs.Tree.{Entry, entry_tree, cleared, autoformatted}
-use Rattle.kdl_items.proofs.Rewriting.Pushing.{if_ok}
+use Rattle.kdl_comments.proofs.Rewriting.Pushing.{if_ok}
 use Rattle.kdl_fmt.specs.Config.{settings}
 use Rattle.kdl_fmt.specs.Formatted.{with_keep_if}
 use Rattle.kdl_fmt.specs.Kept.{KeptBefore}

@@ -2,7 +2,7 @@ use Rattle.std.proofs.Common.{arith}
 use Rattle.std.proofs.lemmas.Result.{IfOk-weaker}
 use Rattle.std.specs.Str.{chars}
 use Rattle.kdl_value.specs.Tree.{text_of}
-use Rattle.kdl_items.proofs.Rewriting.Pushing.{no_bytes}
+use Rattle.kdl_comments.proofs.Rewriting.Pushing.{no_bytes}
 use Rattle.kdl_fmt.specs.Config.{settings}
 use Rattle.kdl_fmt.proofs.Spacing.Reads.{lines_empty, lines_zero}
 use Rattle.kdl_fmt.proofs.Texts.{no_text}

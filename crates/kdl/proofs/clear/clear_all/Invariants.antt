@@ -1,0 +1,11 @@
+use Rattle.kdl.specs.Cleared.{cleared_document}
+use Rattle.kdl.specs.Tree.{document_tree}
+use Rattle.kdl.proofs.Clearing.ClearingLoop.{Walk}
+use Rattle.kdl.proofs.Clearing.ClearingEnds.{left_of}
+use Rattle.kdl.proofs.clear.clear_all.Given as goal
+
+abbrev pub invariant-due : goal.invariant-due
+invariant-due l = Walk l.here l.above l.at (cleared_document (document_tree l.fn.here))
+
+abbrev pub decreases-due : goal.decreases-due
+decreases-due l = left_of l.here l.above l.at

@@ -1,8 +1,0 @@
-use Rattle.std.proofs.Common.{◌+◌, ◌*◌}
-use Rattle.kdl.specs.Internal.Count.{count_nodes, count_option}
-use Rattle.kdl.proofs.drops.dismantle.Given as goal
-
-abbrev pub decreases-loop-up : goal.decreases-loop-up
-decreases-loop-up l =
-    let all = count_nodes l.nodes.items + count_option l.up in
-    all * all + count_nodes l.nodes.items

@@ -1,0 +1,235 @@
+-- Fewer newlines are not enough.
+use Rattle.std.proofs.Common.{◌≡◌, ◌⊎◌, inl, inr, ℕ, zero, suc, ◌+◌, ◌-◌, ◌<◌, true, false, [], ◌∷◌, ◌++◌, length, Option, Some, None, refl, sym, ap, subst, ◌∙◌, arith, append_assoc}
+use Rattle.kdl_text.specs.Bare.{is_bare}
+use Rattle.kdl_text.specs.Bare.BareString.{bare as a_bare}
+use Rattle.kdl_text.specs.Chars.{Text, is_identifier_char, is_space, is_newline_char, is_banned, is_punctuation, Star, none as no_star, more}
+use Rattle.kdl_text.specs.Trivia.{Ws, NodeSpace, Break, LineSpace, Slashdash, slashdash, ValueEnd}
+use Rattle.kdl_text.proofs.Spacing.SpacePieces.{line_space_shorter}
+use Rattle.kdl_text.proofs.Spacing.SpaceUnique.{line_space_det}
+use Rattle.kdl_lexer.specs.Pieces.{StringPiece}
+use Rattle.kdl_entry.specs.Entries.{string as a_string', parens, untyped, typed}
+use Rattle.kdl_lexer.specs.Internal.Tokens as token'
+use Rattle.kdl_lexer.specs.Internal.Tokens.{Token, BeginsToken, space, newline, t_space, t_newline, t_slashdash, t_string, t_left}
+use Rattle.kdl_lexer.proofs.Lexing.TokenUnique.{token_det, no_token}
+use Rattle.kdl_grammar.specs.Data.{Node, node, no_children, Nodes, none, first}
+use Rattle.kdl_grammar.specs.Grammar.{Terminator, IsNode, named, AfterName, Blocks, Gap, no_gap, line_space, dropped_node, AreNodes, last_gap, node_then}
+use Rattle.kdl_control.specs.Internal.Control.{Control, at, gap, node_slashdash, step, held, is_gap}
+use Rattle.kdl_grammar.specs.ReadsBack.{AddsNothing, Anything, Terminates}
+use Rattle.kdl_comments.specs.Items.{ItemEnd}
+use Rattle.kdl_comments.specs.Lacks.{newlines, GapLacks}
+use Rattle.kdl_comments.specs.Internal.Lacking.{letter, Fewest, GapAnswer}
+use Rattle.kdl_comments.specs.Internal.Passing.{moved, returned, NodePasses, returns, goes}
+use Rattle.kdl_comments.proofs.Dropping.DroppedNodes.{passes_det, passes_last, passes_node, item_end, no_dash_space, no_dash_node, tail_gap}
+use Rattle.kdl_comments.proofs.Dropping.NodeLoop.{gap_turn, turn_back}
+use Rattle.kdl_comments.proofs.Dropping.Paths.{Back, Here, Halt, at_end, halts, no_node, drop_node}
+use Rattle.kdl_comments.proofs.Lacking.SpaceEnds.{lf, a_space}
+use Rattle.kdl_comments.proofs.Listing.SpaceItems.{dash_no_line}
+
+-- the node that is one letter
+pub a_piece : is_bare (97 ∷ []) ≡ true
+unfolding is_bare is_identifier_char is_space is_newline_char is_banned is_punctuation
+a_piece = refl
+
+abbrev pub a : Node
+a = node None (97 ∷ []) [] no_children
+
+letter_space : NodeSpace letter (97 ∷ [])
+letter_space = NodeSpace.ws (Ws.space a_space)
+
+a_string : StringPiece (97 ∷ []) [] (97 ∷ [])
+a_string = StringPiece.bare (a_bare refl a_piece refl)
+
+pub letter_node : AreNodes true letter [] (first a none)
+letter_node =
+    node_then (line_space (LineSpace.space letter_space) no_gap) (named untyped (a_string' a_string ValueEnd.nothing) (AfterName.blocks (Blocks.no_block no_star))) Terminator.at_end
+    (last_gap no_gap)
+
+pub letter_end : ValueEnd true letter
+letter_end = ValueEnd.space a_space
+
+pub some_nodes : first a none ≡ none → ⊥
+some_nodes e = cc
+
+-- nodes of an empty text, and of a text of which one token leaves nothing
+pub no_nodes : {xs : Nodes} → AreNodes true [] [] xs → xs ≡ none
+no_nodes (last_gap g) = refl
+no_nodes (node_then g x e ds) = absurd (no_node (subst Halt (halts at_end g) at_end) x)
+
+one_line : {s t : Text} → LineSpace s t → (k : Token) × BeginsToken s k t
+one_line (LineSpace.space n) = (space, t_space n)
+one_line (LineSpace.«break» b) = (newline, t_newline b)
+
+-- spaces and newlines alone
+abbrev OfSpaces : Token → Type 0
+OfSpaces k = (k ≡ space) ⊎ (k ≡ newline)
+
+no_string : {n : Text} → OfSpaces (token'.string n) → ⊥
+no_string (inl e) = cc
+no_string (inr e) = cc
+
+no_left : OfSpaces token'.left → ⊥
+no_left (inl e) = cc
+no_left (inr e) = cc
+
+no_dash : OfSpaces token'.slashdash → ⊥
+no_dash (inl e) = cc
+no_dash (inr e) = cc
+
+pub swallowed : {s : Text} {xs : Nodes} → ((r : Text) (k : Token) → BeginsToken s k r → ((k ≡ space) ⊎ (k ≡ newline)) × (r ≡ [])) → AreNodes true s [] xs → xs ≡ none
+swallowed f (last_gap g) = refl
+swallowed f (node_then no_gap (named untyped (a_string' p e) d) t ds) = absurd (no_string (f _ _ (t_string p)).0)
+swallowed f (node_then no_gap (named (typed (parens ss w us) vs) z d) t ds) = absurd (no_left (f _ _ t_left).0)
+swallowed {xs = xs} f (node_then (line_space {t = u} n g) x t ds) = let k = one_line n in let e = (f u k.0 k.1).1 in no_nodes (subst (λ (y : Text). AreNodes true y [] xs) e (node_then g x t ds))
+swallowed f (node_then (dropped_node (slashdash ls) y e g) x t ds) = absurd (no_dash (f _ _ t_slashdash).0)
+
+-- past line-spaces
+no_line_node : {s t u : Text} {x : Node} → LineSpace s t → IsNode true s u x → ⊥
+no_line_node n (named untyped (a_string' p e) d) = let k = one_line n in go k.0 k.1 (token_det k.1 (t_string p)).1 n
+  where
+    go : {s t : Text} {m : Text} (k : Token) → BeginsToken s k t → k ≡ token'.string m → LineSpace s t → ⊥
+    go k b e (LineSpace.space n) = let f = (token_det b (t_space n)).1 in cc
+    go k b e (LineSpace.«break» n) = let f = (token_det b (t_newline n)).1 in cc
+no_line_node (LineSpace.space n) (named (typed (parens ss w us) vs) z d) = let f = (token_det (t_space n) t_left).1 in cc
+no_line_node (LineSpace.«break» n) (named (typed (parens ss w us) vs) z d) = let f = (token_det (t_newline n) t_left).1 in cc
+
+gap_off : {s t r : Text} → LineSpace s t → (s ≡ r → ⊥) → Gap true s r → Gap true t r
+gap_off n f no_gap = absurd (f refl)
+gap_off {r = r} n f (line_space m g) = subst (λ (y : Text). Gap true y r) (line_space_det m n) g
+gap_off n f (dropped_node m x e g) = absurd (dash_no_line m n)
+
+nodes_off_one : {s t : Text} {xs : Nodes} → LineSpace s t → AreNodes true s [] xs → AreNodes true t [] xs
+nodes_off_one n (last_gap g) = last_gap (gap_off n (λ e. omega (arith, line_space_shorter n, ap length e)) g)
+nodes_off_one n (node_then no_gap x e ds) = absurd (no_line_node n x)
+nodes_off_one n (node_then {t = u} (line_space m g) x e ds) = node_then (subst (λ (y : Text). Gap true y u) (line_space_det m n) g) x e ds
+nodes_off_one n (node_then (dropped_node m y t g) x e ds) = absurd (dash_no_line m n)
+
+pub nodes_off : {s t : Text} {xs : Nodes} → Star LineSpace s t → AreNodes true s [] xs → AreNodes true t [] xs
+nodes_off no_star ds = ds
+nodes_off (more n ns) ds = nodes_off ns (nodes_off_one n ds)
+
+-- past a dropped node
+data DroppedThen (t : Text) (xs : Nodes) : Type 0 where
+  dropped_then : {t' u v : Text} {x : Node} → Star LineSpace t t' → IsNode true t' u x → Terminator u v → AreNodes true v [] xs → DroppedThen t xs
+
+dash_nodes : {t : Text} {xs : Nodes} → AreNodes true (47 ∷ 45 ∷ t) [] xs → DroppedThen t xs
+dash_nodes (last_gap (line_space n g)) = absurd (no_dash_space n)
+dash_nodes (last_gap (dropped_node (slashdash ls) x e g)) = dropped_then ls x e (last_gap g)
+dash_nodes (node_then no_gap x e ds) = absurd (no_dash_node x)
+dash_nodes (node_then (line_space n g) x e ds) = absurd (no_dash_space n)
+dash_nodes (node_then (dropped_node (slashdash ls) y e' g) x e ds) = dropped_then ls y e' (node_then g x e ds)
+
+dash_lines : {t u : Text} → Slashdash (47 ∷ 45 ∷ t) u → Star LineSpace t u
+dash_lines (slashdash ls) = ls
+
+pub nodes_off_node : {b t u v e : Text} {x : Node} {xs : Nodes} → Slashdash (47 ∷ 45 ∷ b) t → IsNode true t u x → ItemEnd u v e → AreNodes true (47 ∷ 45 ∷ b) [] xs → AreNodes true v [] xs
+nodes_off_node {b} {v = v} {xs = xs} m x i ds = go (dash_nodes ds)
+  where
+    go : DroppedThen b xs → AreNodes true v [] xs
+    go (dropped_then {t' = t'} {u = u'} {v = v'} {x = y} ls z tm es) = by_end (item_end tm es)
+      where
+        by_end : ((e : Text) × ItemEnd u' v' e) ⊎ (u' ≡ []) → AreNodes true v [] xs
+        by_end (inl (e', j)) =
+            let d = passes_det (passes_node ls z j).1 (passes_node (dash_lines m) x i).1 in
+            let a : v' ≡ v = cc in
+            subst (λ (c : Text). AreNodes true c [] xs) a es
+        by_end (inr k) = let d = passes_det (passes_last ls (subst (λ (c : Text). IsNode true t' c y) k z) no_star).3 (passes_node (dash_lines m) x i).1 in absurd cc
+
+-- a letter after a dropped node is part of it: the control returns to no gap
+abbrev NoReturn : Control → Text → Text → Type 0
+NoReturn c last s = (k : Token) (u v : Text) → NodePasses c last s (returned k u v) → ⊥
+
+at_nothing : {c : Control} {last u v : Text} {k : Token} → NodePasses c last [] (returned k u v) → ⊥
+at_nothing (returns t f) = no_token t
+at_nothing (goes t f g q) = no_token t
+
+to_gap : (c : Control) (k : Token) → is_gap c ≡ false → step c k ≡ Some (at gap []) → (k ≡ newline) ⊎ (k ≡ token'.semicolon)
+to_gap c k g f = gap_turn c k g (ap (held is_gap) f)
+
+ends_node : {n : Text} → (token'.string n ≡ newline) ⊎ (token'.string n ≡ token'.semicolon) → ⊥
+ends_node (inl e) = cc
+ends_node (inr e) = cc
+
+space_ends : (space ≡ newline) ⊎ (space ≡ token'.semicolon) → ⊥
+space_ends (inl e) = cc
+space_ends (inr e) = cc
+
+at_a : {c : Control} {last u v s : Text} {k : Token} → s ≡ 97 ∷ [] → is_gap c ≡ false → NodePasses c last s (returned k u v) → ⊥
+at_a {c = c} e g (returns {r = r} {k = k} t f) =
+    let d = token_det (subst (λ (y : Text). BeginsToken y k r) e t) (t_string a_string) in
+    ends_node (subst (λ (j : Token). (j ≡ newline) ⊎ (j ≡ token'.semicolon)) d.1 (to_gap c k g f))
+at_a {u = u} {v = v} {k = j} e g (goes {d = c'} {last = l} {r = r} {k = k} t f h q) =
+    let d = token_det (subst (λ (y : Text). BeginsToken y k r) e t) (t_string a_string) in
+    at_nothing (subst (λ (y : Text). NodePasses c' (moved k l r) y (returned j u v)) d.0 q)
+
+no_return : {c : Control} {last s : Text} → s ≡ letter → is_gap c ≡ false → NoReturn c last s
+no_return {c} e g j u v (returns {r = r} {k = k} t f) =
+    let d = token_det (subst (λ (y : Text). BeginsToken y k r) e t) (t_space letter_space) in
+    space_ends (subst (λ (i : Token). (i ≡ newline) ⊎ (i ≡ token'.semicolon)) d.1 (to_gap c k g f))
+no_return e g j u v (goes {r = r} {k = k} t f h q) =
+    let d = token_det (subst (λ (y : Text). BeginsToken y k r) e t) (t_space letter_space) in
+    at_a d.0 h q
+
+return_back : Back NoReturn
+return_back c d last s r k t f g o w p = λ j u v q. p j u v (turn_back t f g q)
+
+return_here : Here NoReturn []
+return_here i d last s r k t f g p = λ j u v q. p j u v (turn_back t f g q)
+
+pub letter_dropped : {b t : Text} {x : Node} {xs : Nodes} → Slashdash (47 ∷ 45 ∷ b) t → IsNode true t letter x → AreNodes true (47 ∷ 45 ∷ b) [] xs → xs ≡ none
+letter_dropped {b} {xs = xs} m x ds = go (dash_nodes ds)
+  where
+    never : NoReturn (at node_slashdash []) b b
+    never = drop_node NoReturn return_back (dash_lines m) x return_here (λ c w q x' ws. no_return refl (tail_gap q)) b
+
+    go : DroppedThen b xs → xs ≡ none
+    go (dropped_then {u = u'} {v = v'} ls z tm es) = by_end (item_end tm es)
+      where
+        nothing_left : {u v : Text} → Terminator u v → u ≡ [] → v ≡ []
+        nothing_left Terminator.semicolon e = cc
+        nothing_left {v = v} (Terminator.newline n) e = absurd (no_token (subst (λ (y : Text). BeginsToken y newline v) e (t_newline (Break.newline n))))
+        nothing_left {v = v} (Terminator.comment l) e = absurd (no_token (subst (λ (y : Text). BeginsToken y newline v) e (t_newline (Break.comment l))))
+        nothing_left Terminator.at_end e = refl
+        nothing_left Terminator.at_close e = cc
+
+        by_end : ((e : Text) × ItemEnd u' v' e) ⊎ (u' ≡ []) → xs ≡ none
+        by_end (inl (e', j)) = absurd (never _ _ _ (passes_node ls z j).1)
+        by_end (inr k) = no_nodes (subst (λ (y : Text). AreNodes true y [] xs) (nothing_left tm k) es)
+
+-- the fewest newlines
+pub fewest_at : (s : Text) (k m : ℕ) → suc m ≡ k → ((xs : Nodes) → AreNodes true ((s ++ newlines m) ++ letter) [] xs → xs ≡ none) → Fewest s k
+fewest_at s k m e f j h xs ds =
+    let i : j ≡ m = omega (arith, e, h) in
+    f xs (subst (λ (n : ℕ). AreNodes true ((s ++ newlines n) ++ letter) [] xs) i ds)
+
+pub fewest_none : (s : Text) → Fewest s 0
+fewest_none s j e = absurd (omega (arith, e))
+
+-- what holds with so many newlines holds with one more
+newlines_more : (j : ℕ) (r : Text) → newlines (suc j) ++ r ≡ newlines j ++ (10 ∷ r)
+newlines_more zero r = refl
+newlines_more (suc j) r = ap (λ (y : Text). 10 ∷ y) (newlines_more j r)
+
+pub one_more : (t : Text) (j : ℕ) (r : Text) → (t ++ newlines (suc j)) ++ r ≡ (t ++ newlines j) ++ (10 ∷ r)
+one_more t j r = append_assoc t (newlines (suc j)) r ∙ ap (λ (y : Text). t ++ y) (newlines_more j r) ∙ sym (append_assoc t (newlines j) (10 ∷ r))
+
+lf_first : {r z : Text} {xs : Nodes} → AreNodes true r z xs → AreNodes true (10 ∷ r) z xs
+lf_first {r} (last_gap g) = last_gap (line_space (LineSpace.«break» (Break.newline (lf r))) g)
+lf_first {r} (node_then g x e ds) = node_then (line_space (LineSpace.«break» (Break.newline (lf r))) g) x e ds
+
+adds_more : (t : Text) (j : ℕ) → AddsNothing (t ++ newlines j) → AddsNothing (t ++ newlines (suc j))
+adds_more t j f r s xs e ds = subst (λ (y : Text). AreNodes true y s xs) (sym (one_more t j r)) (f (10 ∷ r) s xs e (lf_first ds))
+
+pub ends_more : (t : Text) (j : ℕ) → Terminates Anything (t ++ newlines j) → Terminates Anything (t ++ newlines (suc j))
+ends_more t j f r s xs a e ds = let (v, m, es) = f (10 ∷ r) s xs tt e (lf_first ds) in (v, subst (λ (y : Text). Terminator y v) (sym (one_more t j r)) m, es)
+
+pub fewer_not : (P : Text → Type 0) (t : Text) (k : ℕ) → ((j : ℕ) → P (t ++ newlines j) → P (t ++ newlines (suc j))) → ((j : ℕ) → suc j ≡ k → P (t ++ newlines j) → ⊥) → (j : ℕ) → j < k → P (t ++ newlines j) → ⊥
+fewer_not P t zero m f j h p = omega (arith, h)
+fewer_not P t (suc k) m f j h p = f k refl (climb (k - j) j (omega (arith, h)) p)
+  where
+    climb : (d j : ℕ) → j + d ≡ k → P (t ++ newlines j) → P (t ++ newlines k)
+    climb zero j e p = let i : j ≡ k = omega (arith, e) in subst (λ (n : ℕ). P (t ++ newlines n)) i p
+    climb (suc d) j e p = climb d (suc j) (omega (arith, e)) (m j p)
+
+pub gap_answer : (t : Text) (o : Option ℕ) → GapAnswer t o → GapLacks t o
+gap_answer t None f = f
+gap_answer t (Some k) (b, g, f, few) = (b, g, (f, fewer_not AddsNothing t k (adds_more t) (λ j e p. some_nodes (few j e (first a none) (p letter [] (first a none) (inl refl) letter_node)))))

@@ -1,0 +1,207 @@
+-- A text has a list of items exactly where it may be in its place.
+use Rattle.std.proofs.Common.{◌≡◌, ◌↔◌, ◌⊎◌, inl, inr, Bool, true, false, List, [], ◌∷◌, ◌++◌, refl, sym, subst, ◌∙◌}
+use Rattle.kdl_text.specs.Chars.{Text, Star, Plus, plus}
+use Rattle.kdl_text.specs.Chars.Star.{none as no_star, more}
+use Rattle.kdl_text.specs.Trivia.{NodeSpace, Break, LineSpace, Slashdash, slashdash}
+use Rattle.kdl_text.proofs.Looking.Stars.{join}
+use Rattle.kdl_entry.specs.Data.{Entry}
+use Rattle.kdl_entry.specs.Entries.{IsEntry}
+use Rattle.kdl_entry.specs.Places.{between}
+use Rattle.kdl_entry.specs.Places.{DroppedEntry, dropped as a_dropped_entry, EntryLeading, leading}
+use Rattle.kdl_grammar.specs.Data.{Node, Children, Nodes}
+use Rattle.kdl_grammar.specs.Grammar.{Terminator, IsNode, named, AfterName, kept_entry, Blocks, AfterBlock, dropped_later, no_more, Gap, no_gap, IsBlock}
+use Rattle.kdl_grammar.specs.Places.{DroppedBlock, dropped as a_dropped_block, AfterChildren, after, BeforeChildren, before}
+use Rattle.kdl_comments.specs.Items.{Item, piece, ItemEnd, GapItems, Place, before_entry, before_block, behind_block, may_end, takes_entries, takes_blocks, spaced, PlaceItems}
+use Rattle.kdl_comments.proofs.Dropping.DroppedNodes.{passes_last, node_ended}
+use Rattle.kdl_comments.proofs.Dropping.Paths.{at_brace, halts}
+use Rattle.kdl_comments.proofs.Listing.SpaceItems.{space_of, line_space_of, space_items, line_space_items}
+
+-- the text has a list of items as a gap
+abbrev pub HasGap : Text → Type 0
+HasGap s = (is : List Item) × GapItems s is
+
+-- the text has a list of items in the place
+abbrev pub Has : Place → Text → Type 0
+Has p s = (is : List Item) × PlaceItems p s is
+
+-- line-spaces in a gap
+line_first : {s t : Text} → LineSpace s t → HasGap t → HasGap s
+line_first l g = let d = line_space_items l in (d.0 ++ g.0, GapItems.space d.1 g.1)
+
+pub spaces_only : {s : Text} → Star NodeSpace s [] → HasGap s
+spaces_only no_star = ([], GapItems.none)
+spaces_only (more n ss) = line_first (LineSpace.space n) (spaces_only ss)
+
+-- a dropped node with its terminator
+node_first : {s t u v e : Text} {x : Node} → Slashdash s t → IsNode true t u x → ItemEnd u v e → HasGap v → HasGap s
+node_first {s} {e = e} m x i g = (piece (between s e) ∷ g.0, GapItems.dropped_node m x i g.1)
+
+-- the last one without a terminator: it ends before the node-spaces at its end
+node_last : {s t : Text} {x : Node} → Slashdash s t → IsNode true t [] x → HasGap s
+node_last (slashdash {s = t} ls) x =
+    let q = passes_last ls x no_star in
+    let g = spaces_only q.2 in
+    let all : List Item = piece (between (47 ∷ 45 ∷ t) q.0) ∷ g.0 in
+    (all, (node_ended q.3 all).1 (g.0, refl, g.1))
+
+pub gap_has : {s : Text} → Gap true s [] → HasGap s
+gap_has no_gap = ([], GapItems.none)
+gap_has (Gap.line_space l g) = line_first l (gap_has g)
+gap_has (Gap.dropped_node m x Terminator.semicolon g) = node_first m x ItemEnd.semicolon (gap_has g)
+gap_has (Gap.dropped_node m x (Terminator.newline n) g) = node_first m x (ItemEnd.line (Break.newline n)) (gap_has g)
+gap_has (Gap.dropped_node m x (Terminator.comment l) g) = node_first m x (ItemEnd.line (Break.comment l)) (gap_has g)
+gap_has (Gap.dropped_node m x Terminator.at_end g) = node_last m x
+gap_has (Gap.dropped_node m x Terminator.at_close g) = let e = halts at_brace g in cc
+
+-- a node with more node-spaces at its end
+block_spaces : {s t r : Text} → AfterBlock true s t → Star NodeSpace t r → AfterBlock true s r
+block_spaces (dropped_later us m b d) ss = dropped_later us m b (block_spaces d ss)
+block_spaces (no_more us) ss = no_more (join us ss)
+
+blocks_spaces : {braced : Bool} {s t r : Text} {k : Children} → Blocks true braced s t k → Star NodeSpace t r → Blocks true braced s r k
+blocks_spaces (Blocks.dropped_block us m b d) ss = Blocks.dropped_block us m b (blocks_spaces d ss)
+blocks_spaces (Blocks.block us b d) ss = Blocks.block us b (block_spaces d ss)
+blocks_spaces (Blocks.no_block us) ss = Blocks.no_block (join us ss)
+
+name_spaces : {s t r : Text} {es : List Entry} {k : Children} → AfterName true s t es k → Star NodeSpace t r → AfterName true s r es k
+name_spaces (kept_entry n i d) ss = kept_entry n i (name_spaces d ss)
+name_spaces (AfterName.dropped_entry us m i d) ss = AfterName.dropped_entry us m i (name_spaces d ss)
+name_spaces (AfterName.blocks d) ss = AfterName.blocks (blocks_spaces d ss)
+
+node_spaces : {s t r : Text} {x : Node} → IsNode true s t x → Star NodeSpace t r → IsNode true s r x
+node_spaces (named y n d) ss = named y n (name_spaces d ss)
+
+terminator_of : {u v e : Text} → ItemEnd u v e → Terminator u v
+terminator_of ItemEnd.semicolon = Terminator.semicolon
+terminator_of (ItemEnd.line (Break.newline n)) = Terminator.newline n
+terminator_of (ItemEnd.line (Break.comment l)) = Terminator.comment l
+
+pub gap_of : {s : Text} {is : List Item} → GapItems s is → Gap true s []
+gap_of GapItems.none = no_gap
+gap_of (GapItems.space d g) = Gap.line_space (line_space_of d) (gap_of g)
+gap_of (GapItems.dropped_node m x i g) = Gap.dropped_node m x (terminator_of i) (gap_of g)
+gap_of (GapItems.last_node m x tight ss g) = Gap.dropped_node m (node_spaces x ss) Terminator.at_end no_gap
+
+pub gap_items : (s : Text) → Gap true s [] ↔ ((is : List Item) × GapItems s is)
+gap_items s = (λ g. gap_has g, λ h. gap_of h.1)
+
+-- what a place takes does not depend on the node-spaces in it
+entries_spaced : (p : Place) → takes_entries (spaced true p) ≡ takes_entries p
+entries_spaced (before_entry b) = refl
+entries_spaced before_block = refl
+entries_spaced behind_block = refl
+
+blocks_spaced : (p : Place) → takes_blocks (spaced true p) ≡ takes_blocks p
+blocks_spaced (before_entry b) = refl
+blocks_spaced before_block = refl
+blocks_spaced behind_block = refl
+
+unspaced : (p : Place) → spaced false (spaced true p) ≡ spaced false p
+unspaced (before_entry b) = refl
+unspaced before_block = refl
+unspaced behind_block = refl
+
+-- node-spaces, a dropped entry and a dropped block in a place
+space_first : {p : Place} {s t : Text} → NodeSpace s t → Has (spaced true p) t → Has p s
+space_first n g = let d = space_items n in (d.0 ++ g.0, PlaceItems.space d.1 g.1)
+
+spaces_first : (p : Place) → spaced true p ≡ p → {s t : Text} → Star NodeSpace s t → Has p t → Has p s
+spaces_first p e no_star g = g
+spaces_first p e {s} (more {t = t} n ss) g = space_first n (subst (λ (q : Place). Has q t) (sym e) (spaces_first p e ss g))
+
+entry_first : (p : Place) → takes_entries p ≡ true → {s t u r : Text} {e : Entry} → Star NodeSpace s t → Slashdash t u → IsEntry true u r e → Has (spaced false p) r → Has p s
+entry_first p h {s} {r = r} no_star m i g = (piece (between s r) ∷ g.0, PlaceItems.dropped_entry h m i g.1)
+entry_first p h {r = r} (more n ss) m i g = space_first n (entry_first (spaced true p) (entries_spaced p ∙ h) ss m i (subst (λ (q : Place). Has q r) (sym (unspaced p)) g))
+
+block_first : (p : Place) → takes_blocks p ≡ true → {s t u r : Text} {xs : Nodes} → Star NodeSpace s t → Slashdash t u → IsBlock true u r xs → Has behind_block r → Has p s
+block_first p h {s} {r = r} no_star m b g = (piece (between s r) ∷ g.0, PlaceItems.dropped_block h m b g.1)
+block_first p h (more n ss) m b g = space_first n (block_first (spaced true p) (blocks_spaced p ∙ h) ss m b g)
+
+-- each text of a place has items
+after_has : (p : Place) → takes_blocks p ≡ true → spaced true p ≡ p → may_end p ≡ true → {s t : Text} → Star DroppedBlock s t → Star NodeSpace t [] → Has p s
+after_has p h e f no_star us = spaces_first p e us ([], PlaceItems.ends f)
+after_has p h e f (more (a_dropped_block ss m b) ds) us = block_first p h ss m b (after_has behind_block refl refl refl ds us)
+
+before_has : {s t : Text} → Star DroppedEntry s t → AfterChildren t [] → Has before_block s
+before_has no_star (after ds us) = after_has before_block refl refl refl ds us
+before_has (more (a_dropped_entry ss m i) ds) a = entry_first before_block refl ss m i (before_has ds a)
+
+leading_has : {s t : Text} → Star DroppedEntry s t → Plus NodeSpace t [] → Has (before_entry false) s
+leading_has no_star (plus n us) = space_first n (spaces_first (before_entry true) refl us ([], PlaceItems.ends refl))
+leading_has (more (a_dropped_entry ss m i) ds) us = entry_first (before_entry false) refl ss m i (leading_has ds us)
+
+-- what may be in a place; after a node-space the text before an entry may be node-spaces alone
+abbrev TextIn : Place → Text → Type 0
+TextIn (before_entry false) s = EntryLeading s []
+TextIn (before_entry true) s = Star NodeSpace s [] ⊎ EntryLeading s []
+TextIn before_block s = BeforeChildren s []
+TextIn behind_block s = AfterChildren s []
+
+space_after : {s t : Text} → NodeSpace s t → AfterChildren t [] → AfterChildren s []
+space_after n (after no_star us) = after no_star (more n us)
+space_after n (after (more (a_dropped_block ss m b) ds) us) = after (more (a_dropped_block (more n ss) m b) ds) us
+
+space_before : {s t : Text} → NodeSpace s t → BeforeChildren t [] → BeforeChildren s []
+space_before n (before no_star a) = before no_star (space_after n a)
+space_before n (before (more (a_dropped_entry ss m i) ds) a) = before (more (a_dropped_entry (more n ss) m i) ds) a
+
+space_leading : {s t : Text} → NodeSpace s t → TextIn (before_entry true) t → EntryLeading s []
+space_leading n (inl us) = leading no_star (plus n us)
+space_leading n (inr (leading no_star (plus m us))) = leading no_star (plus n (more m us))
+space_leading n (inr (leading (more (a_dropped_entry ss m i) ds) us)) = leading (more (a_dropped_entry (more n ss) m i) ds) us
+
+text_space : (p : Place) {s t : Text} → NodeSpace s t → TextIn (spaced true p) t → TextIn p s
+text_space (before_entry false) n d = space_leading n d
+text_space (before_entry true) n d = inr (space_leading n d)
+text_space before_block n d = space_before n d
+text_space behind_block n d = space_after n d
+
+entry_leading : {s t u : Text} {e : Entry} → Slashdash s t → IsEntry true t u e → EntryLeading u [] → EntryLeading s []
+entry_leading m i (leading ds us) = leading (more (a_dropped_entry no_star m i) ds) us
+
+entry_before : {s t u : Text} {e : Entry} → Slashdash s t → IsEntry true t u e → BeforeChildren u [] → BeforeChildren s []
+entry_before m i (before ds a) = before (more (a_dropped_entry no_star m i) ds) a
+
+text_entry : (p : Place) → takes_entries p ≡ true → {s t u : Text} {e : Entry} → Slashdash s t → IsEntry true t u e → TextIn (spaced false p) u → TextIn p s
+text_entry (before_entry false) h m i d = entry_leading m i d
+text_entry (before_entry true) h m i d = inr (entry_leading m i d)
+text_entry before_block h m i d = entry_before m i d
+text_entry behind_block h m i d = absurd cc
+
+block_after : {s t u : Text} {xs : Nodes} → Slashdash s t → IsBlock true t u xs → AfterChildren u [] → AfterChildren s []
+block_after m b (after ds us) = after (more (a_dropped_block no_star m b) ds) us
+
+text_block : (p : Place) → takes_blocks p ≡ true → {s t u : Text} {xs : Nodes} → Slashdash s t → IsBlock true t u xs → AfterChildren u [] → TextIn p s
+text_block (before_entry b) h m i d = absurd cc
+text_block before_block h m i d = before no_star (block_after m i d)
+text_block behind_block h m i d = block_after m i d
+
+text_end : (p : Place) → may_end p ≡ true → TextIn p []
+text_end (before_entry false) h = absurd cc
+text_end (before_entry true) h = inl no_star
+text_end before_block h = before no_star (after no_star no_star)
+text_end behind_block h = after no_star no_star
+
+text_of : (p : Place) {s : Text} {is : List Item} → PlaceItems p s is → TextIn p s
+text_of p (PlaceItems.ends h) = text_end p h
+text_of p (PlaceItems.space d g) = text_space p (space_of d) (text_of (spaced true p) g)
+text_of p (PlaceItems.dropped_entry h m i g) = text_entry p h m i (text_of (spaced false p) g)
+text_of p (PlaceItems.dropped_block h m b g) = text_block p h m b (text_of behind_block g)
+
+pub before_block_items : (s : Text) → BeforeChildren s [] ↔ ((is : List Item) × PlaceItems before_block s is)
+before_block_items s = (λ d. has d, λ h. text_of before_block h.1)
+  where
+    has : BeforeChildren s [] → Has before_block s
+    has (before ds a) = before_has ds a
+
+pub after_block_items : (s : Text) → AfterChildren s [] ↔ ((is : List Item) × PlaceItems behind_block s is)
+after_block_items s = (λ d. has d, λ h. text_of behind_block h.1)
+  where
+    has : AfterChildren s [] → Has behind_block s
+    has (after ds us) = after_has behind_block refl refl refl ds us
+
+pub before_entry_items : (s : Text) → EntryLeading s [] ↔ ((is : List Item) × PlaceItems (before_entry false) s is)
+before_entry_items s = (λ d. has d, λ h. text_of (before_entry false) h.1)
+  where
+    has : EntryLeading s [] → Has (before_entry false) s
+    has (leading ds us) = leading_has ds us

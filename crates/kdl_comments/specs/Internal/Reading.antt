@@ -1,0 +1,62 @@
+-- How the results of the readers of items relate to the text.
+use Rattle.std.specs.Borrow.{Bor}
+use Rattle.std.specs.Prelude.{◌≡◌, ◌↔◌, ℕ, ◌<◌, List, [], ◌++◌, Option, Some, None, map, length, option_map}
+use Rattle.std.specs.Str.{chars}
+use Rattle.kdl_text.specs.Chars.{Text}
+use Rattle.kdl_text.specs.Spans.{bytes}
+use Rattle.kdl_comments.specs.Items as items
+use Rattle.kdl_comments.specs.Items.{GapItems, PlaceItems, before_entry, before_block, behind_block}
+use Rattle.kdl_comments.specs.declared.item.Item.{Item}
+use Rattle.kdl_comments.specs.declared.item.Item.TheVariants.{Comment, Piece}
+use Rattle.kdl_comments.specs.declared.item.Place.{Place}
+use Rattle.kdl_comments.specs.declared.item.Place.TheVariants.{BeforeEntry, BeforeBlock, BehindBlock}
+
+-- the item in memory, with its text as characters
+abbrev pub item_view : Item → items.Item
+item_view (Comment t) = items.comment (chars t.now)
+item_view (Piece t) = items.piece (chars t.now)
+
+abbrev pub items_view : List Item → List items.Item
+items_view xs = map item_view xs
+
+abbrev pub place_view : Place → items.Place
+place_view (BeforeEntry b) = before_entry b
+place_view BeforeBlock = before_block
+place_view BehindBlock = behind_block
+
+-- a piece of n bytes begins the text
+abbrev pub Cut : Text → ℕ → Type 0
+Cut s n = (p : Text) × (r : Text) × (s ≡ p ++ r) × (bytes p ≡ n)
+
+-- pieces of a kind in a row, with their items
+pub data Run (X : Text → Text → List items.Item → Type 0) : Text → Text → List items.Item → Type 0 where
+  none : {s : Text} → Run X s s []
+  more : {s t r : Text} {is js : List items.Item} → X s t is → Run X t r js → Run X s r (is ++ js)
+
+-- at least one piece of the kind begins the text, and its items were added to those before; or none begins it
+abbrev pub Adds : (X : Text → Text → List items.Item → Type 0) → Text → Option Text → List items.Item → List items.Item → Type 0
+Adds X s (Some r) old new = (is : List items.Item) × Run X s r is × (new ≡ old ++ is) × (length r < length s)
+Adds X s None old new = (r : Text) (is : List items.Item) → X s r is → ⊥
+
+-- the same of a text and items in memory
+abbrev pub AddsHeld : (X : Text → Text → List items.Item → Type 0) → Text → Option (Bor (List ℕ)) → List Item → List Item → Type 0
+AddsHeld X s o old new = Adds X s (option_map (λ r. chars r.now) o) (items_view old) (items_view new)
+
+-- the text is a gap with the items that were returned, or it is not a gap
+abbrev pub IsGapWith : Text → Option (List items.Item) → Type 0
+IsGapWith s (Some is) = GapItems s is
+IsGapWith s None = (is : List items.Item) → GapItems s is → ⊥
+
+-- the same of a place in a node
+abbrev pub IsPlaceWith : items.Place → Text → Option (List items.Item) → Type 0
+IsPlaceWith p s (Some is) = PlaceItems p s is
+IsPlaceWith p s None = (is : List items.Item) → PlaceItems p s is → ⊥
+
+-- the first items of the text were added to those before, and what is left of it has the others; or the text has no items
+abbrev pub Takes : (X Y : Text → List items.Item → Type 0) → Text → Option Text → List items.Item → List items.Item → Type 0
+Takes X Y s (Some r) old new = (is : List items.Item) × (new ≡ old ++ is) × (length r < length s) × ((all : List items.Item) → X s all ↔ ((js : List items.Item) × (all ≡ is ++ js) × Y r js))
+Takes X Y s None old new = (all : List items.Item) → X s all → ⊥
+
+-- the same of a gap and items in memory
+abbrev pub TakesHeld : Text → Option (Bor (List ℕ)) → List Item → List Item → Type 0
+TakesHeld s o old new = Takes GapItems GapItems s (option_map (λ r. chars r.now) o) (items_view old) (items_view new)

@@ -1,0 +1,254 @@
+//! What a slashdash drops.
+
+ghost use Rattle.kdl_lexer.specs.Internal.Handed.{Cuts, kind_view};
+ghost use Rattle.kdl_lexer.specs.Internal.Tokens.{newline, semicolon};
+ghost use Rattle.kdl_control.specs.Internal.Control.{at, finish, is_word};
+ghost use Rattle.kdl_comments.specs.Internal.Passing.{follows_word, slashdash_in};
+ghost use Rattle.kdl_comments.specs.Items.{ItemEnd};
+ghost use Rattle.kdl_comments.specs.Internal.Lacking.{HasOpenEnd};
+ghost use Rattle.kdl_control.specs.Internal.Views.{control_view, phase_view};
+ghost use Rattle.kdl_comments.specs.Internal.Passed.{Before, BehindPart, AnswersDroppedNode, AnswersDroppedPart, PlaceTakesHeld, of_spaces};
+ghost use Rattle.kdl_comments.specs.Internal.Reading.{TakesHeld, place_view};
+ghost use Rattle.kdl_text.specs.Chars.{Text};
+ghost use Rattle.std.specs.Prelude.{◌≡◌, ◌⊎◌, ◌∷◌, IfOk, MatchOption, [], option_map, true, false, not, ◌&&◌, if◌then◌else◌};
+ghost use Rattle.std.specs.Str.{chars};
+
+use crate::item::{Item, Place};
+use crate::slices::cut;
+use crate::spaces::line;
+use kdl_control::{Control, Phase, Spot};
+use kdl_lexer::{LexFailure, Lexer, Token, TokenKind};
+use kdl_text::cursor::Steps;
+use std::alloc::{AllocError, Global};
+
+/// Where a slashdashed node ends, and where the text after it begins, in bytes from the end of its `/-`.
+#[derive(Clone, Copy)]
+pub(crate) struct NodeEnd {
+    item: usize,
+    pub(crate) behind: usize,
+    /// Whether it has no terminator, or a line comment without a newline.
+    pub(crate) is_open: bool,
+}
+
+/// Where a slashdashed entry or block ends, in bytes from the end of its `/-`, and which of the two it is.
+#[derive(Clone, Copy)]
+pub(crate) struct PartEnd {
+    pub(crate) at: usize,
+    pub(crate) is_block: bool,
+}
+
+fn is_space(kind: &TokenKind) -> bool
+    ensures { result ≡ of_spaces (kind_view kind.now) }
+{
+    matches!(kind, TokenKind::Space)
+}
+
+/// Whether the string before the token may still be a key: the token is a space or `=`.
+fn follows_word(kind: &TokenKind) -> bool
+    ensures { result ≡ follows_word (kind_view kind.now) }
+{
+    matches!(kind, TokenKind::Space | TokenKind::Equals)
+}
+
+/// Whether a string that ends what is dropped comes before the token.
+fn ends_word(control: &Control, kind: &TokenKind) -> bool
+    ensures { result ≡
+        (is_word (control_view control.now) && not (follows_word (kind_view kind.now))) }
+{
+    control.is_word() && !follows_word(kind)
+}
+
+/// Where the last token that is not a space ends: this one, or an earlier one.
+fn end_behind(token: &Token, last: usize) -> usize
+    ensures { result ≡ (if of_spaces (kind_view token.now.kind) then last else token.now.end.at) }
+{
+    if is_space(&token.kind) {
+        last
+    } else {
+        token.end.at()
+    }
+}
+
+/// The end of a node whose terminator is this token: after a `;`, or before the newline of a line.
+fn node_end(text: &str, token: &Token) -> NodeEnd
+    requires at { Before (chars text.now) token.now.start.at token.now.start.rest
+        × Before (chars text.now) token.now.end.at token.now.end.rest }
+    requires token { Cuts token.now.start.rest (kind_view token.now.kind) token.now.end.rest }
+    requires ends { (kind_view token.now.kind ≡ newline) ⊎ (kind_view token.now.kind ≡ semicolon) }
+    ensures { (i : Text) × ItemEnd token.now.start.rest token.now.end.rest i
+        × Before (chars text.now) result.item i
+        × Before (chars text.now) result.behind token.now.end.rest
+        × HasOpenEnd token.now.start.rest token.now.end.rest result.is_open }
+{
+    let behind = token.end.at();
+    if let TokenKind::Semicolon = token.kind {
+        return NodeEnd {
+            item: behind,
+            behind,
+            is_open: false,
+        };
+    }
+    let (_, terminator) = cut(text, token.start.at());
+    let (_, end) = line(terminator);
+    NodeEnd {
+        item: text.len() - end.len(),
+        behind,
+        is_open: end.is_empty(),
+    }
+}
+
+/// The end of a node at the end of the text, where node-spaces come after it. `None` if the node can't end here.
+fn last_end(control: &Control, last: usize) -> Option<NodeEnd>
+    ensures { MatchOption result (finish (control_view control.now) ≡ false)
+        (λ e. (finish (control_view control.now) ≡ true) × (e.item ≡ last) × (e.behind ≡ last)
+        × (e.is_open ≡ true)) }
+{
+    if control.may_end() {
+        Some(NodeEnd {
+            item: last,
+            behind: last,
+            is_open: true,
+        })
+    } else {
+        None
+    }
+}
+
+/// The end of an entry that is a string, if it may end here.
+fn word_end(control: &Control, last: usize) -> Option<PartEnd>
+    ensures { MatchOption result (is_word (control_view control.now) ≡ false)
+        (λ e. (is_word (control_view control.now) ≡ true) × (e.at ≡ last) × (e.is_block ≡ false)) }
+{
+    if control.is_word() {
+        Some(PartEnd {
+            at: last,
+            is_block: false,
+        })
+    } else {
+        None
+    }
+}
+
+/// The end of the node that a `/-` before the text drops, or `None` if it drops no node.
+pub(crate) fn pass_node(alloc: Global, text: &str) -> Result<Option<NodeEnd>, AllocError>
+    ensures { IfOk result (λ o. AnswersDroppedNode (chars text.now) o) }
+{
+    let mut lexer = Lexer::new(text, Steps::new());
+    let mut control = Control::new(alloc, Phase::NodeSlashdash);
+    let mut last = 0;
+    'tokens: loop {
+        let token = match lexer.next(alloc) {
+            Ok(Some(token)) => token,
+            Ok(None) => return Ok(last_end(&control, last)),
+            Err(LexFailure::Faulty(_)) => return Ok(None),
+            Err(LexFailure::Memory) => return Err(AllocError),
+        };
+        if !control.take(&token.kind)? {
+            return Ok(None);
+        }
+        if control.is_between_nodes() {
+            return Ok(Some(node_end(text, &token)));
+        }
+        last = end_behind(&token, last);
+        drop(token);
+    }
+}
+
+/// Adds the node that the slashdash here drops. Returns the text after it, or `None` if it drops no node.
+pub(crate) fn dropped_node<'a>(
+    alloc: Global,
+    text: &'a str,
+    items: &mut Vec<Item<'a>>,
+) -> Result<Option<&'a str>, AllocError>
+    requires { (t : Text) × (chars text.now ≡ 47 ∷ 45 ∷ t) }
+    ensures { IfOk result (λ o. TakesHeld (chars text.now) o items.old.items items.new.items) }
+{
+    let (_, behind) = cut(text, 2);
+    let Some(end) = pass_node(alloc, behind)? else {
+        return Ok(None);
+    };
+    let (_, after) = cut(behind, end.item);
+    let (_, rest) = cut(behind, end.behind);
+    let (node, _) = cut(text, text.len() - after.len());
+    items.push(Item::Piece(node))?;
+    Ok(Some(rest))
+}
+
+/// The phase after the `/-` in a place.
+fn slashdash_phase(place: Place) -> Phase
+    ensures { at (phase_view result) [] ≡ slashdash_in (place_view place) }
+{
+    match place {
+        Place::BeforeEntry(_) | Place::BeforeBlock => Phase::EntrySlashdash,
+        Place::BehindBlock => Phase::BlockSlashdash,
+    }
+}
+
+/// The place after an entry or a block that is slashdashed in it, or `None` if no block may be slashdashed there.
+pub(crate) fn behind_part(place: Place, is_block: bool) -> Option<Place>
+    ensures { BehindPart (place_view place) is_block (option_map place_view result) }
+{
+    match place {
+        Place::BeforeEntry(_) if is_block => None,
+        Place::BeforeEntry(_) => Some(Place::BeforeEntry(false)),
+        _ if is_block => Some(Place::BehindBlock),
+        _ => Some(place),
+    }
+}
+
+/// The end of the entry or block that a `/-` before the text drops in the place, or `None` if it drops neither.
+pub(crate) fn pass_part(
+    alloc: Global,
+    place: Place,
+    text: &str,
+) -> Result<Option<PartEnd>, AllocError>
+    ensures { IfOk result (λ o. AnswersDroppedPart (place_view place) (chars text.now) o) }
+{
+    let mut lexer = Lexer::new(text, Steps::new());
+    let mut control = Control::new(alloc, slashdash_phase(place));
+    let mut last = 0;
+    'tokens: loop {
+        let token = match lexer.next(alloc) {
+            Ok(Some(token)) => token,
+            Ok(None) => return Ok(word_end(&control, last)),
+            Err(LexFailure::Faulty(_)) => return Ok(None),
+            Err(LexFailure::Memory) => return Err(AllocError),
+        };
+        if ends_word(&control, &token.kind) {
+            return Ok(word_end(&control, last));
+        }
+        if !control.take(&token.kind)? {
+            return Ok(None);
+        }
+        last = end_behind(&token, last);
+        drop(token);
+        if let Some(is_block) = control.over() {
+            return Ok(Some(PartEnd { at: last, is_block }));
+        }
+    }
+}
+
+/// Adds the entry or block that the slashdash here drops. Returns the text after it and the place there, or `None` if
+/// neither may be slashdashed.
+pub(crate) fn dropped_part<'a>(
+    alloc: Global,
+    place: Place,
+    text: &'a str,
+    items: &mut Vec<Item<'a>>,
+) -> Result<Option<(Place, &'a str)>, AllocError>
+    requires { (t : Text) × (chars text.now ≡ 47 ∷ 45 ∷ t) }
+    ensures { IfOk result (λ o.
+        PlaceTakesHeld place (chars text.now) o items.old.items items.new.items) }
+{
+    let (_, behind) = cut(text, 2);
+    let Some(end) = pass_part(alloc, place, behind)? else {
+        return Ok(None);
+    };
+    let Some(next) = behind_part(place, end.is_block) else {
+        return Ok(None);
+    };
+    let (_, rest) = cut(behind, end.at);
+    let (part, _) = cut(text, text.len() - rest.len());
+    items.push(Item::Piece(part))?;
+    Ok(Some((next, rest)))
+}

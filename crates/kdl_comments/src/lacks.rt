@@ -1,0 +1,237 @@
+//! How many newlines a text around nodes lacks for whatever follows it not to become part of it.
+
+ghost use Rattle.kdl_comments.specs.Internal.Lacking.{GapAnswer, PieceEnds, PlaceGoes, PlacePieceEnds, SpacesLack};
+ghost use Rattle.kdl_comments.specs.Internal.Reading.{place_view};
+ghost use Rattle.kdl_comments.specs.Lacks.{GapLacks, PlaceLacks, TerminatorLacks};
+ghost use Rattle.kdl_text.specs.Chars.{Star, Text, begins_two};
+ghost use Rattle.kdl_text.specs.Trivia.{NodeSpace};
+ghost use Rattle.std.specs.Prelude.{◌≡◌, ◌∷◌, IfOk, [], false};
+ghost use Rattle.std.specs.Str.{chars};
+
+use crate::dropped::{behind_part, pass_node, pass_part};
+use crate::ends::{Ending, behind_comment, line_ending, line_spaces_ending, node_spaces_ending};
+use crate::item::Place;
+use crate::places::{begins_slashdash, same, spaced};
+use crate::slices::cut;
+use crate::spaces::behind_semicolon;
+use std::alloc::{AllocError, Global};
+
+/// The first piece of a gap: line-spaces, or a slashdashed node.
+#[derive(Clone, Copy)]
+enum GapPiece<'a> {
+    /// Ends before this rest, whatever follows the rest.
+    Until(&'a str),
+    /// Is the whole text, and lacks this many newlines.
+    Last(usize),
+}
+
+/// Whether the text, which is node-spaces, ends in an escline that lacks its newline.
+fn spaces_lack(text: &str) -> bool
+    requires { Star NodeSpace (chars text.now) [] }
+    ensures { SpacesLack (chars text.now) result }
+{
+    let mut rest = text;
+    'spaces: while !rest.is_empty() {
+        match node_spaces_ending(rest) {
+            Some(Ending::Before(behind)) => rest = same(behind),
+            Some(Ending::InReturn) => return true,
+            Some(Ending::Open) => return true,
+            None => return false,
+        }
+    }
+    false
+}
+
+/// The slashdashed node that begins the text.
+fn dropped_piece<'a>(alloc: Global, text: &'a str) -> Result<Option<GapPiece<'a>>, AllocError>
+    requires { (t : Text) × (chars text.now ≡ 47 ∷ 45 ∷ t) }
+    ensures { IfOk result (λ o. PieceEnds (chars text.now) o) }
+{
+    let (_, behind) = cut(text, 2);
+    let Some(end) = pass_node(alloc, behind)? else {
+        return Ok(None);
+    };
+    let (_, rest) = cut(behind, end.behind);
+    if end.is_open {
+        if spaces_lack(rest) {
+            Ok(Some(GapPiece::Last(2)))
+        } else {
+            Ok(Some(GapPiece::Last(1)))
+        }
+    } else {
+        Ok(Some(GapPiece::Until(rest)))
+    }
+}
+
+/// The line-spaces that begin the text.
+fn spaces_piece(text: &str) -> Option<GapPiece<'_>>
+    requires begun { chars text.now ≡ [] → ⊥ }
+    requires no_slashdash { begins_two 47 45 (chars text.now) ≡ false }
+    ensures { PieceEnds (chars text.now) result }
+{
+    match line_spaces_ending(text) {
+        Some(Ending::Before(rest)) => Some(GapPiece::Until(rest)),
+        Some(Ending::InReturn) => Some(GapPiece::Last(0)),
+        Some(Ending::Open) => Some(GapPiece::Last(1)),
+        None => None,
+    }
+}
+
+/// The first piece of the text of a gap, or `None` if the text is not a gap.
+fn gap_piece<'a>(alloc: Global, text: &'a str) -> Result<Option<GapPiece<'a>>, AllocError>
+    requires { chars text.now ≡ [] → ⊥ }
+    ensures { IfOk result (λ o. PieceEnds (chars text.now) o) }
+{
+    if begins_slashdash(text) {
+        dropped_piece(alloc, text)
+    } else {
+        Ok(spaces_piece(text))
+    }
+}
+
+/// Returns how many newlines the text of a gap lacks, at most two, for it to add nothing to the nodes that follow,
+/// whatever they are: one if it ends in a line comment or an escline without a newline, and one if its last slashdashed
+/// node has no terminator. Returns `None` if the text is not a gap.
+///
+/// Returns an error if an allocation fails.
+///
+/// ```
+/// assert_eq!(gap_lacks(alloc, "/-x // a")?, Some(1));
+/// assert_eq!(gap_lacks(alloc, "/-x \\")?, Some(2));
+/// ```
+pub fn gap_lacks(alloc: Global, text: &str) -> Result<Option<usize>, AllocError>
+    ensures { IfOk result (λ o. GapLacks (chars text.now) o) }
+{
+    gap_newlines(alloc, text)
+}
+
+/// How many newlines the gap lacks, whether it is a whole text or follows a terminator.
+fn gap_newlines(alloc: Global, text: &str) -> Result<Option<usize>, AllocError>
+    ensures { IfOk result (λ o. GapAnswer (chars text.now) o) }
+{
+    let mut rest = text;
+    'pieces: while !rest.is_empty() {
+        match gap_piece(alloc, rest)? {
+            Some(GapPiece::Until(behind)) => rest = same(behind),
+            Some(GapPiece::Last(lacks)) => return Ok(Some(lacks)),
+            None => return Ok(None),
+        }
+    }
+    Ok(Some(0))
+}
+
+/// Returns how many newlines a terminator and the gap after it lack to end the node before them and to add nothing to
+/// the nodes that follow, whatever they are. Without a terminator they lack one. Returns `None` if the text is not a
+/// terminator followed by a gap.
+///
+/// Returns an error if an allocation fails.
+///
+/// ```
+/// assert_eq!(terminator_lacks(alloc, "; // a\n")?, Some(0));
+/// assert_eq!(terminator_lacks(alloc, "// a")?, Some(1));
+/// ```
+pub fn terminator_lacks(alloc: Global, text: &str) -> Result<Option<usize>, AllocError>
+    ensures { IfOk result (λ o. TerminatorLacks (chars text.now) o) }
+{
+    if let Some(gap) = behind_semicolon(text) {
+        return gap_newlines(alloc, gap);
+    }
+    match line_ending(behind_comment(text)) {
+        Some(Ending::Before(gap)) => gap_newlines(alloc, gap),
+        Some(Ending::InReturn) => Ok(Some(0)),
+        Some(Ending::Open) => Ok(Some(1)),
+        None => Ok(None),
+    }
+}
+
+/// The first piece of a place in a node: node-spaces, or a slashdashed entry or block.
+#[derive(Clone, Copy)]
+enum PlacePiece<'a> {
+    /// Ends before this rest, which is in this place.
+    Onward(Place, &'a str),
+    /// Is the whole text, and ends in an escline with no newline or only a CR.
+    InEscline,
+}
+
+/// The text after the slashdashed entry or block at its start, and the place there. `None` if neither may be
+/// slashdashed.
+fn dropped_place<'a>(
+    alloc: Global,
+    place: Place,
+    text: &'a str,
+) -> Result<Option<(Place, &'a str)>, AllocError>
+    requires { (t : Text) × (chars text.now ≡ 47 ∷ 45 ∷ t) }
+    ensures { IfOk result (λ o. PlaceGoes place (chars text.now) o) }
+{
+    let (_, behind) = cut(text, 2);
+    let Some(end) = pass_part(alloc, place, behind)? else {
+        return Ok(None);
+    };
+    let Some(next) = behind_part(place, end.is_block) else {
+        return Ok(None);
+    };
+    let (_, rest) = cut(behind, end.at);
+    Ok(Some((next, rest)))
+}
+
+/// The node-spaces that begin the text in a place.
+fn spaces_place(place: Place, text: &str) -> Option<PlacePiece<'_>>
+    requires begun { chars text.now ≡ [] → ⊥ }
+    requires no_slashdash { begins_two 47 45 (chars text.now) ≡ false }
+    ensures { PlacePieceEnds place (chars text.now) result }
+{
+    match node_spaces_ending(text) {
+        Some(Ending::Before(rest)) => Some(PlacePiece::Onward(spaced(place), rest)),
+        Some(Ending::InReturn) => Some(PlacePiece::InEscline),
+        Some(Ending::Open) => Some(PlacePiece::InEscline),
+        None => None,
+    }
+}
+
+/// The first piece of the text in a place, or `None` if the text can't be in the place.
+fn place_piece<'a>(
+    alloc: Global,
+    place: Place,
+    text: &'a str,
+) -> Result<Option<PlacePiece<'a>>, AllocError>
+    requires { chars text.now ≡ [] → ⊥ }
+    ensures { IfOk result (λ o. PlacePieceEnds place (chars text.now) o) }
+{
+    if begins_slashdash(text) {
+        match dropped_place(alloc, place, text)? {
+            Some((next, rest)) => Ok(Some(PlacePiece::Onward(next, rest))),
+            None => Ok(None),
+        }
+    } else {
+        Ok(spaces_place(place, text))
+    }
+}
+
+/// Returns whether the text before a node's terminator, before its block or after it, ends in an escline that lacks a
+/// newline: with an LF after it, it may come before each terminator. A CR at its end does not count as a newline, since
+/// an LF after it is part of it. Returns `None` if the text can't be in that place. For a place before an entry the
+/// result is unspecified.
+///
+/// Returns an error if an allocation fails.
+///
+/// ```
+/// assert_eq!(place_lacks(alloc, Place::BeforeBlock, " /-1")?, Some(false));
+/// assert_eq!(place_lacks(alloc, Place::BeforeBlock, " \\ // a")?, Some(true));
+/// ```
+pub fn place_lacks(alloc: Global, place: Place, text: &str) -> Result<Option<bool>, AllocError>
+    ensures { IfOk result (λ o. PlaceLacks (place_view place) (chars text.now) o) }
+{
+    let mut rest = text;
+    let mut place = place;
+    'pieces: while !rest.is_empty() {
+        match place_piece(alloc, place, rest)? {
+            Some(PlacePiece::Onward(next, behind)) => {
+                place = next;
+                rest = same(behind);
+            }
+            Some(PlacePiece::InEscline) => return Ok(Some(true)),
+            None => return Ok(None),
+        }
+    }
+    Ok(Some(false))
+}

@@ -1,0 +1,102 @@
+-- What the turns of a reader of faults cost, and where its cursor goes.
+use Rattle.std.proofs.Common.{◌≡◌, ℕ, ◌+◌, ◌*◌, ◌<◌, ◌≤◌, Bool, true, false, List, [], ◌∷◌, ◌++◌, length, refl, sym, ap, ◌∙◌, arith, append_assoc}
+use Rattle.std.specs.Prelude.{Option, Some, None}
+use Rattle.std.specs.Str.{chars, IsUtf8}
+use Rattle.kdl_text.specs.Chars.{Text}
+use Rattle.kdl_text.specs.Internal.Here.{Here, Spot, Took, looked}
+use Rattle.kdl_text.specs.Spans.{bytes, raise}
+use Rattle.kdl_text.specs.Internal.Reading.{Moves}
+use Rattle.kdl_text.proofs.Looking.MovesJoin.{fewer_bytes, stays}
+use Rattle.kdl_text.proofs.Looking.Texts.{bytes-chars}
+use Rattle.kdl_diagnostics.specs.Internal.Noted.{Bounded, IsReaderOf, LiesIn, ReadsAgain}
+use Rattle.kdl_diagnostics.specs.Internal.Reading.{Most, WentPast}
+use Rattle.kdl_diagnostics.specs.declared.pieces.PieceKind.{PieceKind}
+use Rattle.kdl_diagnostics.specs.declared.pieces.PieceKind.TheVariants.{End}
+use Rattle.kdl_diagnostics.specs.declared.reader.Reader.{Reader}
+
+-- a piece that was read, and a step after it
+pub bounded_one : (a b e : Here) → Moves a b → Most 37 41 a b → e.steps ≡ raise b.steps 1 → Bounded 124 a e
+bounded_one a b e m k s = record { most = omega (arith, s); counts = omega (arith, m.counts, s) }
+
+same_rest : (text s r : Text) → r ≡ s → ((p : Text) × (text ≡ p ++ s)) → (p : Text) × (text ≡ p ++ r)
+same_rest text s r e x = (x.0, x.1 ∙ ap (λ (t : Text). x.0 ++ t) (sym e))
+
+pub looked_lies : (text : Text) (place : Spot) (a b : Here) (steps : ℕ) → LiesIn text place → a ≡ record { rest = place.rest; at = place.at; steps = steps } → b ≡ looked a → (p : Text) × (text ≡ p ++ b.rest)
+looked_lies text place a b steps x e f = same_rest text place.rest b.rest (ap (λ (z : Here). z.rest) f ∙ ap (λ (z : Here). z.rest) e) x
+
+-- a character that was taken, if there was one
+pub took_lies : (text : Text) (c : Option ℕ) (a b : Here) → ((p : Text) × (text ≡ p ++ a.rest)) → Took c a b → (p : Text) × (text ≡ p ++ b.rest)
+took_lies text None a b x t = same_rest text a.rest b.rest (ap (λ (z : Here). z.rest) t.1) x
+took_lies text (Some c) a b x t = (x.0 ++ (c ∷ []), x.1 ∙ ap (λ (z : Text). x.0 ++ z) t.0 ∙ sym (append_assoc x.0 (c ∷ []) b.rest))
+
+pub place_lies : (text : Text) (a : Here) (place : Spot) → ((p : Text) × (text ≡ p ++ a.rest)) → place.rest ≡ a.rest → LiesIn text place
+place_lies text a place x e = same_rest text a.rest place.rest e x
+
+-- how far the loop over the pieces is: until reading is over, a last turn is to come
+abbrev pub turns_left : Bool → ℕ
+turns_left true = 0
+turns_left false = 1
+
+pub record Turning (old new : Here) (over : Bool) : Type 0 where
+  pub counts : raise old.steps 0 ≤ raise new.steps 0
+  pub most : new.steps + 124 * bytes new.rest + 65 * turns_left over ≤ old.steps + 124 * bytes old.rest + 66
+
+one_left : (over : Bool) → turns_left over ≤ 1
+one_left true = omega arith
+one_left false = omega arith
+
+pub turning_begins : (a b : Here) (over : Bool) → Moves a b → Most 1 1 a b → Turning a b over
+turning_begins a b over m k = record { counts = m.counts; most = omega (arith, fewer_bytes m, one_left over) }
+
+still_left : (over : Bool) → over ≡ false → turns_left over ≡ 1
+still_left over e = ap turns_left e
+
+none_left : (over : Bool) → over ≡ true → turns_left over ≡ 0
+none_left over e = ap turns_left e
+
+-- a piece that was read is shorter than what was to be read, or it is the last one
+went_on : (k : PieceKind) (a b : Here) (over : Bool) → WentPast k a b → (k ≡ End → over ≡ true) → bytes b.rest + turns_left over ≤ bytes a.rest
+went_on End a b over w o = omega (arith, ap bytes w, none_left over (o refl))
+went_on _ a b over w o = omega (arith, w, one_left over)
+
+pub turning_turn : (f a b e : Here) (k : PieceKind) (over over' : Bool) → over ≡ false → Turning f a over → Moves a b → Most 37 41 a b → WentPast k a b → Moves b e → Most 24 24 b e → (k ≡ End → over' ≡ true) → Turning f e over'
+turning_turn f a b e k over over' n t m x w m' x' o = record {
+  counts = omega (arith, t.counts, m.counts, m'.counts);
+  most = omega (arith, t.most, still_left over n, fewer_bytes m, fewer_bytes m', went_on k a b over' w o);
+}
+
+pub turning_nearer : (a b e : Here) (k : PieceKind) (over over' : Bool) → over ≡ false → WentPast k a b → Moves b e → (k ≡ End → over' ≡ true) → bytes e.rest + turns_left over' < bytes a.rest + turns_left over
+turning_nearer a b e k over over' n w m o = omega (arith, still_left over n, fewer_bytes m, went_on k a b over' w o)
+
+-- where memory is refused, and at the end
+pub turning_fails : (f a b : Here) (over : Bool) → over ≡ false → Turning f a over → Moves a b → Most 37 41 a b → Bounded 124 f b
+turning_fails f a b over n t m x = record { most = omega (arith, t.most, still_left over n, fewer_bytes m); counts = omega (arith, t.counts, m.counts) }
+
+pub turning_stops : (f a b e : Here) (over : Bool) → over ≡ false → Turning f a over → Moves a b → Most 37 41 a b → Moves b e → Most 24 24 b e → Bounded 124 f e
+turning_stops f a b e over n t m x m' x' = record { most = omega (arith, t.most, still_left over n, fewer_bytes m, fewer_bytes m'); counts = omega (arith, t.counts, m.counts, m'.counts) }
+
+-- where the cursor stays
+pub same_cursor : (a b : Here) → b ≡ a → Moves a b × Most 24 24 a b
+same_cursor a b e = (rw e (stays a), rw e (omega arith))
+
+-- the text of a reader, read again from its start
+pub read_again : (old new : Reader) (a b : Here) → a ≡ record { rest = old.whole.rest; at = old.whole.at; steps = old.cursor.steps } → Moves a b → Most 4 1 a b → new.cursor ≡ b → ReadsAgain 4 old new
+read_again old new a b e m k f =
+    let s : a.steps ≡ old.cursor.steps = ap (λ (z : Here). z.steps) e in
+    let r : bytes a.rest ≡ bytes old.whole.rest = ap (λ (z : Here). bytes z.rest) e in
+    let t : new.cursor.steps ≡ b.steps = ap (λ (z : Here). z.steps) f in
+    record { most = omega (arith, s, r, t, k); counts = omega (arith, s, t, m.counts) }
+
+pub again_lies : (text : Text) (r : Reader) (a b : Here) → IsReaderOf text r → a ≡ record { rest = r.whole.rest; at = r.whole.at; steps = r.cursor.steps } → Moves a b → (p : Text) × (text ≡ p ++ b.rest)
+again_lies text r a b x e m = (m.piece.0, sym x.whole ∙ sym (ap (λ (z : Here). z.rest) e) ∙ m.piece.1)
+
+-- a text that is read, and then read again
+pub read_twice : (text : Text) (old mid new : Reader) → IsReaderOf text mid → old.cursor.rest ≡ text → Bounded 124 old.cursor mid.cursor → ReadsAgain 4 mid new → Bounded 128 old.cursor new.cursor
+read_twice text old mid new x e a b = record { most = omega (arith, ap bytes x.whole, ap bytes e, a.most, b.most); counts = omega (arith, a.counts, b.counts) }
+
+pub bounded_more : (a b : Here) → Bounded 124 a b → Bounded 128 a b
+bounded_more a b x = record { most = omega (arith, x.most); counts = x.counts }
+
+-- the steps over a whole text
+pub steps_bounded : (text : List ℕ) (a b : Here) (before after : ℕ) → IsUtf8 text → Bounded 128 a b → a.rest ≡ chars text → a.steps ≡ before → after ≡ b.steps → after ≤ before + 128 * (length text + 1)
+steps_bounded text a b before after u x e f g = omega (arith, x.most, ap bytes e, bytes-chars text u, f, g)

@@ -1,0 +1,35 @@
+use Rattle.std.proofs.Common.{Some, None}
+use Rattle.kdl_diagnostics.proofs.NotedSpans.{noted_more, noted_same, opened_less}
+use Rattle.kdl_diagnostics.proofs.reader.Reader.note_blocks.Goals as goal
+
+pub unclosed-preserved-in-Continue-1 : goal.unclosed-preserved-in-Continue-1
+unclosed-preserved-in-Continue-1 c = record {
+  keeps = λ text x.
+      (let y = c.unclosed.invariant.keeps text x in
+      let z = opened_less text c.unclosed.self.blocks.items c.pop.new.self.items (Some c.in-Some.block) c.in-Some.ensures.items y.blocks in
+      record { whole = y.whole; here = y.here; left = y.left; faults = noted_more text c.unclosed.self.faults.items c.push.new.self.items _ c.in_ok-push.ensures.items y.faults z.1; blocks = z.0; candidates = y.candidates });
+  cursor = c.unclosed.invariant.cursor;
+  same = c.unclosed.invariant.same;
+}
+
+pub unclosed-preserved : goal.unclosed-preserved
+unclosed-preserved c = record {
+  keeps = λ text x.
+      (let y = c.unclosed.invariant.keeps text x in
+      let z = opened_less text c.unclosed.self.blocks.items c.pop.new.self.items (Some c.in-Some.block) c.in-Some.ensures.items y.blocks in
+      record { whole = y.whole; here = y.here; left = y.left; faults = y.faults; blocks = z.0; candidates = y.candidates });
+  cursor = c.unclosed.invariant.cursor;
+  same = c.unclosed.invariant.same;
+}
+
+pub returns-in_err-push-clause-keeps : goal.returns-in_err-push-clause-keeps
+returns-in_err-push-clause-keeps c text x =
+    let y = c.unclosed.invariant.keeps text x in
+    let z = opened_less text c.unclosed.self.blocks.items c.pop.new.self.items (Some c.in-Some.block) c.in-Some.ensures.items y.blocks in
+    record { whole = y.whole; here = y.here; left = y.left; faults = noted_same text c.unclosed.self.faults.items c.push.new.self.items c.in_err-push.ensures.items y.faults; blocks = z.0; candidates = y.candidates }
+
+pub returns-clause-keeps : goal.returns-clause-keeps
+returns-clause-keeps c text x =
+    let y = c.unclosed.invariant.keeps text x in
+    let z = opened_less text c.unclosed.self.blocks.items c.pop.new.self.items None c.in_default.ensures.items y.blocks in
+    record { whole = y.whole; here = y.here; left = y.left; faults = y.faults; blocks = z.0; candidates = y.candidates }

@@ -1,0 +1,14 @@
+use Rattle.std.proofs.Common.{◌+◌}
+use Rattle.kdl_text.specs.Spans.{bytes}
+use Rattle.kdl_diagnostics.specs.Internal.Noted.{Keeps}
+use Rattle.kdl_diagnostics.proofs.ReaderCost.{Turning, turns_left}
+use Rattle.kdl_diagnostics.proofs.reader.Reader.read.Given as goal
+
+abbrev pub invariant-pieces : goal.invariant-pieces
+invariant-pieces l = record {
+  keeps : Keeps l.fn.self l.self;
+  turning : Turning l.fn.self.cursor l.self.cursor l.self.is_over;
+}
+
+abbrev pub decreases-pieces : goal.decreases-pieces
+decreases-pieces l = bytes l.self.cursor.rest + turns_left l.self.is_over

@@ -1,0 +1,153 @@
+//! Value ends (KDL 2.0.0, Value): where a string, a number or a keyword may end.
+
+ghost use Rattle.kdl_diagnostics.specs.Internal.Reading.{Most, IsEnd, OnUnclosed, StandsBehind};
+ghost use Rattle.kdl_text.specs.Chars.{begins};
+ghost use Rattle.kdl_text.specs.Internal.Here.{Stayed};
+ghost use Rattle.kdl_text.specs.Spans.{bytes};
+ghost use Rattle.kdl_text.specs.Internal.Reading.{Moves};
+ghost use Rattle.std.specs.Prelude.{◌≡◌, ℕ, ◌<◌, ◌≤◌, true, IfSome};
+
+use kdl_text::chars::{Class, is_newline_char, is_space};
+use kdl_text::cursor::{Checkpoint, Cursor, newline};
+use kdl_text::trivia::{block_comment, line_comment, spaces};
+
+/// An unclosed block comment, up to the end of the text.
+#[derive(Drop)]
+pub(crate) struct Unclosed<'a> {
+    pub start: Checkpoint<'a>,
+    pub end: Checkpoint<'a>,
+}
+
+/// The next value end.
+#[derive(Drop)]
+pub(crate) struct ValueEnd<'a> {
+    pub place: Checkpoint<'a>,
+    /// An unclosed block comment, in what begins as an escline there.
+    pub comment: Option<Unclosed<'a>>,
+}
+
+/// What follows a backslash.
+#[derive(Drop)]
+pub(crate) enum Behind<'a> {
+    /// The rest of an escline. The cursor is after it.
+    Escline,
+    /// Anything else. The cursor is after the spaces and block comments here.
+    Other,
+    /// An unclosed block comment. The cursor is at the end of the text.
+    Unclosed(Unclosed<'a>),
+}
+
+/// Advances past spaces and block comments. If a comment is unclosed, returns it; the cursor is then at the end of the
+/// text.
+fn ws_run<'a>(cursor: &mut Cursor<'a>) -> Option<Unclosed<'a>>
+    ensures comment { OnUnclosed cursor.old result cursor.new }
+    ensures moves { Moves cursor.old cursor.new }
+    ensures most { Most 12 4 cursor.old cursor.new }
+{
+    'run: loop {
+        spaces(cursor);
+        let start = cursor.checkpoint();
+        if !cursor.looks_two('/', '*') {
+            return None;
+        }
+        if !block_comment(cursor) {
+            return Some(Unclosed {
+                start,
+                end: cursor.checkpoint(),
+            });
+        }
+    }
+}
+
+/// Advances past what follows a backslash.
+pub(crate) fn behind_backslash<'a>(cursor: &mut Cursor<'a>) -> Behind<'a>
+    ensures comment { StandsBehind cursor.old result cursor.new }
+    ensures moves { Moves cursor.old cursor.new }
+    ensures most { Most 12 12 cursor.old cursor.new }
+{
+    if let Some(comment) = ws_run(cursor) {
+        return Behind::Unclosed(comment);
+    }
+    if cursor.looks_two('/', '/') {
+        line_comment(cursor);
+        return Behind::Escline;
+    }
+    if newline(cursor) || cursor.look().is_none() {
+        Behind::Escline
+    } else {
+        Behind::Other
+    }
+}
+
+/// Whether the character c ends a value by itself, or is a space or the start of a newline.
+fn ends_value(c: char) -> bool {
+    matches!(c, '=' | ')' | '{' | '}' | ';') || is_space(c) || is_newline_char(c)
+}
+
+/// Whether a comment or a `/-` begins here.
+fn begins_slash_piece(cursor: &mut Cursor) -> bool
+    ensures stayed { (k : ℕ) × (k ≤ 6) × Stayed k cursor.old cursor.new }
+{
+    cursor.looks_two('/', '*') || cursor.looks_two('/', '/') || cursor.looks_two('/', '-')
+}
+
+/// The value end at a backslash, if there is one: the backslash itself if it begins an escline, or the place after it
+/// if spaces or a comment follow. A backslash before an unclosed block comment does not begin an escline. If the result
+/// is `None`, the cursor is directly after the backslash.
+fn end_at_backslash<'a>(cursor: &mut Cursor<'a>) -> Option<ValueEnd<'a>>
+    requires { begins 92 cursor.old.rest ≡ true }
+    ensures end { IfSome result (λ e. IsEnd cursor.old e cursor.new) }
+    ensures moves { Moves cursor.old cursor.new }
+    ensures went { bytes cursor.new.rest < bytes cursor.old.rest }
+    ensures most { Most 12 0 cursor.old cursor.new }
+{
+    let place = cursor.checkpoint();
+    cursor.step();
+    let behind = cursor.checkpoint();
+    match behind_backslash(cursor) {
+        Behind::Escline => Some(ValueEnd {
+            place,
+            comment: None,
+        }),
+        Behind::Unclosed(comment) => Some(ValueEnd {
+            place: behind,
+            comment: Some(comment),
+        }),
+        Behind::Other if behind.at() == cursor.at() => None,
+        Behind::Other => Some(ValueEnd {
+            place: behind,
+            comment: None,
+        }),
+    }
+}
+
+/// Advances to the next value end. The cursor may also advance past an escline, or past spaces and comments, that begin
+/// there.
+pub(crate) fn value_end<'a>(cursor: &mut Cursor<'a>) -> ValueEnd<'a>
+    ensures end { IsEnd cursor.old result cursor.new }
+    ensures moves { Moves cursor.old cursor.new }
+    ensures most { Most 24 12 cursor.old cursor.new }
+{
+    'ends: loop {
+        cursor.skip(Class::Identifier);
+        let place = cursor.checkpoint();
+        let is_end = match cursor.look() {
+            None => true,
+            Some('/') => begins_slash_piece(cursor),
+            Some('\\') => {
+                if let Some(end) = end_at_backslash(cursor) {
+                    return end;
+                }
+                continue 'ends;
+            }
+            Some(c) => ends_value(c),
+        };
+        if is_end {
+            return ValueEnd {
+                place,
+                comment: None,
+            };
+        }
+        cursor.step();
+    }
+}

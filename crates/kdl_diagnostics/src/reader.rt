@@ -1,0 +1,638 @@
+//! The reader of faults: it reads a refused text, and notes each fault.
+
+ghost use Rattle.kdl_diagnostics.specs.Internal.Noted.{
+  Bounded,
+  IsPlaceAt,
+  Keeps,
+  KeepsAt,
+  KeepsBetween,
+  KeepsUpTo,
+  IsReaderOf,
+  ReadsAgain,
+};
+ghost use Rattle.kdl_diagnostics.specs.Internal.Reading.{Most};
+ghost use Rattle.kdl_diagnostics.specs.declared.pieces.PieceKind.TheVariants.{End};
+ghost use Rattle.kdl_text.specs.Internal.Reading.{Moves};
+ghost use Rattle.kdl_text.specs.Chars.{Text};
+ghost use Rattle.kdl_text.specs.Spans.{raise};
+ghost use Rattle.std.specs.Prelude.{◌≡◌, [], true};
+ghost use Rattle.std.specs.Str.{chars};
+
+use crate::ends::value_end;
+use crate::esclines::{Candidate, esclines};
+use crate::kind::Kind;
+use crate::machine::{Move, Phase};
+use crate::pieces::{Piece, PieceKind, StringRole, next_piece};
+use crate::whole::Whole;
+use kdl_text::cursor::{Checkpoint, Cursor, Steps};
+use kdl_text::span::SourceSpan;
+use std::alloc::{AllocError, Global};
+
+/// A fault of a text, and the span at which it is reported.
+#[derive(Clone, Copy)]
+pub struct Fault {
+    pub kind: Kind,
+    pub span: SourceSpan,
+}
+
+/// An open block: its `{`, the phase of the grammar after its `}`, and whether a fault was noted at its `{`.
+#[derive(Clone, Copy)]
+struct Block {
+    span: SourceSpan,
+    behind: Phase,
+    is_told: bool,
+}
+
+/// A reader of faults.
+#[derive(Drop)]
+pub(crate) struct Reader<'a> {
+    alloc: Global,
+    /// What the text is read as.
+    text: Whole,
+    /// The start of the text.
+    whole: Checkpoint<'a>,
+    cursor: Cursor<'a>,
+    phase: Phase,
+    blocks: Vec<Block>,
+    /// The place after the last `(` that was read.
+    left: Checkpoint<'a>,
+    /// Whether the only node or entry of the text has begun.
+    has_item: bool,
+    /// Whether an entry was slashdashed.
+    has_dropped: bool,
+    /// Whether the last piece that was read is a space.
+    is_apart: bool,
+    /// Whether the text ended in a string or a comment.
+    is_cut: bool,
+    /// Whether reading has ended.
+    is_over: bool,
+    faults: Vec<Fault>,
+    /// The faults that may end a byte earlier, in the order of the text.
+    candidates: Vec<Candidate>,
+}
+
+/// Whether the piece begins a node or an entry.
+fn begins_item(kind: PieceKind) -> bool {
+    matches!(
+        kind,
+        PieceKind::String | PieceKind::Value | PieceKind::Left | PieceKind::Opening
+    )
+}
+
+/// Whether the piece ends a node, an entry or a block, or begins a block or what a `/-` drops.
+fn goes_on(kind: PieceKind) -> bool {
+    matches!(
+        kind,
+        PieceKind::Newline
+            | PieceKind::Semicolon
+            | PieceKind::Closing
+            | PieceKind::Opening
+            | PieceKind::Slashdash
+    )
+}
+
+impl<'a> Reader<'a> {
+    /// Creates a reader at the start of the text, which adds to the given count of steps.
+    pub(crate) fn new(alloc: Global, text: &'a str, whole: Whole, steps: Steps) -> Self
+        ensures reads { IsReaderOf (chars text.now) result }
+        ensures cursor { result.cursor ≡ record { rest = chars text.now; at = 0; steps = steps } }
+        ensures none { result.faults.items ≡ [] }
+    {
+        let cursor = Cursor::new(text, steps);
+        let phase = match whole {
+            Whole::Document | Whole::Node => Phase::Gap,
+            Whole::Entry | Whole::Identifier => Phase::Node,
+        };
+        Reader {
+            alloc,
+            text: whole,
+            whole: cursor.checkpoint(),
+            left: cursor.checkpoint(),
+            cursor,
+            phase,
+            blocks: Vec::new(alloc),
+            has_item: false,
+            has_dropped: false,
+            is_apart: false,
+            is_cut: false,
+            is_over: false,
+            faults: Vec::new(alloc),
+            candidates: Vec::new(alloc),
+        }
+    }
+
+    /// The faults that were noted, and the count of steps.
+    pub(crate) fn into_parts(self) -> (Vec<Fault>, Steps)
+        ensures faults { result.0 ≡ self.entry.faults }
+        ensures steps { result.1 ≡ self.entry.cursor.steps }
+    {
+        (self.faults, self.cursor.into_steps())
+    }
+
+    /// Notes a fault between two places.
+    fn note(
+        &mut self,
+        kind: Kind,
+        from: &Checkpoint<'a>,
+        to: &Checkpoint<'a>,
+    ) -> Result<(), AllocError>
+        ensures keeps { KeepsBetween from.now to.now self.old self.new }
+        ensures cursor { self.new.cursor ≡ self.old.cursor }
+        ensures same { self.new.is_over ≡ self.old.is_over }
+    {
+        let span = self.whole.span_between(from, to);
+        self.faults.push(Fault { kind, span })?;
+        Ok(())
+    }
+
+    /// Notes a candidate if the piece has one: the next fault that is noted, of this kind and from this place on, ends
+    /// at the backslash if an escline begins there.
+    fn note_candidate(
+        &mut self,
+        kind: Kind,
+        from: &Checkpoint<'a>,
+        piece: &Piece<'a>,
+    ) -> Result<(), AllocError>
+        ensures keeps { KeepsUpTo piece.now from.now from.now self.old self.new }
+        ensures cursor { self.new.cursor ≡ self.old.cursor }
+        ensures same { self.new.is_over ≡ self.old.is_over }
+    {
+        if let Some(backslash) = &piece.backslash {
+            let span = self.whole.span_between(from, backslash);
+            self.candidates.push(Candidate {
+                at: backslash.at(),
+                number: self.faults.len(),
+                fault: Fault { kind, span },
+            })?;
+        }
+        Ok(())
+    }
+
+    /// Notes a fault from one place to another after it, or at the first character of the piece if they are the same
+    /// place.
+    fn note_up_to(
+        &mut self,
+        kind: Kind,
+        from: &Checkpoint<'a>,
+        to: &Checkpoint<'a>,
+        piece: &Piece<'a>,
+    ) -> Result<(), AllocError>
+        ensures keeps { KeepsUpTo piece.now from.now to.now self.old self.new }
+        ensures cursor { self.new.cursor ≡ self.old.cursor }
+        ensures same { self.new.is_over ≡ self.old.is_over }
+    {
+        if from.at() == to.at() {
+            self.note(kind, &piece.start, &piece.next)
+        } else {
+            self.note_candidate(kind, from, piece)?;
+            self.note(kind, from, to)
+        }
+    }
+
+    /// The end of a fault at the piece: after a `(` the next value end, and else the piece's own end.
+    fn end_of(&mut self, piece: &Piece<'a>) -> Checkpoint<'a>
+        ensures end { IsPlaceAt self.old piece.now result }
+        ensures keeps { Keeps self.old self.new }
+        ensures moves { Moves self.old.cursor self.new.cursor }
+        ensures most { Most 24 24 self.old.cursor self.new.cursor }
+        ensures same { self.new.is_over ≡ self.old.is_over }
+    {
+        match piece.kind {
+            PieceKind::Left => value_end(&mut self.cursor).place,
+            _ => piece.end.copied(),
+        }
+    }
+
+    /// The start of a fault of the kind at the piece: in a type the place after its `(`, and else the piece's own
+    /// start.
+    fn start_of(&self, kind: Kind, piece: &Piece<'a>) -> Checkpoint<'a>
+        ensures { IsPlaceAt self.now piece.now result }
+    {
+        match kind {
+            Kind::Type => self.left.copied(),
+            _ => piece.start.copied(),
+        }
+    }
+
+    /// Notes that the piece does not fit, by a fault of the kind.
+    fn note_misfit(&mut self, kind: Kind, piece: &Piece<'a>) -> Result<(), AllocError>
+        ensures keeps { KeepsAt piece.now self.old self.new }
+        ensures moves { Moves self.old.cursor self.new.cursor }
+        ensures most { Most 24 24 self.old.cursor self.new.cursor }
+        ensures same { self.new.is_over ≡ self.old.is_over }
+    {
+        if let Kind::Misplaced | Kind::Nameless = kind {
+            return self.note(kind, &piece.start, &piece.next);
+        }
+        let end = self.end_of(piece);
+        let from = self.start_of(kind, piece);
+        self.note_up_to(kind, &from, &end, piece)
+    }
+
+    /// Notes that the piece does not fit: where a name is expected, a `{` opens a block without one, and a `}` outside
+    /// blocks is misplaced. In the text of an entry, and after the only node of a text, reading ends.
+    fn misfit(&mut self, piece: &Piece<'a>) -> Result<(), AllocError>
+        ensures keeps { KeepsAt piece.now self.old self.new }
+        ensures moves { Moves self.old.cursor self.new.cursor }
+        ensures most { Most 24 24 self.old.cursor self.new.cursor }
+        ensures over { self.old.is_over ≡ true → self.new.is_over ≡ true }
+    {
+        let kind = match (self.phase.misfit(), piece.kind) {
+            (Kind::Name, PieceKind::Opening) => Kind::Nameless,
+            (Kind::Name, PieceKind::Closing) if self.blocks.is_empty() => Kind::Misplaced,
+            (kind, _) => kind,
+        };
+        self.note_misfit(kind, piece)?;
+        let is_last = match (self.text, self.phase) {
+            (Whole::Entry, _) => matches!(kind, Kind::Misplaced),
+            (_, Phase::Over) => true,
+            _ => false,
+        };
+        if is_last {
+            self.is_over = true;
+        }
+        Ok(())
+    }
+
+    /// Whether the place is after an entry, or before the first one, in the text of an entry.
+    fn is_between_entries(&self) -> bool {
+        matches!(self.phase, Phase::Node | Phase::Word | Phase::Typeless)
+    }
+
+    /// What the piece does in the text of an entry, where a space follows each slashdashed entry.
+    fn move_in_entry(&self, kind: PieceKind) -> Move {
+        match (self.phase, kind) {
+            (_, PieceKind::Opening | PieceKind::Closing | PieceKind::Semicolon) => Move::Refuse,
+            (_, PieceKind::Slashdash) if self.has_dropped && !self.is_apart => Move::Refuse,
+            (_, PieceKind::Newline) if self.is_between_entries() => {
+                if self.has_item {
+                    Move::To(Phase::Over)
+                } else if self.has_dropped {
+                    Move::Refuse
+                } else {
+                    Move::To(Phase::Node)
+                }
+            }
+            (Phase::Node | Phase::Word, PieceKind::Equals) => self.phase.takes(kind),
+            (Phase::Node | Phase::Word, _) if self.has_item => Move::Refuse,
+            _ => self.phase.takes(kind),
+        }
+    }
+
+    /// What the piece does. A faulty string is not the name of a type.
+    fn move_of(&self, piece: &Piece<'a>) -> Move {
+        if piece.fault.is_some()
+            && let Phase::TypeOpen(_) = self.phase
+        {
+            return Move::Refuse;
+        }
+        match self.text {
+            Whole::Entry => self.move_in_entry(piece.kind),
+            _ => self.phase.takes(piece.kind),
+        }
+    }
+
+    /// Notes that the only node or entry of a text, or a slashdashed entry, begins with the piece.
+    fn begin(&mut self, kind: PieceKind)
+        ensures keeps { Keeps self.old self.new }
+        ensures cursor { self.new.cursor ≡ self.old.cursor }
+        ensures same { self.new.is_over ≡ self.old.is_over }
+    {
+        if !begins_item(kind) || !self.blocks.is_empty() {
+            return;
+        }
+        match (self.text, self.phase) {
+            (Whole::Node, Phase::Gap) | (Whole::Entry, Phase::Node | Phase::Word) => {
+                self.has_item = true;
+            }
+            (Whole::Entry, Phase::Drop(_)) => self.has_dropped = true,
+            _ => {}
+        }
+    }
+
+    /// Continues in the phase. After the only node of a text only line-spaces may follow.
+    fn go_to(&mut self, phase: Phase)
+        ensures keeps { Keeps self.old self.new }
+        ensures cursor { self.new.cursor ≡ self.old.cursor }
+        ensures same { self.new.is_over ≡ self.old.is_over }
+    {
+        let is_behind = self.has_item && self.blocks.is_empty();
+        self.phase = match (self.text, phase) {
+            (Whole::Node, Phase::Gap) if is_behind => Phase::Over,
+            _ => phase,
+        };
+    }
+
+    /// Closes the innermost open block. A `}` outside blocks is misplaced, and is reported once.
+    fn close_block(&mut self, piece: &Piece<'a>, is_told: bool) -> Result<(), AllocError>
+        ensures keeps { KeepsAt piece.now self.old self.new }
+        ensures cursor { self.new.cursor ≡ self.old.cursor }
+        ensures same { self.new.is_over ≡ self.old.is_over }
+    {
+        match self.blocks.pop() {
+            Some(block) => self.phase = block.behind,
+            None => {
+                if !is_told {
+                    self.note(Kind::Misplaced, &piece.start, &piece.next)?;
+                }
+                self.go_to(Phase::Gap);
+            }
+        }
+        Ok(())
+    }
+
+    /// Opens a block with the piece.
+    fn open_block(
+        &mut self,
+        piece: &Piece<'a>,
+        behind: Phase,
+        is_told: bool,
+    ) -> Result<(), AllocError>
+        ensures keeps { KeepsAt piece.now self.old self.new }
+        ensures cursor { self.new.cursor ≡ self.old.cursor }
+        ensures same { self.new.is_over ≡ self.old.is_over }
+    {
+        let span = self.whole.span_between(&piece.start, &piece.next);
+        self.blocks.push(Block {
+            span,
+            behind,
+            is_told,
+        })?;
+        self.phase = Phase::Gap;
+        Ok(())
+    }
+
+    /// Does what the move says.
+    fn go_on(&mut self, piece: &Piece<'a>, step: Move, is_told: bool) -> Result<(), AllocError>
+        ensures keeps { KeepsAt piece.now self.old self.new }
+        ensures cursor { self.new.cursor ≡ self.old.cursor }
+        ensures same { self.new.is_over ≡ self.old.is_over }
+    {
+        match step {
+            Move::To(phase) => {
+                self.go_to(phase);
+                Ok(())
+            }
+            Move::Open(behind) => self.open_block(piece, behind, is_told),
+            Move::Close => self.close_block(piece, is_told),
+            Move::Refuse => Ok(()),
+        }
+    }
+
+    /// Notes the place after a `(`.
+    fn note_left(&mut self, piece: &Piece<'a>)
+        ensures keeps { KeepsAt piece.now self.old self.new }
+        ensures cursor { self.new.cursor ≡ self.old.cursor }
+        ensures same { self.new.is_over ≡ self.old.is_over }
+    {
+        if let PieceKind::Left = piece.kind {
+            self.left = piece.next.copied();
+        }
+    }
+
+    /// Applies the move of the piece.
+    fn apply(&mut self, piece: &Piece<'a>, step: Move, is_told: bool) -> Result<(), AllocError>
+        ensures keeps { KeepsAt piece.now self.old self.new }
+        ensures cursor { self.new.cursor ≡ self.old.cursor }
+        ensures same { self.new.is_over ≡ self.old.is_over }
+    {
+        self.go_on(piece, step, is_told)?;
+        self.note_left(piece);
+        Ok(())
+    }
+
+    /// Takes a piece that fits, and notes its own fault, except for a string in a type that is faulty already.
+    fn fit(&mut self, piece: &Piece<'a>, step: Move) -> Result<(), AllocError>
+        ensures keeps { KeepsAt piece.now self.old self.new }
+        ensures cursor { self.new.cursor ≡ self.old.cursor }
+        ensures same { self.new.is_over ≡ self.old.is_over }
+    {
+        if let Some(kind) = piece.fault {
+            match self.phase {
+                Phase::TypeFaulty => {}
+                _ => self.note_up_to(kind, &piece.start, &piece.end, piece)?,
+            }
+        }
+        self.apply(piece, step, false)
+    }
+
+    /// Takes a piece that does not fit, and notes that. What was expected counts as read; then the piece ends or begins
+    /// a node, a block or what a `/-` drops, if it is such a piece.
+    fn mend(&mut self, piece: &Piece<'a>) -> Result<(), AllocError>
+        ensures keeps { KeepsAt piece.now self.old self.new }
+        ensures moves { Moves self.old.cursor self.new.cursor }
+        ensures most { Most 24 24 self.old.cursor self.new.cursor }
+        ensures over { self.old.is_over ≡ true → self.new.is_over ≡ true }
+    {
+        self.misfit(piece)?;
+        self.phase = self.phase.behind_misfit(piece.kind);
+        if goes_on(piece.kind) && !self.is_over {
+            let step = self.move_of(piece);
+            return self.apply(piece, step, true);
+        }
+        self.note_left(piece);
+        Ok(())
+    }
+
+    /// Notes each open block, the innermost first, except those with a fault noted at their `{`.
+    fn note_blocks(&mut self) -> Result<(), AllocError>
+        ensures keeps { Keeps self.old self.new }
+        ensures cursor { self.new.cursor ≡ self.old.cursor }
+        ensures same { self.new.is_over ≡ self.old.is_over }
+    {
+        'unclosed: while let Some(block) = self.blocks.pop() {
+            if !block.is_told {
+                self.faults.push(Fault {
+                    kind: Kind::Block,
+                    span: block.span,
+                })?;
+            }
+        }
+        Ok(())
+    }
+
+    /// Takes the end of the text: what is expected is missing, and open blocks are unclosed, the innermost first.
+    fn end(&mut self, piece: &Piece<'a>) -> Result<(), AllocError>
+        ensures keeps { KeepsAt piece.now self.old self.new }
+        ensures moves { Moves self.old.cursor self.new.cursor }
+        ensures most { Most 24 24 self.old.cursor self.new.cursor }
+        ensures over { self.new.is_over ≡ true }
+    {
+        self.is_over = true;
+        if self.is_cut {
+            return Ok(());
+        }
+        if self.phase.is_due() {
+            return self.misfit(piece);
+        }
+        if let Some(kind) = self.missing() {
+            return self.note(kind, &piece.start, &piece.next);
+        }
+        self.note_blocks()
+    }
+
+    /// Takes a piece of the grammar, whether it fits or not.
+    fn take_part(&mut self, piece: &Piece<'a>) -> Result<(), AllocError>
+        ensures keeps { KeepsAt piece.now self.old self.new }
+        ensures moves { Moves self.old.cursor self.new.cursor }
+        ensures most { Most 24 24 self.old.cursor self.new.cursor }
+    {
+        let step = self.move_of(piece);
+        self.begin(piece.kind);
+        match step {
+            Move::Refuse => self.mend(piece),
+            _ => self.fit(piece, step),
+        }
+    }
+
+    /// Takes a piece, without what follows it.
+    fn take_alone(&mut self, piece: &Piece<'a>) -> Result<(), AllocError>
+        ensures keeps { KeepsAt piece.now self.old self.new }
+        ensures moves { Moves self.old.cursor self.new.cursor }
+        ensures most { Most 24 24 self.old.cursor self.new.cursor }
+        ensures over { piece.now.kind ≡ End → self.new.is_over ≡ true }
+    {
+        match piece.kind {
+            PieceKind::Space => Ok(()),
+            PieceKind::Comment => self.note(Kind::Comment, &piece.start, &piece.end),
+            PieceKind::End => self.end(piece),
+            _ => self.take_part(piece),
+        }
+    }
+
+    /// The fault of a text that has no node or no entry, if no block is open and there is no other fault.
+    fn missing(&self) -> Option<Kind> {
+        if self.has_item || !self.blocks.is_empty() || !self.faults.is_empty() {
+            return None;
+        }
+        match self.text {
+            Whole::Node => Some(Kind::Name),
+            Whole::Entry => Some(Kind::Misplaced),
+            Whole::Document | Whole::Identifier => None,
+        }
+    }
+
+    /// Takes a piece of the text.
+    fn take(&mut self, piece: &Piece<'a>) -> Result<(), AllocError>
+        ensures keeps { KeepsAt piece.now self.old self.new }
+        ensures moves { Moves self.old.cursor self.new.cursor }
+        ensures most { Most 24 24 self.old.cursor self.new.cursor }
+        ensures over { piece.now.kind ≡ End → self.new.is_over ≡ true }
+    {
+        self.take_alone(piece)?;
+        self.behind(piece)
+    }
+
+    /// Takes what follows the piece: an unclosed block comment, in what begins as an escline.
+    fn behind(&mut self, piece: &Piece<'a>) -> Result<(), AllocError>
+        ensures keeps { KeepsAt piece.now self.old self.new }
+        ensures cursor { self.new.cursor ≡ self.old.cursor }
+        ensures same { self.new.is_over ≡ self.old.is_over }
+    {
+        self.is_apart = matches!(piece.kind, PieceKind::Space);
+        self.is_cut = self.is_cut || piece.cut || piece.comment.is_some();
+        match &piece.comment {
+            Some(comment) => self.note(Kind::Comment, &comment.start, &comment.end),
+            None => Ok(()),
+        }
+    }
+
+    /// Notes that the character at the place can't be there, or that something is expected where the text ends.
+    fn note_character(&mut self, from: &Checkpoint<'a>) -> Result<(), AllocError>
+        ensures keeps { KeepsBetween from.now from.now self.old self.new }
+        ensures steps { self.new.cursor.steps ≡ raise self.old.cursor.steps 1 }
+    {
+        self.cursor.go_to(from);
+        let _ = self.cursor.take();
+        let next = self.cursor.checkpoint();
+        self.note(Kind::Misplaced, from, &next)
+    }
+
+    /// Notes the faults of a text that is read as an identifier.
+    fn read_identifier(&mut self) -> Result<(), AllocError>
+        ensures keeps { Keeps self.old self.new }
+        ensures bounded { Bounded 124 self.old.cursor self.new.cursor }
+    {
+        let start = self.cursor.checkpoint();
+        let piece = next_piece(self.alloc, &mut self.cursor, StringRole::Plain)?;
+        let (PieceKind::String, fault) = (piece.kind, piece.fault) else {
+            return self.note_character(&start);
+        };
+        if let Some(kind) = fault {
+            return self.note_up_to(kind, &piece.start, &piece.end, &piece);
+        }
+        self.cursor.go_to(&piece.end);
+        if self.cursor.look().is_none() {
+            return Ok(());
+        }
+        self.note_character(&piece.end)
+    }
+
+    /// Advances past a U+FEFF at the start of a document.
+    fn skip_bom(&mut self)
+        ensures keeps { Keeps self.old self.new }
+        ensures moves { Moves self.old.cursor self.new.cursor }
+        ensures most { Most 1 1 self.old.cursor self.new.cursor }
+    {
+        if let Whole::Document = self.text {
+            let _ = self.cursor.eat('\u{feff}');
+        }
+    }
+
+    /// Notes the faults of the text, as if no candidate began an escline.
+    fn read(&mut self) -> Result<(), AllocError>
+        ensures keeps { Keeps self.old self.new }
+        ensures bounded { Bounded 124 self.old.cursor self.new.cursor }
+    {
+        if let Whole::Identifier = self.text {
+            return self.read_identifier();
+        }
+        self.skip_bom();
+        'pieces: while !self.is_over {
+            let role = self.phase.string_role();
+            let piece = next_piece(self.alloc, &mut self.cursor, role)?;
+            self.take(&piece)?;
+        }
+        Ok(())
+    }
+
+    /// Ends the fault of the candidate with this number at its backslash, which begins an escline.
+    fn settle(&mut self, candidate: usize)
+        ensures keeps { Keeps self.old self.new }
+        ensures cursor { self.new.cursor ≡ self.old.cursor }
+    {
+        if candidate >= self.candidates.len() {
+            return;
+        }
+        let Candidate { number, fault, .. } = self.candidates[candidate];
+        if number < self.faults.len() {
+            self.faults[number] = fault;
+        }
+    }
+
+    /// Ends the faults of all candidates that begin an escline at their backslashes.
+    fn settle_all(&mut self) -> Result<(), AllocError>
+        ensures keeps { Keeps self.old self.new }
+        ensures bounded { ReadsAgain 4 self.old self.new }
+    {
+        if self.candidates.is_empty() {
+            return Ok(());
+        }
+        self.cursor.go_to(&self.whole);
+        let found = esclines(self.alloc, &mut self.cursor, &self.candidates)?;
+        for candidate in &found {
+            self.settle(*candidate);
+        }
+        Ok(())
+    }
+
+    /// Notes the faults of the text.
+    pub(crate) fn find(&mut self) -> Result<(), AllocError>
+        ensures keeps { Keeps self.old self.new }
+        ensures bounded { (text : Text) → IsReaderOf text self.old → self.old.cursor.rest ≡ text
+            → Bounded 128 self.old.cursor self.new.cursor }
+    {
+        self.read()?;
+        self.settle_all()
+    }
+}

@@ -1,8 +1,0 @@
-use Rattle.std.proofs.Common.{◌++◌, ap, ◌∙◌}
-use Rattle.kdl_faults.proofs.StringLoops.{read_once_more}
-use Rattle.kdl_faults.proofs.strings.fault_of_lines.Goals as goal
-
-pub returns-clause-most : goal.returns-clause-most
-returns-clause-most c =
-    let text = c.up_to.ensures ∙ ap (λ z. c.up_to.result ++ z) c.checkpoint.ensures.rest in
-    read_once_more _ c.args.start.now c.args.cursor.now _ _ _ c.enter-place.result _ text c.enter-place.ensures.inside c.quoted_string-answer.ensures.costs c.go_to.ensures
