@@ -1,6 +1,6 @@
 -- What layout makes: one thing, its text, and that it reads back.
 
--- What layout makes of a document is one thing, which says the same.
+-- What layout makes of a document is one thing.
 pub mod FormattedUnique
 -- What layout makes prints the canonical text.
 pub mod PrintsCanonical

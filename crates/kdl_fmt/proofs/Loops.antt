@@ -7,11 +7,6 @@ use Rattle.kdl_fmt.specs.WellFormed.{IsWellFormedEntry, AreWellFormedEntries}
 use Rattle.kdl_fmt.specs.WithComments.{IsFormattedEntry, AreFormattedEntries}
 use Rattle.kdl_parts.proofs.Loops.{given_back}
 
--- P holds of each element
-abbrev pub Each : {B : Type 0} → (B → Type 0) → List B → Type 0
-Each P [] = Unit {0}
-Each P (x ∷ xs) = P x × Each P xs
-
 -- R holds of each element of the first list and the one in its place in the second
 abbrev pub Pairwise : {B : Type 0} → (B → B → Type 0) → List B → List B → Type 0
 Pairwise R [] [] = Unit {0}
@@ -82,18 +77,6 @@ module _ {A B : Type 0} (f : A → B) (R : B → B → Type 0) where
 -- a relation, and what holds of the first of the two
 abbrev pub And : {B : Type 0} → (B → B → Type 0) → (B → Type 0) → B → B → Type 0
 And R P s t = R s t × P s
-
-pub pairs_related : {B : Type 0} (R : B → B → Type 0) (P : B → Type 0) (ss ts : List B) → Pairwise (And R P) ss ts → Pairwise R ss ts
-pairs_related R P [] [] k = tt
-pairs_related R P [] (t ∷ ts) k = absurd k
-pairs_related R P (s ∷ ss) [] k = absurd k
-pairs_related R P (s ∷ ss) (t ∷ ts) k = (k.0.0, pairs_related R P ss ts k.1)
-
-pub pairs_each : {B : Type 0} (R : B → B → Type 0) (P : B → Type 0) (ss ts : List B) → Pairwise (And R P) ss ts → Each P ss
-pairs_each R P [] [] k = tt
-pairs_each R P [] (t ∷ ts) k = absurd k
-pairs_each R P (s ∷ ss) [] k = absurd k
-pairs_each R P (s ∷ ss) (t ∷ ts) k = (k.0.1, pairs_each R P ss ts k.1)
 
 -- an entry that is laid out, and well formed
 abbrev pub LaidEntry : Settings → Entry → Entry → Type 0

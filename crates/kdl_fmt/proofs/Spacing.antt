@@ -1,6 +1,6 @@
 -- Blank lines that stay between nodes and comments.
 
--- How texts between nodes are read and written, item by item.
+-- Newlines, written one by one.
 pub mod Steps
 -- What is read and written of a text between nodes, from its items.
 pub mod Reads
@@ -8,7 +8,7 @@ pub mod Reads
 pub mod Zero
 -- What is kept with blank lines is a gap, and holds the items of its text.
 pub mod Lines
--- What layout with blank lines leaves as it was.
+-- What layout with blank lines makes flags no entry, and no level is too great.
 pub mod Stays
 -- What is counted in the lines that are written.
 pub mod Counts

@@ -1,6 +1,6 @@
 //! The configuration of layout.
 
-ghost use Rattle.kdl_fmt.specs.Config.{Settings, defaults, settings, settings_so_far};
+ghost use Rattle.kdl_fmt.specs.Config.{defaults, settings, settings_so_far};
 ghost use Rattle.kdl_text.specs.Chars as class;
 ghost use Rattle.std.specs.List.{list_all};
 ghost use Rattle.std.specs.Prelude.{◌≡◌, option_map, unwrap_or};

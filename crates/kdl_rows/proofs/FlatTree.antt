@@ -91,9 +91,6 @@ step_out rows rows' k k' ss u after above all s f = record {
   left = regroup_out s.items (listed after) (closed above []) ∙ ap (λ (z : List Item). s.items ++ z) (sym (closed_push above after [])) ∙ s.left;
 }
 
-pub all_said : (rows : List KdlRow) (k : ℕ) (ss : List ℕ) (u : ℕ) (all : List Item) → SoFar rows k ss u [] [] all → RowsSay rows k ss u all
-all_said rows k ss u all s = subst (RowsSay rows k ss u) (sym (append-nil s.items) ∙ s.left) s.say
-
 pub same_so_far : (rows rows' : List KdlRow) (k k' : ℕ) (ss ss' : List ℕ) (u u' : ℕ) (rest rest' : List NodeData) (above above' : List (List NodeData)) (all : List Item)
     → rows' ≡ rows → k' ≡ k → ss' ≡ ss → u' ≡ u → rest' ≡ rest → above' ≡ above → SoFar rows k ss u rest above all → SoFar rows' k' ss' u' rest' above' all
 same_so_far rows rows' k k' ss ss' u u' rest rest' above above' all a b c d e f s = record {

@@ -1,18 +1,18 @@
--- What layout makes of a document is one thing, which says the same and flags no entry; where comments are left out it is what the function gives.
-use Rattle.std.proofs.Common.{◌≡◌, ℕ, ◌+◌, Bool, true, false, List, [], ◌∷◌, map, refl, sym, ap, ◌∙◌, Option, Some, None, option_map}
+-- What layout makes of a document is one thing; where comments are left out it is what the function gives. Its entries say the same, and none is flagged.
+use Rattle.std.proofs.Common.{◌≡◌, ℕ, ◌+◌, Bool, true, false, List, [], ◌∷◌, map, refl, sym, ap, ◌∙◌, Option, Some}
 use Rattle.std.specs.Prelude.{◌||◌}
 use Rattle.kdl_text.specs.Chars.{Text}
-use Rattle.kdl_entry.specs.Tree.{Entry, EntryFormat, unspelled, cleared, autoformatted}
+use Rattle.kdl_entry.specs.Tree.{Entry, EntryFormat, cleared, autoformatted}
 use Rattle.kdl_grammar.specs.Tree.{NodeFormat, DocumentFormat, Head, Node, node, Children, no_children, children, Document, document, Nodes, none, first}
 use Rattle.kdl_comments.specs.Items.{Item, GapItems, Place, before_entry, before_block, PlaceItems}
 use Rattle.kdl_comments.specs.Written.{lines, tail}
 use Rattle.kdl_comments.proofs.Listing.ItemsUnique.{gap_items_det, place_items_det}
 use Rattle.kdl_fmt.specs.Config.{Settings, indentation}
-use Rattle.kdl_fmt.specs.Formatted.{with_keep_if, formatted_entry, or_empty, or_empty_document, content_format, in_braces, formatted_head, formatted_node, formatted_children, formatted_nodes, formatted_document, NodeLevelsFit, ChildrenLevelsFit, NodesLevelsFit, DocumentLevelsFit, bare_head, bare_node, bare_children, bare_document, bare_nodes, EntriesKeepNone, NodeKeepsNone, ChildrenKeepNone, DocumentKeepsNone, NodesKeepNone}
+use Rattle.kdl_fmt.specs.Formatted.{with_keep_if, formatted_entry, or_empty, or_empty_document, content_format, in_braces, formatted_head, formatted_node, formatted_children, formatted_nodes, formatted_document, EntriesKeepNone}
 use Rattle.kdl_fmt.specs.Kept.{Written, WrittenUnless, KeptLines, KeptTail, KeptBeforeBlock, last_place, WrittenEnd, KeptEnd, without_bom, entry_leading, is_kept_format, KeptBefore}
 use Rattle.kdl_fmt.specs.Plain.{plain_line}
 use Rattle.kdl_fmt.specs.WithComments.{behind, IsFormattedEntry, AreFormattedEntries, NodeTexts, KeepsTexts, line_of, IsLine, content_of, ContentTexts, IsContent, IsBraced, IsFormattedHead, has_block, IsFormattedNode, IsFormattedChildren, AreFormattedNodes, IsFormattedDocument}
-use Rattle.kdl_fmt.proofs.Formatting.PrintsCanonical.{unspelled_twice, cleared_formatted, not_kept_again}
+use Rattle.kdl_fmt.proofs.Formatting.PrintsCanonical.{cleared_formatted, not_kept_again}
 
 abbrev Has : Type 1
 Has = List Item → Type 0
@@ -114,59 +114,13 @@ document_left_out s level (document f span ns) (document f' span' ns') e d =
     let b = nodes_left_out s level ns ns' e d.2 in
     λ i. document (a i) (d.1 i) (b i)
 
--- what is laid out has no level that is too great
-mutual
-  pub levels_fit : (s : Settings) (level : ℕ) (n n' : Node) → IsFormattedNode s level n n' → NodeLevelsFit level n
-  levels_fit s level (node h k) (node h' k') f = children_levels_fit s level k k' f.1
-
-  children_levels_fit : (s : Settings) (level : ℕ) (k k' : Children) → IsFormattedChildren s level k k' → ChildrenLevelsFit level k
-  children_levels_fit s level no_children k' f = tt
-  children_levels_fit s level (children (document f span ns)) (children (document f' span' ns')) c = (c.3, nodes_levels_fit s (level + 1) ns ns' c.2)
-  children_levels_fit s level (children (document f span ns)) no_children c = absurd c
-
-  nodes_levels_fit : (s : Settings) (level : ℕ) (ns ns' : Nodes) → AreFormattedNodes s level ns ns' → NodesLevelsFit level ns
-  nodes_levels_fit s level none ns' f = tt
-  nodes_levels_fit s level (first n ns) (first n' ns') f = (levels_fit s level n n' f.0, nodes_levels_fit s level ns ns' f.1)
-  nodes_levels_fit s level (first n ns) none f = absurd f
-
-pub document_levels_fit : (s : Settings) (level : ℕ) (d d' : Document) → IsFormattedDocument s level d d' → DocumentLevelsFit level d
-document_levels_fit s level (document f span ns) (document f' span' ns') d = nodes_levels_fit s level ns ns' d.2
-
--- but for formats and spellings all stays
+-- of an entry all stays but formats and spellings
 cleared_behind : (t : Text) (e : Entry) → cleared (behind t e) ≡ cleared e
 cleared_behind [] e = refl
 cleared_behind (c ∷ t) e = refl
 
 pub entry_stays : (s : Settings) (e e' : Entry) → IsFormattedEntry s e e' → cleared e' ≡ cleared e
 entry_stays s e e' f = ap cleared f.2 ∙ cleared_behind f.0 (autoformatted (with_keep_if s.entry_autoformate_keep e)) ∙ cleared_formatted s.entry_autoformate_keep e
-
-pub entries_stay : (s : Settings) (es es' : List Entry) → AreFormattedEntries s es es' → map cleared es' ≡ map cleared es
-entries_stay s [] [] f = refl
-entries_stay s (e ∷ es) (e' ∷ es') f = let a = entry_stays s e e' f.0 in let b = entries_stay s es es' f.1 in cc
-entries_stay s [] (e' ∷ es') f = absurd f
-entries_stay s (e ∷ es) [] f = absurd f
-
-pub head_stays : (s : Settings) (level : ℕ) (has : Bool) (h h' : Head) → IsFormattedHead s level has h h' → bare_head h' ≡ bare_head h
-head_stays s level has h h' f = head_same (ap (option_map unspelled) f.ty ∙ unspelled_twice h.ty) (ap unspelled f.name) (entries_stay s h.entries h'.entries f.entries) refl f.span
-
-mutual
-  pub stays : (s : Settings) (level : ℕ) (n n' : Node) → IsFormattedNode s level n n' → bare_node n' ≡ bare_node n
-  stays s level (node h k) (node h' k') f = let a = head_stays s level (has_block k) h h' f.0 in let b = children_stay s level k k' f.1 in cc
-
-  pub children_stay : (s : Settings) (level : ℕ) (k k' : Children) → IsFormattedChildren s level k k' → bare_children k' ≡ bare_children k
-  children_stay s level no_children no_children f = refl
-  children_stay s level (children (document f span ns)) (children (document f' span' ns')) c = let b = nodes_stay s (level + 1) ns ns' c.2 in λ i. children (document None (c.1 i) (b i))
-  children_stay s level no_children (children d) f = absurd f
-  children_stay s level (children (document f span ns)) no_children c = absurd c
-
-  pub nodes_stay : (s : Settings) (level : ℕ) (ns ns' : Nodes) → AreFormattedNodes s level ns ns' → bare_nodes ns' ≡ bare_nodes ns
-  nodes_stay s level none none f = refl
-  nodes_stay s level (first n ns) (first n' ns') f = let a = stays s level n n' f.0 in let b = nodes_stay s level ns ns' f.1 in cc
-  nodes_stay s level none (first n' ns') f = absurd f
-  nodes_stay s level (first n ns) none f = absurd f
-
-pub document_stays : (s : Settings) (level : ℕ) (d d' : Document) → IsFormattedDocument s level d d' → bare_document d' ≡ bare_document d
-document_stays s level (document f span ns) (document f' span' ns') d = let b = nodes_stay s level ns ns' d.2 in λ i. document None (d.1 i) (b i)
 
 -- no entry is flagged any more
 behind_not_kept : (t : Text) (e : Entry) → is_kept_format e.format ≡ false → is_kept_format (behind t e).format ≡ false
@@ -183,90 +137,6 @@ entries_keep_none s [] [] f = tt
 entries_keep_none s (e ∷ es) (e' ∷ es') f = (entry_keeps_none s e e' f.0, entries_keep_none s es es' f.1)
 entries_keep_none s [] (e' ∷ es') f = absurd f
 entries_keep_none s (e ∷ es) [] f = absurd f
-
-mutual
-  pub node_keeps_none : (s : Settings) (level : ℕ) (n n' : Node) → IsFormattedNode s level n n' → NodeKeepsNone n'
-  node_keeps_none s level (node h k) (node h' k') f = (entries_keep_none s h.entries h'.entries f.0.entries, children_keep_none s level k k' f.1)
-
-  pub children_keep_none : (s : Settings) (level : ℕ) (k k' : Children) → IsFormattedChildren s level k k' → ChildrenKeepNone k'
-  children_keep_none s level no_children no_children f = tt
-  children_keep_none s level (children (document f span ns)) (children (document f' span' ns')) c = nodes_keep_none s (level + 1) ns ns' c.2
-  children_keep_none s level no_children (children d) f = absurd f
-  children_keep_none s level (children (document f span ns)) no_children c = absurd c
-
-  pub nodes_keep_none : (s : Settings) (level : ℕ) (ns ns' : Nodes) → AreFormattedNodes s level ns ns' → NodesKeepNone ns'
-  nodes_keep_none s level none none f = tt
-  nodes_keep_none s level (first n ns) (first n' ns') f = (node_keeps_none s level n n' f.0, nodes_keep_none s level ns ns' f.1)
-  nodes_keep_none s level none (first n' ns') f = absurd f
-  nodes_keep_none s level (first n ns) none f = absurd f
-
-pub document_keeps_none : (s : Settings) (level : ℕ) (d d' : Document) → IsFormattedDocument s level d d' → DocumentKeepsNone d'
-document_keeps_none s level (document f span ns) (document f' span' ns') d = nodes_keep_none s level ns ns' d.2
-
--- what the function gives is what layout makes without comments
-empty_unless : (has : Has) (write : Writes) (b : Bool) → b ≡ true → WrittenUnless b has write []
-empty_unless has write true e = refl
-empty_unless has write false e = absurd cc
-
-empty_lines : (s : Settings) (level : ℕ) (place : Text) → s.no_comments ≡ true → KeptLines s level place []
-empty_lines s level place e = empty_unless (GapItems place) (lines (indentation s level)) s.no_comments e
-
-empty_tail : (s : Settings) (p : Place) (place : Text) → s.no_comments ≡ true → KeptTail s p place []
-empty_tail s p place e = empty_unless (PlaceItems p place) tail s.no_comments e
-
-empty_block : (s : Settings) (has : Bool) (place : Text) → s.no_comments ≡ true → KeptBeforeBlock s has place []
-empty_block s false place e = refl
-empty_block s true place e = empty_tail s before_block place e
-
-empty_end : (b : Bool) (terminator : Text) → b ≡ true → KeptEnd b terminator [] []
-empty_end true terminator e = (refl, refl)
-empty_end false terminator e = absurd cc
-
-pub entries_made : (s : Settings) (es : List Entry) → s.no_comments ≡ true → AreFormattedEntries s es (map (formatted_entry s) es)
-entries_made s [] h = tt
-entries_made s (e ∷ es) h =
-    let f = (with_keep_if s.entry_autoformate_keep e).format in
-    (([], empty_unless (PlaceItems (before_entry false) (entry_leading f)) tail (is_kept_format f || s.no_comments) (or_true (is_kept_format f) s.no_comments h), refl), entries_made s es h)
-
-abbrev pub no_texts : NodeTexts
-no_texts = record { before = []; before_block = []; last = []; space = []; comment = []; behind = [] }
-
-pub line_kept : (s : Settings) (level : ℕ) (has : Bool) (f : NodeFormat) → s.no_comments ≡ true → KeepsTexts s level has f no_texts
-line_kept s level has f e = record {
-  before = empty_lines s level f.leading e;
-  before_block = empty_block s has f.before_children e;
-  last = empty_tail s (last_place has) f.before_terminator e;
-  end = empty_end s.no_comments f.terminator e;
-  behind = empty_lines s level f.trailing e;
-}
-
-pub content_kept : (s : Settings) (level : ℕ) (f : DocumentFormat) → s.no_comments ≡ true → ContentTexts s level f [] []
-content_kept s level f e = record { leading = empty_lines s level (without_bom f.leading) e; trailing = empty_lines s level f.trailing e }
-
-pub head_made : (s : Settings) (level : ℕ) (has : Bool) (h : Head) → s.no_comments ≡ true → IsFormattedHead s level has h (formatted_head s level h)
-head_made s level has h e = record {
-  ty = refl;
-  name = refl;
-  entries = entries_made s h.entries e;
-  format = (no_texts, line_kept s level has (or_empty h.format) e, refl);
-  span = refl;
-}
-
-mutual
-  pub node_made : (s : Settings) (level : ℕ) (n : Node) → s.no_comments ≡ true → NodeLevelsFit level n → IsFormattedNode s level n (formatted_node s level n)
-  node_made s level (node h k) e l = (head_made s level (has_block k) h e, children_made s level k e l)
-
-  pub children_made : (s : Settings) (level : ℕ) (k : Children) → s.no_comments ≡ true → ChildrenLevelsFit level k → IsFormattedChildren s level k (formatted_children s level k)
-  children_made s level no_children e l = tt
-  children_made s level (children (document f span ns)) e l =
-      (([], [], content_kept s (level + 1) (or_empty_document f) e, refl), refl, nodes_made s (level + 1) ns e l.1, l.0)
-
-  pub nodes_made : (s : Settings) (level : ℕ) (ns : Nodes) → s.no_comments ≡ true → NodesLevelsFit level ns → AreFormattedNodes s level ns (formatted_nodes s level ns)
-  nodes_made s level none e l = tt
-  nodes_made s level (first n ns) e l = (node_made s level n e l.0, nodes_made s level ns e l.1)
-
-pub document_made : (s : Settings) (level : ℕ) (d : Document) → s.no_comments ≡ true → DocumentLevelsFit level d → IsFormattedDocument s level d (formatted_document s level d)
-document_made s level (document f span ns) e l = (([], [], content_kept s level (or_empty_document f) e, refl), refl, nodes_made s level ns e l)
 
 -- what is kept of a place is one text
 written_det : {has : Has} {write : Writes} {t u : Text} → ((is js : List Item) → has is → has js → is ≡ js) → Written has write t → Written has write u → t ≡ u

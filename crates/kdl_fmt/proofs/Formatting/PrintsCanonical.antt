@@ -1,4 +1,4 @@
--- What layout makes says the same, flags no entry, and prints the canonical text.
+-- A tree without formats and spellings says the same, and what layout makes of a tree prints the canonical text.
 use Rattle.std.proofs.Common.{◌≡◌, ℕ, ◌+◌, Bool, true, false, List, [], ◌∷◌, ◌++◌, map, refl, sym, ap, ◌∙◌, Option, Some, None, option_map, append_assoc, append-nil, if◌then◌else◌}
 use Rattle.kdl_text.specs.Chars.{Text}
 use Rattle.kdl_value.specs.Print.{print_value}
@@ -53,25 +53,6 @@ pub cleared_formatted : (k : Bool) (e : Entry) → cleared (autoformatted (with_
 cleared_formatted false e = rw (unspelled_twice e.name, unspelled_twice e.ty) refl
 cleared_formatted true e = rw (unspelled_twice e.name, unspelled_twice e.ty) refl
 
-pub entry_bare : (s : Settings) (e : Entry) → cleared (formatted_entry s e) ≡ cleared e
-entry_bare s e = cleared_formatted s.entry_autoformate_keep e
-
-pub entries_bare : (s : Settings) (es : List Entry) → map cleared (map (formatted_entry s) es) ≡ map cleared es
-entries_bare s [] = refl
-entries_bare s (e ∷ es) = let a = entry_bare s e in let b = entries_bare s es in cc
-
-mutual
-  pub node_bare : (s : Settings) (level : ℕ) (n : Node) → bare_node (formatted_node s level n) ≡ bare_node n
-  node_bare s level (node h k) = rw (unspelled_twice h.ty, entries_bare s h.entries, children_bare s level k) refl
-
-  pub children_bare : (s : Settings) (level : ℕ) (k : Children) → bare_children (formatted_children s level k) ≡ bare_children k
-  children_bare s level no_children = refl
-  children_bare s level (children (document f span ns)) = rw (nodes_bare s (level + 1) ns) refl
-
-  pub nodes_bare : (s : Settings) (level : ℕ) (ns : Nodes) → bare_nodes (formatted_nodes s level ns) ≡ bare_nodes ns
-  nodes_bare s level none = refl
-  nodes_bare s level (first n ns) = rw (node_bare s level n, nodes_bare s level ns) refl
-
 -- no entry is flagged any more
 pub not_kept_again : (o : Option EntryFormat) → is_kept_format (autoformatted_format o) ≡ false
 not_kept_again None = refl
@@ -80,25 +61,6 @@ not_kept_again (Some f) = go f.autoformat_keep
     go : (b : Bool) → is_kept_format (if b then Some (kept f) else None) ≡ false
     go true = refl
     go false = refl
-
-entries_keep_none : (s : Settings) (es : List Entry) → EntriesKeepNone (map (formatted_entry s) es)
-entries_keep_none s [] = tt
-entries_keep_none s (e ∷ es) = (not_kept_again (with_keep_if s.entry_autoformate_keep e).format, entries_keep_none s es)
-
-mutual
-  pub node_keeps_none : (s : Settings) (level : ℕ) (n : Node) → NodeKeepsNone (formatted_node s level n)
-  node_keeps_none s level (node h k) = (entries_keep_none s h.entries, children_keep_none s level k)
-
-  children_keep_none : (s : Settings) (level : ℕ) (k : Children) → ChildrenKeepNone (formatted_children s level k)
-  children_keep_none s level no_children = tt
-  children_keep_none s level (children (document f span ns)) = nodes_keep_none s (level + 1) ns
-
-  nodes_keep_none : (s : Settings) (level : ℕ) (ns : Nodes) → NodesKeepNone (formatted_nodes s level ns)
-  nodes_keep_none s level none = tt
-  nodes_keep_none s level (first n ns) = (node_keeps_none s level n, nodes_keep_none s level ns)
-
-pub document_keeps_none : (s : Settings) (level : ℕ) (d : Document) → DocumentKeepsNone (formatted_document s level d)
-document_keeps_none s level (document f span ns) = nodes_keep_none s level ns
 
 -- and where none was, the text is the canonical one
 lost : (o : Option EntryFormat) → is_kept_format o ≡ false → autoformatted_format o ≡ None
@@ -160,29 +122,3 @@ mutual
 
 pub document_canonical : (s : Settings) (level depth : ℕ) (d : Document) → IsPlain s → DocumentKeepsNone d → print_document (formatted_document s level d) depth ≡ canonical s.indent level (document_data d)
 document_canonical s level depth (document f span ns) p m = rw (nodes_canonical s level depth ns p m, newline_same ns) refl
-
--- a second layout changes nothing
-entries_again : (s : Settings) (es : List Entry) → IsPlain s → EntriesKeepNone es → map (formatted_entry s) (map (formatted_entry s) es) ≡ map (formatted_entry s) es
-entries_again s [] p h = refl
-entries_again s (e ∷ es) p h =
-    let once = entry_formatted s e p h.0 in
-    let twice : cleared (cleared e) ≡ cleared e = rw (unspelled_twice e.name, unspelled_twice e.ty) refl in
-    let own : formatted_entry s (formatted_entry s e) ≡ formatted_entry s e = ap (formatted_entry s) once ∙ entry_formatted s (cleared e) p refl ∙ twice ∙ sym once in
-    let more = entries_again s es p h.1 in
-    cc
-
-none_again : (s : Settings) (level : ℕ) (ns : Nodes) → newline_if_none (formatted_nodes s level ns) ≡ newline_if_none ns
-none_again s level none = refl
-none_again s level (first n ns) = refl
-
-mutual
-  pub node_again : (s : Settings) (level : ℕ) (n : Node) → IsPlain s → NodeKeepsNone n → formatted_node s level (formatted_node s level n) ≡ formatted_node s level n
-  node_again s level (node h k) p m = rw (unspelled_twice h.ty, entries_again s h.entries p m.0, children_again s level k p m.1) refl
-
-  children_again : (s : Settings) (level : ℕ) (k : Children) → IsPlain s → ChildrenKeepNone k → formatted_children s level (formatted_children s level k) ≡ formatted_children s level k
-  children_again s level no_children p m = refl
-  children_again s level (children (document f span ns)) p m = rw (none_again s (level + 1) ns, nodes_again s (level + 1) ns p m) refl
-
-  nodes_again : (s : Settings) (level : ℕ) (ns : Nodes) → IsPlain s → NodesKeepNone ns → formatted_nodes s level (formatted_nodes s level ns) ≡ formatted_nodes s level ns
-  nodes_again s level none p m = refl
-  nodes_again s level (first n ns) p m = rw (node_again s level n p m.0, nodes_again s level ns p m.1) refl

@@ -31,11 +31,6 @@ kept_nothing false has write t e h x = subst (Written has write) (sym x) (Writte
 pub written_behind : (write : List Item → Text) (t u : Text) (is js : List Item) → t ≡ u ++ write js → u ≡ [] → js ≡ is → t ≡ write is
 written_behind write t u is js e x y = e ∙ ap (λ (z : Text). z ++ write js) x ∙ ap write y
 
--- of an empty gap
-pub kept_empty : (b : Bool) (before t : Text) → t ≡ [] → WrittenUnless b (GapItems []) (lines before) t
-kept_empty true before t e = e
-kept_empty false before t e = subst (Written (GapItems []) (lines before)) (sym e) (Written.items {is = []} GapItems.none)
-
 -- of the text before an entry that keeps its form, and of one that has no format
 pub kept_flagged : (s : Settings) (f : Option EntryFormat) (t : Text) → is_kept_format f ≡ true → t ≡ [] → KeptBefore s f t
 kept_flagged s None t m e = absurd cc

@@ -89,10 +89,6 @@ pub lines_pass : (number : ℕ) (s : Settings) (level : ℕ) (b b' : Before) (pl
 lines_pass ℕ.zero s level b b' place t k = tt
 lines_pass (ℕ.suc number) s level b b' place t k = spaces_pass k
 
-pub text_passes : (number : ℕ) (s : Settings) (b b' : Before) (place : Text) → Passes s.no_comments b place b' → PassesText number s b place b'
-text_passes ℕ.zero s b b' place p = tt
-text_passes (ℕ.suc number) s b b' place p = p
-
 -- of the same texts, under other names
 pub lines_as : (number : ℕ) (s : Settings) (level : ℕ) {b c : Before} {place place' : Text} (b' : Before) (t : Text) → b ≡ c → place ≡ place' → SpacedLines number s level b place t b' → SpacedLines number s level c place' t b'
 lines_as number s level {b} {c} {place} {place'} b' t e h k =
