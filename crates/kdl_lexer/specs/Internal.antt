@@ -1,4 +1,5 @@
--- Definitions that only proofs and contracts inside the crates use: no contract of a public call of `kdl` mentions them.
+-- Definitions for proofs and contracts inside the crates. Of the public calls of `kdl` only clause `earliest` of `parse` uses
+-- some of them, those of `Tokens`.
 
 -- What the lexer returns.
 pub mod Handed
