@@ -1,5 +1,5 @@
 -- The item that a reader's fields represent, and what its steps return.
-use Rattle.std.specs.Prelude.{◌≡◌, ◌≤◌, Option, Some, None, option_map, Result, Ok, Err}
+use Rattle.std.specs.Prelude.{◌≡◌, ◌≤◌, Bool, true, false, Option, Some, None, option_map, Result, Ok, Err}
 use Rattle.kdl_text.specs.Internal.Here.{Here, Spot}
 use Rattle.kdl_text.specs.Spans.{raise}
 use Rattle.kdl_lexer.specs.Internal.Handed.{IsFaultAt}
@@ -10,6 +10,8 @@ use Rattle.kdl_entry.specs.Tree.{identifier_tree}
 use Rattle.kdl_entry.specs.declared.items.item.Given.{Given}
 use Rattle.kdl_entry.specs.declared.items.item.Item.{Item}
 use Rattle.kdl_entry.specs.declared.items.item.KeyParts.{KeyParts}
+use Rattle.kdl_entry.specs.declared.items.item.Owner.{Owner}
+use Rattle.kdl_entry.specs.declared.items.item.Owner.TheVariants.{Name, Value}
 use Rattle.kdl_entry.specs.declared.items.item.Stage.{Stage}
 use Rattle.kdl_entry.specs.declared.items.item.Stage.TheVariants.{Opened, Named, Closed, Keyed}
 use Rattle.kdl_entry.specs.declared.items.item.TypeParts.{TypeParts}
@@ -31,11 +33,16 @@ stage_view Named = items.named
 stage_view Closed = items.closed
 stage_view Keyed = items.keyed
 
+-- whether the type is that of a value
+abbrev pub owner_view : Owner → Bool
+owner_view Name = false
+owner_view Value = true
+
 -- the item that the reader's fields represent
 abbrev pub item_view : Item → items.Item
 item_view it = record {
   kept = it.kept;
-  valued = it.valued;
+  valued = owner_view it.owner;
   stage = stage_view it.stage;
   leading = text_of it.leading;
   start = it.start.rest;

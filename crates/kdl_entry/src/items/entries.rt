@@ -7,12 +7,12 @@ ghost use Rattle.kdl_entry.specs.Internal.EntryReading.{dropped_view, word_view,
 ghost use Rattle.kdl_lexer.specs.Internal.Handed.{kind_view};
 ghost use Rattle.kdl_entry.specs.Places.{between};
 ghost use Rattle.kdl_value.specs.Tree.{text_of, value_tree};
-ghost use Rattle.kdl_entry.specs.Tree.{entry_tree, identifier_tree};
+ghost use Rattle.kdl_entry.specs.Tree.{entry_tree, identifier_tree, plain_identifier};
 ghost use Rattle.kdl_text.specs.Internal.Here.{Ahead};
 ghost use Rattle.std.specs.Prelude.{◌≡◌, [], Some, None, true, false, IfOk};
 ghost use Rattle.std.specs.Str.{chars};
 
-use super::item::{Given, Item, empty, entry_from, piece_between, text_between};
+use super::item::{Given, Item, Owner, entry_from, piece_between, text_between};
 use crate::entry::KdlEntry;
 use crate::identifier::{KdlIdentifier, sliced_identifier};
 use kdl_diagnostics::{Whole, failure};
@@ -67,14 +67,22 @@ enum State<'a> {
 fn opened<'a>(
     alloc: Global,
     whole: &Checkpoint<'a>,
-    kept: bool,
     leading: String,
     end: &Checkpoint<'a>,
 ) -> Item<'a>
-    ensures { item_view result ≡ opened_item whole.now.rest kept (text_of leading) end.now.rest }
+    ensures { item_view result ≡ opened_item whole.now.rest true (text_of leading) end.now.rest }
 {
     let mut item = Item::new(alloc, whole);
-    item.open(kept, true, leading, whole, end);
+    item.open(Owner::Value, leading, whole, end);
+    item
+}
+
+/// An entry under way that is slashdashed, after the `(` of its type.
+fn opened_dropped<'a>(alloc: Global, whole: &Checkpoint<'a>, end: &Checkpoint<'a>) -> Item<'a>
+    ensures { item_view result ≡ opened_item whole.now.rest false [] end.now.rest }
+{
+    let mut item = Item::new(alloc, whole);
+    item.open_dropped(alloc, Owner::Value, whole, end);
     item
 }
 
@@ -82,18 +90,27 @@ fn opened<'a>(
 fn keyed<'a>(
     alloc: Global,
     whole: &Checkpoint<'a>,
-    kept: bool,
     leading: String,
     name: KdlIdentifier,
     before: String,
     end: &Checkpoint<'a>,
 ) -> Item<'a>
     ensures { item_view result
-        ≡ keyed_item whole.now.rest kept (text_of leading) (identifier_tree name)
+        ≡ keyed_item whole.now.rest true (text_of leading) (identifier_tree name)
         (text_of before) end.now.rest }
 {
     let mut item = Item::new(alloc, whole);
-    item.open_keyed(kept, leading, whole, name, before, end);
+    item.open_keyed(leading, whole, name, before, end);
+    item
+}
+
+/// A property under way that is slashdashed, after its `=`.
+fn keyed_dropped<'a>(alloc: Global, whole: &Checkpoint<'a>, end: &Checkpoint<'a>) -> Item<'a>
+    ensures { item_view result
+        ≡ keyed_item whole.now.rest false [] (plain_identifier []) [] end.now.rest }
+{
+    let mut item = Item::new(alloc, whole);
+    item.open_dropped_keyed(alloc, whole, end);
     item
 }
 
@@ -193,7 +210,7 @@ fn at_start<'a>(
         }
         TokenKind::Left => {
             let leading = text_between(alloc, lexer, whole, start)?;
-            Ok(State::Under(opened(alloc, whole, true, leading, end)))
+            Ok(State::Under(opened(alloc, whole, leading, end)))
         }
         _ => Err(LexFailure::Faulty(fault_at(start))),
     }
@@ -214,7 +231,7 @@ fn at_slashdash<'a>(
         TokenKind::Space | TokenKind::Newline => Ok(State::EntrySlashdash),
         TokenKind::String(_) => Ok(State::Dropped(Dropped::MayBeKey)),
         TokenKind::Value(_) => Ok(State::Dropped(Dropped::NoKey)),
-        TokenKind::Left => Ok(State::Under(opened(alloc, whole, false, empty(alloc), end))),
+        TokenKind::Left => Ok(State::Under(opened_dropped(alloc, whole, end))),
         _ => Err(LexFailure::Faulty(fault_at(start))),
     }
 }
@@ -260,15 +277,9 @@ fn at_dropped<'a>(
 {
     match kind {
         TokenKind::Space => Ok(State::Spaced(dropped)),
-        TokenKind::Equals if matches!(dropped, Dropped::MayBeKey) => Ok(State::Under(keyed(
-            alloc,
-            whole,
-            false,
-            empty(alloc),
-            KdlIdentifier::from(empty(alloc)),
-            empty(alloc),
-            end,
-        ))),
+        TokenKind::Equals if matches!(dropped, Dropped::MayBeKey) => {
+            Ok(State::Under(keyed_dropped(alloc, whole, end)))
+        }
         _ => Err(LexFailure::Faulty(fault_at(start))),
     }
 }
@@ -324,7 +335,7 @@ fn at_pending<'a>(
                 span,
             } = word;
             let name = sliced_identifier(alloc, value, &repr, span)?;
-            Ok(State::Under(keyed(alloc, whole, true, leading, name, before, end)))
+            Ok(State::Under(keyed(alloc, whole, leading, name, before, end)))
         }
         _ => Err(LexFailure::Faulty(fault_at(start))),
     }

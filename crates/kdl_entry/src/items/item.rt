@@ -2,14 +2,14 @@
 //!
 //! The rules of types, keys and values, both for an entry that is a whole text and for those of a document.
 
-ghost use Rattle.kdl_entry.specs.Internal.Building.{key_view, type_view, item_view, Did, Holds, Stays};
+ghost use Rattle.kdl_entry.specs.Internal.Building.{key_view, owner_view, type_view, item_view, Did, Holds, Stays};
 ghost use Rattle.kdl_entry.specs.Internal.Counted.{Sliced, ItemSliced};
 ghost use Rattle.kdl_lexer.specs.Internal.Handed.{kind_view};
 ghost use Rattle.kdl_entry.specs.Internal.Items as spec;
 ghost use Rattle.kdl_entry.specs.Internal.Items.{entry_at, identifier_at};
 ghost use Rattle.kdl_entry.specs.Places.{span_of, between};
 ghost use Rattle.kdl_value.specs.Tree.{value_tree, text_of};
-ghost use Rattle.kdl_entry.specs.Tree.{entry_tree, identifier_tree};
+ghost use Rattle.kdl_entry.specs.Tree.{entry_tree, identifier_tree, plain_identifier};
 ghost use Rattle.kdl_text.specs.Internal.Here.{Ahead};
 ghost use Rattle.kdl_text.specs.Spans.{bytes};
 ghost use Rattle.std.specs.Prelude.{◌≡◌, if◌then◌else◌, [], Some, None, true, false, IfOk, OnOk, option_map};
@@ -40,6 +40,13 @@ pub struct KeyParts {
     pub behind: String,
 }
 
+/// What a type precedes: the name of a node, or a value.
+#[derive(Clone, Copy)]
+pub enum Owner {
+    Name,
+    Value,
+}
+
 /// A stage of an item: after the `(` of its type, after the type's name, after its `)`, or after the `=` of a property.
 #[derive(Clone, Copy)]
 pub enum Stage {
@@ -54,8 +61,8 @@ pub enum Stage {
 pub struct Item<'a> {
     /// Whether the item is kept, and not slashdashed. No text is held of an item that is not kept.
     pub kept: bool,
-    /// Whether any value may follow, or only a string.
-    pub valued: bool,
+    /// What its type precedes. A name is a string, a value any value.
+    pub owner: Owner,
     pub stage: Stage,
     /// The text before the item.
     pub leading: String,
@@ -254,7 +261,7 @@ impl<'a> Item<'a> {
     {
         Item {
             kept: false,
-            valued: false,
+            owner: Owner::Name,
             stage: Stage::Opened,
             leading: empty(alloc),
             start: place.copied(),
@@ -273,20 +280,19 @@ impl<'a> Item<'a> {
     /// let start = lexer.checkpoint();
     /// let left = lexer.next(alloc)?; // `(`
     /// let mut item = Item::new(alloc, &start);
-    /// item.open(true, true, empty(alloc), &start, &lexer.checkpoint()); // the type's name is expected
+    /// item.open(Owner::Value, empty(alloc), &start, &lexer.checkpoint()); // the type's name is expected
     /// ```
     pub fn open(
         &mut self,
-        kept: bool,
-        valued: bool,
+        owner: Owner,
         leading: String,
         start: &Checkpoint<'a>,
         end: &Checkpoint<'a>,
     )
         ensures is { item_view self.new
             ≡ record (item_view self.old) {
-              kept = kept;
-              valued = valued;
+              kept = true;
+              valued = owner_view owner;
               stage = spec.opened;
               leading = text_of leading;
               start
@@ -297,10 +303,48 @@ impl<'a> Item<'a> {
         ensures start { self.new.start ≡ start.now }
         ensures from { self.new.from ≡ end.now }
     {
-        self.kept = kept;
-        self.valued = valued;
+        self.kept = true;
+        self.owner = owner;
         self.stage = Stage::Opened;
         self.leading = leading;
+        self.start = start.copied();
+        self.from = end.copied();
+        self.key = None;
+    }
+
+    /// Begins an item that does not count, after the `(` of its type.
+    ///
+    /// ```
+    /// let mut lexer = Lexer::new("(u8)1", Steps::new());
+    /// let start = lexer.checkpoint();
+    /// let left = lexer.next(alloc)?; // `(`
+    /// let mut item = Item::new(alloc, &start);
+    /// item.open_dropped(alloc, Owner::Value, &start, &lexer.checkpoint()); // the type's name is expected
+    /// ```
+    pub fn open_dropped(
+        &mut self,
+        alloc: Global,
+        owner: Owner,
+        start: &Checkpoint<'a>,
+        end: &Checkpoint<'a>,
+    )
+        ensures is { item_view self.new
+            ≡ record (item_view self.old) {
+              kept = false;
+              valued = owner_view owner;
+              stage = spec.opened;
+              leading = [];
+              start = start.now.rest;
+              from = end.now.rest;
+              key = None;
+            } }
+        ensures start { self.new.start ≡ start.now }
+        ensures from { self.new.from ≡ end.now }
+    {
+        self.kept = false;
+        self.owner = owner;
+        self.stage = Stage::Opened;
+        self.leading = empty(alloc);
         self.start = start.copied();
         self.from = end.copied();
         self.key = None;
@@ -314,11 +358,10 @@ impl<'a> Item<'a> {
     /// let tokens = (lexer.next(alloc)?, lexer.next(alloc)?); // `a` and `=`
     /// let name = KdlIdentifier::from_text(alloc, "a")?;
     /// let mut item = Item::new(alloc, &start);
-    /// item.open_keyed(true, empty(alloc), &start, name, empty(alloc), &lexer.checkpoint()); // its value is expected
+    /// item.open_keyed(empty(alloc), &start, name, empty(alloc), &lexer.checkpoint()); // its value is expected
     /// ```
     pub fn open_keyed(
         &mut self,
-        kept: bool,
         leading: String,
         start: &Checkpoint<'a>,
         name: KdlIdentifier,
@@ -327,7 +370,7 @@ impl<'a> Item<'a> {
     )
         ensures is { item_view self.new
             ≡ record (item_view self.old) {
-              kept = kept;
+              kept = true;
               valued = true;
               stage = spec.keyed;
               leading = text_of leading;
@@ -342,8 +385,8 @@ impl<'a> Item<'a> {
         ensures start { self.new.start ≡ start.now }
         ensures from { self.new.from ≡ end.now }
     {
-        self.kept = kept;
-        self.valued = true;
+        self.kept = true;
+        self.owner = Owner::Value;
         self.stage = Stage::Keyed;
         self.leading = leading;
         self.start = start.copied();
@@ -351,6 +394,47 @@ impl<'a> Item<'a> {
         self.key = None;
         self.name = name;
         self.before = before;
+    }
+
+    /// Begins a slashdashed property, after its `=`.
+    ///
+    /// ```
+    /// let mut lexer = Lexer::new("a=1", Steps::new());
+    /// let start = lexer.checkpoint();
+    /// let tokens = (lexer.next(alloc)?, lexer.next(alloc)?); // `a` and `=`
+    /// let mut item = Item::new(alloc, &start);
+    /// item.open_dropped_keyed(alloc, &start, &lexer.checkpoint()); // its value is expected
+    /// ```
+    pub fn open_dropped_keyed(
+        &mut self,
+        alloc: Global,
+        start: &Checkpoint<'a>,
+        end: &Checkpoint<'a>,
+    )
+        ensures is { item_view self.new
+            ≡ record (item_view self.old) {
+              kept = false;
+              valued = true;
+              stage = spec.keyed;
+              leading = [];
+              start = start.now.rest;
+              from = end.now.rest;
+              key = None;
+              name = plain_identifier [];
+              before = [];
+            } }
+        ensures start { self.new.start ≡ start.now }
+        ensures from { self.new.from ≡ end.now }
+    {
+        self.kept = false;
+        self.owner = Owner::Value;
+        self.stage = Stage::Keyed;
+        self.leading = empty(alloc);
+        self.start = start.copied();
+        self.from = end.copied();
+        self.key = None;
+        self.name = KdlIdentifier::from(empty(alloc));
+        self.before = empty(alloc);
     }
 
     /// Continues after the string that is the type's name.
@@ -625,7 +709,7 @@ impl<'a> Item<'a> {
                 let given = self.give_typed(alloc, lexer, KdlValue::String(value), start)?;
                 Ok(Some(given))
             }
-            TokenKind::Value(value) if self.valued => {
+            TokenKind::Value(value) if matches!(self.owner, Owner::Value) => {
                 let given = self.give_typed(alloc, lexer, value, start)?;
                 Ok(Some(given))
             }
@@ -667,7 +751,7 @@ impl<'a> Item<'a> {
             TokenKind::Left => {
                 self.key = self.key_parts(alloc, lexer, start)?;
                 self.stage = Stage::Opened;
-                self.valued = true;
+                self.owner = Owner::Value;
                 self.from = end.copied();
                 Ok(None)
             }

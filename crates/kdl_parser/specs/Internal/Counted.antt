@@ -2,7 +2,7 @@
 use Rattle.std.specs.Prelude.{ℕ, ◌+◌, ◌*◌, ◌≤◌, Bool, true, false, Option, Some, None, length, Result, Ok, Err}
 use Rattle.kdl_text.specs.Internal.Here.{Here}
 use Rattle.kdl_text.specs.Spans.{bytes, raise}
-use Rattle.kdl_entry.specs.Internal.Building.{stage_view}
+use Rattle.kdl_entry.specs.Internal.Building.{owner_view, stage_view}
 use Rattle.kdl_entry.specs.Internal.Counted.{Sliced}
 use Rattle.kdl_lexer.specs.declared.lexer.LexFailure.{LexFailure}
 use Rattle.kdl_lexer.specs.declared.lexer.LexFailure.TheVariants.{Faulty, Memory}
@@ -29,7 +29,7 @@ unsliced_at _ kept entry o from item = from
 
 -- the bytes before the end of the text that were not sliced yet
 abbrev pub unsliced : {N : Type 0} → Builder N → ℕ
-unsliced b = unsliced_at b.phase b.item.kept (valued_at (stage_view b.item.stage) b.item.valued) b.under (bytes b.from.rest) (bytes b.item.from.rest)
+unsliced b = unsliced_at b.phase b.item.kept (valued_at (stage_view b.item.stage) (owner_view b.item.owner)) b.under (bytes b.from.rest) (bytes b.item.from.rest)
 
 -- of the m bytes before the end of the text that were not sliced yet, all but the last n may have been; if a token is refused, all may have been
 abbrev pub SlicedOn : {A : Type 0} → Result A LexFailure → ℕ → ℕ → Here → Here → Type 0

@@ -19,7 +19,7 @@ ghost use Rattle.std.specs.Prelude.{◌≡◌, [], ◌∷◌, ◌++◌, Some, No
 
 use super::{Kept, Slot, Under, Waiting, WaitingWord};
 use crate::node_parts::{DocumentParts, NodeParts, ParsedNode};
-use kdl_entry::items::item::{Given, Item, Stage, empty, entry_from, span_at, text_between};
+use kdl_entry::items::item::{Given, Item, Owner, Stage, empty, entry_from, span_at, text_between};
 use kdl_entry::{KdlEntry, KdlValue};
 use kdl_lexer::Lexer;
 use kdl_text::cursor::Checkpoint;
@@ -370,6 +370,6 @@ pub(super) fn is_entry(item: &Item) -> bool
 {
     match item.stage {
         Stage::Keyed => true,
-        Stage::Opened | Stage::Named | Stage::Closed => item.valued,
+        Stage::Opened | Stage::Named | Stage::Closed => matches!(item.owner, Owner::Value),
     }
 }

@@ -19,9 +19,9 @@ use super::content::{
 use super::{Builder, Frame, Phase, Slot, Under, Waiting, WaitingWord};
 use crate::node_parts::ParsedNode;
 use kdl_entry::items::item::{
-    Given, empty, identifier_between, piece_between, span_at, text_between,
+    Given, Owner, empty, identifier_between, piece_between, span_at, text_between,
 };
-use kdl_entry::{KdlIdentifier, KdlValue, sliced_identifier};
+use kdl_entry::{KdlValue, sliced_identifier};
 use kdl_lexer::{LexFailure, Lexer, TokenKind, fault_at};
 use kdl_text::cursor::Checkpoint;
 use std::alloc::{AllocError, Global};
@@ -409,7 +409,7 @@ impl<'a, N: ParsedNode> Builder<'a, N> {
                 let span = span_at(&self.whole, &word_start, &self.from);
                 let name = sliced_identifier(alloc, value, &repr, span)?;
                 self.item
-                    .open_keyed(true, leading, &word_start, name, before, end);
+                    .open_keyed(leading, &word_start, name, before, end);
                 self.phase = Phase::InItem;
                 Ok(())
             }
@@ -428,9 +428,7 @@ impl<'a, N: ParsedNode> Builder<'a, N> {
         ensures whole { self.new.whole ≡ self.old.whole }
         ensures unsliced { unsliced self.new ≡ bytes self.old.from.rest }
     {
-        let name = KdlIdentifier::from(empty(alloc));
-        self.item
-            .open_keyed(false, empty(alloc), start, name, empty(alloc), end);
+        self.item.open_dropped_keyed(alloc, start, end);
         self.phase = Phase::InItem;
     }
 
@@ -455,10 +453,10 @@ impl<'a, N: ParsedNode> Builder<'a, N> {
         self.phase = Phase::InItem;
         if counts {
             let leading = text_between(alloc, lexer, &self.from, start)?;
-            self.item.open(true, false, leading, start, end);
+            self.item.open(Owner::Name, leading, start, end);
             return Ok(());
         }
-        self.item.open(false, false, empty(alloc), start, end);
+        self.item.open_dropped(alloc, Owner::Name, start, end);
         Ok(())
     }
 
@@ -484,10 +482,10 @@ impl<'a, N: ParsedNode> Builder<'a, N> {
         self.phase = Phase::InItem;
         if counts && self.under.is_some() {
             let leading = text_between(alloc, lexer, &self.from, start)?;
-            self.item.open(true, true, leading, start, end);
+            self.item.open(Owner::Value, leading, start, end);
             return Ok(());
         }
-        self.item.open(false, true, empty(alloc), start, end);
+        self.item.open_dropped(alloc, Owner::Value, start, end);
         Ok(())
     }
 
