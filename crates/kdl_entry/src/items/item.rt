@@ -312,7 +312,7 @@ impl<'a> Item<'a> {
         self.key = None;
     }
 
-    /// Begins an item that does not count, after the `(` of its type.
+    /// Begins a slashdashed item, after the `(` of its type.
     ///
     /// ```
     /// let mut lexer = Lexer::new("(u8)1", Steps::new());
