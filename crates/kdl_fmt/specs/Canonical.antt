@@ -1,4 +1,4 @@
--- The canonical text of what documents and nodes say, whatever their form.
+-- The canonical text of the data of documents and nodes, whatever their form.
 use Rattle.std.specs.Prelude.{◌≡◌, ℕ, ◌+◌, true, [], ◌∷◌, ◌++◌, List, Option, Some, None}
 use Rattle.std.specs.List.{repeat}
 use Rattle.kdl_text.specs.Chars.{Text}
@@ -25,7 +25,7 @@ abbrev pub canonical_entries : List Entry → Text
 canonical_entries [] = []
 canonical_entries (e ∷ es) = (32 ∷ canonical_key e.key ++ canonical_type e.ty ++ print_value e.value) ++ canonical_entries es
 
--- a newline where there are no nodes
+-- a newline if there are no nodes
 abbrev pub newline_if_none : Nodes → Text
 newline_if_none none = 10 ∷ []
 newline_if_none (first n ns) = []
@@ -43,15 +43,15 @@ abbrev mutual
   canonical_nodes indent level none = []
   canonical_nodes indent level (first n ns) = canonical_node indent level n ++ canonical_nodes indent level ns
 
--- of a document, or of a block: its nodes, or a newline where there are none
+-- the canonical text of a document or of a block: its nodes, or a newline if there are none
 abbrev pub canonical : Text → ℕ → Nodes → Text
 canonical indent level ns = canonical_nodes indent level ns ++ newline_if_none ns
 
--- with four spaces for each level, from level 0 on
+-- the canonical text from level 0 on, with four spaces for each level
 abbrev pub canonical_text : Nodes → Text
 canonical_text ns = canonical without_comments.indent 0 ns
 
--- the canonical text of these data is a document with them and with no others, and no other data have the same canonical text
+-- the canonical text of the data is a document with these data only, and no other data have the same canonical text
 pub record Canonical (indent : Text) (level : ℕ) (x : Nodes) : Type 0 where
   pub derived : IsDocument true (canonical indent level x) x
   pub alone : (y : Nodes) → IsDocument true (canonical indent level x) y → y ≡ x

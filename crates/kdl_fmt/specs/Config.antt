@@ -1,4 +1,4 @@
--- How to lay out a document.
+-- The configuration of layout.
 use Rattle.std.specs.Prelude.{◌≡◌, ℕ, Bool, true, false, ◌∷◌, []}
 use Rattle.std.specs.List.{list_all, repeat}
 use Rattle.std.specs.Str.{chars}
@@ -6,7 +6,8 @@ use Rattle.kdl_text.specs.Chars.{Text, is_space}
 use Rattle.kdl_fmt.specs.declared.config.FormatConfig.{FormatConfig}
 use Rattle.kdl_fmt.specs.declared.config.FormatConfigBuilder.{FormatConfigBuilder}
 
--- the level of the outermost nodes, the text that comes before a node once for each level, whether comments are dropped, and whether all entries keep their form
+-- the level of the outermost nodes, the text before a node once for each level, whether comments are removed, and
+-- whether all entries keep their form
 pub record Settings : Type 0 where
   pub indent_level : ℕ
   pub indent : Text
@@ -17,19 +18,19 @@ pub record Settings : Type 0 where
 abbrev pub defaults : Settings
 defaults = record { indent_level = 0; indent = 32 ∷ 32 ∷ 32 ∷ 32 ∷ []; no_comments = false; entry_autoformate_keep = false }
 
--- the same without comments
+-- the defaults, but comments are removed
 abbrev pub without_comments : Settings
 without_comments = record defaults { no_comments = true }
 
--- the indent is of spaces
+-- the indent contains only spaces
 abbrev pub IndentsBySpaces : Settings → Type 0
 IndentsBySpaces s = list_all is_space s.indent ≡ true
 
--- comments are left out, and entries are not flagged
+-- comments are removed, and layout flags no entries
 abbrev pub IsPlain : Settings → Type 0
 IsPlain s = (s.no_comments ≡ true) × (s.entry_autoformate_keep ≡ false)
 
--- what comes before a node at a level
+-- the indentation of a node at a level
 abbrev pub indentation : Settings → ℕ → Text
 indentation s level = repeat level s.indent
 

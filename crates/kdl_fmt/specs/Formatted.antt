@@ -1,4 +1,4 @@
--- What layout makes of a document where comments are left out: everything is as it was, but formats and spellings.
+-- The result of layout if comments are removed: only formats and spellings change.
 use Rattle.std.specs.Prelude.{◌≡◌, ℕ, ◌+◌, ◌<◌, ◌^◌, Bool, true, false, List, [], ◌∷◌, ◌++◌, map, Option, Some, None, option_map}
 use Rattle.kdl_text.specs.Chars.{Text}
 use Rattle.kdl_entry.specs.Tree.{Entry, unspelled, with_keep, autoformatted, cleared}
@@ -8,12 +8,12 @@ use Rattle.kdl_fmt.specs.Config.{Settings, indentation}
 use Rattle.kdl_fmt.specs.Kept.{is_kept_format}
 use Rattle.kdl_fmt.specs.Plain.{plain_line}
 
--- the entry, flagged to keep its form where it has a format
+-- the entry, flagged to keep its form if it has a format
 abbrev pub with_keep_if : Bool → Entry → Entry
 with_keep_if false e = e
 with_keep_if true e = record e { format = option_map with_keep e.format }
 
--- an entry that is laid out
+-- the entry, laid out
 abbrev pub formatted_entry : Settings → Entry → Entry
 formatted_entry s e = autoformatted (with_keep_if s.entry_autoformate_keep e)
 
@@ -27,20 +27,20 @@ abbrev pub or_empty_document : Option DocumentFormat → DocumentFormat
 or_empty_document None = record { leading = []; trailing = [] }
 or_empty_document (Some f) = f
 
--- a newline where there are no nodes
+-- a newline if there are no nodes
 abbrev pub newline_if_none : Nodes → Text
 newline_if_none none = 10 ∷ []
 newline_if_none (first n ns) = []
 
--- the texts around nodes
+-- the texts around the nodes of a document
 abbrev pub content_format : Nodes → DocumentFormat
 content_format ns = record { leading = []; trailing = newline_if_none ns }
 
--- the same between braces: a newline after the first one, and the indentation of the node before the second one
+-- the same between braces: a newline after the `{`, and the indentation of the node before the `}`
 abbrev pub in_braces : Text → DocumentFormat → DocumentFormat
 in_braces before f = record { leading = 10 ∷ f.leading; trailing = f.trailing ++ before }
 
--- a node but for its children
+-- a node without its children
 abbrev pub formatted_head : Settings → ℕ → Head → Head
 formatted_head s level h = record h {
   ty = option_map unspelled h.ty;
@@ -49,6 +49,7 @@ formatted_head s level h = record h {
   format = Some (plain_line (indentation s level));
 }
 
+-- the node, laid out at the level
 abbrev mutual
   pub formatted_node : Settings → ℕ → Node → Node
   formatted_node s level (node h k) = node (formatted_head s level h) (formatted_children s level k)
@@ -62,11 +63,11 @@ abbrev mutual
   formatted_nodes s level none = none
   formatted_nodes s level (first n ns) = first (formatted_node s level n) (formatted_nodes s level ns)
 
--- a document whose nodes are at a level
+-- the document, laid out with its nodes at the level
 abbrev pub formatted_document : Settings → ℕ → Document → Document
 formatted_document s level (document f span ns) = document (Some (content_format ns)) span (formatted_nodes s level ns)
 
--- where the node is at the level, the nodes in each block inside it are at levels below 2 ^ 64
+-- if the node is at the level, the nodes in each block inside it are at levels below 2 ^ 64
 abbrev mutual
   pub NodeLevelsFit : ℕ → Node → Type 0
   NodeLevelsFit level (node h k) = ChildrenLevelsFit level k
@@ -79,11 +80,11 @@ abbrev mutual
   NodesLevelsFit level none = Unit {0}
   NodesLevelsFit level (first n ns) = NodeLevelsFit level n × NodesLevelsFit level ns
 
--- the same, where the nodes of the document are at the level
+-- the same, if the nodes of the document are at the level
 abbrev pub DocumentLevelsFit : ℕ → Document → Type 0
 DocumentLevelsFit level (document f span ns) = NodesLevelsFit level ns
 
--- what stays: all but formats and spellings
+-- what layout does not change: everything except formats and spellings
 abbrev pub bare_head : Head → Head
 bare_head h = record h { ty = option_map unspelled h.ty; name = unspelled h.name; entries = map cleared h.entries; format = None }
 

@@ -1,4 +1,4 @@
--- What layout keeps of the comments in a place, and of what a slashdash drops there.
+-- What layout keeps of the comments and slashdashed pieces in a place.
 use Rattle.std.specs.Prelude.{◌≡◌, ℕ, Bool, true, false, ◌||◌, List, [], ◌∷◌, ◌==◌, if◌then◌else◌, Option, Some, None}
 use Rattle.kdl_text.specs.Chars.{Text}
 use Rattle.kdl_text.specs.Trivia.{LineComment}
@@ -8,25 +8,25 @@ use Rattle.kdl_comments.specs.Items.{Item, line_end, GapItems, Place, before_ent
 use Rattle.kdl_comments.specs.Written.{lines, tail}
 use Rattle.kdl_fmt.specs.Config.{Settings, indentation}
 
--- the items that a text has, written in some way; nothing where it has none, since it can't be in the place
+-- the items of a text, written in some way; nothing if the text can't be in the place
 pub data Written (Has : List Item → Type 0) (write : List Item → Text) : Text → Type 0 where
   items : {is : List Item} → Has is → Written Has write (write is)
   none : ((is : List Item) → Has is → ⊥) → Written Has write []
 
--- nothing where comments are left out
+-- the same, or nothing if comments are removed
 abbrev pub WrittenUnless : Bool → (List Item → Type 0) → (List Item → Text) → Text → Type 0
 WrittenUnless true Has write t = t ≡ []
 WrittenUnless false Has write t = Written Has write t
 
--- kept of a text between nodes at a level: a line for each item
+-- what is kept of a text between nodes at a level: a line for each item
 abbrev pub KeptLines : Settings → ℕ → Text → Text → Type 0
 KeptLines s level place t = WrittenUnless s.no_comments (GapItems place) (lines (indentation s level)) t
 
--- kept of a text in a node: each item after a space
+-- what is kept of a text in a node: each item after a space
 abbrev pub KeptTail : Settings → Place → Text → Text → Type 0
 KeptTail s p place t = WrittenUnless s.no_comments (PlaceItems p place) tail t
 
--- kept of the text before the block: where there is none, nothing
+-- what is kept of the text before the block: nothing if there is no block
 abbrev pub KeptBeforeBlock : Settings → Bool → Text → Text → Type 0
 KeptBeforeBlock s false place t = t ≡ []
 KeptBeforeBlock s true place t = KeptTail s before_block place t
@@ -36,17 +36,17 @@ abbrev pub last_place : Bool → Place
 last_place false = before_block
 last_place true = behind_block
 
--- a terminator that is a line comment comes after a space, without its newline
+-- a terminator that is a line comment is written after a space, without its newline
 pub data WrittenEnd (terminator : Text) : Text → Text → Type 0 where
   comment : LineComment terminator [] → WrittenEnd terminator (32 ∷ []) (between terminator (line_end terminator))
   other : (LineComment terminator [] → ⊥) → WrittenEnd terminator [] []
 
--- kept of a terminator: a space and a line comment, or neither
+-- what is kept of a terminator: a space and a line comment, or neither
 abbrev pub KeptEnd : Bool → Text → Text → Text → Type 0
 KeptEnd true terminator before end = (before ≡ []) × (end ≡ [])
 KeptEnd false terminator before end = WrittenEnd terminator before end
 
--- a text without the U+FEFF that begins it
+-- a text without the U+FEFF at its start, if there is one
 abbrev pub without_bom : Text → Text
 without_bom [] = []
 without_bom (c ∷ s) = if c == 0xFEFF then s else c ∷ s
@@ -61,6 +61,6 @@ abbrev pub is_kept_format : Option EntryFormat → Bool
 is_kept_format None = false
 is_kept_format (Some f) = f.autoformat_keep
 
--- kept of the text before an entry: of one that keeps its form nothing more
+-- what is kept of the text before an entry: nothing if the entry keeps its form
 abbrev pub KeptBefore : Settings → Option EntryFormat → Text → Type 0
 KeptBefore s f t = WrittenUnless (is_kept_format f || s.no_comments) (PlaceItems (before_entry false) (entry_leading f)) tail t

@@ -1,20 +1,20 @@
--- How many blank lines are before a node, or before an item between nodes.
+-- The number of blank lines before a node, or before an item between nodes.
 pub mod Blank
--- The canonical text of what documents and nodes say, whatever their form.
+-- The canonical text of the data of documents and nodes, whatever their form.
 pub mod Canonical
--- The comments in a document, and what a slashdash drops there, in the order of printing.
+-- The comments and slashdashed pieces in a document, in the order of printing.
 pub mod Comments
--- How to lay out a document.
+-- The configuration of layout.
 pub mod Config
--- What layout makes of a document where comments are left out: everything is as it was, but formats and spellings.
+-- The result of layout if comments are removed: only formats and spellings change.
 pub mod Formatted
--- What layout keeps of the comments in a place, and of what a slashdash drops there.
+-- What layout keeps of the comments and slashdashed pieces in a place.
 pub mod Kept
--- The texts around nodes and documents that keep no comments.
+-- The texts around nodes and documents if no comments are kept.
 pub mod Plain
--- What layout makes of a document where blank lines stay.
+-- The result of layout if blank lines are kept.
 pub mod Spaced
 -- Data that memory can hold.
 pub mod WellFormed
--- What layout makes of a document, with the comments that it keeps.
+-- The result of layout, with the comments that it keeps.
 pub mod WithComments

@@ -1,9 +1,9 @@
--- The texts around nodes and documents that keep no comments.
+-- The texts around nodes and documents if no comments are kept.
 use Rattle.std.specs.Prelude.{Bool, true, false, [], ◌∷◌}
 use Rattle.kdl_text.specs.Chars.{Text}
 use Rattle.kdl_grammar.specs.Tree.{NodeFormat}
 
--- a node on a line of its own: a text before it, a space before its children, a newline after it
+-- the texts around a node on its own line: a text before it, a space before its children, a newline after it
 abbrev pub plain_line : Text → NodeFormat
 plain_line before = record {
   leading = before;

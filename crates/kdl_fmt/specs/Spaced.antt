@@ -1,4 +1,4 @@
--- What layout makes of a document where blank lines stay: no more than a number of them before each thing that it writes on a line of its own.
+-- The result of layout if blank lines are kept: at most a number of them before each thing on its own line.
 use Rattle.std.specs.Prelude.{◌≡◌, ℕ, zero, suc, ◌+◌, ◌<◌, ◌^◌, Bool, List, [], ◌++◌, if◌then◌else◌, Option, Some, option_map}
 use Rattle.kdl_text.specs.Chars.{Text}
 use Rattle.kdl_entry.specs.Tree.{unspelled}
@@ -11,7 +11,7 @@ use Rattle.kdl_fmt.specs.Kept.{KeptLines, KeptTail, KeptBeforeBlock, last_place,
 use Rattle.kdl_fmt.specs.WithComments.{AreFormattedEntries, NodeTexts, line_of, content_of, has_block}
 use Rattle.kdl_fmt.specs.declared.blank.Before.{Before}
 
--- what comes before a text between nodes, and after it; a text that can't be in the place counts nothing
+-- what comes before the thing after a text between nodes; a text that can't be in the place changes nothing
 pub data Passes (left_out : Bool) (b : Before) (place : Text) : Before → Type 0 where
   items : {is : List Item} → GapItems place is → Passes left_out b place (past_items left_out b place is)
   no_gap : ((is : List Item) → GapItems place is → ⊥) → Passes left_out b place b
@@ -21,16 +21,17 @@ pub data Spaces (number : ℕ) (s : Settings) (level : ℕ) (b : Before) (place 
   items : {is : List Item} → GapItems place is → Spaces number s level b place (if s.no_comments then [] else spaced_lines number (indentation s level) b place is) (past_items s.no_comments b place is)
   no_gap : ((is : List Item) → GapItems place is → ⊥) → Spaces number s level b place [] b
 
--- where no blank lines stay nothing is counted
+-- if no blank lines are kept, nothing is counted
 abbrev pub PassesText : ℕ → Settings → Before → Text → Before → Type 0
 PassesText zero s b place b' = Unit {0}
 PassesText (suc number) s b place b' = Passes s.no_comments b place b'
 
+-- what is kept of a text between nodes at a level, with the blank lines that are kept
 abbrev pub SpacedLines : ℕ → Settings → ℕ → Before → Text → Text → Before → Type 0
 SpacedLines zero s level b place t b' = KeptLines s level place t
 SpacedLines (suc number) s level b place t b' = Spaces (suc number) s level b place t b'
 
--- what is kept of the texts around the parts of a node, and the blank lines before it
+-- what is kept of the texts around the parts of a node, and the blank lines before the node
 pub record SpacesTexts (number : ℕ) (s : Settings) (level : ℕ) (has_block : Bool) (b : Before) (f : NodeFormat) (k : NodeTexts) : Type 0 where
   pub lines : Text
   pub at_node : Before
@@ -42,10 +43,11 @@ pub record SpacesTexts (number : ℕ) (s : Settings) (level : ℕ) (has_block : 
   pub end : KeptEnd s.no_comments f.terminator k.space k.comment
   pub behind : SpacedLines number s level (past_node f.terminator) f.trailing k.behind behind_it
 
+-- the texts around the parts of a node on its own line, at a level
 abbrev pub IsSpacedLine : ℕ → Settings → ℕ → Bool → Before → NodeFormat → Option NodeFormat → Type 0
 IsSpacedLine number s level has_block b f g = (k : NodeTexts) × SpacesTexts number s level has_block b f k × (g ≡ Some (line_of (indentation s level) k))
 
--- a node but for its children
+-- a node without its children
 pub record IsSpacedHead (number : ℕ) (s : Settings) (level : ℕ) (has_block : Bool) (b : Before) (h h' : Head) : Type 0 where
   pub ty : h'.ty ≡ option_map unspelled h.ty
   pub name : h'.name ≡ unspelled h.name
@@ -53,20 +55,21 @@ pub record IsSpacedHead (number : ℕ) (s : Settings) (level : ℕ) (has_block :
   pub format : IsSpacedLine number s level has_block b (or_empty h.format) h'.format
   pub span : h'.span ≡ h.span
 
--- what comes before the thing that follows a node
+-- what comes before the thing after a node
 abbrev pub PassesFormat : ℕ → Settings → NodeFormat → Before → Type 0
 PassesFormat number s f b = PassesText number s (past_node f.terminator) f.trailing b
 
 abbrev pub PassesNode : ℕ → Settings → Node → Before → Type 0
 PassesNode number s (node h k) b = PassesFormat number s (or_empty h.format) b
 
--- and what comes before the thing that follows all nodes
+-- what comes before the thing after all nodes
 abbrev pub PassesNodes : ℕ → Settings → Before → Nodes → Before → Type 0
 PassesNodes number s b none e = e ≡ b
 PassesNodes number s b (first n none) e = PassesNode number s n e
 PassesNodes number s b (first n (first m ns)) e = PassesNodes number s b (first m ns) e
 
--- what is kept of the texts around the nodes of a document, what comes before the first one, and what comes before the text after the last one
+-- what is kept of the texts around the nodes of a document, what comes before the first node, and what comes before the
+-- text after the last one
 pub record SpacesContent (number : ℕ) (s : Settings) (level : ℕ) (ns : Nodes) (f : DocumentFormat) (b : Before) (before behind : Text) : Type 0 where
   pub last : Before
   pub behind_it : Before
@@ -74,6 +77,7 @@ pub record SpacesContent (number : ℕ) (s : Settings) (level : ℕ) (ns : Nodes
   pub passes : PassesNodes number s b ns last
   pub trailing : SpacedLines number s level last f.trailing behind behind_it
 
+-- the second texts are those around the nodes of a document that is laid out at a level
 abbrev pub IsSpacedContent : ℕ → Settings → ℕ → Nodes → DocumentFormat → Before → Option DocumentFormat → Type 0
 IsSpacedContent number s level ns f b g = (before behind : Text) × SpacesContent number s level ns f b before behind × (g ≡ Some (content_of ns before behind))
 

@@ -6,7 +6,7 @@ use Rattle.kdl_value.specs.WellFormed.{IsWellFormed}
 use Rattle.kdl_entry.specs.Data.{Entry}
 use Rattle.kdl_grammar.specs.Data.{Node, node, Children, no_children, children, Nodes, none, first}
 
--- a text, where there is one, is of Unicode scalar values
+-- the text, if there is one, contains only Unicode scalar values
 abbrev pub AreScalars : Option Text → Type 0
 AreScalars o = IfSome o (λ s. list_all is_scalar s ≡ true)
 
@@ -14,11 +14,12 @@ AreScalars o = IfSome o (λ s. list_all is_scalar s ≡ true)
 abbrev pub IsWellFormedEntry : Entry → Type 0
 IsWellFormedEntry e = AreScalars e.key × AreScalars e.ty × IsWellFormed e.value
 
+-- entries whose keys, types and values memory can hold
 abbrev pub AreWellFormedEntries : List Entry → Type 0
 AreWellFormedEntries [] = Unit {0}
 AreWellFormedEntries (e ∷ es) = IsWellFormedEntry e × AreWellFormedEntries es
 
--- nodes all of whose texts and values, at every depth, memory can hold
+-- nodes whose texts and values memory can hold, at every depth
 abbrev mutual
   pub IsWellFormedNode : Node → Type 0
   IsWellFormedNode (node ty name es k) = AreScalars ty × (list_all is_scalar name ≡ true) × AreWellFormedEntries es × AreWellFormedChildren k

@@ -1,4 +1,4 @@
--- What layout makes of a document, with the comments that it keeps.
+-- The result of layout, with the comments that it keeps.
 use Rattle.std.specs.Prelude.{◌≡◌, ℕ, ◌+◌, ◌<◌, ◌^◌, Bool, true, false, List, [], ◌∷◌, ◌++◌, Option, Some, option_map}
 use Rattle.kdl_text.specs.Chars.{Text}
 use Rattle.kdl_value.specs.Print.{print_value}
@@ -8,7 +8,7 @@ use Rattle.kdl_fmt.specs.Config.{Settings, indentation}
 use Rattle.kdl_fmt.specs.Formatted.{with_keep_if, or_empty, or_empty_document, newline_if_none, in_braces}
 use Rattle.kdl_fmt.specs.Kept.{KeptLines, KeptTail, KeptBeforeBlock, last_place, KeptEnd, without_bom, KeptBefore}
 
--- an entry after what is kept of the text before it, where something is
+-- an entry after what is kept of the text before it, if anything is kept
 abbrev pub behind : Text → Entry → Entry
 behind [] e = e
 behind (c ∷ s) e = record e { format = Some (record empty_format { leading = (c ∷ s) ++ (32 ∷ []); value_repr = print_value e.value }) }
@@ -17,6 +17,7 @@ behind (c ∷ s) e = record e { format = Some (record empty_format { leading = (
 abbrev pub IsFormattedEntry : Settings → Entry → Entry → Type 0
 IsFormattedEntry s e e' = (t : Text) × KeptBefore s (with_keep_if s.entry_autoformate_keep e).format t × (e' ≡ behind t (autoformatted (with_keep_if s.entry_autoformate_keep e)))
 
+-- the second entries are the first ones, laid out
 abbrev pub AreFormattedEntries : Settings → List Entry → List Entry → Type 0
 AreFormattedEntries s [] [] = Unit {0}
 AreFormattedEntries s (e ∷ es) (e' ∷ es') = IsFormattedEntry s e e' × AreFormattedEntries s es es'
@@ -31,6 +32,7 @@ pub record NodeTexts : Type 0 where
   pub comment : Text
   pub behind : Text
 
+-- each of these texts is what is kept of its place in the format
 pub record KeepsTexts (s : Settings) (level : ℕ) (has_block : Bool) (f : NodeFormat) (k : NodeTexts) : Type 0 where
   pub before : KeptLines s level f.leading k.before
   pub before_block : KeptBeforeBlock s has_block f.before_children k.before_block
@@ -51,7 +53,7 @@ line_of before k = record {
   trailing = k.behind;
 }
 
--- the texts around the parts of a node on a line of its own, at a level
+-- the texts around the parts of a node on its own line, at a level
 abbrev pub IsLine : Settings → ℕ → Bool → NodeFormat → Option NodeFormat → Type 0
 IsLine s level has_block f g = (k : NodeTexts) × KeepsTexts s level has_block f k × (g ≡ Some (line_of (indentation s level) k))
 
@@ -59,11 +61,12 @@ IsLine s level has_block f g = (k : NodeTexts) × KeepsTexts s level has_block f
 abbrev pub content_of : Nodes → Text → Text → DocumentFormat
 content_of ns before behind = record { leading = before; trailing = behind ++ newline_if_none ns }
 
--- what is kept of them
+-- what is kept of the texts around the nodes of a document
 pub record ContentTexts (s : Settings) (level : ℕ) (f : DocumentFormat) (before behind : Text) : Type 0 where
   pub leading : KeptLines s level (without_bom f.leading) before
   pub trailing : KeptLines s level f.trailing behind
 
+-- the second texts are those around the nodes of a document that is laid out at a level
 abbrev pub IsContent : Settings → ℕ → Nodes → DocumentFormat → Option DocumentFormat → Type 0
 IsContent s level ns f g = (a b : Text) × ContentTexts s level f a b × (g ≡ Some (content_of ns a b))
 
@@ -71,7 +74,7 @@ IsContent s level ns f g = (a b : Text) × ContentTexts s level f a b × (g ≡ 
 abbrev pub IsBraced : Settings → ℕ → Nodes → DocumentFormat → Option DocumentFormat → Type 0
 IsBraced s level ns f g = (a b : Text) × ContentTexts s (level + 1) f a b × (g ≡ Some (in_braces (indentation s level) (content_of ns a b)))
 
--- a node but for its children
+-- a node without its children
 pub record IsFormattedHead (s : Settings) (level : ℕ) (has_block : Bool) (h h' : Head) : Type 0 where
   pub ty : h'.ty ≡ option_map unspelled h.ty
   pub name : h'.name ≡ unspelled h.name
@@ -79,6 +82,7 @@ pub record IsFormattedHead (s : Settings) (level : ℕ) (has_block : Bool) (h h'
   pub format : IsLine s level has_block (or_empty h.format) h'.format
   pub span : h'.span ≡ h.span
 
+-- whether the node has a block
 abbrev pub has_block : Children → Bool
 has_block no_children = false
 has_block (children d) = true

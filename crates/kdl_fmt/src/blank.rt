@@ -1,4 +1,4 @@
-//! The blank lines between nodes and comments: how many a text has, and how many stay.
+//! The blank lines between nodes and comments: how many a text has, and how many are kept.
 
 ghost use Rattle.kdl_fmt.specs.Blank.{after_char, blank_lines, counts, empty_lines, from_item, goes_on, last_after_item, last_before, last_in, last_of, newlines, one_if, past_item, past_items, past_node, read, spaced_lines};
 ghost use Rattle.kdl_comments.specs.Internal.Reading.{item_view, items_view};
@@ -14,28 +14,29 @@ use kdl_text::chars::is_newline_char;
 use std::alloc::AllocError;
 use std::slice;
 
-/// What comes last in the texts between two things, as far as it says whether the next newline counts.
+/// What comes last in the text between two things. Determines whether the next newline counts.
 #[derive(Clone, Copy)]
 pub enum Last {
-    /// Anything else: the next newline counts.
+    /// Anything else. The next newline counts.
     Other,
-    /// A CR: an LF after it is part of the same newline.
+    /// A CR. An LF after it is part of the same newline.
     Cr,
-    /// An escline that goes on: its `\`, and spaces and block comments. The next newline ends it, and does not count.
+    /// An escline that has not ended: its `\`, then spaces and block comments. The next newline ends it, and does not
+    /// count.
     Escline,
 }
 
 /// What comes before a node, or before an item between nodes, in the same document or block.
 #[derive(Clone, Copy)]
 pub enum Before {
-    /// Nothing but spaces, newlines and items that are left out; and what comes last.
+    /// Only spaces, newlines and items that are removed. The field is what comes last.
     Nothing(Last),
-    /// Another node or item. The first number is the most blank lines in the runs that are over since, the second one
-    /// the newlines so far in the run that goes on; and what comes last.
+    /// Another node or item. The first field is the greatest number of blank lines in a run of newlines that has ended
+    /// since. The second is the number of newlines so far in the current run. The third is what comes last.
     Thing(usize, usize, Last),
 }
 
-/// The first character, and the text after it.
+/// Returns the first character and the text after it, or `None` if the text is empty.
 fn next_char(text: &str) -> Option<(char, &str)>
     ensures { MatchOption result (chars text.now ≡ [])
         (λ (c, rest). chars text.now ≡ c ∷ chars rest.now) }
@@ -47,7 +48,7 @@ fn next_char(text: &str) -> Option<(char, &str)>
     }
 }
 
-/// The same text: a loop that goes on with a call's result knows that it is UTF-8.
+/// Returns the same text. A loop that continues with the result of a call knows that it is UTF-8.
 fn same(text: &str) -> &str
     ensures { chars result.now ≡ chars text.now }
 {
@@ -55,7 +56,7 @@ fn same(text: &str) -> &str
 }
 
 impl Last {
-    /// Whether the newline `c` counts: it is not that of an escline, and not the LF of a CR LF.
+    /// Returns whether the newline `c` counts: it does not end an escline, and is not the LF of a CR LF.
     fn counts(self, c: char) -> bool
         ensures { result ≡ counts self c }
     {
@@ -66,7 +67,7 @@ impl Last {
         }
     }
 
-    /// What comes last after a space or a block comment: an escline goes on.
+    /// Returns what comes last after a space or a block comment. These do not end an escline.
     fn goes_on(self) -> Last
         ensures { result ≡ goes_on self }
     {
@@ -76,7 +77,7 @@ impl Last {
         }
     }
 
-    /// What comes last after the character.
+    /// Returns what comes last after the character.
     fn after_char(self, c: char) -> Last
         ensures { result ≡ after_char self c }
     {
@@ -91,7 +92,8 @@ impl Last {
         }
     }
 
-    /// What comes last after the item. In an escline a piece is a block comment, and a line comment ends the escline.
+    /// Returns what comes last after the item. In an escline, a piece is a block comment, and a line comment ends the
+    /// escline.
     fn after_item(self, item: Item) -> Last
         ensures { result ≡ last_after_item (item_view item.entry) self }
     {
@@ -102,7 +104,7 @@ impl Last {
     }
 }
 
-/// One newline more, where it counts.
+/// Returns the count, plus one if the newline `c` counts.
 fn one_more(count: usize, last: Last, c: char) -> Result<usize, AllocError>
     ensures { IfOk result (λ n. n ≡ count + one_if (counts last c)) }
 {
@@ -115,8 +117,8 @@ fn one_more(count: usize, last: Last, c: char) -> Result<usize, AllocError>
     }
 }
 
-/// Adds the newlines in a text between nodes up to its first item. Returns what comes last there, and the text from there
-/// on.
+/// Adds the newlines before the first item of a text between nodes to the count. Returns the new count, what comes last
+/// before that item, and the text from it on.
 fn newlines(count: usize, last: Last, text: &str) -> Result<(usize, Last, &str), AllocError>
     ensures { IfOk result (λ (n, l, rest). (n ≡ count + newlines last (chars text.now))
         × (l ≡ last_of last (chars text.now)) × (chars rest.now ≡ from_item (chars text.now))) }
@@ -137,7 +139,7 @@ fn newlines(count: usize, last: Last, text: &str) -> Result<(usize, Last, &str),
     Ok((count, last, rest))
 }
 
-/// The text without as many characters at its start as the item has.
+/// Returns the text without its first characters, as many as the item has.
 fn behind_item<'a>(text: &'a str, item: Item) -> &'a str
     ensures { chars result.now ≡ drop (length (item_text (item_view item.entry))) (chars text.now) }
 {
@@ -145,7 +147,7 @@ fn behind_item<'a>(text: &'a str, item: Item) -> &'a str
     behind_chars(text, item)
 }
 
-/// The text without as many characters at its start as another one has.
+/// Returns the text without its first characters, as many as the other text has.
 fn behind_chars<'a>(text: &'a str, other: &str) -> &'a str
     ensures { chars result.now ≡ drop (length (chars other.now)) (chars text.now) }
 {
@@ -162,7 +164,8 @@ fn behind_chars<'a>(text: &'a str, other: &str) -> &'a str
 }
 
 impl Before {
-    /// What comes before a thing after the text up to its first item; and the text from there on.
+    /// Returns what comes before the first item of the text, and the text from that item on. If the text has no item,
+    /// returns what comes before the thing after the text.
     fn read(self, text: &str) -> Result<(Before, &str), AllocError>
         ensures { IfOk result (λ (b, rest). (b ≡ read (chars text.now) self)
             × (chars rest.now ≡ from_item (chars text.now))) }
@@ -179,7 +182,7 @@ impl Before {
         }
     }
 
-    /// The blank lines before the thing.
+    /// Returns the number of blank lines before the thing.
     fn blank_lines(self) -> usize
         ensures { result ≡ blank_lines self }
     {
@@ -189,7 +192,7 @@ impl Before {
         }
     }
 
-    /// What comes last before the thing.
+    /// Returns what comes last before the thing.
     fn last(self) -> Last
         ensures { result ≡ last_before self }
     {
@@ -198,7 +201,7 @@ impl Before {
         }
     }
 
-    /// What comes before the next thing, after an item that is left out.
+    /// Returns what comes before the next thing, after an item that is removed.
     fn past_item(self, item: Item) -> Before
         ensures { result ≡ past_item true (item_view item.entry) self }
     {
@@ -209,7 +212,7 @@ impl Before {
         }
     }
 
-    /// What comes before the next thing, after an item that is written.
+    /// Returns what comes before the next thing, after an item that is written.
     fn past_written_item(self, item: Item) -> Before
         ensures { result ≡ past_item false (item_view item.entry) self }
     {
@@ -217,14 +220,14 @@ impl Before {
     }
 }
 
-/// Whether a newline is in the text.
+/// Returns whether the text contains a newline.
 fn has_newline(text: &str) -> bool
     ensures { result ≡ list_any is_newline_char (chars text.now) }
 {
     text.chars().any(is_newline_char)
 }
 
-/// What comes last in a terminator.
+/// Returns what comes last in a terminator.
 fn last_in(terminator: &str) -> Last
     ensures { result ≡ last_in (chars terminator.now) }
 {
@@ -235,7 +238,7 @@ fn last_in(terminator: &str) -> Last
     }
 }
 
-/// What comes before the next thing, after a node with this terminator.
+/// Returns what comes before the next thing, after a node with this terminator.
 pub(crate) fn past_node(terminator: &str) -> Before
     ensures { result ≡ past_node (chars terminator.now) }
 {
@@ -247,7 +250,7 @@ pub(crate) fn past_node(terminator: &str) -> Before
     }
 }
 
-/// What comes before the thing after a text whose items are left out.
+/// Returns what comes before the thing after a text whose items are removed.
 pub(crate) fn past_items(before: Before, text: &str, items: &[Item]) -> Result<Before, AllocError>
     ensures { IfOk result (λ b.
         b ≡ past_items true before (chars text.now) (items_view items.now)) }
@@ -263,7 +266,7 @@ pub(crate) fn past_items(before: Before, text: &str, items: &[Item]) -> Result<B
     Ok(at_end)
 }
 
-/// What comes before the thing after a text whose items are written.
+/// Returns what comes before the thing after a text whose items are written.
 pub(crate) fn past_written(before: Before, text: &str, items: &[Item]) -> Result<Before, AllocError>
     ensures { IfOk result (λ b.
         b ≡ past_items false before (chars text.now) (items_view items.now)) }
@@ -279,7 +282,7 @@ pub(crate) fn past_written(before: Before, text: &str, items: &[Item]) -> Result
     Ok(at_end)
 }
 
-/// Appends so many empty lines.
+/// Appends `count` newlines.
 fn push_newlines(out: &mut String, count: usize) -> Result<(), AllocError>
     ensures { OnOk result (text_of out.new ≡ text_of out.old ++ times count 10) }
 {
@@ -289,7 +292,7 @@ fn push_newlines(out: &mut String, count: usize) -> Result<(), AllocError>
     Ok(())
 }
 
-/// Appends the blank lines before a thing, but no more than a number.
+/// Appends the blank lines before a thing, at most `number` of them.
 pub(crate) fn push_empty_lines(
     out: &mut String,
     number: usize,
@@ -300,7 +303,8 @@ pub(crate) fn push_empty_lines(
     push_newlines(out, number.min(before.blank_lines()))
 }
 
-/// Appends a line for each item of a text, after the blank lines before it. Returns what comes before the next thing.
+/// Appends a line for each item of a text, after at most `number` of the blank lines before it. Returns what comes
+/// before the next thing.
 pub(crate) fn push_spaced_lines(
     out: &mut String,
     number: usize,

@@ -8,30 +8,32 @@ ghost use Rattle.std.specs.Str.{chars};
 
 use kdl_text::chars::is_space;
 
-/// Whether each character of the text is one of the 18 spaces (KDL 2.0.0, Whitespace). So it is for the empty text.
+/// Returns whether each character of the text is one of the 18 spaces (KDL 2.0.0, Whitespace). Returns `true` if the
+/// text is empty.
 pub fn is_kdl_space(text: &str) -> bool
     ensures { result ≡ list_all class.is_space (chars text.now) }
 {
     text.chars().all(is_space)
 }
 
-/// How to lay out a document, by `autoformat_config` of documents and nodes.
+/// The configuration of `autoformat_config` of documents and nodes.
 ///
-/// By default nodes begin at level 0, with four spaces for each level below it, comments are kept, and entries lose
-/// their form unless they are flagged to keep it.
+/// By default, the outermost nodes are at level 0, the indent is four spaces, comments are kept, and entries lose their
+/// form unless they are flagged to keep it.
 #[derive(Clone, Copy, Debug, PartialEq, Eq)]
 pub struct FormatConfig<'a> {
     /// The level of the outermost nodes.
     pub indent_level: usize,
-    /// What comes before a node, once for each level. The contracts on the printed text are for KDL spaces alone.
+    /// The text that is printed before a node, once for each level. The contracts on the printed text require that it
+    /// contains only KDL spaces.
     pub indent: &'a str,
-    /// Whether comments, and what a slashdash drops, are left out.
+    /// Whether comments and slashdashed pieces are removed.
     pub no_comments: bool,
     /// Whether each entry that has a format is flagged to keep its form.
     pub entry_autoformate_keep: bool,
 }
 
-/// How to lay out a document and keep blank lines, by `autoformat_layout` of documents and nodes.
+/// The configuration of `autoformat_layout` of documents and nodes, which can keep blank lines.
 ///
 /// ```
 /// let layout = Layout { config: FormatConfig::default(), blank_lines: 1 };
@@ -40,7 +42,7 @@ pub struct FormatConfig<'a> {
 pub struct Layout<'a> {
     /// How each line is laid out.
     pub config: FormatConfig<'a>,
-    /// How many blank lines stay, at most, between two nodes or comments.
+    /// The greatest number of blank lines that are kept between two nodes or comments.
     pub blank_lines: usize,
 }
 
@@ -58,7 +60,7 @@ impl Default for FormatConfig<'_> {
 }
 
 impl FormatConfig<'_> {
-    /// A builder that begins with the default configuration.
+    /// Creates a builder that starts from the default configuration.
     ///
     /// ```
     /// let config = FormatConfig::builder().indent("\t").no_comments(true).build();
@@ -70,12 +72,12 @@ impl FormatConfig<'_> {
     }
 }
 
-/// Builds a `FormatConfig`. Each setter can be called again, and the last call counts.
+/// Builds a `FormatConfig`. If a setter is called more than once, the last call counts.
 #[derive(Clone, Copy, Debug, PartialEq, Eq)]
 pub struct FormatConfigBuilder<'a>(FormatConfig<'a>);
 
 impl<'a> FormatConfigBuilder<'a> {
-    /// A builder that begins with the default configuration.
+    /// Creates a builder that starts from the default configuration.
     pub fn new() -> Self
         ensures { settings_so_far result ≡ defaults }
     {
@@ -87,7 +89,7 @@ impl<'a> FormatConfigBuilder<'a> {
         })
     }
 
-    /// Sets the level of the outermost nodes, where there is one given.
+    /// Sets the level of the outermost nodes, if it is `Some`.
     pub fn maybe_indent_level(self, indent_level: Option<usize>) -> Self
         ensures { settings_so_far result ≡ record (settings_so_far self.entry)
             { indent_level = unwrap_or indent_level (settings_so_far self.entry).indent_level } }
@@ -107,7 +109,7 @@ impl<'a> FormatConfigBuilder<'a> {
         self
     }
 
-    /// Sets what comes before a node for each level, where it is given.
+    /// Sets the text that is printed before a node for each level, if it is `Some`.
     pub fn maybe_indent<'b>(self, indent: Option<&'b str>) -> FormatConfigBuilder<'b>
     where
         'a: 'b,
@@ -122,7 +124,7 @@ impl<'a> FormatConfigBuilder<'a> {
         }
     }
 
-    /// Sets what comes before a node for each level.
+    /// Sets the text that is printed before a node for each level.
     pub fn indent<'b>(self, indent: &'b str) -> FormatConfigBuilder<'b>
     where
         'a: 'b,
@@ -132,7 +134,7 @@ impl<'a> FormatConfigBuilder<'a> {
         FormatConfigBuilder(FormatConfig { indent, ..self.0 })
     }
 
-    /// Sets whether comments are left out, where it is given.
+    /// Sets whether comments and slashdashed pieces are removed, if it is `Some`.
     pub fn maybe_no_comments(self, no_comments: Option<bool>) -> Self
         ensures { settings_so_far result ≡ record (settings_so_far self.entry)
             { no_comments = unwrap_or no_comments (settings_so_far self.entry).no_comments } }
@@ -143,7 +145,7 @@ impl<'a> FormatConfigBuilder<'a> {
         }
     }
 
-    /// Sets whether comments are left out.
+    /// Sets whether comments and slashdashed pieces are removed.
     pub fn no_comments(mut self, no_comments: bool) -> Self
         ensures { settings_so_far result ≡ record (settings_so_far self.entry)
             { no_comments = no_comments } }
@@ -152,7 +154,7 @@ impl<'a> FormatConfigBuilder<'a> {
         self
     }
 
-    /// The configuration.
+    /// Returns the configuration.
     pub fn build(self) -> FormatConfig<'a>
         ensures { settings result ≡ settings_so_far self.entry }
     {

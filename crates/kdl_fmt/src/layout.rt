@@ -32,12 +32,12 @@ use kdl_entry::{KdlEntry, KdlEntryFormat, KdlIdentifier, KdlValue};
 use kdl_parts::{KdlDocumentFormat, KdlNodeFormat};
 use std::alloc::{AllocError, Global};
 
-// A number has 128 bits with a sign.
+// Shows that an `i128` fits in 128 bits with a sign.
 fn number_fits(number: i128)
     ensures { FitsSigned w128 number }
 {}
 
-/// Shows that each value in memory is well formed. It does nothing at run time.
+/// Shows that each value in memory is well formed. Does nothing at run time.
 pub fn well_formed(value: &KdlValue)
     ensures { IsWellFormed (value_tree value.now) }
 {
@@ -46,7 +46,7 @@ pub fn well_formed(value: &KdlValue)
     }
 }
 
-/// Drops the spelling, where there is an identifier.
+/// Removes the spelling of the identifier, if there is one.
 pub fn clear_spelling(identifier: &mut Option<KdlIdentifier>)
     ensures { option_map identifier_tree identifier.new ≡
         option_map unspelled (option_map identifier_tree identifier.old) }
@@ -56,7 +56,7 @@ pub fn clear_spelling(identifier: &mut Option<KdlIdentifier>)
     }
 }
 
-/// The text in the place of another, in that one's memory where it fits. An empty text takes none.
+/// Returns a copy of `by`, in the memory of `text` if it fits. Does not allocate if `by` is empty.
 fn replaced(alloc: Global, mut text: String, by: &str) -> Result<String, AllocError>
     ensures { IfOk result (λ s. text_of s ≡ chars by.now) }
 {
@@ -68,21 +68,22 @@ fn replaced(alloc: Global, mut text: String, by: &str) -> Result<String, AllocEr
     Ok(text)
 }
 
-/// The text, repeated `times` times.
+/// Returns the text, repeated `times` times.
 fn repeated(alloc: Global, text: &str, times: usize) -> Result<String, AllocError>
     ensures { IfOk result (λ s. text_of s ≡ repeat times (chars text.now)) }
 {
     text.repeat(alloc, times)
 }
 
-/// What comes before a node at a level. Where the indent is empty it takes no memory and no time, at any level.
+/// Returns the indentation of a node at a level. If the indent is empty, does not allocate, and the time does not
+/// depend on the level.
 pub fn indentation(alloc: Global, config: &FormatConfig, level: usize) -> Result<String, AllocError>
     ensures { IfOk result (λ s. text_of s ≡ indentation (settings config.now) level) }
 {
     repeated(alloc, config.indent, level)
 }
 
-/// What is kept of a text between nodes: a line for each item, after a text.
+/// Returns what is kept of a text between nodes: a line for each item, each after the text `before`.
 fn kept_lines(
     alloc: Global,
     config: &FormatConfig,
@@ -102,7 +103,8 @@ fn kept_lines(
     Ok(out)
 }
 
-/// What is kept of a text between nodes where blank lines stay: a line for each item, after the blank lines before it.
+/// Returns what is kept of a text between nodes if blank lines are kept: a line for each item, after the blank lines
+/// before it. Sets `before` to what comes before the next thing.
 fn spaced_lines(
     alloc: Global,
     layout: &Layout,
@@ -128,7 +130,8 @@ fn spaced_lines(
     Ok(out)
 }
 
-/// What is kept of a text between nodes after what comes before it.
+/// Returns what is kept of a text between nodes. `before` is what comes before the text. If blank lines are kept, sets
+/// it to what comes before the next thing.
 fn lines_between(
     alloc: Global,
     layout: &Layout,
@@ -148,7 +151,7 @@ fn lines_between(
     }
 }
 
-/// What is kept of a text in a node: each item after a space.
+/// Returns what is kept of a text in a node: each item after a space.
 fn kept_tail(
     alloc: Global,
     config: &FormatConfig,
@@ -168,7 +171,7 @@ fn kept_tail(
     Ok(out)
 }
 
-/// What is kept of the text before an entry.
+/// Returns what is kept of the text before an entry.
 fn kept_before(alloc: Global, config: &FormatConfig, entry: &KdlEntry) -> Result<String, AllocError>
     ensures { IfOk result (λ t.
         KeptBefore (settings config.now) (entry_tree entry.now).format (text_of t)) }
@@ -184,14 +187,14 @@ fn kept_before(alloc: Global, config: &FormatConfig, entry: &KdlEntry) -> Result
     }
 }
 
-/// The value as it is printed.
+/// Returns the value as it is printed.
 fn printed(alloc: Global, value: &KdlValue) -> Result<String, AllocError>
     ensures { IfOk result (λ t. text_of t ≡ print_value (value_tree value.now)) }
 {
     value.to_string(alloc)
 }
 
-/// Puts the entry after a text that is kept before it, where there is one.
+/// Sets the format of the entry, unless `kept` is empty: `kept` and a space before it, and its value as it is printed.
 fn put_behind(alloc: Global, entry: &mut KdlEntry, kept: String) -> Result<(), AllocError>
     ensures same { cleared (entry_tree entry.new) ≡ cleared (entry_tree entry.old) }
     ensures behind { OnOk result (entry_tree entry.new ≡
@@ -208,7 +211,7 @@ fn put_behind(alloc: Global, entry: &mut KdlEntry, kept: String) -> Result<(), A
     Ok(())
 }
 
-/// Lays out an entry.
+/// Lays out an entry, as `lay_out_entries` lays out each one.
 fn lay_out_entry(
     alloc: Global,
     entry: &mut KdlEntry,
@@ -228,8 +231,8 @@ fn lay_out_entry(
     put_behind(alloc, entry, kept)
 }
 
-/// Lays out the entries of a node, one by one: the comments before an entry stay, and what a slashdash drops there. It
-/// takes memory for these alone.
+/// Lays out each entry of a node. Keeps the comments and slashdashed pieces before an entry, unless the configuration
+/// removes them, and allocates only for these. An entry that is flagged to keep its form keeps the whole text before it.
 pub fn lay_out_entries(entries: &mut Vec<KdlEntry>, config: &FormatConfig) -> Result<(), AllocError>
     ensures same { map cleared (map entry_tree entries.new.items) ≡
         map cleared (map entry_tree entries.old.items) }
@@ -245,7 +248,7 @@ pub fn lay_out_entries(entries: &mut Vec<KdlEntry>, config: &FormatConfig) -> Re
     Ok(())
 }
 
-/// The text `more` after what is kept; where that is nothing, in the memory of the text that was there.
+/// Returns `kept` with `more` appended. If `kept` is empty, reuses the memory of `old`.
 fn behind(alloc: Global, mut kept: String, old: String, more: &str) -> Result<String, AllocError>
     ensures { IfOk result (λ s. text_of s ≡ text_of kept ++ chars more.now) }
 {
@@ -256,7 +259,7 @@ fn behind(alloc: Global, mut kept: String, old: String, more: &str) -> Result<St
     Ok(kept)
 }
 
-/// What is kept of the text before the block of a node, and a space.
+/// Returns what is kept of the text before the block of a node, and a space after it.
 fn before_children(
     alloc: Global,
     config: &FormatConfig,
@@ -275,7 +278,7 @@ fn before_children(
     behind(alloc, kept, old, " ")
 }
 
-/// The place before the terminator.
+/// Returns the place before the terminator of a node.
 fn last_place(has_block: bool) -> Place
     ensures { place_view result ≡ last_place has_block }
 {
@@ -286,7 +289,7 @@ fn last_place(has_block: bool) -> Place
     }
 }
 
-/// What is kept of a terminator: the line comment that it is, without its newline.
+/// Returns what is kept of a terminator: if it is a line comment, the comment without its newline.
 fn kept_end<'a>(config: &FormatConfig, terminator: &'a str) -> Option<&'a str>
     ensures { MatchOption result (KeptEnd config.now.no_comments (chars terminator.now) [] [])
         (λ comment. KeptEnd config.now.no_comments (chars terminator.now) (32 ∷ [])
@@ -298,8 +301,9 @@ fn kept_end<'a>(config: &FormatConfig, terminator: &'a str) -> Option<&'a str>
     line_comment(terminator)
 }
 
-/// What ends the line of a node, after what is kept of the text before its terminator: a newline; and before it,
-/// after a space, the line comment that the terminator is.
+/// Returns the text before the terminator of a node, and the terminator: a newline. `last` is what is kept of the text
+/// before the terminator. If the old terminator is a line comment that is kept, a space follows `last`, and the comment
+/// comes before the newline.
 fn line_end(
     alloc: Global,
     config: &FormatConfig,
@@ -319,7 +323,7 @@ fn line_end(
     Ok((last, end))
 }
 
-/// What is kept of the text before a node, and the blank lines before it.
+/// Returns what is kept of the text before a node, and the blank lines before the node.
 fn before_node(
     alloc: Global,
     layout: &Layout,
@@ -340,8 +344,8 @@ fn before_node(
     Ok(lines)
 }
 
-/// The texts around the parts of a node on a line of its own, and what comes before the thing after it. Memory of the
-/// texts that were there serves again.
+/// Returns the texts around the parts of a node on its own line, and what comes before the next thing. Reuses the
+/// memory of the old texts.
 fn line_format(
     old: KdlNodeFormat,
     alloc: Global,
@@ -376,7 +380,7 @@ fn line_format(
     Ok((format, next))
 }
 
-/// The format that is there, taken out, or one of empty texts.
+/// Takes the format out. If there is none, creates one whose texts are empty.
 fn taken(format: &mut Option<KdlNodeFormat>, alloc: Global) -> KdlNodeFormat
     ensures { node_format_tree result ≡ or_empty (node_texts format.old) }
 {
@@ -386,9 +390,9 @@ fn taken(format: &mut Option<KdlNodeFormat>, alloc: Global) -> KdlNodeFormat
     }
 }
 
-/// Sets the texts around the parts of a node on a line of its own: the blank lines and the indentation before it, a
-/// space before its children, and a newline after it; with the comments that are kept. Returns what comes before the
-/// thing after the node.
+/// Sets the texts around the parts of a node on its own line: the blank lines and the indentation before it, a space
+/// before its children, and a newline after it. They contain the comments that are kept. Returns what comes before the
+/// next thing.
 pub fn lay_out_line(
     format: &mut Option<KdlNodeFormat>,
     alloc: Global,
@@ -410,7 +414,7 @@ pub fn lay_out_line(
     Ok(next)
 }
 
-/// What comes before the thing after a node that is not laid out.
+/// Returns what comes before the thing after a node that is not laid out. Has no meaning if no blank lines are kept.
 pub fn behind_line(
     format: &Option<KdlNodeFormat>,
     alloc: Global,
@@ -428,7 +432,7 @@ pub fn behind_line(
     }
 }
 
-/// What comes before the thing after a text between nodes.
+/// Returns what comes before the thing after a text between nodes.
 fn past_text(
     alloc: Global,
     layout: &Layout,
@@ -448,7 +452,7 @@ fn past_text(
     }
 }
 
-/// A newline after a text, where it is asked for.
+/// Appends a newline to the text if `newline` is `true`.
 fn newline_if(text: &mut String, newline: bool) -> Result<(), AllocError>
     ensures { OnOk result (text_of text.new ≡ text_of text.old ++ newline_if newline) }
 {
@@ -458,7 +462,7 @@ fn newline_if(text: &mut String, newline: bool) -> Result<(), AllocError>
     Ok(())
 }
 
-/// The text without the U+FEFF that may begin it.
+/// Returns the text without the U+FEFF at its start, if there is one.
 fn without_bom(text: &str) -> &str
     ensures { chars result.now ≡ without_bom (chars text.now) }
 {
@@ -468,7 +472,7 @@ fn without_bom(text: &str) -> &str
     }
 }
 
-/// What is kept of a text between nodes at a level. Where that is nothing, the level does not matter.
+/// Returns what is kept of a text between nodes at a level. If nothing is kept, creates no indentation.
 fn kept_at(
     alloc: Global,
     config: &FormatConfig,
@@ -491,7 +495,9 @@ fn kept_at(
     Ok(out)
 }
 
-/// The same after what comes before it, where blank lines stay. Of an empty text it takes no memory.
+/// Returns what is kept of a text between nodes at a level, and the blank lines that are kept. `before` is what comes
+/// before the text. If blank lines are kept, sets it to what comes before the next thing. If the text is empty, does
+/// not allocate.
 fn lines_at(
     alloc: Global,
     layout: &Layout,
@@ -513,7 +519,7 @@ fn lines_at(
     spaced_lines(alloc, layout, indentation.as_str(), before, place)
 }
 
-/// What is kept of the text before the nodes of a document at a level, and what comes before the first one.
+/// Returns what is kept of the text before the nodes of a document at a level, and what comes before the first node.
 fn content_leading(
     alloc: Global,
     layout: &Layout,
@@ -533,7 +539,7 @@ fn content_leading(
     Ok((leading, first))
 }
 
-/// What is kept of the text after the nodes, where this comes before it.
+/// Returns what is kept of the text after the nodes of a document at a level. `last` is what comes before that text.
 fn content_trailing(
     alloc: Global,
     layout: &Layout,
@@ -553,8 +559,8 @@ fn content_trailing(
     lines_at(alloc, layout, level, &mut last, place)
 }
 
-/// What is kept of the texts around the nodes of a document at a level, and what comes before the first node. `last` is
-/// what comes before the text after the last node, where there are nodes.
+/// Returns what is kept of the texts before and after the nodes of a document at a level, and what comes before the
+/// first node. `last` is what comes before the text after the last node, or `None` if there are no nodes.
 fn spaced_content(
     alloc: Global,
     layout: &Layout,
@@ -573,9 +579,9 @@ fn spaced_content(
     Ok((leading, trailing, first))
 }
 
-/// Sets the texts around the nodes of a document at a level: the comments that are kept, after the indentation, and a
-/// newline where there are no nodes. Returns what comes before the first node; `last` is what comes before the text
-/// after the last one, where there are nodes.
+/// Sets the texts before and after the nodes of a document at a level: the comments that are kept, each after the
+/// indentation, and a newline if there are no nodes. `last` is what comes before the text after the last node, or
+/// `None` if there are no nodes. Returns what comes before the first node.
 pub fn lay_out_content(
     format: &mut Option<KdlDocumentFormat>,
     alloc: Global,
@@ -595,8 +601,8 @@ pub fn lay_out_content(
     Ok(first)
 }
 
-/// Sets the same between the braces of a node: a newline after the first one, and the node's indentation before the
-/// second one. `inner` is the level between them.
+/// Sets the texts before and after the nodes between the braces of a node, like `lay_out_content`. Adds a newline after
+/// the `{`, and the indentation of the node, `margin`, before the `}`. `inner` is the level between the braces.
 pub fn lay_out_braces(
     format: &mut Option<KdlDocumentFormat>,
     alloc: Global,

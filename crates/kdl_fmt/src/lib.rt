@@ -1,5 +1,5 @@
-//! How documents are laid out: the configuration, and what layout makes of the texts around nodes and documents and of
-//! entries.
+//! Layout of documents: its configuration, and the functions that lay out entries and set the texts around nodes and
+//! documents.
 #![tactic(auto)]
 
 mod blank;
