@@ -56,7 +56,7 @@ abbrev pub entry_leading : Option EntryFormat → Text
 entry_leading None = []
 entry_leading (Some f) = f.leading
 
--- an entry is flagged to keep its form
+-- whether an entry is flagged to keep its form
 abbrev pub is_kept_format : Option EntryFormat → Bool
 is_kept_format None = false
 is_kept_format (Some f) = f.autoformat_keep

@@ -89,7 +89,7 @@ impl<'a> FormatConfigBuilder<'a> {
         })
     }
 
-    /// Sets the level of the outermost nodes, if it is `Some`.
+    /// Sets the level of the outermost nodes, if `indent_level` is `Some`.
     pub fn maybe_indent_level(self, indent_level: Option<usize>) -> Self
         ensures { settings_so_far result ≡ record (settings_so_far self.entry)
             { indent_level = unwrap_or indent_level (settings_so_far self.entry).indent_level } }
@@ -109,7 +109,7 @@ impl<'a> FormatConfigBuilder<'a> {
         self
     }
 
-    /// Sets the text that is printed before a node for each level, if it is `Some`.
+    /// Sets the text that is printed before a node for each level, if `indent` is `Some`.
     pub fn maybe_indent<'b>(self, indent: Option<&'b str>) -> FormatConfigBuilder<'b>
     where
         'a: 'b,
@@ -134,7 +134,7 @@ impl<'a> FormatConfigBuilder<'a> {
         FormatConfigBuilder(FormatConfig { indent, ..self.0 })
     }
 
-    /// Sets whether comments and slashdashed pieces are removed, if it is `Some`.
+    /// Sets whether comments and slashdashed pieces are removed, if `no_comments` is `Some`.
     pub fn maybe_no_comments(self, no_comments: Option<bool>) -> Self
         ensures { settings_so_far result ≡ record (settings_so_far self.entry)
             { no_comments = unwrap_or no_comments (settings_so_far self.entry).no_comments } }

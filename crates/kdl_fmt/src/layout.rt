@@ -232,7 +232,8 @@ fn lay_out_entry(
 }
 
 /// Lays out each entry of a node. Keeps the comments and slashdashed pieces before an entry, unless the configuration
-/// removes them, and allocates only for these. An entry that is flagged to keep its form keeps the whole text before it.
+/// removes them. An entry that is flagged to keep its form keeps the whole text before it. Allocates only for what is
+/// kept.
 pub fn lay_out_entries(entries: &mut Vec<KdlEntry>, config: &FormatConfig) -> Result<(), AllocError>
     ensures same { map cleared (map entry_tree entries.new.items) ≡
         map cleared (map entry_tree entries.old.items) }
@@ -414,7 +415,8 @@ pub fn lay_out_line(
     Ok(next)
 }
 
-/// Returns what comes before the thing after a node that is not laid out. Has no meaning if no blank lines are kept.
+/// Returns what comes before the thing after a node that is not laid out. The result has no meaning if no blank lines
+/// are kept.
 pub fn behind_line(
     format: &Option<KdlNodeFormat>,
     alloc: Global,
