@@ -6,12 +6,12 @@ use Rattle.kdl.specs.declared.document.KdlDocument.{KdlDocument}
 use Rattle.kdl_text.specs.declared.error.ParseFailure.{ParseFailure}
 use Rattle.kdl_text.specs.declared.error.ParseFailure.TheVariants.{Memory, Syntax}
 
--- the status of a text that was not parsed
+-- the status for a parse failure
 abbrev pub failure_status : ParseFailure → ℕ
 failure_status (Syntax _) = 1
 failure_status Memory = 3
 
--- both documents are there and in the relation, or neither is there
+-- both documents exist, and R relates them; or neither exists
 abbrev pub Each : (KdlDocument → KdlDocument → Type 0) → Option KdlDocument → Option KdlDocument → Type 0
 Each R None new = new ≡ None
 Each R (Some d) None = ⊥

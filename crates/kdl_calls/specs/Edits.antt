@@ -1,4 +1,4 @@
--- What each edit makes of a node, of an entry, or of a document.
+-- The result of each edit of a node, of an entry, or of a document.
 use Rattle.std.specs.List.{insert, remove}
 use Rattle.std.specs.Prelude.{◌≡◌, ◌<◌, ◌≤◌, ◌-◌, ◌^◌, ℕ, zero, suc, List, [], ◌∷◌, Option, None, Some, IfSome, length, option_map, slice_get, true}
 use Rattle.kdl.specs.Words.{ChildPut, Entry, EntryData, EntryFormat, Value, IsPut, PrintsPut, PrintsWithout, Text, cleared, plain_identifier, said_with, said_without}
@@ -11,22 +11,22 @@ use Rattle.kdl_entry.specs.declared.identifier.KdlIdentifier.{KdlIdentifier}
 use Rattle.kdl_calls.specs.Changes.{AtEntry, AtNode}
 use Rattle.kdl_calls.specs.Paths.{node_at}
 
--- the text where the flag is not 0, else none
+-- the text if the flag is not 0, else none
 abbrev pub text_if : ℕ → Text → Option Text
 text_if zero t = None
 text_if (suc _) t = Some t
 
--- an entry that is a value alone
+-- an entry with a value, but with neither a key nor a type
 abbrev pub plain_value : Value → EntryData
 plain_value v = record { key = None; ty = None; value = v }
 
--- the format g, with the spelling of the value that f has
+-- the second format, if there is one, with the spelling of the value from the first, if there is one
 abbrev pub spelled_as : Option EntryFormat → Option EntryFormat → Option EntryFormat
 spelled_as (Some f) (Some g) = Some (record g { value_repr = f.value_repr })
 spelled_as None (Some g) = Some g
 spelled_as f None = None
 
--- f is e with the value of the text t, which has neither a key nor a type, and with its spelling
+-- f is e with the value of the text t, which has neither a key nor a type, and with its spelling if e has a format
 pub record ValueSet (t : Text) (e f : Entry) : Type 0 where
   pub given : Entry
   pub laid : LaidEntryText true t given
@@ -34,15 +34,15 @@ pub record ValueSet (t : Text) (e f : Entry) : Type 0 where
   pub no_type : given.ty ≡ None
   pub is : f ≡ record e { value = given.value; format = spelled_as given.format e.format }
 
--- f is e with that key, in the library's spelling, or without one
+-- f is e with that key, in the library's spelling, or without a key
 abbrev pub KeySet : Option Text → Entry → Entry → Type 0
 KeySet o e f = f ≡ record e { name = option_map plain_identifier o }
 
--- f is e with that type, in the library's spelling, or without one
+-- f is e with that type, in the library's spelling, or without a type
 abbrev pub TypeSet : Option Text → Entry → Entry → Type 0
 TypeSet o e f = f ≡ record e { ty = option_map plain_identifier o }
 
--- m is n with the entry of the text t, without its format and spellings, before the entry at i, or last
+-- m is n with the entry of the text t, without its format and spellings, before the entry at i, or after the last one
 pub record EntryInserted (t : Text) (i : ℕ) (n m : KdlNode) : Type 0 where
   pub given : Entry
   pub laid : LaidEntryText true t given
@@ -62,19 +62,20 @@ pub record EntryRemoved (i : ℕ) (n m : KdlNode) : Type 0 where
 abbrev pub NodeNamed : Text → KdlNode → KdlNode → Type 0
 NodeNamed t n m = (w : KdlIdentifier) × (identifier_tree w ≡ plain_identifier t) × (m ≡ with_name n w)
 
--- m is n with that type, in the library's spelling, or without one
+-- m is n with that type, in the library's spelling, or without a type
 abbrev pub NodeTyped : Option Text → KdlNode → KdlNode → Type 0
 NodeTyped o n m = (w : Option KdlIdentifier) × (option_map identifier_tree w ≡ option_map plain_identifier o) × (m ≡ with_ty n w)
 
--- the type of the entry at i is set, and that of the node where i is the greatest index
+-- the type of the entry at i is set, or the type of the node if i is the greatest index, 2 ^ 64 - 1
 abbrev pub TypeSetAt : ℕ → Option Text → KdlNode → KdlNode → Type 0
 TypeSetAt i o n m = (i ≡ 2 ^ 64 - 1 → NodeTyped o n m) × ((i ≡ 2 ^ 64 - 1 → ⊥) → AtEntry i (TypeSet o) n m)
 
--- m is n with the node of the text t in its block, before the node at i there, or last; a new block where there was none
+-- m is n with the node of the text t in its block, before the node at i, or after the last one; if n has no block, m
+-- has a new one
 abbrev pub ChildInserted : Text → ℕ → KdlNode → KdlNode → Type 0
 ChildInserted t i n m = (x : KdlNode) × LaidNodeText true t (node_tree x) × ChildPut i x n m
 
--- m is n without the node at i of its block
+-- m is n without the node at i in its block
 pub record ChildRemoved (i : ℕ) (n m : KdlNode) : Type 0 where
   pub old : KdlDocument
   pub new : KdlDocument
@@ -84,7 +85,7 @@ pub record ChildRemoved (i : ℕ) (n m : KdlNode) : Type 0 where
   pub around : new ≡ with_nodes old (held_nodes new)
   pub rest : m ≡ with_children n (Some new)
 
--- e is d with the node of the text t before the node at i, or last
+-- e is d with the node of the text t before the node at i, or after the last one
 pub record FirstInserted (t : Text) (i : ℕ) (d e : KdlDocument) : Type 0 where
   pub given : KdlNode
   pub laid : LaidNodeText true t (node_tree given)
@@ -101,22 +102,22 @@ pub record FirstRemoved (i : ℕ) (d e : KdlDocument) : Type 0 where
   pub prints : PrintsWithout i taken d e
   pub says : document_says e ≡ said_without i (document_says d)
 
--- no node is at the path, or its block has no node at i; for the empty path, the document has none
+-- there is no node at the path, or its block has no node at i; for the empty path, the document has none
 abbrev pub NodeAbsent : List ℕ → ℕ → KdlDocument → Type 0
 NodeAbsent [] i d = length (nodes_of d) ≤ i
 NodeAbsent (j ∷ js) i d = IfSome (node_at (j ∷ js) (nodes_of d)) (λ n. length (child_nodes n) ≤ i)
 
--- no node is at the path, or its block has fewer than i nodes; for the empty path, the document has fewer
+-- there is no node at the path, or its block has fewer than i nodes; for the empty path, the document has fewer
 abbrev pub NoPlaceFor : List ℕ → ℕ → KdlDocument → Type 0
 NoPlaceFor [] i d = length (nodes_of d) < i
 NoPlaceFor (j ∷ js) i d = IfSome (node_at (j ∷ js) (nodes_of d)) (λ n. length (child_nodes n) < i)
 
--- the node of the text t is inserted into the block of the node at the path, or into the document where that is empty
+-- e is d with the node of the text t in the block of the node at the path, or in the document if the path is empty
 abbrev pub NodeInserted : List ℕ → Text → ℕ → KdlDocument → KdlDocument → Type 0
 NodeInserted [] t i d e = FirstInserted t i d e
 NodeInserted (j ∷ js) t i d e = AtNode (j ∷ js) (ChildInserted t i) d e
 
--- the node at i is removed from the block of the node at the path, or from the document where that is empty
+-- e is d without the node at i in the block of the node at the path, or in the document if the path is empty
 abbrev pub NodeRemoved : List ℕ → ℕ → KdlDocument → KdlDocument → Type 0
 NodeRemoved [] i d e = FirstRemoved i d e
 NodeRemoved (j ∷ js) i d e = AtNode (j ∷ js) (ChildRemoved i) d e

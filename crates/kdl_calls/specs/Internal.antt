@@ -1,9 +1,8 @@
--- Words of clauses that the exports do not have.
--- What was read from a text that C gave.
+-- What is parsed from a text that C gives.
 pub mod Given
--- What a change makes of a node.
+-- A node after a change.
 pub mod Done
--- A document taken apart along a path.
+-- A document that is taken apart along a path.
 pub mod Opened
 -- Places in a text that is read character by character.
 pub mod Places

@@ -1,9 +1,9 @@
--- Texts laid out.
+-- What documents print after they are formatted.
 use Rattle.std.specs.Prelude.{◌≡◌, true}
 use Rattle.kdl.specs.Words.{CommentsStay, DocumentLaidOut, IsDocument, LaidDocument, Text, defaults, document_prints, document_says, document_tree}
 use Rattle.kdl.specs.declared.document.KdlDocument.{KdlDocument}
 
--- p is what the document d prints after it is laid out with its comments
+-- p is what the document d prints after it is formatted with its comments
 pub record IsLaidOut (d : KdlDocument) (p : Text) : Type 0 where
   pub formatted : KdlDocument
   pub laid_out : DocumentLaidOut defaults d formatted
@@ -11,7 +11,7 @@ pub record IsLaidOut (d : KdlDocument) (p : Text) : Type 0 where
   pub derived : IsDocument true p (document_says d)
   pub comments : CommentsStay (document_tree d) p
 
--- p is what the document of the text t prints after it is laid out with its comments
+-- p is what a document of the text t prints after it is formatted with its comments
 pub record IsTextLaidOut (t p : Text) : Type 0 where
   pub read : KdlDocument
   pub laid : LaidDocument true (document_tree read) t

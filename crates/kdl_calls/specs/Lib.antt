@@ -1,18 +1,18 @@
 -- What the calls return.
 pub mod Answers
--- Nodes by the path to them.
+-- Look-ups of nodes by their path.
 pub mod Paths
--- What rows say, read with the strings that were written.
+-- The data in rows, whose texts are in the strings that were written.
 pub mod Says
--- Strings written one after another, as far as there is room.
+-- Strings that are written one after another, up to the first that does not fit.
 pub mod Strings
 -- Lines and columns.
 pub mod Positions
--- Texts laid out.
+-- What documents print after they are formatted.
 pub mod LaidOut
--- Documents with one node changed, and all other nodes as they were.
+-- Documents with one node changed, and all other nodes as before.
 pub mod Changes
--- What each edit makes of a node, of an entry, or of a document.
+-- The result of each edit of a node, of an entry, or of a document.
 pub mod Edits
--- Words of clauses that the exports do not have.
+-- Definitions that no contract of an exported call mentions.
 pub mod Internal

@@ -1,4 +1,4 @@
-//! Changes of the node at a path.
+//! Changes to the node at a path.
 
 ghost use Rattle.kdl.specs.Words.{nodes_of};
 ghost use Rattle.kdl_calls.specs.Answers.{Each};
@@ -16,7 +16,7 @@ use kdl_held::Handle;
 use std::alloc::Global;
 use std::mem;
 
-/// Makes the change of the node at the index.
+/// Applies the change to the node at the index. If this fails, the block is unchanged.
 fn change_in(
     alloc: Global,
     block: &mut KdlDocument,
@@ -37,7 +37,9 @@ fn change_in(
     }
 }
 
-/// Makes the change of the node at the path. Where it fails, the document is as it was.
+/// Applies the change to the node at the path.
+///
+/// Fails if there is no such node, or if the change fails. The document is then unchanged.
 pub fn change_at(
     alloc: Global,
     document: &mut KdlDocument,
@@ -68,7 +70,10 @@ pub fn change_at(
     }
 }
 
-/// Makes the change of the node at the path in the document that C keeps.
+/// Applies the change to the node at the path in the document that C keeps.
+///
+/// Returns `NO_DOCUMENT` if there is no document, `NOT_FOUND` if there is no node at the path or if the index of the
+/// change is too large, and `OUT_OF_MEMORY` if an allocation fails. The document is then unchanged.
 pub fn change_held(alloc: Global, document: &mut Handle, path: &[usize], change: NodeChange) -> u32
     ensures done { result ≡ 0 → Each (AtNode path.now (IsDone change))
         document.old.held.document document.new.held.document }

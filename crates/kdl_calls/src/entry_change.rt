@@ -1,4 +1,4 @@
-//! Changes of one entry.
+//! Changes to one entry.
 
 ghost use Rattle.kdl.specs.Words.{entry_format_tree, entry_tree, identifier_tree, value_tree};
 ghost use Rattle.kdl_calls.specs.Internal.Done.{changed_entry};
@@ -9,19 +9,19 @@ use kdl::{KdlEntry, KdlEntryFormat, KdlIdentifier, KdlValue};
 use std::alloc::Global;
 use std::mem;
 
-/// A change of one entry.
+/// A change to one entry.
 #[derive(Drop)]
 pub enum EntryChange {
-    /// Another key, or none.
+    /// Sets the key, or removes it for `None`.
     SetKey(Option<KdlIdentifier>),
-    /// Another type, or none.
+    /// Sets the type, or removes it for `None`.
     SetType(Option<KdlIdentifier>),
-    /// Another value, and its spelling.
+    /// Sets the value, and its spelling if the entry has a format.
     SetValue(KdlValue, String),
 }
 
 impl EntryChange {
-    /// Makes the change.
+    /// Applies the change.
     pub fn make(self, alloc: Global, entry: &mut KdlEntry)
         ensures { entry_tree entry.new ≡ changed_entry self (entry_tree entry.old) }
     {
@@ -34,7 +34,7 @@ impl EntryChange {
     }
 }
 
-/// Sets the value, and its spelling where the entry has a format. All else stays.
+/// Sets the value, and its spelling if the entry has a format. Nothing else changes.
 fn set_spelled(entry: &mut KdlEntry, value: KdlValue, spelling: String)
     ensures { entry_tree entry.new ≡ changed_entry (SetValue value spelling) (entry_tree entry.old) }
 {
@@ -44,7 +44,7 @@ fn set_spelled(entry: &mut KdlEntry, value: KdlValue, spelling: String)
     }
 }
 
-/// Takes the key out, and leaves an empty one in its place.
+/// Takes the key out, and leaves an empty one in its place. Returns `None` if there is no key.
 fn take_name(alloc: Global, entry: &mut KdlEntry) -> Option<KdlIdentifier>
     ensures name { option_map identifier_tree result ≡ (entry_tree entry.old).name }
     ensures format { (entry_tree entry.new).format ≡ (entry_tree entry.old).format }
@@ -56,7 +56,7 @@ fn take_name(alloc: Global, entry: &mut KdlEntry) -> Option<KdlIdentifier>
     }
 }
 
-/// Takes the format out, and leaves an empty one in its place.
+/// Takes the format out, and leaves an empty one in its place. Returns `None` if there is no format.
 fn take_format(alloc: Global, entry: &mut KdlEntry) -> Option<KdlEntryFormat>
     ensures format { option_map entry_format_tree result ≡ (entry_tree entry.old).format }
     ensures span { (entry_tree entry.new).span ≡ (entry_tree entry.old).span }
@@ -77,7 +77,7 @@ fn take_value(entry: &mut KdlEntry) -> KdlValue
     mem::replace(entry.value_mut(), KdlValue::Null)
 }
 
-/// Takes the type away. All else stays.
+/// Removes the type. Nothing else changes.
 fn drop_type(alloc: Global, entry: &mut KdlEntry)
     ensures { entry_tree entry.new ≡ record (entry_tree entry.old) { ty = None } }
 {

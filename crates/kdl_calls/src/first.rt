@@ -1,4 +1,4 @@
-//! Nodes of the document itself, inserted and removed.
+//! Nodes that are inserted into the document itself, and removed from it.
 
 ghost use Rattle.kdl.specs.Words.{nodes_of};
 ghost use Rattle.kdl_calls.specs.Answers.{Each};
@@ -13,7 +13,10 @@ use kdl::{KdlDocument, KdlNode};
 use kdl_held::Handle;
 use std::alloc::Global;
 
-/// Inserts the node into the document that C keeps.
+/// Inserts the node into the document that C keeps, before the node at the index, or after the last one.
+///
+/// Returns `NO_DOCUMENT` if there is no document, `NOT_FOUND` if the index is greater than the number of nodes, and
+/// `OUT_OF_MEMORY` if an allocation fails. The document is then unchanged.
 pub fn insert_first(alloc: Global, document: &mut Handle, index: usize, node: KdlNode) -> u32
     ensures done { result ≡ 0 → Each (NodePut index node)
         document.old.held.document document.new.held.document }
@@ -37,7 +40,8 @@ pub fn insert_first(alloc: Global, document: &mut Handle, index: usize, node: Kd
     status
 }
 
-/// Inserts the node before the one at the index, or last.
+/// Inserts the node before the one at the index, or after the last one. Fails if the index is greater than the number
+/// of nodes, or if an allocation fails. The document is then unchanged.
 fn insert_into(document: &mut KdlDocument, index: usize, node: KdlNode) -> Result<(), Refused>
     ensures done { OnOk result (NodePut index node document.old document.new) }
     ensures refused { OnErr result (SameTree document.old document.new) }
@@ -56,7 +60,10 @@ fn insert_into(document: &mut KdlDocument, index: usize, node: KdlNode) -> Resul
     }
 }
 
-/// Removes a node from the document that C keeps.
+/// Removes the node at the index from the document that C keeps.
+///
+/// Returns `NO_DOCUMENT` if there is no document, and `NOT_FOUND` if there is no node at the index. The document is
+/// then unchanged.
 pub fn remove_first(alloc: Global, document: &mut Handle, index: usize) -> u32
     ensures done { result ≡ 0 → Each (FirstRemoved index)
         document.old.held.document document.new.held.document }
@@ -78,7 +85,7 @@ pub fn remove_first(alloc: Global, document: &mut Handle, index: usize) -> u32
     status
 }
 
-/// Removes the node at the index.
+/// Removes the node at the index. Fails if there is none.
 fn remove_from(document: &mut KdlDocument, index: usize) -> Result<(), Refused>
     ensures done { OnOk result (FirstRemoved index document.old document.new) }
     ensures refused { OnErr result (SameTree document.old document.new) }

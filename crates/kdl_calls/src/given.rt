@@ -1,4 +1,7 @@
-//! Nodes, entries, values and names, of the texts that C gives.
+//! Nodes, entries, values and names in the texts that C gives.
+//!
+//! Each function returns an error if the text is not UTF-8, or if an allocation fails. Those that parse return
+//! `Unread::Faults` if the text is refused.
 
 ghost use Rattle.kdl.specs.Words.{EntryData, IsEntryText, IsNodeText, LaidEntryText, LaidNodeText, NodeData, Value, entry_data, entry_tree, identifier_tree, node_tree, plain_identifier, value_tree};
 ghost use Rattle.kdl_calls.specs.Edits.{plain_value, text_if};
@@ -12,7 +15,7 @@ use crate::status::Unread;
 use kdl::{KdlEntry, KdlIdentifier, KdlNode, KdlValue, ParseFailure};
 use std::alloc::{AllocError, Global};
 
-/// The node of a text.
+/// Parses a text as a node.
 pub fn node(alloc: Global, text: &[u8]) -> Result<KdlNode, Unread>
     ensures laid { IfOk result (λ n. LaidNodeText true (chars text.now) (node_tree n)) }
     ensures refused { IfErr result (λ r. r ≡ Faults → (x : NodeData)
@@ -29,7 +32,7 @@ pub fn node(alloc: Global, text: &[u8]) -> Result<KdlNode, Unread>
     }
 }
 
-/// The entry of a text.
+/// Parses a text as an entry.
 fn entry(alloc: Global, text: &[u8]) -> Result<KdlEntry, Unread>
     ensures laid { IfOk result (λ e. LaidEntryText true (chars text.now) (entry_tree e)) }
     ensures only { IfOk result (λ e. (x : EntryData) → IsEntryText true (chars text.now) x
@@ -48,7 +51,7 @@ fn entry(alloc: Global, text: &[u8]) -> Result<KdlEntry, Unread>
     }
 }
 
-/// The entry of a text, without its format and spellings: in a node it is printed after one space.
+/// Parses a text as an entry, and removes its format and spellings. A node prints such an entry after one space.
 pub fn plain_entry(alloc: Global, text: &[u8]) -> Result<KdlEntry, Unread>
     ensures cleared { IfOk result (λ e. IsCleared (chars text.now) (entry_tree e)) }
     ensures refused { IfErr result (λ r. r ≡ Faults → (x : EntryData)
@@ -60,7 +63,9 @@ pub fn plain_entry(alloc: Global, text: &[u8]) -> Result<KdlEntry, Unread>
     Ok(entry)
 }
 
-/// The value of a text that is an entry without a key and a type, and its spelling.
+/// Parses a text as a value: an entry without a key and a type. Returns the value and its spelling.
+///
+/// Returns `Unread::Faults` if the entry has a key or a type.
 pub fn value(alloc: Global, text: &[u8]) -> Result<(KdlValue, String), Unread>
     ensures spelled { IfOk result (λ v. IsSpelled (chars text.now) v.0 v.1) }
     ensures refused { IfErr result (λ r. r ≡ Faults → (v : Value)
@@ -73,7 +78,7 @@ pub fn value(alloc: Global, text: &[u8]) -> Result<(KdlValue, String), Unread>
     value
 }
 
-/// The value of an entry that has neither a key nor a type, and its spelling.
+/// Returns the value of the entry and its spelling, or `Unread::Faults` if the entry has a key or a type.
 fn plain(alloc: Global, entry: &KdlEntry) -> Result<(KdlValue, String), Unread>
     ensures plain { IfOk result (λ v. IsPlain (entry_tree entry.now) v.0 v.1) }
     ensures refused { IfErr result (λ r. r ≡ Faults → (v : Value)
@@ -89,7 +94,7 @@ fn plain(alloc: Global, entry: &KdlEntry) -> Result<(KdlValue, String), Unread>
     }
 }
 
-/// A copy of the value of an entry, and of its spelling.
+/// Returns copies of the value of the entry and of its spelling.
 fn spelled(alloc: Global, entry: &KdlEntry) -> Result<(KdlValue, String), AllocError>
     ensures value { IfOk result (λ v. value_tree v.0 ≡ (entry_tree entry.now).value) }
     ensures spelling { IfOk result (λ v. IfSome (entry_tree entry.now).format (λ f.
@@ -102,7 +107,7 @@ fn spelled(alloc: Global, entry: &KdlEntry) -> Result<(KdlValue, String), AllocE
     Ok((entry.value().clone()?, spelling))
 }
 
-/// The identifier whose string the bytes are.
+/// Creates an identifier whose value is the text. The text is not parsed.
 pub fn identifier(alloc: Global, text: &[u8]) -> Result<KdlIdentifier, Unread>
     ensures plain { IfOk result (λ i. identifier_tree i ≡ plain_identifier (chars text.now)) }
     ensures utf8 { IfErr result (λ r. r ≡ NotUtf8 → IsUtf8 text.now → ⊥) }
@@ -117,7 +122,7 @@ pub fn identifier(alloc: Global, text: &[u8]) -> Result<KdlIdentifier, Unread>
     }
 }
 
-/// The same where the flag is not 0, else none.
+/// Creates an identifier as `identifier` does, or returns `None` without reading the text if the flag is 0.
 pub fn identifier_if(alloc: Global, has: u32, text: &[u8]) -> Result<Option<KdlIdentifier>, Unread>
     ensures plain { IfOk result (λ o. option_map identifier_tree o
         ≡ option_map plain_identifier (text_if has (chars text.now))) }

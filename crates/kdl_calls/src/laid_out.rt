@@ -1,4 +1,4 @@
-//! Documents laid out.
+//! Formatting of documents.
 
 ghost use Rattle.kdl.specs.Words.{CommentsStay, DocumentKeepsNoForm, DocumentLaidOut, IsDocument, Text, canonical_text, defaults, document_prints, document_says, document_tree};
 ghost use Rattle.kdl_calls.specs.LaidOut.{IsLaidOut};
@@ -9,7 +9,10 @@ use crate::status::{OK, OUT_OF_MEMORY};
 use kdl::KdlDocument;
 use std::alloc::{AllocError, Global};
 
-/// Lays the document out, with its comments. Where memory runs out, some of it may be laid out; its data stay.
+/// Formats the document, with its comments, as `KdlDocument::autoformat` does.
+///
+/// Returns `OUT_OF_MEMORY` if an allocation fails. The data of the document is then unchanged, and some of it may be
+/// formatted.
 pub fn format(document: &mut KdlDocument) -> u32
     ensures data { document_says document.new ≡ document_says document.old }
     ensures formatted { result ≡ 0 → DocumentLaidOut defaults document.old document.new }
@@ -25,7 +28,10 @@ pub fn format(document: &mut KdlDocument) -> u32
     }
 }
 
-/// Lays the document out, without its comments. Where memory runs out, some of it may be laid out; its data stay.
+/// Formats the document, without its comments, as `KdlDocument::autoformat_no_comments` does.
+///
+/// Returns `OUT_OF_MEMORY` if an allocation fails. The data of the document is then unchanged, and some of it may be
+/// formatted.
 pub fn strip(document: &mut KdlDocument) -> u32
     ensures data { document_says document.new ≡ document_says document.old }
     ensures prints { result ≡ 0 → DocumentKeepsNoForm document.old
@@ -38,7 +44,7 @@ pub fn strip(document: &mut KdlDocument) -> u32
     }
 }
 
-/// The text of a document after it is laid out with its comments.
+/// Formats the document, with its comments, and returns its text. Returns an error if an allocation fails.
 pub fn laid_out(alloc: Global, mut document: KdlDocument) -> Result<String, AllocError>
     ensures { IfOk result (λ s. DocumentKeepsNoForm document → (p : Text) × IsLaidOut document p
         × (string_bytes s ≡ encode_utf8_all p)) }

@@ -1,5 +1,5 @@
-//! What the calls for C do with documents: nodes at a path, names and keys, lines and columns, rows of one node or entry,
-//! layouts, texts that are given, and edits. Each call returns a status.
+//! Functions that the calls for C use. They look nodes and entries up, compute lines and columns, write the rows of one
+//! node or entry, format documents, parse the texts that C gives, and edit documents. Each call returns a status.
 #![tactic(auto)]
 
 pub mod at_path;

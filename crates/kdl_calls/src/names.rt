@@ -1,4 +1,4 @@
-//! Nodes found by their name, entries by their key.
+//! Look-ups of nodes by their name, and of entries by their key.
 
 ghost use Rattle.kdl.specs.Words.{argument_named, has_name, is_node_named};
 ghost use Rattle.kdl_parts.specs.EntryLists.{last_place};
@@ -7,21 +7,21 @@ ghost use Rattle.std.specs.Prelude.{◌≡◌, None, Some, option_map, position}
 use crate::status::{NOT_FOUND, OK};
 use kdl::{KdlDocument, KdlEntry, KdlNode, NodeKey};
 
-/// Whether the node has that name.
+/// Returns whether the node has that name.
 fn is_named(node: &KdlNode, name: &str) -> bool
     ensures { result ≡ is_node_named name.now node.now }
 {
     node.name().value() == name
 }
 
-/// The index of the first node of that name.
+/// Returns the index of the first node with that name.
 pub fn first_named(nodes: &[KdlNode], name: &str) -> Option<usize>
     ensures { result ≡ position (is_node_named name.now) nodes.now }
 {
     nodes.iter().position(|node| is_named(node, name))
 }
 
-/// Whether the entry is a property of that name.
+/// Returns whether the entry is a property with that key.
 fn is_property(entry: &KdlEntry, name: &str) -> bool
     ensures { result ≡ has_name name.now entry.now }
 {
@@ -31,7 +31,7 @@ fn is_property(entry: &KdlEntry, name: &str) -> bool
     }
 }
 
-/// The index of the last property of that name.
+/// Returns the index of the last property with that key.
 pub fn last_property(entries: &[KdlEntry], name: &str) -> Option<usize>
     ensures { result ≡ last_place (has_name name.now) entries.now }
 {
@@ -44,7 +44,7 @@ pub fn last_property(entries: &[KdlEntry], name: &str) -> Option<usize>
     found
 }
 
-/// The first argument of the first node of that name.
+/// Returns the first argument of the first node with that name.
 pub fn first_argument<'a>(document: &'a KdlDocument, name: &str) -> Option<&'a KdlEntry>
     ensures { option_map (λ e. e.now) result ≡ argument_named name.now document.now }
 {
@@ -54,7 +54,7 @@ pub fn first_argument<'a>(document: &'a KdlDocument, name: &str) -> Option<&'a K
     }
 }
 
-/// Writes the index where there is one.
+/// Writes the index that was found and returns `OK`, or returns `NOT_FOUND` if there is none.
 pub fn put_index(found: Option<usize>, index: &mut usize) -> u32
     ensures found { result ≡ 0 → found ≡ Some index.new }
     ensures missing { result ≡ 6 → found ≡ None }

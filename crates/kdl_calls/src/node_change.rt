@@ -1,4 +1,4 @@
-//! Changes of one node.
+//! Changes to one node.
 
 ghost use Rattle.kdl.specs.Words.{ChildPut, child_nodes, entries_of, node_tree};
 ghost use Rattle.kdl_calls.specs.Changes.{AtEntry};
@@ -12,27 +12,29 @@ use crate::status::Refused;
 use kdl::{KdlEntry, KdlIdentifier, KdlNode};
 use std::alloc::Global;
 
-/// A change of one node.
+/// A change to one node.
 #[derive(Drop)]
 pub enum NodeChange {
-    /// Another name.
+    /// Sets the name.
     SetName(KdlIdentifier),
-    /// Another type, or none.
+    /// Sets the type, or removes it for `None`.
     SetType(Option<KdlIdentifier>),
-    /// A change of the entry at the index.
+    /// Changes the entry at the index.
     ChangeEntry(usize, EntryChange),
-    /// An entry, before the one at the index or last.
+    /// Inserts an entry before the one at the index, or after the last one.
     InsertEntry(usize, KdlEntry),
-    /// No longer the entry at the index.
+    /// Removes the entry at the index.
     RemoveEntry(usize),
-    /// A node in the block, before the one at the index or last.
+    /// Inserts a node into the block, before the one at the index, or after the last one.
     InsertChild(usize, KdlNode),
-    /// No longer the node at the index of the block.
+    /// Removes the node at the index of the block.
     RemoveChild(usize),
 }
 
 impl NodeChange {
-    /// Makes the change. Where it fails, the node is as it was.
+    /// Applies the change.
+    ///
+    /// Fails if the index of the change is too large, or if an allocation fails. The node is then unchanged.
     pub fn make(self, alloc: Global, node: &mut KdlNode) -> Result<(), Refused>
         ensures done { OnOk result (IsDone self node.old node.new) }
         ensures refused { OnErr result (node_tree node.new ≡ node_tree node.old) }
@@ -56,7 +58,7 @@ impl NodeChange {
     }
 }
 
-/// Makes the change of the entry at the index.
+/// Applies the change to the entry at the index. Fails if there is none.
 fn change_entry(
     alloc: Global,
     node: &mut KdlNode,
@@ -80,7 +82,8 @@ fn change_entry(
     }
 }
 
-/// Inserts the entry before the one at the index, or last.
+/// Inserts the entry before the one at the index, or after the last one. Fails if the index is greater than the number
+/// of entries, or if an allocation fails.
 fn insert_entry(node: &mut KdlNode, index: usize, entry: KdlEntry) -> Result<(), Refused>
     ensures done { OnOk result (EntryPut index entry node.old node.new) }
     ensures refused { OnErr result (node_tree node.new ≡ node_tree node.old) }
@@ -100,7 +103,7 @@ fn insert_entry(node: &mut KdlNode, index: usize, entry: KdlEntry) -> Result<(),
     }
 }
 
-/// Removes the entry at the index.
+/// Removes the entry at the index. Fails if there is none.
 fn remove_entry(node: &mut KdlNode, index: usize) -> Result<(), Refused>
     ensures done { OnOk result (EntryRemoved index node.old node.new) }
     ensures refused { OnErr result (node_tree node.new ≡ node_tree node.old) }
@@ -114,7 +117,8 @@ fn remove_entry(node: &mut KdlNode, index: usize) -> Result<(), Refused>
     Ok(())
 }
 
-/// Inserts the node into the block, before the one at the index or last, and makes the block where there is none.
+/// Inserts the node into the block, before the one at the index, or after the last one. Creates the block if there is
+/// none. Fails if the index is greater than the number of nodes in the block, or if an allocation fails.
 fn insert_child(node: &mut KdlNode, index: usize, child: KdlNode) -> Result<(), Refused>
     ensures done { OnOk result (ChildPut index child node.old node.new) }
     ensures refused { OnErr result (node_tree node.new ≡ node_tree node.old) }
@@ -137,7 +141,7 @@ fn insert_child(node: &mut KdlNode, index: usize, child: KdlNode) -> Result<(), 
     }
 }
 
-/// Removes the node at the index of the block.
+/// Removes the node at the index of the block. Fails if there is none.
 fn remove_child(node: &mut KdlNode, index: usize) -> Result<(), Refused>
     ensures done { OnOk result (ChildRemoved index node.old node.new) }
     ensures refused { OnErr result (node_tree node.new ≡ node_tree node.old) }

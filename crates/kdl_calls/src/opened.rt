@@ -1,6 +1,6 @@
-//! A document taken apart along a path, so that the block at its end can be changed in place.
+//! A document that is taken apart along a path, so that the block at the end of the path can be changed in place.
 //!
-//! It goes down and up in loops and keeps the way in memory, so that no depth runs out of stack.
+//! The functions use loops, and keep the documents above the block on the heap, so that no depth overflows the stack.
 
 ghost use Rattle.kdl.specs.Words.{document_tree, nodes_of};
 ghost use Rattle.kdl_calls.specs.Internal.Opened.{HasEntered, IsOpened, block_in, plugged, with_kids_at};
@@ -14,21 +14,25 @@ use kdl::KdlDocument;
 use std::alloc::Global;
 use std::mem;
 
-/// A document above the block: without the block of the node at the index.
+/// A document above the block.
 #[derive(Drop)]
 pub struct Above {
+    /// The document, without the block of the node at the index.
     pub document: KdlDocument,
+    /// The index of the node whose block is taken out.
     pub index: usize,
 }
 
-/// The block at the end of a path, and the documents above it, from the outermost on.
+/// The block at the end of a path, and the documents above it.
 #[derive(Drop)]
 pub struct Opened {
+    /// The documents above the block, the outermost first.
     above: Vec<Above>,
+    /// The block at the end of the path: the document itself if the path is empty.
     pub block: KdlDocument,
 }
 
-/// Takes the block of the node at the index out of it.
+/// Takes the block out of the node at the index. Returns `None` if there is no such node, or if it has no block.
 fn take_block(document: &mut KdlDocument, index: usize) -> Option<KdlDocument>
     ensures value { result ≡ block_in index document.old }
     ensures tree { document_tree document.new ≡ with_kids_at index no_children
@@ -40,7 +44,7 @@ fn take_block(document: &mut KdlDocument, index: usize) -> Option<KdlDocument>
     }
 }
 
-/// Puts the block into the node at the index.
+/// Puts the block into the node at the index. Drops the block if there is no such node.
 fn put_block(document: &mut KdlDocument, index: usize, block: KdlDocument)
     ensures { document_tree document.new
         ≡ with_kids_at index (children (document_tree block)) (document_tree document.old) }
@@ -51,8 +55,10 @@ fn put_block(document: &mut KdlDocument, index: usize, block: KdlDocument)
 }
 
 impl Opened {
-    /// The block of the node at the path. Fails where there is none, or where memory runs out: then the document comes
-    /// back as it was.
+    /// Takes the document apart along the path, and opens the block of the node at the path.
+    ///
+    /// Fails if there is no node at the path, if a node on the way or at the end has no block, or if an allocation
+    /// fails. The error then contains the document, unchanged.
     pub fn open(
         alloc: Global,
         document: KdlDocument,
@@ -75,7 +81,10 @@ impl Opened {
         Ok(opened)
     }
 
-    /// Goes on to the block of the node at the index.
+    /// Takes the block out of the node at the index. That block becomes the current one.
+    ///
+    /// Fails if there is no such node, if it has no block, or if an allocation fails. The whole document is then
+    /// unchanged.
     fn enter(&mut self, index: usize) -> Result<(), Refused>
         ensures entered { OnOk result (HasEntered index self.old self.new) }
         ensures kept { OnErr result (plugged self.new.above.items (document_tree self.new.block)
@@ -94,7 +103,7 @@ impl Opened {
         Ok(())
     }
 
-    /// The whole document: puts each block into the document above it.
+    /// Puts each block back into the document above it, and returns the whole document.
     pub fn close(self) -> KdlDocument
         ensures { document_tree result ≡ plugged self.above.items (document_tree self.block) }
     {

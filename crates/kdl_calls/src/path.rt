@@ -1,4 +1,5 @@
-//! Nodes by the path to them: the index among the nodes of the document, then among those of each block below.
+//! Look-ups of nodes by their path: the index of a node in the document, then the index of a node in the block of that
+//! one, and so on.
 
 ghost use Rattle.kdl.specs.Words.{nodes_of};
 ghost use Rattle.kdl_calls.specs.Paths.{node_at, nodes_at};
@@ -6,7 +7,8 @@ ghost use Rattle.std.specs.Prelude.{◌≡◌, option_map};
 
 use kdl::{KdlDocument, KdlNode};
 
-/// The nodes in the block of the node at the path, or in the document where the path is empty.
+/// Returns the nodes in the block of the node at the path, or the nodes of the document if the path is empty. Returns
+/// `None` if there is no node at the path, or if that node has no block.
 pub fn nodes_at<'a>(document: &'a KdlDocument, path: &[usize]) -> Option<&'a [KdlNode]>
     ensures { option_map (λ ns. ns.now) result ≡ nodes_at path.now (nodes_of document.now) }
 {
@@ -23,7 +25,7 @@ pub fn nodes_at<'a>(document: &'a KdlDocument, path: &[usize]) -> Option<&'a [Kd
     Some(nodes)
 }
 
-/// The node at the path.
+/// Returns the node at the path, or `None` if there is none. There is no node at the empty path.
 pub fn node_at<'a>(document: &'a KdlDocument, path: &[usize]) -> Option<&'a KdlNode>
     ensures { option_map (λ n. n.now) result ≡ node_at path.now (nodes_of document.now) }
 {

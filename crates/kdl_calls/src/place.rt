@@ -9,17 +9,20 @@ ghost use Rattle.std.specs.Str.{chars};
 
 use kdl_text::chars::is_newline_char;
 
-/// A line and a column, both from 1. `returned` says that the character before is a carriage return: a newline ends
-/// there, unless a line feed follows.
+/// A place in a text, by its line and its column.
 #[derive(Clone, Copy)]
 pub struct Place {
+    /// The line, counted from 1.
     pub line: usize,
+    /// The column, in characters, counted from 1.
     pub column: usize,
+    /// Whether the character before is a carriage return. The line and the column do not count it as a newline yet: it
+    /// is a newline of its own unless a line feed follows.
     returned: bool,
 }
 
 impl Place {
-    /// The place where no line feed follows.
+    /// Returns the place, given that no line feed follows: after a carriage return, the start of the next line.
     fn ended(self) -> Place
         requires { line_of self false < 2 ^ 64 }
         ensures line { result.line ≡ line_of self false }
@@ -36,7 +39,7 @@ impl Place {
         self
     }
 
-    /// The place after one more character.
+    /// Returns the place after one more character.
     fn step(self, c: char) -> Place
         requires line { line_of self false + 1 < 2 ^ 64 }
         requires column { self.column + 1 < 2 ^ 64 }
@@ -76,7 +79,7 @@ impl Place {
     }
 }
 
-/// The place after a text.
+/// Returns the place at the end of a text.
 fn place_after(text: &str) -> Place
     ensures after { (r : Text) → IsAfter (chars text.now) r result }
     ensures line { line_of result false < 2 ^ 64 }
@@ -92,7 +95,7 @@ fn place_after(text: &str) -> Place
     place
 }
 
-/// Whether the text begins with a line feed.
+/// Returns whether the text begins with a line feed.
 fn begins_with_feed(text: &str) -> bool
     ensures { result ≡ begins 10 (chars text.now) }
 {
@@ -102,8 +105,8 @@ fn begins_with_feed(text: &str) -> bool
     }
 }
 
-/// The line and the column of a byte of the text, or of its end. Returns none for an offset after the end or inside of a
-/// character.
+/// Returns the line and the column of the character at the offset, which is in bytes, or of the end of the text.
+/// Returns `None` if the offset is after the end or inside a character.
 pub fn position(text: &str, offset: usize) -> Option<Place>
     ensures found { IfSome result (λ p. IsPosition (chars text.now) offset p.line p.column) }
     ensures missing { IsNone result → IsNoPosition (chars text.now) offset }

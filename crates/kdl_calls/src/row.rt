@@ -1,4 +1,4 @@
-//! Nodes and entries as rows.
+//! The rows of a node and of an entry.
 
 ghost use Rattle.kdl.specs.Words.{entry_data, entry_tree, node_says, said_type, value_tree};
 ghost use Rattle.kdl.specs.declared.node.KdlNode.{out-KdlNode};
@@ -10,52 +10,73 @@ use crate::text::{Place, put_string};
 use kdl::{KdlEntry, KdlNode, KdlValue};
 use std::alloc::{AllocError, Global};
 
+/// The kind of the row of a node.
 pub const NODE: u32 = 1;
 
+/// The kind of the row of an argument.
 pub const ARGUMENT: u32 = 2;
 
+/// The kind of the row of a property.
 pub const PROPERTY: u32 = 3;
 
-/// The end of a block of children.
+/// The kind of the row that ends a block of children.
 pub const END: u32 = 4;
 
+/// The row has no value: it is the row of a node, or of the end of a block.
 pub const NO_VALUE: u32 = 0;
 
+/// The kind of a string value. The row has its text.
 pub const STRING: u32 = 1;
 
-/// A whole number that an `i64` holds: in `integer`.
+/// The kind of an integer value that fits in an `i64`. The row has it in `integer`.
 pub const INTEGER: u32 = 2;
 
-/// A whole number beyond that: as a text.
+/// The kind of an integer value that does not fit in an `i64`. The row has its decimal text.
 pub const LARGE_INTEGER: u32 = 3;
 
+/// The kind of a float value. The row has its text.
 pub const FLOAT: u32 = 4;
 
-/// A boolean: 0 or 1 in `integer`.
+/// The kind of a boolean value. The row has 0 or 1 in `integer`.
 pub const BOOL: u32 = 5;
 
+/// The kind of the value null.
 pub const NULL: u32 = 6;
 
-/// A node, an argument, a property, or the end of a block. Each text is a place in the strings.
+/// A node, an argument, a property, or the end of a block. Each text is a range of bytes in the strings. The fields of
+/// what the row does not have are 0.
 #[repr(C)]
 #[derive(Clone, Copy)]
 pub struct KdlRow {
+    /// `NODE`, `ARGUMENT`, `PROPERTY` or `END`.
     pub kind: u32,
+    /// The kind of the value, or `NO_VALUE`.
     pub value: u32,
+    /// 1 if the node or the entry has a type, else 0.
     pub has_type: u32,
+    /// 1 if the node has a block of children, else 0.
     pub has_block: u32,
+    /// The number of an `INTEGER`, or 0 or 1 for a `BOOL`.
     pub integer: i64,
+    /// Where the name of the node, or the key of the property, starts in the strings.
     pub name_start: usize,
+    /// The length of the name or key in bytes.
     pub name_len: usize,
+    /// Where the type starts in the strings.
     pub type_start: usize,
+    /// The length of the type in bytes.
     pub type_len: usize,
+    /// Where the text of a `STRING`, a `LARGE_INTEGER` or a `FLOAT` starts in the strings.
     pub text_start: usize,
+    /// The length of that text in bytes.
     pub text_len: usize,
+    /// The offset of the span of the node or the entry, in bytes.
     pub start: usize,
+    /// The length of that span, in bytes.
     pub len: usize,
 }
 
-/// What a row says of a value.
+/// The part of a row that describes a value.
 #[derive(Clone, Copy)]
 struct ValueParts {
     value: u32,
@@ -63,16 +84,18 @@ struct ValueParts {
     text: Place,
 }
 
+/// The place of a text that a row does not have.
 const NOWHERE: Place = Place { start: 0, len: 0 };
 
-/// A number of a row, and the place of its text.
+/// A number of a row, and the place of the text that belongs to it.
 #[derive(Clone, Copy)]
 struct Part {
     kind: u32,
     place: Place,
 }
 
-/// The kind of an entry, and its key.
+/// Appends the key of an entry, if it has one, to the strings. Returns the kind of the row of the entry, and the place
+/// of the key.
 fn put_key(entry: &KdlEntry, strings: &mut [u8], used: &mut usize) -> Part
     ensures more { used.old ≤ used.new }
     ensures within { used.new ≤ length strings.old
@@ -94,7 +117,7 @@ fn put_key(entry: &KdlEntry, strings: &mut [u8], used: &mut usize) -> Part
     }
 }
 
-/// Whether an entry has a type, and its type.
+/// Appends the type of an entry to the strings. Returns 1 and the place of the type, or 0 if there is none.
 fn put_type(entry: &KdlEntry, strings: &mut [u8], used: &mut usize) -> Part
     ensures more { used.old ≤ used.new }
     ensures within { used.new ≤ length strings.old
@@ -116,7 +139,7 @@ fn put_type(entry: &KdlEntry, strings: &mut [u8], used: &mut usize) -> Part
     }
 }
 
-/// Whether a node has a type, and its type.
+/// Appends the type of a node to the strings. Returns 1 and the place of the type, or 0 if there is none.
 fn put_node_type(node: &KdlNode, strings: &mut [u8], used: &mut usize) -> Part
     ensures more { used.old ≤ used.new }
     ensures within { used.new ≤ length strings.old
@@ -138,13 +161,16 @@ fn put_node_type(node: &KdlNode, strings: &mut [u8], used: &mut usize) -> Part
     }
 }
 
+/// Returns 1 for true, and 0 for false.
 fn flag(is: bool) -> u32
     ensures { result ≡ flag_of is }
 {
     if is { 1 } else { 0 }
 }
 
-/// The row of a node.
+/// Returns the row of a node, and appends the name and the type to the strings.
+///
+/// A text that does not fit is not written, but counted in `used`.
 pub fn put_node(node: &KdlNode, strings: &mut [u8], used: &mut usize) -> KdlRow
     ensures kind { result.kind ≡ 1 }
     ensures start { result.start ≡ (out-KdlNode node.now).span.offset }
@@ -175,6 +201,8 @@ pub fn put_node(node: &KdlNode, strings: &mut [u8], used: &mut usize) -> KdlRow
     }
 }
 
+/// Returns the part of a row that describes an integer. If the integer does not fit in an `i64`, appends its decimal
+/// text to the strings.
 fn put_integer(
     alloc: Global,
     number: i128,
@@ -205,6 +233,7 @@ fn put_integer(
     }
 }
 
+/// Returns the part of a row that describes a value, and appends its text, if it has one, to the strings.
 fn put_value(
     alloc: Global,
     value: &KdlValue,
@@ -244,7 +273,10 @@ fn put_value(
     }
 }
 
-/// The row of an entry.
+/// Returns the row of an entry, and appends the key, the type and the text of the value to the strings. Returns an
+/// error if an allocation fails.
+///
+/// A text that does not fit is not written, but counted in `used`.
 pub fn put_entry(
     alloc: Global,
     entry: &KdlEntry,
@@ -280,7 +312,10 @@ pub fn put_entry(
     })
 }
 
-/// Writes the row of an entry that was found.
+/// Writes the row of an entry that was found, and appends its texts to the strings.
+///
+/// Returns `OK` if the texts fit, and `TOO_SMALL` if not; the row is written in both cases. Returns `OUT_OF_MEMORY` if
+/// an allocation fails.
 pub fn put_found(
     alloc: Global,
     entry: &KdlEntry,

@@ -7,7 +7,7 @@ ghost use Rattle.std.specs.Prelude.{◌≡◌, ◌≤◌};
 
 use kdl::ParseFailure;
 
-/// The call did what it says.
+/// The call succeeded.
 pub const OK: u32 = 0;
 
 /// The text has faults.
@@ -16,19 +16,19 @@ pub const FAULTS: u32 = 1;
 /// The text is not UTF-8.
 pub const NOT_UTF8: u32 = 2;
 
-/// Memory ran out.
+/// An allocation failed.
 pub const OUT_OF_MEMORY: u32 = 3;
 
-/// The buffer has less room than is needed.
+/// A buffer has less room than the call needs.
 pub const TOO_SMALL: u32 = 4;
 
 /// The handle has no document.
 pub const NO_DOCUMENT: u32 = 5;
 
-/// There is no node at the path, or no entry at the index.
+/// What the call names does not exist: a node, a block, an entry, an index, an offset or a kind.
 pub const NOT_FOUND: u32 = 6;
 
-/// The status for a text that was not parsed.
+/// Returns the status for a parse failure: `FAULTS` or `OUT_OF_MEMORY`.
 pub fn of_failure(failure: &ParseFailure) -> u32
     ensures { result ≡ failure_status failure.now }
 {
@@ -38,7 +38,8 @@ pub fn of_failure(failure: &ParseFailure) -> u32
     }
 }
 
-/// `OK` where everything had room, else `TOO_SMALL`.
+/// Returns `OK` if the rows and the strings fit, else `TOO_SMALL`. The buffers have room for `rows` rows and `strings`
+/// bytes. The call needs `row_count` rows and `string_len` bytes.
 pub fn room(rows: usize, row_count: usize, strings: usize, string_len: usize) -> u32
     ensures rows { result ≡ 0 → row_count ≤ rows }
     ensures strings { result ≡ 0 → string_len ≤ strings }
@@ -54,16 +55,16 @@ pub fn room(rows: usize, row_count: usize, strings: usize, string_len: usize) ->
 /// Why a text was not read.
 #[derive(Clone, Copy)]
 pub enum Unread {
-    /// It has faults.
+    /// The text has faults.
     Faults,
-    /// It is not UTF-8.
+    /// The text is not UTF-8.
     NotUtf8,
-    /// Memory ran out.
+    /// An allocation failed.
     Memory,
 }
 
 impl Unread {
-    /// The status for a text that was not read.
+    /// Returns the status for a text that was not read.
     pub fn status(self) -> u32
         ensures not_done { result ≡ 0 → ⊥ }
         ensures held { result ≡ 5 → ⊥ }
@@ -82,14 +83,14 @@ impl Unread {
 /// Why an edit was not made.
 #[derive(Clone, Copy)]
 pub enum Refused {
-    /// There is no node at the path, or nothing at the index.
+    /// There is no node at the path, or the index is too large.
     NotFound,
-    /// Memory ran out.
+    /// An allocation failed.
     Memory,
 }
 
 impl Refused {
-    /// The status of an edit that was not made.
+    /// Returns the status of an edit that was not made.
     pub fn status(self) -> u32
         ensures not_done { result ≡ 0 → ⊥ }
         ensures held { result ≡ 5 → ⊥ }

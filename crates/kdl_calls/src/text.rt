@@ -1,4 +1,4 @@
-//! Texts written into the caller's buffers.
+//! Texts that are written into the caller's buffers.
 
 ghost use Rattle.kdl_calls.specs.Strings.{HasPut, words_of};
 ghost use Rattle.kdl_calls.specs.Says.{Grown, IsBytes};
@@ -7,7 +7,9 @@ ghost use Rattle.kdl_text.specs.Spans.{raise};
 
 use crate::status::{OK, TOO_SMALL};
 
-/// Writes a text into `out`, where it fits, and its length into `needed` in any case.
+/// Writes a text at the start of `out`, and sets `needed` to its length.
+///
+/// If the text does not fit, returns `TOO_SMALL`, and leaves `out` unchanged.
 pub fn put_text(text: &str, out: &mut [u8], needed: &mut usize) -> u32
     ensures whole { needed.new ≡ length text.now }
     ensures fits { result ≡ 0 → out.new ≡ text.now ++ drop (length text.now) out.old }
@@ -26,14 +28,19 @@ pub fn put_text(text: &str, out: &mut [u8], needed: &mut usize) -> u32
     OK
 }
 
-/// The place of a string in the strings.
+/// The place of a string among the strings.
 #[derive(Clone, Copy)]
 pub struct Place {
+    /// The index of the first byte.
     pub start: usize,
+    /// The number of bytes.
     pub len: usize,
 }
 
-/// Writes a string after the others, where it fits, and counts it in any case.
+/// Appends a string to the first `used` bytes of `strings`, and returns its place.
+///
+/// Adds the length of the string to `used`, up to `usize::MAX`. If the string does not fit, its length is added all the
+/// same, and `strings` is unchanged.
 pub fn put_string(text: &str, strings: &mut [u8], used: &mut usize) -> Place
     ensures start { result.start ≡ used.old }
     ensures len { result.len ≡ length text.now }
@@ -63,7 +70,7 @@ pub fn put_string(text: &str, strings: &mut [u8], used: &mut usize) -> Place
     place
 }
 
-/// Writes what there is after the other strings, and an empty string where there is nothing.
+/// Appends a string as `put_string` does, or an empty string if there is none.
 pub fn put_words(words: Option<&String>, strings: &mut [u8], used: &mut usize) -> Place
     ensures start { result.start ≡ used.old }
     ensures len { result.len ≡ length (words_of (option_copied words.entry)) }

@@ -1,10 +1,10 @@
 -- Rows whose texts are in the strings that were written.
 pub mod Rows
--- What the rows of a document say, in order.
+-- The data in the rows of a document, in order.
 pub mod Flat
--- Faults with all that is said of them.
+-- The faults of a text, with their labels and helps.
 pub mod Reports
--- What is written of the faults of a text: their rows, and the strings that the rows name.
+-- The faults of a text as they are written: their rows, and the strings to which the rows refer.
 pub mod Listed
 -- Texts that are read as documents, nodes, entries or values.
 pub mod Reading

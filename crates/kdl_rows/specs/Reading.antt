@@ -15,19 +15,19 @@ IsRead (suc (suc zero)) t = (x : EntryData) × IsEntryText true t x
 IsRead (suc (suc (suc zero))) t = (v : Value) × IsEntryText true t (plain_value v)
 IsRead (suc (suc (suc (suc _)))) t = ⊥
 
--- what came of reading the text as the kind says: a text that was read is of the kind, and one that is refused is not;
--- where a value is read, a text that is not one is an entry, and one that is refused is none
+-- the result of reading the text as the kind: a text that is read is of the kind, and one that is refused is not; for a
+-- value, a text that is not one is an entry, and one that is refused is not even an entry
 abbrev pub Outcome : ℕ → List ℕ → Reading → Type 0
 Outcome kind s Read = IsRead kind (chars s)
 Outcome kind s NotValue = (kind ≡ 3) × IsRead 2 (chars s) × (IsRead kind (chars s) → ⊥)
 Outcome kind s (Refused e) = Tells s e × (IsRead kind (chars s) → ⊥) × (kind ≡ 3 → IsRead 2 (chars s) → ⊥)
 Outcome kind s Memory = Unit {0}
 
--- the fault of an entry with a key or a type, where a value is read: the whole text
+-- the fault of an entry with a key or a type that is read as a value: it concerns the whole text
 abbrev pub not_value : List ℕ → Fault
 not_value text = record { span = record { offset = 0; len = length text }; message = codes "Expected value without key or type"; label = []; help = [] }
 
--- the faults of a text that is read as the kind says: those of an error of it, or that of an entry that is no value
+-- the faults of a text that is read as the kind: those of its error, or that of an entry that is not a value
 abbrev pub AreFaultsAs : ℕ → List ℕ → List Fault → Type 0
 AreFaultsAs kind text fs =
     (AreFaultsOf text fs × (kind ≡ 3 → IsRead 2 (chars text) → ⊥))

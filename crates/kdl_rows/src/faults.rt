@@ -13,13 +13,17 @@ use kdl_calls::text::put_words;
 #[repr(C)]
 #[derive(Clone, Copy)]
 pub struct KdlFault {
+    /// The offset of the span of the fault in the text, in bytes.
     pub start: usize,
+    /// The length of that span, in bytes.
     pub len: usize,
+    /// Where the message starts in the strings.
     pub message_start: usize,
+    /// The length of the message in bytes.
     pub message_len: usize,
 }
 
-/// Writes the row of a fault at its index, where there is room, and its message after the other strings.
+/// Writes the row of a fault at the index, and appends its message to the strings, each if there is room.
 fn put_fault(
     fault: &KdlDiagnostic,
     at: usize,
@@ -46,7 +50,9 @@ fn put_fault(
     }
 }
 
-/// Writes as many faults as there is room for, their messages from the beginning of the strings, and counts all.
+/// Writes the rows of the faults, and their messages from the start of the strings, as far as there is room.
+///
+/// Sets `count` to the number of faults, and `used` to the number of bytes of all messages, whether or not they fit.
 pub fn put_faults(
     found: &[KdlDiagnostic],
     out: &mut [KdlFault],

@@ -11,28 +11,28 @@ use kdl::{KdlDocument, KdlEntry, KdlError, KdlNode, ParseFailure};
 use kdl_calls::text::put_string;
 use std::alloc::Global;
 
-/// A text is read as a document.
+/// The kind of a text that is read as a document.
 pub const AS_DOCUMENT: u32 = 0;
 
-/// A text is read as one node.
+/// The kind of a text that is read as one node.
 pub const AS_NODE: u32 = 1;
 
-/// A text is read as one entry.
+/// The kind of a text that is read as one entry.
 pub const AS_ENTRY: u32 = 2;
 
-/// A text is read as a value: an entry without a key and a type.
+/// The kind of a text that is read as a value: an entry without a key and a type.
 pub const AS_VALUE: u32 = 3;
 
-/// What came of reading a text.
+/// The result of reading a text as one of the kinds.
 #[derive(Drop)]
 pub enum Reading {
-    /// It is what it was read as.
+    /// The text is of the kind.
     Read,
-    /// It is an entry with a key or a type, and not a value.
+    /// The kind is `AS_VALUE`, and the text is an entry with a key or a type.
     NotValue,
-    /// It is refused.
+    /// The text is refused.
     Refused(KdlError),
-    /// Memory ran out.
+    /// An allocation failed.
     Memory,
 }
 
@@ -64,7 +64,7 @@ fn read_value(alloc: Global, text: &str) -> Reading
     }
 }
 
-/// Whether the entry is a value without a key and a type.
+/// Returns whether the entry has neither a key nor a type.
 fn is_alone(entry: &KdlEntry) -> bool
     ensures { result ≡ is_alone (entry_tree entry.now) }
 {
@@ -93,7 +93,7 @@ fn read_document(alloc: Global, text: &str) -> Reading
     }
 }
 
-/// Reads a text as the kind says, where there is such a kind.
+/// Reads a text as one of the kinds: a document, a node, an entry or a value. Returns `None` if there is no such kind.
 pub fn read(alloc: Global, kind: u32, text: &str) -> Option<Reading>
     ensures some { IfSome result (λ r. Outcome kind text.now r) }
     ensures none { IsNone result → 4 ≤ kind }
@@ -107,7 +107,9 @@ pub fn read(alloc: Global, kind: u32, text: &str) -> Option<Reading>
     }
 }
 
-/// Writes the fault of an entry that is not a value: the whole text.
+/// Writes the fault of an entry that is not a value, as far as there is room. It concerns the whole text.
+///
+/// Sets `count` to 1, and `used` to the number of bytes of the message.
 pub fn put_not_value(
     text: &str,
     out: &mut [KdlFault],

@@ -1,4 +1,5 @@
-//! Lists of rows in the caller's buffers: a whole document, the faults of a text, and their reports.
+//! Lists of rows that are written into the caller's buffers: the rows of a document, and the faults of a text, with or
+//! without labels and helps.
 #![tactic(auto)]
 
 pub mod faults;

@@ -1,4 +1,4 @@
-//! The faults of a text with all that is said of them.
+//! The faults of a text, with their labels and helps, as rows.
 
 ghost use Rattle.kdl.specs.Words.{IsToldOf};
 ghost use Rattle.kdl_calls.specs.Strings.{HasPut, words_of};
@@ -9,22 +9,31 @@ ghost use Rattle.std.specs.Prelude.{◌≡◌, ◌+◌, ◌++◌, ◌∷◌, [],
 use kdl::KdlDiagnostic;
 use kdl_calls::text::put_words;
 
-/// A fault with all that is said of it: the bytes of the text that it concerns, and the places of its message, of the
-/// label of its place and of its help in the strings. What a fault lacks has the length 0.
+/// A fault: the bytes of the text that it concerns, and the places of its message, its label and its help in the
+/// strings. The length of a text that the fault does not have is 0.
 #[repr(C)]
 #[derive(Clone, Copy)]
 pub struct KdlReport {
+    /// The offset of the span of the fault in the text, in bytes.
     pub start: usize,
+    /// The length of that span, in bytes.
     pub len: usize,
+    /// Where the message starts in the strings.
     pub message_start: usize,
+    /// The length of the message in bytes.
     pub message_len: usize,
+    /// Where the label starts in the strings.
     pub label_start: usize,
+    /// The length of the label in bytes.
     pub label_len: usize,
+    /// Where the help starts in the strings.
     pub help_start: usize,
+    /// The length of the help in bytes.
     pub help_len: usize,
 }
 
-/// Writes the report of a fault at its index, where there is room, and its words after the other strings.
+/// Writes the report of a fault at the index, and appends its message, its label and its help to the strings, each if
+/// there is room.
 fn put_report(
     fault: &KdlDiagnostic,
     at: usize,
@@ -58,7 +67,10 @@ fn put_report(
     }
 }
 
-/// Writes as many reports as there is room for, their words from the beginning of the strings, and counts all.
+/// Writes the reports of the faults, and their messages, labels and helps from the start of the strings, as far as
+/// there is room.
+///
+/// Sets `count` to the number of faults, and `used` to the number of bytes of all these texts, whether or not they fit.
 pub fn put_reports(
     found: &[KdlDiagnostic],
     out: &mut [KdlReport],

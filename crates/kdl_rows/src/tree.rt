@@ -10,7 +10,7 @@ use kdl::{KdlDocument, KdlNode};
 use kdl_calls::row::{END, KdlRow, NO_VALUE, put_entry, put_node};
 use std::alloc::{AllocError, Global};
 
-/// The row that ends a block.
+/// Returns the row that ends a block.
 fn end_row() -> KdlRow
     ensures within { IsWithin 0 result }
     ensures kind { result.kind ≡ 4 }
@@ -32,7 +32,7 @@ fn end_row() -> KdlRow
     }
 }
 
-/// Writes a row after the others, where there is room, and counts it in any case.
+/// Appends a row, if there is room, and counts it in any case.
 fn put_row(row: KdlRow, rows: &mut [KdlRow], count: &mut usize)
     ensures more { count.old ≤ count.new }
     ensures counted { count.new ≤ length rows.old → count.new ≡ count.old + 1 }
@@ -44,7 +44,7 @@ fn put_row(row: KdlRow, rows: &mut [KdlRow], count: &mut usize)
     *count = count.saturating_add(1);
 }
 
-/// The rows of a node and of its entries.
+/// Appends the rows of a node and of its entries. Returns an error if an allocation fails.
 fn put_node_rows(
     alloc: Global,
     node: &KdlNode,
@@ -68,7 +68,13 @@ fn put_node_rows(
     Ok(())
 }
 
-/// The rows of all nodes, over a stack in memory and without recursion, however deep their blocks are.
+/// Appends the rows of all nodes: for each node its row, the rows of its entries and, if it has a block, the rows of
+/// its children and a row that ends the block.
+///
+/// Rows and texts that do not fit are not written, but counted in `count` and `used`.
+///
+/// Uses a stack on the heap instead of recursion, so that no depth of blocks overflows the call stack. Returns an error
+/// if an allocation fails.
 pub fn put_tree(
     alloc: Global,
     document: &KdlDocument,

@@ -1,4 +1,4 @@
--- What a change makes of a node.
+-- A node after a change.
 use Rattle.std.specs.List.{insert}
 use Rattle.std.specs.Prelude.{◌≡◌, ◌≤◌, ◌<◌, ℕ, [], ◌∷◌, Some, String, length, option_map, slice_get}
 use Rattle.std.specs.declared.alloc.Global.{Global}
@@ -15,23 +15,23 @@ use Rattle.kdl_calls.specs.declared.entry_change.EntryChange.TheVariants as chan
 use Rattle.kdl_calls.specs.declared.node_change.NodeChange.{NodeChange}
 use Rattle.kdl_calls.specs.declared.node_change.NodeChange.TheVariants.{SetName, SetType, ChangeEntry, InsertEntry, RemoveEntry, InsertChild, RemoveChild}
 
--- a format with another spelling of the value
+-- the format with another spelling of the value
 abbrev pub respelled : String Global → EntryFormat → EntryFormat
 respelled s f = record f { value_repr = text_of s }
 
--- an entry after a change of it
+-- the entry after the change
 abbrev pub changed_entry : EntryChange → Entry → Entry
 changed_entry (change.SetKey o) e = record e { name = option_map identifier_tree o }
 changed_entry (change.SetType o) e = record e { ty = option_map identifier_tree o }
 changed_entry (change.SetValue v s) e = record e { value = value_tree v; format = option_map (respelled s) e.format }
 
--- m is n with the entry before the one at i, or last
+-- m is n with the entry e before the one at i, or after the last one
 pub record EntryPut (i : ℕ) (e : KdlEntry) (n m : KdlNode) : Type 0 where
   pub place : i ≤ length (entries_of n)
   pub entries : entries_of m ≡ insert (entries_of n) i e
   pub rest : m ≡ with_entries n (held_entries m)
 
--- n has nothing to be changed at the index
+-- the index of the change is too large for n; a change of the name or the type has no index
 abbrev pub Lacks : NodeChange → KdlNode → Type 0
 Lacks (SetName w) n = ⊥
 Lacks (SetType w) n = ⊥
@@ -51,7 +51,7 @@ IsDone (RemoveEntry i) n m = EntryRemoved i n m
 IsDone (InsertChild i x) n m = ChildPut i x n m
 IsDone (RemoveChild i) n m = ChildRemoved i n m
 
--- e is d after the change of the node at i
+-- e is d after the change to the node at i
 pub record IsDoneIn (i : ℕ) (c : NodeChange) (d e : KdlDocument) : Type 0 where
   pub old : KdlNode
   pub new : KdlNode
@@ -59,7 +59,7 @@ pub record IsDoneIn (i : ℕ) (c : NodeChange) (d e : KdlDocument) : Type 0 wher
   pub done : IsDone c old new
   pub rest : document_tree e ≡ changed_at (i ∷ []) (λ _. node_tree new) (document_tree d)
 
--- e is d with the node before the one at i, or last
+-- e is d with the node n before the one at i, or after the last one
 pub record NodePut (i : ℕ) (n : KdlNode) (d e : KdlDocument) : Type 0 where
   pub put : IsPut i (node_tree n) d e
   pub prints : PrintsPut i n d e
