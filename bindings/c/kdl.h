@@ -6,15 +6,15 @@
  *         kdl_free(&document);
  *     }
  *
- * Each call returns a status, `KDL_OK` or another constant of the enum below, except for kdl_free
- * and kdl_version.
+ * Each call but kdl_free and kdl_version returns a status: `KDL_OK` or another constant of the enum
+ * below.
  *
  * Texts. A text is bytes of UTF-8 and a length; no NUL ends it. A call that writes a text takes a
  * buffer of the caller, `room` bytes long, and sets `*needed` (or `*.._len`) to the whole length.
- * Where that is more than `room`, it returns KDL_TOO_SMALL: call again with that much room. The
- * exceptions are kdl_faults, kdl_faults_of and kdl_reports: they return KDL_FAULTS, and the counts
- * tell. No call keeps a pointer that it was given, and none returns a pointer. KDL_TEXT passes a
- * string literal: `kdl_parse(KDL_TEXT("a 1"), &document)`.
+ * If that is more than `room`, the call returns KDL_TOO_SMALL: call again with that much room. The
+ * exceptions are kdl_faults, kdl_faults_of and kdl_reports. They return KDL_FAULTS even then, and
+ * the counts say whether the room was enough. No call keeps a pointer that it was given, and none
+ * returns a pointer. KDL_TEXT passes a string literal: `kdl_parse(KDL_TEXT("a 1"), &document)`.
  *
  * Ownership. A `struct kdl_document` belongs to the caller and begins as {0}, without a document.
  * kdl_parse puts a document in and frees the one before; kdl_free frees it, and may be called
@@ -22,16 +22,16 @@
  * that has a document, and free each one before its storage ends. The memory comes from the
  * program's malloc, realloc and free, which have to align to 16 bytes.
  *
- * Threads. A call on a document takes the document out of the struct while it runs, even where it
- * only reads: make one call at a time on each document. Different documents may be used on
- * different threads at the same time. Make no call from a signal handler, nor in the forked child
- * of a process with threads.
+ * Threads. A call on a document takes the document out of the struct while it runs, even if it only
+ * reads: make one call at a time on each document. Different documents may be used on different
+ * threads at the same time. Make no call from a signal handler, nor in the forked child of a
+ * process with threads.
  *
- * Pointers. Each pointer is valid and aligned, even where its length is 0: pass the address of any
- * object then, never NULL. No bytes that a call writes overlap bytes of another argument. A path of
- * length 0 has no bytes, so `kdl_find(d, path, 0, .., &path[0])` is right. Begin a
- * path as `size_t path[N] = {0};`, or compilers may warn. The bytes of an argument are at most
- * PTRDIFF_MAX. No call checks any of this.
+ * Pointers. Each pointer has to be valid and aligned, even if its length is 0: then pass the
+ * address of any object, never NULL. The bytes that a call writes must not overlap bytes of another
+ * argument. A path of length 0 has no bytes, so `kdl_find(d, path, 0, .., &path[0])` is right.
+ * Begin a path as `size_t path[N] = {0};`, or compilers may warn. The bytes of an argument are at
+ * most PTRDIFF_MAX. No call checks any of this.
  */
 #ifndef KDL_H
 #define KDL_H
@@ -56,8 +56,8 @@ enum {
     KDL_FAULTS = 1,        /* the text has faults: kdl_faults and kdl_reports list them; of a value,
                               entry or node: kdl_faults_of */
     KDL_NOT_UTF8 = 2,      /* the text is not UTF-8, or the name, key or type */
-    KDL_OUT_OF_MEMORY = 3, /* a request for memory was refused */
-    KDL_TOO_SMALL = 4,     /* a buffer has too little room; the counts say how much it takes */
+    KDL_OUT_OF_MEMORY = 3, /* an allocation failed */
+    KDL_TOO_SMALL = 4,     /* a buffer has too little room; the counts say how much is needed */
     KDL_NO_DOCUMENT = 5,   /* the struct has no document */
     KDL_NOT_FOUND = 6      /* what the call names is not there: a node, block, entry, index, offset
                               or kind */
@@ -68,25 +68,25 @@ struct kdl_document { bool live; void *at; };
 /* ---- Documents ---- */
 
 /* Parses a text into `document`, and frees the document that was there. The document keeps every
- * byte of the text. After another status than KDL_OK the struct has what it had before. */
+ * byte of the text. After any status but KDL_OK, the struct has what it had before. */
 uint32_t kdl_parse(const uint8_t *text, size_t text_len, struct kdl_document *document);
 
-/* Frees the document. A struct without one stays as it is. */
+/* Frees the document. Does nothing if the struct has none. */
 void kdl_free(struct kdl_document *document);
 
-/* Writes the text of the document: of a document that was only parsed, the text that was read. */
+/* Writes the text of the document. If it was only parsed, that is the text that was read. */
 uint32_t kdl_print(struct kdl_document *document, uint8_t *out, size_t room, size_t *needed);
 
-/* Lays the document out, with its comments. Its data stay as they are, also where memory runs out;
- * then a part of the document may be laid out. A document without nodes gets one newline after its
+/* Lays the document out, with its comments. Its data do not change. If an allocation fails, a part
+ * of the document may already be laid out. A document without nodes gets one newline after its
  * comments. */
 uint32_t kdl_format(struct kdl_document *document);
 
-/* The same without comments. Two documents print the same text then exactly where they have the
- * same data. */
+/* Lays the document out, without its comments. Two documents then print the same text if and only
+ * if they have the same data. */
 uint32_t kdl_strip(struct kdl_document *document);
 
-/* Parses a text, and writes it as kdl_format lays it out. */
+/* Parses a text, and writes the text that kdl_format lays out. */
 uint32_t kdl_format_text(const uint8_t *text, size_t text_len,
                          uint8_t *out, size_t room, size_t *needed);
 
@@ -95,30 +95,32 @@ uint32_t kdl_format_text(const uint8_t *text, size_t text_len,
 /* A fault: bytes start .. start + len of the text, and a message, in bytes of `strings`. */
 struct kdl_fault { size_t start, len, message_start, message_len; };
 
-/* Lists the faults of a text, in the order in which they are found: KDL_FAULTS where there are
- * some, KDL_OK where there are none. An unclosed block comes after the faults inside it: sort by
- * `start` for the order of the text. `start` and `start + len` are at most `text_len` and are not
- * inside a character. `*count` and `*strings_len` are set to the whole counts. Where one of them is
- * more than its room, the rest is missing: call again with that much room. What is there is right:
- * the first `room` faults, and the strings up to the first that does not fit, so that a message is
- * there where `message_start + message_len` is at most `strings_room`. After another status than
- * KDL_FAULTS both counts are 0, and no fault and no string is written. */
+/* Lists the faults of a text, in the order in which they are found. Returns KDL_FAULTS if there are
+ * any, and KDL_OK if there are none. An unclosed block comes after the faults inside it: sort by
+ * `start` for the order of the text. `start` and `start + len` are at most `text_len`, and are not
+ * inside a character.
+ *
+ * Sets `*count` and `*strings_len` to the whole counts. If one of them is more than its room, the
+ * rest is missing: call again with that much room. The first `room` faults are written, and the
+ * strings up to the first that does not fit. So a message is there if `message_start + message_len`
+ * is at most `strings_room`. After any status but KDL_FAULTS, both counts are 0, and no fault and
+ * no string is written. */
 uint32_t kdl_faults(const uint8_t *text, size_t text_len,
                     struct kdl_fault *faults, size_t room, size_t *count,
                     uint8_t *strings, size_t strings_room, size_t *strings_len);
 
-/* How kdl_faults_of reads a text: as the calls kdl_parse, kdl_insert_node, kdl_insert_entry and
- * kdl_set_value do. */
+/* How kdl_faults_of reads a text: as kdl_parse, kdl_insert_node, kdl_insert_entry and kdl_set_value
+ * do. */
 enum { KDL_AS_DOCUMENT = 0, KDL_AS_NODE = 1, KDL_AS_ENTRY = 2, KDL_AS_VALUE = 3 };
 
-/* As kdl_faults, of a text that is read as `kind` says. KDL_NOT_FOUND where there is no such kind:
- * both counts are 0 then. */
+/* Lists the faults of a text of the given kind, as kdl_faults does. For any other kind, returns
+ * KDL_NOT_FOUND and sets both counts to 0. */
 uint32_t kdl_faults_of(uint32_t kind, const uint8_t *text, size_t text_len,
                        struct kdl_fault *faults, size_t room, size_t *count,
                        uint8_t *strings, size_t strings_room, size_t *strings_len);
 
-/* A fault with all that is said of it: its message, a label for its place, and a help. A label or
- * help that it lacks has the length 0. */
+/* A fault with its message, a label for its place, and a help. The length of a label or help is 0
+ * if the fault has none. */
 struct kdl_report {
     size_t start, len;
     size_t message_start, message_len;
@@ -126,16 +128,17 @@ struct kdl_report {
     size_t help_start, help_len;
 };
 
-/* As kdl_faults, with labels and helps: the strings are the message, label and help of the first
- * fault, then those of the second, and so on. */
+/* Lists the faults of a text, as kdl_faults does, with labels and helps. The strings are the
+ * message, label and help of the first fault, then those of the second, and so on. */
 uint32_t kdl_reports(const uint8_t *text, size_t text_len,
                      struct kdl_report *reports, size_t room, size_t *count,
                      uint8_t *strings, size_t strings_room, size_t *strings_len);
 
-/* The line and column of a byte of the text, both from 1, by the newlines of KDL (CR LF is one)
- * and in characters: a BOM is one character, and the LF of a CR LF is a column of the line that it
- * ends. The end of the text has a position too. KDL_NOT_FOUND for an offset after the end or inside
- * of a character, KDL_NOT_UTF8 for another text. */
+/* Finds the line and column of a byte of the text, both counted from 1. A line ends at a newline of
+ * KDL; CR LF is one newline. A column is counted in characters: a BOM is one character, and the LF
+ * of a CR LF is a column of the line that it ends. The end of the text has a position too. Returns
+ * KDL_NOT_FOUND for an offset after the end or inside a character, and KDL_NOT_UTF8 if the text is
+ * not UTF-8. */
 uint32_t kdl_position(const uint8_t *text, size_t text_len, size_t offset,
                       size_t *line, size_t *column);
 
@@ -154,16 +157,16 @@ enum {
     KDL_NULL = 6
 };
 
-/* A node, an entry, or the end of a node's block. Each text is bytes of `strings`. What a row does
- * not have is 0: of a text its start and its length. */
+/* A node, an entry, or the end of a node's block. Each text is bytes of `strings`. A field that a
+ * row does not have is 0, and so are the start and the length of a text that it does not have. */
 struct kdl_row {
     uint32_t kind, value;
-    uint32_t has_type;     /* 1 where it has a type, which may be empty */
-    uint32_t has_block;    /* of a node: 1 where it has a block of children, which may be empty */
+    uint32_t has_type;     /* 1 if it has a type, which may be empty */
+    uint32_t has_block;    /* of a node: 1 if it has a block of children, which may be empty */
     int64_t integer;       /* of KDL_INTEGER and KDL_BOOL */
     size_t name_start, name_len; /* the name of a node, or the key of a property: 0, 0 of an
                                     argument and of an end */
-    size_t type_start, type_len; /* 0, 0 where `has_type` is 0 */
+    size_t type_start, type_len; /* 0, 0 if `has_type` is 0 */
     size_t text_start, text_len; /* the text of KDL_STRING, KDL_LARGE_INTEGER and KDL_FLOAT: 0, 0 of
                                     KDL_INTEGER, KDL_BOOL, KDL_NULL and KDL_NO_VALUE */
     size_t start, len;     /* its place in the text that it was read from, in bytes: of an inserted
@@ -171,11 +174,11 @@ struct kdl_row {
                               the place in that text. Edits do not change it. 0, 0 of an end */
 };
 
-/* Writes the whole document as rows: each node, its entries, and, where it has a block, the rows
- * of its children and an end. Both counts are set to the whole counts. After KDL_OK all is
- * written; after KDL_TOO_SMALL read nothing but the counts. A text of n bytes has at most n rows,
- * and at most n bytes of strings where its numbers fit into 64 bits; n / 6 rows and n bytes are a
- * good first guess. */
+/* Writes the whole document as rows: each node, its entries, and, if it has a block, the rows of
+ * its children and an end. Sets both counts to the whole counts. After KDL_OK all rows and strings
+ * are written. After KDL_TOO_SMALL, read only the counts. A text of n bytes has at most n rows, and
+ * at most n bytes of strings if its numbers fit into 64 bits; n / 6 rows and n bytes are a good
+ * first guess. */
 uint32_t kdl_tree(struct kdl_document *document,
                   struct kdl_row *rows, size_t room, size_t *row_count,
                   uint8_t *strings, size_t strings_room, size_t *strings_len);
@@ -183,67 +186,68 @@ uint32_t kdl_tree(struct kdl_document *document,
 /* Paths. A path is indices from 0: of a node in the document, of a node in that one's block, and
  * so on.
  *
- * kdl_node_count, kdl_find, kdl_insert_node and kdl_remove_node speak of the nodes in the document
- * or in a block. Their `path` is that of the parent, the node which has the block; the empty path,
+ * kdl_node_count, kdl_find, kdl_insert_node and kdl_remove_node act on the nodes of the document or
+ * of a block. Their `path` is that of the parent, the node which has the block; the empty path,
  * with `path_len` 0, is the document. An `index` is a node's place there: node 2 of the document is
  * `path_len` 0, `index` 2.
  *
- * The other calls speak of one node, its type, its name or its entries. Their `path` is the node's
- * own: node 2 of the document is the path {2}. KDL_NOT_FOUND for the empty path. An `index` is the
- * place of an entry in the node. */
+ * The other calls act on one node, its type, its name or its entries. Their `path` is the node's
+ * own: node 2 of the document is the path {2}. They return KDL_NOT_FOUND for the empty path. An
+ * `index` is the place of an entry in the node. */
 
-/* How many nodes are in the document or in the parent's block. KDL_NOT_FOUND for a parent without a
- * block. `path` is the parent's. */
+/* Counts the nodes in the document or in the parent's block. Returns KDL_NOT_FOUND if the parent
+ * has no block. `path` is the parent's. */
 uint32_t kdl_node_count(struct kdl_document *document, const size_t *path, size_t path_len,
                         size_t *count);
 
-/* The row of a node, and how many entries it has. `path` is the node's own. After KDL_TOO_SMALL
- * `*entry_count` and `*row` are set too; read nothing of `strings`. */
+/* Writes the row of a node, and the number of its entries. `path` is the node's own. After
+ * KDL_TOO_SMALL, `*entry_count` and `*row` are set too; read nothing of `strings`. */
 uint32_t kdl_node(struct kdl_document *document, const size_t *path, size_t path_len,
                   size_t *entry_count, struct kdl_row *row,
                   uint8_t *strings, size_t strings_room, size_t *strings_len);
 
-/* The row of an entry. `path` is the node's own. Arguments and properties are counted together,
- * from 0. After KDL_TOO_SMALL `*row` is set too; read nothing of `strings`. */
+/* Writes the row of an entry. `path` is the node's own. Arguments and properties are counted
+ * together, from 0. After KDL_TOO_SMALL, `*row` is set too; read nothing of `strings`. */
 uint32_t kdl_entry(struct kdl_document *document, const size_t *path, size_t path_len,
                    size_t index, struct kdl_row *row,
                    uint8_t *strings, size_t strings_room, size_t *strings_len);
 
-/* The index of the first node of that name in the document or in the parent's block. `path` is the
- * parent's. KDL_NOT_UTF8 for a name that is not UTF-8. */
+/* Finds the index of the first node of that name in the document or in the parent's block. `path`
+ * is the parent's. Returns KDL_NOT_UTF8 if the name is not UTF-8. */
 uint32_t kdl_find(struct kdl_document *document, const size_t *path, size_t path_len,
                   const uint8_t *name, size_t name_len, size_t *index);
 
-/* The index of the last property of that key: the one that counts in KDL. `path` is the node's own.
- * KDL_NOT_UTF8 for a key that is not UTF-8. */
+/* Finds the index of the last property of that key, the one that counts in KDL. `path` is the
+ * node's own. Returns KDL_NOT_UTF8 if the key is not UTF-8. */
 uint32_t kdl_find_entry(struct kdl_document *document, const size_t *path, size_t path_len,
                         const uint8_t *name, size_t name_len, size_t *index);
 
-/* The row of the first argument of the first node of that name in the document. KDL_NOT_UTF8 for a
- * name that is not UTF-8. After KDL_TOO_SMALL `*row` is set too; read nothing of `strings`. */
+/* Writes the row of the first argument of the first node of that name in the document. Returns
+ * KDL_NOT_UTF8 if the name is not UTF-8. After KDL_TOO_SMALL, `*row` is set too; read nothing of
+ * `strings`. */
 uint32_t kdl_get(struct kdl_document *document, const uint8_t *name, size_t name_len,
                  struct kdl_row *row, uint8_t *strings, size_t strings_room, size_t *strings_len);
 
 /* ---- Edits ---- */
 
-/* An edit changes what it says, and no other byte of the text. After another status than KDL_OK
- * the document is as it was. KDL_FAULTS where the text given is not exactly one value, entry or
- * node. */
+/* An edit changes what it describes, and no other byte of the text. After any status but KDL_OK,
+ * the document is as it was. The status is KDL_FAULTS if the given text is not exactly one value,
+ * entry or node. */
 
 /* Sets the value of an entry, and its spelling, both from a text in KDL: "a b", 0x10, #true. The
- * text is a value alone, without a key or a type. `path` is the node's own. An entry that
+ * text is only a value, without a key or a type. `path` is the node's own. An entry that
  * kdl_insert_entry inserted, or that kdl_format or kdl_strip laid out, is printed in the library's
- * spelling whatever the text: only its value is set. */
+ * spelling, whatever the text: only its value is set. */
 uint32_t kdl_set_value(struct kdl_document *document, const size_t *path, size_t path_len,
                        size_t index, const uint8_t *value, size_t value_len);
 
-/* Sets the key of an entry, or takes it away where `has_key` is 0. The key is the string itself,
- * not its spelling. `path` is the node's own. */
+/* Sets the key of an entry, or removes it if `has_key` is 0. The key is the string itself, not its
+ * spelling. `path` is the node's own. */
 uint32_t kdl_set_key(struct kdl_document *document, const size_t *path, size_t path_len,
                      size_t index, uint32_t has_key, const uint8_t *key, size_t key_len);
 
-/* Sets the type of an entry, or of the node where `index` is SIZE_MAX; takes it away where
- * `has_type` is 0. The type is the string itself. `path` is the node's own. */
+/* Sets the type of an entry, or of the node if `index` is SIZE_MAX. Removes the type if `has_type`
+ * is 0. The type is the string itself. `path` is the node's own. */
 uint32_t kdl_set_type(struct kdl_document *document, const size_t *path, size_t path_len,
                       size_t index, uint32_t has_type, const uint8_t *type, size_t type_len);
 
@@ -252,43 +256,43 @@ uint32_t kdl_set_name(struct kdl_document *document, const size_t *path, size_t 
                       const uint8_t *name, size_t name_len);
 
 /* Inserts an entry, given in KDL as 8080 or port=(u16)8080, before the one at the index, or as the
- * last where `index` is their number. `path` is the node's own. The entry is printed after one
- * space, in the library's spelling: 0x10 is inserted as 16. For another spelling, print the
- * document and parse that text, and call kdl_set_value then. */
+ * last if `index` is the number of entries. `path` is the node's own. The entry is printed after
+ * one space, in the library's spelling: 0x10 is inserted as 16. For another spelling, print the
+ * document, parse that text, and then call kdl_set_value. */
 uint32_t kdl_insert_entry(struct kdl_document *document, const size_t *path, size_t path_len,
                           size_t index, const uint8_t *entry, size_t entry_len);
 
-/* Removes the entry at the index. `path` is the node's own. With it go the spaces, comments and
- * `/-` entries between it and what is before it. What is after it stays: `a 1 /-x 2 // c` without
- * entry 1 is `a 1 // c`, and without entry 0 `a /-x 2 // c`. */
+/* Removes the entry at the index, with the spaces, comments and `/-` entries between it and what is
+ * before it. `path` is the node's own. What is after it stays: `a 1 /-x 2 // c` without entry 1 is
+ * `a 1 // c`, and without entry 0 `a /-x 2 // c`. */
 uint32_t kdl_remove_entry(struct kdl_document *document, const size_t *path, size_t path_len,
                           size_t index);
 
 /* Inserts a node, given in KDL, into the document or the parent's block: before the one at the
  * index, and before the comments and `/-` nodes in front of that one. So at index 0 of a document
- * it goes before a licence comment. Where `index` is their number, it is inserted after the last
- * node and the newline or `;` that ends it, and before comments and `/-` nodes after that. `path`
- * is the parent's: the empty path for the document.
+ * it is inserted before a licence comment. If `index` is the number of nodes, it is inserted after
+ * the last node and the newline or `;` that ends it, and before comments and `/-` nodes after that.
+ * `path` is the parent's: the empty path for the document.
  *
- * The text is inserted as it is, with its spaces and comments. Newlines are added only where they
- * keep it apart from its neighbours. After a node that ends in a newline, "    port 8080\n" has a
- * line of its own. At index 0 of a block it follows the `{`, and after a `;` it follows that, on
- * the same line: begin the text with a newline there, "\n    port 8080\n".
+ * The text is inserted as it is, with its spaces and comments. Newlines are added only if they are
+ * needed to separate it from its neighbours. After a node that ends in a newline, "    port 8080\n"
+ * has a line of its own. At index 0 of a block it follows the `{`, and after a `;` it follows that,
+ * on the same line: there, begin the text with a newline, as in "\n    port 8080\n".
  *
  * A parent without a block gets `{`, a newline, the text, a newline unless the text ends in one or
  * in `;`, and `}`. No space is added before the `{`: `a` becomes `a{`. */
 uint32_t kdl_insert_node(struct kdl_document *document, const size_t *path, size_t path_len,
                          size_t index, const uint8_t *node, size_t node_len);
 
-/* Removes the node at the index of the document or of the parent's block. `path` is the parent's:
- * the empty path for the document. Node 2 of the document is `path_len` 0, `index` 2.
+/* Removes the node at the index from the document or from the parent's block. `path` is the
+ * parent's: the empty path for the document. Node 2 of the document is `path_len` 0, `index` 2.
  *
- * With the node goes what is before it: spaces, newlines, comments and `/-` nodes, back to the end
- * of the node before, to the `{`, or to the start of the document. So a licence comment or a
- * version marker before the first node of a document goes with that node; a BOM stays. With it goes
- * its end too: the newline or `;` after it, and the spaces and comments before that. What is after
- * its end stays. Node 1 of "a\n// of b\nb // end\n// of c\nc" removed leaves "a\n// of c\nc"; node
- * 0 of the block in "a {\n    b\n    c\n}" leaves "a {    c\n}". */
+ * What is before the node is removed with it: spaces, newlines, comments and `/-` nodes, back to
+ * the end of the node before, to the `{`, or to the start of the document. So a licence comment or
+ * a version marker before the first node of a document is removed with that node; a BOM stays. Its
+ * end is removed too: the newline or `;` after it, and the spaces and comments before that. What is
+ * after its end stays. Without node 1, "a\n// of b\nb // end\n// of c\nc" is "a\n// of c\nc".
+ * Without node 0 of its block, "a {\n    b\n    c\n}" is "a {    c\n}". */
 uint32_t kdl_remove_node(struct kdl_document *document, const size_t *path, size_t path_len,
                          size_t index);
 

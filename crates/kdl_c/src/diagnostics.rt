@@ -1,4 +1,4 @@
-//! The faults of a text, as rows.
+//! Lists of the faults of a text.
 
 ghost use Rattle.kdl.specs.Words.{IsDocument, Nodes};
 ghost use Rattle.kdl_rows.specs.Listed.{AreFaultsOf, AreListed, AreReportsListed, Fault, ListsNothing};
@@ -15,9 +15,11 @@ use kdl_rows::given_faults::{Reading, put_not_value, read};
 use kdl_rows::reports::{KdlReport, put_reports};
 use std::alloc::Global;
 
-/// The faults of a text, in the order of reading: as many as `out` has room for, their messages in `strings` up to the
-/// first that has no room, the whole count and the whole length. Returns `FAULTS` where there are any, and `OK` where
-/// there are none.
+/// Lists the faults of a text, in the order in which they are found. Writes as many faults as `out` has room for, and
+/// their messages into `strings`, up to the first that does not fit.
+///
+/// Sets `count` and `string_len` to the whole counts of faults and bytes, even if not all of them fit. Returns `FAULTS`
+/// if there are any faults, and `OK` if there are none. After any other status, both counts are 0.
 #[unsafe(no_mangle)]
 pub extern "C" fn kdl_faults(
     alloc: Global,
@@ -53,8 +55,10 @@ pub extern "C" fn kdl_faults(
     }
 }
 
-/// The faults of a text that is read as `kind` says, as the calls that take such a text do: 0 for a document, 1 for a
-/// node, 2 for an entry and 3 for a value. Writes them as `kdl_faults` does. `NOT_FOUND` for another kind.
+/// Lists the faults of a text of the given kind: 0 for a document, 1 for a node, 2 for an entry and 3 for a value. The
+/// text is read as by the calls that take such a text.
+///
+/// Writes the faults as `kdl_faults` does. Returns `NOT_FOUND` for any other kind.
 #[unsafe(no_mangle)]
 pub extern "C" fn kdl_faults_of(
     alloc: Global,
@@ -99,9 +103,11 @@ pub extern "C" fn kdl_faults_of(
     }
 }
 
-/// The faults of a text with all that is said of them, in the order of reading: as many as `out` has room for, their words
-/// in `strings` up to the first that has no room, the whole count and the whole length. Returns `FAULTS` where there are
-/// any, and `OK` where there are none.
+/// Lists the faults of a text with their messages, labels and helps, in the order in which they are found. Writes as
+/// many faults as `out` has room for, and their strings into `strings`, up to the first that does not fit.
+///
+/// Sets `count` and `string_len` to the whole counts of faults and bytes, even if not all of them fit. Returns `FAULTS`
+/// if there are any faults, and `OK` if there are none. After any other status, both counts are 0.
 #[unsafe(no_mangle)]
 pub extern "C" fn kdl_reports(
     alloc: Global,

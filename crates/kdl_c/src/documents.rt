@@ -1,4 +1,4 @@
-//! Documents read from a text, and printed.
+//! Documents: parsing, freeing and printing.
 
 ghost use Rattle.kdl.specs.Words.{IsDocument, LaidDocument, Nodes, document_prints, document_says, document_tree};
 ghost use Rattle.kdl_c.specs.Statuses.{IsAmong};
@@ -12,8 +12,8 @@ use kdl_calls::text::put_text;
 use kdl_held::Handle;
 use std::alloc::Global;
 
-/// Parses a text into `document`, and frees the document that was there. After a status that is not `OK`, `document`
-/// has what it had.
+/// Parses a text into `document`, and frees the document that was there. After any status but `OK`, `document` holds
+/// what it held before.
 #[unsafe(no_mangle)]
 pub extern "C" fn kdl_parse(alloc: Global, text: &[u8], document: &mut Handle) -> u32
     ensures there { result ≡ 0 → IsSome document.new.held.document }
@@ -45,7 +45,7 @@ pub extern "C" fn kdl_parse(alloc: Global, text: &[u8], document: &mut Handle) -
     }
 }
 
-/// Frees the document. A second call does nothing.
+/// Frees the document, if there is one. A second call does nothing.
 #[unsafe(no_mangle)]
 pub extern "C" fn kdl_free(alloc: Global, document: &mut Handle)
     ensures { document.new.held.document ≡ None }
@@ -53,7 +53,8 @@ pub extern "C" fn kdl_free(alloc: Global, document: &mut Handle)
     drop(document.take(alloc));
 }
 
-/// Prints the document into `out`, where it fits, and its length into `needed`.
+/// Writes the text of the document into `out`, and sets `needed` to its length in bytes. If the text does not fit,
+/// returns `TOO_SMALL` and leaves `out` unchanged.
 #[unsafe(no_mangle)]
 pub extern "C" fn kdl_print(
     alloc: Global,

@@ -1,4 +1,4 @@
-//! Documents and texts laid out.
+//! Layout of documents and texts.
 
 ghost use Rattle.kdl.specs.Words.{CommentsStay, DocumentKeepsNoForm, DocumentLaidOut, IsDocument, Nodes, Text, canonical_text, defaults, document_prints, document_says, document_tree};
 ghost use Rattle.kdl_calls.specs.Answers.{Each};
@@ -13,7 +13,8 @@ use kdl_calls::text::put_text;
 use kdl_held::Handle;
 use std::alloc::Global;
 
-/// Lays the document out, with its comments. Where memory runs out, some of it may be laid out; its data stay.
+/// Lays the document out, with its comments. Its data do not change. If an allocation fails, a part of the document may
+/// already be laid out.
 #[unsafe(no_mangle)]
 pub extern "C" fn kdl_format(alloc: Global, document: &mut Handle) -> u32
     ensures data { Each (λ d e. document_says e ≡ document_says d)
@@ -36,7 +37,8 @@ pub extern "C" fn kdl_format(alloc: Global, document: &mut Handle) -> u32
     status
 }
 
-/// Lays the document out, without its comments. Where memory runs out, some of it may be laid out; its data stay.
+/// Lays the document out, without its comments. Its data do not change. If an allocation fails, a part of the document
+/// may already be laid out.
 #[unsafe(no_mangle)]
 pub extern "C" fn kdl_strip(alloc: Global, document: &mut Handle) -> u32
     ensures data { Each (λ d e. document_says e ≡ document_says d)
@@ -54,7 +56,8 @@ pub extern "C" fn kdl_strip(alloc: Global, document: &mut Handle) -> u32
     status
 }
 
-/// Lays a text out, with its comments: what it prints goes into `out`, where it fits, and its length into `needed`.
+/// Lays a text out, with its comments. Writes the result into `out`, and sets `needed` to its length in bytes. If the
+/// result does not fit, returns `TOO_SMALL` and leaves `out` unchanged.
 #[unsafe(no_mangle)]
 pub extern "C" fn kdl_format_text(
     alloc: Global,

@@ -1,6 +1,7 @@
-//! The library `kdl` for C. Texts go in as bytes, and come out into the caller's buffers. C keeps a document in a struct.
+//! The library `kdl` for C. A call takes texts as bytes, and writes texts into the caller's buffers. C keeps a document
+//! in a struct.
 //!
-//! Each exported function states its meaning in its contract. `bindings/c/kdl.h` is the header for them.
+//! The contract of each exported function states what it does. `bindings/c/kdl.h` is the header.
 #![tactic(auto)]
 
 mod diagnostics;

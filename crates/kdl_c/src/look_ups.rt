@@ -1,4 +1,4 @@
-//! Nodes found by their name, entries by their key.
+//! Look-ups of nodes by name, and of entries by key.
 
 ghost use Rattle.kdl.specs.Words.{argument_named, entry_data, entry_tree, is_node_named, nodes_of, property_place};
 ghost use Rattle.kdl_c.specs.Statuses.{IsAmong};
@@ -14,8 +14,8 @@ use kdl_calls::status::{NO_DOCUMENT, NOT_FOUND, NOT_UTF8};
 use kdl_held::Handle;
 use std::alloc::Global;
 
-/// The row of the first argument of the first node of that name in the document. The name's value counts, not its
-/// spelling.
+/// Writes the row of the first argument of the first node of that name in the document. Names are compared by value,
+/// not by spelling.
 #[unsafe(no_mangle)]
 pub extern "C" fn kdl_get(
     alloc: Global,
@@ -53,8 +53,8 @@ pub extern "C" fn kdl_get(
     status
 }
 
-/// The index of the first node of that name in the block of the node at the path, or in the document where the path is
-/// empty. The name's value counts, not its spelling.
+/// Finds the index of the first node of that name in the block of the node at the path, or in the document if the path
+/// is empty. Names are compared by value, not by spelling.
 #[unsafe(no_mangle)]
 pub extern "C" fn kdl_find(
     alloc: Global,
@@ -89,7 +89,8 @@ pub extern "C" fn kdl_find(
     status
 }
 
-/// The index of the last property of that name among the entries of the node at the path: the one that counts in KDL.
+/// Finds the index of the last property of that name among the entries of the node at the path. In KDL, the last
+/// property of a name is the one that counts.
 #[unsafe(no_mangle)]
 pub extern "C" fn kdl_find_entry(
     alloc: Global,

@@ -8,8 +8,10 @@ ghost use Rattle.std.specs.Str.{IsUtf8, chars};
 use kdl_calls::place;
 use kdl_calls::status::{NOT_FOUND, NOT_UTF8, OK};
 
-/// The line and the column of a byte of the text, both from 1: lines by KDL's newlines, of which CR LF is one, and columns
-/// in characters. The end of the text has a place too. `NOT_FOUND` for an offset after the end or inside of a character.
+/// Finds the line and the column of a byte of the text, both counted from 1. A line ends at a newline of KDL, such as
+/// CR LF, which is one newline. A column is counted in characters. The end of the text has a position too.
+///
+/// Returns `NOT_FOUND` for an offset after the end or inside a character.
 #[unsafe(no_mangle)]
 pub extern "C" fn kdl_position(
     text: &[u8],

@@ -14,9 +14,11 @@ use kdl_held::Handle;
 use kdl_rows::tree::put_tree;
 use std::alloc::Global;
 
-/// The whole document as rows: for each node its own row, a row for each entry, the rows of its children, and a row
-/// that ends its block, where it has one. `row_count` and `string_len` get the whole counts of rows and bytes. Where
-/// either is more than there is room for, the rows and strings are incomplete, and the status is `TOO_SMALL`.
+/// Writes the whole document as rows. Each node has its own row, and a row for each entry. If the node has a block, the
+/// rows of its children follow, and a row that ends the block.
+///
+/// Sets `row_count` and `string_len` to the whole counts of rows and bytes. If one of them exceeds its room, the rows
+/// and strings are incomplete, and the status is `TOO_SMALL`.
 #[unsafe(no_mangle)]
 pub extern "C" fn kdl_tree(
     alloc: Global,
@@ -50,7 +52,7 @@ pub extern "C" fn kdl_tree(
     status
 }
 
-/// How many nodes the block of the node at the path has, or the document where the path is empty.
+/// Counts the nodes in the block of the node at the path, or in the document if the path is empty.
 #[unsafe(no_mangle)]
 pub extern "C" fn kdl_node_count(
     alloc: Global,
@@ -82,7 +84,7 @@ pub extern "C" fn kdl_node_count(
     status
 }
 
-/// The row of the node at the path, and how many entries it has.
+/// Writes the row of the node at the path, and sets `entries` to the number of its entries.
 #[unsafe(no_mangle)]
 pub extern "C" fn kdl_node(
     alloc: Global,
@@ -126,7 +128,7 @@ pub extern "C" fn kdl_node(
     status
 }
 
-/// The row of an entry of the node at the path.
+/// Writes the row of the entry at the index in the node at the path.
 #[unsafe(no_mangle)]
 pub extern "C" fn kdl_entry(
     alloc: Global,

@@ -2,11 +2,11 @@
 
 ghost use Rattle.std.specs.Prelude.{◌≡◌};
 
-/// The number of this interface. A library with the same calls and structs, or with more of them, has this number or a
-/// larger one.
+/// The number of this interface. A later library with the same calls and structs, or more of them, has the same number
+/// or a larger one.
 const VERSION: u32 = 1;
 
-/// Returns the number of the interface that the library has.
+/// Returns the number of the interface.
 #[unsafe(no_mangle)]
 pub extern "C" fn kdl_version() -> u32
     ensures { result ≡ 1 }

@@ -12,7 +12,7 @@ use parts::Parts;
 use std::alloc::Global;
 use std::marker::Model;
 
-/// The pointer of a boxed document, or null. The pointer has no type, so that C sees nothing of the document.
+/// The pointer of a boxed document, or null. The pointer is untyped, so that C sees nothing of the document.
 #[repr(C)]
 #[derive(Drop)]
 pub struct Held {
@@ -26,7 +26,7 @@ impl Model for Held {
 }
 
 impl Held {
-    /// No document.
+    /// Returns a `Held` without a document.
     fn none(alloc: Global) -> Held
         ensures { result.document ≡ None }
     {
@@ -36,7 +36,7 @@ impl Held {
         }
     }
 
-    /// The document of a box that was taken apart.
+    /// Returns a `Held` with the document of a box that was taken apart.
     fn of_parts(parts: Parts<KdlDocument, Global>) -> Held
         ensures { result.document ≡ Some parts.value }
     {
@@ -47,7 +47,7 @@ impl Held {
         }
     }
 
-    /// The parts of the document's box.
+    /// Returns the parts of the document's box. There has to be a document.
     fn into_parts(self) -> Parts<KdlDocument, Global>
         requires { IsSome self.document }
         ensures { self.document ≡ Some result.value }
@@ -60,7 +60,7 @@ impl Held {
     }
 }
 
-/// What C keeps: a document, or none. All bytes zero are a handle without one.
+/// What C keeps: a document, or none. A handle whose bytes are all zero has no document.
 #[repr(C)]
 pub struct Handle {
     live: bool,
@@ -69,7 +69,7 @@ pub struct Handle {
 }
 
 impl Handle {
-    /// A handle without a document.
+    /// Returns a handle without a document.
     pub fn none(alloc: Global) -> Handle
         ensures { result.held.document ≡ None }
     {
@@ -79,7 +79,7 @@ impl Handle {
         }
     }
 
-    /// A handle with the document.
+    /// Returns a handle with the document.
     pub fn of(document: Box<KdlDocument>) -> Handle
         ensures { result.held.document ≡ Some document.value }
     {
@@ -89,7 +89,7 @@ impl Handle {
         }
     }
 
-    /// The document, where there is one.
+    /// Returns the document, or `None` if there is none.
     pub fn into_box(self) -> Option<Box<KdlDocument>>
         ensures { MatchOption result (self.held.document ≡ None)
             (λ boxed. self.held.document ≡ Some boxed.value) }
@@ -102,7 +102,7 @@ impl Handle {
         }
     }
 
-    /// Takes the document out, and leaves none.
+    /// Takes the document out of the handle, and leaves none in its place. Returns `None` if there is no document.
     pub fn take(&mut self, alloc: Global) -> Option<Box<KdlDocument>>
         ensures taken { MatchOption result (self.old.held.document ≡ None)
             (λ boxed. self.old.held.document ≡ Some boxed.value) }
@@ -111,7 +111,7 @@ impl Handle {
         std::mem::replace(self, Handle::none(alloc)).into_box()
     }
 
-    /// Puts a document in, and frees the one that was there.
+    /// Puts a document into the handle, and frees the one that was there.
     pub fn put(&mut self, document: Box<KdlDocument>)
         ensures { self.new.held.document ≡ Some document.value }
     {

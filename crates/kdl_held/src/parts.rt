@@ -1,4 +1,4 @@
-//! A box taken apart, its fields in sight of the crate's root.
+//! The parts of a box. The root of the crate can access their fields.
 
 ghost use Rattle.std.specs.Prelude.{◌≡◌};
 ghost use Rattle.std.specs.Box.Ownership.{box_owns};
@@ -18,7 +18,7 @@ impl<T, A: Allocator> Model for Parts<T, A> {
 }
 
 impl<T, A: Allocator> Parts<T, A> {
-    /// Takes the box apart.
+    /// Takes the box apart, and returns its parts.
     pub fn of(b: Box<T, A>) -> Parts<T, A>
     where
         T: Drop,
@@ -28,7 +28,7 @@ impl<T, A: Allocator> Parts<T, A> {
         Parts { ptr, alloc }
     }
 
-    /// Puts the box together again.
+    /// Returns the box that the parts belong to.
     pub fn into_box(self) -> Box<T, A>
         ensures { result.value ≡ self.value }
     {

@@ -6,14 +6,15 @@ ghost use Rattle.std.specs.Prelude.{◌≡◌, ◌<◌, IfOk, IfSome, IsSome, st
 use kdl::{KdlEntry, KdlIdentifier, KdlNode, KdlValue, NodeKey};
 use std::alloc::{AllocError, Global};
 
-/// Pushes an argument: its place finds the value, and all other look-ups find what they found before.
+/// Pushes an argument, and returns whether that succeeds. If so, its index finds the value, and other look-ups find
+/// what they found before.
 pub fn add_argument(node: &mut KdlNode, value: KdlValue) -> bool
     ensures { result ≡ true → IsAdded (value_tree value) node.old node.new }
 {
     node.push(KdlEntry::new(value)).is_ok()
 }
 
-/// Pushes two arguments to a node that has none, and looks the first one up.
+/// Pushes two arguments to a node that has none, and looks up the first one.
 pub fn first_of_two(node: &mut KdlNode, first: KdlValue, second: KdlValue) -> Option<&KdlValue>
     requires { argument_count node.old ≡ 0 }
     ensures { IfSome result (λ v. value_tree v.now ≡ value_tree first) }
@@ -27,7 +28,7 @@ pub fn first_of_two(node: &mut KdlNode, first: KdlValue, second: KdlValue) -> Op
     node.get(NodeKey::Index(0))
 }
 
-/// Pushes an argument and removes the first one: the node has as many arguments as before.
+/// Pushes an argument and removes the first one. The node then has as many arguments as before.
 pub fn push_and_shift(node: &mut KdlNode, value: KdlValue) -> Option<KdlEntry>
     ensures { IsSome result → argument_count node.new ≡ argument_count node.old }
 {
@@ -37,14 +38,15 @@ pub fn push_and_shift(node: &mut KdlNode, value: KdlValue) -> Option<KdlEntry>
     node.remove(NodeKey::Index(0))
 }
 
-/// Puts an argument in before the others: those are one place later.
+/// Inserts an argument before the others, and returns whether that succeeds. If so, the index of each other argument is
+/// then one higher.
 pub fn put_first(node: &mut KdlNode, value: KdlValue) -> bool
     ensures { result ≡ true → IsPutIn 0 (value_tree value) node.old node.new }
 {
     node.insert(NodeKey::Index(0), KdlEntry::new(value)).is_ok()
 }
 
-/// Removes the first property of that name: where there was no other one, the name finds nothing.
+/// Removes and returns the first property of that name. If there was no other one, the name then finds nothing.
 pub fn remove_property(
     alloc: Global,
     node: &mut KdlNode,
@@ -56,14 +58,14 @@ pub fn remove_property(
     Ok(node.remove(key))
 }
 
-/// Removes the property of that name, which takes no memory.
+/// Removes and returns the first property of that name. The name is a string, so the call does not allocate.
 pub fn remove_named(node: &mut KdlNode, name: String) -> Option<KdlEntry>
     ensures { IsTakenOut (string_bytes name) node.old node.new }
 {
     node.remove(NodeKey::from(name))
 }
 
-/// Removes an argument: those after it are one place earlier.
+/// Removes and returns an argument. The index of each later argument is then one lower.
 pub fn remove_argument(node: &mut KdlNode, index: usize) -> Option<KdlEntry>
     requires { index < argument_count node.old }
     ensures { IsTakenOutAt index node.old node.new }
@@ -71,7 +73,7 @@ pub fn remove_argument(node: &mut KdlNode, index: usize) -> Option<KdlEntry>
     node.remove(NodeKey::from(index))
 }
 
-/// Pushes a property: the name finds the value.
+/// Pushes a property, and returns whether that succeeds. If so, the name finds the value.
 #[tactic(auto, using(crate::proofs::Bytes::text_bytes))]
 pub fn push_property(
     alloc: Global,

@@ -6,7 +6,7 @@ ghost use Rattle.std.specs.Prelude.{◌≡◌, ◌↔◌, IfOk, chars, option_ma
 use kdl::{KdlDocument, KdlNode, NodeKey, ParseFailure};
 use std::alloc::{AllocError, Global};
 
-/// Lays the document out without comments: each look-up finds what it found.
+/// Lays the document out without comments. Each look-up finds what it found before.
 pub fn tidy_all(document: &mut KdlDocument, name: &str) -> Result<(), AllocError>
     ensures argument { value_of (argument_named name.now document.new) ≡
         value_of (argument_named name.now document.old) }
@@ -18,14 +18,14 @@ pub fn tidy_all(document: &mut KdlDocument, name: &str) -> Result<(), AllocError
     document.autoformat_no_comments()
 }
 
-/// Lays the node out: each key finds what it found.
+/// Lays the node out. Each key finds what it found before.
 pub fn tidy_node(node: &mut KdlNode) -> Result<(), AllocError>
     ensures { (key : NodeKey) → found_value key node.new ≡ found_value key node.old }
 {
     node.autoformat()
 }
 
-/// Whether two texts are documents that say the same.
+/// Returns whether two texts are documents with the same data.
 pub fn same_configuration(alloc: Global, one: &str, other: &str) -> Result<bool, ParseFailure>
     ensures { IfOk result (λ b. (b ≡ true) ↔ ((x : Nodes)
         × IsDocument true (chars one.now) x × IsDocument true (chars other.now) x)) }

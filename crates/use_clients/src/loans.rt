@@ -53,7 +53,7 @@ pub fn write_entry(
     Ok(true)
 }
 
-/// Writes the first argument of the first node of that name, and returns whether it is there.
+/// Writes the value of the first argument of the first node of that name, and returns whether the argument is there.
 pub fn write_setting(document: &mut KdlDocument, name: &str, value: KdlValue) -> bool
     ensures { result ≡ true → IsSetIn name.now (value_tree value) document.old document.new }
 {
@@ -64,7 +64,7 @@ pub fn write_setting(document: &mut KdlDocument, name: &str, value: KdlValue) ->
     true
 }
 
-/// Writes a setting and looks it up: the look-up finds the value.
+/// Writes a setting and looks it up. The look-up finds the value.
 pub fn write_and_get<'a>(
     document: &'a mut KdlDocument,
     name: &str,

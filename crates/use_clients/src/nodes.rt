@@ -9,7 +9,7 @@ use kdl::{KdlDocument, KdlNode, ParseFailure};
 use kdl_laws::reading_back::{last_ends, pushed_reads_back};
 use std::alloc::{AllocError, Global};
 
-/// Removes the first node, where there is one: what is left reads back, and so does the node.
+/// Removes and returns the first node, if there is one. The document still reads back, and so does the node.
 pub fn remove_first(document: &mut KdlDocument) -> Option<KdlNode>
     requires { DocumentReadsBack document.old }
     ensures document { DocumentReadsBack document.new }
@@ -23,7 +23,7 @@ pub fn remove_first(document: &mut KdlDocument) -> Option<KdlNode>
     Some(document.remove_node(0))
 }
 
-/// Adds a node after the others: the document says one node more.
+/// Adds a node after the others. The document's data have one more node.
 pub fn add(document: &mut KdlDocument, node: KdlNode) -> Result<(), AllocError>
     ensures { IfOk result (λ _. document_says document.new ≡
         said_with (length (nodes_of document.old)) (node_says node) (document_says document.old)) }
@@ -34,7 +34,8 @@ pub fn add(document: &mut KdlDocument, node: KdlNode) -> Result<(), AllocError>
     }
 }
 
-/// Pushes a node to the list of nodes itself, where the last one ends in `;` or a newline, and returns whether it did.
+/// Pushes a node to the list of nodes itself, if the last one ends in `;` or a newline. Returns whether the node was
+/// pushed.
 pub fn push_to_list(document: &mut KdlDocument, node: KdlNode) -> bool
     requires document { DocumentReadsBack document.old }
     requires node { NodeEnds node }
@@ -49,7 +50,7 @@ pub fn push_to_list(document: &mut KdlDocument, node: KdlNode) -> bool
     document.nodes_mut().push(node).is_ok()
 }
 
-/// The same in a document that was read.
+/// Parses a text, and pushes a node to the list of its nodes if the last one ends in `;` or a newline.
 pub fn push_to_text(alloc: Global, text: &str, node: KdlNode) -> Result<KdlDocument, ParseFailure>
     requires { NodeEnds node }
     ensures { IfOk result DocumentReadsBack }
@@ -59,7 +60,7 @@ pub fn push_to_text(alloc: Global, text: &str, node: KdlNode) -> Result<KdlDocum
     Ok(document)
 }
 
-/// Adds a child to the first node of a name: the document reads back, whether the call succeeds or not.
+/// Adds a child to the first node of a name. The document reads back, whether the call succeeds or not.
 pub fn add_child(document: &mut KdlDocument, name: &str, child: KdlNode) -> Result<(), AllocError>
     requires document { DocumentReadsBack document.old }
     requires child { NodeReadsBack child }
@@ -74,7 +75,7 @@ pub fn add_child(document: &mut KdlDocument, name: &str, child: KdlNode) -> Resu
     }
 }
 
-/// The document of a text, with the node of another text as a child of its first node of a name: it reads back.
+/// Parses a text, and adds the node of another text as a child to the first node of a name. The document reads back.
 pub fn with_child(
     alloc: Global,
     text: &str,
@@ -88,7 +89,7 @@ pub fn with_child(
     Ok(document)
 }
 
-/// Adds a node after a document that ends its last line: it prints what it printed, and then the node.
+/// Adds a node to a document that ends its last line. The document prints what it printed before, and then the node.
 pub fn append(document: &mut KdlDocument, node: KdlNode) -> Result<(), AllocError>
     requires { NodesMayFollow document.old }
     ensures { IfOk result (λ _.
@@ -100,8 +101,8 @@ pub fn append(document: &mut KdlDocument, node: KdlNode) -> Result<(), AllocErro
     }
 }
 
-/// Reads a text, and adds a node after it: where the text ends its last line, what is printed is the text, and then the
-/// node.
+/// Parses a text, and adds a node after the others. If the text ends its last line, the document prints the text, and
+/// then the node.
 pub fn append_to_text(alloc: Global, text: &str, node: KdlNode) -> Result<KdlDocument, ParseFailure>
     ensures { IfOk result (λ out. ((d : KdlDocument)
         → LaidDocument true (document_tree d) (chars text.now) → NodesMayFollow d)

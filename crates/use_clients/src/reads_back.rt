@@ -1,4 +1,4 @@
-//! Edited documents: what they print reads back.
+//! Edited documents. What they print reads back.
 
 ghost use Rattle.kdl.specs.ReadsBack.{DocumentReadsBack, ReadsAs};
 ghost use Rattle.kdl.specs.Words.{IsDocument, Nodes, document_says, text_of};
@@ -11,7 +11,7 @@ use kdl_laws::reading_back::{
 use kdl_laws::values::values_are_well_formed;
 use std::alloc::{AllocError, Global};
 
-/// An argument more in the first node of a name.
+/// Pushes an argument to the first node of a name.
 pub fn push_argument(
     document: &mut KdlDocument,
     name: &str,
@@ -31,7 +31,7 @@ pub fn push_argument(
     Ok(())
 }
 
-/// The first property of that name taken out of the first node of a name.
+/// Removes the first property of a name from the first node of a name.
 pub fn remove_property(
     alloc: Global,
     document: &mut KdlDocument,
@@ -49,7 +49,7 @@ pub fn remove_property(
     Ok(())
 }
 
-/// A property with a type more in a node.
+/// Pushes a property with a type to a node.
 pub fn push_typed(
     alloc: Global,
     node: &mut KdlNode,
@@ -71,7 +71,7 @@ pub fn push_typed(
     }
 }
 
-/// The text of a document that reads back is a document with its data.
+/// Returns the text of a document that reads back. The text is a document with the same data.
 fn printed(alloc: Global, document: &KdlDocument) -> Result<String, AllocError>
     requires { DocumentReadsBack document.now }
     ensures { IfOk result (λ out. IsDocument true (text_of out) (document_says document.now)) }
@@ -80,7 +80,7 @@ fn printed(alloc: Global, document: &KdlDocument) -> Result<String, AllocError>
     Ok(document.to_string(alloc)?)
 }
 
-/// A text, with an argument more in the first node of a name, is a document.
+/// Pushes an argument to the first node of a name in a text, and returns the new text, which is a document.
 pub fn push_in_text(
     alloc: Global,
     text: &str,

@@ -1,4 +1,4 @@
-//! What look-ups find in a document that was read.
+//! What look-ups find in a document that was parsed.
 
 ghost use Rattle.kdl.specs.Words.{IsDocument, Nodes, integer_value, said_arg, said_dash_args, said_name, said_node, said_nodes, text_of};
 ghost use Rattle.std.specs.Prelude.{◌≡◌, IfOk, chars, is_some, option_and_then, option_map, slice_get, true};
@@ -6,7 +6,7 @@ ghost use Rattle.std.specs.Prelude.{◌≡◌, IfOk, chars, is_some, option_and_
 use kdl::{KdlDocument, ParseFailure};
 use std::alloc::Global;
 
-/// The whole number at a name in a text: the one that the text's data, which there are, say at that name.
+/// Returns the integer that is the first argument of the first node of a name. The text has data that say so.
 pub fn number_at(alloc: Global, text: &str, name: &str) -> Result<Option<i128>, ParseFailure>
     ensures { IfOk result (λ o. (x : Nodes) × IsDocument true (chars text.now) x
         × (o ≡ option_and_then integer_value (said_arg (chars name.now) x))) }
@@ -18,7 +18,7 @@ pub fn number_at(alloc: Global, text: &str, name: &str) -> Result<Option<i128>, 
     }
 }
 
-/// The same, of whatever data the grammar derives.
+/// Returns the same as `number_at`. All data that the grammar derives for the text say so.
 pub fn number_said(alloc: Global, text: &str, name: &str) -> Result<Option<i128>, ParseFailure>
     ensures { IfOk result (λ o. (x : Nodes) → IsDocument true (chars text.now) x
         → o ≡ option_and_then integer_value (said_arg (chars name.now) x)) }
@@ -30,7 +30,7 @@ pub fn number_said(alloc: Global, text: &str, name: &str) -> Result<Option<i128>
     }
 }
 
-/// Whether a text has a node of that name.
+/// Returns whether a text has a node of that name.
 pub fn has_node(alloc: Global, text: &str, name: &str) -> Result<bool, ParseFailure>
     ensures { IfOk result (λ b. (x : Nodes) → IsDocument true (chars text.now) x
         → b ≡ is_some (said_node (chars name.now) x)) }
@@ -39,7 +39,8 @@ pub fn has_node(alloc: Global, text: &str, name: &str) -> Result<bool, ParseFail
     Ok(document.get(name).is_some())
 }
 
-/// The first whole number of a list: of the nodes named `-` in the block of the first node of a name.
+/// Returns the first item of a list, if it is an integer. The list is the arguments of the nodes named `-` in the block
+/// of the first node of a name.
 pub fn first_item(alloc: Global, text: &str, name: &str) -> Result<Option<i128>, ParseFailure>
     ensures { IfOk result (λ o. (x : Nodes) → IsDocument true (chars text.now) x
         → o ≡ option_and_then integer_value
@@ -52,7 +53,7 @@ pub fn first_item(alloc: Global, text: &str, name: &str) -> Result<Option<i128>,
     }
 }
 
-/// The name of the first node of a text, where it has one.
+/// Returns the name of the first node of a text, if it has a node.
 pub fn first_name(alloc: Global, text: &str) -> Result<Option<String>, ParseFailure>
     ensures { IfOk result (λ o. (x : Nodes) → IsDocument true (chars text.now) x
         → option_map text_of o ≡ option_map said_name (slice_get (said_nodes x) 0)) }

@@ -6,7 +6,7 @@ use kdl::{KdlDocument, KdlError, ParseFailure};
 use kdl_laws::spans::spans_are_pieces;
 use std::alloc::{AllocError, Global};
 
-/// The piece of the text at the first fault.
+/// Returns the piece of the text at the first fault.
 pub fn first_piece<'a>(text: &'a str, error: &KdlError) -> &'a str
     requires { Tells text.now error.now }
 {
@@ -15,7 +15,7 @@ pub fn first_piece<'a>(text: &'a str, error: &KdlError) -> &'a str
     &text[at.offset..at.offset + at.len]
 }
 
-/// The piece of the text at the first fault, none where the text is a document.
+/// Returns the piece of the text at the first fault, or `None` if the text is a document.
 pub fn refusal<'a>(alloc: Global, text: &'a str) -> Result<Option<&'a str>, AllocError> {
     match KdlDocument::parse(alloc, text) {
         Ok(_) => Ok(None),

@@ -4,19 +4,19 @@ use Rattle.kdl.specs.Words.{IsAdded, IsArgumentSet, IsTakenOut, Value, block_of,
 use Rattle.kdl.specs.declared.document.KdlDocument.{KdlDocument}
 use Rattle.kdl.specs.declared.node.KdlNode.{KdlNode}
 
--- where d has a node of that name, e is d with another node in place of the first one: P says what the edit of that node does
+-- if d has a node of that name, e is d with another node in place of the first one, and P relates the two nodes
 abbrev pub InNode : List ℕ → (KdlNode → KdlNode → Type 0) → KdlDocument → KdlDocument → Type 0
 InNode s P d e = IfSome (node_named s d) (λ n. (m : KdlNode) × (e ≡ with_node_named s d m) × P n m)
 
--- where n has a block, m is n with another one in its place: P says what the edit of the block does
+-- if n has a block, m is n with another block in its place, and P relates the two blocks
 abbrev pub InBlock : (KdlDocument → KdlDocument → Type 0) → KdlNode → KdlNode → Type 0
 InBlock P n m = IfSome (block_of n) (λ d. (e : KdlDocument) × (m ≡ with_children n (Some e)) × P d e)
 
--- where n has arguments, the first one has the value
+-- if n has arguments, the first one of m has the value, and other look-ups find what they find in n
 abbrev pub IsFirstSet : Value → KdlNode → KdlNode → Type 0
 IsFirstSet v n m = IsSome (value_at 0 n) → IsArgumentSet 0 v n m
 
--- the value of the argument at that place, none where the node has no format
+-- the value of the argument at that index, or none if the node has no format
 abbrev pub formed_value_at : ℕ → KdlNode → Option Value
 formed_value_at i n = option_and_then (λ _. value_at i n) (node_format_of n)
 

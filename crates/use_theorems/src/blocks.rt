@@ -1,4 +1,4 @@
-//! An edit in a nested block: all bytes of the text outside that piece stay.
+//! An edit in a nested block changes one piece of the text, and no byte outside it.
 
 ghost use Rattle.kdl.specs.Words.{IsExchanged, IsExchangedInDocument, IsExchangedInNode, block_of, document_prints, document_tree, entry_tree, node_named, node_tree, print_piece, value_of};
 ghost use Rattle.std.specs.Prelude.{◌≡◌, IfNone, IfSome, option_and_then};
@@ -7,8 +7,8 @@ ghost use Rattle.use_theorems.specs.Edits.{formed_value_at};
 use kdl::{KdlDocument, KdlEntry, KdlNode, NodeKey};
 use std::mem::replace;
 
-/// Exchanges an argument of a node with a format, and returns the old one. None where the node has no format or no such
-/// argument: then it stays as it is.
+/// Replaces an argument of a node with a format, and returns the old one. If the node has no format or no such
+/// argument, returns `None` and leaves the node unchanged.
 pub fn exchange_entry(node: &mut KdlNode, index: usize, entry: KdlEntry) -> Option<KdlEntry>
     ensures bytes { IfSome result (λ old. IsExchangedInNode
         (print_piece (entry_tree old)) (print_piece (entry_tree entry)) node.old node.new) }
@@ -22,7 +22,7 @@ pub fn exchange_entry(node: &mut KdlNode, index: usize, entry: KdlEntry) -> Opti
     Some(replace(place, entry))
 }
 
-/// The same in the first node of a name.
+/// Replaces an argument of the first node of a name, as `exchange_entry` does.
 pub fn exchange_in_document(
     document: &mut KdlDocument,
     name: &str,
@@ -41,7 +41,7 @@ pub fn exchange_in_document(
     exchange_entry(node, index, entry)
 }
 
-/// The same in the first child of a name.
+/// Replaces an argument of the first child of a name, as `exchange_entry` does.
 #[tactic(auto, using(kdl::proofs::PiecesExchanged::block_exchanges))]
 pub fn exchange_in_block(
     node: &mut KdlNode,
@@ -61,8 +61,8 @@ pub fn exchange_in_block(
     exchange_in_document(block, name, index, entry)
 }
 
-/// The same in the first child of a name, in the block of the first node of a name. The whole text differs in the piece
-/// of that argument alone.
+/// Replaces an argument of the first child of a name, in the block of the first node of a name, as `exchange_entry`
+/// does. In the printed text, only the piece of that argument changes.
 pub fn exchange_nested(
     document: &mut KdlDocument,
     outer: &str,

@@ -1,4 +1,4 @@
-//! Documents that calls build: what they print reads back.
+//! Documents that are built by calls. What they print reads back.
 
 ghost use Rattle.kdl.specs.Words.{ChildPut, DocumentReadsBack, IsDocument, NodeEnds, NodeReadsBack, Nodes, child_nodes, document_says, integer, node_says, said_argument, said_entries, said_name, said_nodes, said_property, text_of, value_tree};
 ghost use Rattle.std.specs.Prelude.{◌≡◌, ◌++◌, [], ◌∷◌, IfOk, Some, chars, codes, length, map, pos, true};
@@ -9,7 +9,7 @@ use kdl_laws::reading_back::ended_reads_back;
 use kdl_laws::said::pushed_is_said_last;
 use std::alloc::{AllocError, Global};
 
-/// A new node with an argument and a property. It reads back before any text.
+/// Creates a node with an argument and a property. The node reads back before any text.
 pub fn one_node(
     alloc: Global,
     name: &str,
@@ -30,7 +30,7 @@ pub fn one_node(
     Ok(node)
 }
 
-/// Adds a node after the others: the document still reads back, and says the node last.
+/// Adds a node after the others. The document still reads back, and the node is the last in its data.
 fn add_last(document: &mut KdlDocument, node: KdlNode) -> Result<(), AllocError>
     requires document { DocumentReadsBack document.old }
     requires node { NodeReadsBack node }
@@ -45,7 +45,7 @@ fn add_last(document: &mut KdlDocument, node: KdlNode) -> Result<(), AllocError>
     }
 }
 
-/// The text of a document of two nodes, built from nothing: it says these nodes, and no others.
+/// Builds a document of two nodes, and returns its text. The data of the text are these two nodes.
 pub fn two_nodes(alloc: Global, one: KdlNode, other: KdlNode) -> Result<String, AllocError>
     requires one { NodeReadsBack one }
     requires other { NodeReadsBack other }
@@ -58,8 +58,8 @@ pub fn two_nodes(alloc: Global, one: KdlNode, other: KdlNode) -> Result<String, 
     printed(alloc, &document)
 }
 
-/// A node with a child more, after the others. It reads back before any text where it did without it, and its own part
-/// says the same.
+/// Adds a child to a node, after its other children. The node still reads back before any text, and its name and
+/// entries do not change.
 pub fn with_block(mut node: KdlNode, child: KdlNode) -> Result<KdlNode, AllocError>
     requires node { NodeEnds node }
     requires child { NodeReadsBack child }
@@ -75,8 +75,8 @@ pub fn with_block(mut node: KdlNode, child: KdlNode) -> Result<KdlNode, AllocErr
     }
 }
 
-/// A text of two nodes, the first of them with a child: each has an argument and a property. The text says both names and
-/// both ports.
+/// Returns the text of two nodes, the first of which has a child. Each node has an argument and a property. The data of
+/// the text have both names and both ports.
 pub fn servers(alloc: Global, one: &str, other: &str) -> Result<String, AllocError>
     ensures { IfOk result (λ out. (x : Nodes) × IsDocument true (text_of out) x
         × (map said_name (said_nodes x) ≡ chars one.now ∷ chars other.now ∷ [])

@@ -6,7 +6,7 @@ ghost use Rattle.std.specs.Prelude.{◌≡◌, IfOk, OnOk, Some, option_map};
 use kdl::{KdlEntry, KdlNode, KdlValue, NodeKey};
 use std::alloc::{AllocError, Global};
 
-/// Sets a property: the name finds the value, and all other look-ups find what they found before.
+/// Sets a property. Its name then finds the value, and other look-ups find what they found before.
 pub fn set_property(
     alloc: Global,
     node: &mut KdlNode,
@@ -22,7 +22,8 @@ pub fn set_property(
     }
 }
 
-/// Sets a property, looks it up by another key of the same name, and returns a copy of what that finds: the value.
+/// Sets a property, looks it up by another key of the same name, and returns a copy of what the look-up finds, which is
+/// the value.
 pub fn set_and_get(
     alloc: Global,
     node: &mut KdlNode,

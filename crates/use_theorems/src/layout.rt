@@ -6,7 +6,7 @@ ghost use Rattle.std.specs.Prelude.{◌≡◌, OnOk, chars, option_map};
 use kdl::KdlDocument;
 use std::alloc::AllocError;
 
-/// Lays the document out: each look-up finds what it found.
+/// Lays the document out. Each look-up finds what it found before.
 pub fn tidy(document: &mut KdlDocument, name: &str) -> Result<(), AllocError>
     ensures formatted { OnOk result (DocumentLaidOut defaults document.old document.new) }
     ensures argument { value_of (argument_named name.now document.new) ≡

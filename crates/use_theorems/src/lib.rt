@@ -1,4 +1,5 @@
-//! What a caller proves of small programs over `kdl`: one function for each theorem, with the clause that its user writes.
+//! What a caller proves of small programs over `kdl`. Each theorem has one function, with the clause that its user
+//! writes.
 #![tactic(auto)]
 
 pub mod blocks;

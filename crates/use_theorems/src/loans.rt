@@ -6,7 +6,7 @@ ghost use Rattle.std.specs.Prelude.{IfOk};
 use kdl::{KdlNode, KdlValue};
 use std::alloc::AllocError;
 
-/// Writes the value of a property, or pushes the property where there is none of that name.
+/// Writes the value of a property, or pushes the property if there is none of that name.
 pub fn put_property(node: &mut KdlNode, name: &str, value: KdlValue) -> Result<(), AllocError>
     ensures { IfOk result (λ _. IsSet name.now (value_tree value) node.old node.new) }
 {

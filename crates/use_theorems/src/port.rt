@@ -13,7 +13,7 @@ use kdl_laws::said::property_set_is_said;
 use kdl_laws::values::values_are_well_formed;
 use std::alloc::{AllocError, Global};
 
-/// Sets a property of the first node of a name, where there is one, to a new entry of that value.
+/// Sets a property of the first node of a name to a new entry with that value. Does nothing if there is no such node.
 pub fn set_in(
     alloc: Global,
     document: &mut KdlDocument,
@@ -52,18 +52,18 @@ pub fn set_in(
     Ok(())
 }
 
-/// The text with a new entry, of 8080, in place of the port of its server: all else stays.
+/// Returns the text with its server's port set to a new entry with the value 8080. Nothing else changes.
 pub fn set_port(alloc: Global, text: &str) -> Result<String, ParseFailure>
     // The output is a document.
     ensures document { IfOk result (λ out. (y : Nodes) × IsDocument true (text_of out) y) }
-    // It says that the port of the server is 8080, and all else that the text says.
+    // In the data of the output, the port of the server is 8080. All else is as in the data of the text.
     ensures sets { IfOk result (λ out. (x y : Nodes)
         → IsDocument true (chars text.now) x → IsDocument true (text_of out) y
         → IsSome (said_node (chars (codes "server")) x)
         → IsSetInData (chars (codes "server")) (chars (codes "port"))
         (integer (pos 8080)) x y) }
-    // Its text is the one that was read, but for the piece of that entry. The piece is put in the place of that of the
-    // old port, and of no text where there was no port.
+    // The output is the text with one piece replaced, by the piece of the new entry. The replaced piece is that of the
+    // old port, or empty if there was no port.
     ensures bytes { IfOk result (λ out. (x : Nodes) → IsDocument true (chars text.now) x
         → IsSome (said_node (chars (codes "server")) x)
         → (p : Text) × IsPieceOf (said_entry_in (chars (codes "server")) (chars (codes "port")) x) p
@@ -73,7 +73,7 @@ pub fn set_port(alloc: Global, text: &str) -> Result<String, ParseFailure>
     // Without a server, the output is the text.
     ensures stays { IfOk result (λ out. (x : Nodes) → IsDocument true (chars text.now) x
         → said_node (chars (codes "server")) x ≡ None → text_of out ≡ chars text.now) }
-    // A text that is refused is no document.
+    // A text that is refused is not a document.
     ensures refused { IsSyntax result → (x : Nodes) → IsDocument true (chars text.now) x → ⊥ }
 {
     printed_reads_back();

@@ -1,4 +1,4 @@
-//! Edited documents: what they print reads back.
+//! Edited documents. What they print reads back.
 
 ghost use Rattle.kdl.specs.ReadsBack.{DocumentReadsBack, ReadsAs, respelled};
 ghost use Rattle.kdl.specs.Words.{IsAdded, IsDocument, IsSet, argument_named, document_says, entry_tree, node_says, print_value, property_value, said_name, text_of, truth, value_tree};
@@ -12,7 +12,7 @@ use kdl_laws::sets::argument_is_set;
 use kdl_laws::values::values_are_well_formed;
 use std::alloc::{AllocError, Global};
 
-/// The text of a document that reads back is a document with its data.
+/// Returns the text of a document that reads back. The text is a document with the same data.
 pub fn printed(alloc: Global, document: &KdlDocument) -> Result<String, AllocError>
     requires { DocumentReadsBack document.now }
     ensures { IfOk result (λ out. IsDocument true (text_of out) (document_says document.now)) }
@@ -21,7 +21,7 @@ pub fn printed(alloc: Global, document: &KdlDocument) -> Result<String, AllocErr
     Ok(document.to_string(alloc)?)
 }
 
-/// A new argument at the end of a node: it reads back as before.
+/// Adds an argument at the end of a node. If the node read back before, it still does.
 pub fn add_argument(node: &mut KdlNode, value: KdlValue) -> Result<(), AllocError>
     ensures adds { OnOk result (IsAdded (value_tree value) node.old node.new) }
     ensures name { said_name (node_says node.new) ≡ said_name (node_says node.old) }
@@ -35,7 +35,7 @@ pub fn add_argument(node: &mut KdlNode, value: KdlValue) -> Result<(), AllocErro
     }
 }
 
-/// A property with a new entry in a node: it reads back as before.
+/// Sets a property of a node, with a new entry. If the node read back before, it still does.
 pub fn insert_property(
     alloc: Global,
     node: &mut KdlNode,
@@ -55,7 +55,7 @@ pub fn insert_property(
     }
 }
 
-/// A property in the first node of a name.
+/// Sets a property of the first node of a name. The document still reads back.
 pub fn set_property(
     alloc: Global,
     document: &mut KdlDocument,
@@ -74,7 +74,7 @@ pub fn set_property(
     insert_property(alloc, node, property, value)
 }
 
-/// A new entry in the place of the first argument of a node: it reads back as before.
+/// Replaces the first argument of a node by a new entry. If the node read back before, it still does.
 pub fn replace_first(node: &mut KdlNode, value: KdlValue)
     ensures sets { IsFirstSet (value_tree value) node.old node.new }
     ensures reads { ReadsAs node.old node.new }
@@ -87,7 +87,7 @@ pub fn replace_first(node: &mut KdlNode, value: KdlValue)
     *entry = KdlEntry::new(value);
 }
 
-/// Three edits of a node: a property is removed, an argument pushed and the first argument replaced.
+/// Makes three edits of a node: removes a property, pushes an argument and replaces the first argument.
 pub fn edit(
     alloc: Global,
     node: &mut KdlNode,
@@ -105,7 +105,7 @@ pub fn edit(
     Ok(())
 }
 
-/// The same edits of the first child of a name.
+/// Makes the same edits of the first child of a name.
 pub fn edit_child(
     alloc: Global,
     node: &mut KdlNode,
@@ -127,7 +127,7 @@ pub fn edit_child(
     edit(alloc, child, property, one, other)
 }
 
-/// The same edits of a node in the block of another.
+/// Makes the same edits of the first child of a name, in the block of the first node of a name.
 pub fn edit_in_block(
     alloc: Global,
     document: &mut KdlDocument,
@@ -149,7 +149,7 @@ pub fn edit_in_block(
     edit_child(alloc, node, inner, property, one, other)
 }
 
-/// Sets the value, and its spelling where the entry keeps one.
+/// Sets the value, and its spelling if the entry has a format.
 fn respell(entry: &mut KdlEntry, value: KdlValue, spelling: String)
     requires { text_of spelling ≡ print_value (value_tree value) }
     ensures { entry_tree entry.new ≡ respelled (value_tree value) (entry_tree entry.old) }
@@ -160,8 +160,8 @@ fn respell(entry: &mut KdlEntry, value: KdlValue, spelling: String)
     }
 }
 
-/// Another value as the first argument of the first node of a name, with its spelling: the document says what it said, with
-/// that value in its place.
+/// Sets the first argument of the first node of a name to a value with its spelling. Nothing else in the document's
+/// data changes.
 pub fn set_argument(document: &mut KdlDocument, name: &str, value: KdlValue, spelling: String)
     requires reads { DocumentReadsBack document.old }
     requires spells { text_of spelling ≡ print_value (value_tree value) }
@@ -180,7 +180,7 @@ pub fn set_argument(document: &mut KdlDocument, name: &str, value: KdlValue, spe
     respell(entry, value, spelling);
 }
 
-/// Properties of these names, of value true, in a node: it reads back as before.
+/// Sets each property of these names in a node to true. If the node read back before, it still does.
 pub fn insert_each(alloc: Global, node: &mut KdlNode, names: &[&str]) -> Result<(), AllocError>
     ensures sets { OnOk result
         (All (λ name. property_value name.now node.new ≡ Some (truth true)) names.now) }
@@ -192,7 +192,7 @@ pub fn insert_each(alloc: Global, node: &mut KdlNode, names: &[&str]) -> Result<
     Ok(())
 }
 
-/// The same in the first node of a name.
+/// Sets each property of these names in the first node of a name to true. The document still reads back.
 pub fn set_each(
     alloc: Global,
     document: &mut KdlDocument,

@@ -1,4 +1,4 @@
-//! What look-ups find in a document that was read.
+//! What look-ups find in a document that was parsed.
 
 ghost use Rattle.kdl.specs.Words.{IsDocument, Nodes, integer_value, said_property_in};
 ghost use Rattle.std.specs.Prelude.{◌≡◌, IfOk, chars, option_and_then, true};
@@ -6,7 +6,7 @@ ghost use Rattle.std.specs.Prelude.{◌≡◌, IfOk, chars, option_and_then, tru
 use kdl::{KdlDocument, ParseFailure};
 use std::alloc::Global;
 
-/// The whole number of a property of the first node of a name: what the text's data say.
+/// Returns the integer of a property of the first node of a name, as the text's data have it.
 pub fn property_said(
     alloc: Global,
     text: &str,

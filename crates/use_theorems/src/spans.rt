@@ -7,7 +7,7 @@ use kdl::KdlError;
 use kdl_laws::spans::spans_are_pieces;
 use std::alloc::{AllocError, Global};
 
-/// The pieces of the text at all faults.
+/// Returns the piece of the text at each fault.
 pub fn pieces<'a>(
     alloc: Global,
     text: &'a str,

@@ -15,8 +15,9 @@ use kdl_calls::node_change::NodeChange;
 use kdl_held::Handle;
 use std::alloc::Global;
 
-/// Sets the value of the entry at the index, and its spelling, to those of a text that is a value alone, as `"a b"`,
-/// `0x10` or `#true`. The key, the type and the texts around the value stay.
+/// Sets the value of the entry at the index, and its spelling, from a text such as `"a b"`, `0x10` or `#true`. The text
+/// is only a value, without a key or a type. The key and the type of the entry, and the texts around its value, do not
+/// change.
 #[unsafe(no_mangle)]
 pub extern "C" fn kdl_set_value(
     alloc: Global,
@@ -45,8 +46,8 @@ pub extern "C" fn kdl_set_value(
     change_held(alloc, document, path, change)
 }
 
-/// Sets the key of the entry at the index to a copy of the bytes, where `has_key` is not 0; else takes it away, and the
-/// entry is an argument. It is printed in the library's spelling.
+/// Sets the key of the entry at the index to a copy of the bytes. If `has_key` is 0, removes the key instead, and the
+/// entry becomes an argument. The key is printed in the library's spelling.
 #[unsafe(no_mangle)]
 pub extern "C" fn kdl_set_key(
     alloc: Global,
@@ -75,8 +76,8 @@ pub extern "C" fn kdl_set_key(
     change_held(alloc, document, path, change)
 }
 
-/// Sets the type of the entry at the index, and of the node where the index is `usize::MAX`, to a copy of the bytes,
-/// where `has_type` is not 0; else takes it away. It is printed in the library's spelling.
+/// Sets the type of the entry at the index to a copy of the bytes. If the index is `usize::MAX`, sets the type of the
+/// node. If `has_type` is 0, removes the type instead. The type is printed in the library's spelling.
 #[unsafe(no_mangle)]
 pub extern "C" fn kdl_set_type(
     alloc: Global,
@@ -109,8 +110,8 @@ pub extern "C" fn kdl_set_type(
     }
 }
 
-/// Inserts an entry, given as a text, before the entry at the index, or last where the index is their number. It is
-/// printed after one space, in the library's spelling.
+/// Inserts an entry, given as a text, before the entry at the index, or after the last entry if the index is the number
+/// of entries. The entry is printed after one space, in the library's spelling.
 #[unsafe(no_mangle)]
 pub extern "C" fn kdl_insert_entry(
     alloc: Global,

@@ -1,4 +1,4 @@
-//! Edits of nodes: their names, and nodes inserted and removed.
+//! Edits of nodes: names, insertion and removal.
 
 ghost use Rattle.kdl.specs.Words.{IsNodeText, NodeData, nodes_of};
 ghost use Rattle.kdl_calls.specs.Answers.{Each};
@@ -15,7 +15,7 @@ use kdl_calls::node_change::NodeChange;
 use kdl_held::Handle;
 use std::alloc::Global;
 
-/// Sets the name of the node at the path to a copy of the bytes. It is printed in the library's spelling.
+/// Sets the name of the node at the path to a copy of the bytes. The name is printed in the library's spelling.
 #[unsafe(no_mangle)]
 pub extern "C" fn kdl_set_name(
     alloc: Global,
@@ -40,9 +40,11 @@ pub extern "C" fn kdl_set_name(
     change_held(alloc, document, path, NodeChange::SetName(name))
 }
 
-/// Inserts a node, given as a text, into the block of the node at the path, or into the document where the path is
-/// empty: before the node at the index there, or last. It makes the block where there is none. Newlines that are
-/// missing between nodes are added, so that none joins another.
+/// Inserts a node, given as a text, into the block of the node at the path, or into the document if the path is empty.
+/// The node is inserted before the one at the index, or after the last one if the index is the number of nodes.
+///
+/// Creates the block if there is none. Adds the newlines that are missing between the nodes, so that no node joins
+/// another.
 #[unsafe(no_mangle)]
 pub extern "C" fn kdl_insert_node(
     alloc: Global,
@@ -73,7 +75,7 @@ pub extern "C" fn kdl_insert_node(
     }
 }
 
-/// Removes a node from the block of the node at the path, or from the document where the path is empty.
+/// Removes the node at the index from the block of the node at the path, or from the document if the path is empty.
 #[unsafe(no_mangle)]
 pub extern "C" fn kdl_remove_node(
     alloc: Global,
