@@ -1,12 +1,12 @@
 """The rows of crates/rows/data as cases for the tests of the bindings (crates/rows/README.md).
 
     python3 rows.py FILE [N]    writes each text, or each N-th, that is read as a document, and the
-                                examples, for test programs in C: how many there are, and of each a
+                                examples, for test programs in C: how many there are, and for each a
                                 line `KIND LENGTH STRIP FMT`, the text, and what it is laid out to
                                 without and with comments
 
-KIND is `a` for an accepted text, `r` for a refused one, and `?` where the rows do not say. A length
-is in bytes, and -1 where the rows do not say.
+KIND is `a` for an accepted text, `r` for a refused one, and `?` if the rows do not say. A length is
+in bytes, and -1 if the rows do not say.
 """
 import pathlib
 import re

@@ -1,6 +1,6 @@
-/* Refuses one request for memory, the one whose number is REFUSE, from 1 on. It is loaded before a program (LD_PRELOAD).
-   Where a request is refused, a line goes to the program's descriptor 9. With COUNT set, so does the number of all requests,
-   when the program ends. */
+/* Makes one allocation of a program fail: the one whose number is REFUSE, counted from 1. It is loaded before the program
+   (LD_PRELOAD). When an allocation fails, a line is written to the program's descriptor 9. With COUNT set, the number of
+   all allocations is written there when the program ends. */
 #include <errno.h>
 #include <stddef.h>
 #include <stdio.h>

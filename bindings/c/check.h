@@ -17,14 +17,14 @@
 /* The bytes and the length of a literal without a NUL in it. */
 #define T(text) (const uint8_t *)(text), strlen(text)
 
-/* A struct without a document. */
+/* Returns a struct without a document. */
 static inline struct kdl_document none(void) {
     struct kdl_document document;
     memset(&document, 0, sizeof document);
     return document;
 }
 
-/* A buffer of exactly that size, so that a checker of memory sees a byte too far. */
+/* Returns a buffer of exactly that size, so that a memory checker reports a byte too far. */
 static inline uint8_t *buffer(size_t size) {
     uint8_t *made = (uint8_t *)malloc(size ? size : 1);
     CHECK(made);
@@ -43,7 +43,7 @@ static inline uint8_t *read_all(const char *name, size_t *len) {
     return text;
 }
 
-/* The text of the document. */
+/* Returns the text of the document. */
 static inline uint8_t *printed(struct kdl_document *document, size_t *len) {
     uint8_t nothing;
     uint32_t status = kdl_print(document, &nothing, 0, len);

@@ -1,5 +1,5 @@
-/* Refuses each request for memory of each call in turn. The call returns KDL_OUT_OF_MEMORY, leaves
- * the document that it had and leaks nothing. It is linked with
+/* Makes each allocation of each call fail in turn. The call has to return KDL_OUT_OF_MEMORY, to
+ * leave the document as it was, and to leak nothing. The program is linked with
  * --wrap=malloc,--wrap=realloc,--wrap=free. */
 #include "check.h"
 
@@ -16,7 +16,7 @@ void __wrap_free(void *);
 }
 #endif
 
-/* How many requests are granted before one is refused, or -1; and how many pieces are held. */
+/* How many allocations succeed before one fails, or -1; and how many blocks are allocated. */
 static long granted = -1, held;
 
 static bool is_refused(void) {
@@ -82,7 +82,7 @@ static uint32_t call(int which, struct kdl_document *d) {
     }
 }
 
-/* Makes the call with the request of that number refused, and returns whether there was one. */
+/* Makes the call with the allocation of that number failing. Returns whether there was one. */
 static bool refuses(int which, long number) {
     bool has_faults = which >= 5 && which <= 7, lays_out = which == 2 || which == 3;
     struct kdl_document d = none();

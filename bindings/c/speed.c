@@ -1,4 +1,4 @@
-/* speed FILE: how long each call takes for the document of a file, the least of twenty runs. */
+/* speed FILE: prints how long each call takes for the document of a file, the least of 20 runs. */
 #define _POSIX_C_SOURCE 200809L
 #include "check.h"
 #include <time.h>

@@ -1,5 +1,5 @@
-/* Each call from C: what it writes and returns, with buffers of every size, on paths that lead
- * nowhere, on a struct without a document, on deep blocks, and on six threads. */
+/* Tests what each call writes and returns: with buffers of every size, on paths without a node, on
+ * a struct without a document, on deep blocks, and on six threads. */
 #include "check.h"
 #include <pthread.h>
 
@@ -15,7 +15,7 @@ static void documents(void) {
     CHECK(kdl_parse(T("a }"), &d) == KDL_FAULTS && !d.live);
     CHECK(kdl_parse(T(sample), &d) == KDL_OK && d.live);
     prints(&d, sample);
-    /* what is refused leaves the document */
+    /* a refused text leaves the document */
     CHECK(kdl_parse(T("a }\nb #treu\n"), &d) == KDL_FAULTS && d.live);
     CHECK(kdl_parse((const uint8_t *)"a \xc3", 3, &d) == KDL_NOT_UTF8 && d.live);
     prints(&d, sample);
@@ -59,7 +59,7 @@ static void faults(void) {
     CHECK(kdl_reports(T("a"), r, 4, &count, s, sizeof s, &len) == KDL_OK && !count && !len);
     CHECK(kdl_reports(T(text), r, 0, &count, s, 0, &len) == KDL_FAULTS && count == 2 && len > 16);
 
-    /* of what an edit is given */
+    /* the faults of texts given to edits */
     CHECK(kdl_faults_of(KDL_AS_DOCUMENT, T(text), f, 4, &count, s, sizeof s, &len) == KDL_FAULTS);
     CHECK(count == 2 && f[1].start == 6);
     CHECK(kdl_faults_of(KDL_AS_NODE, T("a 1"), f, 4, &count, s, sizeof s, &len) == KDL_OK);
@@ -115,7 +115,7 @@ static void reading(void) {
     CHECK(kdl_tree(&d, rows, 16, &m, s, sizeof s, &n) == KDL_OK && m == 7 && n == 25);
     CHECK(rows[0].has_type && s[rows[0].type_start] == 't' && rows[0].type_len == 1);
     CHECK(rows[1].integer == 16 && rows[3].has_block && rows[6].kind == KDL_END);
-    /* where the strings have too little room, the counts and the row */
+    /* the counts and the row are set if the strings have too little room */
     CHECK(kdl_entry(&d, path, 1, 1, &row, s, 0, &n) == KDL_TOO_SMALL && n == 1);
     CHECK(row.kind == KDL_PROPERTY && row.value == KDL_BOOL && row.integer == 1);
     CHECK(row.name_len == 1);
@@ -132,7 +132,7 @@ static void reading(void) {
     CHECK(kdl_get(&d, T("a"), &row, s, sizeof s, &n) == KDL_OK && row.integer == 16);
     CHECK(kdl_get(&d, T("b"), &row, s, sizeof s, &n) == KDL_NOT_FOUND);
     CHECK(kdl_get(&d, T("c"), &row, s, sizeof s, &n) == KDL_NOT_FOUND);
-    /* of two of a name the first node, and the last property */
+    /* of two with one name, the first node and the last property */
     CHECK(kdl_parse(T("n k=1 k=2 k=3 4; n 5"), &d) == KDL_OK);
     CHECK(kdl_find(&d, path, 0, T("n"), &n) == KDL_OK && n == 0);
     CHECK(kdl_find_entry(&d, path, 1, T("k"), &n) == KDL_OK && n == 2);
@@ -141,7 +141,7 @@ static void reading(void) {
     CHECK(kdl_get(&d, (const uint8_t *)"\xff", 1, &row, s, sizeof s, &n) == KDL_NOT_UTF8);
     CHECK(kdl_find(&d, path, 0, (const uint8_t *)"\xff", 1, &n) == KDL_NOT_UTF8);
     CHECK(kdl_find_entry(&d, path, 1, (const uint8_t *)"\xff", 1, &n) == KDL_NOT_UTF8);
-    /* its place is in the text of its insert */
+    /* the place of an inserted entry is in its own text */
     CHECK(kdl_insert_entry(&d, path, 1, 0, T(" k=0x10")) == KDL_OK);
     CHECK(kdl_entry(&d, path, 1, 0, &row, s, sizeof s, &n) == KDL_OK);
     CHECK(row.start == 0 && row.len == 7);
@@ -215,7 +215,7 @@ static void edits(void) {
     kdl_free(&d);
 }
 
-/* Nodes that are inserted read back beside their neighbours. */
+/* Inserted nodes read back beside their neighbours. */
 static void nodes(void) {
     static const char *const texts[] = {"", "a", "a\n", "a;b", "a // c", "a { b }", "a {b}", "a\\\n"};
     static const char *const want[] = {"x 1", "a", "b"};
@@ -247,8 +247,8 @@ static void nodes(void) {
     }
 }
 
-/* A call that writes, by its number: with so much room for rows or faults and for strings, into
- * buffers of exactly that size. It returns the status, and the counts. */
+/* Makes the writing call of that number, with so much room for rows or faults and for strings, in
+ * buffers of exactly that size. Returns the status, and sets the counts. */
 enum { WRITERS = 9 };
 static uint32_t writes(int which, struct kdl_document *d, size_t room, size_t bytes, size_t *count,
                        size_t *len) {
@@ -322,7 +322,7 @@ static void empties(void) {
     kdl_free(&d);
 }
 
-/* Each call on a document with a path: it returns the status, and leaves the text. */
+/* Makes the call of that number on a document with a path. Returns the status; the text stays. */
 enum { CALLS = 18, WITH_PATH = 12 };
 static uint32_t call(int which, struct kdl_document *d, const size_t *path, size_t len, size_t index) {
     struct kdl_row row;

@@ -1,14 +1,14 @@
-/* texts FILE N: each text of the file (bindings/rows.py writes it), and N texts that are made of
- * these by random changes, all in one process, and of each what has to hold:
+/* texts FILE N: tries each text of the file, which bindings/rows.py writes, and N texts made from
+ * these by random changes, all in one process. Checks for each:
  * - an accepted text prints itself, and its rows are those that calls for single nodes and entries
- *   write; laid out it keeps its data, and laid out again it stays as it is; an edit prints a text
- *   that reads back as what the document has;
+ *   write; layout keeps its data, and a second layout changes nothing; an edited document prints a
+ *   text that reads back with the document's data;
  * - a refused text has faults, each in the text and between characters;
- * - a text is refused as no UTF-8 exactly where it is none.
- * The file's first line says how many texts it has. */
+ * - a text is refused as not UTF-8 if and only if it is not UTF-8.
+ * The first line of the file is the number of its texts. */
 #include "check.h"
 
-/* The longest text that changes make, and that is a base for them. */
+/* The longest text that changes make or start from. */
 enum { MOST = 3000, BASE = 1500 };
 
 struct text {
@@ -22,7 +22,7 @@ static bool is_continued(const uint8_t *text, size_t len, size_t at) {
     return at < len && (text[at] & 0xC0) == 0x80;
 }
 
-/* Whether the bytes are UTF-8. */
+/* Returns whether the bytes are UTF-8. */
 static bool is_utf8(const uint8_t *text, size_t len) {
     for (size_t at = 0; at < len;) {
         uint32_t first = text[at], more = first < 0x80 ? 0 : first < 0xE0 ? 1 : first < 0xF0 ? 2 : 3;
@@ -54,7 +54,7 @@ static bool is_same(const struct kdl_row *a, const uint8_t *as, const struct kdl
            is_text(as + a->text_start, a->text_len, bs + b->text_start, b->text_len);
 }
 
-/* Both documents have the same data. */
+/* Checks that both documents have the same data. */
 static bool have_same_data(struct kdl_document *d, struct kdl_document *e) {
     struct rows a = rows_of(d), b = rows_of(e);
     bool same = a.count == b.count;
@@ -66,8 +66,8 @@ static bool have_same_data(struct kdl_document *d, struct kdl_document *e) {
     return same;
 }
 
-/* The rows from `at` on are those of the block at the path, by calls for one node or entry each,
- * which write their strings to `s`. It returns the first row after the block. */
+/* Checks that the rows from `at` on are those of the block at the path, by calls for one node or
+ * entry each, which write their strings to `s`. Returns the first row after the block. */
 static size_t block(struct kdl_document *d, const struct rows *rows, size_t at, size_t *path,
                     size_t depth, uint8_t *s) {
     struct kdl_row row;
@@ -114,7 +114,7 @@ static size_t depth_of(const struct rows *rows) {
     return most;
 }
 
-/* The rows and the calls for single nodes and entries agree. */
+/* Checks that the rows and the calls for single nodes and entries agree. */
 static void rows_agree(struct kdl_document *d) {
     struct rows rows = rows_of(d);
     size_t *path = (size_t *)calloc(depth_of(&rows) + 2, sizeof *path);
@@ -126,8 +126,8 @@ static void rows_agree(struct kdl_document *d) {
     drop_rows(&rows);
 }
 
-/* Lays the document out by the call, to a text with the same data that stays as it is when it is
- * laid out again, and returns the text. */
+/* Lays the document out by the call, and returns the text. Checks that the text has the same data,
+ * and that a second layout does not change it. */
 static uint8_t *lays(uint32_t (*call)(struct kdl_document *), const struct text *text, size_t *len) {
     struct kdl_document d = none(), e = none();
     CHECK(kdl_parse(text->bytes, text->len, &d) == KDL_OK);
@@ -145,7 +145,7 @@ static uint8_t *lays(uint32_t (*call)(struct kdl_document *), const struct text 
     return out;
 }
 
-/* What holds of each accepted text. The expected layouts are null where they are not known. */
+/* Checks an accepted text. The expected layouts are null if they are not known. */
 static void accepted(struct kdl_document *d, const struct text *text, const struct text *strip,
                      const struct text *fmt) {
     size_t n, m, k;
@@ -168,7 +168,7 @@ static void accepted(struct kdl_document *d, const struct text *text, const stru
     free(out);
 }
 
-/* What holds of each refused text. */
+/* Checks a refused text. */
 static void refused(const struct text *text) {
     struct kdl_report one;
     uint8_t nothing;
@@ -215,7 +215,7 @@ static const char *const pieces[] = {
     "\xc2\xa0", "\x7f", "\x01", "\\\n", "/- {", " {\n    b 1\n}", "/*a*/", "99999999999999999999",
 };
 
-/* Puts `len` bytes in the place of those between two places, where the text has room. */
+/* Replaces the bytes between two places by `len` others, if the text has room. */
 static void splice(struct text *text, size_t from, size_t to, const uint8_t *bytes, size_t len) {
     if (text->len - (to - from) + len > MOST) {
         return;
@@ -225,7 +225,7 @@ static void splice(struct text *text, size_t from, size_t to, const uint8_t *byt
     text->len += len - (to - from);
 }
 
-/* A place between characters, at or after the one that was taken. */
+/* Returns a random place between characters. */
 static size_t place(const struct text *text) {
     size_t at = below(text->len + 1);
     while (is_continued(text->bytes, text->len, at)) {
@@ -268,7 +268,7 @@ static void change(struct text *text, const struct text *bases, size_t count) {
     }
 }
 
-/* A path to a node of the rows, and the row's number. It returns the length of the path. */
+/* Sets `path` to the path of the node at that row. Returns the length of the path. */
 static size_t path_to(const struct rows *rows, size_t row, size_t *path) {
     size_t depth = 0;
     path[0] = 0;
@@ -285,8 +285,8 @@ static size_t path_to(const struct rows *rows, size_t row, size_t *path) {
     return depth + 1;
 }
 
-/* Makes a random edit at a random node. The document prints a text that reads back as what the
- * document has, and after an edit that is refused the text that it printed before. */
+/* Makes a random edit at a random node. Checks that the document prints a text that reads back with
+ * its data, or after a refused edit the text that it printed before. */
 static void edited(struct kdl_document *d) {
     static const char *const names[] = {"a", "a b", "", "true", "1", "-1", "\xc3\xa9"};
     static const char *const values[] = {"1", "\"x y\"", "x", "0x1F", "#null", "\"\"", "#\"r\"#"};
@@ -334,7 +334,7 @@ static void edited(struct kdl_document *d) {
 
 /* ---- The runs ---- */
 
-/* What is tried, for the message where it fails. */
+/* The text that is tried, for the message if it fails. */
 static struct text tried;
 static size_t tried_number;
 
@@ -383,7 +383,7 @@ static struct text read_text(FILE *file, long len) {
     return text;
 }
 
-/* The texts that changes are made of: the accepted ones first. */
+/* The texts that changes start from, the accepted ones first. */
 struct bases {
     struct text *all;
     size_t count, accepted;
@@ -397,7 +397,7 @@ static void keep(struct bases *bases, struct text text, bool is_accepted) {
     }
 }
 
-/* Tries the texts of the file, and keeps those that changes are made of. */
+/* Tries the texts of the file, and keeps those that changes start from. */
 static struct bases try_file(const char *name) {
     FILE *file = fopen(name, "rb");
     CHECK(file);

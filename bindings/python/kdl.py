@@ -83,7 +83,7 @@ class _Handle(ctypes.Structure):
 
 
 def _file() -> str:
-    """The shared library: the one that is named, beside this file, built here, or installed."""
+    """Returns the shared library: one that is named, beside this file, built here, or installed."""
     here = pathlib.Path(__file__).resolve().parent
     built = (here / "libkdl.so", here.parent / "c" / "out" / "libkdl.so")
     found = (str(it) for it in built if it.exists())
@@ -131,14 +131,14 @@ def _loaded(how: Callable[[str], Any]) -> Any:
     return library
 
 
-# A call on a document keeps the interpreter's lock, so that no two threads are in one document at
-# once. A call on a text alone gives the lock up.
+# A call on a document keeps the interpreter's lock, so that no two threads use one document at once.
+# A call on only a text releases the lock.
 _lib, _texts = _loaded(ctypes.PyDLL), _loaded(ctypes.CDLL)
 
 
 class Fault(NamedTuple):
     """A fault of a text: bytes `start` to `end` of it in UTF-8, the line and column of its start in
-    characters from 1, a message, and where there is more to say a label for the place and a help.
+    characters from 1, a message, and, if there is more to say, a label for the place and a help.
     """
 
     start: int
@@ -175,7 +175,7 @@ class Float(float):
     """A float that keeps its text. `Float(text)` keeps the text given; a float that was read has the
     text in which it was read, without `_`.
 
-    `ValueError` for a text that is no float in KDL. A float has a point or an exponent, with digits
+    Raises `ValueError` for a text that is not a float in KDL. A float has a point or an exponent, with digits
     on both sides, or is `#inf`, `#-inf` or `#nan`.
 
     >>> loads("price 1_000.50")[0][0].text
@@ -205,8 +205,7 @@ class Float(float):
 class Entry:
     """An argument, whose `name` is None, or a property.
 
-    `span` is its (start, end) in the text that it was read from, in bytes, and no part of a
-    comparison. A nan is not equal to itself, as in Python: two entries `#nan` differ, and so do the
+    `span` is its (start, end) in the text that it was read from, in bytes. It is not compared. A nan is not equal to itself, as in Python: two entries `#nan` differ, and so do the
     nodes that have them.
 
     >>> Entry(8080, "port", type="u16")
@@ -238,9 +237,9 @@ class Entry:
 class Node:
     """A node: a name, arguments, properties and children.
 
-    `entries` has the arguments and properties in their order. `children` is a list, or None where
-    the node has no block. `span` is its (start, end) in the text that it was read from, in bytes,
-    and no part of a comparison.
+    `entries` has the arguments and properties in their order. `children` is a list, or None if the
+    node has no block. `span` is its (start, end) in the text that it was read from, in bytes. It is
+    not compared.
 
     Its entries are the `entries` given, then an argument for each of `args`, then a property for
     each of `props`. `args` is a list or another iterable of values, and no str.
@@ -280,26 +279,26 @@ class Node:
 
     @property
     def props(self) -> Dict[str, Value]:
-        """The values of the properties by their keys: of two of one key the last counts."""
+        """The values of the properties by their keys. Of two with one key, the last one counts."""
         return {it.name: it.value for it in self.entries if it.name is not None}
 
     def __getitem__(self, key: Union[str, int]) -> Value:
-        """The value of the property of that key, or of the argument at that index."""
+        """Returns the value of the property of that key, or of the argument at that index."""
         return self.args[key] if isinstance(key, int) else self.props[key]
 
     # Python would iterate by __getitem__, over the arguments: a node is no list of nodes.
     __iter__ = None
 
     def get(self, key: Union[str, int], default: Any = None) -> Any:
-        """The value of the property of that key, or of the argument at that index, or the default
-        where there is none."""
+        """Returns the value of the property of that key, or of the argument at that index, or the
+        default if there is none."""
         try:
             return self[key]
         except LookupError:
             return default
 
     def child(self, name: str) -> Optional[Node]:
-        """The first child of that name, or None."""
+        """Returns the first child of that name, or None."""
         return next((it for it in self.children or () if it.name == name), None)
 
     def __eq__(self, other: object) -> bool:
@@ -342,7 +341,7 @@ def _encoded(text: Union[str, bytes]) -> bytes:
 
 
 def _check(status: int, text: bytes = b"", kind: int = _AS_DOCUMENT) -> None:
-    """Raises what the status says; the text is the one that was read."""
+    """Raises the exception of a status. The text is the one that was read."""
     if status == _OK:
         return
     if status == _FAULTS:
@@ -359,7 +358,7 @@ def _check(status: int, text: bytes = b"", kind: int = _AS_DOCUMENT) -> None:
 
 
 def _written(call: Callable[..., int], room: int) -> Tuple[int, bytes]:
-    """The status of a call, and the text that it writes; once more where the room was too small."""
+    """Makes a call, again if the room was too small. Returns its status and the text it writes."""
     needed = _size()
     while True:
         out = ctypes.create_string_buffer(max(room, 1))
@@ -370,7 +369,7 @@ def _written(call: Callable[..., int], room: int) -> Tuple[int, bytes]:
 
 
 def faults(text: Union[str, bytes]) -> List[Fault]:
-    """The faults of a text; none where it is KDL.
+    """Returns the faults of a text. There are none if it is KDL.
 
     They are in the order in which they are found: an unclosed block comes after the faults inside
     it. Sort by `start` for the order of the text. Raises `UnicodeDecodeError` for bytes that are
@@ -385,7 +384,7 @@ def faults(text: Union[str, bytes]) -> List[Fault]:
 
 
 def _faults_of(text: bytes, kind: int) -> List[Fault]:
-    """The same of a text that is read as the kind says; those of a document have more to say."""
+    """Returns the faults of a text of that kind. Only those of a document have labels and helps."""
     packed = _report if kind == _AS_DOCUMENT else _fault
     room, length, count, used = 16, 2048, _size(), _size()
     while True:
@@ -411,7 +410,7 @@ def _faults_of(text: bytes, kind: int) -> List[Fault]:
 
 
 def _positions(text: bytes, offsets: List[int]) -> Dict[int, Tuple[int, int]]:
-    """The line and column of each offset, each counted from the one before."""
+    """Returns the line and column of each offset, each counted from the one before."""
     found: Dict[int, Tuple[int, int]] = {}
     at, line, column, down, across = 0, 1, 1, _size(), _size()
     base = ctypes.cast(text, _any).value or 0
@@ -439,7 +438,7 @@ def _value(kind: int, integer: int, text: str) -> Value:
 
 
 class _Rows:
-    """The rows of a document and their strings, and where the rows of each node at its top begin."""
+    """The rows of a document, their strings, and the index of the first row of each top node."""
 
     __slots__ = ("rows", "strings", "text", "begins")
 
@@ -448,7 +447,7 @@ class _Rows:
         self.begins: List[int] = []
 
     def nodes(self) -> List[Node]:
-        """The nodes, made anew."""
+        """Returns the nodes, made anew."""
         # A collection among so many new objects would find nothing.
         was_on = gc.isenabled()
         gc.disable()
@@ -459,12 +458,12 @@ class _Rows:
                 gc.enable()
 
     def node(self, index: int) -> Node:
-        """The node at the index, made anew."""
+        """Returns the node at the index, made anew."""
         begins = self._begins()
         return _nodes_of(self.rows[begins[index] : begins[index + 1]], self.strings, self.text)[0]
 
     def __len__(self) -> int:
-        """How many nodes there are."""
+        """Returns the number of nodes."""
         return len(self._begins()) - 1
 
     def _begins(self) -> List[int]:
@@ -480,8 +479,8 @@ class _Rows:
 
 
 class _Nodes(Sequence[Node]):
-    """The nodes of a document as they are in its rows. A node is made where it is first used, and is
-    the same one from then on. The nodes can be changed, but not which they are."""
+    """The nodes of a document as they are in its rows. A node is made when it is first used, and is
+    the same one from then on. The nodes can be changed, but not the sequence of them."""
 
     __slots__ = ("_rows", "_made")
 
@@ -526,7 +525,7 @@ class _Nodes(Sequence[Node]):
 
 
 def _nodes_of(rows: memoryview, strings: bytes, text: str) -> List[Node]:
-    """The nodes of the rows, in one pass; the text is that of all the strings."""
+    """Returns the nodes of the rows, in one pass. The text is that of all the strings."""
     # In ASCII a byte is a character, and a slice of the text is the string.
     ascii = len(text) == len(strings)
     part = lambda start, n: text[start : start + n] if ascii else strings[start : start + n].decode()
@@ -577,18 +576,18 @@ class Document:
     The nodes that `nodes`, `node`, `get` and `document[..]` return are data of their own: a change
     of them does not change the document.
 
-    A call with a path raises `KeyError` where there is no node of a name in it, and `IndexError`
-    where there is none at an index: `find`, `node`, `document[..]`, and each `set_..`, `insert_..`
-    and `remove_..`. A call with an entry raises `KeyError` where the node has no property of that
-    key (`set_prop` adds one then), and `IndexError` where it has no entry at that index.
-    `insert_node` and `insert_entry` raise `IndexError` for an index beyond the number of nodes or
-    entries. The empty path is the document, for `find` and `insert_node` alone: for another call it
-    is no node, which has no entry.
+    A call with a path raises `KeyError` if there is no node of a name in it, and `IndexError` if
+    there is none at an index: `find`, `node`, `document[..]`, and each `set_..`, `insert_..` and
+    `remove_..`. A call with an entry raises `KeyError` if the node has no property of that key
+    (`set_prop` adds one instead), and `IndexError` if it has no entry at that index. `insert_node`
+    and `insert_entry` raise `IndexError` for an index beyond the number of nodes or entries. The
+    empty path is the document, but only for `find` and `insert_node`: for any other call it is no
+    node, and has no entries.
 
-    `insert_node`, `insert_entry` and `set_spelling` raise `KdlError` where their text is not exactly
-    one node, entry or value. The positions of its faults are in that text, not in the document.
-    After an exception the document is as it was, but for `autoformat`: where memory runs out, a part
-    of the document may be laid out.
+    `insert_node`, `insert_entry` and `set_spelling` raise `KdlError` if their text is not exactly one
+    node, entry or value. The positions of its faults are in that text, not in the document. After an
+    exception the document is unchanged, except by `autoformat`: if memory runs out, a part of the
+    document may be laid out.
 
     >>> with Document.parse("a  0x10 // ten\n") as document:
     ...     document["a"].args, str(document)
@@ -601,8 +600,8 @@ class Document:
     """
 
     _handle: _Handle
-    #: The rows, where they were read since the last edit. An edit puts another list here, so that
-    #: rows that another thread has read before the edit do not get into it.
+    #: The rows, if they were read since the last edit. An edit puts another list here, so that rows
+    #: that another thread has read before the edit do not get into it.
     _read: List[_Rows]
     _len: int
 
@@ -615,14 +614,13 @@ class Document:
 
     @classmethod
     def parse(cls, text: Union[str, bytes]) -> Document:
-        """The document of a text. Raises `KdlError` where it has faults, `UnicodeDecodeError` for
-        bytes that are not UTF-8, and `UnicodeEncodeError` for a str with surrogates; all are
-        `ValueError`.
+        """Parses a text. Raises `KdlError` if it has faults, `UnicodeDecodeError` for bytes that are
+        not UTF-8, and `UnicodeEncodeError` for a str with surrogates; all are `ValueError`.
         """
         return cls(text)
 
     def close(self) -> None:
-        """Frees the memory of the document. Each other call raises `ValueError` then."""
+        """Frees the memory of the document. Any other call then raises `ValueError`."""
         _lib.kdl_free(self._handle)
         self._read = []
 
@@ -653,7 +651,7 @@ class Document:
     def autoformat(self, *, comments: bool = True) -> None:
         r"""Lays the document out, with its comments or without.
 
-        Without comments, two documents print the same text exactly where they have the same data.
+        Without comments, two documents print the same text if and only if they have the same data.
 
         >>> document = Document.parse("a   0x10; b { c; } // d")
         >>> document.autoformat()
@@ -668,8 +666,8 @@ class Document:
 
     @property
     def nodes(self) -> Sequence[Node]:
-        """The nodes as data of their own: a change of them does not change the document, nor does an
-        edit of the document change them.
+        """The nodes, as data of their own. A change of them does not change the document, nor does
+        an edit of the document change them.
 
         Each use gives another sequence, with nodes of its own. It makes a node when it is first
         used. `list(document)` is a list of the nodes, of which some can be taken away.
@@ -713,18 +711,18 @@ class Document:
             return False
 
     def __getitem__(self, name: Union[str, int]) -> Node:
-        """The first node of that name, or the node at that index."""
+        """Returns the first node of that name, or the node at that index."""
         if not isinstance(name, (str, int)):
             raise KeyError(name)
         return self.node(name)
 
     def get(self, name: str) -> Optional[Node]:
-        """The first node of that name, or None."""
+        """Returns the first node of that name, or None."""
         return self[name] if name in self else None
 
     def get_arg(self, name: str, default: Any = None) -> Any:
-        """The first argument of the first node of that name in the document, or the default where
-        there is no such node or it has no argument. `#null` is an argument: it gives None.
+        """Returns the first argument of the first node of that name in the document, or the default
+        if there is no such node or it has no argument. `#null` is an argument: it gives None.
 
         >>> document = Document.parse("port 8080; proxy #null")
         >>> document.get_arg("port"), document.get_arg("proxy", 1), document.get_arg("x", 1)
@@ -739,7 +737,7 @@ class Document:
         return _value(it[1], it[4], strings[it[9] : it[9] + it[10]].decode())
 
     def node(self, path: Path) -> Node:
-        """The node at the path.
+        """Returns the node at the path.
 
         >>> Document.parse("server { port 8080; }").node(["server", "port"]).args
         [8080]
@@ -753,8 +751,8 @@ class Document:
         return node
 
     def find(self, path: Path) -> Tuple[int, ...]:
-        """The indices of the path, from its names and indices. `KeyError` where there is no node
-        of a name, `IndexError` where there is none at an index.
+        """Returns the indices of a path of names and indices. Raises `KeyError` if there is no node
+        of a name, and `IndexError` if there is none at an index.
 
         >>> Document.parse("a; server { port 8080; }").find(["server", "port"])
         (1, 0)
@@ -782,7 +780,7 @@ class Document:
         return index.value
 
     def _node_count(self, path: Tuple[int, ...], without: int = 0) -> int:
-        """How many nodes the document or the node's block has, or that number without a block."""
+        """Counts the nodes of the document or the node's block. Returns `without` if it has none."""
         count = _size()
         status = _lib.kdl_node_count(self._handle, *_steps(path), count)
         if status == _NOT_FOUND:
@@ -806,7 +804,7 @@ class Document:
         _check(status, text or b"", kind)
 
     def _entry(self, path: Tuple[int, ...], entry: Union[str, int]) -> int:
-        """The index of an entry among all of the node, from that index or the key of a property."""
+        """Returns the index of an entry among all of the node, from an index or a property's key."""
         if isinstance(entry, str):
             return self._found(_lib.kdl_find_entry, path, entry)
         index, count = operator.index(entry), self._entry_count(path)
@@ -859,7 +857,7 @@ class Document:
             self.insert_entry(path, Entry(value, key))
 
     def set_key(self, path: Path, entry: Union[str, int], key: Optional[str]) -> None:
-        """Sets the key of an entry, or makes it an argument where the key is None.
+        """Sets the key of an entry, or makes it an argument if the key is None.
 
         >>> document = Document.parse("a 1 k=2")
         >>> document.set_key("a", 0, "n")
@@ -871,7 +869,7 @@ class Document:
         self._edit(_lib.kdl_set_key, at, self._entry(at, entry), int(key is not None), text=given)
 
     def set_type(self, path: Path, type: Optional[str], entry: Union[None, str, int] = None) -> None:
-        """Sets the type of a node, or of an entry of it, or takes it away where it is None.
+        """Sets the type of a node, or of an entry of it, or removes the type if it is None.
 
         >>> document = Document.parse("(old)a 1")
         >>> document.set_type("a", None)
@@ -897,9 +895,9 @@ class Document:
         """Inserts an entry, or the entry of a text in KDL, before the one at the index or as the
         last.
 
-        It is printed after one space, in the library's spelling, also where a text is given: `0x10`
-        is inserted as `16`, and `k="x"` as `k=x`. For another spelling, parse the text of the
-        document anew, and call `set_spelling` then.
+        It is printed after one space, in the library's spelling, even if a text is given: `0x10` is
+        inserted as `16`, and `k="x"` as `k=x`. For another spelling, parse the text of the document
+        anew, and then call `set_spelling`.
 
         >>> document = Document.parse("a 1 // c")
         >>> document.insert_entry("a", Entry("x y", "k"))
@@ -933,23 +931,23 @@ class Document:
 
     def insert_node(self, path: Path, node: Union[Node, str], index: Optional[int] = None) -> None:
         r"""Inserts a node, or the node of a text in KDL, into the block of the node at the path, or
-        into the document where the path is (): before the node at the index, or as the last. A
-        node without a block gets one.
+        into the document if the path is (): before the node at the index, or as the last. A node
+        without a block gets one.
 
-        It goes before the comments and `/-` nodes in front of the node at the index: at index 0 of a
-        document before a licence comment too. As the last it goes right after the last node, and
-        before the comments after that.
+        It is inserted before the comments and `/-` nodes in front of the node at the index: at index
+        0 of a document, before a licence comment too. As the last, it is inserted right after the
+        last node, and before the comments after that.
 
         A `Node` suits a block with one node to a line, each ended by a newline. It is laid out and
         indented by 4 spaces for each level, with LF, whatever the neighbours have; after a `;` it
         stays on that line. At index 0 of a block whose first node begins a line, an empty line
         follows it; in an empty block that has a newline, an empty line is before it. Its strings are
-        in quotes only where they have to be: `Node("log", props={"level": "info"})` is inserted as
+        in quotes only if they have to be: `Node("log", props={"level": "info"})` is inserted as
         `log level=info`. Give a text for quotes, another spelling, or another place of newlines.
 
-        A text is inserted as it is, with its spaces and comments, and newlines are added only where
-        they keep it apart from its neighbours. End it with a newline for a line of its own, and
-        begin it with one too at index 0 of a block and after a `;`.
+        A text is inserted as it is, with its spaces and comments. Newlines are added only if they
+        are needed to separate it from its neighbours. End it with a newline for a line of its own,
+        and begin it with one too at index 0 of a block and after a `;`.
 
         >>> document = Document.parse("a {\n    b 1 // one\n}\n")
         >>> document.insert_node("a", Node("c", [2]))
@@ -972,8 +970,8 @@ class Document:
 
         Before it are the spaces, newlines, comments and `/-` nodes back to the end of the node before
         it, to the `{`, or to the start of the document: a licence comment or a version marker before
-        the first node goes with that node. Its end is the newline or `;` after it, with the spaces
-        and comments before that. What is after its end stays.
+        the first node is removed with that node. Its end is the newline or `;` after it, with the
+        spaces and comments before that. What is after its end stays.
 
         >>> document = Document.parse("a\n// of b\nb 1 { c; } // end\n// of d\nd\n")
         >>> document.remove_node("b")
@@ -995,7 +993,7 @@ def _steps(path: Tuple[int, ...]) -> Tuple[Any, int]:
 
 
 def _place(index: Optional[int], count: int) -> int:
-    """Where to insert among so many: the last place where there is no index."""
+    """Returns the index at which to insert among so many: the last one if no index is given."""
     if index is None:
         return count
     if not -count <= operator.index(index) <= count:
@@ -1004,15 +1002,15 @@ def _place(index: Optional[int], count: int) -> int:
 
 
 def _indented(node: Node, depth: int, place: int, count: int) -> str:
-    """The lines of a node for a place in a block at that depth, which has so many nodes, or -1 where
-    the block is yet to be made."""
+    """Returns the lines of a node for an index in a block at that depth. The block has so many nodes,
+    or -1 if it is yet to be made."""
     lines = dumps([node])[:-1].replace("\n", "\n" + "    " * depth)
     is_first = depth > 0 and place == 0 and count >= 0
     return ("\n" if is_first else "") + "    " * depth + lines + ("" if is_first and count else "\n")
 
 
 def _spelled(value: Value) -> str:
-    """A value in KDL."""
+    """Returns a value in KDL."""
     if value is None:
         return "#null"
     if isinstance(value, bool):
@@ -1037,7 +1035,7 @@ _MARKS = {'"': '\\"', "\\": "\\\\", "\n": "\\n", "\r": "\\r", "\t": "\\t", "\b":
 
 
 def _quoted(text: str) -> str:
-    """A string in quotes."""
+    """Returns a string in quotes."""
     if not isinstance(text, str):
         raise TypeError(f"a name, key or type is a str, not {type(text).__name__}")
     return '"' + _ESCAPED.sub(lambda it: _MARKS.get(it[0]) or f"\\u{{{ord(it[0]):x}}}", text) + '"'
@@ -1053,8 +1051,9 @@ def _spelled_entry(entry: Entry) -> str:
 
 
 def loads(text: Union[str, bytes]) -> List[Node]:
-    """The nodes of a text. Raises `KdlError` where it has faults, `UnicodeDecodeError` for bytes
-    that are not UTF-8, and `UnicodeEncodeError` for a str with surrogates; all are `ValueError`.
+    """Parses a text, and returns its nodes. Raises `KdlError` if it has faults, `UnicodeDecodeError`
+    for bytes that are not UTF-8, and `UnicodeEncodeError` for a str with surrogates; all are
+    `ValueError`.
 
     >>> loads("a 1 k=#true { b; }")
     [Node('a', entries=[Entry(1), Entry(True, 'k')], children=[...])]
@@ -1064,7 +1063,7 @@ def loads(text: Union[str, bytes]) -> List[Node]:
 
 
 def dumps(nodes: Iterable[Node]) -> str:
-    r"""The text of nodes, laid out. Without nodes it is one newline.
+    r"""Returns the text of nodes, laid out. Without nodes it is one newline.
 
     >>> dumps([Node("a", ["b", "c d"], {"k": None}), Node("b", children=[])])
     'a b "c d" k=#null\nb {\n\n}\n'
@@ -1090,7 +1089,7 @@ def dumps(nodes: Iterable[Node]) -> str:
 
 
 def format_text(text: Union[str, bytes]) -> str:
-    r"""A text laid out, with its comments. Raises `KdlError` where it has faults,
+    r"""Returns a text laid out, with its comments. Raises `KdlError` if it has faults,
     `UnicodeDecodeError` for bytes that are not UTF-8, and `UnicodeEncodeError` for a str with
     surrogates; all are `ValueError`. A text without nodes gets one newline after its comments.
 
@@ -1108,18 +1107,18 @@ _USAGE = """usage: python -m kdl check FILE..       lists the faults of the file
        python -m kdl strip FILE         writes the data of the file: one text for equal data
        python -m kdl get NAME FILE      writes the first argument of the first node of that name, as
                                         KDL writes it
-A file - is standard input, and ./-w is the file of that name. The status is 0, or 1 where a file
-has faults, is not UTF-8, or has no such value, 2 for wrong usage, and 3 where a file cannot be read
-or written or memory runs out."""
+A file - is standard input, and ./-w is the file of that name. The status is 0, or 1 if a file has
+faults, is not UTF-8, or has no such value, 2 for wrong usage, and 3 if a file cannot be read or
+written or memory runs out."""
 
 
 def _shown(text: str) -> str:
-    """The text for a terminal: what does not print is a mark."""
+    """Returns the text for a terminal, with a mark for each character that is not printable."""
     return "".join(it if it.isprintable() or it == "\t" else "\ufffd" for it in text)
 
 
 def _told(name: str, text: bytes, fault: Fault) -> str:
-    """A fault as lines: its place and message, the line of the text, and a caret below it."""
+    """Returns the lines of a fault: its place and message, the line of the text, and a caret."""
     rest = re.split("[\n\r\x0b\x0c\x85\u2028\u2029]", text[fault.start :].decode(), maxsplit=1)[0]
     lead = text[: fault.start].decode()[1 - fault.column :] if fault.column > 1 else ""
     length = len(text[fault.start : fault.end].decode())
@@ -1135,7 +1134,7 @@ def _read(name: str) -> bytes:
 
 
 def _rewrite(name: str, text: bytes) -> None:
-    """Puts a file of that text in the place of the file, which is there in whole at any time."""
+    """Replaces the file by one with that text. At any time, the whole old or new file is there."""
     path = os.path.realpath(name)
     handle, made = tempfile.mkstemp(dir=os.path.dirname(path))
     try:
@@ -1149,7 +1148,7 @@ def _rewrite(name: str, text: bytes) -> None:
 
 
 def _run_on(word: str, name: str, key: str, rewrites: bool) -> int:
-    """Does what the word says for one file, and returns the status."""
+    """Runs the command of that word on one file, and returns the status."""
     text = _read(name)
     try:
         if word == "check":

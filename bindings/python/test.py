@@ -1,5 +1,5 @@
 """The module kdl on all rows of crates/rows/data that are documents, nodes and entries, on the
-examples, and from the command line. Prints nothing where all is well."""
+examples, and from the command line. Prints nothing if all is well."""
 import copy
 import os
 import pathlib
@@ -45,8 +45,8 @@ def span(it):
 
 
 def field(nodes, label):
-    """The text of a field of the nodes: True where the label says that there is none of it and there
-    is none. KeyError where the module does not tell the field."""
+    """Returns the text of a field of the nodes, or True if the label says that there is none and
+    there is none. Raises KeyError if the module does not have the field."""
     words, at = label.split(" "), nodes
     while len(words) > 1:
         if isinstance(at, Sequence) and words[0].isdigit():
@@ -177,8 +177,8 @@ def node_holds(case):
 
 
 def all_rows():
-    """Each row that the module can try; C alone tries those of which no more is said than whether they
-    are accepted."""
+    """Tries each row that the module can try. The rows that say only whether a text is accepted are
+    tried only in C."""
     found = {"document": 0, "node": 0, "entry": 0}
     for case in rows.cases():
         if case.call == "document" and {it for it, _ in case.wanted} - {"accepted", "refused"}:
@@ -210,7 +210,7 @@ def data():
     assert (node.type, node.args, node.props, node.span) == ("t", [1, 2], {"k": 3}, (0, 30))
     assert node["k"] == 3 and node[1] == 2 and node[-1] == 2 and node.get("x", 7) == node.get(5, 7) == 7
     assert node.child("c").args == [4] and node.child("d") is None and node.child("c").child("d") is None
-    # a node is no list of nodes, nor a text one of values
+    # a node is not a list of nodes, and a text is not a list of values
     for given in (node, Node("a")):
         raises(TypeError, iter, given)
         raises(TypeError, kdl.dumps, given)
@@ -369,7 +369,7 @@ def sequences():
             assert not hasattr(made(), name)
         for other in (copy.copy(made()), copy.deepcopy(made()), pickle.loads(pickle.dumps(made()))):
             assert other == want
-    # each sequence has nodes of its own, the same ones however they are asked for
+    # each sequence has nodes of its own, the same ones for each way to access them
     nodes, others = document.nodes, document.nodes
     nodes[1].name = "changed"
     assert nodes[1] is [*nodes][1] is nodes[1:][0] and nodes[1].name == "changed"
@@ -379,13 +379,13 @@ def sequences():
     assert others == want and others[3].name == "d" and document.nodes[3].name == "e"
     empty = Document("// c\n").nodes
     assert len(empty) == 0 and not empty and empty == [] and [*empty] == empty[:] == []
-    # to ask for each node by its index takes no more than one pass does
+    # accessing each node by its index takes no more than one pass does
     many = Document("a 1 k=2 { b; }\n" * 20000)
     assert all(many.nodes[it].args == [1] for it in range(20000))
 
 
 def places():
-    """Where an inserted node goes, and which bytes a removal takes."""
+    """The place of an inserted node, and the bytes that a removal removes."""
     line, log = "\n    z\n", Node("log", props={"level": "info"})
     for text, path, node, index, wanted in (
         ("// licence\n\na\n", (), "z\n", 0, "z\n// licence\n\na\n"), ("a\n// c\n", (), "z", None, "a\nz\n// c\n"),

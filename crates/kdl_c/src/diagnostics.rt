@@ -55,10 +55,10 @@ pub extern "C" fn kdl_faults(
     }
 }
 
-/// Lists the faults of a text of the given kind: 0 for a document, 1 for a node, 2 for an entry and 3 for a value. The
-/// text is read as by the calls that take such a text.
+/// Lists the faults of a text of the given kind, as `kdl_faults` does for a document. Reads the text as `kdl_parse`
+/// does for kind 0, as `kdl_insert_node` for 1, as `kdl_insert_entry` for 2, and as `kdl_set_value` for 3.
 ///
-/// Writes the faults as `kdl_faults` does. Returns `NOT_FOUND` for any other kind.
+/// Returns `NOT_FOUND` for any other kind.
 #[unsafe(no_mangle)]
 pub extern "C" fn kdl_faults_of(
     alloc: Global,

@@ -1,4 +1,4 @@
-//! Edits of a document: each changes one node, and leaves all other nodes as they are.
+//! Edits of the nodes of a document, and of their entries.
 
 mod of_entries;
 mod of_nodes;

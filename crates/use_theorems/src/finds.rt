@@ -22,8 +22,8 @@ pub fn set_property(
     }
 }
 
-/// Sets a property, looks it up by another key of the same name, and returns a copy of what the look-up finds, which is
-/// the value.
+/// Sets a property, looks it up by another key of the same name, and returns a copy of the found value. That is the
+/// value that was set.
 pub fn set_and_get(
     alloc: Global,
     node: &mut KdlNode,

@@ -52,7 +52,8 @@ pub fn set_in(
     Ok(())
 }
 
-/// Returns the text with its server's port set to a new entry with the value 8080. Nothing else changes.
+/// Sets the port of the server in a text to a new entry with the value 8080, and returns the new text. Nothing else
+/// changes.
 pub fn set_port(alloc: Global, text: &str) -> Result<String, ParseFailure>
     // The output is a document.
     ensures document { IfOk result (λ out. (y : Nodes) × IsDocument true (text_of out) y) }

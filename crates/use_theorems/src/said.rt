@@ -6,7 +6,8 @@ ghost use Rattle.std.specs.Prelude.{◌≡◌, IfOk, chars, option_and_then, tru
 use kdl::{KdlDocument, ParseFailure};
 use std::alloc::Global;
 
-/// Returns the integer of a property of the first node of a name, as the text's data have it.
+/// Returns the value of a property of the first node of a name, if it is an integer. The text's data have the same
+/// value.
 pub fn property_said(
     alloc: Global,
     text: &str,

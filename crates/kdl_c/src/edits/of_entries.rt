@@ -46,8 +46,8 @@ pub extern "C" fn kdl_set_value(
     change_held(alloc, document, path, change)
 }
 
-/// Sets the key of the entry at the index to a copy of the bytes. If `has_key` is 0, removes the key instead, and the
-/// entry becomes an argument. The key is printed in the library's spelling.
+/// Sets the key of the entry at the index to a copy of the bytes. If `has_key` is 0, removes the key, and the entry
+/// becomes an argument. The key is printed in the library's spelling.
 #[unsafe(no_mangle)]
 pub extern "C" fn kdl_set_key(
     alloc: Global,
@@ -77,7 +77,7 @@ pub extern "C" fn kdl_set_key(
 }
 
 /// Sets the type of the entry at the index to a copy of the bytes. If the index is `usize::MAX`, sets the type of the
-/// node. If `has_type` is 0, removes the type instead. The type is printed in the library's spelling.
+/// node instead. If `has_type` is 0, removes the type. The type is printed in the library's spelling.
 #[unsafe(no_mangle)]
 pub extern "C" fn kdl_set_type(
     alloc: Global,
