@@ -1,5 +1,5 @@
 -- Layout over a stack of blocks.
-pub mod LayOut
+pub mod LayingOut
 -- Clearing formats without recursion.
 pub mod Clearing
 -- Printing over a stack of blocks.

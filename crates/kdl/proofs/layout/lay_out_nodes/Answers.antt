@@ -1,6 +1,6 @@
 use Rattle.std.proofs.Common.{rules}
 use Rattle.kdl.specs.declared.layout.Block.{Block}
-use Rattle.kdl.proofs.LayOut.BlockSteps.{all_laid}
+use Rattle.kdl.proofs.LayingOut.BlockSteps.{all_laid}
 use Rattle.kdl.proofs.layout.lay_out_nodes.Goals as goal
 
 pub returns-clause-laid : goal.returns-clause-laid

@@ -6,7 +6,7 @@ use Rattle.kdl_fmt.specs.Formatted.{DocumentKeepsNone}
 use Rattle.kdl_grammar.specs.Grammar.{IsDocument}
 use Rattle.kdl_grammar.specs.Print.{print_document}
 use Rattle.kdl_grammar.specs.Tree.{document_data}
-use Rattle.kdl.proofs.LayOut.LayoutCalls.{default_formatted, default_derived, default_comments}
+use Rattle.kdl.proofs.LayingOut.LayoutCalls.{default_formatted, default_derived, default_comments}
 use Rattle.kdl.proofs.document.KdlDocument.autoformat.Goals as goal
 
 pub returns-clause-formatted : goal.returns-clause-formatted

@@ -1,7 +1,7 @@
 use Rattle.kdl.specs.Tree.{document_tree}
 use Rattle.kdl_fmt.specs.Config.{settings}
 use Rattle.kdl.proofs.Finding.SaidLookups.{finds_same}
-use Rattle.kdl.proofs.LayOut.LayoutCalls.{at_zero, formatted, same_data, plain, levels, keeps_none, derived, comments, prints, reads}
+use Rattle.kdl.proofs.LayingOut.LayoutCalls.{at_zero, formatted, same_data, plain, levels, keeps_none, derived, comments, prints, reads}
 use Rattle.kdl.proofs.document.KdlDocument.autoformat_config.Goals as goal
 
 pub returns-clause-data : goal.returns-clause-data

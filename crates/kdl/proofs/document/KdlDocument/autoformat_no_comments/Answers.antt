@@ -2,7 +2,7 @@ use Rattle.std.proofs.Common.{rules}
 use Rattle.kdl.specs.Tree.{document_tree}
 use Rattle.kdl_fmt.specs.Config.{settings}
 use Rattle.kdl_grammar.specs.Tree.{document_data}
-use Rattle.kdl.proofs.LayOut.LayoutCalls.{plain_formatted, four_spaces}
+use Rattle.kdl.proofs.LayingOut.LayoutCalls.{plain_formatted, four_spaces}
 use Rattle.kdl.proofs.document.KdlDocument.autoformat_no_comments.Goals as goal
 
 pub returns-clause-formatted : goal.returns-clause-formatted

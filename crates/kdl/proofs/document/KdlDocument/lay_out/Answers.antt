@@ -4,7 +4,7 @@ use Rattle.kdl.specs.Internal.Laid.{AreLaid}
 use Rattle.kdl.specs.Tree.{node_tree, nodes_tree}
 use Rattle.kdl.specs.declared.document.KdlDocument.TheViews.{the_lemmas, out-KdlDocument, out-roll-KdlDocument}
 use Rattle.kdl_fmt.specs.Formatted.{bare_node}
-use Rattle.kdl.proofs.LayOut.PartsLaid.{if_ok, same_content, laid_content, nodes_fit, fitting_document}
+use Rattle.kdl.proofs.LayingOut.PartsLaid.{if_ok, same_content, laid_content, nodes_fit, fitting_document}
 use Rattle.kdl.proofs.document.KdlDocument.lay_out.Goals as goal
 
 pub returns-clause-kept : goal.returns-clause-kept

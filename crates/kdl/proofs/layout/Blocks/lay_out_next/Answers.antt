@@ -6,7 +6,7 @@ use Rattle.kdl_value.specs.Tree.{text_of}
 use Rattle.kdl.specs.Internal.Laid.{GoesOn, whole}
 use Rattle.kdl.specs.declared.layout.Block.{Block}
 use Rattle.kdl_fmt.specs.declared.blank.Before.{Before}
-use Rattle.kdl.proofs.LayOut.BlockSteps.{Own, bare_next, line_goes_on, bare_block_next, block_goes_on}
+use Rattle.kdl.proofs.LayingOut.BlockSteps.{Own, bare_next, line_goes_on, bare_block_next, block_goes_on}
 use Rattle.kdl.proofs.layout.Blocks.lay_out_next.Goals as goal
 
 pub returns-in_err-behind-clause-kept : goal.returns-in_err-behind-clause-kept

@@ -7,7 +7,7 @@ use Rattle.kdl_grammar.specs.Data as data'
 use Rattle.kdl_grammar.specs.Grammar.{IsDocument}
 use Rattle.kdl_grammar.specs.Print.{print_node}
 use Rattle.kdl_grammar.specs.Tree.{node_data}
-use Rattle.kdl.proofs.LayOut.LayoutCalls.{default_formatted_node, default_derived, default_comments}
+use Rattle.kdl.proofs.LayingOut.LayoutCalls.{default_formatted_node, default_derived, default_comments}
 use Rattle.kdl.proofs.node.KdlNode.autoformat.Goals as goal
 
 pub returns-clause-formatted : goal.returns-clause-formatted

@@ -2,7 +2,7 @@ use Rattle.std.proofs.Common.{rules}
 use Rattle.kdl.specs.Tree.{node_tree}
 use Rattle.kdl_fmt.specs.Config.{settings}
 use Rattle.kdl_grammar.specs.Tree.{node_data}
-use Rattle.kdl.proofs.LayOut.LayoutCalls.{plain_formatted_node, four_spaces_node}
+use Rattle.kdl.proofs.LayingOut.LayoutCalls.{plain_formatted_node, four_spaces_node}
 use Rattle.kdl.proofs.node.KdlNode.autoformat_no_comments.Goals as goal
 
 pub returns-clause-formatted : goal.returns-clause-formatted

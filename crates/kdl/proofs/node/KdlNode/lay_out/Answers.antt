@@ -4,8 +4,8 @@ use Rattle.kdl.specs.Tree.{node_tree}
 use Rattle.kdl.specs.declared.document.KdlDocument.TheViews.{out-KdlNode, roll-KdlNode, out-roll-KdlNode}
 use Rattle.kdl_fmt.specs.Blank.{at_start}
 use Rattle.kdl_fmt.specs.Formatted.{bare_node}
-use Rattle.kdl.proofs.LayOut.BlockSteps.{node_is, node_below, laid_below, bare_filled}
-use Rattle.kdl.proofs.LayOut.PartsLaid.{if_ok}
+use Rattle.kdl.proofs.LayingOut.BlockSteps.{node_is, node_below, laid_below, bare_filled}
+use Rattle.kdl.proofs.LayingOut.PartsLaid.{if_ok}
 use Rattle.kdl.proofs.node.KdlNode.lay_out.Goals as goal
 
 pub returns-clause-kept : goal.returns-clause-kept

@@ -4,7 +4,7 @@ use Rattle.kdl.specs.Tree.{node_tree}
 use Rattle.kdl_parts.specs.Formats.{node_format_tree}
 use Rattle.kdl.specs.declared.document.KdlDocument.TheViews.{the_lemmas, out-KdlNode}
 use Rattle.kdl_fmt.specs.Config.{settings}
-use Rattle.kdl.proofs.LayOut.PartsLaid.{laid_node, own_block, own_passes, fitting_node, nodes_laid, nodes_fit}
+use Rattle.kdl.proofs.LayingOut.PartsLaid.{laid_node, own_block, own_passes, fitting_node, nodes_laid, nodes_fit}
 use Rattle.kdl.proofs.node.KdlNode.lay_out_own.Goals as goal
 
 pub returns-clause-laid : goal.returns-clause-laid

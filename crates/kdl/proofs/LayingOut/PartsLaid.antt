@@ -21,7 +21,7 @@ use Rattle.kdl.specs.Tree.{node_tree, document_tree, nodes_tree}
 use Rattle.kdl.specs.declared.node.KdlNode.{KdlNode}
 use Rattle.kdl.specs.declared.document.KdlDocument.{KdlDocument}
 use Rattle.kdl.specs.declared.document.KdlDocument.TheViews.{out-KdlNode, out-KdlDocument}
-use Rattle.kdl.proofs.LayOut.BlockSteps.{bare_alike}
+use Rattle.kdl.proofs.LayingOut.BlockSteps.{bare_alike}
 use Rattle.kdl.proofs.Trees.{node_tree_out, document_tree_out}
 
 pub if_ok : {A E P Q : Type 0} (r : Result A E) → (P → Q) → IfOk r (λ (a : A). P) → IfOk r (λ (a : A). Q)
