@@ -1,49 +1,59 @@
 //! What look-ups find after an entry is inserted, pushed or removed.
 
-ghost use Rattle.kdl.specs.Words.{argument_count, IsAdded, IsPutIn, IsSet, IsTakenOut, IsTakenOutAt, value_tree};
-ghost use Rattle.std.specs.Prelude.{◌≡◌, ◌<◌, IfOk, IfSome, IsSome, string_bytes, true};
+ghost use Rattle.kdl.specs.Words.{argument_count, IsAdded, IsPutIn, IsSet, IsTakenOut, IsTakenOutAt, value_at, value_of, value_tree};
+ghost use Rattle.kdl.specs.declared.node.KdlNode.{KdlNode};
+ghost use Rattle.std.specs.Prelude.{◌≡◌, ◌<◌, IfOk, OnOk, Some, option_map, string_bytes};
 
 use kdl::{KdlEntry, KdlIdentifier, KdlNode, KdlValue, NodeKey};
 use std::alloc::{AllocError, Global};
 
-/// Pushes an argument, and returns whether that succeeds. If so, its index finds the value, and other look-ups find
-/// what they found before.
-pub fn add_argument(node: &mut KdlNode, value: KdlValue) -> bool
-    ensures { result ≡ true → IsAdded (value_tree value) node.old node.new }
+/// Pushes an argument. Its index then finds the value, and all other look-ups find what they found before.
+pub fn add_argument(node: &mut KdlNode, value: KdlValue) -> Result<(), AllocError>
+    ensures { OnOk result (IsAdded (value_tree value) node.old node.new) }
 {
-    node.push(KdlEntry::new(value)).is_ok()
+    match node.push(KdlEntry::new(value)) {
+        Ok(()) => Ok(()),
+        Err((_, error)) => Err(error),
+    }
 }
 
-/// Pushes two arguments to a node that has none, and looks up the first one.
-pub fn first_of_two(node: &mut KdlNode, first: KdlValue, second: KdlValue) -> Option<&KdlValue>
+/// Pushes two arguments to a node that has none, and returns a copy of the first argument.
+pub fn first_of_two(
+    node: &mut KdlNode,
+    first: KdlValue,
+    second: KdlValue,
+) -> Result<Option<KdlValue>, AllocError>
     requires { argument_count node.old ≡ 0 }
-    ensures { IfSome result (λ v. value_tree v.now ≡ value_tree first) }
+    ensures first { IfOk result (λ found. option_map value_tree found ≡ Some (value_tree first)) }
+    ensures second { OnOk result (value_at 1 node.new ≡ Some (value_tree second)) }
 {
-    let Ok(()) = node.push(KdlEntry::new(first)) else {
-        return None;
-    };
-    let Ok(()) = node.push(KdlEntry::new(second)) else {
-        return None;
-    };
-    node.get(NodeKey::Index(0))
+    add_argument(node, first)?;
+    add_argument(node, second)?;
+    match node.get(NodeKey::Index(0)) {
+        Some(found) => Ok(Some(found.clone()?)),
+        None => Ok(None),
+    }
 }
 
-/// Pushes an argument and removes the first one. The node then has as many arguments as before.
-pub fn push_and_shift(node: &mut KdlNode, value: KdlValue) -> Option<KdlEntry>
-    ensures { IsSome result → argument_count node.new ≡ argument_count node.old }
+/// Pushes an argument, then removes and returns the first one. The node then has as many arguments as before.
+pub fn push_and_shift(node: &mut KdlNode, value: KdlValue) -> Result<Option<KdlEntry>, AllocError>
+    ensures count { OnOk result (argument_count node.new ≡ argument_count node.old) }
+    // With m for the node in between.
+    ensures shifts { IfOk result (λ first. (m : KdlNode) × IsAdded (value_tree value) node.old m
+        × IsTakenOutAt 0 m node.new × (value_of first ≡ value_at 0 m)) }
 {
-    let Ok(()) = node.push(KdlEntry::new(value)) else {
-        return None;
-    };
-    node.remove(NodeKey::Index(0))
+    add_argument(node, value)?;
+    Ok(node.remove(NodeKey::Index(0)))
 }
 
-/// Inserts an argument before the others, and returns whether that succeeds. If so, the index of each other argument is
-/// then one higher.
-pub fn put_first(node: &mut KdlNode, value: KdlValue) -> bool
-    ensures { result ≡ true → IsPutIn 0 (value_tree value) node.old node.new }
+/// Inserts an argument before the others. The index of each other argument is then one higher.
+pub fn put_first(node: &mut KdlNode, value: KdlValue) -> Result<(), AllocError>
+    ensures { OnOk result (IsPutIn 0 (value_tree value) node.old node.new) }
 {
-    node.insert(NodeKey::Index(0), KdlEntry::new(value)).is_ok()
+    match node.insert(NodeKey::Index(0), KdlEntry::new(value)) {
+        Ok(_) => Ok(()),
+        Err((_, error)) => Err(error),
+    }
 }
 
 /// Removes and returns the first property of that name. If there was no other one, the name then finds nothing.
@@ -80,10 +90,12 @@ pub fn push_property(
     node: &mut KdlNode,
     name: &str,
     value: KdlValue,
-) -> Result<bool, AllocError>
-    ensures { IfOk result (λ done.
-        done ≡ true → IsSet name.now (value_tree value) node.old node.new) }
+) -> Result<(), AllocError>
+    ensures { OnOk result (IsSet name.now (value_tree value) node.old node.new) }
 {
     let key = KdlIdentifier::from_text(alloc, name)?;
-    Ok(node.push(KdlEntry::new_prop(key, value)).is_ok())
+    match node.push(KdlEntry::new_prop(key, value)) {
+        Ok(()) => Ok(()),
+        Err((_, error)) => Err(error),
+    }
 }

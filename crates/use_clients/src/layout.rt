@@ -1,13 +1,15 @@
 //! What look-ups find after layout.
 
-ghost use Rattle.kdl.specs.Words.{IsDocument, Nodes, argument_named, arguments_of, found_value, node_named, node_says, value_of};
-ghost use Rattle.std.specs.Prelude.{◌≡◌, ◌↔◌, IfOk, chars, option_map, true};
+ghost use Rattle.kdl.specs.Words.{IsDocument, NodeLaidOut, Nodes, argument_named, arguments_of, defaults, document_tree, found_value, node_named, node_says, plain_document, value_of, without_comments};
+ghost use Rattle.std.specs.Prelude.{◌≡◌, ◌↔◌, IfOk, OnOk, chars, option_map, true};
 
 use kdl::{KdlDocument, KdlNode, NodeKey, ParseFailure};
 use std::alloc::{AllocError, Global};
 
 /// Lays the document out without comments. Each look-up finds what it found before.
 pub fn tidy_all(document: &mut KdlDocument, name: &str) -> Result<(), AllocError>
+    ensures formatted { OnOk result
+        (document_tree document.new ≡ plain_document without_comments document.old) }
     ensures argument { value_of (argument_named name.now document.new) ≡
         value_of (argument_named name.now document.old) }
     ensures arguments { arguments_of (node_named name.now document.new) ≡
@@ -20,7 +22,8 @@ pub fn tidy_all(document: &mut KdlDocument, name: &str) -> Result<(), AllocError
 
 /// Lays the node out. Each key finds what it found before.
 pub fn tidy_node(node: &mut KdlNode) -> Result<(), AllocError>
-    ensures { (key : NodeKey) → found_value key node.new ≡ found_value key node.old }
+    ensures formatted { OnOk result (NodeLaidOut defaults node.old node.new) }
+    ensures finds { (key : NodeKey) → found_value key node.new ≡ found_value key node.old }
 {
     node.autoformat()
 }

@@ -1,7 +1,7 @@
 //! What look-ups find after a value is written through a loan.
 
-ghost use Rattle.kdl.specs.Words.{IsArgumentSet, IsSet, IsSetIn, value_tree};
-ghost use Rattle.std.specs.Prelude.{◌≡◌, IfOk, IfSome, true};
+ghost use Rattle.kdl.specs.Words.{IsArgumentSet, IsSet, IsSetIn, property_value, value_at, value_named, value_tree};
+ghost use Rattle.std.specs.Prelude.{◌≡◌, IfOk, IfSome, OnSome, is_some, true};
 
 use kdl::{KdlDocument, KdlNode, KdlValue, NodeKey};
 use std::alloc::{AllocError, Global};
@@ -13,7 +13,9 @@ pub fn write_property(
     name: &str,
     value: KdlValue,
 ) -> Result<bool, AllocError>
-    ensures { IfOk result (λ there.
+    ensures there { IfOk result (λ there.
+        there ≡ is_some (property_value name.now node.old)) }
+    ensures sets { IfOk result (λ there.
         there ≡ true → IsSet name.now (value_tree value) node.old node.new) }
 {
     let key = NodeKey::from_text(alloc, name)?;
@@ -26,7 +28,8 @@ pub fn write_property(
 
 /// Writes the value of an argument, and returns whether the argument is there.
 pub fn write_argument(node: &mut KdlNode, index: usize, value: KdlValue) -> bool
-    ensures { result ≡ true → IsArgumentSet index (value_tree value) node.old node.new }
+    ensures there { result ≡ is_some (value_at index node.old) }
+    ensures sets { result ≡ true → IsArgumentSet index (value_tree value) node.old node.new }
 {
     let Some(place) = node.get_mut(NodeKey::Index(index)) else {
         return false;
@@ -42,7 +45,9 @@ pub fn write_entry(
     name: &str,
     value: KdlValue,
 ) -> Result<bool, AllocError>
-    ensures { IfOk result (λ there.
+    ensures there { IfOk result (λ there.
+        there ≡ is_some (property_value name.now node.old)) }
+    ensures sets { IfOk result (λ there.
         there ≡ true → IsSet name.now (value_tree value) node.old node.new) }
 {
     let key = NodeKey::from_text(alloc, name)?;
@@ -55,7 +60,8 @@ pub fn write_entry(
 
 /// Writes the value of the first argument of the first node of that name, and returns whether the argument is there.
 pub fn write_setting(document: &mut KdlDocument, name: &str, value: KdlValue) -> bool
-    ensures { result ≡ true → IsSetIn name.now (value_tree value) document.old document.new }
+    ensures there { result ≡ is_some (value_named name.now document.old) }
+    ensures sets { result ≡ true → IsSetIn name.now (value_tree value) document.old document.new }
 {
     let Some(place) = document.get_arg_mut(name) else {
         return false;
@@ -64,16 +70,23 @@ pub fn write_setting(document: &mut KdlDocument, name: &str, value: KdlValue) ->
     true
 }
 
-/// Writes a setting and looks it up. The look-up finds the value.
-pub fn write_and_get<'a>(
-    document: &'a mut KdlDocument,
+/// Writes a setting, looks it up and returns a copy of it, or `None` if the setting is not there.
+pub fn write_and_get(
+    document: &mut KdlDocument,
     name: &str,
     value: KdlValue,
-) -> Option<&'a KdlValue>
-    ensures { IfSome result (λ v. value_tree v.now ≡ value_tree value) }
+) -> Result<Option<KdlValue>, AllocError>
+    ensures there { IfOk result (λ found.
+        is_some found ≡ is_some (value_named name.now document.old)) }
+    ensures found { IfOk result (λ found. IfSome found (λ v. value_tree v ≡ value_tree value)) }
+    ensures sets { IfOk result (λ found. OnSome found
+        (IsSetIn name.now (value_tree value) document.old document.new)) }
 {
     if !write_setting(document, name, value) {
-        return None;
+        return Ok(None);
     }
-    document.get_arg(name)
+    match document.get_arg(name) {
+        Some(found) => Ok(Some(found.clone()?)),
+        None => Ok(None),
+    }
 }

@@ -1,12 +1,13 @@
 //! Edited documents. What they print reads back.
 
 ghost use Rattle.kdl.specs.ReadsBack.{DocumentReadsBack, ReadsAs};
-ghost use Rattle.kdl.specs.Words.{IsDocument, Nodes, document_says, text_of};
-ghost use Rattle.std.specs.Prelude.{IfOk, true};
+ghost use Rattle.kdl.specs.Words.{IsDocument, IsTakenOut, Nodes, document_says, node_named, node_says, said_args, said_entries, said_node, text_of, value_tree, with_node_named};
+ghost use Rattle.kdl.specs.declared.node.KdlNode.{KdlNode};
+ghost use Rattle.std.specs.Prelude.{◌≡◌, ◌++◌, [], ◌∷◌, IfOk, IfSome, IsSome, OnOk, Some, chars, true};
 
 use kdl::{KdlDocument, KdlEntry, KdlIdentifier, KdlNode, KdlValue, NodeKey, ParseFailure};
 use kdl_laws::reading_back::{
-    named_entries_are_unformed, new_entries_are_unformed, printed_reads_back,
+    named_entries_are_unformed, new_entries_are_unformed, printed_reads_back, printed_reads_once,
 };
 use kdl_laws::values::values_are_well_formed;
 use std::alloc::{AllocError, Global};
@@ -18,7 +19,10 @@ pub fn push_argument(
     value: KdlValue,
 ) -> Result<(), AllocError>
     requires { DocumentReadsBack document.old }
-    ensures { DocumentReadsBack document.new }
+    ensures reads { DocumentReadsBack document.new }
+    ensures says { OnOk result (IsSome (said_node (chars name.now) (document_says document.old))
+        → said_args (chars name.now) (document_says document.new) ≡
+        said_args (chars name.now) (document_says document.old) ++ (value_tree value ∷ [])) }
 {
     values_are_well_formed(&value);
     new_entries_are_unformed();
@@ -39,7 +43,10 @@ pub fn remove_property(
     property: &str,
 ) -> Result<(), AllocError>
     requires { DocumentReadsBack document.old }
-    ensures { DocumentReadsBack document.new }
+    ensures reads { DocumentReadsBack document.new }
+    ensures takes { OnOk result (IfSome (node_named name.now document.old) (λ n. (m : KdlNode)
+        × (document.new ≡ with_node_named name.now document.old m)
+        × IsTakenOut property.now n m)) }
 {
     let key = NodeKey::from_text(alloc, property)?;
     let Some(node) = document.get_mut(name) else {
@@ -49,7 +56,7 @@ pub fn remove_property(
     Ok(())
 }
 
-/// Pushes a property with a type to a node.
+/// Pushes a property with a type to a node. The node reads back as before.
 pub fn push_typed(
     alloc: Global,
     node: &mut KdlNode,
@@ -57,7 +64,13 @@ pub fn push_typed(
     ty: &str,
     value: KdlValue,
 ) -> Result<(), AllocError>
-    ensures { ReadsAs node.old node.new }
+    ensures reads { ReadsAs node.old node.new }
+    ensures says { OnOk result (said_entries (node_says node.new) ≡
+        said_entries (node_says node.old) ++ (record {
+          key = Some (chars name.now);
+          ty = Some (chars ty.now);
+          value = value_tree value;
+        } ∷ [])) }
 {
     values_are_well_formed(&value);
     new_entries_are_unformed();
@@ -65,29 +78,38 @@ pub fn push_typed(
     let mut entry = KdlEntry::new(value);
     entry.set_name(Some(KdlIdentifier::from_text(alloc, name)?));
     entry.set_ty(KdlIdentifier::from_text(alloc, ty)?);
-    match node.push(entry) {
-        Ok(()) => Ok(()),
-        Err((_, error)) => Err(error),
-    }
+    let Ok(()) = node.push(entry) else {
+        return Err(AllocError);
+    };
+    Ok(())
 }
 
-/// Returns the text of a document that reads back. The text is a document with the same data.
+/// Returns the text of a document that reads back. The text is a document with the same data, and with no others.
 fn printed(alloc: Global, document: &KdlDocument) -> Result<String, AllocError>
     requires { DocumentReadsBack document.now }
-    ensures { IfOk result (λ out. IsDocument true (text_of out) (document_says document.now)) }
+    ensures document { IfOk result (λ out.
+        IsDocument true (text_of out) (document_says document.now)) }
+    ensures only { IfOk result (λ out. (y : Nodes)
+        → IsDocument true (text_of out) y → y ≡ document_says document.now) }
 {
     printed_reads_back();
+    printed_reads_once();
     Ok(document.to_string(alloc)?)
 }
 
-/// Pushes an argument to the first node of a name in a text, and returns the new text, which is a document.
+/// Pushes an argument to the first node of a name in a text, and returns the new text, which is a document. Its data have
+/// that argument after the others.
 pub fn push_in_text(
     alloc: Global,
     text: &str,
     name: &str,
     value: KdlValue,
 ) -> Result<String, ParseFailure>
-    ensures { IfOk result (λ out. (x : Nodes) × IsDocument true (text_of out) x) }
+    ensures document { IfOk result (λ out. (y : Nodes) × IsDocument true (text_of out) y) }
+    ensures says { IfOk result (λ out. (x y : Nodes)
+        → IsDocument true (chars text.now) x → IsDocument true (text_of out) y
+        → IsSome (said_node (chars name.now) x)
+        → said_args (chars name.now) y ≡ said_args (chars name.now) x ++ (value_tree value ∷ [])) }
 {
     let mut document = KdlDocument::parse(alloc, text)?;
     push_argument(&mut document, name, value)?;
