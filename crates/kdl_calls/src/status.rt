@@ -44,6 +44,7 @@ pub fn room(rows: usize, row_count: usize, strings: usize, string_len: usize) ->
     ensures rows { result ≡ 0 → row_count ≤ rows }
     ensures strings { result ≡ 0 → string_len ≤ strings }
     ensures small { (result ≡ 0 → ⊥) → result ≡ 4 }
+    ensures needed { result ≡ 4 → row_count ≤ rows → string_len ≤ strings → ⊥ }
 {
     if row_count <= rows && string_len <= strings {
         OK
