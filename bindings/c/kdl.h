@@ -77,9 +77,9 @@ void kdl_free(struct kdl_document *document);
 /* Writes the text of the document. If it was only parsed, that is the text that was read. */
 uint32_t kdl_print(struct kdl_document *document, uint8_t *out, size_t room, size_t *needed);
 
-/* Lays the document out, with its comments. Its data do not change. If an allocation fails, a part
- * of the document may already be laid out. A document without nodes gets one newline after its
- * comments. */
+/* Lays the document out, with its comments and without empty lines. Its data do not change. If an
+ * allocation fails, a part of the document may already be laid out. A document without nodes gets
+ * one newline after its comments. */
 uint32_t kdl_format(struct kdl_document *document);
 
 /* Lays the document out, without its comments. Two documents then print the same text if and only
@@ -171,7 +171,9 @@ struct kdl_row {
                                     KDL_INTEGER, KDL_BOOL, KDL_NULL and KDL_NO_VALUE */
     size_t start, len;     /* its place in the text that it was read from, in bytes: of an inserted
                               node or entry the whole text of that insert, and of what the node has
-                              the place in that text. Edits do not change it. 0, 0 of an end */
+                              the place in that text. Edits do not change it. 0, 0 of an end. A
+                              node begins at its type or name, and ends before its terminator:
+                              spaces, block comments and `/-` entries before that are part of it */
 };
 
 /* Writes the whole document as rows: each node, its entries, and, if it has a block, the rows of
@@ -277,7 +279,9 @@ uint32_t kdl_remove_entry(struct kdl_document *document, const size_t *path, siz
  * The text is inserted as it is, with its spaces and comments. Newlines are added only if they are
  * needed to separate it from its neighbours. After a node that ends in a newline, "    port 8080\n"
  * has a line of its own. At index 0 of a block it follows the `{`, and after a `;` it follows that,
- * on the same line: there, begin the text with a newline, as in "\n    port 8080\n".
+ * on the same line: there, begin the text with a newline, as in "\n    port 8080\n". The node ends
+ * by its own newline or `;`, and the newline after the `{` belongs to the node that was first: so at
+ * index 0 an empty line comes after it, unless the text ends in `;`.
  *
  * A parent without a block gets `{`, a newline, the text, a newline unless the text ends in one or
  * in `;`, and `}`. No space is added before the `{`: `a` becomes `a{`. */

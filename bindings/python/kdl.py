@@ -152,7 +152,8 @@ class Fault(NamedTuple):
 
 class KdlError(ValueError):
     """A text that is not KDL. `faults` lists its faults, in the order in which they are found: an
-    unclosed block comes after the faults inside it. Sort by `start` for the order of the text.
+    unclosed block comes after the faults inside it. Sort by `start` for the order of the text. The
+    text of the error is `line:column: message` of the first three, joined by `; `.
     """
 
     def __init__(self, faults: List[Fault]) -> None:
@@ -649,7 +650,7 @@ class Document:
         return f"<Document at {id(self):#x}>"
 
     def autoformat(self, *, comments: bool = True) -> None:
-        r"""Lays the document out, with its comments or without.
+        r"""Lays the document out, with its comments or without, and without empty lines.
 
         Without comments, two documents print the same text if and only if they have the same data.
 
@@ -815,7 +816,8 @@ class Document:
     def set_value(self, path: Path, entry: Union[str, int], value: Value) -> None:
         """Sets the value of an entry: of the property of that key, or of the entry at that index
         among all entries of the node. Its key, its type and what is around it stay. The value is
-        written in the library's spelling (`0x1F90` becomes `9090`): see `set_spelling`.
+        written in the library's spelling (`0x1F90` becomes `9090`), a string in quotes: see
+        `set_spelling`.
         `OverflowError` beyond 128 bits.
 
         >>> document = Document.parse("a 1 /* one */ (u8)0x2 k = 3")
@@ -947,7 +949,9 @@ class Document:
 
         A text is inserted as it is, with its spaces and comments. Newlines are added only if they
         are needed to separate it from its neighbours. End it with a newline for a line of its own,
-        and begin it with one too at index 0 of a block and after a `;`.
+        and begin it with one too at index 0 of a block and after a `;`. The newline after the `{`
+        belongs to the node that was first: so at index 0 an empty line comes after the new node,
+        unless the text ends in `;`.
 
         >>> document = Document.parse("a {\n    b 1 // one\n}\n")
         >>> document.insert_node("a", Node("c", [2]))
