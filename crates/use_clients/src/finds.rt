@@ -78,7 +78,8 @@ pub fn remove_named(node: &mut KdlNode, name: String) -> Option<KdlEntry>
 /// Removes and returns an argument. The index of each later argument is then one lower.
 pub fn remove_argument(node: &mut KdlNode, index: usize) -> Option<KdlEntry>
     requires { index < argument_count node.old }
-    ensures { IsTakenOutAt index node.old node.new }
+    ensures value { value_of result ≡ value_at index node.old }
+    ensures taken { IsTakenOutAt index node.old node.new }
 {
     node.remove(NodeKey::from(index))
 }
