@@ -1,8 +1,8 @@
 //! What a slashdash drops.
 
 ghost use Rattle.kdl_lexer.specs.Internal.Handed.{Cuts, kind_view};
-ghost use Rattle.kdl_lexer.specs.Internal.Tokens.{newline, semicolon};
-ghost use Rattle.kdl_control.specs.Internal.Control.{at, finish, is_word};
+ghost use Rattle.kdl_lexer.specs.Tokens.{newline, semicolon};
+ghost use Rattle.kdl_control.specs.Control.{at, finish, is_word};
 ghost use Rattle.kdl_comments.specs.Internal.Passing.{follows_word, slashdash_in};
 ghost use Rattle.kdl_comments.specs.Items.{ItemEnd};
 ghost use Rattle.kdl_comments.specs.Internal.Lacking.{HasOpenEnd};

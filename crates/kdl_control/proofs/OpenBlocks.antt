@@ -2,13 +2,13 @@
 use Rattle.std.proofs.Common.{◌≡◌, ◌⊎◌, inl, inr, ℕ, suc, ◌==◌, Bool, true, false, List, [], ◌∷◌, ◌++◌, length, Option, Some, refl, sym, ap, ◌∙◌}
 use Rattle.std.proofs.lemmas.Bool.{eq-eqb, eqb-true}
 use Rattle.std.specs.Prelude.{option_to_list}
-use Rattle.kdl_lexer.specs.Internal.Tokens.{Token}
-use Rattle.kdl_control.specs.Internal.Control as control
+use Rattle.kdl_lexer.specs.Tokens.{Token}
+use Rattle.kdl_control.specs.Control as control
 use Rattle.kdl_control.specs.Internal.Views.{spot_view, phase_view, frame_view, stacked, move_view}
 use Rattle.kdl_control.specs.declared.control.Frame.{Frame}
 use Rattle.kdl_control.specs.declared.control.Move.{Move}
 use Rattle.kdl_control.specs.declared.control.Move.TheVariants.{Open, Close}
-use Rattle.kdl_control.specs.Internal.Control.{is_gap, is_over, is_word}
+use Rattle.kdl_control.specs.Control.{is_gap, is_over, is_word}
 use Rattle.kdl_control.specs.declared.control.Phase.{Phase}
 use Rattle.kdl_control.specs.declared.control.Phase.TheVariants.{Gap, InNode, Kept}
 use Rattle.kdl_control.specs.declared.control.Spot.{Spot}

@@ -1,7 +1,7 @@
 //! Which token may come where, and the open blocks.
 
-ghost use Rattle.kdl_control.specs.Internal.Control as control;
-ghost use Rattle.kdl_control.specs.Internal.Control.{is_block, is_gap, is_over, is_word};
+ghost use Rattle.kdl_control.specs.Control as control;
+ghost use Rattle.kdl_control.specs.Control.{is_block, is_gap, is_over, is_word};
 ghost use Rattle.kdl_control.specs.Internal.Views.{Moves, control_view, frame_view, move_view, owner_view, phase_view, spot_view};
 ghost use Rattle.kdl_control.specs.declared.control.Phase.TheVariants.{InNode};
 ghost use Rattle.kdl_lexer.specs.Internal.Handed.{kind_view};

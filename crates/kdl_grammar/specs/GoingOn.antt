@@ -1,12 +1,11 @@
 -- Which texts begin a document, and what is proved of that.
 use Rattle.std.specs.Prelude.{◌≡◌, ◌≢◌, ◌↔◌, IsTrue, true, [], ◌++◌, Some, None, take}
 use Rattle.kdl_text.specs.Chars.{Text}
-use Rattle.kdl_lexer.specs.Internal.Tokens.{Token, BeginsToken}
-use Rattle.kdl_lexer.specs.Internal.Handed.{NoToken}
+use Rattle.kdl_lexer.specs.Tokens.{Token, BeginsToken, NoToken}
 use Rattle.kdl_grammar.specs.Data.{Nodes}
 use Rattle.kdl_grammar.specs.Grammar.{IsDocument}
-use Rattle.kdl_control.specs.Internal.Control.{Control, step, finish}
-use Rattle.kdl_grammar.specs.Internal.Going.{Reaches, RefusesFront}
+use Rattle.kdl_control.specs.Control.{Control, step, finish}
+use Rattle.kdl_grammar.specs.Going.{Reaches, RefusesFront}
 
 -- the text is a document
 abbrev pub Derived : Text → Type 0

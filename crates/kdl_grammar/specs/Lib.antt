@@ -10,6 +10,8 @@ pub mod Grammar
 pub mod Laid
 -- What is proved of the written grammar of documents and nodes.
 pub mod Laws
+-- How far the control reads in a text.
+pub mod Going
 -- Which texts begin a document, and what is proved of that.
 pub mod GoingOn
 -- What may be in the places of a node.

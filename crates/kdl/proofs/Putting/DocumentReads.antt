@@ -7,7 +7,7 @@ use Rattle.std.specs.List.{insert}
 use Rattle.kdl_text.specs.Chars.{Text}
 use Rattle.kdl_text.specs.Trivia.{LineSpace, Slashdash, slashdash}
 use Rattle.kdl_text.specs.declared.span.SourceSpan.{SourceSpan}
-use Rattle.kdl_lexer.specs.Internal.Tokens.{t_space, t_newline, t_bom}
+use Rattle.kdl_lexer.specs.Tokens.{t_space, t_newline, t_bom}
 use Rattle.kdl_lexer.proofs.Lexing.TokenUnique.{token_det}
 use Rattle.kdl_fmt.specs.Kept.{without_bom}
 use Rattle.kdl_grammar.specs.Grammar.{Gap, no_gap, line_space, dropped_node}

@@ -3,7 +3,7 @@ use Rattle.std.proofs.Common.{◌≡◌, inl, ℕ, zero, suc, ◌+◌, ◌≤◌
 use Rattle.std.proofs.lemmas.List.{append-nil}
 use Rattle.kdl_text.specs.Bare.BareString.{bare as a_bare}
 use Rattle.kdl_text.specs.Chars.{Text, Newline}
-use Rattle.kdl_lexer.specs.Internal.Tokens.{t_newline, t_space}
+use Rattle.kdl_lexer.specs.Tokens.{t_newline, t_space}
 use Rattle.kdl_lexer.proofs.Lexing.TokenUnique.{token_det}
 use Rattle.kdl_comments.specs.Internal.Lacking.{letter}
 use Rattle.kdl_comments.proofs.Lacking.SpaceEnds.{a_space}

@@ -7,11 +7,11 @@ use Rattle.kdl_text.proofs.Looking.Stars.{join}
 use Rattle.kdl_text.proofs.Spacing.SpacePieces.{star_end, end_length, node_space_end, node_space_shorter}
 use Rattle.kdl_entry.specs.Entries.{string as a_string', untyped, typed}
 use Rattle.kdl_entry.specs.Places.{between}
-use Rattle.kdl_lexer.specs.Internal.Tokens.{Token, newline, semicolon, BeginsToken, t_space, t_newline, t_slashdash, t_string, t_semicolon, Lexes, done, next}
+use Rattle.kdl_lexer.specs.Tokens.{Token, newline, semicolon, BeginsToken, t_space, t_newline, t_slashdash, t_string, t_semicolon, Lexes, done, next}
 use Rattle.kdl_lexer.proofs.Lexing.TokenUnique.{token_det, no_token}
 use Rattle.kdl_grammar.specs.Data.{Node, Nodes}
 use Rattle.kdl_grammar.specs.Grammar.{Terminator, IsNode, named, no_gap, line_space, dropped_node, AreNodes, last_gap, node_then}
-use Rattle.kdl_control.specs.Internal.Control.{gap, node_slashdash, Control, at, step, finish, held, accepts, is_gap}
+use Rattle.kdl_control.specs.Control.{gap, node_slashdash, Control, at, step, finish, held, accepts, is_gap}
 use Rattle.kdl_grammar.proofs.Reading.Sound.{derives}
 use Rattle.kdl_comments.specs.Items.{Item, piece, EsclineItems, SpaceItems, LineSpaceItems, ItemEnd, EndsTight, GapItems}
 use Rattle.kdl_comments.specs.Internal.Passing.{moved, NodeEnd, returned, ended, NodePasses, returns, ends, goes}

@@ -13,13 +13,13 @@ use Rattle.kdl_entry.specs.Data.{Entry}
 use Rattle.kdl_lexer.specs.Pieces.{StringPiece}
 use Rattle.kdl_entry.specs.Entries.{IsString, string as a_string', parens, untyped, typed, MaybeType, IsEntry}
 use Rattle.kdl_entry.specs.Places.{between}
-use Rattle.kdl_lexer.specs.Internal.Tokens.{Token, slashdash, string, BeginsToken, t_space, t_newline, t_slashdash, t_string, t_value, t_left, t_right, t_opening, t_closing, t_equals, t_semicolon, t_bom, Lexes, done, next}
-use Rattle.kdl_lexer.specs.Internal.Tokens as token'
+use Rattle.kdl_lexer.specs.Tokens.{Token, slashdash, string, BeginsToken, t_space, t_newline, t_slashdash, t_string, t_value, t_left, t_right, t_opening, t_closing, t_equals, t_semicolon, t_bom, Lexes, done, next}
+use Rattle.kdl_lexer.specs.Tokens as token'
 use Rattle.kdl_lexer.proofs.Lexing.TokenUnique.{token_det, no_token}
 use Rattle.kdl_grammar.specs.Data.{Children, Nodes}
 use Rattle.kdl_grammar.specs.Grammar.{Terminator, named, AfterName, kept_entry, dropped_entry, blocks, Blocks, dropped_block, block, no_block, Gap, no_gap, dropped_node, AreNodes, last_gap, node_then, IsBlock, braces}
 use Rattle.kdl_grammar.specs.Grammar.Gap.{line_space as gap_space}
-use Rattle.kdl_control.specs.Internal.Control.{Control, at, Spot, fresh, spaced, later, Phase, gap, node_slashdash, type_open, type_name, type_done, in_node, property, entry_slashdash, block_slashdash, kept, kept_slashdash, Frame, in_dropped, spaced_of, slashdash_at, step, held, accepts, is_over, is_block, is_word}
+use Rattle.kdl_control.specs.Control.{Control, at, Spot, fresh, spaced, later, Phase, gap, node_slashdash, type_open, type_name, type_done, in_node, property, entry_slashdash, block_slashdash, kept, kept_slashdash, Frame, in_dropped, spaced_of, slashdash_at, step, held, accepts, is_over, is_block, is_word}
 use Rattle.kdl_grammar.proofs.Reading.Sound.{derives}
 use Rattle.kdl_comments.specs.Items as items
 use Rattle.kdl_comments.specs.Items.{Item, piece, Place, before_entry, before_block, behind_block, takes_entries, takes_blocks, PlaceItems}

@@ -8,7 +8,7 @@ use Rattle.kdl_text.proofs.Looking.MovesJoin.{bytes-append}
 use Rattle.kdl_text.proofs.Looking.Texts.{bytes-chars}
 use Rattle.kdl_lexer.specs.Internal.Handed.{Cuts, one, kind_view}
 use Rattle.kdl_entry.specs.Places.{between}
-use Rattle.kdl_lexer.specs.Internal.Tokens.{newline, semicolon, t_newline, t_semicolon, Token}
+use Rattle.kdl_lexer.specs.Tokens.{newline, semicolon, t_newline, t_semicolon, Token}
 use Rattle.kdl_lexer.specs.declared.lexer.TokenKind.{TokenKind}
 use Rattle.kdl_lexer.specs.declared.lexer.TokenKind.TheVariants.{Semicolon}
 use Rattle.kdl_entry.proofs.Slicing.Between.{is_between}

@@ -8,11 +8,11 @@ use Rattle.kdl_text.specs.Trivia.Slashdash.{slashdash as a_slashdash}
 use Rattle.kdl_value.specs.Data.{Value}
 use Rattle.kdl_entry.specs.Data.{Entry}
 use Rattle.kdl_entry.specs.Entries.{string as a_string', a_string, a_plain, parens, untyped, typed, IsValue, value as a_value, IsEntry, property as a_property, argument}
-use Rattle.kdl_lexer.specs.Internal.Tokens.{Token, BeginsToken, t_newline, t_slashdash, t_string, t_value, t_left, t_opening, t_closing, t_semicolon}
+use Rattle.kdl_lexer.specs.Tokens.{Token, BeginsToken, t_newline, t_slashdash, t_string, t_value, t_left, t_opening, t_closing, t_semicolon}
 use Rattle.kdl_lexer.proofs.Lexing.TokenUnique.{token_det, no_token}
 use Rattle.kdl_grammar.specs.Data.{Children, Nodes}
 use Rattle.kdl_grammar.specs.Grammar.{Terminator, AfterName, kept_entry, dropped_entry, blocks, Blocks, dropped_block, block, no_block, IsBlock, braces}
-use Rattle.kdl_control.specs.Internal.Control.{Control, at, fresh, later, in_node, is_over, is_word}
+use Rattle.kdl_control.specs.Control.{Control, at, fresh, later, in_node, is_over, is_word}
 use Rattle.kdl_comments.specs.Items.{Item, Place, PlaceItems}
 use Rattle.kdl_comments.specs.Internal.Passing.{moved, follows_word, PartPasses, over, word_ends, word_over, goes}
 use Rattle.kdl_comments.proofs.Listing.SpaceItems.{space_of}

@@ -7,11 +7,11 @@ use Rattle.kdl_text.specs.Spans.{bytes}
 use Rattle.kdl_text.specs.Internal.Reading.{Moves}
 use Rattle.kdl_text.specs.Trivia.{NodeSpace}
 use Rattle.kdl_text.proofs.Looking.MovesJoin.{bytes-append}
-use Rattle.kdl_lexer.specs.Internal.Handed.{Cuts, one, spaces, NoToken, kind_view, HandsOut}
-use Rattle.kdl_lexer.specs.Internal.Tokens.{Token, space, newline, semicolon, slashdash, string, value, left, right, opening, closing, equals, bom, t_space, BeginsToken}
+use Rattle.kdl_lexer.specs.Internal.Handed.{Cuts, one, spaces, kind_view, HandsOut}
+use Rattle.kdl_lexer.specs.Tokens.{Token, space, newline, semicolon, slashdash, string, value, left, right, opening, closing, equals, bom, t_space, BeginsToken, NoToken}
 use Rattle.kdl_lexer.specs.declared.lexer.Token.{Token as CodeToken}
 use Rattle.kdl_lexer.proofs.Lexing.TokenUnique.{token_det, token_shorter, no_token}
-use Rattle.kdl_control.specs.Internal.Control.{fresh, spaced, later, gap, node_slashdash, type_open, type_name, type_done, in_node, property, entry_slashdash, block_slashdash, kept, kept_slashdash, in_block, in_dropped, in_later, Control, at, step, finish, held, is_gap}
+use Rattle.kdl_control.specs.Control.{fresh, spaced, later, gap, node_slashdash, type_open, type_name, type_done, in_node, property, entry_slashdash, block_slashdash, kept, kept_slashdash, in_block, in_dropped, in_later, Control, at, step, finish, held, is_gap}
 use Rattle.kdl_comments.specs.Items.{ItemEnd}
 use Rattle.kdl_comments.specs.Internal.Lacking.{HasOpenEnd}
 use Rattle.kdl_comments.specs.Internal.Passing.{moved, NodeEnd, returned, ended, NodePasses, returns, ends, goes}

@@ -6,11 +6,11 @@ use Rattle.kdl_text.specs.Chars.Star.{none as no_star, more}
 use Rattle.kdl_text.specs.Internal.Here.{Here}
 use Rattle.kdl_text.specs.Internal.Reading.{Moves}
 use Rattle.kdl_text.specs.Trivia.{NodeSpace}
-use Rattle.kdl_lexer.specs.Internal.Handed.{Cuts, one, spaces, NoToken, kind_view, HandsOut}
-use Rattle.kdl_lexer.specs.Internal.Tokens.{Token, space, t_space, BeginsToken}
+use Rattle.kdl_lexer.specs.Internal.Handed.{Cuts, one, spaces, kind_view, HandsOut}
+use Rattle.kdl_lexer.specs.Tokens.{Token, space, t_space, BeginsToken, NoToken}
 use Rattle.kdl_lexer.specs.declared.lexer.Token.{Token as CodeToken}
 use Rattle.kdl_lexer.proofs.Lexing.TokenUnique.{token_det, no_token}
-use Rattle.kdl_control.specs.Internal.Control.{fresh, spaced, later, gap, node_slashdash, type_open, type_name, type_done, in_node, property, entry_slashdash, block_slashdash, kept, kept_slashdash, Control, at, step, is_over, is_block, is_word}
+use Rattle.kdl_control.specs.Control.{fresh, spaced, later, gap, node_slashdash, type_open, type_name, type_done, in_node, property, entry_slashdash, block_slashdash, kept, kept_slashdash, Control, at, step, is_over, is_block, is_word}
 use Rattle.kdl_comments.specs.Items.{Place, before_entry, before_block, behind_block}
 use Rattle.kdl_comments.specs.Internal.Passing.{moved, follows_word, slashdash_in, PartPasses, over, word_ends, word_over, goes}
 use Rattle.kdl_comments.specs.Internal.Passed.{Before, AnswersDroppedPart, of_spaces}

@@ -8,11 +8,11 @@ use Rattle.kdl_text.specs.Trivia.{NodeSpace, Break, LineSpace, slashdash}
 use Rattle.kdl_value.specs.Data.{Value}
 use Rattle.kdl_entry.specs.Data.{Entry}
 use Rattle.kdl_entry.specs.Entries.{IsString, string as a_string', IsPlainValue, a_string, a_plain, parens, untyped, typed, IsValue, value as a_value', IsEntry, property as a_property, argument}
-use Rattle.kdl_lexer.specs.Internal.Tokens.{Token, space, newline, string, value, left, opening, closing, t_space, t_newline, t_slashdash, t_string, t_value, t_left, t_right, t_opening, t_closing, t_equals, t_semicolon, BeginsToken}
+use Rattle.kdl_lexer.specs.Tokens.{Token, space, newline, string, value, left, opening, closing, t_space, t_newline, t_slashdash, t_string, t_value, t_left, t_right, t_opening, t_closing, t_equals, t_semicolon, BeginsToken}
 use Rattle.kdl_lexer.proofs.Lexing.TokenUnique.{token_det, no_token}
 use Rattle.kdl_grammar.specs.Data.{Node, Children, Nodes}
 use Rattle.kdl_grammar.specs.Grammar.{Terminator, IsNode, named, AfterName, kept_entry, dropped_entry, Blocks, AfterBlock, dropped_later, no_more, Gap, no_gap, line_space, dropped_node, AreNodes, last_gap, node_then, IsBlock, braces}
-use Rattle.kdl_control.specs.Internal.Control.{Spot, fresh, spaced, later, Phase, gap, node_slashdash, type_open, type_name, type_done, in_node, property, entry_slashdash, block_slashdash, kept, kept_slashdash, Frame, in_block, in_dropped, in_later, Control, at, popped, spaced_of, slashdash_at, step, is_gap, is_over, is_word}
+use Rattle.kdl_control.specs.Control.{Spot, fresh, spaced, later, Phase, gap, node_slashdash, type_open, type_name, type_done, in_node, property, entry_slashdash, block_slashdash, kept, kept_slashdash, Frame, in_block, in_dropped, in_later, Control, at, popped, spaced_of, slashdash_at, step, is_gap, is_over, is_word}
 use Rattle.kdl_comments.specs.Internal.Passing.{moved, NodeEnd, NodePasses, follows_word, PartPasses, slashdash_phase}
 
 -- after the name of a node

@@ -8,12 +8,12 @@ use Rattle.kdl_text.proofs.Spacing.SpacePieces.{line_space_shorter}
 use Rattle.kdl_text.proofs.Spacing.SpaceUnique.{line_space_det}
 use Rattle.kdl_lexer.specs.Pieces.{StringPiece}
 use Rattle.kdl_entry.specs.Entries.{string as a_string', parens, untyped, typed}
-use Rattle.kdl_lexer.specs.Internal.Tokens as token'
-use Rattle.kdl_lexer.specs.Internal.Tokens.{Token, BeginsToken, space, newline, t_space, t_newline, t_slashdash, t_string, t_left}
+use Rattle.kdl_lexer.specs.Tokens as token'
+use Rattle.kdl_lexer.specs.Tokens.{Token, BeginsToken, space, newline, t_space, t_newline, t_slashdash, t_string, t_left}
 use Rattle.kdl_lexer.proofs.Lexing.TokenUnique.{token_det, no_token}
 use Rattle.kdl_grammar.specs.Data.{Node, node, no_children, Nodes, none, first}
 use Rattle.kdl_grammar.specs.Grammar.{Terminator, IsNode, named, AfterName, Blocks, Gap, no_gap, line_space, dropped_node, AreNodes, last_gap, node_then}
-use Rattle.kdl_control.specs.Internal.Control.{Control, at, gap, node_slashdash, step, held, is_gap}
+use Rattle.kdl_control.specs.Control.{Control, at, gap, node_slashdash, step, held, is_gap}
 use Rattle.kdl_grammar.specs.ReadsBack.{AddsNothing, Anything, Terminates}
 use Rattle.kdl_comments.specs.Items.{ItemEnd}
 use Rattle.kdl_comments.specs.Lacks.{newlines, GapLacks}

@@ -9,12 +9,12 @@ use Rattle.kdl_text.specs.Trivia.{Line, LineComment, line as a_line, NodeSpace, 
 use Rattle.kdl_text.proofs.Looking.Stars.{snoc, meets}
 use Rattle.kdl_text.proofs.Spacing.SpacePieces.{node_space_shorter, line_space_shorter}
 use Rattle.kdl_text.proofs.Spacing.SpaceUnique.{newline_begins, line_comment_begins, node_space_dets, line_space_det, space_or_break}
-use Rattle.kdl_lexer.specs.Internal.Tokens.{Token, BeginsToken, t_space, t_newline, t_slashdash, t_string, t_value, t_left, t_right, t_opening, t_closing, t_equals, t_semicolon, t_bom}
+use Rattle.kdl_lexer.specs.Tokens.{Token, BeginsToken, t_space, t_newline, t_slashdash, t_string, t_value, t_left, t_right, t_opening, t_closing, t_equals, t_semicolon, t_bom}
 use Rattle.kdl_entry.proofs.Moving.EntryMoves.{move_spaces, move_slashdash, spaces_end}
 use Rattle.kdl_grammar.specs.Data as nodes'
 use Rattle.kdl_grammar.specs.Data.{Node, Nodes}
 use Rattle.kdl_grammar.specs.Grammar.{Terminator, IsNode, Gap, no_gap, line_space, dropped_node, AreNodes, last_gap, node_then}
-use Rattle.kdl_control.specs.Internal.Control.{Control, at, node_slashdash}
+use Rattle.kdl_control.specs.Control.{Control, at, node_slashdash}
 use Rattle.kdl_grammar.specs.ReadsBack.{NodesEnd, AddsNothing}
 use Rattle.kdl_grammar.proofs.Moving.Moves.{terminator_end}
 use Rattle.kdl_grammar.proofs.ReadingBack.Closing.{behind_lf}

@@ -7,13 +7,13 @@ use Rattle.kdl_text.specs.Spans.{bytes}
 use Rattle.kdl_text.specs.Trivia.{NodeSpace, Slashdash, slashdash, ValueEnd}
 use Rattle.kdl_entry.specs.Data.{Entry}
 use Rattle.kdl_entry.specs.Entries.{IsEntry}
-use Rattle.kdl_lexer.specs.Internal.Tokens.{BeginsToken, t_slashdash}
-use Rattle.kdl_lexer.specs.Internal.Tokens as token'
+use Rattle.kdl_lexer.specs.Tokens.{BeginsToken, t_slashdash}
+use Rattle.kdl_lexer.specs.Tokens as token'
 use Rattle.kdl_entry.specs.Places.{leading}
 use Rattle.kdl_entry.proofs.Moving.EntryMoves.{move_slashdash, move_entry, leading_end}
 use Rattle.kdl_grammar.specs.Data.{Nodes}
 use Rattle.kdl_grammar.specs.Grammar.{IsBlock}
-use Rattle.kdl_control.specs.Internal.Control.{at}
+use Rattle.kdl_control.specs.Control.{at}
 use Rattle.kdl_grammar.specs.Places.{after, before}
 use Rattle.kdl_grammar.proofs.Moving.Moves.{before_end, terminator_end}
 use Rattle.kdl_comments.specs.Items.{Item, Place, before_entry, before_block, behind_block, may_end, takes_entries, takes_blocks, spaced, PlaceItems, ends, dropped_entry, dropped_block}

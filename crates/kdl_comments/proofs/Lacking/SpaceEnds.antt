@@ -9,7 +9,7 @@ use Rattle.kdl_text.proofs.Looking.Stars.{join, star_map, snoc}
 use Rattle.kdl_text.proofs.Spacing.NewlineUnique.{newline_there}
 use Rattle.kdl_text.proofs.Spacing.SpacePieces.{star_end, end_length, space_end, space_shorter, block_shorter, node_space_shorter, line_space_shorter}
 use Rattle.kdl_text.proofs.Spacing.SpaceUnique.{newline_begins, backslash_no_space, no_line_comment, escline_ends_at, spaces_plus}
-use Rattle.kdl_lexer.specs.Internal.Tokens.{Token, BeginsToken, space, newline, t_space, t_newline}
+use Rattle.kdl_lexer.specs.Tokens.{Token, BeginsToken, space, newline, t_space, t_newline}
 use Rattle.kdl_lexer.proofs.Lexing.TokenUnique.{token_det, no_backslash}
 use Rattle.kdl_comments.specs.Items.{line_end}
 use Rattle.kdl_comments.specs.Internal.Lacking.{letter, LineEnds, EndsAs}

@@ -6,7 +6,7 @@ use Rattle.kdl_text.specs.Trivia.{NodeSpace, slashdash}
 use Rattle.kdl_entry.specs.Places.{between}
 use Rattle.kdl_grammar.specs.Data.{Node}
 use Rattle.kdl_grammar.specs.Grammar.{IsNode}
-use Rattle.kdl_control.specs.Internal.Control.{at, node_slashdash}
+use Rattle.kdl_control.specs.Control.{at, node_slashdash}
 use Rattle.kdl_comments.specs.Items.{Item, piece, EndsTight, GapItems, Place, takes_entries, PlaceItems}
 use Rattle.kdl_comments.specs.Internal.Passing.{ended, NodePasses, PartPasses, slashdash_phase, slashdash_in}
 use Rattle.kdl_comments.proofs.Dropping.DroppedNodes.{passes_node, passes_last, node_returned, node_ended}

@@ -16,7 +16,7 @@ use Rattle.kdl_text.specs.Trivia.Slashdash.{slashdash as a_slashdash}
 use Rattle.kdl_text.proofs.Spacing.SpaceUnique.{slash_no_space, backslash_no_space, slash_no_newline, newline_begins, space_det, block_det, line_comment_det, esc_end_ws, space_or_break}
 use Rattle.kdl_text.proofs.Spacing.NewlineUnique.{newline_det}
 use Rattle.kdl_text.proofs.Spacing.SpacePieces.{node_space_shorter, line_space_shorter, slashdash_shorter}
-use Rattle.kdl_lexer.specs.Internal.Tokens.{t_space, t_newline, t_slashdash}
+use Rattle.kdl_lexer.specs.Tokens.{t_space, t_newline, t_slashdash}
 use Rattle.kdl_entry.specs.Places.{between}
 use Rattle.kdl_lexer.proofs.Lexing.TokenUnique.{token_det}
 use Rattle.kdl_comments.specs.Items.{Item, comment, piece, line_end, EsclineItems, SpaceItems, LineSpaceItems, GapItems, Place, may_end, spaced, PlaceItems}

@@ -4,7 +4,7 @@ use Rattle.std.specs.Prelude.{◌≡◌, ◌⊎◌, ℕ, suc, ◌<◌, ◌≤◌
 use Rattle.std.specs.Str.{chars}
 use Rattle.kdl_text.specs.Chars.{Text, begins, Newline, Star, Plus}
 use Rattle.kdl_text.specs.Trivia.{NodeSpace, Break, ValueEnd}
-use Rattle.kdl_lexer.specs.Internal.Tokens.{Token, BeginsToken, space, newline}
+use Rattle.kdl_lexer.specs.Tokens.{Token, BeginsToken, space, newline}
 use Rattle.kdl_grammar.specs.Data.{Nodes, none}
 use Rattle.kdl_grammar.specs.Grammar.{Gap, AreNodes}
 use Rattle.kdl_grammar.specs.ReadsBack.{NodesEnd, AddsNothing}

@@ -4,8 +4,8 @@ use Rattle.std.specs.Prelude.{◌≡◌, ◌↔◌, ℕ, ◌<◌, Bool, true, fa
 use Rattle.std.specs.Str.{chars}
 use Rattle.kdl_text.specs.Chars.{Text}
 use Rattle.kdl_text.specs.Spans.{bytes}
-use Rattle.kdl_lexer.specs.Internal.Tokens.{Token, space}
-use Rattle.kdl_control.specs.Internal.Control.{at, node_slashdash}
+use Rattle.kdl_lexer.specs.Tokens.{Token, space}
+use Rattle.kdl_control.specs.Control.{at, node_slashdash}
 use Rattle.kdl_comments.specs.Internal.Lacking.{HasOpenEnd}
 use Rattle.kdl_comments.specs.Internal.Passing as passing
 use Rattle.kdl_comments.specs.Internal.Passing.{NodePasses, PartPasses, returned, ended, slashdash_in}

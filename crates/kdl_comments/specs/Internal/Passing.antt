@@ -1,8 +1,8 @@
 -- What the control does after a slashdash, up to the end of what the slashdash drops.
 use Rattle.std.specs.Prelude.{◌≡◌, Bool, true, false, ◌&&◌, not, [], Some}
 use Rattle.kdl_text.specs.Chars.{Text}
-use Rattle.kdl_lexer.specs.Internal.Tokens.{Token, space, equals, BeginsToken}
-use Rattle.kdl_control.specs.Internal.Control.{Control, at, gap, entry_slashdash, block_slashdash, Phase, step, finish, is_gap, is_over, is_block, is_word}
+use Rattle.kdl_lexer.specs.Tokens.{Token, space, equals, BeginsToken}
+use Rattle.kdl_control.specs.Control.{Control, at, gap, entry_slashdash, block_slashdash, Phase, step, finish, is_gap, is_over, is_block, is_word}
 use Rattle.kdl_comments.specs.Items.{Place, takes_entries}
 
 -- where the last token that is not a node-space ends

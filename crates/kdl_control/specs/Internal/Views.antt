@@ -1,7 +1,7 @@
 -- What the fields of the control represent.
 use Rattle.std.specs.Prelude.{◌≡◌, Bool, true, false, List, [], ◌∷◌, Option, Some, None}
-use Rattle.kdl_lexer.specs.Internal.Tokens.{Token}
-use Rattle.kdl_control.specs.Internal.Control as c
+use Rattle.kdl_lexer.specs.Tokens.{Token}
+use Rattle.kdl_control.specs.Control as c
 use Rattle.kdl_control.specs.declared.control.Control.{Control}
 use Rattle.kdl_control.specs.declared.control.Frame.{Frame}
 use Rattle.kdl_control.specs.declared.control.Frame.TheVariants.{Node, Dropped, Later as LaterBlock}

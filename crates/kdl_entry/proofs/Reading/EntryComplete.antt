@@ -11,7 +11,7 @@ use Rattle.kdl_entry.specs.Internal.EntryMachine.{Word, State, ahead, entry_slas
 use Rattle.kdl_entry.specs.Internal.Items.{TypeParts, KeyParts, type_of, before_name, after_name, behind_type, identifier_at, Stage, opened, named, closed, keyed, Item}
 use Rattle.kdl_entry.specs.Laid.{LaidIdentifier, spelled, LaidType, no_type, a_type, no_key, a_key, LaidItem, item, LaidEntryText, laid_entry_text}
 use Rattle.kdl_entry.specs.Places.{span_of, between}
-use Rattle.kdl_lexer.specs.Internal.Tokens.{space, newline, slashdash as a_slashdash, string, value, left, t_space, t_newline, t_slashdash, t_string, t_value, t_left, t_right, t_equals}
+use Rattle.kdl_lexer.specs.Tokens.{space, newline, slashdash as a_slashdash, string, value, left, t_space, t_newline, t_slashdash, t_string, t_value, t_left, t_right, t_equals}
 use Rattle.kdl_entry.specs.Tree.{Identifier, Entry, entry_data, plain_identifier}
 use Rattle.kdl_entry.proofs.Moving.EntryEnds.{end_spaces, end_lines, end_some, end_slashdash, end_string, end_plain, end_entry}
 use Rattle.kdl_entry.proofs.Slicing.Placing.{place}

@@ -12,10 +12,10 @@ use Rattle.kdl_entry.specs.Internal.Building.{Stays}
 use Rattle.kdl_entry.specs.Internal.EntryMachine.{State, ahead, entry_slashdash, under, dropped, word, done, came, step, finish, Runs, stops, reads, AnswersEntry, given}
 use Rattle.kdl_entry.specs.Internal.EntryReading.{AnswersEntryText, EndsIn, Ended, Same, Stands, Stepped}
 use Rattle.kdl_value.specs.Data.{Value}
-use Rattle.kdl_lexer.specs.Internal.Handed.{Cuts, one, spaces, NoToken, IsFaultAt, HandsOut, Lexed, kind_view}
+use Rattle.kdl_lexer.specs.Internal.Handed.{Cuts, one, spaces, IsFaultAt, HandsOut, Lexed, kind_view}
 use Rattle.kdl_entry.specs.Internal.Items.{Stage, opened, named, closed, keyed, Item, TypeParts, KeyParts, named_at, closed_at, if_valued}
 use Rattle.kdl_entry.specs.Internal.Items as items
-use Rattle.kdl_lexer.specs.Internal.Tokens.{Token, space, newline, slashdash, string, value, left, right, equals, BeginsToken, t_space}
+use Rattle.kdl_lexer.specs.Tokens.{Token, space, newline, slashdash, string, value, left, right, equals, BeginsToken, t_space, NoToken}
 use Rattle.kdl_entry.specs.Tree.{Entry, Identifier, entry_tree}
 use Rattle.kdl_entry.specs.declared.entry.KdlEntry.{KdlEntry}
 use Rattle.kdl_lexer.specs.declared.lexer.LexFailure.{LexFailure}

@@ -9,7 +9,7 @@ use Rattle.kdl_entry.specs.Entries.{IsString, string as a_string', IsPlainValue,
 use Rattle.kdl_entry.specs.Internal.EntryMachine.{Word, State, ahead, entry_slashdash, under, dropped, word, done, given, came, step, Runs, stops, reads, AnswersEntry}
 use Rattle.kdl_entry.specs.Internal.Items.{TypeParts, KeyParts, Stage, opened, named, closed, keyed, Item, Answer, named_at, closed_at, emptied, if_valued}
 use Rattle.kdl_entry.specs.Internal.Items as items
-use Rattle.kdl_lexer.specs.Internal.Tokens.{Token, string, value, left, bom, BeginsToken, t_space, t_newline, t_slashdash, t_string, t_value, t_left, t_right, t_equals}
+use Rattle.kdl_lexer.specs.Tokens.{Token, string, value, left, bom, BeginsToken, t_space, t_newline, t_slashdash, t_string, t_value, t_left, t_right, t_equals}
 use Rattle.kdl_entry.specs.Tree.{Identifier, Entry}
 use Rattle.kdl_lexer.proofs.Lexing.TokenUnique.{is_end, end_behind}
 

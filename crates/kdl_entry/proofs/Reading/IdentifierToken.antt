@@ -15,8 +15,8 @@ use Rattle.kdl_entry.specs.Internal.IdentifierReading.{AnswersIdentifierText}
 use Rattle.kdl_entry.specs.Internal.Items.{identifier_at}
 use Rattle.kdl_entry.specs.Laid.{LaidIdentifier, LaidIdentifierText, spelled}
 use Rattle.kdl_entry.specs.Places.{Is, between}
-use Rattle.kdl_lexer.specs.Internal.Tokens as tokens
-use Rattle.kdl_lexer.specs.Internal.Tokens.{t_space, t_string}
+use Rattle.kdl_lexer.specs.Tokens as tokens
+use Rattle.kdl_lexer.specs.Tokens.{t_space, t_string}
 use Rattle.kdl_value.specs.Tree.{text_of}
 use Rattle.kdl_entry.specs.Tree.{Identifier}
 use Rattle.kdl_text.specs.declared.span.SourceSpan.{SourceSpan}

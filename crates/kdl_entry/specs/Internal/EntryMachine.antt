@@ -7,7 +7,7 @@ use Rattle.kdl_value.specs.Data.{Value, text}
 use Rattle.kdl_entry.specs.Internal.Items as items
 use Rattle.kdl_entry.specs.Internal.Items.{entry_at, KeyParts, TypeParts, Item, opened, keyed, Answer, goes, gives, refuses}
 use Rattle.kdl_entry.specs.Places.{span_of, between}
-use Rattle.kdl_lexer.specs.Internal.Tokens.{Token, space, newline, slashdash, string, value, left, equals, BeginsToken}
+use Rattle.kdl_lexer.specs.Tokens.{Token, space, newline, slashdash, string, value, left, equals, BeginsToken}
 use Rattle.kdl_entry.specs.Tree.{Identifier, EntryFormat, Entry, no_span, plain_identifier}
 
 -- a string that may still be a key: what comes before it, what it represents, its spelling, and its span

@@ -5,7 +5,7 @@ use Rattle.kdl_text.specs.Chars.{Text}
 use Rattle.kdl_text.specs.declared.span.SourceSpan.{SourceSpan}
 use Rattle.kdl_value.specs.Data.{Value, text}
 use Rattle.kdl_entry.specs.Places.{between, span_of}
-use Rattle.kdl_lexer.specs.Internal.Tokens.{Token, space, string, value, left, right}
+use Rattle.kdl_lexer.specs.Tokens.{Token, space, string, value, left, right}
 use Rattle.kdl_entry.specs.Tree.{Identifier, plain_identifier, Entry}
 
 -- a type, and the texts before its name, after it, and after the `)`

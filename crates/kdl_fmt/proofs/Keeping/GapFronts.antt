@@ -9,7 +9,7 @@ use Rattle.std.specs.Prelude.{zero, suc, if◌then◌else◌}
 use Rattle.kdl_text.specs.Chars.{Text, is_space, space as a_space}
 use Rattle.kdl_text.specs.Trivia.{LineSpace}
 use Rattle.kdl_entry.specs.Places.{Is}
-use Rattle.kdl_lexer.specs.Internal.Tokens.{t_space, t_newline, t_bom}
+use Rattle.kdl_lexer.specs.Tokens.{t_space, t_newline, t_bom}
 use Rattle.kdl_lexer.proofs.Lexing.TokenUnique.{token_det}
 use Rattle.kdl_grammar.specs.Grammar.{Gap, no_gap}
 use Rattle.kdl_grammar.specs.Tree.{Nodes, first}

@@ -10,7 +10,7 @@ use Rattle.kdl_text.proofs.Quoted.UnitUnique.{unit_no_quote}
 use Rattle.kdl_text.proofs.RawStrings.RawUnique.{quote_no_newline}
 use Rattle.kdl_text.proofs.Spacing.NewlineUnique.{newline_det, no_newline}
 use Rattle.kdl_text.proofs.Spacing.SpaceUnique.{newline_begins}
-use Rattle.kdl_lexer.specs.Internal.Tokens.{BeginsToken}
+use Rattle.kdl_lexer.specs.Tokens.{BeginsToken}
 use Rattle.kdl_lexer.proofs.Lexing.TokenFronts.{BeginsNone}
 use Rattle.kdl_lexer.proofs.Lexing.TokenUnique.{no_piece}
 use Rattle.kdl_lexer.proofs.Moving.Puts.{Put, stands, also, joined, same, begins_first}

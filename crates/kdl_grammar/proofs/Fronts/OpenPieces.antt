@@ -10,7 +10,7 @@ use Rattle.kdl_text.specs.Strings.{StringUnit, IsUnit, one_literal, one_letter, 
 use Rattle.kdl_text.specs.Trivia.{Parts, close, nested, other, BlockComment, block, Ws, NodeSpace}
 use Rattle.kdl_text.proofs.Quoted.UnitUnique.{unit_no_quote}
 use Rattle.kdl_lexer.specs.Pieces.{quoted}
-use Rattle.kdl_lexer.specs.Internal.Tokens.{space, string, BeginsToken, t_space, t_string}
+use Rattle.kdl_lexer.specs.Tokens.{space, string, BeginsToken, t_space, t_string}
 
 -- a text after `/*`: a comment ends in it, before each rest; or it goes on to the end of one
 data Closing (s : Text) : Type 0 where

@@ -11,7 +11,7 @@ use Rattle.kdl_text.proofs.Quoted.StringUnique.{is_raw_begins}
 use Rattle.kdl_text.proofs.Quoted.UnitUnique.{unit_det, unit_no_quote, unit_front, run_same, backslash, blank_u}
 use Rattle.kdl_value.specs.Data.{Value}
 use Rattle.kdl_lexer.specs.Pieces.{StringPiece, bare, quoted, raw, PlainPiece, number, keyword}
-use Rattle.kdl_lexer.specs.Internal.Tokens.{BeginsToken}
+use Rattle.kdl_lexer.specs.Tokens.{BeginsToken}
 use Rattle.kdl_lexer.proofs.Lexing.StringUnique.{begins_piece, quote_identifier, quote_sign, keyword_front}
 use Rattle.kdl_lexer.proofs.Lexing.TokenFronts.{BeginsNone}
 use Rattle.kdl_lexer.proofs.Lexing.TokenUnique.{no_piece}

@@ -3,10 +3,10 @@ use Rattle.std.proofs.Common.{◌≡◌, ◌≢◌, true, false, ◌==◌, [], �
 use Rattle.std.proofs.Math.Bool.{and-false}
 use Rattle.kdl_text.specs.Chars.{Text, begins, is_newline_char, crlf, one, space as a_space}
 use Rattle.kdl_text.specs.Trivia.{ValueEnd, escline}
-use Rattle.kdl_lexer.specs.Internal.Tokens.{Token, BeginsToken}
+use Rattle.kdl_lexer.specs.Tokens.{Token, BeginsToken}
 use Rattle.kdl_lexer.proofs.Lexing.TokenUnique.{end_behind}
-use Rattle.kdl_control.specs.Internal.Control.{Control, step}
-use Rattle.kdl_grammar.specs.Internal.Going.{RefusesFront}
+use Rattle.kdl_control.specs.Control.{Control, step}
+use Rattle.kdl_grammar.specs.Going.{RefusesFront}
 use Rattle.kdl_grammar.proofs.Reading.Viable.{worded, next_end}
 
 return_char : is_newline_char 13 ≡ true

@@ -13,7 +13,7 @@ use Rattle.kdl_text.proofs.Numeric.KeywordUnique.{word}
 use Rattle.kdl_text.proofs.Quoted.StringUnique.{is_quoted_begins, is_raw_begins}
 use Rattle.kdl_value.specs.Data.{Value}
 use Rattle.kdl_lexer.specs.Pieces.{StringPiece, bare, quoted, raw, PlainPiece, number, keyword, keyword_value}
-use Rattle.kdl_lexer.specs.Internal.Tokens.{string, value, BeginsToken, t_string, t_value}
+use Rattle.kdl_lexer.specs.Tokens.{string, value, BeginsToken, t_string, t_value}
 use Rattle.kdl_lexer.proofs.Lexing.FirstCharacters.{digit_identifier}
 use Rattle.kdl_lexer.proofs.Lexing.StringUnique.{quote_identifier, sign_identifier as no_sign_identifier, keyword_front}
 use Rattle.kdl_lexer.proofs.Lexing.TokenFronts.{BeginsNone}

@@ -18,7 +18,7 @@ use Rattle.kdl_text.proofs.Quoted.StringUnique.{is_quoted_begins, is_raw_begins,
 use Rattle.kdl_text.proofs.Quoted.UnitUnique.{run_same}
 use Rattle.kdl_value.specs.Data.{Value}
 use Rattle.kdl_lexer.specs.Pieces.{StringPiece, bare, quoted, raw, PlainPiece, number, keyword, number_value}
-use Rattle.kdl_lexer.specs.Internal.Tokens.{Token, string, value, BeginsToken, t_string, t_value}
+use Rattle.kdl_lexer.specs.Tokens.{Token, string, value, BeginsToken, t_string, t_value}
 use Rattle.kdl_lexer.proofs.Lexing.StringUnique.{begins_piece, quote_identifier, sign_identifier, quote_sign, raw_second, keyword_front}
 use Rattle.kdl_lexer.proofs.Lexing.TokenFronts.{BeginsNone}
 use Rattle.kdl_lexer.proofs.Lexing.TokenUnique.{no_piece}

@@ -5,7 +5,7 @@ use Rattle.kdl_text.specs.Chars.{Text, starts, is_identifier_char}
 use Rattle.kdl_text.specs.Numbers.{whole, part, decimal, is_whole, is_decimal, keyword as a_keyword}
 use Rattle.kdl_text.specs.Internal.Here.{first}
 use Rattle.kdl_lexer.specs.Pieces.{PlainPiece, number, keyword}
-use Rattle.kdl_lexer.specs.Internal.Tokens.{Token, space, newline, slashdash, string, value, left, right, opening, closing, equals, semicolon, bom, BeginsToken, t_space, t_newline, t_slashdash, t_string, t_value, t_left, t_right, t_opening, t_closing, t_equals, t_semicolon, t_bom, Lexes, done, next}
+use Rattle.kdl_lexer.specs.Tokens.{Token, space, newline, slashdash, string, value, left, right, opening, closing, equals, semicolon, bom, BeginsToken, t_space, t_newline, t_slashdash, t_string, t_value, t_left, t_right, t_opening, t_closing, t_equals, t_semicolon, t_bom, Lexes, done, next}
 use Rattle.kdl_lexer.proofs.Lexing.TokenFronts.{RefusedWith, refused_with}
 use Rattle.kdl_lexer.proofs.Lexing.TokenUnique.{token_det, no_token, token_shorter}
 use Rattle.kdl_lexer.proofs.Moving.PieceMoves.{move_plain_piece}
@@ -14,8 +14,8 @@ use Rattle.kdl_lexer.proofs.Moving.StringMoves.{move_piece_first}
 use Rattle.kdl_value.specs.Data.{Value}
 use Rattle.kdl_grammar.specs.Data.{Nodes}
 use Rattle.kdl_grammar.specs.Grammar.{AreNodes}
-use Rattle.kdl_control.specs.Internal.Control.{fresh, spaced, later, gap, node_slashdash, type_open, type_name, type_done, in_node, property, entry_slashdash, block_slashdash, kept, kept_slashdash, Control, at, step, held, accepts}
-use Rattle.kdl_grammar.specs.Internal.Going.{Goes, here, goes, RefusesFront}
+use Rattle.kdl_control.specs.Control.{fresh, spaced, later, gap, node_slashdash, type_open, type_name, type_done, in_node, property, entry_slashdash, block_slashdash, kept, kept_slashdash, Control, at, step, held, accepts}
+use Rattle.kdl_grammar.specs.Going.{Goes, here, goes, RefusesFront}
 use Rattle.kdl_grammar.proofs.Reading.Erased.{accepted_nodes}
 use Rattle.kdl_grammar.proofs.Reading.Viable.{Moved, near_token, goes_length, full_of, Reads}
 

@@ -7,7 +7,7 @@ use Rattle.kdl_text.specs.Trivia.{Break}
 use Rattle.kdl_text.proofs.Spacing.ValueEnds.{value_end_no_identifier}
 use Rattle.kdl_value.specs.Data.{Value}
 use Rattle.kdl_lexer.specs.Pieces.{bare}
-use Rattle.kdl_lexer.specs.Internal.Tokens.{Token, space, newline, slashdash, string, value, left, right, opening, closing, equals, semicolon, bom, BeginsToken, t_space, t_newline, t_slashdash, t_string, t_value, t_left, t_right, t_opening, t_closing, t_equals, t_semicolon, t_bom, Lexes, done, next}
+use Rattle.kdl_lexer.specs.Tokens.{Token, space, newline, slashdash, string, value, left, right, opening, closing, equals, semicolon, bom, BeginsToken, t_space, t_newline, t_slashdash, t_string, t_value, t_left, t_right, t_opening, t_closing, t_equals, t_semicolon, t_bom, Lexes, done, next}
 use Rattle.kdl_lexer.proofs.Lexing.TokenUnique.{token_shorter, is_end, end_behind}
 use Rattle.kdl_entry.proofs.Moving.EntryMoves.{move_space, move_comment}
 use Rattle.kdl_lexer.proofs.Moving.FarMoves.{far_space, far_break}
@@ -16,8 +16,8 @@ use Rattle.kdl_lexer.proofs.Moving.Puts.{Put, stands, also, joined, starts_first
 use Rattle.kdl_lexer.proofs.Moving.StringMoves.{move_piece, move_newline, value_end_no_quote}
 use Rattle.kdl_grammar.specs.Data.{Nodes}
 use Rattle.kdl_grammar.specs.Grammar.{AreNodes}
-use Rattle.kdl_control.specs.Internal.Control.{Spot, fresh, spaced, later, Phase, gap, node_slashdash, type_open, type_name, type_done, in_node, property, entry_slashdash, block_slashdash, kept, kept_slashdash, Frame, in_block, in_dropped, in_later, Control, at, step, held, accepts}
-use Rattle.kdl_grammar.specs.Internal.Going.{Goes, here, goes}
+use Rattle.kdl_control.specs.Control.{Spot, fresh, spaced, later, Phase, gap, node_slashdash, type_open, type_name, type_done, in_node, property, entry_slashdash, block_slashdash, kept, kept_slashdash, Frame, in_block, in_dropped, in_later, Control, at, step, held, accepts}
+use Rattle.kdl_grammar.specs.Going.{Goes, here, goes}
 use Rattle.kdl_grammar.proofs.Reading.Sound.{derives}
 
 -- Tokens that end a text: what is due, and then a `}` for each open block.

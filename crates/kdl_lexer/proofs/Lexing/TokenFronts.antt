@@ -12,7 +12,7 @@ use Rattle.kdl_text.specs.Trivia.{BlockComment, LineComment}
 use Rattle.kdl_text.proofs.Spacing.SpaceUnique.{block_begins, line_comment_begins}
 use Rattle.kdl_value.specs.Data.{Value}
 use Rattle.kdl_lexer.specs.Pieces.{StringPiece, bare, quoted, raw, PlainPiece, number, keyword}
-use Rattle.kdl_lexer.specs.Internal.Tokens.{Token, space, newline, slashdash, string, value, left, right, opening, closing, equals, semicolon, bom, BeginsToken, t_string, t_value}
+use Rattle.kdl_lexer.specs.Tokens.{Token, space, newline, slashdash, string, value, left, right, opening, closing, equals, semicolon, bom, BeginsToken, t_string, t_value}
 use Rattle.kdl_lexer.proofs.Lexing.FirstCharacters.{number_identifier}
 use Rattle.kdl_lexer.proofs.Lexing.StringUnique.{quote_identifier, sign_identifier, quote_sign, raw_second}
 use Rattle.kdl_lexer.proofs.Lexing.TokenUnique.{kind_of, kind_is, kind_front, kind_first, no_token, no_slash, Alien, no_alien}

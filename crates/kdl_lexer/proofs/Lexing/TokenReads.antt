@@ -48,8 +48,8 @@ use Rattle.kdl_value.specs.Tree.{value_tree}
 use Rattle.kdl_value.specs.declared.value.KdlValue.{KdlValue}
 use Rattle.kdl_lexer.specs.Pieces.{StringPiece, bare, quoted, raw, PlainPiece, number, keyword, keyword_value}
 use Rattle.kdl_lexer.specs.Pieces as entries
-use Rattle.kdl_lexer.specs.Internal.Handed.{Cuts, one, spaces, NoToken, ReadsKind, KindCosts, Passes, IsFaultAt, IsPunctuation, is_single, kind_view}
-use Rattle.kdl_lexer.specs.Internal.Tokens.{space, newline, slashdash, string, value, t_space, t_newline, t_slashdash, t_string, t_value}
+use Rattle.kdl_lexer.specs.Internal.Handed.{Cuts, one, spaces, ReadsKind, KindCosts, Passes, IsFaultAt, IsPunctuation, is_single, kind_view}
+use Rattle.kdl_lexer.specs.Tokens.{space, newline, slashdash, string, value, t_space, t_newline, t_slashdash, t_string, t_value, NoToken}
 use Rattle.kdl_lexer.specs.declared.lexer.LexFailure.{LexFailure}
 use Rattle.kdl_lexer.specs.declared.lexer.LexFailure.TheVariants.{Faulty, Memory}
 use Rattle.kdl_lexer.specs.declared.lexer.TokenKind.{TokenKind}

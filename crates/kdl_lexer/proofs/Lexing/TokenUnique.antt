@@ -17,7 +17,7 @@ use Rattle.kdl_text.proofs.Spacing.SpacePieces.{EndOf, node_space_shorter, break
 use Rattle.kdl_text.proofs.Spacing.ValueEnds.{space_ends, break_ends}
 use Rattle.kdl_value.specs.Data.{Value}
 use Rattle.kdl_lexer.specs.Pieces.{StringPiece, PlainPiece}
-use Rattle.kdl_lexer.specs.Internal.Tokens.{Token, space, newline, slashdash, string, value, left, right, opening, closing, equals, semicolon, bom, BeginsToken, t_space, t_newline, t_slashdash, t_string, t_value, t_left, t_right, t_opening, t_closing, t_equals, t_semicolon, t_bom, Lexes, done, next}
+use Rattle.kdl_lexer.specs.Tokens.{Token, space, newline, slashdash, string, value, left, right, opening, closing, equals, semicolon, bom, BeginsToken, t_space, t_newline, t_slashdash, t_string, t_value, t_left, t_right, t_opening, t_closing, t_equals, t_semicolon, t_bom, Lexes, done, next}
 use Rattle.kdl_lexer.proofs.Lexing.StringUnique.{begins_piece, string_det, string_begins, string_shorter, string_or_plain, plain_det, plain_begins, plain_shorter}
 
 -- the kinds of tokens, as their first two characters tell them; strings, numbers and keywords are of one kind

@@ -9,8 +9,8 @@ use Rattle.kdl_text.specs.declared.span.SourceSpan.{SourceSpan}
 use Rattle.kdl_text.specs.declared.strings.StringFailure.{StringFailure}
 use Rattle.kdl_text.specs.declared.strings.StringFailure.TheVariants.{Fault as StringFaulty, Memory as StringMemory}
 use Rattle.kdl_value.specs.Tree.{value_tree, text_of}
-use Rattle.kdl_lexer.specs.Internal.Tokens as tokens
-use Rattle.kdl_lexer.specs.Internal.Tokens.{BeginsToken}
+use Rattle.kdl_lexer.specs.Tokens as tokens
+use Rattle.kdl_lexer.specs.Tokens.{BeginsToken, NoToken}
 use Rattle.kdl_lexer.specs.declared.lexer.TokenKind.{TokenKind}
 use Rattle.kdl_lexer.specs.declared.lexer.TokenKind.TheVariants.{Space, Newline, Slashdash, String, Value, Left, Right, Opening, Closing, Equals, Semicolon, Bom}
 use Rattle.kdl_lexer.specs.declared.lexer.Token.{Token}
@@ -41,11 +41,6 @@ kind_view Bom = tokens.bom
 pub record IsFaultAt (place : Spot) (span : SourceSpan) : Type 0 where
   pub offset : span.offset ≡ place.at
   pub len : span.len ≡ first_len place.rest
-
--- no token begins at s, which is not the end of the text
-pub record NoToken (s : Text) : Type 0 where
-  pub begun : s ≡ [] → ⊥
-  pub none : (r : Text) (k : tokens.Token) → BeginsToken s k r → ⊥
 
 -- the kind of the token that was read at s, before r; a fault is reported at the character there
 abbrev pub ReadsKind : Text → Spot → Result TokenKind LexFailure → Text → Type 0

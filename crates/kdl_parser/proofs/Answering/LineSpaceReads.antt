@@ -10,8 +10,8 @@ use Rattle.kdl_text.specs.declared.span.SourceSpan.{SourceSpan}
 use Rattle.std.specs.Str.{chars, IsUtf8}
 use Rattle.kdl_text.proofs.Looking.MovesJoin.{bytes-append}
 use Rattle.kdl_text.proofs.Looking.Texts.{chars_bytes}
-use Rattle.kdl_lexer.specs.Internal.Handed.{Cuts, one, spaces, NoToken, IsFaultAt, kind_view, HandsOut, Lexed}
-use Rattle.kdl_lexer.specs.Internal.Tokens.{Token, space, newline, t_space, t_newline, BeginsToken}
+use Rattle.kdl_lexer.specs.Internal.Handed.{Cuts, one, spaces, IsFaultAt, kind_view, HandsOut, Lexed}
+use Rattle.kdl_lexer.specs.Tokens.{Token, space, newline, t_space, t_newline, BeginsToken, NoToken}
 use Rattle.kdl_lexer.specs.declared.lexer.LexFailure.{LexFailure}
 use Rattle.kdl_lexer.specs.declared.lexer.LexFailure.TheVariants.{Faulty, Memory}
 use Rattle.kdl_lexer.specs.declared.lexer.Token.{Token as CodeToken}

@@ -3,16 +3,16 @@ use Rattle.std.proofs.Common.{◌≡◌, ◌⊎◌, inl, inr, ℕ, List, ◌+◌
 use Rattle.std.specs.Str.{chars, IsUtf8}
 use Rattle.kdl_text.specs.Chars.{Text, begins}
 use Rattle.kdl_text.specs.Spans.{bytes}
-use Rattle.kdl_lexer.specs.Internal.Tokens.{Token, t_bom}
+use Rattle.kdl_lexer.specs.Tokens.{Token, t_bom}
 use Rattle.kdl_lexer.specs.declared.lexer.LexFailure.{LexFailure}
 use Rattle.kdl_lexer.specs.declared.lexer.LexFailure.TheVariants.{Faulty, Memory}
 use Rattle.kdl_lexer.proofs.Lexing.TokenUnique.{token_det}
 use Rattle.kdl_text.proofs.Looking.Texts.{bytes-chars}
 use Rattle.kdl_text.proofs.Looking.MovesJoin.{bytes-append}
-use Rattle.kdl_control.specs.Internal.Control.{Control}
+use Rattle.kdl_control.specs.Control.{Control}
 use Rattle.kdl_grammar.specs.Data.{Nodes}
 use Rattle.kdl_grammar.specs.GoingOn.{Dead}
-use Rattle.kdl_grammar.specs.Internal.Going.{Goes, here, goes, Reaches, no_bom, behind_bom}
+use Rattle.kdl_grammar.specs.Going.{Goes, here, goes, Reaches, no_bom, behind_bom}
 use Rattle.kdl_grammar.specs.Former.{IsFormerDocument}
 use Rattle.kdl_grammar.specs.Grammar.{IsDocument}
 use Rattle.kdl_grammar.specs.Laid.{LaidDocument, with_bom}

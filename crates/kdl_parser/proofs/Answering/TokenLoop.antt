@@ -9,15 +9,15 @@ use Rattle.kdl_text.specs.Trivia.{NodeSpace}
 use Rattle.kdl_text.specs.declared.span.SourceSpan.{SourceSpan}
 use Rattle.kdl_entry.specs.Internal.Building.{Stays}
 use Rattle.kdl_entry.proofs.Reading.EntryLoop.{bytes_before, char_in}
-use Rattle.kdl_lexer.specs.Internal.Handed.{Cuts, one, spaces, NoToken, IsFaultAt, kind_view, HandsOut, Lexed}
-use Rattle.kdl_lexer.specs.Internal.Tokens.{Token, t_space}
+use Rattle.kdl_lexer.specs.Internal.Handed.{Cuts, one, spaces, IsFaultAt, kind_view, HandsOut, Lexed}
+use Rattle.kdl_lexer.specs.Tokens.{Token, t_space, NoToken}
 use Rattle.kdl_lexer.specs.declared.lexer.LexFailure.{LexFailure}
 use Rattle.kdl_lexer.specs.declared.lexer.LexFailure.TheVariants.{Faulty, Memory}
 use Rattle.kdl_lexer.specs.declared.lexer.Token.{Token as CodeToken}
 use Rattle.kdl_lexer.proofs.Lexing.TokenUnique.{token_shorter, no_token}
-use Rattle.kdl_control.specs.Internal.Control as control
-use Rattle.kdl_grammar.specs.Internal.Going.{Goes}
-use Rattle.kdl_grammar.specs.Internal.Going as going
+use Rattle.kdl_control.specs.Control as control
+use Rattle.kdl_grammar.specs.Going.{Goes}
+use Rattle.kdl_grammar.specs.Going as going
 use Rattle.kdl_grammar.proofs.Reading.Erased.{a_state}
 use Rattle.kdl_parser.specs.Internal.Answered.{AnswersParts, Finished}
 use Rattle.kdl_grammar.specs.Internal.Machine.{State, step, finish, initial, Runs}

@@ -3,7 +3,7 @@ use Rattle.std.proofs.Common.{◌≡◌, Bool, true, false, List, Option, Some, 
 use Rattle.kdl_text.specs.Chars.{Text}
 use Rattle.kdl_entry.specs.Internal.Items as items
 use Rattle.kdl_entry.specs.Internal.Items.{KeyParts, Stage, opened, named, closed, keyed}
-use Rattle.kdl_lexer.specs.Internal.Tokens.{Token, space}
+use Rattle.kdl_lexer.specs.Tokens.{Token, space}
 use Rattle.kdl_entry.specs.Tree.{Identifier}
 use Rattle.kdl_grammar.specs.Internal.Machine.{Under, Frame, at, step}
 use Rattle.kdl_parser.specs.Internal.Building.{item_phase, item_answer, held}

@@ -4,7 +4,7 @@ use Rattle.kdl_text.specs.Chars.{Text}
 use Rattle.kdl_text.specs.Internal.Here.{Spot}
 use Rattle.kdl_entry.specs.Internal.Items as items
 use Rattle.kdl_entry.specs.Internal.Items.{opened, named, closed, keyed}
-use Rattle.kdl_lexer.specs.Internal.Tokens.{Token}
+use Rattle.kdl_lexer.specs.Tokens.{Token}
 use Rattle.kdl_lexer.specs.declared.lexer.LexFailure.{LexFailure}
 use Rattle.kdl_lexer.specs.declared.lexer.LexFailure.TheVariants.{Faulty, Memory}
 use Rattle.kdl_grammar.specs.Internal.Machine.{State, Under, Frame, at, step, finish}

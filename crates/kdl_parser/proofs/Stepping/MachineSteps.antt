@@ -4,7 +4,7 @@ use Rattle.kdl_text.specs.Chars.{Text, Star, Plus, plus}
 use Rattle.kdl_text.specs.Chars.Star.{none, more}
 use Rattle.kdl_text.specs.Trivia.{NodeSpace}
 use Rattle.kdl_lexer.specs.Internal.Handed.{Cuts, one, spaces}
-use Rattle.kdl_lexer.specs.Internal.Tokens.{Token, space, BeginsToken, t_space}
+use Rattle.kdl_lexer.specs.Tokens.{Token, space, BeginsToken, t_space}
 use Rattle.kdl_lexer.proofs.Lexing.TokenUnique.{token_det, no_token}
 use Rattle.kdl_grammar.specs.Internal.Machine.{fresh, spaced, later, gap, in_node, State, at, step, finish, Runs, stops, reads}
 use Rattle.kdl_parser.specs.Internal.Building.{held}

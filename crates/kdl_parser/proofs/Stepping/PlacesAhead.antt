@@ -1,7 +1,7 @@
 -- Where the place under way and the place in a type or after `=` began lies before the text that is left.
 use Rattle.std.proofs.Common.{◌≡◌, true, false, List, [], ◌∷◌, ◌++◌, Option, Some, None, option_map, refl, sym, ap, subst, ◌∙◌, append_assoc}
 use Rattle.kdl_text.specs.Chars.{Text}
-use Rattle.kdl_lexer.specs.Internal.Tokens.{Token, space, newline, slashdash, string, value, left, right, opening, closing, equals, semicolon}
+use Rattle.kdl_lexer.specs.Tokens.{Token, space, newline, slashdash, string, value, left, right, opening, closing, equals, semicolon}
 use Rattle.kdl_grammar.specs.Internal.Machine.{Slot, no_name, for_name, no_value, for_value, pending, fresh, spaced, later, Phase, gap, node_slashdash, type_open, type_name, type_done, in_node, property, entry_slashdash, block_slashdash, kept, kept_slashdash, Frame, in_block, in_dropped, in_later, State, at, origin, moved, popped, step}
 use Rattle.kdl_parser.specs.Internal.Building.{held, EndsIn, phase_placed, Placed}
 use Rattle.kdl_grammar.specs.Tree.{Nodes}

@@ -12,7 +12,7 @@ use Rattle.kdl_value.specs.Data.{Value}
 use Rattle.kdl_lexer.specs.Internal.Handed.{HandsOut}
 use Rattle.kdl_entry.specs.Internal.Items as items
 use Rattle.kdl_entry.specs.Internal.Items.{goes, gives, opened, named, closed, keyed}
-use Rattle.kdl_lexer.specs.Internal.Tokens.{Token, space, string, value, left, right}
+use Rattle.kdl_lexer.specs.Tokens.{Token, space, string, value, left, right}
 use Rattle.kdl_entry.specs.Tree.{Identifier}
 use Rattle.kdl_lexer.specs.declared.lexer.LexFailure.{LexFailure}
 use Rattle.kdl_lexer.specs.declared.lexer.LexFailure.TheVariants.{Faulty, Memory}

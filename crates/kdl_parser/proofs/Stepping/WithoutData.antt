@@ -4,10 +4,10 @@ use Rattle.kdl_text.specs.Chars.{Text, Star, plus}
 use Rattle.kdl_text.specs.Chars.Star.{none as no_star, more}
 use Rattle.kdl_text.specs.Trivia.{NodeSpace}
 use Rattle.kdl_lexer.specs.Internal.Handed.{Cuts, one, spaces}
-use Rattle.kdl_lexer.specs.Internal.Tokens.{Token, space, t_space, BeginsToken}
-use Rattle.kdl_control.specs.Internal.Control as c
-use Rattle.kdl_control.specs.Internal.Control.{Control}
-use Rattle.kdl_grammar.specs.Internal.Going.{Goes, here, goes}
+use Rattle.kdl_lexer.specs.Tokens.{Token, space, t_space, BeginsToken}
+use Rattle.kdl_control.specs.Control as c
+use Rattle.kdl_control.specs.Control.{Control}
+use Rattle.kdl_grammar.specs.Going.{Goes, here, goes}
 use Rattle.kdl_grammar.specs.Internal.Machine.{pending, fresh, spaced, later, Phase, type_name, type_done, in_node, property, Frame, in_block, in_dropped, in_later, State, at, step}
 use Rattle.kdl_grammar.proofs.Reading.Erased.{a_phase, a_stack, a_state, erased}
 use Rattle.kdl_parser.specs.Internal.Building.{phase_held, frame_held, held}

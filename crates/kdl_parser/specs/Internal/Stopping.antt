@@ -7,10 +7,10 @@ use Rattle.kdl_text.specs.declared.error.KdlError.{KdlError}
 use Rattle.kdl_text.specs.declared.error.ParseFailure.{ParseFailure}
 use Rattle.kdl_text.specs.declared.error.ParseFailure.TheVariants.{Syntax, Memory}
 use Rattle.kdl_text.specs.declared.span.SourceSpan.{SourceSpan}
-use Rattle.kdl_control.specs.Internal.Control.{Control, at, gap, step}
+use Rattle.kdl_control.specs.Control.{Control, at, gap, step}
 use Rattle.kdl_entry.specs.Internal.EntryReading.{EndsIn}
-use Rattle.kdl_grammar.specs.Internal.Going.{Goes}
-use Rattle.kdl_lexer.specs.Internal.Tokens.{Token, BeginsToken}
+use Rattle.kdl_grammar.specs.Going.{Goes}
+use Rattle.kdl_lexer.specs.Tokens.{Token, BeginsToken}
 use Rattle.kdl_parser.specs.Earliest.{BeginsNone, IsNear}
 
 -- no token begins here, or one that may not come

@@ -1,8 +1,8 @@
--- How far the machine without data reads in a text.
+-- How far the control reads in a text.
 use Rattle.std.specs.Prelude.{◌≡◌, false, [], ◌∷◌, ◌++◌, Some, None}
 use Rattle.kdl_text.specs.Chars.{Text, begins}
-use Rattle.kdl_lexer.specs.Internal.Tokens.{Token, BeginsToken}
-use Rattle.kdl_control.specs.Internal.Control.{Control, at, gap, step}
+use Rattle.kdl_lexer.specs.Tokens.{Token, BeginsToken}
+use Rattle.kdl_control.specs.Control.{Control, at, gap, step}
 
 -- it goes from one state to the other by the tokens of s up to the rest r
 pub data Goes : Control → Text → Control → Text → Type 0 where

@@ -1,5 +1,5 @@
 -- Tokens, and the cut of a text into tokens.
-use Rattle.std.specs.Prelude.{List, [], ◌∷◌}
+use Rattle.std.specs.Prelude.{◌≡◌, List, [], ◌∷◌}
 use Rattle.kdl_text.specs.Chars.{Text}
 use Rattle.kdl_text.specs.Trivia.{NodeSpace, Break}
 use Rattle.kdl_value.specs.Data.{Value}
@@ -39,3 +39,8 @@ pub data BeginsToken : Text → Token → Text → Type 0 where
 pub data Lexes : Text → List Token → Type 0 where
   done : Lexes [] []
   next : {s r : Text} {k : Token} {ks : List Token} → BeginsToken s k r → Lexes r ks → Lexes s (k ∷ ks)
+
+-- no token begins at s, which is not the end of the text
+pub record NoToken (s : Text) : Type 0 where
+  pub begun : s ≡ [] → ⊥
+  pub none : (r : Text) (k : Token) → BeginsToken s k r → ⊥

@@ -1,6 +1,6 @@
 -- The control grammar: which tokens may come, in the present language.
 use Rattle.std.specs.Prelude.{Bool, true, false, List, [], ◌∷◌, Option, Some, None}
-use Rattle.kdl_lexer.specs.Internal.Tokens.{Token, space, newline, slashdash, string, value, left, right, opening, closing, equals, semicolon}
+use Rattle.kdl_lexer.specs.Tokens.{Token, space, newline, slashdash, string, value, left, right, opening, closing, equals, semicolon}
 
 -- in a node before its block: directly after the name or an entry, which may be a key, or after spaces, or after a slashdashed block
 pub data Spot : Type 0 where
