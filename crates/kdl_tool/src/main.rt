@@ -12,7 +12,7 @@ use std::io::ErrorKind;
 use std::process::ExitCode;
 use std::{env, io};
 use tool::{Outcome, run};
-use watched::Watched;
+use tool::watched::Watched;
 
 /// Runs the tool with the arguments, standard input and standard output, and writes to standard error why it stopped.
 fn main(rt: HostRuntime) -> ExitCode {

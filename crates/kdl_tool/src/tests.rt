@@ -10,7 +10,7 @@ use std::process::Abort;
 use std::rc::RcStr;
 use std::test::Fail;
 use tool::Outcome;
-use watched::Watched;
+use tool::watched::Watched;
 
 /// Asserts that the two values are equal. The message shows both, and the case.
 pub fn equal<T: PartialEq + Debug, C: Debug>(rt: &impl Abort, found: &T, wanted: &T, case: &C) {

@@ -6,7 +6,7 @@ use std::alloc::{AllocError, Global};
 use std::process::Abort;
 use std::test::Fail;
 use tool::{Outcome, run};
-use watched::Watched;
+use tool::watched::Watched;
 
 /// What a run reads: the input, how many bytes a read returns, and which read fails.
 #[derive(Clone, Copy)]

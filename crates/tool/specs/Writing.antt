@@ -1,7 +1,7 @@
 -- What a writing function writes, by what it returns.
 use Rattle.std.specs.Prelude.{◌≡◌, ℕ, ◌<◌, Bool, true, false, List, length, take, Option}
 use Rattle.std.specs.Io.KnownBytes.{Appends}
-use Rattle.watched.specs.declared.Watched.{Watched}
+use Rattle.tool.specs.declared.watched.Watched.{Watched}
 
 -- with true all the bytes are written, and no write failed; with false only a prefix is written, not all, and a write failed
 abbrev pub Writes : {W : Type 0} → (W → Option (List ℕ)) → Watched W → Watched W → List ℕ → Bool → Type 0

@@ -10,10 +10,12 @@ ghost use Rattle.tool.specs.Runs.{IsUsage, IsInput, Output, Ran, WritesNothing, 
 ghost use Rattle.tool.specs.Reports.{status_of, report_of, line, diagnostic_line, lines_of};
 ghost use Rattle.tool.specs.Writing.{Writes};
 
+pub mod watched;
+
+use crate::watched::Watched;
 use kdl::{KdlDiagnostic, KdlDocument, KdlError, ParseFailure};
 use std::alloc::{AllocError, Global};
 use std::io::{Read, Write};
-use watched::Watched;
 
 /// The number of bytes requested at a time.
 const READ_SIZE: usize = 65536;

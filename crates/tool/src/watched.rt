@@ -1,12 +1,11 @@
 //! A reader or a writer with two flags: whether a call on it failed, and whether it is read to its end.
 //!
-//! The flags are private to this crate, and only `read` and `write` set them.
-#![tactic(auto)]
+//! The flags are private to this module, and only `read` and `write` set them.
 
 ghost use Rattle.std.specs.Prelude.{◌≡◌, ◌||◌, ◌==◌, false, length, is_err, if◌then◌else◌};
 ghost use Rattle.std.specs.Io.{ReadsAtMost, WritesAtMost};
 ghost use Rattle.std.specs.Io.KnownBytes.{Keeps, ReadConsumes, WriteAppends};
-ghost use Rattle.watched.specs.Flags.{gave_none, is_refused};
+ghost use Rattle.tool.specs.Flags.{gave_none, is_refused};
 
 use std::io;
 use std::io::{Read, Write};
