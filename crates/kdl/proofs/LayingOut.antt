@@ -3,6 +3,6 @@
 -- Blocks that are laid out, step by step.
 pub mod BlockSteps
 -- Nodes and documents whose parts were laid out.
-pub mod PartsLaid
+pub mod PartsSpaced
 -- What the calls that lay out promise.
 pub mod LayoutCalls

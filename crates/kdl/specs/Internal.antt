@@ -7,7 +7,7 @@ pub mod Due
 -- The newlines that nodes lack at their ends.
 pub mod Ends
 -- How far layout has come while some blocks are open.
-pub mod Laid
+pub mod Spacing
 -- What is left to print when some of the nodes and blocks are printed.
 pub mod Left
 -- Which copies there are when some of the nodes and blocks are copied.

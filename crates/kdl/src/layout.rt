@@ -1,6 +1,6 @@
 //! How nodes are laid out: with a stack on the heap and without recursion, however deep their blocks are.
 
-ghost use Rattle.kdl.specs.Internal.Laid.{AreLaid, GoesOn, IsUnderWay, whole};
+ghost use Rattle.kdl.specs.Internal.Spacing.{NodesAreSpaced, GoesOn, IsUnderWay, whole};
 ghost use Rattle.kdl.specs.Tree.{node_tree, nodes_tree};
 ghost use Rattle.kdl_fmt.specs.Config.{indentation, settings};
 ghost use Rattle.kdl_fmt.specs.Formatted.{bare_node};
@@ -118,7 +118,7 @@ impl Blocks {
         ensures laid { OnOk result ((level : ℕ) (c : Before) (olds : List Node)
             → IsUnderWay layout.now level c olds self.old.above.items self.old.inner
             → (self.new.above.items ≡ [])
-            × AreLaid layout.now level c olds (map node_tree self.new.inner.nodes.items)) }
+            × NodesAreSpaced layout.now level c olds (map node_tree self.new.inner.nodes.items)) }
     {
         'steps: loop {
             if self.inner.at < self.inner.nodes.len() {
@@ -177,7 +177,7 @@ pub(crate) fn lay_out_nodes(
 ) -> Result<(), AllocError>
     ensures kept { map bare_node (map node_tree nodes.new.items) ≡
         map bare_node (map node_tree nodes.old.items) }
-    ensures laid { OnOk result (AreLaid layout.now level first
+    ensures laid { OnOk result (NodesAreSpaced layout.now level first
         (map node_tree nodes.old.items) (map node_tree nodes.new.items)) }
 {
     if nodes.is_empty() {

@@ -2,7 +2,7 @@
 
 ghost use Rattle.kdl_control.specs.Control as control;
 ghost use Rattle.kdl_control.specs.Control.{is_block, is_gap, is_over, is_word};
-ghost use Rattle.kdl_control.specs.Internal.Views.{Moves, control_view, frame_view, move_view, owner_view, phase_view, spot_view};
+ghost use Rattle.kdl_control.specs.Internal.Views.{IsMove, control_view, frame_view, move_view, owner_view, phase_view, spot_view};
 ghost use Rattle.kdl_control.specs.declared.control.Phase.TheVariants.{InNode};
 ghost use Rattle.kdl_lexer.specs.Internal.Handed.{kind_view};
 ghost use Rattle.std.specs.Prelude.{◌≡◌, ◌∷◌, IfOk, List, MatchOption, Some, None, [], true, false, if◌then◌else◌};
@@ -80,7 +80,7 @@ enum Move {
 
 /// What a token does between nodes.
 fn in_gap(kind: &TokenKind) -> Move
-    ensures { Moves control.gap (kind_view kind.now) result }
+    ensures { IsMove control.gap (kind_view kind.now) result }
 {
     match kind {
         TokenKind::Space | TokenKind::Newline => Move::To(Phase::Gap),
@@ -94,7 +94,7 @@ fn in_gap(kind: &TokenKind) -> Move
 
 /// What a token does between nodes, after `/-`.
 fn in_node_slashdash(kind: &TokenKind) -> Move
-    ensures { Moves control.node_slashdash (kind_view kind.now) result }
+    ensures { IsMove control.node_slashdash (kind_view kind.now) result }
 {
     match kind {
         TokenKind::Space | TokenKind::Newline => Move::To(Phase::NodeSlashdash),
@@ -106,7 +106,7 @@ fn in_node_slashdash(kind: &TokenKind) -> Move
 
 /// What a token does after the `(` of a type.
 fn in_type(owner: Owner, kind: &TokenKind) -> Move
-    ensures { Moves (control.type_open (owner_view owner)) (kind_view kind.now) result }
+    ensures { IsMove (control.type_open (owner_view owner)) (kind_view kind.now) result }
 {
     match kind {
         TokenKind::Space => Move::To(Phase::TypeOpen(owner)),
@@ -117,7 +117,7 @@ fn in_type(owner: Owner, kind: &TokenKind) -> Move
 
 /// What a token does after the name of a type.
 fn behind_type_name(owner: Owner, kind: &TokenKind) -> Move
-    ensures { Moves (control.type_name (owner_view owner)) (kind_view kind.now) result }
+    ensures { IsMove (control.type_name (owner_view owner)) (kind_view kind.now) result }
 {
     match kind {
         TokenKind::Space => Move::To(Phase::TypeName(owner)),
@@ -128,7 +128,7 @@ fn behind_type_name(owner: Owner, kind: &TokenKind) -> Move
 
 /// What a token does after the `)` of a type.
 fn behind_type(owner: Owner, kind: &TokenKind) -> Move
-    ensures { Moves (control.type_done (owner_view owner)) (kind_view kind.now) result }
+    ensures { IsMove (control.type_done (owner_view owner)) (kind_view kind.now) result }
 {
     match kind {
         TokenKind::Space => Move::To(Phase::TypeDone(owner)),
@@ -143,7 +143,7 @@ fn behind_type(owner: Owner, kind: &TokenKind) -> Move
 
 /// What a token does after the `=` of a property.
 fn in_property(kind: &TokenKind) -> Move
-    ensures { Moves control.property (kind_view kind.now) result }
+    ensures { IsMove control.property (kind_view kind.now) result }
 {
     match kind {
         TokenKind::Space => Move::To(Phase::Property),
@@ -178,7 +178,7 @@ fn entry(spot: Spot, phase: Phase) -> Move
 
 /// What a token does in a node, before its block.
 fn in_node(spot: Spot, kind: &TokenKind) -> Move
-    ensures { Moves (phase_view (InNode spot)) (kind_view kind.now) result }
+    ensures { IsMove (phase_view (InNode spot)) (kind_view kind.now) result }
 {
     match kind {
         TokenKind::Space => Move::To(Phase::InNode(spaced(spot))),
@@ -202,7 +202,7 @@ fn in_node(spot: Spot, kind: &TokenKind) -> Move
 
 /// What a token does after `/-` in a node, where an entry or a block may follow.
 fn in_entry_slashdash(kind: &TokenKind) -> Move
-    ensures { Moves control.entry_slashdash (kind_view kind.now) result }
+    ensures { IsMove control.entry_slashdash (kind_view kind.now) result }
 {
     match kind {
         TokenKind::Space | TokenKind::Newline => Move::To(Phase::EntrySlashdash),
@@ -216,7 +216,7 @@ fn in_entry_slashdash(kind: &TokenKind) -> Move
 
 /// What a token does after `/-` in a node, where a block may follow.
 fn in_block_slashdash(kind: &TokenKind) -> Move
-    ensures { Moves control.block_slashdash (kind_view kind.now) result }
+    ensures { IsMove control.block_slashdash (kind_view kind.now) result }
 {
     match kind {
         TokenKind::Space | TokenKind::Newline => Move::To(Phase::BlockSlashdash),
@@ -227,7 +227,7 @@ fn in_block_slashdash(kind: &TokenKind) -> Move
 
 /// What a token does after a node's block.
 fn in_kept(kind: &TokenKind) -> Move
-    ensures { Moves control.kept (kind_view kind.now) result }
+    ensures { IsMove control.kept (kind_view kind.now) result }
 {
     match kind {
         TokenKind::Space => Move::To(Phase::Kept),
@@ -240,7 +240,7 @@ fn in_kept(kind: &TokenKind) -> Move
 
 /// What a token does after a `/-` that follows a node's block.
 fn in_kept_slashdash(kind: &TokenKind) -> Move
-    ensures { Moves control.kept_slashdash (kind_view kind.now) result }
+    ensures { IsMove control.kept_slashdash (kind_view kind.now) result }
 {
     match kind {
         TokenKind::Space | TokenKind::Newline => Move::To(Phase::KeptSlashdash),
@@ -251,7 +251,7 @@ fn in_kept_slashdash(kind: &TokenKind) -> Move
 
 /// What the token does in a phase.
 fn token_move(phase: Phase, kind: &TokenKind) -> Move
-    ensures { Moves (phase_view phase) (kind_view kind.now) result }
+    ensures { IsMove (phase_view phase) (kind_view kind.now) result }
 {
     match phase {
         Phase::Gap => in_gap(kind),

@@ -3,7 +3,7 @@ use Rattle.std.proofs.Common.{◌≡◌, List, [], ◌∷◌, ◌++◌, ◌⊎�
 use Rattle.std.specs.Option.{IfSome, option_to_list}
 use Rattle.std.proofs.lemmas.List.Elements.{All-push, All-pop, All-same}
 use Rattle.kdl_text.specs.Chars.{Text}
-use Rattle.kdl_text.specs.Internal.Here.{Here, Spot}
+use Rattle.kdl_text.specs.Internal.Here.{Here, Position}
 use Rattle.kdl_text.specs.Internal.Reading.{Moves}
 use Rattle.kdl_text.specs.Spans.{InText, span_between, bytes}
 use Rattle.kdl_text.specs.declared.span.SourceSpan.{SourceSpan}
@@ -32,7 +32,7 @@ between text a b x y = go (ends_of x.0 a y.0 b (sym x.1 ∙ y.1))
     go (inr z) = (x.0, [], a, x.1 ∙ ap (λ (t : Text). t ++ a) (sym (append-nil x.0)), omega (arith, ap bytes x.1, bytes-append x.0 a), omega (arith, ap bytes z.1, bytes-append z.0 a))
 
 -- the span that the reader takes of two places of its text
-pub span_in : (text : Text) (r : Reader) (a b : Spot) (s : SourceSpan) → IsReaderOf text r → LiesIn text a → LiesIn text b → s ≡ span_between r.whole.rest a.rest b.rest → InText text s
+pub span_in : (text : Text) (r : Reader) (a b : Position) (s : SourceSpan) → IsReaderOf text r → LiesIn text a → LiesIn text b → s ≡ span_between r.whole.rest a.rest b.rest → InText text s
 span_in text r a b s x u v e = subst (λ (z : SourceSpan). InText text z) (sym (e ∙ ap (λ (z : Text). span_between z a.rest b.rest) x.whole)) (between text a.rest b.rest u v)
 
 -- an end of an end of a text
@@ -88,5 +88,5 @@ pub candidates_more : (text : Text) (old new : List Candidate) (c : Candidate) �
 candidates_more text old new c e x y = All-same (λ (c : Candidate). InText text c.fault.span) new (old ++ (c ∷ [])) e (All-push (λ (c : Candidate). InText text c.fault.span) old c x y)
 
 -- a place that is another one
-pub same_lies : (text : Text) (a b : Spot) → a ≡ b → LiesIn text b → LiesIn text a
-same_lies text a b e x = subst (λ (z : Spot). LiesIn text z) (sym e) x
+pub same_lies : (text : Text) (a b : Position) → a ≡ b → LiesIn text b → LiesIn text a
+same_lies text a b e x = subst (λ (z : Position). LiesIn text z) (sym e) x

@@ -5,7 +5,7 @@ use Rattle.std.proofs.lemmas.Str.{len_utf8_bounds}
 use Rattle.std.specs.Char.{len_utf8}
 use Rattle.std.specs.Prelude.{Option, Some, None}
 use Rattle.kdl_text.specs.Chars.{Text, begins, starts, is_newline_char, Newline, crlf, one}
-use Rattle.kdl_text.specs.Internal.Here.{Here, Spot, Skips, Ran, AteTwo, first, tail, first_len, looked, stepped}
+use Rattle.kdl_text.specs.Internal.Here.{Here, Position, Skips, Ran, AteTwo, first, tail, first_len, looked, stepped}
 use Rattle.kdl_text.specs.Spans.{bytes}
 use Rattle.kdl_text.specs.Strings.{Run}
 use Rattle.kdl_text.specs.Internal.Reading.{Moves, ReadsNewline}
@@ -52,21 +52,21 @@ pub stepped_begins : (c : ℕ) (a b : Here) → begins c a.rest ≡ true → b �
 stepped_begins c a b h e = stepped_past c a b (begins_is a.rest c h) e
 
 -- places that were passed
-pub passed_here : (a m b : Here) (s : Spot) → s.rest ≡ m.rest → s.at ≡ m.at → Moves a m → Moves m b → Passed a s b
+pub passed_here : (a m b : Here) (s : Position) → s.rest ≡ m.rest → s.at ≡ m.at → Moves a m → Moves m b → Passed a s b
 passed_here a m b s r t v w = record {
   before = (v.piece.0, v.piece.1 ∙ ap (λ z. v.piece.0 ++ z) (sym r));
   behind = (w.piece.0, r ∙ w.piece.1);
   at = ap (λ z. z + bytes s.rest) t ∙ ap (λ z. m.at + bytes z) r ∙ v.at;
 }
 
-pub passed_on : (a m b : Here) (s : Spot) → Passed a s m → Moves m b → Passed a s b
+pub passed_on : (a m b : Here) (s : Position) → Passed a s m → Moves m b → Passed a s b
 passed_on a m b s p w = record {
   before = p.before;
   behind = (p.behind.0 ++ w.piece.0, p.behind.1 ∙ ap (λ z. p.behind.0 ++ z) w.piece.1 ∙ sym (append_assoc p.behind.0 w.piece.0 b.rest));
   at = p.at;
 }
 
-pub passed_from : (a m b : Here) (s : Spot) → Moves a m → Passed m s b → Passed a s b
+pub passed_from : (a m b : Here) (s : Position) → Moves a m → Passed m s b → Passed a s b
 passed_from a m b s v p = record {
   before = (v.piece.0 ++ p.before.0, v.piece.1 ∙ ap (λ z. v.piece.0 ++ z) p.before.1 ∙ sym (append_assoc v.piece.0 p.before.0 s.rest));
   behind = p.behind;

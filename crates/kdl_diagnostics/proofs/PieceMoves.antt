@@ -4,7 +4,7 @@ use Rattle.std.proofs.lemmas.Str.{len_utf8_bounds}
 use Rattle.std.specs.Prelude.{Option, Some, None}
 use Rattle.std.specs.Option.{IfSome}
 use Rattle.kdl_text.specs.Chars.{Text}
-use Rattle.kdl_text.specs.Internal.Here.{Here, Spot, Took}
+use Rattle.kdl_text.specs.Internal.Here.{Here, Position, Took}
 use Rattle.kdl_text.specs.Spans.{bytes}
 use Rattle.kdl_text.specs.Internal.Reading.{Moves}
 use Rattle.kdl_diagnostics.specs.Internal.Reading.{OnUnclosed, OnFound, FindsAlso, IsEnd, Stands, Spans, Begins, gone}
@@ -42,7 +42,7 @@ stands_word s p m n e is_start is_next is_comment is_backslash is_end spans back
     stands_at s p m n e.comment is_start is_next is_comment spans (b.0, b.1 ∙ ap (λ z. b.0 ++ z.rest) (sym is_end)) back end.comment (subst (λ z. IfSome z (λ b. (q : Text) × (s.place.rest ≡ q ++ b.rest))) (sym is_backslash) tt)
 
 -- a place that may be there, from further back
-pub ahead_if : (s t : Text) (o : Option Spot) → (p : Text) × (s ≡ p ++ t) → IfSome o (λ b. (p : Text) × (t ≡ p ++ b.rest)) → IfSome o (λ b. (p : Text) × (s ≡ p ++ b.rest))
+pub ahead_if : (s t : Text) (o : Option Position) → (p : Text) × (s ≡ p ++ t) → IfSome o (λ b. (p : Text) × (t ≡ p ++ b.rest)) → IfSome o (λ b. (p : Text) × (s ≡ p ++ b.rest))
 ahead_if s t None x y = tt
 ahead_if s t (Some b) x y = behind_then s t b.rest x y
 

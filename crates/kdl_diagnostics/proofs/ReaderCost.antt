@@ -3,7 +3,7 @@ use Rattle.std.proofs.Common.{◌≡◌, ℕ, ◌+◌, ◌*◌, ◌<◌, ◌≤�
 use Rattle.std.specs.Prelude.{Option, Some, None}
 use Rattle.std.specs.Str.{chars, IsUtf8}
 use Rattle.kdl_text.specs.Chars.{Text}
-use Rattle.kdl_text.specs.Internal.Here.{Here, Spot, Took, looked}
+use Rattle.kdl_text.specs.Internal.Here.{Here, Position, Took, looked}
 use Rattle.kdl_text.specs.Spans.{bytes, raise}
 use Rattle.kdl_text.specs.Internal.Reading.{Moves}
 use Rattle.kdl_text.proofs.Looking.MovesJoin.{fewer_bytes, stays}
@@ -21,7 +21,7 @@ bounded_one a b e m k s = record { most = omega (arith, s); counts = omega (arit
 same_rest : (text s r : Text) → r ≡ s → ((p : Text) × (text ≡ p ++ s)) → (p : Text) × (text ≡ p ++ r)
 same_rest text s r e x = (x.0, x.1 ∙ ap (λ (t : Text). x.0 ++ t) (sym e))
 
-pub looked_lies : (text : Text) (place : Spot) (a b : Here) (steps : ℕ) → LiesIn text place → a ≡ record { rest = place.rest; at = place.at; steps = steps } → b ≡ looked a → (p : Text) × (text ≡ p ++ b.rest)
+pub looked_lies : (text : Text) (place : Position) (a b : Here) (steps : ℕ) → LiesIn text place → a ≡ record { rest = place.rest; at = place.at; steps = steps } → b ≡ looked a → (p : Text) × (text ≡ p ++ b.rest)
 looked_lies text place a b steps x e f = same_rest text place.rest b.rest (ap (λ (z : Here). z.rest) f ∙ ap (λ (z : Here). z.rest) e) x
 
 -- a character that was taken, if there was one
@@ -29,7 +29,7 @@ pub took_lies : (text : Text) (c : Option ℕ) (a b : Here) → ((p : Text) × (
 took_lies text None a b x t = same_rest text a.rest b.rest (ap (λ (z : Here). z.rest) t.1) x
 took_lies text (Some c) a b x t = (x.0 ++ (c ∷ []), x.1 ∙ ap (λ (z : Text). x.0 ++ z) t.0 ∙ sym (append_assoc x.0 (c ∷ []) b.rest))
 
-pub place_lies : (text : Text) (a : Here) (place : Spot) → ((p : Text) × (text ≡ p ++ a.rest)) → place.rest ≡ a.rest → LiesIn text place
+pub place_lies : (text : Text) (a : Here) (place : Position) → ((p : Text) × (text ≡ p ++ a.rest)) → place.rest ≡ a.rest → LiesIn text place
 place_lies text a place x e = same_rest text a.rest place.rest e x
 
 -- how far the loop over the pieces is: until reading is over, a last turn is to come

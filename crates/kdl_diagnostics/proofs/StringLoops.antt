@@ -2,7 +2,7 @@
 use Rattle.std.proofs.Common.{◌≡◌, ℕ, ◌+◌, ◌-◌, ◌*◌, ◌≤◌, ◌++◌, Bool, ap, arith}
 use Rattle.std.specs.Prelude.{Option}
 use Rattle.kdl_text.specs.Chars.{Text}
-use Rattle.kdl_text.specs.Internal.Here.{Here, Spot, Skips, looked}
+use Rattle.kdl_text.specs.Internal.Here.{Here, Position, Skips, looked}
 use Rattle.kdl_text.specs.Spans.{bytes}
 use Rattle.kdl_text.specs.Internal.Reading.{Moves, Costs}
 use Rattle.kdl_text.proofs.Looking.MovesJoin.{stays, moves_then, moves_stayed, stayed_looked, bytes-append}
@@ -23,8 +23,8 @@ pub record AtUnit (f a b e : Here) (kept : Option Found) : Type 0 where
   pub moves : Moves f e
   pub turn : Moves a e
   pub most : Most 1 2 a e
-  pub place : (s : Spot) → s.rest ≡ b.rest → s.at ≡ b.at → Passed f s e
-  pub here : (s : Spot) → s.rest ≡ e.rest → s.at ≡ e.at → Passed f s e
+  pub place : (s : Position) → s.rest ≡ b.rest → s.at ≡ b.at → Passed f s e
+  pub here : (s : Position) → s.rest ≡ e.rest → s.at ≡ e.at → Passed f s e
 
 pub at_unit : (k c : ℕ) (f a b e : Here) (kept : Option Found) (p : ℕ → Bool) → Scanned k c f kept a → Skips p a b → e ≡ looked b → AtUnit f a b e kept
 at_unit k c f a b e kept p i (run, r) l =
@@ -40,6 +40,6 @@ at_unit k c f a b e kept p i (run, r) l =
     }
 
 -- a string that is read once more, in a segment of the text from the place on
-pub read_once_more : (c : ℕ) (s : Spot) (a i o e : Here) (place : Spot) (x : Text) → s.rest ≡ x ++ a.rest → i ≡ record { rest = x; at = 0; steps = a.steps } → Costs 4 c i o → e ≡ record { rest = place.rest; at = place.at; steps = o.steps }
+pub read_once_more : (c : ℕ) (s : Position) (a i o e : Here) (place : Position) (x : Text) → s.rest ≡ x ++ a.rest → i ≡ record { rest = x; at = 0; steps = a.steps } → Costs 4 c i o → e ≡ record { rest = place.rest; at = place.at; steps = o.steps }
     → e.steps ≤ a.steps + 5 * (bytes s.rest - bytes a.rest) + c
 read_once_more c s a i o e place x t is k back = omega (arith, ap bytes t, bytes-append x a.rest, ap (λ y. y.steps) is, ap (λ y. bytes y.rest) is, k.most, ap (λ y. y.steps) back)

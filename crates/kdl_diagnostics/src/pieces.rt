@@ -4,7 +4,7 @@
 
 ghost use Rattle.kdl_diagnostics.specs.Internal.Reading.{Begins, FindsAlso, IsPiece, Most, MostFrom, NoEarlier, OnFound, Spans, Stands, WentPast, gone};
 ghost use Rattle.kdl_text.specs.Chars.{Text, is_identifier_char, is_number_sign, starts};
-ghost use Rattle.kdl_text.specs.Internal.Here.{Ahead, Behind as Follows, Returned, Spot, first};
+ghost use Rattle.kdl_text.specs.Internal.Here.{Ahead, Behind as Follows, Returned, Position, first};
 ghost use Rattle.kdl_text.specs.Spans.{bytes};
 ghost use Rattle.kdl_text.specs.Internal.Reading.{Moves};
 ghost use Rattle.std.specs.Prelude.{◌≡◌, ◌+◌, ◌*◌, ◌≤◌, ◌++◌, true, IfOk, IfSome};
@@ -112,7 +112,7 @@ fn plain<'a>(kind: PieceKind, start: Start<'a>) -> Piece<'a>
 /// An unclosed block comment.
 fn unclosed<'a>(comment: Unclosed<'a>) -> Piece<'a>
     requires { Ahead comment.start comment.end }
-    ensures stands { (from : Spot) → Ahead from comment.entry.start → Stands from.rest result }
+    ensures stands { (from : Position) → Ahead from comment.entry.start → Stands from.rest result }
     ensures kind { result.kind ≡ PieceKind.Comment }
 {
     Piece {

@@ -118,11 +118,11 @@ pub struct Checkpoint<'a> {
 }
 
 impl<'a> Model for Checkpoint<'a> {
-    ghost use Rattle.kdl_text.specs.Internal.Here.{Spot};
+    ghost use Rattle.kdl_text.specs.Internal.Here.{Position};
     ghost use Rattle.std.specs.Prelude.{◌+◌, ◌<◌, ◌^◌, length};
     ghost use Rattle.std.specs.Str.{chars};
 
-    ghost Value = { Spot };
+    ghost Value = { Position };
 
     ghost view = { λ c. record { rest = chars c.rest.now; at = c.at } };
 

@@ -24,7 +24,7 @@ abbrev pub IsNotDue : KdlNode → Type 0
 IsNotDue n = is_due n ≡ false
 
 -- a document that is gone over: the first nodes are cleared, and the others are due
-pub record Spot (here : KdlDocument) (done left : List KdlNode) : Type 0 where
+pub record ClearedSoFar (here : KdlDocument) (done left : List KdlNode) : Type 0 where
   pub nodes : (out-KdlDocument here).nodes.items ≡ done ++ left
   pub format : (out-KdlDocument here).format ≡ None
   pub cleared : All IsCleared done
@@ -55,7 +55,7 @@ pub data Whole : Option KdlDocument → Document → Document → Type 0 where
 pub record Walk (here : KdlDocument) (above : Option KdlDocument) (at : ℕ) (w : Document) : Type 0 where
   pub done : List KdlNode
   pub left : List KdlNode
-  pub spot : Spot here done left
+  pub spot : ClearedSoFar here done left
   pub place : length done ≡ at
   pub whole : Whole above (become here done left) w
 
@@ -128,7 +128,7 @@ all_due (x ∷ xs) (y ∷ ys) e =
     let b : map node_tree xs ≡ map due ys = cc in
     All-cons IsDue x xs (sym (format_is x) ∙ ap (λ t. is_some (tree_format t)) a ∙ due_format y) (all_due xs ys b)
 
-due_spot : (old new : KdlDocument) → BecomesDue old new → Spot new [] (out-KdlDocument new).nodes.items
+due_spot : (old new : KdlDocument) → BecomesDue old new → ClearedSoFar new [] (out-KdlDocument new).nodes.items
 due_spot old new m = record {
   nodes = refl;
   format = m.format;
@@ -159,11 +159,11 @@ pub record AtNode (here : KdlDocument) (above : Option KdlDocument) (at : ℕ) (
   pub done : List KdlNode
   pub n : KdlNode
   pub left : List KdlNode
-  pub spot : Spot here done (n ∷ left)
+  pub spot : ClearedSoFar here done (n ∷ left)
   pub place : length done ≡ at
   pub whole : Whole above (become here done (n ∷ left)) w
 
-at_first : (here : KdlDocument) (above : Option KdlDocument) (at : ℕ) (w : Document) (done left : List KdlNode) → Spot here done left → length done ≡ at → Whole above (become here done left) w
+at_first : (here : KdlDocument) (above : Option KdlDocument) (at : ℕ) (w : Document) (done left : List KdlNode) → ClearedSoFar here done left → length done ≡ at → Whole above (become here done left) w
     → at < length (out-KdlDocument here).nodes.items → AtNode here above at w
 at_first here above at w done [] s p k h = absurd (omega (arith, ap length s.nodes, length-append done [], p))
 at_first here above at w done (n ∷ left) s p k h = record { done = done; n = n; left = left; spot = s; place = p; whole = k }
@@ -276,7 +276,7 @@ pub record Finished (here : KdlDocument) (above : Option KdlDocument) (w : Docum
   pub cleared : cleared_document (document_tree here) ≡ document_tree here
   pub whole : Whole above (document_tree here) w
 
-at_last : (here : KdlDocument) (above : Option KdlDocument) (at : ℕ) (w : Document) (done left : List KdlNode) → Spot here done left → length done ≡ at → Whole above (become here done left) w
+at_last : (here : KdlDocument) (above : Option KdlDocument) (at : ℕ) (w : Document) (done left : List KdlNode) → ClearedSoFar here done left → length done ≡ at → Whole above (become here done left) w
     → length (out-KdlDocument here).nodes.items ≤ at → Finished here above w
 at_last here above at w done (n ∷ left) s p k h = absurd (omega (arith, ap length s.nodes, length-append done (n ∷ left), p))
 at_last here above at w done [] s p k h =

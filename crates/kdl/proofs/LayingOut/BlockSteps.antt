@@ -12,7 +12,7 @@ use Rattle.kdl_parts.specs.Formats.{document_format_tree}
 use Rattle.kdl.specs.Change.{with_nodes}
 use Rattle.kdl.specs.Internal.Count.{count_left}
 use Rattle.kdl.specs.Iterators.{child_nodes, nodes_in}
-use Rattle.kdl.specs.Internal.Laid.{filled_block, filled, with_at, outermost, whole, Laid, PassesAt, AreLaid, Partly, PartlyOpen, LaidBut, IsAtLevel, IsUnderWay, GoesOn}
+use Rattle.kdl.specs.Internal.Spacing.{filled_block, filled, with_at, outermost, whole, NodeIsSpaced, PassesAt, NodesAreSpaced, Partly, PartlyOpen, IsSpacedBut, IsAtLevel, IsUnderWay, GoesOn}
 use Rattle.kdl.specs.Tree.{head_tree, node_tree, document_tree}
 use Rattle.kdl.specs.declared.node.KdlNode.{KdlNode}
 use Rattle.kdl.specs.declared.document.KdlDocument.{KdlDocument}
@@ -62,9 +62,9 @@ node_below n m o e f =
 
 -- it is laid out where these are
 pub laid_below : {E : Type 0} (r : Result (Unit {0}) E) (l : Layout) (level : ℕ) (c first : Before) (n n' m : KdlNode) (o : Option KdlDocument) → node_tree m ≡ filled n' (map node_tree (nodes_in o)) → child_nodes n' ≡ child_nodes n
-    → LaidBut l level c (node_tree n) first (map node_tree (child_nodes n)) n' → IfOk r (λ _. AreLaid l (level + 1) first (map node_tree (child_nodes n')) (map node_tree (nodes_in o)))
-    → IfOk r (λ _. Laid l level c (node_tree n) (node_tree m))
-laid_below (Ok u) l level c first n n' m o e b f z = rw e (f (map node_tree (nodes_in o)) (subst (λ x. AreLaid l (level + 1) first (map node_tree x) (map node_tree (nodes_in o))) b z))
+    → IsSpacedBut l level c (node_tree n) first (map node_tree (child_nodes n)) n' → IfOk r (λ _. NodesAreSpaced l (level + 1) first (map node_tree (child_nodes n')) (map node_tree (nodes_in o)))
+    → IfOk r (λ _. NodeIsSpaced l level c (node_tree n) (node_tree m))
+laid_below (Ok u) l level c first n n' m o e b f z = rw e (f (map node_tree (nodes_in o)) (subst (λ x. NodesAreSpaced l (level + 1) first (map node_tree x) (map node_tree (nodes_in o))) b z))
 laid_below (Err x) l level c first n n' m o e b f z = z
 
 -- what stays in a block
@@ -119,19 +119,19 @@ with_at_none f (n ∷ ns) (suc i) h = ap (λ x. node_tree n ∷ x) (with_at_none
 
 -- how far the nodes are laid out
 module _ (l : Layout) (level : ℕ) where
-  pub partly_all : (c next : Before) (olds : List Node) (ns : List KdlNode) (i : ℕ) → length ns ≤ i → Partly l level c olds ns i next → AreLaid l level c olds (map node_tree ns)
-  partly_all c next olds [] zero h p = subst (λ (x : List Node). AreLaid l level c x []) p.1 tt
+  pub partly_all : (c next : Before) (olds : List Node) (ns : List KdlNode) (i : ℕ) → length ns ≤ i → Partly l level c olds ns i next → NodesAreSpaced l level c olds (map node_tree ns)
+  partly_all c next olds [] zero h p = subst (λ (x : List Node). NodesAreSpaced l level c x []) p.1 tt
   partly_all c next olds (n ∷ ns) zero h p = absurd (omega arith)
   partly_all c next [] [] (suc i) h p = absurd p
   partly_all c next [] (n ∷ ns) (suc i) h p = absurd p
   partly_all c next (o ∷ olds) [] (suc i) h p = absurd p
   partly_all c next (o ∷ olds) (n ∷ ns) (suc i) h p = (p.0, p.1, p.2, partly_all p.0 next olds ns i (omega arith) p.3)
 
-  pub partly_next : (c next next' : Before) (olds : List Node) (ns : List KdlNode) (i : ℕ) (m d : KdlNode) → i < length ns → Laid l level next (node_tree (get_or ns i d)) (node_tree m) → PassesAt l (node_tree (get_or ns i d)) next'
+  pub partly_next : (c next next' : Before) (olds : List Node) (ns : List KdlNode) (i : ℕ) (m d : KdlNode) → i < length ns → NodeIsSpaced l level next (node_tree (get_or ns i d)) (node_tree m) → PassesAt l (node_tree (get_or ns i d)) next'
       → Partly l level c olds ns i next → Partly l level c olds (set ns i m) (suc i) next'
   partly_next c next next' olds [] i m d h w q p = absurd (omega arith)
   partly_next c next next' olds (n ∷ ns) zero m d h w q p =
-      subst (λ (x : List Node). Partly l level c x (m ∷ ns) 1 next') p.1 (next', subst (λ (x : Before). Laid l level x (node_tree n) (node_tree m)) p.0 w, q, (refl, refl))
+      subst (λ (x : List Node). Partly l level c x (m ∷ ns) 1 next') p.1 (next', subst (λ (x : Before). NodeIsSpaced l level x (node_tree n) (node_tree m)) p.0 w, q, (refl, refl))
   partly_next c next next' [] (n ∷ ns) (suc i) m d h w q p = absurd p
   partly_next c next next' (o ∷ olds) (n ∷ ns) (suc i) m d h w q p = (p.0, p.1, p.2, partly_next p.0 next next' olds ns i m d (omega arith) w q p.3)
 
@@ -142,7 +142,7 @@ module _ (l : Layout) (level : ℕ) where
   partly_open Open c next next' [] (n ∷ ns) (suc i) m d h w q p = absurd p
   partly_open Open c next next' (o ∷ olds) (n ∷ ns) (suc i) m d h w q p = (p.0, p.1, p.2, partly_open Open p.0 next next' olds ns i m d (omega arith) w q p.3)
 
-  pub partly_closed : (Open : Before → Node → KdlNode → Type 0) (c next : Before) (olds : List Node) (ns : List KdlNode) (i : ℕ) (m d : KdlNode) → ((x : Before) (o : Node) → Open x o (get_or ns i d) → Laid l level x o (node_tree m))
+  pub partly_closed : (Open : Before → Node → KdlNode → Type 0) (c next : Before) (olds : List Node) (ns : List KdlNode) (i : ℕ) (m d : KdlNode) → ((x : Before) (o : Node) → Open x o (get_or ns i d) → NodeIsSpaced l level x o (node_tree m))
       → PartlyOpen l level c Open olds ns i next → Partly l level c olds (set ns i m) (suc i) next
   partly_closed Open c next [] [] i m d f p = absurd p
   partly_closed Open c next [] (n ∷ ns) i m d f p = absurd p
@@ -167,7 +167,7 @@ module _ (l : Layout) (level : ℕ) where
 
 -- the node at a place is laid out where the nodes in its block are, which are under way
 abbrev Opened : Layout → ℕ → List Block → Block → Before → Node → KdlNode → Type 0
-Opened l level above inner x o n = (first : Before) × (ns : List Node) × LaidBut l level x o first ns n × IsUnderWay l (level + 1) first ns above inner
+Opened l level above inner x o n = (first : Before) × (ns : List Node) × IsSpacedBut l level x o first ns n × IsUnderWay l (level + 1) first ns above inner
 
 -- what a step does under all blocks above
 under_way : (l : Layout) (above tail tail' : List Block) (b b' : Block) → ((level : ℕ) (c : Before) (olds : List Node) → IsUnderWay l level c olds tail b → IsUnderWay l level c olds tail' b')
@@ -181,7 +181,7 @@ under_way l (a ∷ above) tail tail' b b' f level c olds u = (
 
 -- the next node has no nodes in its block
 pub line_on : (l : Layout) (above : List Block) (b b' : Block) (m d : KdlNode) → b.at < length b.nodes.items → b'.nodes.items ≡ set b.nodes.items b.at m → b'.at ≡ b.at + 1 → b'.level ≡ b.level → b'.before ≡ b.before
-    → ((level : ℕ) → IsAtLevel l level b → Laid l level b.next (node_tree (get_or b.nodes.items b.at d)) (node_tree m) × PassesAt l (node_tree (get_or b.nodes.items b.at d)) b'.next)
+    → ((level : ℕ) → IsAtLevel l level b → NodeIsSpaced l level b.next (node_tree (get_or b.nodes.items b.at d)) (node_tree m) × PassesAt l (node_tree (get_or b.nodes.items b.at d)) b'.next)
     → (level : ℕ) (c : Before) (olds : List Node) → IsUnderWay l level c olds above b → IsUnderWay l level c olds above b'
 line_on l above b b' m d h ns at y t laid level c olds u =
     let f : (level : ℕ) (c : Before) (olds : List Node) → IsUnderWay l level c olds [] b → IsUnderWay l level c olds [] b' =
@@ -197,7 +197,7 @@ pub block_on : (l : Layout) (above : List Block) (b outer inner : Block) (ns : L
     → outer.nodes.items ≡ set b.nodes.items b.at m → outer.at ≡ b.at → outer.level ≡ b.level → outer.before ≡ b.before
     → inner.nodes.items ≡ ns → inner.at ≡ 0
     → ((level : ℕ) → IsAtLevel l level b
-    → LaidBut l level b.next (node_tree (get_or b.nodes.items b.at d)) inner.next (map node_tree ns) m × IsAtLevel l (level + 1) inner × PassesAt l (node_tree (get_or b.nodes.items b.at d)) outer.next)
+    → IsSpacedBut l level b.next (node_tree (get_or b.nodes.items b.at d)) inner.next (map node_tree ns) m × IsAtLevel l (level + 1) inner × PassesAt l (node_tree (get_or b.nodes.items b.at d)) outer.next)
     → (level : ℕ) (c : Before) (olds : List Node) → IsUnderWay l level c olds above b → IsUnderWay l level c olds (above ++ outer ∷ []) inner
 block_on l above b outer inner ns m d h is at y t holds first laid level c olds u =
     let f : (level : ℕ) (c : Before) (olds : List Node) → IsUnderWay l level c olds [] b → IsUnderWay l level c olds (outer ∷ []) inner =
@@ -235,7 +235,7 @@ end_on_none l above outer inner b h level c olds u =
     subst (λ z. IsUnderWay l level c olds z b) (append-nil above) (under_way l above (outer ∷ []) [] inner b f level c olds u)
 
 -- nothing is left
-pub all_done : (l : Layout) (above : List Block) (b : Block) (level : ℕ) (c : Before) (olds : List Node) → above ≡ [] → length b.nodes.items ≤ b.at → IsUnderWay l level c olds above b → AreLaid l level c olds (map node_tree b.nodes.items)
+pub all_done : (l : Layout) (above : List Block) (b : Block) (level : ℕ) (c : Before) (olds : List Node) → above ≡ [] → length b.nodes.items ≤ b.at → IsUnderWay l level c olds above b → NodesAreSpaced l level c olds (map node_tree b.nodes.items)
 all_done l above b level c olds e h u =
     let w : IsUnderWay l level c olds [] b = subst (λ z. IsUnderWay l level c olds z b) e u in
     partly_all l level c b.next olds b.nodes.items b.at h w.1
@@ -296,7 +296,7 @@ bare_next above b b' n m h g e is =
 -- what is laid out at a block's level
 -- own is what a node becomes at it, and what comes after it
 abbrev pub Own : Layout → ℕ → Block → Before → Before → KdlNode → KdlNode → Type 0
-Own l level b next first n m = PassesAt l (node_tree n) next × LaidBut l level b.next (node_tree n) first (map node_tree (child_nodes n)) m
+Own l level b next first n m = PassesAt l (node_tree n) next × IsSpacedBut l level b.next (node_tree n) first (map node_tree (child_nodes n)) m
 
 at_level : (l : Layout) (b : Block) (next first : Before) (n m : KdlNode) → (text_of b.before ≡ indentation (settings l.config) b.level → Own l b.level b next first n m) → (level : ℕ) → IsAtLevel l level b → Own l level b next first n m
 at_level l b next first n m own level u = subst (λ k. Own l k b next first n m) u.0 (own (u.1 ∙ ap (indentation (settings l.config)) (sym u.0)))
@@ -313,12 +313,12 @@ pub line_goes_on : (s : Layout) (above : List Block) (b b' : Block) (first : Bef
 line_goes_on s above b b' first n m h g is at l t same none own =
     let empty : child_nodes m ≡ [] = none_is (child_nodes m) none in
     let tree : node_tree m ≡ filled m [] = node_is m ∙ ap (λ z. filled m (map node_tree z)) empty in
-    let laid : (level : ℕ) → IsAtLevel s level b → Laid s level b.next (node_tree n) (node_tree m) × PassesAt s (node_tree n) b'.next =
+    let laid : (level : ℕ) → IsAtLevel s level b → NodeIsSpaced s level b.next (node_tree n) (node_tree m) × PassesAt s (node_tree n) b'.next =
     λ level u. let w = at_level s b b'.next first n m own level u in
-    (subst (λ x. Laid s level b.next (node_tree n) x) (sym tree) (w.1 [] (subst (λ z. AreLaid s (level + 1) first (map node_tree z) []) (sym empty ∙ same) tt)), w.0) in
+    (subst (λ x. NodeIsSpaced s level b.next (node_tree n) x) (sym tree) (w.1 [] (subst (λ z. NodesAreSpaced s (level + 1) first (map node_tree z) []) (sym empty ∙ same) tt)), w.0) in
     let rest : drop b'.at b'.nodes.items ≡ behind b = rw (is, at) (drop-set-lt (b.at + 1) b.nodes.items b.at m (omega arith)) in
     let first : drop b.at b.nodes.items ≡ n ∷ behind b = drop_more b.nodes.items b.at n h ∙ ap (λ x. x ∷ behind b) g in (
-      line_on s above b b' m n h is at l t (λ level u. subst (λ x. Laid s level b.next (node_tree x) (node_tree m) × PassesAt s (node_tree x) b'.next) (sym g) (laid level u)),
+      line_on s above b b' m n h is at l t (λ level u. subst (λ x. NodeIsSpaced s level b.next (node_tree x) (node_tree m) × PassesAt s (node_tree x) b'.next) (sym g) (laid level u)),
       omega (arith, line_counted behind n (behind b) above, ap (λ r. count_left behind r above) rest, ap (λ r. count_left behind r above) first),
     )
 
@@ -371,7 +371,7 @@ module _ (s : Layout) (above : List Block) (b b1 outer inner : Block) (n m x x' 
   block_goes_on first l t own =
       let w = block_is_there (out-KdlNode n).children (subst (λ z. 0 < length z) same some) in
       let laid : (level : ℕ) → IsAtLevel s level b
-      → LaidBut s level b.next (node_tree (get_or b.nodes.items b.at n)) inner.next (map node_tree (child_nodes n)) x' × IsAtLevel s (level + 1) inner × PassesAt s (node_tree (get_or b.nodes.items b.at n)) outer.next =
+      → IsSpacedBut s level b.next (node_tree (get_or b.nodes.items b.at n)) inner.next (map node_tree (child_nodes n)) x' × IsAtLevel s (level + 1) inner × PassesAt s (node_tree (get_or b.nodes.items b.at n)) outer.next =
       λ level u.
       let w = at_level s b outer.next inner.next n m own level u in (
         λ ms z. rw (as_before ms, next) (w.1 ms z),
@@ -391,8 +391,8 @@ module _ (s : Layout) (above : List Block) (b b1 outer inner : Block) (n m x x' 
 pub all_laid : {E : Type 0} (r : Result (Unit {0}) E) (l : Layout) (level : ℕ) (first : Before) (olds xs : List KdlNode) (above above' : List Block) (b b' : Block)
     → above ≡ [] → b.nodes.items ≡ olds → b.at ≡ 0 → b.level ≡ level → text_of b.before ≡ indentation (settings l.config) level → b.next ≡ first
     → map node_tree xs ≡ whole above' b'
-    → IfOk r (λ _. (level : ℕ) (c : Before) (os : List Node) → IsUnderWay l level c os above b → (above' ≡ []) × AreLaid l level c os (map node_tree b'.nodes.items))
-    → IfOk r (λ _. AreLaid l level first (map node_tree olds) (map node_tree xs))
+    → IfOk r (λ _. (level : ℕ) (c : Before) (os : List Node) → IsUnderWay l level c os above b → (above' ≡ []) × NodesAreSpaced l level c os (map node_tree b'.nodes.items))
+    → IfOk r (λ _. NodesAreSpaced l level first (map node_tree olds) (map node_tree xs))
 all_laid (Ok u) l level first olds xs above above' b b' none holds start y t next tree f =
     let begun : IsUnderWay l level first (map node_tree olds) above b =
     subst (λ z. IsUnderWay l level first (map node_tree olds) z b) (sym none) ((y, t), rw (holds, start) (next, refl)) in

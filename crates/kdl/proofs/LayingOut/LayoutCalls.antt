@@ -22,7 +22,7 @@ use Rattle.kdl_fmt.proofs.Formatting.FormattedUnique as layout
 use Rattle.kdl_fmt.proofs.Formatting.PrintsCanonical.{bare_document_data, bare_node_data, document_canonical, node_canonical}
 use Rattle.kdl_fmt.proofs.Formatting.CanonicalReadsBack.{canonical_reads, canonical_node_reads}
 use Rattle.kdl.specs.Layout.{NodeCommentsStay}
-use Rattle.kdl.proofs.LayingOut.PartsLaid.{if_ok}
+use Rattle.kdl.proofs.LayingOut.PartsSpaced.{if_ok}
 
 pub same_data : (x y : Document) → bare_document x ≡ bare_document y → document_data x ≡ document_data y
 same_data x y e = sym (bare_document_data x) ∙ ap document_data e ∙ bare_document_data y

@@ -3,7 +3,7 @@
 ghost use Rattle.kdl.specs.Change.{with_nodes};
 ghost use Rattle.kdl.specs.Finds.{NodeFindsSame};
 ghost use Rattle.kdl.specs.Iterators.{child_nodes, nodes_in};
-ghost use Rattle.kdl.specs.Internal.Laid.{AreLaid, LaidBut, PassesAt, filled_block};
+ghost use Rattle.kdl.specs.Internal.Spacing.{NodesAreSpaced, IsSpacedBut, PassesAt, filled_block};
 ghost use Rattle.kdl.specs.Layout.{IndentsBySpaces, NodeCommentsStay, NodeLaidOut, NodeKeepsNoForm, NodeSpaced, node_bare, plain_node};
 ghost use Rattle.kdl.specs.Tree.{document_tree, node_prints, node_says, node_tree, nodes_tree};
 ghost use Rattle.kdl.specs.declared.document.KdlDocument.{out-KdlDocument};
@@ -213,7 +213,7 @@ impl KdlNode {
         ensures laid { IfOk result (λ (behind, first).
             chars before.now ≡ indentation (settings layout.now.config) level
             → PassesAt layout.now (node_tree self.old) behind
-            × LaidBut layout.now level next (node_tree self.old) first
+            × IsSpacedBut layout.now level next (node_tree self.old) first
             (map node_tree (child_nodes self.old)) self.new) }
     {
         let alloc = *self.entries.allocator();
@@ -222,7 +222,7 @@ impl KdlNode {
         clear_spelling(&mut self.ty);
         self.name.clear_format();
         lay_out_entries(&mut self.entries, &layout.config)?;
-        let first = lay_out_block(&mut self.children, layout, level, before)?;
+        let first = lay_out_children(&mut self.children, layout, level, before)?;
         Ok((behind, first))
     }
 
@@ -258,7 +258,7 @@ impl KdlNode {
 }
 
 /// Lays out the block of a node at a level, but not the nodes in it. Returns what comes before the first of these.
-fn lay_out_block(
+fn lay_out_children(
     children: &mut Option<KdlDocument>,
     layout: &Layout,
     level: usize,
@@ -291,7 +291,7 @@ fn lay_out_below(
     ensures block { (ms : List Node) → filled_block children.new ms ≡ filled_block children.old ms }
     ensures kept { map bare_node (map node_tree (nodes_in children.new)) ≡
         map bare_node (map node_tree (nodes_in children.old)) }
-    ensures laid { OnOk result (AreLaid layout.now (level + 1) first
+    ensures laid { OnOk result (NodesAreSpaced layout.now (level + 1) first
         (map node_tree (nodes_in children.old)) (map node_tree (nodes_in children.new))) }
 {
     let Some(children) = children else {

@@ -65,5 +65,5 @@ move_view Close fs = c.popped fs
 move_view Refuse fs = None
 
 -- this move is the step of the control at the token, in the phase, whatever blocks are open
-abbrev pub Moves : c.Phase → Token → Move → Type 0
-Moves p k m = (fs : List c.Frame) → c.step (c.at p fs) k ≡ move_view m fs
+abbrev pub IsMove : c.Phase → Token → Move → Type 0
+IsMove p k m = (fs : List c.Frame) → c.step (c.at p fs) k ≡ move_view m fs

@@ -1,7 +1,7 @@
 -- The places and spans that a reader of faults keeps are in the text that it reads.
 use Rattle.std.specs.Prelude.{◌≡◌, ℕ, ◌+◌, ◌*◌, ◌≤◌, ◌++◌, List, All}
 use Rattle.kdl_text.specs.Chars.{Text}
-use Rattle.kdl_text.specs.Internal.Here.{Here, Spot}
+use Rattle.kdl_text.specs.Internal.Here.{Here, Position}
 use Rattle.kdl_text.specs.Spans.{InText, bytes, raise}
 use Rattle.kdl_diagnostics.specs.Internal.Reading.{Stands}
 use Rattle.kdl_diagnostics.specs.declared.pieces.Piece.{Piece}
@@ -11,7 +11,7 @@ use Rattle.kdl_diagnostics.specs.declared.esclines.Candidate.{Candidate}
 use Rattle.kdl_diagnostics.specs.declared.reader.Reader.{Reader}
 
 -- the place is in the text
-abbrev pub LiesIn : Text → Spot → Type 0
+abbrev pub LiesIn : Text → Position → Type 0
 LiesIn text place = (p : Text) × (text ≡ p ++ place.rest)
 
 -- each fault has a span in the text
@@ -40,7 +40,7 @@ abbrev pub Keeps : Reader → Reader → Type 0
 Keeps old new = (text : Text) → IsReaderOf text old → IsReaderOf text new
 
 -- if two places are in the text, a reader of the text stays one
-abbrev pub KeepsBetween : Spot → Spot → Reader → Reader → Type 0
+abbrev pub KeepsBetween : Position → Position → Reader → Reader → Type 0
 KeepsBetween a b old new = (text : Text) → IsReaderOf text old → LiesIn text a → LiesIn text b → IsReaderOf text new
 
 -- if a piece is of the text, a reader of the text stays one
@@ -48,11 +48,11 @@ abbrev pub KeepsAt : Piece → Reader → Reader → Type 0
 KeepsAt p old new = (text : Text) → IsReaderOf text old → Stands text p → IsReaderOf text new
 
 -- if a piece is of the text and two places are in it, a reader of the text stays one
-abbrev pub KeepsUpTo : Piece → Spot → Spot → Reader → Reader → Type 0
+abbrev pub KeepsUpTo : Piece → Position → Position → Reader → Reader → Type 0
 KeepsUpTo p a b old new = (text : Text) → IsReaderOf text old → Stands text p → LiesIn text a → LiesIn text b → IsReaderOf text new
 
 -- if a piece is of the text that is read, the place is in that text
-abbrev pub IsPlaceAt : Reader → Piece → Spot → Type 0
+abbrev pub IsPlaceAt : Reader → Piece → Position → Type 0
 IsPlaceAt r p place = (text : Text) → IsReaderOf text r → Stands text p → LiesIn text place
 
 -- at most k steps for each byte that was to be read, and k more; the count did not fall

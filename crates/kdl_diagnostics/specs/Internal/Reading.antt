@@ -2,7 +2,7 @@
 use Rattle.std.specs.Prelude.{◌≡◌, ℕ, ◌+◌, ◌-◌, ◌*◌, ◌<◌, ◌≤◌, ◌++◌, Option, Some, None}
 use Rattle.std.specs.Option.{IfSome}
 use Rattle.kdl_text.specs.Chars.{Text}
-use Rattle.kdl_text.specs.Internal.Here.{Ahead, Here, Spot}
+use Rattle.kdl_text.specs.Internal.Here.{Ahead, Here, Position}
 use Rattle.kdl_text.specs.Spans.{bytes}
 use Rattle.kdl_text.specs.Internal.Reading.{Moves}
 use Rattle.kdl_diagnostics.specs.declared.ends.Unclosed.{Unclosed}
@@ -20,15 +20,15 @@ abbrev pub Most : ℕ → ℕ → Here → Here → Type 0
 Most k c old new = new.steps + k * bytes new.rest ≤ old.steps + k * bytes old.rest + c
 
 -- at most k steps for each byte from the place up to the other one, and c more
-abbrev pub MostFrom : ℕ → ℕ → Spot → Here → Here → Here → Type 0
+abbrev pub MostFrom : ℕ → ℕ → Position → Here → Here → Here → Type 0
 MostFrom k c from to old new = new.steps ≤ old.steps + k * (bytes from.rest - bytes to.rest) + c
 
 -- the place is after each place that all three are after, or is that place
-abbrev pub NoEarlier : Spot → Spot → Spot → Spot → Type 0
-NoEarlier a b c place = (from : Spot) → Ahead from a → Ahead from b → Ahead from c → Ahead from place
+abbrev pub NoEarlier : Position → Position → Position → Position → Type 0
+NoEarlier a b c place = (from : Position) → Ahead from a → Ahead from b → Ahead from c → Ahead from place
 
 -- the place is in what the cursor passed, or at one of its ends
-pub record Passed (old : Here) (spot : Spot) (new : Here) : Type 0 where
+pub record Passed (old : Here) (spot : Position) (new : Here) : Type 0 where
   pub before : (p : Text) × (old.rest ≡ p ++ spot.rest)
   pub behind : (p : Text) × (spot.rest ≡ p ++ new.rest)
   pub at : spot.at + bytes spot.rest ≡ old.at + bytes old.rest
@@ -59,7 +59,7 @@ OnFound old None new = Unit {0}
 OnFound old (Some f) new = Passed old f.place new
 
 -- the fault that was found before, or else one at the place
-abbrev pub FindsAlso : Option Found → Spot → Option Found → Type 0
+abbrev pub FindsAlso : Option Found → Position → Option Found → Type 0
 FindsAlso fault place found = (old new : Here) → OnFound old fault new → Passed old place new → OnFound old found new
 
 -- the fault found so far, wherever reading began: the one found before, or one that is after the old cursor
@@ -80,7 +80,7 @@ WentPast End old new = new.rest ≡ old.rest
 WentPast _ old new = bytes new.rest < bytes old.rest
 
 -- a cursor that has gone to the place
-abbrev pub gone : Spot → Here → Here
+abbrev pub gone : Position → Here → Here
 gone spot here = record here { rest = spot.rest; at = spot.at }
 
 -- the place where a piece begins, and one at or after it
@@ -94,7 +94,7 @@ pub record Begins (start : Start) : Type 0 where
   pub fewer : bytes start.next.rest < bytes start.place.rest
 
 -- a piece that begins at the place or after it, and is not the end of the text; the cursor passed it
-pub record IsPiece (place : Spot) (p : Piece) (new : Here) : Type 0 where
+pub record IsPiece (place : Position) (p : Piece) (new : Here) : Type 0 where
   pub stands : Stands place.rest p
   pub more : p.kind ≡ End → ⊥
   pub went : bytes new.rest < bytes place.rest

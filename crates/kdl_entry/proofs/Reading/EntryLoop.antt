@@ -2,7 +2,7 @@
 use Rattle.std.proofs.Common.{◌≡◌, ◌↔◌, ℕ, ◌+◌, ◌<◌, Bool, true, false, length, [], ◌∷◌, ◌++◌, Some, None, Ok, Err, refl, sym, ap, subst, ◌∙◌, arith, append_assoc, append-nil}
 use Rattle.kdl_text.specs.Chars.{Text, Star, plus}
 use Rattle.kdl_text.specs.Chars.Star.{none as no_star, more}
-use Rattle.kdl_text.specs.Internal.Here.{Here, Spot, Ahead, first_len}
+use Rattle.kdl_text.specs.Internal.Here.{Here, Position, Ahead, first_len}
 use Rattle.kdl_text.specs.Internal.Reading.{Moves}
 use Rattle.kdl_text.specs.Spans.{InText, bytes}
 use Rattle.kdl_text.specs.Trivia.{NodeSpace}
@@ -191,7 +191,7 @@ next_going st st' old mid new t k g h m e y =
     }
 
 -- what a step asks of the places
-pub whole_start : (st : State) (old mid : Here) (place : Spot) (k : CodeToken) → Going st old place.rest → HandsOut old k mid → Ahead place k.start
+pub whole_start : (st : State) (old mid : Here) (place : Position) (k : CodeToken) → Going st old place.rest → HandsOut old k mid → Ahead place k.start
 whole_start st old mid place k g h = rw h.start_rest g.text
 
 pub from_start : (st : State) (old mid : Here) (t : Text) (k : CodeToken) → Going st old t → HandsOut old k mid → Stands st k.start.rest
@@ -208,7 +208,7 @@ pub char_in : (s p t : Text) (span : SourceSpan) → t ≡ p ++ s → span.offse
 char_in [] p t span e f g = (p, [], [], e ∙ simp append-nil, f, g)
 char_in (c ∷ s) p t span e f g = (p, c ∷ [], s, e ∙ sym (append_assoc p (c ∷ []) s), f, omega (arith, g))
 
-told : (st : State) (here : Here) (t : Text) (place : Spot) (span : SourceSpan) → Going st here t → place.rest ≡ here.rest → place.at ≡ here.at → IsFaultAt place span → InText t span
+told : (st : State) (here : Here) (t : Text) (place : Position) (span : SourceSpan) → Going st here t → place.rest ≡ here.rest → place.at ≡ here.at → IsFaultAt place span → InText t span
 told st here t place span g e f x =
     char_in here.rest g.text.0 t span g.text.1 (x.offset ∙ f ∙ bytes_before g.text.0 here.rest t here.at g.text.1 g.at) (x.len ∙ ap first_len e)
 
@@ -253,7 +253,7 @@ from_end st old new t g e m = rw (all_read old new e m) (rw e at g.from)
 pub at_the_end : (st : State) (here : Here) (t : Text) (e : KdlEntry) → Going st here t → here.rest ≡ [] → Ended (finish t st) (Some e) → AnswersEntryText t (Ok e)
 at_the_end st here t e g x f = (g.same (entry_tree e)).0 (subst (λ (z : Text). Runs t (entry_tree e) st z) (sym x) ((at_stop t (entry_tree e) st).1 f))
 
-pub no_end : (st : State) (old new : Here) (t : Text) (place : Spot) (span : SourceSpan) → Going st old t → old.rest ≡ [] → Moves old new → place.rest ≡ new.rest → place.at ≡ new.at → Ended (finish t st) None → IsFaultAt place span → AnswersEntryText t (Err (Faulty span))
+pub no_end : (st : State) (old new : Here) (t : Text) (place : Position) (span : SourceSpan) → Going st old t → old.rest ≡ [] → Moves old new → place.rest ≡ new.rest → place.at ≡ new.at → Ended (finish t st) None → IsFaultAt place span → AnswersEntryText t (Err (Faulty span))
 no_end st old new t place span g x m p q f z = (
   λ d a. (let b = (at_stop t d st).0 (subst (λ (z : Text). Runs t d st z) x ((g.same d).1 a)) in cc),
   char_in [] t t span (simp append-nil) (z.offset ∙ q ∙ all_before) (z.len ∙ ap first_len (p ∙ all_read old new x m)),

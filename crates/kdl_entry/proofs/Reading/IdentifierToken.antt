@@ -3,7 +3,7 @@ use Rattle.std.proofs.Common.{◌≡◌, ◌+◌, true, [], ◌++◌, Err, refl,
 use Rattle.std.specs.Prelude.{String}
 use Rattle.std.specs.declared.alloc.Global.{Global}
 use Rattle.kdl_text.specs.Chars.{Text, plus}
-use Rattle.kdl_text.specs.Internal.Here.{Here, Spot}
+use Rattle.kdl_text.specs.Internal.Here.{Here, Position}
 use Rattle.kdl_text.specs.Internal.Reading.{Moves}
 use Rattle.kdl_text.specs.Spans.{InText, bytes}
 use Rattle.kdl_text.specs.Trivia.{ValueEnd}
@@ -42,7 +42,7 @@ laid_whole {t = t} {r = r} {v = v} (one (t_string p)) e = subst (λ (z : Text). 
     at_end r p e = place (string p (subst (λ (z : Text). ValueEnd true z) (sym e) nothing)) (string_end p)
 
 -- a place that was reported is in the text
-place_told : (t : Text) (place : Spot) (span : SourceSpan) (p : Text) → t ≡ p ++ place.rest → place.at + bytes place.rest ≡ bytes t → IsFaultAt place span → InText t span
+place_told : (t : Text) (place : Position) (span : SourceSpan) (p : Text) → t ≡ p ++ place.rest → place.at + bytes place.rest ≡ bytes t → IsFaultAt place span → InText t span
 place_told t place span p e f x = char_in place.rest p t span e (x.offset ∙ bytes_before p place.rest t place.at e f) x.len
 
 -- where no token begins
@@ -54,7 +54,7 @@ no_token_told t old new (Faulty span) e f x = (λ v d. none v (subst (λ (z : Te
 no_token_told t old new Memory e f x = tt
 
 -- where the text is empty
-pub empty_told : (t : Text) (old : Here) (place : Spot) (span : SourceSpan) → old.rest ≡ t → old.rest ≡ [] → place.rest ≡ t → place.at ≡ 0 → IsFaultAt place span → AnswersIdentifierText t (Err (Faulty span))
+pub empty_told : (t : Text) (old : Here) (place : Position) (span : SourceSpan) → old.rest ≡ t → old.rest ≡ [] → place.rest ≡ t → place.at ≡ 0 → IsFaultAt place span → AnswersIdentifierText t (Err (Faulty span))
 empty_told t old place span e n f g x = (λ v d. none v (subst (λ (z : Text). IsIdentifierText true z v) (sym e ∙ n) d), place_told t place span [] (sym f) (omega (arith, ap bytes f, g)) x)
   where
     none : (v : Text) → IsIdentifierText true [] v → ⊥

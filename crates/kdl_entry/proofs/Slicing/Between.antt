@@ -8,7 +8,7 @@ use Rattle.std.specs.declared.alloc.Global.{Global}
 use Rattle.kdl_entry.specs.Places.{between}
 use Rattle.kdl_value.specs.Tree.{text_of}
 use Rattle.kdl_text.specs.Chars.{Text}
-use Rattle.kdl_text.specs.Internal.Here.{Spot, Ahead}
+use Rattle.kdl_text.specs.Internal.Here.{Position, Ahead}
 
 pub between_is : (p s : Text) → between (p ++ s) s ≡ p
 unfolding between
@@ -25,5 +25,5 @@ pub empty_text : (s : String Global) → string_bytes s ≡ [] → text_of s ≡
 empty_text s e = ap chars e ∙ chars-nil
 
 -- a place before one that lies before a third lies before the third
-pub ahead_then : (a b c : Spot) → Ahead a b → Ahead b c → Ahead a c
+pub ahead_then : (a b c : Position) → Ahead a b → Ahead b c → Ahead a c
 ahead_then a b c x y = (x.0 ++ y.0, x.1 ∙ ap (λ (z : Text). x.0 ++ z) y.1 ∙ sym (append_assoc x.0 y.0 c.rest))

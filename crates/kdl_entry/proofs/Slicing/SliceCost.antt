@@ -1,7 +1,7 @@
 -- What slices take.
 use Rattle.std.proofs.Common.{◌≡◌, ◌≤◌, ◌++◌, ap, arith}
 use Rattle.kdl_text.specs.Chars.{Text}
-use Rattle.kdl_text.specs.Internal.Here.{Here, Spot, Ahead, sliced}
+use Rattle.kdl_text.specs.Internal.Here.{Here, Position, Ahead, sliced}
 use Rattle.kdl_text.specs.Spans.{bytes}
 use Rattle.kdl_text.proofs.Looking.MovesJoin.{bytes-append}
 use Rattle.kdl_entry.specs.Internal.Counted.{Sliced}
@@ -11,5 +11,5 @@ pub piece_sliced : (p s r : Text) (old new : Here) → s ≡ p ++ r → new ≡ 
 piece_sliced p s r old new e f = record { most = omega (arith, ap bytes e, bytes-append p r, ap (λ (h : Here). h.steps) f) }
 
 -- what is ahead has fewer bytes
-pub ahead_fewer : (from to : Spot) → Ahead from to → bytes to.rest ≤ bytes from.rest
+pub ahead_fewer : (from to : Position) → Ahead from to → bytes to.rest ≤ bytes from.rest
 ahead_fewer from to (p, e) = omega (arith, ap bytes e, bytes-append p to.rest)

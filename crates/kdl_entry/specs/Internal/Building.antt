@@ -1,6 +1,6 @@
 -- The item that a reader's fields represent, and what its steps return.
 use Rattle.std.specs.Prelude.{◌≡◌, ◌≤◌, Bool, true, false, Option, Some, None, option_map, Result, Ok, Err}
-use Rattle.kdl_text.specs.Internal.Here.{Here, Spot}
+use Rattle.kdl_text.specs.Internal.Here.{Here, Position}
 use Rattle.kdl_text.specs.Spans.{raise}
 use Rattle.kdl_lexer.specs.Internal.Handed.{IsFaultAt}
 use Rattle.kdl_entry.specs.Internal.Items as items
@@ -54,7 +54,7 @@ item_view it = record {
 }
 
 -- what a step did; for a refused token its first character is reported; an allocation failure says nothing
-abbrev pub Did : Answer → Spot → Result (Option Given) LexFailure → items.Item → Type 0
+abbrev pub Did : Answer → Position → Result (Option Given) LexFailure → items.Item → Type 0
 Did o place (Ok None) it = o ≡ goes it
 Did o place (Ok (Some g)) it = o ≡ gives (option_map key_view g.key) (option_map type_view g.ty) (value_tree g.value)
 Did o place (Err (Faulty span)) it = (o ≡ refuses) × IsFaultAt place span

@@ -1,7 +1,7 @@
 -- The machine's state that a reader of an entry holds, and what its steps return.
 use Rattle.std.specs.Prelude.{◌≡◌, ◌↔◌, ◌++◌, Bool, true, false, Option, Some, None, Result, Ok, Err}
 use Rattle.kdl_text.specs.Chars.{Text}
-use Rattle.kdl_text.specs.Internal.Here.{Spot}
+use Rattle.kdl_text.specs.Internal.Here.{Position}
 use Rattle.kdl_text.specs.Spans.{InText}
 use Rattle.kdl_entry.specs.Internal.Building.{item_view}
 use Rattle.kdl_entry.specs.Internal.EntryMachine as machine
@@ -50,7 +50,7 @@ Stands (done e from) s = EndsIn from s
 Stands _ s = Unit {0}
 
 -- what a step did, by the machine's; for a refused token its first character is reported; an allocation failure says nothing
-abbrev pub Stepped : Option machine.State → Spot → Result State LexFailure → Type 0
+abbrev pub Stepped : Option machine.State → Position → Result State LexFailure → Type 0
 Stepped o place (Ok st) = o ≡ Some (state_view st)
 Stepped o place (Err (Faulty span)) = (o ≡ None) × IsFaultAt place span
 Stepped o place (Err Memory) = Unit {0}

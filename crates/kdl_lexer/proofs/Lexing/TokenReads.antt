@@ -14,7 +14,7 @@ use Rattle.kdl_text.specs.Chars.Star.{none, more}
 use Rattle.kdl_text.specs.Chars.Plus.{plus}
 use Rattle.kdl_text.specs.Chars.Space.{space as space_char}
 use Rattle.kdl_text.specs.Bare.{BareString}
-use Rattle.kdl_text.specs.Internal.Here.{Here, Spot, Skips, first, tail, Took}
+use Rattle.kdl_text.specs.Internal.Here.{Here, Position, Skips, first, tail, Took}
 use Rattle.kdl_text.specs.Spans.{bytes}
 use Rattle.kdl_text.specs.MultiLine.{IsQuoted}
 use Rattle.kdl_text.specs.Internal.NumberReading.{ReadsNumber, ReadsKeyword, number_value}
@@ -80,7 +80,7 @@ no_bare s h k n = alone s (at_identifier s h) strings plains
     plains r v (number m e) = clash (begins_number s) (number_begins m) k
     plains r v (keyword m e) = sign_identifier s (keyword_front m) h
 
-pub no_bare_here : (s r : Text) (place : Spot) (e : SourceSpan) → starts is_identifier_char s ≡ true → begins_number s ≡ false → ((r v : Text) → BareString s r v → ⊥) → IsFaultAt place e → ReadsKind s place (Err (Faulty e)) r
+pub no_bare_here : (s r : Text) (place : Position) (e : SourceSpan) → starts is_identifier_char s ≡ true → begins_number s ≡ false → ((r v : Text) → BareString s r v → ⊥) → IsFaultAt place e → ReadsKind s place (Err (Faulty e)) r
 no_bare_here s r place e h k n x = (no_bare s h k n, x)
 
 -- quoted strings
@@ -109,7 +109,7 @@ no_quoted s h n = alone s (at_quote s h) strings plains
     plains r v (number m e) = quote_identifier s (quote_here s h) (number_front s (number_begins m))
     plains r v (keyword m e) = quote_sign s h (keyword_front m)
 
-pub no_quoted_here : (s r : Text) (place : Spot) (f : StringFailure) (e : LexFailure) → first s ≡ Some 34 → ((r v : Text) → IsQuoted s r v → f ≡ StringMemory) → Passes place f e → ReadsKind s place (Err e) r
+pub no_quoted_here : (s r : Text) (place : Position) (f : StringFailure) (e : LexFailure) → first s ≡ Some 34 → ((r v : Text) → IsQuoted s r v → f ≡ StringMemory) → Passes place f e → ReadsKind s place (Err e) r
 no_quoted_here s r place (StringFaulty f) (Faulty e) h n x = (no_quoted s h (λ r v q. let z = n r v q in cc), x)
 no_quoted_here s r place (StringFaulty f) Memory h n x = tt
 no_quoted_here s r place StringMemory (Faulty e) h n x = absurd x
@@ -160,7 +160,7 @@ no_sign s h n m = alone s (at_sign s h) strings plains
     plains r v (number x e) = sign_identifier s (sign_here s h) (number_front s (number_begins x))
     plains r v (keyword {k = k} x e) = m r k x
 
-pub no_raw_here : (s r : Text) (place : Spot) (f : StringFailure) (e : LexFailure) → first s ≡ Some 35 → looks_raw s ≡ true → ((r v : Text) → IsRaw s r v → f ≡ StringMemory) → Passes place f e → ReadsKind s place (Err e) r
+pub no_raw_here : (s r : Text) (place : Position) (f : StringFailure) (e : LexFailure) → first s ≡ Some 35 → looks_raw s ≡ true → ((r v : Text) → IsRaw s r v → f ≡ StringMemory) → Passes place f e → ReadsKind s place (Err e) r
 no_raw_here s r place (StringFaulty f) (Faulty e) h k n x = (no_sign s h (λ r v q. let z = n r v q in cc) (λ r w q. clash (looks_raw s) k (keyword_looks s r w q)), x)
 no_raw_here s r place (StringFaulty f) Memory h k n x = tt
 no_raw_here s r place StringMemory (Faulty e) h k n x = absurd x
@@ -169,7 +169,7 @@ no_raw_here s r place StringMemory Memory h k n x = tt
 pub a_keyword_here : (s r : Text) (k : Keyword) (v : Value) → ReadsKeyword (Some k) s r → v ≡ keyword_value k → Cuts s (value v) r
 a_keyword_here s r k v h e = one (t_value (keyword ((h r k).1 (refl, refl)) e))
 
-pub no_keyword_here : (s t r : Text) (place : Spot) (e : SourceSpan) → first s ≡ Some 35 → looks_raw s ≡ false → ReadsKeyword None s t → IsFaultAt place e → ReadsKind s place (Err (Faulty e)) r
+pub no_keyword_here : (s t r : Text) (place : Position) (e : SourceSpan) → first s ≡ Some 35 → looks_raw s ≡ false → ReadsKeyword None s t → IsFaultAt place e → ReadsKind s place (Err (Faulty e)) r
 no_keyword_here s t r place e h k n x = (no_sign s h (λ r v q. clash (looks_raw s) (raw_looks s r v q) k) n, x)
 
 pub keyword_costs : (k : Keyword) (a b : Here) → ReadsKeyword (Some k) a.rest b.rest → Moves a b → Costs 20 0 a b → PieceCosts 21 a b
@@ -203,7 +203,7 @@ no_number s h n = alone s (at_identifier s (number_front s h)) strings plains
     plains r v (number {n = z} m e) = n r z m
     plains r v (keyword m e) = sign_identifier s (keyword_front m) (number_front s h)
 
-pub no_number_here : (s r : Text) (place : Spot) (e : SourceSpan) → begins_number s ≡ true → ((r : Text) (v : NumberValue) → IsNumber s r v → ⊥) → IsFaultAt place e → ReadsKind s place (Err (Faulty e)) r
+pub no_number_here : (s r : Text) (place : Position) (e : SourceSpan) → begins_number s ≡ true → ((r : Text) (v : NumberValue) → IsNumber s r v → ⊥) → IsFaultAt place e → ReadsKind s place (Err (Faulty e)) r
 no_number_here s r place e h n x = (no_number s h n, x)
 
 pub number_costs : (x : Number) (a b : Here) → ReadsNumber (Ok x) a.rest b.rest → Moves a b → Costs 20 0 a b → PieceCosts 20 a b
@@ -236,17 +236,17 @@ second_is c d [] h n = refl
 second_is c d (a ∷ []) h n = grind (arith, nat_tests)
 second_is c d (a ∷ b ∷ s) h n = let e : b ≡ c = eqb-true b c (and_parts (a == 47) (b == c) h).1 in rw ((and_parts (a == 47) (b == c) h).0, e, n) refl
 
-pub unclosed_here : (s r : Text) (place : Spot) (e : SourceSpan) → first s ≡ Some 47 → Opens s → IsFaultAt place e → ReadsKind s place (Err (Faulty e)) r
+pub unclosed_here : (s r : Text) (place : Position) (e : SourceSpan) → first s ≡ Some 47 → Opens s → IsFaultAt place e → ReadsKind s place (Err (Faulty e)) r
 unclosed_here s r place e h o x = (no_slash_at s h o.unclosed (λ r. no_line_at s r (second_is 42 47 s o.opens refl)) (second_is 42 45 s o.opens refl), x)
 
-pub no_slash_here : (s r : Text) (place : Spot) (e : SourceSpan) → first s ≡ Some 47 → begins_two 47 42 s ≡ false → begins_two 47 47 s ≡ false → begins_two 47 45 s ≡ false → IsFaultAt place e → ReadsKind s place (Err (Faulty e)) r
+pub no_slash_here : (s r : Text) (place : Position) (e : SourceSpan) → first s ≡ Some 47 → begins_two 47 42 s ≡ false → begins_two 47 47 s ≡ false → begins_two 47 45 s ≡ false → IsFaultAt place e → ReadsKind s place (Err (Faulty e)) r
 no_slash_here s r place e h a b c x = (no_slash_at s h (λ r. no_block_at s r a) (λ r. no_line_at s r b) c, x)
 
 -- esclines
 pub an_escline_here : (s r : Text) → Reads Escline true s r → Cuts s space r
 an_escline_here s r h = one (t_space (node_escline ((h r).1 refl)))
 
-pub no_escline_here : (s t r : Text) (place : Spot) (e : SourceSpan) → first s ≡ Some 92 → Reads Escline false s t → IsFaultAt place e → ReadsKind s place (Err (Faulty e)) r
+pub no_escline_here : (s t r : Text) (place : Position) (e : SourceSpan) → first s ≡ Some 92 → Reads Escline false s t → IsFaultAt place e → ReadsKind s place (Err (Faulty e)) r
 no_escline_here s t r place e h n x = (rw (first_is s 92 h) (record { begun = λ y. cc; none = no_backslash (tail s) (subst (λ (z : Text). (r : Text) → Escline z r → ⊥) (first_is s 92 h) n) }), x)
 
 -- words, spaces, newlines and tokens of one character
@@ -319,7 +319,7 @@ punctuation_costs c o a b h t =
     record { fewer = omega (arith, ap bytes x, one); costs = record { most = omega (arith, ap bytes x, one, z); least = omega (arith, ap length x, z) } }
 
 -- another character
-pub other_here : (c : ℕ) (s r : Text) (place : Spot) (e : SourceSpan) → first s ≡ Some c → ((c == 34 || c == 35) || (c == 47 || c == 92)) ≡ false → is_identifier_char c ≡ false → is_space c ≡ false → is_newline_char c ≡ false → is_single c ≡ false → IsFaultAt place e
+pub other_here : (c : ℕ) (s r : Text) (place : Position) (e : SourceSpan) → first s ≡ Some c → ((c == 34 || c == 35) || (c == 47 || c == 92)) ≡ false → is_identifier_char c ≡ false → is_space c ≡ false → is_newline_char c ≡ false → is_single c ≡ false → IsFaultAt place e
     → ReadsKind s place (Err (Faulty e)) r
 other_here c s r place e h p w x y m z = (rw (first_is s c h) (record { begun = λ f. cc; none = no_alien c (tail s) (alien c p w x y m) }), z)
   where

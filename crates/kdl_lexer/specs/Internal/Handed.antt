@@ -1,7 +1,7 @@
 -- What the lexer returns.
 use Rattle.std.specs.Prelude.{◌≡◌, ℕ, Bool, false, ◌||◌, ◌==◌, [], ◌∷◌, Option, Some, None, Result, Ok, Err}
 use Rattle.kdl_text.specs.Chars.{Text, Plus}
-use Rattle.kdl_text.specs.Internal.Here.{Here, Spot, first_len}
+use Rattle.kdl_text.specs.Internal.Here.{Here, Position, first_len}
 use Rattle.kdl_text.specs.Internal.Reading.{Costs}
 use Rattle.kdl_text.specs.Trivia.{NodeSpace}
 use Rattle.kdl_text.specs.Internal.TriviaReading.{PieceCosts}
@@ -38,12 +38,12 @@ kind_view Semicolon = tokens.semicolon
 kind_view Bom = tokens.bom
 
 -- the span of a fault at the place, which is the character there
-pub record IsFaultAt (place : Spot) (span : SourceSpan) : Type 0 where
+pub record IsFaultAt (place : Position) (span : SourceSpan) : Type 0 where
   pub offset : span.offset ≡ place.at
   pub len : span.len ≡ first_len place.rest
 
 -- the kind of the token that was read at s, before r; a fault is reported at the character there
-abbrev pub ReadsKind : Text → Spot → Result TokenKind LexFailure → Text → Type 0
+abbrev pub ReadsKind : Text → Position → Result TokenKind LexFailure → Text → Type 0
 ReadsKind s place (Ok k) r = Cuts s (kind_view k) r
 ReadsKind s place (Err (Faulty span)) r = NoToken s × IsFaultAt place span
 ReadsKind s place (Err Memory) r = Unit {0}
@@ -55,7 +55,7 @@ KindCosts k (Err (Faulty span)) old new = Costs k k old new
 KindCosts k (Err Memory) old new = Unit {0}
 
 -- a string's fault is reported as a fault at the place, and an allocation failure as such
-abbrev pub Passes : Spot → StringFailure → LexFailure → Type 0
+abbrev pub Passes : Position → StringFailure → LexFailure → Type 0
 Passes place (StringFaulty e) (Faulty span) = IsFaultAt place span
 Passes place StringMemory Memory = Unit {0}
 Passes place _ _ = ⊥

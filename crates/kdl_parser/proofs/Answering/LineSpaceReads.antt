@@ -2,7 +2,7 @@
 use Rattle.std.proofs.Common.{◌≡◌, ◌↔◌, ℕ, ◌+◌, ◌-◌, ◌<◌, ◌≤◌, length, Bool, true, false, List, [], ◌++◌, None, Ok, Err, refl, sym, ap, subst, ◌∙◌, arith, append_assoc}
 use Rattle.kdl_text.specs.Chars.{Text, Star, plus}
 use Rattle.kdl_text.specs.Chars.Star.{none as no_star, more}
-use Rattle.kdl_text.specs.Internal.Here.{Here, Spot, first_len}
+use Rattle.kdl_text.specs.Internal.Here.{Here, Position, first_len}
 use Rattle.kdl_text.specs.Internal.Reading.{Moves}
 use Rattle.kdl_text.specs.Spans.{InText, bytes}
 use Rattle.kdl_text.specs.Trivia.{NodeSpace, LineSpace}
@@ -102,7 +102,7 @@ lines_go_on t old new k g h m e =
 pub lines_nearer : (old new : Here) (k : CodeToken) → HandsOut old k new → length new.rest < length old.rest
 lines_nearer old new k h = cut_shorter h.cuts
 
-lines_told : (t : Text) (here : Here) (place : Spot) (span : SourceSpan) → Lines here t → place.rest ≡ here.rest → place.at ≡ here.at → IsFaultAt place span → InText t span
+lines_told : (t : Text) (here : Here) (place : Position) (span : SourceSpan) → Lines here t → place.rest ≡ here.rest → place.at ≡ here.at → IsFaultAt place span → InText t span
 lines_told t here place span g e f x =
     char_in here.rest g.text.0 t span g.text.1 (x.offset ∙ f ∙ bytes_before g.text.0 here.rest t here.at g.text.1 g.at) (x.len ∙ ap first_len e)
 

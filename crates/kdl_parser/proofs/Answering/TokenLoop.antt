@@ -2,7 +2,7 @@
 use Rattle.std.proofs.Common.{◌≡◌, ◌↔◌, ◌+◌, ◌<◌, ◌≤◌, length, [], ◌∷◌, ◌++◌, Some, None, option_map, Result, Ok, Err, inl, refl, sym, ap, subst, ◌∙◌, arith}
 use Rattle.kdl_text.specs.Chars.{Text, Star, plus}
 use Rattle.kdl_text.specs.Chars.Star.{none as no_star, more}
-use Rattle.kdl_text.specs.Internal.Here.{Here, Spot, first_len}
+use Rattle.kdl_text.specs.Internal.Here.{Here, Position, first_len}
 use Rattle.kdl_text.specs.Internal.Reading.{Moves}
 use Rattle.kdl_text.specs.Spans.{InText, bytes}
 use Rattle.kdl_text.specs.Trivia.{NodeSpace}
@@ -87,7 +87,7 @@ goes_on tree b b' before mid after t u k g h m e w y =
     let placed = placed_step t (state_view tree b) (state_view tree b') (kind_view k.kind) before.rest mid.rest e' g.placed piece in
     record {
       same = same_at t u mid.rest after.rest (state_view tree b') y.rest (turn_same t u before.rest mid.rest (state_view tree b) (state_view tree b') (kind_view k.kind) g.same h.cuts e');
-      whole = ap (λ (z : Spot). z.rest) w ∙ g.whole;
+      whole = ap (λ (z : Position). z.rest) w ∙ g.whole;
       placed = subst (λ (z : Text). Placed (state_view tree b') z) (sym y.rest) placed;
       went = subst (λ (z : Text). Goes (control.at control.gap []) u (a_state (state_view tree b')) z) (sym y.rest) (over_cut g.went h.cuts (stepped t (state_view tree b) (state_view tree b') (kind_view k.kind) before.rest mid.rest e'));
       text = subst (λ (z : Text). EndsIn t z) (sym y.rest) (then_ends g.text piece);
@@ -113,7 +113,7 @@ cut_shorter (spaces (plus n m)) = omega (arith, token_shorter (t_space n), space
 pub nearer : (before mid after : Here) (k : CodeToken) → HandsOut before k mid → Stays mid after → length after.rest < length before.rest
 nearer before mid after k h y = omega (arith, cut_shorter h.cuts, ap length y.rest)
 
-pub told : {N : Type 0} (tree : N → Node) (b : Builder N) (here : Here) (t u : Text) (place : Spot) (span : SourceSpan) → Going tree b here t u → place.rest ≡ here.rest → place.at ≡ here.at → IsFaultAt place span → InText t span
+pub told : {N : Type 0} (tree : N → Node) (b : Builder N) (here : Here) (t u : Text) (place : Position) (span : SourceSpan) → Going tree b here t u → place.rest ≡ here.rest → place.at ≡ here.at → IsFaultAt place span → InText t span
 told tree b here t u place span g e f x =
     char_in here.rest g.text.0 t span g.text.1 (x.offset ∙ f ∙ bytes_before g.text.0 here.rest t here.at g.text.1 g.at) (x.len ∙ ap first_len e)
 
@@ -196,7 +196,7 @@ no_end tree b here t u g e f =
     let f' = subst (λ (w : Text). finish w (state_view tree b) ≡ None) g.whole f in
     no_run_there t u here.rest (state_view tree b) g.same e f'
 
-pub finish_told : {N : Type 0} (tree : N → Node) (b : Builder N) (here : Here) (t u : Text) (place : Spot) (result : Result (DocumentParts N) LexFailure) → Going tree b here t u → here.rest ≡ [] → place.rest ≡ here.rest → place.at ≡ here.at
+pub finish_told : {N : Type 0} (tree : N → Node) (b : Builder N) (here : Here) (t u : Text) (place : Position) (result : Result (DocumentParts N) LexFailure) → Going tree b here t u → here.rest ≡ [] → place.rest ≡ here.rest → place.at ≡ here.at
     → Finished tree (finish b.whole.rest (state_view tree b)) place result → AnswersParts tree t u result
 finish_told tree b here t u place (Ok d) g e f n x = at_the_end tree b here t u d g e x
 finish_told tree b here t u place (Err (Faulty span)) g e f n x = (no_end tree b here t u g e x.0, told tree b here t u place span g f n x.1, stops_there tree b here t u span g (x.1.offset ∙ n) (stuck_end tree b here e))

@@ -1,7 +1,7 @@
 -- What a token did inside an item, and where the places in an item begin.
 use Rattle.std.proofs.Common.{◌≡◌, List, Option, None, option_map, Result, Ok, Err, refl, ap, ◌∙◌}
 use Rattle.kdl_text.specs.Chars.{Text}
-use Rattle.kdl_text.specs.Internal.Here.{Spot}
+use Rattle.kdl_text.specs.Internal.Here.{Position}
 use Rattle.kdl_entry.specs.Internal.Items as items
 use Rattle.kdl_entry.specs.Internal.Items.{opened, named, closed, keyed}
 use Rattle.kdl_lexer.specs.Tokens.{Token}
@@ -13,7 +13,7 @@ use Rattle.kdl_grammar.specs.Tree.{Nodes}
 use Rattle.kdl_parser.proofs.Stepping.ItemSteps.{bridge}
 use Rattle.kdl_parser.proofs.Stepping.Held.{not_reached}
 
-pub item_did : {A : Type 0} (whole : Text) (it : items.Item) (o : Option Under) (l : Option Nodes) (fs : List Frame) (from : Text) (k : Token) (s r : Text) (place : Spot) (result : Result A LexFailure) (st : State)
+pub item_did : {A : Type 0} (whole : Text) (it : items.Item) (o : Option Under) (l : Option Nodes) (fs : List Frame) (from : Text) (k : Token) (s r : Text) (place : Position) (result : Result A LexFailure) (st : State)
     → Did (item_answer whole o it l fs from s r (items.step whole it k s r)) place result st → Did (step whole (at (item_phase it.stage o it) l fs from) k s r) place result st
 item_did whole it o l fs from k s r place (Ok x) st d = bridge whole it o l fs from k s r ∙ d
 item_did whole it o l fs from k s r place (Err (Faulty span)) st d =

@@ -1,7 +1,7 @@
 -- What the turns of the loop over the tokens take, and what an item takes.
 use Rattle.std.proofs.Common.{◌≡◌, ℕ, ◌+◌, ◌*◌, ◌≤◌, length, [], if◌then◌else◌, Bool, true, false, Option, Some, None, Result, Ok, Err, is_some, refl, ap, sym, ◌∙◌, arith, length-append}
 use Rattle.kdl_text.specs.Chars.{Text}
-use Rattle.kdl_text.specs.Internal.Here.{Here, Spot, Ahead}
+use Rattle.kdl_text.specs.Internal.Here.{Here, Position, Ahead}
 use Rattle.kdl_text.specs.Spans.{bytes, raise}
 use Rattle.kdl_text.specs.Internal.Reading.{Moves, Costs}
 use Rattle.kdl_text.proofs.Looking.MovesJoin.{bytes-append}
@@ -53,7 +53,7 @@ counting_ends (Err (Faulty span)) start before after last n g e v c d y = omega 
 counting_ends (Err Memory) start before after last n g e v c d y = tt
 
 -- what is ahead has fewer bytes
-pub fewer : (from to : Spot) → Ahead from to → bytes to.rest ≤ bytes from.rest
+pub fewer : (from to : Position) → Ahead from to → bytes to.rest ≤ bytes from.rest
 fewer from to a = ahead_fewer from to a
 
 -- whether it is an entry stays, where an item goes on
@@ -138,9 +138,9 @@ on_name_given (Err (Faulty span)) p kept kept' entry o from item there n a b c e
 on_name_given (Err Memory) p kept kept' entry o from item there n a b c e f g x' y = tt
 
 -- after what was sliced or not, where nothing more is sliced
-pub begun : (kept : Bool) (from : ℕ) (start end place : Spot) (a : Here) → kept ≡ true → Ahead start end → place ≡ end → Sliced (if kept then bytes start.rest else from) (bytes place.rest) a a
+pub begun : (kept : Bool) (from : ℕ) (start end place : Position) (a : Here) → kept ≡ true → Ahead start end → place ≡ end → Sliced (if kept then bytes start.rest else from) (bytes place.rest) a a
 begun kept from start end place a e x f = rw (e, f) (record { most = omega (arith, fewer start end x) })
 
-pub closed_up : {A : Type 0} (o : Option A) (m : ℕ) (start end place : Spot) (a b : Here) → true ≡ is_some o → Ahead start end → place ≡ end → Sliced m (up_to o m (bytes start.rest)) a b → Sliced m (bytes place.rest) a b
+pub closed_up : {A : Type 0} (o : Option A) (m : ℕ) (start end place : Position) (a b : Here) → true ≡ is_some o → Ahead start end → place ≡ end → Sliced m (up_to o m (bytes start.rest)) a b → Sliced m (bytes place.rest) a b
 closed_up None m start end place a b e x f y = absurd cc
 closed_up (Some u) m start end place a b e x f y = rw f (record { most = omega (arith, y.most, fewer start end x) })

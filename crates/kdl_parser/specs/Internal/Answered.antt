@@ -1,7 +1,7 @@
 -- What is returned for the text before the lexer, in terms of the tree of a node.
 use Rattle.std.specs.Prelude.{◌≡◌, Option, Some, None, Result, Ok, Err}
 use Rattle.kdl_text.specs.Chars.{Text}
-use Rattle.kdl_text.specs.Internal.Here.{Spot}
+use Rattle.kdl_text.specs.Internal.Here.{Position}
 use Rattle.kdl_text.specs.Spans.{InText}
 use Rattle.kdl_lexer.specs.Internal.Handed.{IsFaultAt}
 use Rattle.kdl_lexer.specs.declared.lexer.LexFailure.{LexFailure}
@@ -19,7 +19,7 @@ AnswersParts tree t u (Err (Faulty span)) = ((d : Document) → Runs t d (initia
 AnswersParts tree t u (Err Memory) = Unit {0}
 
 -- what is returned at the end of the text, given what the machine returns; for a refused text the place is reported
-abbrev pub Finished : {N : Type 0} → (N → Node) → Option Document → Spot → Result (DocumentParts N) LexFailure → Type 0
+abbrev pub Finished : {N : Type 0} → (N → Node) → Option Document → Position → Result (DocumentParts N) LexFailure → Type 0
 Finished tree o place (Ok d) = o ≡ Some (document_by tree d)
 Finished tree o place (Err (Faulty span)) = (o ≡ None) × IsFaultAt place span
 Finished tree o place (Err Memory) = Unit {0}

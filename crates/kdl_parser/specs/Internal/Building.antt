@@ -3,7 +3,7 @@ use Rattle.std.specs.Prelude.{◌≡◌, Bool, true, false, List, [], ◌∷◌,
 use Rattle.std.specs.declared.alloc.Global.{Global}
 use Rattle.std.specs.declared.vec.Vec.{Vec}
 use Rattle.kdl_text.specs.Chars.{Text}
-use Rattle.kdl_text.specs.Internal.Here.{Spot}
+use Rattle.kdl_text.specs.Internal.Here.{Position}
 use Rattle.kdl_entry.specs.Internal.Building.{type_view, item_view}
 use Rattle.kdl_value.specs.Data.{text}
 pub use Rattle.kdl_entry.specs.Internal.EntryReading.{EndsIn}
@@ -141,7 +141,7 @@ abbrev pub pending_held : Option machine.Pending → Option machine.Pending
 pending_held None = None
 pending_held (Some (pending c k a)) = Some (pending c (only c k (plain_identifier [])) (only c a []))
 
-abbrev pub spot_held : machine.Spot → machine.Spot
+abbrev pub spot_held : machine.Position → machine.Position
 spot_held (machine.fresh o) = machine.fresh (pending_held o)
 spot_held (machine.spaced o) = machine.spaced (pending_held o)
 spot_held machine.later = machine.later
@@ -161,7 +161,7 @@ abbrev pub held : State → State
 held (at p l fs from) = at (phase_held p) l (map frame_held fs) from
 
 -- what a step did, by the machine's; for a refused token its first character is reported; an allocation failure says nothing
-abbrev pub Did : {A : Type 0} → Option State → Spot → Result A LexFailure → State → Type 0
+abbrev pub Did : {A : Type 0} → Option State → Position → Result A LexFailure → State → Type 0
 Did o place (Ok x) st = option_map held o ≡ Some (held st)
 Did o place (Err (Faulty span)) st = (o ≡ None) × IsFaultAt place span
 Did o place (Err Memory) st = Unit {0}

@@ -5,7 +5,7 @@ use Rattle.std.specs.declared.alloc.Global.{Global}
 use Rattle.std.specs.declared.string.String.{String}
 use Rattle.std.specs.declared.vec.Vec.{Vec}
 use Rattle.kdl_text.specs.Chars.{Text}
-use Rattle.kdl_text.specs.Internal.Here.{Here, Spot}
+use Rattle.kdl_text.specs.Internal.Here.{Here, Position}
 use Rattle.kdl_text.specs.Spans.{bytes}
 use Rattle.kdl_value.specs.Data.{Value}
 use Rattle.kdl_value.specs.Tree.{text_of}
@@ -28,11 +28,11 @@ use Rattle.kdl_parser.specs.declared.builder.Slot.{Slot}
 use Rattle.kdl_parser.specs.declared.builder.Under.{Under}
 
 -- the machine's step at a token of the kind
-abbrev pub token_step : {N : Type 0} → (N → Node) → Builder N → TokenKind → Spot → Spot → Option State
+abbrev pub token_step : {N : Type 0} → (N → Node) → Builder N → TokenKind → Position → Position → Option State
 token_step tree b kind s r = machine.step b.whole.rest (state_view tree b) (kind_view kind) s.rest r.rest
 
 -- what a token of the kind does inside an item
-abbrev pub item_step : {N : Type 0} → (N → Node) → Builder N → TokenKind → Spot → Spot → Option State
+abbrev pub item_step : {N : Type 0} → (N → Node) → Builder N → TokenKind → Position → Position → Option State
 item_step tree b kind s r =
     item_answer b.whole.rest (option_map under_view b.under) (item_view b.item) (nodes_view tree b.nodes) (frames_view tree b) b.from.rest s.rest r.rest
     (items.step b.whole.rest (item_view b.item) (kind_view kind) s.rest r.rest)
@@ -46,35 +46,35 @@ abbrev pub kept_now : {N : Type 0} → (N → Node) → Builder N → Option mac
 kept_now tree b = option_map (kept_view tree) b.kept
 
 -- the nodes, and after them the current node: it has no block, and ends at s with the terminator
-abbrev pub nodes_and : {N : Type 0} → (N → Node) → Builder N → Spot → Text → Option Nodes
+abbrev pub nodes_and : {N : Type 0} → (N → Node) → Builder N → Position → Text → Option Nodes
 nodes_and tree b s terminator = machine.ended (machine.closed b.whole.rest (node_now b) no_children [] (between b.from.rest s.rest) terminator s.rest) (nodes_view tree b.nodes)
 
 -- the same of the node with its block
-abbrev pub nodes_and_kept : {N : Type 0} → (N → Node) → Builder N → Spot → Text → Option Nodes
+abbrev pub nodes_and_kept : {N : Type 0} → (N → Node) → Builder N → Position → Text → Option Nodes
 nodes_and_kept tree b s terminator = machine.ended (machine.closed_kept b.whole.rest (kept_now tree b) (between b.from.rest s.rest) terminator s.rest) (nodes_view tree b.nodes)
 
 -- after a node without a block, of which the token is the terminator
-abbrev pub node_ended : {N : Type 0} → (N → Node) → Builder N → Spot → Spot → State
+abbrev pub node_ended : {N : Type 0} → (N → Node) → Builder N → Position → Position → State
 node_ended tree b s r = at machine.gap (nodes_and tree b s (between s.rest r.rest)) (frames_view tree b) (machine.origin (node_now b) b.from.rest r.rest)
 
 -- after a node with a block, of which the token is the terminator
-abbrev pub kept_ended : {N : Type 0} → (N → Node) → Builder N → Spot → Spot → State
+abbrev pub kept_ended : {N : Type 0} → (N → Node) → Builder N → Position → Position → State
 kept_ended tree b s r = at machine.gap (nodes_and_kept tree b s (between s.rest r.rest)) (frames_view tree b) (machine.origin (kept_now tree b) b.from.rest r.rest)
 
 -- after the `}` that ends the block around the builder's nodes
-abbrev pub around : {N : Type 0} → (N → Node) → Builder N → Spot → Spot → Option State
+abbrev pub around : {N : Type 0} → (N → Node) → Builder N → Position → Position → Option State
 around tree b s r = machine.popped b.whole.rest (nodes_view tree b.nodes) (frames_view tree b) b.from.rest s.rest r.rest
 
 -- after the `}` that ends a node without a block, and the block around it
-abbrev pub around_node : {N : Type 0} → (N → Node) → Builder N → Spot → Spot → Option State
+abbrev pub around_node : {N : Type 0} → (N → Node) → Builder N → Position → Position → Option State
 around_node tree b s r = machine.popped b.whole.rest (nodes_and tree b s []) (frames_view tree b) (machine.origin (node_now b) b.from.rest s.rest) s.rest r.rest
 
 -- after the `}` that ends a node with a block, and the block around it
-abbrev pub around_kept : {N : Type 0} → (N → Node) → Builder N → Spot → Spot → Option State
+abbrev pub around_kept : {N : Type 0} → (N → Node) → Builder N → Position → Position → Option State
 around_kept tree b s r = machine.popped b.whole.rest (nodes_and_kept tree b s []) (frames_view tree b) (machine.origin (kept_now tree b) b.from.rest s.rest) s.rest r.rest
 
 -- in the block of the current node, which the token opens
-abbrev pub block_opened : {N : Type 0} → (N → Node) → Builder N → Spot → Spot → State
+abbrev pub block_opened : {N : Type 0} → (N → Node) → Builder N → Position → Position → State
 block_opened tree b s r =
     at machine.gap (machine.inside (node_now b)) (machine.in_block (node_now b) (between b.from.rest s.rest) (nodes_view tree b.nodes) ∷ frames_view tree b)
     (machine.origin (node_now b) b.from.rest r.rest)
@@ -88,17 +88,17 @@ abbrev pub later_opened : {N : Type 0} → (N → Node) → Builder N → State
 later_opened tree b = at machine.gap None (machine.in_later (kept_now tree b) (nodes_view tree b.nodes) ∷ frames_view tree b) b.from.rest
 
 -- after the block of the node, which ends with the token, and among the nodes before that node
-abbrev pub block_closed : {N : Type 0} → (N → Node) → Builder N → Option Under → String Global → Option (Vec N Global) → Spot → Spot → State
+abbrev pub block_closed : {N : Type 0} → (N → Node) → Builder N → Option Under → String Global → Option (Vec N Global) → Position → Position → State
 block_closed tree b under before nodes s r =
     at (machine.kept (machine.with_block b.whole.rest (option_map under_view under) (text_of before) (nodes_view tree b.nodes) (between b.from.rest s.rest) s.rest))
     (nodes_view tree nodes) (frames_view tree b) (machine.origin (option_map under_view under) b.from.rest r.rest)
 
 -- the slot of a string that begins a node here
-abbrev pub node_slot : {N : Type 0} → Builder N → Bool → Spot → machine.Slot
+abbrev pub node_slot : {N : Type 0} → Builder N → Bool → Position → machine.Slot
 node_slot b counts s = name_slot counts (between b.from.rest s.rest) s.rest
 
 -- the slot of a value that is an argument of the current node
-abbrev pub argument_slot : {N : Type 0} → Builder N → Bool → Spot → machine.Slot
+abbrev pub argument_slot : {N : Type 0} → Builder N → Bool → Position → machine.Slot
 argument_slot b counts s = entry_slot counts (node_now b) (between b.from.rest s.rest) s.rest None
 
 -- the slot of a name, or of a value with its key
@@ -109,11 +109,11 @@ abbrev pub valued_slot : {N : Type 0} → Builder N → Slot → Option KeyParts
 valued_slot b slot key = entry_slot slot.kept (option_map under_view b.under) (text_of slot.leading) slot.start.rest key
 
 -- after a name or a value, with its type
-abbrev pub given_at : {N : Type 0} → (N → Node) → Builder N → machine.Slot → Option TypeParts → Value → Spot → Spot → State
+abbrev pub given_at : {N : Type 0} → (N → Node) → Builder N → machine.Slot → Option TypeParts → Value → Position → Position → State
 given_at tree b slot ty value s r = machine.given b.whole.rest slot ty value None (nodes_view tree b.nodes) (frames_view tree b) b.from.rest s.rest r.rest
 
 -- after a string that may be a key
-abbrev pub worded : {N : Type 0} → (N → Node) → Builder N → Text → Spot → Spot → State
+abbrev pub worded : {N : Type 0} → (N → Node) → Builder N → Text → Position → Position → State
 worded tree b value s r =
     machine.worded b.whole.rest (machine.entry_slot (node_now b) (between b.from.rest s.rest) s.rest) value (nodes_view tree b.nodes) (frames_view tree b) b.from.rest s.rest r.rest
 
@@ -122,21 +122,21 @@ abbrev pub dropped_worded : {N : Type 0} → (N → Node) → Builder N → Stat
 dropped_worded tree b = in_phase tree b (machine.in_node (node_now b) (machine.fresh (Some (machine.pending (machine.no_value (node_now b)) (plain_identifier []) []))))
 
 -- after the `=` that follows the pending string
-abbrev pub property_opened : {N : Type 0} → (N → Node) → Builder N → Spot → Spot → Option State
+abbrev pub property_opened : {N : Type 0} → (N → Node) → Builder N → Position → Position → Option State
 property_opened tree b s r =
     machine.stay (nodes_view tree b.nodes) (frames_view tree b) b.from.rest
     (machine.value_from (machine.fresh (pending_now b.whole.rest b.from.rest b.waiting (option_map under_view b.under))) s.rest r.rest)
 
 -- after the `=` of a slashdashed property
-abbrev pub dropped_property : {N : Type 0} → (N → Node) → Builder N → Spot → State
+abbrev pub dropped_property : {N : Type 0} → (N → Node) → Builder N → Position → State
 dropped_property tree b r = in_phase tree b (machine.property (machine.no_value (option_map under_view b.under)) (plain_identifier []) [] r.rest)
 
 -- inside the `(` of a type before the name of a node
-abbrev pub name_opened : {N : Type 0} → (N → Node) → Builder N → Bool → Spot → Spot → State
+abbrev pub name_opened : {N : Type 0} → (N → Node) → Builder N → Bool → Position → Position → State
 name_opened tree b counts s r = in_phase tree b (machine.type_open false (node_slot b counts s) r.rest)
 
 -- inside the `(` of a type before a value
-abbrev pub value_opened : {N : Type 0} → (N → Node) → Builder N → Bool → Spot → Spot → State
+abbrev pub value_opened : {N : Type 0} → (N → Node) → Builder N → Bool → Position → Position → State
 value_opened tree b counts s r = in_phase tree b (machine.type_open true (argument_slot b counts s) r.rest)
 
 -- the document if the text ends here
@@ -148,15 +148,15 @@ abbrev pub document_of_nodes : {N : Type 0} → (N → Node) → Builder N → O
 document_of_nodes tree b = machine.at_end b.whole.rest (nodes_view tree b.nodes) (frames_view tree b) b.from.rest
 
 -- the place where the lexer is
-abbrev pub spot_of : Here → Spot
+abbrev pub spot_of : Here → Position
 spot_of here = record { rest = here.rest; at = here.at }
 
 -- what a token of the kind did, given the machine's step
-abbrev pub Takes : {A N : Type 0} → (N → Node) → Builder N → TokenKind → Spot → Spot → Result A LexFailure → Builder N → Type 0
+abbrev pub Takes : {A N : Type 0} → (N → Node) → Builder N → TokenKind → Position → Position → Result A LexFailure → Builder N → Type 0
 Takes tree old kind s r result new = Did (token_step tree old kind s r) s result (state_view tree new)
 
 -- a step at a token that is at s, given the machine's result o
-abbrev pub Steps : {A N : Type 0} → (N → Node) → Option State → Spot → Result A LexFailure → Builder N → Type 0
+abbrev pub Steps : {A N : Type 0} → (N → Node) → Option State → Position → Result A LexFailure → Builder N → Type 0
 Steps tree o s result new = Did o s result (state_view tree new)
 
 -- a step that never refuses a token, to that state
@@ -168,13 +168,13 @@ abbrev pub Slices : {A N : Type 0} → ℕ → Result A LexFailure → Builder N
 Slices m result new before behind = SlicedOn result m (unsliced new) before behind
 
 -- the bytes not sliced after a name that begins at s, if it is kept, and else after the start of the current place
-abbrev pub name_unsliced : {N : Type 0} → Builder N → Bool → Spot → ℕ
+abbrev pub name_unsliced : {N : Type 0} → Builder N → Bool → Position → ℕ
 name_unsliced b kept s = if kept then bytes s.rest else bytes b.from.rest
 
 -- the bytes not sliced after an entry that begins at s, if it and its node are kept, and else after the start of the current place
-abbrev pub entry_unsliced : {N : Type 0} → Builder N → Bool → Spot → ℕ
+abbrev pub entry_unsliced : {N : Type 0} → Builder N → Bool → Position → ℕ
 entry_unsliced b kept s = if kept then up_to b.under (bytes b.from.rest) (bytes s.rest) else bytes b.from.rest
 
 -- the text from one place to the other may have been sliced if x is kept, and else nothing
-abbrev pub SlicedUpTo : {A : Type 0} → Option A → Spot → Spot → Here → Here → Type 0
+abbrev pub SlicedUpTo : {A : Type 0} → Option A → Position → Position → Here → Here → Type 0
 SlicedUpTo x from to old new = Sliced (bytes from.rest) (up_to x (bytes from.rest) (bytes to.rest)) old new

@@ -1,11 +1,11 @@
 -- A cursor that goes into a segment and comes back.
 use Rattle.std.proofs.Common.{◌≡◌, ℕ, ◌+◌, ◌≤◌, [], ap, sym, ◌∙◌, arith}
 use Rattle.kdl_text.specs.Chars.{Text}
-use Rattle.kdl_text.specs.Internal.Here.{Here, Spot, Counted, Returned}
+use Rattle.kdl_text.specs.Internal.Here.{Here, Position, Counted, Returned}
 use Rattle.kdl_text.specs.Internal.Reading.{Moves}
 use Rattle.kdl_text.specs.Spans.{bytes}
 
-pub comes_back : (k : ℕ) (a i o d : Here) (place : Spot) (x : Text) → i ≡ record { rest = x; at = 0; steps = a.steps } → place.rest ≡ a.rest → place.at ≡ a.at → Counted k i o → d ≡ record { rest = place.rest; at = place.at; steps = o.steps } → Returned k a d
+pub comes_back : (k : ℕ) (a i o d : Here) (place : Position) (x : Text) → i ≡ record { rest = x; at = 0; steps = a.steps } → place.rest ≡ a.rest → place.at ≡ a.at → Counted k i o → d ≡ record { rest = place.rest; at = place.at; steps = o.steps } → Returned k a d
 comes_back k a i o d place x e r t n f =
     let is = ap (λ z. z.steps) e in
     let ds = ap (λ z. z.steps) f in

@@ -15,7 +15,7 @@ pub record Here : Type 0 where
   pub steps : ℕ
 
 -- a place to which a slice can go back: the characters that follow it, and its offset in bytes
-pub record Spot : Type 0 where
+pub record Position : Type 0 where
   pub rest : Text
   pub at : ℕ
 
@@ -47,11 +47,11 @@ abbrev pub sliced : Text → Here → Here
 sliced p h = record h { steps = raise h.steps (bytes p) }
 
 -- some piece lies between the two
-abbrev pub Behind : Spot → Here → Type 0
+abbrev pub Behind : Position → Here → Type 0
 Behind old new = (p : Text) × (old.rest ≡ p ++ new.rest)
 
 -- some piece lies between the two places
-abbrev pub Ahead : Spot → Spot → Type 0
+abbrev pub Ahead : Position → Position → Type 0
 Ahead from to = (p : Text) × (from.rest ≡ p ++ to.rest)
 
 -- a look at the character here, and a step past it

@@ -1,5 +1,5 @@
 use Rattle.std.proofs.Common.{sym}
-use Rattle.kdl.proofs.LayingOut.PartsLaid.{last_passes}
+use Rattle.kdl.proofs.LayingOut.PartsSpaced.{last_passes}
 use Rattle.kdl.proofs.layout.before_trailing.Goals as goal
 
 pub returns-in_ok-before_next-in-Some-clause-passes : goal.returns-in_ok-before_next-in-Some-clause-passes

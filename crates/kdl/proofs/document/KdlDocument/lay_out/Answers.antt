@@ -1,10 +1,10 @@
 use Rattle.std.proofs.Common.{rules, option_map, map, ap, subst, ◌∙◌}
 use Rattle.kdl_parts.specs.Formats.{document_format_tree}
-use Rattle.kdl.specs.Internal.Laid.{AreLaid}
+use Rattle.kdl.specs.Internal.Spacing.{NodesAreSpaced}
 use Rattle.kdl.specs.Tree.{node_tree, nodes_tree}
 use Rattle.kdl.specs.declared.document.KdlDocument.TheViews.{the_lemmas, out-KdlDocument, out-roll-KdlDocument}
 use Rattle.kdl_fmt.specs.Formatted.{bare_node}
-use Rattle.kdl.proofs.LayingOut.PartsLaid.{if_ok, same_content, laid_content, nodes_fit, fitting_document}
+use Rattle.kdl.proofs.LayingOut.PartsSpaced.{if_ok, same_content, laid_content, nodes_fit, fitting_document}
 use Rattle.kdl.proofs.document.KdlDocument.lay_out.Goals as goal
 
 pub returns-clause-kept : goal.returns-clause-kept
@@ -25,7 +25,7 @@ returns-clause-formatted c =
     (λ h. laid_content _ c.args.self.now (search (rules, the_lemmas)) new (search (rules, the_lemmas)) l level first
     (option_map document_format_tree c.lay_out_content.new.format) (search (rules, the_lemmas))
     (c.in_ok-first.ensures (nodes_tree d.nodes.items) (search (rules, the_lemmas)) (search (rules, the_lemmas)))
-    (subst (λ x. AreLaid l level first (map node_tree x.nodes.items) (map node_tree new.items)) (out-roll-KdlDocument fields) h))
+    (subst (λ x. NodesAreSpaced l level first (map node_tree x.nodes.items) (map node_tree new.items)) (out-roll-KdlDocument fields) h))
     c.lay_out_nodes.ensures.laid
 
 pub returns-clause-well_formed : goal.returns-clause-well_formed
@@ -38,5 +38,5 @@ returns-clause-well_formed c =
     let new = map node_tree c.lay_out_nodes.new.nodes.items in
     if_ok c.lay_out_nodes.result
     (λ h. fitting_document c.args.self.now (nodes_fit l level first (map node_tree d.nodes.items) new
-    (subst (λ x. AreLaid l level first (map node_tree x.nodes.items) new) (out-roll-KdlDocument fields) h)))
+    (subst (λ x. NodesAreSpaced l level first (map node_tree x.nodes.items) new) (out-roll-KdlDocument fields) h)))
     c.lay_out_nodes.ensures.laid

@@ -4,7 +4,7 @@ use Rattle.kdl_parts.specs.Formats.{document_format_tree}
 use Rattle.kdl.specs.Tree.{nodes_tree}
 use Rattle.kdl.specs.declared.document.KdlDocument.TheViews.{the_lemmas, out-KdlDocument}
 use Rattle.kdl_fmt.specs.Config.{settings}
-use Rattle.kdl.proofs.LayingOut.PartsLaid.{same_braces}
+use Rattle.kdl.proofs.LayingOut.PartsSpaced.{same_braces}
 use Rattle.kdl.proofs.document.KdlDocument.lay_out_block.Goals as goal
 
 pub returns-clause-formatted : goal.returns-clause-formatted

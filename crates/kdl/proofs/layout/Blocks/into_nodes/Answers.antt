@@ -1,5 +1,5 @@
 use Rattle.std.proofs.Common.{rules, arith, refl, sym, ap, ◌≡◌, ◌∙◌, [], vec_len}
-use Rattle.kdl.specs.Internal.Laid.{whole}
+use Rattle.kdl.specs.Internal.Spacing.{whole}
 use Rattle.kdl.proofs.layout.Blocks.into_nodes.Goals as goal
 
 pub closing-init : goal.closing-init

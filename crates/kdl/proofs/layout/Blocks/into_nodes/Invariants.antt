@@ -1,5 +1,5 @@
 use Rattle.std.proofs.Common.{◌≡◌, vec_len}
-use Rattle.kdl.specs.Internal.Laid.{whole}
+use Rattle.kdl.specs.Internal.Spacing.{whole}
 use Rattle.kdl.proofs.layout.Blocks.into_nodes.Given as goal
 
 abbrev pub invariant-closing : goal.invariant-closing

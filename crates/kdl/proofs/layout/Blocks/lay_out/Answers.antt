@@ -1,5 +1,5 @@
 use Rattle.std.proofs.Common.{rules, refl, sym, subst, ap, ◌≡◌, ◌∙◌, ◌<◌, map}
-use Rattle.kdl.specs.Internal.Laid.{IsUnderWay, left, whole}
+use Rattle.kdl.specs.Internal.Spacing.{IsUnderWay, left, whole}
 use Rattle.kdl_fmt.specs.Formatted.{bare_node}
 use Rattle.kdl.proofs.LayingOut.BlockSteps.{all_done}
 use Rattle.kdl.proofs.layout.Blocks.lay_out.Goals as goal

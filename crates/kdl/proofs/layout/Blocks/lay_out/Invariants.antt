@@ -1,5 +1,5 @@
 use Rattle.std.proofs.Common.{◌≡◌, ℕ, List, map}
-use Rattle.kdl.specs.Internal.Laid.{IsUnderWay, left, whole}
+use Rattle.kdl.specs.Internal.Spacing.{IsUnderWay, left, whole}
 use Rattle.kdl_fmt.specs.declared.blank.Before.{Before}
 use Rattle.kdl_fmt.specs.Formatted.{bare_node}
 use Rattle.kdl_grammar.specs.Tree.{Node}

@@ -3,7 +3,7 @@ use Rattle.std.specs.Str.{chars}
 use Rattle.std.specs.Vec.{with_item}
 use Rattle.kdl_fmt.specs.Formatted.{bare_node}
 use Rattle.kdl_value.specs.Tree.{text_of}
-use Rattle.kdl.specs.Internal.Laid.{GoesOn, whole}
+use Rattle.kdl.specs.Internal.Spacing.{GoesOn, whole}
 use Rattle.kdl.specs.declared.layout.Block.{Block}
 use Rattle.kdl_fmt.specs.declared.blank.Before.{Before}
 use Rattle.kdl.proofs.LayingOut.BlockSteps.{Own, bare_next, line_goes_on, bare_block_next, block_goes_on}

@@ -1,6 +1,6 @@
 use Rattle.std.proofs.Common.{rules, subst, ◌+◌, ◌++◌, ◌∷◌, [], ap, ◌∙◌}
 use Rattle.std.specs.Vec.{with_item}
-use Rattle.kdl.specs.Internal.Laid.{GoesOn, whole}
+use Rattle.kdl.specs.Internal.Spacing.{GoesOn, whole}
 use Rattle.kdl.specs.declared.layout.Block.{Block}
 use Rattle.kdl.proofs.LayingOut.BlockSteps.{node_changed, end_whole, end_whole_none, end_goes_on_there, end_goes_on_none}
 use Rattle.kdl.proofs.layout.Blocks.leave.Goals as goal

@@ -5,7 +5,7 @@ use Rattle.kdl.specs.declared.document.KdlDocument.TheViews.{out-KdlNode, roll-K
 use Rattle.kdl_fmt.specs.Blank.{at_start}
 use Rattle.kdl_fmt.specs.Formatted.{bare_node}
 use Rattle.kdl.proofs.LayingOut.BlockSteps.{node_is, node_below, laid_below, bare_filled}
-use Rattle.kdl.proofs.LayingOut.PartsLaid.{if_ok}
+use Rattle.kdl.proofs.LayingOut.PartsSpaced.{if_ok}
 use Rattle.kdl.proofs.node.KdlNode.lay_out.Goals as goal
 
 pub returns-clause-kept : goal.returns-clause-kept

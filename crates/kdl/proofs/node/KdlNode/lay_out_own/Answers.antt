@@ -4,7 +4,7 @@ use Rattle.kdl.specs.Tree.{node_tree}
 use Rattle.kdl_parts.specs.Formats.{node_format_tree}
 use Rattle.kdl.specs.declared.document.KdlDocument.TheViews.{the_lemmas, out-KdlNode}
 use Rattle.kdl_fmt.specs.Config.{settings}
-use Rattle.kdl.proofs.LayingOut.PartsLaid.{laid_node, own_block, own_passes, fitting_node, nodes_laid, nodes_fit}
+use Rattle.kdl.proofs.LayingOut.PartsSpaced.{laid_node, own_block, own_passes, fitting_node, nodes_laid, nodes_fit}
 use Rattle.kdl.proofs.node.KdlNode.lay_out_own.Goals as goal
 
 pub returns-clause-laid : goal.returns-clause-laid
@@ -19,8 +19,8 @@ returns-clause-laid c e =
         laid_node _ c.args.self.now l.blank_lines s c.args.level c.args.next c.is_some-has_block.result ms (search (rules, the_lemmas))
             (search (rules, the_lemmas)) (search (rules, the_lemmas)) (search (rules, the_lemmas))
             (option_map node_format_tree c.lay_out_line.new.format) (search (rules, the_lemmas)) line.0
-            (search (rules, the_lemmas)) c.lay_out_block.new.children (search (rules, the_lemmas))
-            (own_block l.blank_lines s c.args.level first c.args.self.now _ c.lay_out_block.new.children ms (c.in_ok-first.ensures.formatted e ms) (search (rules, the_lemmas)) (nodes_laid l (c.args.level + 1) first olds ms z)),
+            (search (rules, the_lemmas)) c.lay_out_children.new.children (search (rules, the_lemmas))
+            (own_block l.blank_lines s c.args.level first c.args.self.now _ c.lay_out_children.new.children ms (c.in_ok-first.ensures.formatted e ms) (search (rules, the_lemmas)) (nodes_laid l (c.args.level + 1) first olds ms z)),
         fitting_node c.args.self.now (search (rules, the_lemmas)) (nodes_fit l (c.args.level + 1) first olds ms z),
       ),
     )

@@ -16,7 +16,7 @@ use Rattle.kdl_fmt.specs.WithComments.{AreFormattedEntries, has_block}
 use Rattle.kdl_fmt.proofs.Entries.{scalars}
 use Rattle.kdl_parts.specs.Formats.{node_format_tree, node_texts, document_format_tree}
 use Rattle.kdl.specs.Iterators.{child_nodes, nodes_in}
-use Rattle.kdl.specs.Internal.Laid.{AreLaid, PassesAt, filled_block, filled}
+use Rattle.kdl.specs.Internal.Spacing.{NodesAreSpaced, PassesAt, filled_block, filled}
 use Rattle.kdl.specs.Tree.{node_tree, document_tree, nodes_tree}
 use Rattle.kdl.specs.declared.node.KdlNode.{KdlNode}
 use Rattle.kdl.specs.declared.document.KdlDocument.{KdlDocument}
@@ -28,13 +28,13 @@ pub if_ok : {A E P Q : Type 0} (r : Result A E) → (P → Q) → IfOk r (λ (a 
 if_ok (Ok a) f p = f p
 if_ok (Err e) f p = p
 
-pub nodes_laid : (l : Layout) (level : ℕ) (b : Before) (ns ms : List Node) → AreLaid l level b ns ms → AreSpacedNodes l.blank_lines (settings l.config) level b (listed_nodes ns) (listed_nodes ms)
+pub nodes_laid : (l : Layout) (level : ℕ) (b : Before) (ns ms : List Node) → NodesAreSpaced l level b ns ms → AreSpacedNodes l.blank_lines (settings l.config) level b (listed_nodes ns) (listed_nodes ms)
 nodes_laid l level b [] [] h = tt
 nodes_laid l level b [] (m ∷ ms) h = absurd h
 nodes_laid l level b (n ∷ ns) [] h = absurd h
 nodes_laid l level b (n ∷ ns) (m ∷ ms) h = (h.0, h.1.0, h.2, nodes_laid l level h.0 ns ms h.3)
 
-pub nodes_fit : (l : Layout) (level : ℕ) (b : Before) (ns ms : List Node) → AreLaid l level b ns ms → AreWellFormed (nodes_data (listed_nodes ns))
+pub nodes_fit : (l : Layout) (level : ℕ) (b : Before) (ns ms : List Node) → NodesAreSpaced l level b ns ms → AreWellFormed (nodes_data (listed_nodes ns))
 nodes_fit l level b [] ms h = tt
 nodes_fit l level b (n ∷ ns) [] h = absurd h
 nodes_fit l level b (n ∷ ns) (m ∷ ms) h = (h.1.1, nodes_fit l level h.0 ns ms h.3)
@@ -79,7 +79,7 @@ module _ (m d : KdlDocument) (span : (out-KdlDocument m).span ≡ (out-KdlDocume
 
     pub laid_content : (l : Layout) (level : ℕ) (b : Before) (f : Option DocumentFormat) → option_map document_format_tree (out-KdlDocument m).format ≡ f
         → IsSpacedContent l.blank_lines (settings l.config) level (nodes_tree (out-KdlDocument d).nodes.items) (or_empty_document (option_map document_format_tree (out-KdlDocument d).format)) b f
-        → AreLaid l level b (map node_tree (out-KdlDocument d).nodes.items) (map node_tree v.items) → IsSpacedDocument l.blank_lines (settings l.config) level (document_tree d) (document_tree m)
+        → NodesAreSpaced l level b (map node_tree (out-KdlDocument d).nodes.items) (map node_tree v.items) → IsSpacedDocument l.blank_lines (settings l.config) level (document_tree d) (document_tree m)
     laid_content l level b f g c k =
         let k' : AreSpacedNodes l.blank_lines (settings l.config) level b (nodes_tree (out-KdlDocument d).nodes.items) (nodes_tree (out-KdlDocument m).nodes.items) =
         rw holds (nodes_laid l level b (map node_tree (out-KdlDocument d).nodes.items) (map node_tree v.items) k) in

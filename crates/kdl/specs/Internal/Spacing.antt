@@ -38,34 +38,34 @@ abbrev pub whole : List Block → Block → List Node
 whole above inner = outermost above (map node_tree inner.nodes.items)
 
 -- the second node is the first one, laid out after what comes before it, and its texts can be printed
-abbrev pub Laid : Layout → ℕ → Before → Node → Node → Type 0
-Laid l level b n n' = IsSpacedNode l.blank_lines (settings l.config) level b n n' × IsWellFormedNode (node_data n)
+abbrev pub NodeIsSpaced : Layout → ℕ → Before → Node → Node → Type 0
+NodeIsSpaced l level b n n' = IsSpacedNode l.blank_lines (settings l.config) level b n n' × IsWellFormedNode (node_data n)
 
 -- what comes before whatever follows a node
 abbrev pub PassesAt : Layout → Node → Before → Type 0
 PassesAt l n b = PassesNode l.blank_lines (settings l.config) n b
 
 -- nodes likewise
-abbrev pub AreLaid : Layout → ℕ → Before → List Node → List Node → Type 0
-AreLaid l level b [] [] = Unit {0}
-AreLaid l level b (o ∷ olds) (n ∷ ns) = (b' : Before) × Laid l level b o n × PassesAt l o b' × AreLaid l level b' olds ns
-AreLaid l level b _ _ = ⊥
+abbrev pub NodesAreSpaced : Layout → ℕ → Before → List Node → List Node → Type 0
+NodesAreSpaced l level b [] [] = Unit {0}
+NodesAreSpaced l level b (o ∷ olds) (n ∷ ns) = (b' : Before) × NodeIsSpaced l level b o n × PassesAt l o b' × NodesAreSpaced l level b' olds ns
+NodesAreSpaced l level b _ _ = ⊥
 
 -- the first i nodes are laid out, the others are unchanged; `next` comes before the first of these
 abbrev pub Partly : Layout → ℕ → Before → List Node → List KdlNode → ℕ → Before → Type 0
 Partly l level b olds ns zero next = (next ≡ b) × (map node_tree ns ≡ olds)
-Partly l level b (o ∷ olds) (n ∷ ns) (suc i) next = (b' : Before) × Laid l level b o (node_tree n) × PassesAt l o b' × Partly l level b' olds ns i next
+Partly l level b (o ∷ olds) (n ∷ ns) (suc i) next = (b' : Before) × NodeIsSpaced l level b o (node_tree n) × PassesAt l o b' × Partly l level b' olds ns i next
 Partly l level b _ _ (suc i) next = ⊥
 
 -- the same, except for the node at i; `next` comes before the one after it
 abbrev pub PartlyOpen : Layout → ℕ → Before → (Before → Node → KdlNode → Type 0) → List Node → List KdlNode → ℕ → Before → Type 0
 PartlyOpen l level b Open (o ∷ olds) (n ∷ ns) zero next = Open b o n × PassesAt l o next × (map node_tree ns ≡ olds)
-PartlyOpen l level b Open (o ∷ olds) (n ∷ ns) (suc i) next = (b' : Before) × Laid l level b o (node_tree n) × PassesAt l o b' × PartlyOpen l level b' Open olds ns i next
+PartlyOpen l level b Open (o ∷ olds) (n ∷ ns) (suc i) next = (b' : Before) × NodeIsSpaced l level b o (node_tree n) × PassesAt l o b' × PartlyOpen l level b' Open olds ns i next
 PartlyOpen l level b Open _ _ i next = ⊥
 
 -- a node is laid out once the nodes in its block are, the first of them after `first`
-abbrev pub LaidBut : Layout → ℕ → Before → Node → Before → List Node → KdlNode → Type 0
-LaidBut l level b o first olds n = (ms : List Node) → AreLaid l (level + 1) first olds ms → Laid l level b o (filled n ms)
+abbrev pub IsSpacedBut : Layout → ℕ → Before → Node → Before → List Node → KdlNode → Type 0
+IsSpacedBut l level b o first olds n = (ms : List Node) → NodesAreSpaced l (level + 1) first olds ms → NodeIsSpaced l level b o (filled n ms)
 
 -- the level of a block, and the indentation there
 abbrev pub IsAtLevel : Layout → ℕ → Block → Type 0
@@ -76,7 +76,7 @@ abbrev pub IsUnderWay : Layout → ℕ → Before → List Node → List Block �
 IsUnderWay l level c olds [] inner = IsAtLevel l level inner × Partly l level c olds inner.nodes.items inner.at inner.next
 IsUnderWay l level c olds (b ∷ above) inner =
     IsAtLevel l level b
-    × PartlyOpen l level c (λ c o n. (first : Before) × (ns : List Node) × LaidBut l level c o first ns n × IsUnderWay l (level + 1) first ns above inner) olds b.nodes.items b.at b.next
+    × PartlyOpen l level c (λ c o n. (first : Before) × (ns : List Node) × IsSpacedBut l level c o first ns n × IsUnderWay l (level + 1) first ns above inner) olds b.nodes.items b.at b.next
 
 -- how much is left to lay out
 abbrev pub left : List Block → Block → ℕ
