@@ -61,7 +61,7 @@ impl KdlDocument {
     ///
     /// Returns `Syntax` if the text is not a document. Faults are reported in the order in which reading meets them, an
     /// unclosed block when the text ends; reading continues after a fault. There is at least one diagnostic; the first
-    /// one is at the earliest fault that the text can have. Returns `Memory` if an allocation fails.
+    /// one is near the earliest fault that the text can have. Returns `Memory` if an allocation fails.
     ///
     /// ```
     /// let text = "host localhost // here\nport 0x1F90\n";
@@ -83,7 +83,7 @@ impl KdlDocument {
         // A refused text is not derived, and the error has the spans of its faults.
         ensures refused { IsSyntax result → (x : Nodes) → IsDocument true (chars text.now) x → ⊥ }
         ensures told { TellsOnSyntax text.now result }
-        // The first diagnostic is where the text is refused: the text before that place begins a document.
+        // The first diagnostic is near the place where the text is refused: what is before that place begins a document.
         ensures earliest { EarliestOnSyntax text.now result }
         // A text of the former language is not refused, and is read as before.
         ensures kept { (x : Nodes) → IsFormerDocument (chars text.now) x → IsSyntax result → ⊥ }

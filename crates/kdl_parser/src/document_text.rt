@@ -77,8 +77,8 @@ pub fn read_document<N: ParsedNode>(
 ) -> Result<DocumentText<N>, ParseFailure>
     // The result is the machine's result on the text.
     ensures found { IfOk result (λ d. AnswersDocument (chars text.now) (whole_by N.tree d)) }
-    // A refused text is not derived, and the error reports where: its first diagnostic is at the earliest fault that the
-    // text can have.
+    // A refused text is not derived, and the error reports where: its first diagnostic is near the earliest fault that
+    // the text can have.
     ensures refused { IsSyntax result → (x : Nodes) → IsDocument true (chars text.now) x → ⊥ }
     ensures told { TellsOnSyntax text.now result }
     ensures earliest { EarliestOnSyntax text.now result }
