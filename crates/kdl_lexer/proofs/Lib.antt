@@ -4,3 +4,5 @@ pub mod Lexing
 pub mod Moving
 -- A whole number is one of 128 bits.
 pub mod Fitting
+-- The two places of a token are in order.
+pub mod Order

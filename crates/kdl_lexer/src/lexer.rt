@@ -15,6 +15,7 @@ ghost use Rattle.kdl_text.specs.Internal.Reading.{Moves};
 ghost use Rattle.std.specs.Prelude.{◌≡◌, ◌++◌, ◌==◌, ◌||◌, true, false, Some, None, IfOk};
 ghost use Rattle.std.specs.Str.{chars};
 
+use crate::token_span::TokenSpan;
 use kdl_text::chars::{Class, is_digit, is_identifier_char, is_newline_char, is_sign, is_space};
 use kdl_text::cursor::{Checkpoint, Cursor, Piece, Steps, newline};
 use kdl_text::numbers::{Keyword, Number, NumberFailure, begins_number, read_keyword, read_number};
@@ -79,12 +80,11 @@ pub enum TokenKind {
     Bom,
 }
 
-/// A token, with its start and its end.
+/// A token, with its span.
 #[derive(Drop)]
 pub struct Token<'a> {
     pub kind: TokenKind,
-    pub start: Checkpoint<'a>,
-    pub end: Checkpoint<'a>,
+    pub at: TokenSpan<'a>,
 }
 
 /// Returns the span of a fault at the place: the character there, or nothing at the end of the text.
@@ -522,8 +522,7 @@ impl<'a> Lexer<'a> {
         let kind = token_kind(c, &mut self.cursor, alloc, &start)?;
         Ok(Some(Token {
             kind,
-            start,
-            end: self.cursor.checkpoint(),
+            at: TokenSpan::new(start, self.cursor.checkpoint()),
         }))
     }
 }

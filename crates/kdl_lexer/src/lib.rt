@@ -2,5 +2,7 @@
 #![tactic(auto)]
 
 mod lexer;
+mod token_span;
 
 pub use lexer::{LexFailure, Lexer, Token, TokenKind, fault_at};
+pub use token_span::TokenSpan;

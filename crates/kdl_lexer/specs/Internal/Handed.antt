@@ -72,10 +72,10 @@ IsPunctuation c None = is_single c ≡ false
 -- a token is between two places
 pub record HandsOut (old : Here) (t : Token) (new : Here) : Type 0 where
   pub cuts : Cuts old.rest (kind_view t.kind) new.rest
-  pub start_rest : t.start.rest ≡ old.rest
-  pub start_at : t.start.at ≡ old.at
-  pub end_rest : t.end.rest ≡ new.rest
-  pub end_at : t.end.at ≡ new.at
+  pub start_rest : t.at.start.rest ≡ old.rest
+  pub start_at : t.at.start.at ≡ old.at
+  pub end_rest : t.at.end.rest ≡ new.rest
+  pub end_at : t.at.end.at ≡ new.at
 
 -- what a call returns
 abbrev pub Lexed : Here → Result (Option Token) LexFailure → Here → Type 0
