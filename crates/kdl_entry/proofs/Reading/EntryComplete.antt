@@ -39,7 +39,7 @@ module _ (whole : Text) where
   record Starts (st : State) : Type 0 where
     to_string : (v s r : Text) → step whole st (string v) s r ≡ Some (word (word_at whole v s r) r)
     to_value : (v : Value) (s r : Text) → step whole st (value v) s r ≡ Some (done (entry_by (between whole s) None None v (between s r)) r)
-    to_left : (s r : Text) → step whole st left s r ≡ Some (under (opened_item whole true (between whole s) r))
+    to_left : (s r : Text) → step whole st left s r ≡ Some (under (opened_item s true (between whole s) r))
     to_slashdash : (s r : Text) → step whole st a_slashdash s r ≡ Some entry_slashdash
 
   at_ahead : Starts ahead
@@ -53,28 +53,28 @@ module _ (whole : Text) where
     is_word : {w : Word} → argument_of w ≡ e → After e r (word w r)
     is_done : After e r (done e r)
 
-  abbrev item_at : Stage → Bool → Text → Text → Option KeyParts → Identifier → Text → Text → Item
-  item_at g kept q from k i b a = record { kept = kept; valued = true; stage = g; leading = q; start = whole; from = from; key = k; name = i; before = b; after = a }
+  abbrev item_at : Text → Stage → Bool → Text → Text → Option KeyParts → Identifier → Text → Text → Item
+  item_at h g kept q from k i b a = record { kept = kept; valued = true; stage = g; leading = q; start = h; from = from; key = k; name = i; before = b; after = a }
 
   abbrev parts : Text → Text → Text → Text → Text → Text → TypeParts
   parts y s1 s2 s3 s4 t = record { name = identifier_at whole y s2 s3; before = between s1 s2; after = between s3 (41 ∷ s4); behind = between s4 t }
 
   kept_type : (out : Entry) → {s1 s2 s3 s4 t r y : Text} {v : Value} → Star NodeSpace s1 s2 → IsString true s2 s3 y → Star NodeSpace s3 (41 ∷ s4) → Star NodeSpace s4 t → IsPlainValue true t r v
-      → (q : Text) (k : Option KeyParts) (i : Identifier) (b a : Text) → Runs whole out (done (entry_by q k (Some (parts y s1 s2 s3 s4 t)) v (between t r)) r) r → Runs whole out (under (item_at opened true q s1 k i b a)) s1
-  kept_type out {s1 = s1} {s2 = s2} {s3 = s3} {s4 = s4} {t = t} {r = r} {y = y} ss d us vs p q k i b a x =
+      → (h q : Text) (k : Option KeyParts) (i : Identifier) (b a : Text) → Runs whole out (done (entry_by q k (Some (parts y s1 s2 s3 s4 t)) v (between t r)) r) r → Runs whole out (under (item_at h opened true q s1 k i b a)) s1
+  kept_type out {s1 = s1} {s2 = s2} {s3 = s3} {s4 = s4} {t = t} {r = r} {y = y} ss d us vs p h q k i b a x =
       let n = identifier_at whole y s2 s3 in
-      stay out (under (item_at opened true q s1 k i b a)) (λ s r. refl) ss (read_string out d refl
-      (stay out (under (item_at named true q s3 k n (between s1 s2) a)) (λ s r. refl) us (reads t_right refl
-      (stay out (under (item_at closed true q s4 k n (between s1 s2) (between s3 (41 ∷ s4)))) (λ s r. refl) vs
-      (read_plain out p (under (item_at closed true q s4 k n (between s1 s2) (between s3 (41 ∷ s4)))) (λ v. done (entry_by q k (Some (parts y s1 s2 s3 s4 t)) v (between t r)) r) (λ v. refl) (λ v. refl) x)))))
+      stay out (under (item_at h opened true q s1 k i b a)) (λ s r. refl) ss (read_string out d refl
+      (stay out (under (item_at h named true q s3 k n (between s1 s2) a)) (λ s r. refl) us (reads t_right refl
+      (stay out (under (item_at h closed true q s4 k n (between s1 s2) (between s3 (41 ∷ s4)))) (λ s r. refl) vs
+      (read_plain out p (under (item_at h closed true q s4 k n (between s1 s2) (between s3 (41 ∷ s4)))) (λ v. done (entry_by q k (Some (parts y s1 s2 s3 s4 t)) v (between t r)) r) (λ v. refl) (λ v. refl) x)))))
 
   dropped_type : (out : Entry) → {s1 s2 s3 s4 t r y : Text} {v : Value} → Star NodeSpace s1 s2 → IsString true s2 s3 y → Star NodeSpace s3 (41 ∷ s4) → Star NodeSpace s4 t → IsPlainValue true t r v
-      → (q : Text) (k : Option KeyParts) (i : Identifier) (b a : Text) → Runs whole out (dropped false false) r → Runs whole out (under (item_at opened false q s1 k i b a)) s1
-  dropped_type out {s1 = s1} {s2 = s2} {s3 = s3} {s4 = s4} {t = t} {r = r} ss d us vs p q k i b a x =
-      stay out (under (item_at opened false q s1 k i b a)) (λ s r. refl) ss (read_string out d refl
-      (stay out (under (item_at named false q s3 k i b a)) (λ s r. refl) us (reads t_right refl
-      (stay out (under (item_at closed false q s4 k i b a)) (λ s r. refl) vs
-      (read_plain out p (under (item_at closed false q s4 k i b a)) (λ v. dropped false false) (λ v. refl) (λ v. refl) x)))))
+      → (h q : Text) (k : Option KeyParts) (i : Identifier) (b a : Text) → Runs whole out (dropped false false) r → Runs whole out (under (item_at h opened false q s1 k i b a)) s1
+  dropped_type out {s1 = s1} {s2 = s2} {s3 = s3} {s4 = s4} {t = t} {r = r} ss d us vs p h q k i b a x =
+      stay out (under (item_at h opened false q s1 k i b a)) (λ s r. refl) ss (read_string out d refl
+      (stay out (under (item_at h named false q s3 k i b a)) (λ s r. refl) us (reads t_right refl
+      (stay out (under (item_at h closed false q s4 k i b a)) (λ s r. refl) vs
+      (read_plain out p (under (item_at h closed false q s4 k i b a)) (λ v. dropped false false) (λ v. refl) (λ v. refl) x)))))
 
   spelled_at : {s r v : Text} → IsString true s r v → LaidIdentifier true whole (identifier_at whole v s r) s r
   spelled_at d = spelled (place d (end_string d)) refl
@@ -86,9 +86,9 @@ module _ (whole : Text) where
     same : option_map (λ (i : Identifier). i.value) (type_of type) ≡ y
     starts : (out : Entry) (st : State) → Starts st → ((st' : State) → After (entry_by (between whole s) None type v (between t r)) r st' → Runs whole out st' r) → Runs whole out st s
     drops : (out : Entry) → ((b : Bool) → Runs whole out (dropped b false) r) → Runs whole out entry_slashdash s
-    behind_key : (out : Entry) (q from : Text) (i : Identifier) (b : Text) → Runs whole out (done (entry_by q (Some (record { name = i; before = b; behind = between from s })) type v (between t r)) r) r
-        → Runs whole out (under (item_at keyed true q from None i b [])) s
-    drops_behind : (out : Entry) (from : Text) → Runs whole out (dropped false false) r → Runs whole out (under (item_at keyed false [] from None (plain_identifier []) [] [])) s
+    behind_key : (out : Entry) (h q from : Text) (i : Identifier) (b : Text) → Runs whole out (done (entry_by q (Some (record { name = i; before = b; behind = between from s })) type v (between t r)) r) r
+        → Runs whole out (under (item_at h keyed true q from None i b [])) s
+    drops_behind : (out : Entry) (h from : Text) → Runs whole out (dropped false false) r → Runs whole out (under (item_at h keyed false [] from None (plain_identifier []) [] [])) s
 
   starts_plain : {s r : Text} {v : Value} → IsPlainValue true s r v → (out : Entry) (st : State) → Starts st → ((st' : State) → After (entry_by (between whole s) None None v (between s r)) r st' → Runs whole out st' r) → Runs whole out st s
   starts_plain {s = s} {r = r} (a_string {v = v} d) out st z a = read_string out d (z.to_string v s r) (a (word (word_at whole v s r) r) (is_word refl))
@@ -105,17 +105,17 @@ module _ (whole : Text) where
     same = refl;
     starts = λ out st z a. starts_plain d out st z a;
     drops = λ out a. drops_plain d out a;
-    behind_key = λ out q from i b x. read_plain out d (under (item_at keyed true q from None i b [])) (λ v. done (entry_by q (Some (record { name = i; before = b; behind = between from s })) None v (between s r)) r) (λ v. refl) (λ v. refl) x;
-    drops_behind = λ out from x. read_plain out d (under (item_at keyed false [] from None (plain_identifier []) [] [])) (λ v. dropped false false) (λ v. refl) (λ v. refl) x;
+    behind_key = λ out h q from i b x. read_plain out d (under (item_at h keyed true q from None i b [])) (λ v. done (entry_by q (Some (record { name = i; before = b; behind = between from s })) None v (between s r)) r) (λ v. refl) (λ v. refl) x;
+    drops_behind = λ out h from x. read_plain out d (under (item_at h keyed false [] from None (plain_identifier []) [] [])) (λ v. dropped false false) (λ v. refl) (λ v. refl) x;
   }
   read_value {s = s} {t = t} {r = r} {v = v} (typed (parens {s = s1} {t = s2} {u = s3} {r = s4} {v = y} ss u us) vs) d = record {
     type = Some (parts y s1 s2 s3 s4 t);
     laid = a_type (place ss (end_spaces ss)) (spelled_at u) (place us (end_spaces us)) (place vs (end_spaces vs));
     same = refl;
-    starts = λ out st z a. reads t_left (z.to_left s s1) (kept_type out ss u us vs d (between whole s) None (plain_identifier []) [] [] (a (done (entry_by (between whole s) None (Some (parts y s1 s2 s3 s4 t)) v (between t r)) r) is_done));
-    drops = λ out a. reads t_left refl (dropped_type out ss u us vs d [] None (plain_identifier []) [] [] (a false));
-    behind_key = λ out q from i b x. reads t_left refl (kept_type out ss u us vs d q (Some (record { name = i; before = b; behind = between from s })) (plain_identifier []) [] [] x);
-    drops_behind = λ out from x. reads t_left refl (dropped_type out ss u us vs d [] None (plain_identifier []) [] [] x);
+    starts = λ out st z a. reads t_left (z.to_left s s1) (kept_type out ss u us vs d s (between whole s) None (plain_identifier []) [] [] (a (done (entry_by (between whole s) None (Some (parts y s1 s2 s3 s4 t)) v (between t r)) r) is_done));
+    drops = λ out a. reads t_left refl (dropped_type out ss u us vs d s [] None (plain_identifier []) [] [] (a false));
+    behind_key = λ out h q from i b x. reads t_left refl (kept_type out ss u us vs d h q (Some (record { name = i; before = b; behind = between from s })) (plain_identifier []) [] [] x);
+    drops_behind = λ out h from x. reads t_left refl (dropped_type out ss u us vs d h [] None (plain_identifier []) [] [] x);
   }
 
   record ReadItem (s r : Text) (e : data'.Entry) : Type 0 where
@@ -126,7 +126,7 @@ module _ (whole : Text) where
     drops : (out : Entry) → ((b : Bool) → Runs whole out (dropped b false) r) → Runs whole out entry_slashdash s
 
   -- over the spaces between a dropped string and its `=`
-  to_equals : (out : Entry) → {s u : Text} → Star NodeSpace s (61 ∷ u) → Runs whole out (under (item_at keyed false [] u None (plain_identifier []) [] [])) u → Runs whole out (dropped true false) s
+  to_equals : (out : Entry) → {s u : Text} → Star NodeSpace s (61 ∷ u) → Runs whole out (under (item_at (61 ∷ u) keyed false [] u None (plain_identifier []) [] [])) u → Runs whole out (dropped true false) s
   to_equals out no_star a = reads t_equals refl a
   to_equals out (more n m) a = reads (t_space n) refl (stay out (dropped true true) (λ s r. refl) m (reads t_equals refl a))
 
@@ -150,9 +150,9 @@ module _ (whole : Text) where
         same = λ q x. ap (λ (z : Option Text). record { key = Some k; ty = z; value = v }) V.same;
         starts = λ out st x a.
             read_string out d (x.to_string k s t) (stay out (word (word_at whole k s t) t) (λ s r. refl) ss (reads t_equals refl
-            (stay out (under (item_at keyed true (between whole s) u None i (between t (61 ∷ u)) [])) (λ s r. refl) us
-            (V.behind_key out (between whole s) u i (between t (61 ∷ u)) (a (done (entry_by (between whole s) (Some n) V.type v (between p r)) r) is_done)))));
-        drops = λ out a. read_string out d refl (to_equals out ss (stay out (under (item_at keyed false [] u None (plain_identifier []) [] [])) (λ s r. refl) us (V.drops_behind out u (a false))));
+            (stay out (under (item_at whole keyed true (between whole s) u None i (between t (61 ∷ u)) [])) (λ s r. refl) us
+            (V.behind_key out whole (between whole s) u i (between t (61 ∷ u)) (a (done (entry_by (between whole s) (Some n) V.type v (between p r)) r) is_done)))));
+        drops = λ out a. read_string out d refl (to_equals out ss (stay out (under (item_at (61 ∷ u) keyed false [] u None (plain_identifier []) [] [])) (λ s r. refl) us (V.drops_behind out (61 ∷ u) u (a false))));
       }
 
   read_dropped : (out : Entry) → {s t : Text} → Star (DroppedFirst true) s t → (st : State) → Starts st → ((st' : State) → Starts st' → Runs whole out st' t) → Runs whole out st s

@@ -173,7 +173,7 @@ starts_going t here e f = record {
 }
 
 pub next_going : (st st' : State) (old mid new : Here) (t : Text) (k : CodeToken) → Going st old t → HandsOut old k mid → Moves old mid
-    → step t st (kind_view k.kind) k.start.rest k.end.rest ≡ Some st' → Stays mid new → Going st' new t
+    → step t st (kind_view k.kind) k.at.start.rest k.at.end.rest ≡ Some st' → Stays mid new → Going st' new t
 next_going st st' old mid new t k g h m e y =
     let e' : step t st (kind_view k.kind) old.rest mid.rest ≡ Some st' = rw (h.start_rest, h.end_rest) at e in
     let piece : EndsIn old.rest mid.rest = m.piece in
@@ -191,14 +191,11 @@ next_going st st' old mid new t k g h m e y =
     }
 
 -- what a step asks of the places
-pub whole_start : (st : State) (old mid : Here) (place : Position) (k : CodeToken) → Going st old place.rest → HandsOut old k mid → Ahead place k.start
+pub whole_start : (st : State) (old mid : Here) (place : Position) (k : CodeToken) → Going st old place.rest → HandsOut old k mid → Ahead place k.at.start
 whole_start st old mid place k g h = rw h.start_rest g.text
 
-pub from_start : (st : State) (old mid : Here) (t : Text) (k : CodeToken) → Going st old t → HandsOut old k mid → Stands st k.start.rest
+pub from_start : (st : State) (old mid : Here) (t : Text) (k : CodeToken) → Going st old t → HandsOut old k mid → Stands st k.at.start.rest
 from_start st old mid t k g h = rw h.start_rest g.from
-
-pub start_end : (old mid : Here) (k : CodeToken) → HandsOut old k mid → Moves old mid → Ahead k.start k.end
-start_end old mid k h m = rw (h.start_rest, h.end_rest) m.piece
 
 pub bytes_before : (p s t : Text) (at : ℕ) → t ≡ p ++ s → at + bytes s ≡ bytes t → at ≡ bytes p
 bytes_before p s t at e f = omega (arith, ap bytes e, bytes-append p s, f)
@@ -212,7 +209,7 @@ told : (st : State) (here : Here) (t : Text) (place : Position) (span : SourceSp
 told st here t place span g e f x =
     char_in here.rest g.text.0 t span g.text.1 (x.offset ∙ f ∙ bytes_before g.text.0 here.rest t here.at g.text.1 g.at) (x.len ∙ ap first_len e)
 
-no_turn : (st : State) (old mid : Here) (t : Text) (k : CodeToken) → Going st old t → HandsOut old k mid → step t st (kind_view k.kind) k.start.rest k.end.rest ≡ None
+no_turn : (st : State) (old mid : Here) (t : Text) (k : CodeToken) → Going st old t → HandsOut old k mid → step t st (kind_view k.kind) k.at.start.rest k.at.end.rest ≡ None
     → (e : Entry) → AnswersEntry t e → ⊥
 no_turn st old mid t k g h e d a =
     let e' : step t st (kind_view k.kind) old.rest mid.rest ≡ None = rw (h.start_rest, h.end_rest) at e in
@@ -223,8 +220,8 @@ pub lexer_told : (st : State) (old new : Here) (t : Text) (e : LexFailure) → G
 lexer_told st old new t (Faulty span) g x = (λ d a. faults t d st old.rest x.0 ((g.same d).1 a), told st old t (record { rest = old.rest; at = old.at }) span g refl refl x.1)
 lexer_told st old new t Memory g x = tt
 
-pub take_told : (st : State) (old mid : Here) (t : Text) (k : CodeToken) (e : LexFailure) → Going st old t → HandsOut old k mid → Stepped (step t st (kind_view k.kind) k.start.rest k.end.rest) k.start (Err e) → AnswersEntryText t (Err e)
-take_told st old mid t k (Faulty span) g h x = (no_turn st old mid t k g h x.0, told st old t k.start span g h.start_rest h.start_at x.1)
+pub take_told : (st : State) (old mid : Here) (t : Text) (k : CodeToken) (e : LexFailure) → Going st old t → HandsOut old k mid → Stepped (step t st (kind_view k.kind) k.at.start.rest k.at.end.rest) k.at.start (Err e) → AnswersEntryText t (Err e)
+take_told st old mid t k (Faulty span) g h x = (no_turn st old mid t k g h x.0, told st old t k.at.start span g h.start_rest h.start_at x.1)
 take_told st old mid t k Memory g h x = tt
 
 -- a turn comes nearer to the end

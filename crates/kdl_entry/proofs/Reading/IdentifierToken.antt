@@ -65,22 +65,22 @@ string_kind (StringKind s) v e n = n s refl
 string_kind _ v e n = cc
 
 -- where the first token is no string
-pub other_told : (t : Text) (old mid : Here) (k : CodeToken) (span : SourceSpan) → old.rest ≡ t → old.at ≡ 0 → HandsOut old k mid → ((s : String Global) → k.kind ≡ StringKind s → ⊥) → IsFaultAt k.start span → AnswersIdentifierText t (Err (Faulty span))
+pub other_told : (t : Text) (old mid : Here) (k : CodeToken) (span : SourceSpan) → old.rest ≡ t → old.at ≡ 0 → HandsOut old k mid → ((s : String Global) → k.kind ≡ StringKind s → ⊥) → IsFaultAt k.at.start span → AnswersIdentifierText t (Err (Faulty span))
 other_told t old mid k span e f h n x = (
   λ v d. string_kind k.kind v (is_string (rw e at h.cuts) d).1 n,
-  place_told t k.start span [] (sym (h.start_rest ∙ e)) (omega (arith, ap bytes (h.start_rest ∙ e), h.start_at, f)) x,
+  place_told t k.at.start span [] (sym (h.start_rest ∙ e)) (omega (arith, ap bytes (h.start_rest ∙ e), h.start_at, f)) x,
 )
 
 -- where the text goes on after the first token
-pub more_told : (t : Text) (old mid : Here) (k : CodeToken) (span : SourceSpan) → old.rest ≡ t → old.at ≡ 0 → HandsOut old k mid → Moves old mid → (k.end.rest ≡ [] → ⊥) → IsFaultAt k.end span → AnswersIdentifierText t (Err (Faulty span))
+pub more_told : (t : Text) (old mid : Here) (k : CodeToken) (span : SourceSpan) → old.rest ≡ t → old.at ≡ 0 → HandsOut old k mid → Moves old mid → (k.at.end.rest ≡ [] → ⊥) → IsFaultAt k.at.end span → AnswersIdentifierText t (Err (Faulty span))
 more_told t old mid k span e f h m n x = (
   λ v d. n (h.end_rest ∙ (is_string (rw e at h.cuts) d).0),
-  place_told t k.end span m.piece.0 (sym e ∙ m.piece.1 ∙ ap (λ (z : Text). m.piece.0 ++ z) (sym h.end_rest)) (omega (arith, ap bytes h.end_rest, h.end_at, m.at, f, ap bytes e)) x,
+  place_told t k.at.end span m.piece.0 (sym e ∙ m.piece.1 ∙ ap (λ (z : Text). m.piece.0 ++ z) (sym h.end_rest)) (omega (arith, ap bytes h.end_rest, h.end_at, m.at, f, ap bytes e)) x,
 )
 
 -- where the first token is a string, and the text ends after it
-pub whole_laid : (t : Text) (old mid : Here) (k : CodeToken) (s : String Global) (i : Identifier) → old.rest ≡ t → HandsOut old k mid → k.kind ≡ StringKind s → k.end.rest ≡ []
-    → i ≡ identifier_at t (text_of s) k.start.rest k.end.rest → LaidIdentifierText true i t
+pub whole_laid : (t : Text) (old mid : Here) (k : CodeToken) (s : String Global) (i : Identifier) → old.rest ≡ t → HandsOut old k mid → k.kind ≡ StringKind s → k.at.end.rest ≡ []
+    → i ≡ identifier_at t (text_of s) k.at.start.rest k.at.end.rest → LaidIdentifierText true i t
 whole_laid t old mid k s i e h x n y =
     let c : Cuts old.rest (tokens.string (text_of s)) mid.rest = subst (λ (z : tokens.Token). Cuts old.rest z mid.rest) (ap kind_view x) h.cuts in
     let l = laid_whole (subst (λ (z : Text). Cuts z (tokens.string (text_of s)) mid.rest) e c) (sym h.end_rest ∙ n) in

@@ -7,6 +7,8 @@ use Rattle.std.specs.Str.{chars}
 use Rattle.std.specs.declared.alloc.Global.{Global}
 use Rattle.kdl_entry.specs.Places.{between}
 use Rattle.kdl_value.specs.Tree.{text_of}
+use Rattle.kdl_lexer.specs.declared.token_span.TokenSpan.{TokenSpan}
+use Rattle.kdl_lexer.proofs.Order.{ahead}
 use Rattle.kdl_text.specs.Chars.{Text}
 use Rattle.kdl_text.specs.Internal.Here.{Position, Ahead}
 
@@ -27,3 +29,7 @@ empty_text s e = ap chars e ∙ chars-nil
 -- a place before one that lies before a third lies before the third
 pub ahead_then : (a b c : Position) → Ahead a b → Ahead b c → Ahead a c
 ahead_then a b c x y = (x.0 ++ y.0, x.1 ∙ ap (λ (z : Text). x.0 ++ z) y.1 ∙ sym (append_assoc x.0 y.0 c.rest))
+
+-- a place before a token is before its end
+pub past_token : (from : Spot) (at : TokenSpan) → Ahead from at.start → Ahead from at.end
+past_token from at x = ahead_then from at.start at.end x (ahead at.start at.end at.order)

@@ -4,6 +4,8 @@ use Rattle.kdl_text.specs.Chars.{Text}
 use Rattle.kdl_text.specs.Internal.Here.{Here, Position, Ahead, sliced}
 use Rattle.kdl_text.specs.Spans.{bytes}
 use Rattle.kdl_text.proofs.Looking.MovesJoin.{bytes-append}
+use Rattle.kdl_lexer.specs.Order.{IsEndOf}
+use Rattle.kdl_lexer.proofs.Order.{ahead}
 use Rattle.kdl_entry.specs.Internal.Counted.{Sliced}
 
 -- a slice
@@ -13,3 +15,7 @@ piece_sliced p s r old new e f = record { most = omega (arith, ap bytes e, bytes
 -- what is ahead has fewer bytes
 pub ahead_fewer : (from to : Position) → Ahead from to → bytes to.rest ≤ bytes from.rest
 ahead_fewer from to (p, e) = omega (arith, ap bytes e, bytes-append p to.rest)
+
+-- what follows a token has fewer bytes than what follows its start
+pub token_fewer : (from to : Spot) → IsEndOf from.rest to.rest → bytes to.rest ≤ bytes from.rest
+token_fewer from to e = ahead_fewer from to (ahead from to e)

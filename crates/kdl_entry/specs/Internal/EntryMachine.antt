@@ -28,13 +28,13 @@ pub data State : Type 0 where
   word : Word → Text → State
   done : Entry → Text → State
 
--- an entry being read, after the `(` of its type
+-- an entry being read, after the `(` of its type, which is in s before r
 abbrev pub opened_item : Text → Bool → Text → Text → Item
-opened_item whole kept leading r = record { kept = kept; valued = true; stage = opened; leading = leading; start = whole; from = r; key = None; name = plain_identifier []; before = []; after = [] }
+opened_item s kept leading r = record { kept = kept; valued = true; stage = opened; leading = leading; start = s; from = r; key = None; name = plain_identifier []; before = []; after = [] }
 
 -- an entry being read, after the `=` that follows its key and this text
 abbrev pub keyed_item : Text → Bool → Text → Identifier → Text → Text → Item
-keyed_item whole kept leading name before r = record { kept = kept; valued = true; stage = keyed; leading = leading; start = whole; from = r; key = None; name = name; before = before; after = [] }
+keyed_item start kept leading name before r = record { kept = kept; valued = true; stage = keyed; leading = leading; start = start; from = r; key = None; name = name; before = before; after = [] }
 
 abbrev pub word_at : Text → Text → Text → Text → Word
 word_at whole v s r = record { leading = between whole s; value = v; repr = between s r; span = span_of whole s r }
@@ -69,19 +69,19 @@ step whole ahead newline s r = Some ahead
 step whole ahead slashdash s r = Some entry_slashdash
 step whole ahead (string v) s r = Some (word (word_at whole v s r) r)
 step whole ahead (value v) s r = Some (given true (between whole s) None None v s r)
-step whole ahead left s r = Some (under (opened_item whole true (between whole s) r))
+step whole ahead left s r = Some (under (opened_item s true (between whole s) r))
 step whole entry_slashdash space s r = Some entry_slashdash
 step whole entry_slashdash newline s r = Some entry_slashdash
 step whole entry_slashdash (string v) s r = Some (dropped true false)
 step whole entry_slashdash (value v) s r = Some (dropped false false)
-step whole entry_slashdash left s r = Some (under (opened_item whole false [] r))
+step whole entry_slashdash left s r = Some (under (opened_item s false [] r))
 step whole (under it) k s r = came it (items.step whole it k s r) s r
 step whole (dropped b c) space s r = Some (dropped b true)
-step whole (dropped true c) equals s r = Some (under (keyed_item whole false [] (plain_identifier []) [] r))
+step whole (dropped true c) equals s r = Some (under (keyed_item s false [] (plain_identifier []) [] r))
 step whole (dropped b true) slashdash s r = Some entry_slashdash
 step whole (dropped b true) (string v) s r = Some (word (word_at whole v s r) r)
 step whole (dropped b true) (value v) s r = Some (given true (between whole s) None None v s r)
-step whole (dropped b true) left s r = Some (under (opened_item whole true (between whole s) r))
+step whole (dropped b true) left s r = Some (under (opened_item s true (between whole s) r))
 step whole (word w from) space s r = Some (word w from)
 step whole (word w from) newline s r = Some (done (argument_of w) from)
 step whole (word w from) equals s r = Some (under (keyed_item whole true w.leading (word_identifier w) (between from s) r))

@@ -35,7 +35,7 @@ state_view EntrySlashdash = machine.entry_slashdash
 state_view (Under it) = under (item_view it)
 state_view (AfterDropped d) = machine.dropped (dropped_view d) false
 state_view (Spaced d) = machine.dropped (dropped_view d) true
-state_view (Pending w from) = word (word_view w) from.rest
+state_view (Pending w) = word (word_view w) w.end.rest
 state_view (Done e from) = done (entry_tree e) from.rest
 
 -- the second text is an end of the first

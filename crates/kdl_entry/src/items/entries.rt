@@ -12,11 +12,11 @@ ghost use Rattle.kdl_text.specs.Internal.Here.{Ahead};
 ghost use Rattle.std.specs.Prelude.{◌≡◌, [], Some, None, true, false, IfOk};
 ghost use Rattle.std.specs.Str.{chars};
 
-use super::item::{Given, Item, Owner, entry_from, piece_between, text_between};
+use super::item::{Given, Item, Key, Owner, entry_from, piece_between, text_between};
 use crate::entry::KdlEntry;
 use crate::identifier::{KdlIdentifier, sliced_identifier};
 use kdl_diagnostics::{Whole, failure};
-use kdl_lexer::{LexFailure, Lexer, Token, TokenKind, fault_at};
+use kdl_lexer::{LexFailure, Lexer, Token, TokenKind, TokenSpan, fault_at};
 use kdl_text::cursor::{Checkpoint, Piece, Steps};
 use kdl_text::error::ParseFailure;
 use kdl_text::span::SourceSpan;
@@ -35,6 +35,8 @@ struct Word<'a> {
     /// Its spelling, which is copied if it differs from the string.
     repr: Piece<'a>,
     span: SourceSpan,
+    /// Where it ends.
+    end: Checkpoint<'a>,
 }
 
 /// A slashdashed entry: a string, which may still be a key, or something else.
@@ -57,32 +59,28 @@ enum State<'a> {
     Dropped(Dropped),
     /// Spaces after a slashdashed entry.
     Spaced(Dropped),
-    /// A string that may still be a key, and where it ended.
-    Pending(Word<'a>, Checkpoint<'a>),
+    /// A string that may still be a key.
+    Pending(Word<'a>),
     /// The entry, and where it ended.
     Done(KdlEntry, Checkpoint<'a>),
 }
 
-/// Begins an entry after the `(` of its type.
-fn opened<'a>(
-    alloc: Global,
-    whole: &Checkpoint<'a>,
-    leading: String,
-    end: &Checkpoint<'a>,
-) -> Item<'a>
-    ensures { item_view result ≡ opened_item whole.now.rest true (text_of leading) end.now.rest }
+/// Begins an entry at the `(` of its type.
+fn opened<'a>(alloc: Global, leading: String, at: &TokenSpan<'a>) -> Item<'a>
+    ensures { item_view result
+        ≡ opened_item at.now.start.rest true (text_of leading) at.now.end.rest }
 {
-    let mut item = Item::new(alloc, whole);
-    item.open(Owner::Value, leading, whole, end);
+    let mut item = Item::new(alloc, &at.start);
+    item.open(Owner::Value, leading, at);
     item
 }
 
-/// An entry under way that is slashdashed, after the `(` of its type.
-fn opened_dropped<'a>(alloc: Global, whole: &Checkpoint<'a>, end: &Checkpoint<'a>) -> Item<'a>
-    ensures { item_view result ≡ opened_item whole.now.rest false [] end.now.rest }
+/// An entry under way that is slashdashed, at the `(` of its type.
+fn opened_dropped<'a>(alloc: Global, at: &TokenSpan<'a>) -> Item<'a>
+    ensures { item_view result ≡ opened_item at.now.start.rest false [] at.now.end.rest }
 {
-    let mut item = Item::new(alloc, whole);
-    item.open_dropped(alloc, Owner::Value, whole, end);
+    let mut item = Item::new(alloc, &at.start);
+    item.open_dropped(Owner::Value, at);
     item
 }
 
@@ -91,73 +89,77 @@ fn keyed<'a>(
     alloc: Global,
     whole: &Checkpoint<'a>,
     leading: String,
-    name: KdlIdentifier,
-    before: String,
+    key: Key,
     end: &Checkpoint<'a>,
 ) -> Item<'a>
     ensures { item_view result
-        ≡ keyed_item whole.now.rest true (text_of leading) (identifier_tree name)
-        (text_of before) end.now.rest }
+        ≡ keyed_item whole.now.rest true (text_of leading) (identifier_tree key.name)
+        (text_of key.before) end.now.rest }
 {
     let mut item = Item::new(alloc, whole);
-    item.open_keyed(leading, whole, name, before, end);
+    item.open_keyed(leading, whole, key, end);
     item
 }
 
-/// A property under way that is slashdashed, after its `=`.
-fn keyed_dropped<'a>(alloc: Global, whole: &Checkpoint<'a>, end: &Checkpoint<'a>) -> Item<'a>
+/// A property under way that is slashdashed, at its `=`.
+fn keyed_dropped<'a>(alloc: Global, at: &TokenSpan<'a>) -> Item<'a>
     ensures { item_view result
-        ≡ keyed_item whole.now.rest false [] (plain_identifier []) [] end.now.rest }
+        ≡ keyed_item at.now.start.rest false [] (plain_identifier []) [] at.now.end.rest }
 {
-    let mut item = Item::new(alloc, whole);
-    item.open_dropped_keyed(alloc, whole, end);
+    let mut item = Item::new(alloc, &at.start);
+    item.open_dropped_keyed(at);
     item
 }
 
-/// The string between two places, and the text before it.
-#[tactic(auto, unfolding(crate::specs::Places::span_of))]
+/// The string that the token is, and the text before it.
+#[tactic(auto, unfolding(crate::specs::Places::span_of), using(kdl_lexer::proofs::Order::ahead))]
 fn word_between<'a>(
     alloc: Global,
     lexer: &mut Lexer<'a>,
     whole: &Checkpoint<'a>,
     value: String,
-    start: &Checkpoint<'a>,
-    end: &Checkpoint<'a>,
+    at: TokenSpan<'a>,
 ) -> Result<Word<'a>, AllocError>
-    requires leading { Ahead whole.now start.now }
-    requires token { Ahead start.now end.now }
+    requires leading { Ahead whole.now at.start }
     ensures is { IfOk result
-        (λ w. word_view w ≡ word_at whole.now.rest (text_of value) start.now.rest end.now.rest) }
+        (λ w. word_view w
+        ≡ word_at whole.now.rest (text_of value) at.entry.start.rest at.entry.end.rest) }
+    ensures end { IfOk result (λ w. w.end ≡ at.entry.end) }
     ensures stays { Stays lexer.old lexer.new }
 {
-    let leading = text_between(alloc, lexer, whole, start)?;
+    let leading = text_between(alloc, lexer, whole, &at.start)?;
     Ok(Word {
         leading,
         value,
-        repr: piece_between(lexer, start, end),
-        span: whole.span_between(start, end),
+        repr: piece_between(lexer, &at.start, &at.end),
+        span: whole.span_between(&at.start, &at.end),
+        end: at.end,
     })
 }
 
-/// The value between two places, as an argument, and the text before it.
+/// The value that the token is, as an argument, and the text before it.
+#[tactic(auto, using(kdl_lexer::proofs::Order::ahead))]
 fn argument_between<'a>(
     alloc: Global,
     lexer: &mut Lexer<'a>,
     whole: &Checkpoint<'a>,
     value: KdlValue,
-    start: &Checkpoint<'a>,
-    end: &Checkpoint<'a>,
+    at: &TokenSpan<'a>,
 ) -> Result<KdlEntry, AllocError>
-    requires leading { Ahead whole.now start.now }
-    requires token { Ahead start.now end.now }
+    requires leading { Ahead whole.now at.now.start }
     ensures is { IfOk result
-        (λ e. entry_tree e ≡ entry_by (between whole.now.rest start.now.rest) None None
-        (value_tree value) (between start.now.rest end.now.rest)) }
+        (λ e. entry_tree e ≡ entry_by (between whole.now.rest at.now.start.rest) None None
+        (value_tree value) (between at.now.start.rest at.now.end.rest)) }
     ensures stays { Stays lexer.old lexer.new }
 {
-    let leading = text_between(alloc, lexer, whole, start)?;
-    let repr = text_between(alloc, lexer, start, end)?;
-    Ok(entry_from(alloc, UNPLACED, leading, None, None, value, repr))
+    let leading = text_between(alloc, lexer, whole, &at.start)?;
+    let repr = text_between(alloc, lexer, &at.start, &at.end)?;
+    let given = Given {
+        key: None,
+        ty: None,
+        value,
+    };
+    Ok(entry_from(alloc, UNPLACED, leading, given, repr))
 }
 
 /// The word as an argument.
@@ -169,17 +171,15 @@ fn argument(alloc: Global, word: Word) -> Result<KdlEntry, AllocError>
         value,
         repr,
         span: _,
+        end: _,
     } = word;
     let repr = repr.to_string(alloc)?;
-    Ok(entry_from(
-        alloc,
-        UNPLACED,
-        leading,
-        None,
-        None,
-        KdlValue::String(value),
-        repr,
-    ))
+    let given = Given {
+        key: None,
+        ty: None,
+        value: KdlValue::String(value),
+    };
+    Ok(entry_from(alloc, UNPLACED, leading, given, repr))
 }
 
 /// Takes a token before the entry.
@@ -187,32 +187,31 @@ fn at_start<'a>(
     alloc: Global,
     lexer: &mut Lexer<'a>,
     whole: &Checkpoint<'a>,
-    kind: TokenKind,
-    start: &Checkpoint<'a>,
-    end: &Checkpoint<'a>,
+    token: Token<'a>,
 ) -> Result<State<'a>, LexFailure>
-    requires leading { Ahead whole.now start.now }
-    requires token { Ahead start.now end.now }
+    requires leading { Ahead whole.now token.at.start }
     ensures did { Stepped (step whole.now.rest machine.ahead
-        (kind_view kind) start.now.rest end.now.rest) start.now result }
+        (kind_view token.entry.kind) token.entry.at.start.rest token.entry.at.end.rest)
+        token.entry.at.start result }
     ensures stays { Stays lexer.old lexer.new }
 {
+    let Token { kind, at } = token;
     match kind {
         TokenKind::Space | TokenKind::Newline => Ok(State::Start),
         TokenKind::Slashdash => Ok(State::EntrySlashdash),
         TokenKind::String(value) => {
-            let word = word_between(alloc, lexer, whole, value, start, end)?;
-            Ok(State::Pending(word, end.copied()))
+            let word = word_between(alloc, lexer, whole, value, at)?;
+            Ok(State::Pending(word))
         }
         TokenKind::Value(value) => {
-            let entry = argument_between(alloc, lexer, whole, value, start, end)?;
-            Ok(State::Done(entry, end.copied()))
+            let entry = argument_between(alloc, lexer, whole, value, &at)?;
+            Ok(State::Done(entry, at.end))
         }
         TokenKind::Left => {
-            let leading = text_between(alloc, lexer, whole, start)?;
-            Ok(State::Under(opened(alloc, whole, leading, end)))
+            let leading = text_between(alloc, lexer, whole, &at.start)?;
+            Ok(State::Under(opened(alloc, leading, &at)))
         }
-        _ => Err(LexFailure::Faulty(fault_at(start))),
+        _ => Err(LexFailure::Faulty(fault_at(&at.start))),
     }
 }
 
@@ -220,47 +219,46 @@ fn at_start<'a>(
 fn at_slashdash<'a>(
     alloc: Global,
     whole: &Checkpoint<'a>,
-    kind: TokenKind,
-    start: &Checkpoint<'a>,
-    end: &Checkpoint<'a>,
+    token: Token<'a>,
 ) -> Result<State<'a>, LexFailure>
     ensures { Stepped (step whole.now.rest machine.entry_slashdash
-        (kind_view kind) start.now.rest end.now.rest) start.now result }
+        (kind_view token.entry.kind) token.entry.at.start.rest token.entry.at.end.rest)
+        token.entry.at.start result }
 {
+    let Token { kind, at } = token;
     match kind {
         TokenKind::Space | TokenKind::Newline => Ok(State::EntrySlashdash),
         TokenKind::String(_) => Ok(State::Dropped(Dropped::MayBeKey)),
         TokenKind::Value(_) => Ok(State::Dropped(Dropped::NoKey)),
-        TokenKind::Left => Ok(State::Under(opened_dropped(alloc, whole, end))),
-        _ => Err(LexFailure::Faulty(fault_at(start))),
+        TokenKind::Left => Ok(State::Under(opened_dropped(alloc, &at))),
+        _ => Err(LexFailure::Faulty(fault_at(&at.start))),
     }
 }
 
 /// Takes a token in an entry.
+#[tactic(auto, using(kdl_lexer::proofs::Order::ahead))]
 fn at_under<'a>(
     mut item: Item<'a>,
-    alloc: Global,
     lexer: &mut Lexer<'a>,
     whole: &Checkpoint<'a>,
-    kind: TokenKind,
-    start: &Checkpoint<'a>,
-    end: &Checkpoint<'a>,
+    token: Token<'a>,
 ) -> Result<State<'a>, LexFailure>
-    requires from { Ahead item.from start.now }
-    requires token { Ahead start.now end.now }
+    requires from { Ahead item.from token.at.start }
     ensures did { Stepped (step whole.now.rest (machine.under (item_view item.entry))
-        (kind_view kind) start.now.rest end.now.rest) start.now result }
+        (kind_view token.entry.kind) token.entry.at.start.rest token.entry.at.end.rest)
+        token.entry.at.start result }
     ensures stays { Stays lexer.old lexer.new }
 {
-    let Some(Given { key, ty, value }) = item.take(alloc, lexer, whole, kind, start, end)? else {
+    let Token { kind, at } = token;
+    let Some(given) = item.take(lexer, whole, kind, &at)? else {
         return Ok(State::Under(item));
     };
     if !item.kept {
         return Ok(State::Dropped(Dropped::NoKey));
     }
-    let repr = text_between(alloc, lexer, start, end)?;
-    let entry = entry_from(alloc, UNPLACED, item.leading, key, ty, value, repr);
-    Ok(State::Done(entry, end.copied()))
+    let repr = text_between(item.alloc, lexer, &at.start, &at.end)?;
+    let entry = entry_from(item.alloc, UNPLACED, item.leading, given, repr);
+    Ok(State::Done(entry, at.end))
 }
 
 /// Takes a token directly after a slashdashed entry.
@@ -268,19 +266,19 @@ fn at_dropped<'a>(
     dropped: Dropped,
     alloc: Global,
     whole: &Checkpoint<'a>,
-    kind: TokenKind,
-    start: &Checkpoint<'a>,
-    end: &Checkpoint<'a>,
+    token: Token<'a>,
 ) -> Result<State<'a>, LexFailure>
     ensures { Stepped (step whole.now.rest (machine.dropped (dropped_view dropped) false)
-        (kind_view kind) start.now.rest end.now.rest) start.now result }
+        (kind_view token.entry.kind) token.entry.at.start.rest token.entry.at.end.rest)
+        token.entry.at.start result }
 {
+    let Token { kind, at } = token;
     match kind {
         TokenKind::Space => Ok(State::Spaced(dropped)),
         TokenKind::Equals if matches!(dropped, Dropped::MayBeKey) => {
-            Ok(State::Under(keyed_dropped(alloc, whole, end)))
+            Ok(State::Under(keyed_dropped(alloc, &at)))
         }
-        _ => Err(LexFailure::Faulty(fault_at(start))),
+        _ => Err(LexFailure::Faulty(fault_at(&at.start))),
     }
 }
 
@@ -290,54 +288,57 @@ fn at_spaced<'a>(
     alloc: Global,
     lexer: &mut Lexer<'a>,
     whole: &Checkpoint<'a>,
-    kind: TokenKind,
-    start: &Checkpoint<'a>,
-    end: &Checkpoint<'a>,
+    token: Token<'a>,
 ) -> Result<State<'a>, LexFailure>
-    requires leading { Ahead whole.now start.now }
-    requires token { Ahead start.now end.now }
+    requires leading { Ahead whole.now token.at.start }
     ensures did { Stepped (step whole.now.rest (machine.dropped (dropped_view dropped) true)
-        (kind_view kind) start.now.rest end.now.rest) start.now result }
+        (kind_view token.entry.kind) token.entry.at.start.rest token.entry.at.end.rest)
+        token.entry.at.start result }
     ensures stays { Stays lexer.old lexer.new }
 {
-    match kind {
-        TokenKind::Space | TokenKind::Equals => at_dropped(dropped, alloc, whole, kind, start, end),
-        TokenKind::Newline => Err(LexFailure::Faulty(fault_at(start))),
-        kind => at_start(alloc, lexer, whole, kind, start, end),
+    match token.kind {
+        TokenKind::Space | TokenKind::Equals => at_dropped(dropped, alloc, whole, token),
+        TokenKind::Newline => Err(LexFailure::Faulty(fault_at(&token.at.start))),
+        _ => at_start(alloc, lexer, whole, token),
     }
 }
 
 /// Takes a token after a string that may still be a key.
 fn at_pending<'a>(
     word: Word<'a>,
-    from: Checkpoint<'a>,
     alloc: Global,
     lexer: &mut Lexer<'a>,
     whole: &Checkpoint<'a>,
-    kind: TokenKind,
-    start: &Checkpoint<'a>,
-    end: &Checkpoint<'a>,
+    token: Token<'a>,
 ) -> Result<State<'a>, LexFailure>
-    requires { Ahead from start.now }
-    ensures did { Stepped (step whole.now.rest (machine.word (word_view word.entry) from.entry.rest)
-        (kind_view kind) start.now.rest end.now.rest) start.now result }
+    requires { Ahead word.end token.at.start }
+    ensures did { Stepped (step whole.now.rest
+        (machine.word (word_view word.entry) word.entry.end.rest)
+        (kind_view token.entry.kind) token.entry.at.start.rest token.entry.at.end.rest)
+        token.entry.at.start result }
     ensures stays { Stays lexer.old lexer.new }
 {
+    let Token { kind, at } = token;
     match kind {
-        TokenKind::Space => Ok(State::Pending(word, from)),
-        TokenKind::Newline => Ok(State::Done(argument(alloc, word)?, from)),
+        TokenKind::Space => Ok(State::Pending(word)),
+        TokenKind::Newline => {
+            let end = word.end.copied();
+            Ok(State::Done(argument(alloc, word)?, end))
+        }
         TokenKind::Equals => {
-            let before = text_between(alloc, lexer, &from, start)?;
+            let before = text_between(alloc, lexer, &word.end, &at.start)?;
             let Word {
                 leading,
                 value,
                 repr,
                 span,
+                end: _,
             } = word;
             let name = sliced_identifier(alloc, value, &repr, span)?;
-            Ok(State::Under(keyed(alloc, whole, leading, name, before, end)))
+            let key = Key { name, before };
+            Ok(State::Under(keyed(alloc, whole, leading, key, &at.end)))
         }
-        _ => Err(LexFailure::Faulty(fault_at(start))),
+        _ => Err(LexFailure::Faulty(fault_at(&at.start))),
     }
 }
 
@@ -346,16 +347,15 @@ fn at_done<'a>(
     entry: KdlEntry,
     from: Checkpoint<'a>,
     whole: &Checkpoint<'a>,
-    kind: TokenKind,
-    start: &Checkpoint<'a>,
-    end: &Checkpoint<'a>,
+    token: Token<'a>,
 ) -> Result<State<'a>, LexFailure>
     ensures { Stepped (step whole.now.rest (machine.done (entry_tree entry) from.entry.rest)
-        (kind_view kind) start.now.rest end.now.rest) start.now result }
+        (kind_view token.entry.kind) token.entry.at.start.rest token.entry.at.end.rest)
+        token.entry.at.start result }
 {
-    match kind {
+    match token.kind {
         TokenKind::Space | TokenKind::Newline => Ok(State::Done(entry, from)),
-        _ => Err(LexFailure::Faulty(fault_at(start))),
+        _ => Err(LexFailure::Faulty(fault_at(&token.at.start))),
     }
 }
 
@@ -392,25 +392,21 @@ impl<'a> State<'a> {
         whole: &Checkpoint<'a>,
         token: Token<'a>,
     ) -> Result<State<'a>, LexFailure>
-        requires leading { Ahead whole.now token.start }
-        requires from { Stands (state_view self) token.start.rest }
-        requires token { Ahead token.start token.end }
+        requires leading { Ahead whole.now token.at.start }
+        requires from { Stands (state_view self) token.at.start.rest }
         ensures did { Stepped (step whole.now.rest (state_view self.entry)
-            (kind_view token.entry.kind) token.entry.start.rest token.entry.end.rest)
-            token.entry.start result }
+            (kind_view token.entry.kind) token.entry.at.start.rest token.entry.at.end.rest)
+            token.entry.at.start result }
         ensures stays { Stays lexer.old lexer.new }
     {
-        let Token { kind, start, end } = token;
         match self {
-            State::Start => at_start(alloc, lexer, whole, kind, &start, &end),
-            State::EntrySlashdash => at_slashdash(alloc, whole, kind, &start, &end),
-            State::Under(item) => at_under(item, alloc, lexer, whole, kind, &start, &end),
-            State::Dropped(dropped) => at_dropped(dropped, alloc, whole, kind, &start, &end),
-            State::Spaced(dropped) => at_spaced(dropped, alloc, lexer, whole, kind, &start, &end),
-            State::Pending(word, from) => {
-                at_pending(word, from, alloc, lexer, whole, kind, &start, &end)
-            }
-            State::Done(entry, from) => at_done(entry, from, whole, kind, &start, &end),
+            State::Start => at_start(alloc, lexer, whole, token),
+            State::EntrySlashdash => at_slashdash(alloc, whole, token),
+            State::Under(item) => at_under(item, lexer, whole, token),
+            State::Dropped(dropped) => at_dropped(dropped, alloc, whole, token),
+            State::Spaced(dropped) => at_spaced(dropped, alloc, lexer, whole, token),
+            State::Pending(word) => at_pending(word, alloc, lexer, whole, token),
+            State::Done(entry, from) => at_done(entry, from, whole, token),
         }
     }
 
@@ -426,13 +422,11 @@ impl<'a> State<'a> {
         ensures { IfOk result (λ e. Ended (finish whole.now.rest (state_view self.entry)) e) }
     {
         match self {
-            State::Pending(word, from) => Ok(Some(ended(
-                argument(alloc, word)?,
-                alloc,
-                lexer,
-                whole,
-                &from,
-            )?)),
+            State::Pending(word) => {
+                let end = word.end.copied();
+                let entry = argument(alloc, word)?;
+                Ok(Some(ended(entry, alloc, lexer, whole, &end)?))
+            }
             State::Done(entry, from) => Ok(Some(ended(entry, alloc, lexer, whole, &from)?)),
             _ => Ok(None),
         }
@@ -440,7 +434,7 @@ impl<'a> State<'a> {
 }
 
 /// Reads the entry that the text is; the lexer is at its start.
-#[tactic(auto, using(crate::proofs::Reading::EntryLoop::starts_going, crate::proofs::Reading::EntryLoop::next_going, crate::proofs::Reading::EntryLoop::whole_start, crate::proofs::Reading::EntryLoop::from_start, crate::proofs::Reading::EntryLoop::start_end, crate::proofs::Reading::EntryLoop::lexer_told, crate::proofs::Reading::EntryLoop::take_told, crate::proofs::Reading::EntryLoop::all_read, crate::proofs::Reading::EntryLoop::from_end, crate::proofs::Reading::EntryLoop::at_the_end, crate::proofs::Reading::EntryLoop::no_end, crate::proofs::Reading::EntryLoop::nearer))]
+#[tactic(auto, using(crate::proofs::Reading::EntryLoop::starts_going, crate::proofs::Reading::EntryLoop::next_going, crate::proofs::Reading::EntryLoop::whole_start, crate::proofs::Reading::EntryLoop::from_start, crate::proofs::Reading::EntryLoop::lexer_told, crate::proofs::Reading::EntryLoop::take_told, crate::proofs::Reading::EntryLoop::all_read, crate::proofs::Reading::EntryLoop::from_end, crate::proofs::Reading::EntryLoop::at_the_end, crate::proofs::Reading::EntryLoop::no_end))]
 fn read_tokens<'a>(
     alloc: Global,
     lexer: &mut Lexer<'a>,

@@ -32,18 +32,18 @@ fn read_token<'a>(
     requires start { whole.now.at ≡ 0 }
     ensures { AnswersIdentifierText whole.now.rest result }
 {
-    let Token { kind, start, end } = match lexer.next(alloc) {
+    let Token { kind, at } = match lexer.next(alloc) {
         Ok(Some(token)) => token,
         Ok(None) => return Err(LexFailure::Faulty(fault_at(whole))),
         Err(failure) => return Err(failure),
     };
     let TokenKind::String(value) = kind else {
-        return Err(LexFailure::Faulty(fault_at(&start)));
+        return Err(LexFailure::Faulty(fault_at(&at.start)));
     };
-    if !is_end(&end) {
-        return Err(LexFailure::Faulty(fault_at(&end)));
+    if !is_end(&at.end) {
+        return Err(LexFailure::Faulty(fault_at(&at.end)));
     }
-    Ok(identifier_between(alloc, lexer, whole, value, &start, &end)?)
+    Ok(identifier_between(alloc, lexer, whole, value, &at)?)
 }
 
 /// Reads the identifier that the text is.

@@ -16,7 +16,7 @@ ghost use Rattle.std.specs.Prelude.{◌≡◌, if◌then◌else◌, [], Some, No
 
 use crate::entry::{KdlEntry, KdlEntryFormat};
 use crate::identifier::{KdlIdentifier, sliced_identifier};
-use kdl_lexer::{LexFailure, Lexer, TokenKind, fault_at};
+use kdl_lexer::{LexFailure, Lexer, TokenKind, TokenSpan, fault_at};
 use kdl_text::cursor::{Checkpoint, Piece};
 use kdl_text::span::SourceSpan;
 use kdl_value::KdlValue;
@@ -40,6 +40,13 @@ pub struct KeyParts {
     pub behind: String,
 }
 
+/// A key, and the text before its `=`.
+#[derive(Drop)]
+pub struct Key {
+    pub name: KdlIdentifier,
+    pub before: String,
+}
+
 /// What a type precedes: the name of a node, or a value.
 #[derive(Clone, Copy)]
 pub enum Owner {
@@ -59,6 +66,7 @@ pub enum Stage {
 /// An item being read. The name and the texts around it are those of its type, or after `=` those of its key.
 #[derive(Drop)]
 pub struct Item<'a> {
+    pub alloc: Global,
     /// Whether the item is kept, and not slashdashed. No text is held of an item that is not kept.
     pub kept: bool,
     /// What its type precedes. A name is a string, a value any value.
@@ -146,34 +154,32 @@ pub fn span_at(whole: &Checkpoint, start: &Checkpoint, end: &Checkpoint) -> Sour
     whole.span_between(start, end)
 }
 
-/// Returns the identifier between two places, in the text that begins at `whole`.
+/// Returns the identifier that a token is, in the text that begins at `whole`.
 ///
 /// ```
 /// let mut lexer = Lexer::new("\"ab\"=1", Steps::new());
 /// let whole = lexer.checkpoint();
-/// let token = lexer.next(alloc)?; // the string `ab`
-/// let value = String::from_str(alloc, "ab")?;
-/// let end = lexer.checkpoint();
-/// let name = identifier_between(alloc, &mut lexer, &whole, value, &whole, &end)?; // prints "\"ab\""
+/// if let Some(Token { kind: TokenKind::String(value), at }) = lexer.next(alloc)? {
+///     let name = identifier_between(alloc, &mut lexer, &whole, value, &at)?; // prints "\"ab\""
+/// }
 /// ```
 #[inline]
+#[tactic(auto, using(kdl_lexer::proofs::Order::ahead))]
 pub fn identifier_between<'a>(
     alloc: Global,
     lexer: &mut Lexer<'a>,
     whole: &Checkpoint<'a>,
     value: String,
-    start: &Checkpoint<'a>,
-    end: &Checkpoint<'a>,
+    at: &TokenSpan<'a>,
 ) -> Result<KdlIdentifier, AllocError>
-    requires { Ahead start.now end.now }
     ensures is { IfOk result
         (λ i. identifier_tree i
-        ≡ identifier_at whole.now.rest (text_of value) start.now.rest end.now.rest) }
+        ≡ identifier_at whole.now.rest (text_of value) at.now.start.rest at.now.end.rest) }
     ensures stays { Stays lexer.old lexer.new }
-    ensures sliced { Sliced (bytes start.now.rest) (bytes end.now.rest) lexer.old lexer.new }
+    ensures sliced { Sliced (bytes at.now.start.rest) (bytes at.now.end.rest) lexer.old lexer.new }
 {
-    let piece = piece_between(lexer, start, end);
-    let span = span_at(whole, start, end);
+    let piece = piece_between(lexer, &at.start, &at.end);
+    let span = span_at(whole, &at.start, &at.end);
     sliced_identifier(alloc, value, &piece, span)
 }
 
@@ -194,23 +200,23 @@ pub fn empty(alloc: Global) -> String
 /// ```
 /// let span = SourceSpan { offset: 0, len: 5 };
 /// let leading = String::from_str(alloc, " ")?;
+/// let given = Given { key: None, ty: None, value: KdlValue::from(16) };
 /// let repr = String::from_str(alloc, "0x10")?;
-/// let entry = entry_from(alloc, span, leading, None, None, KdlValue::from(16), repr); // prints " 0x10"
+/// let entry = entry_from(alloc, span, leading, given, repr); // prints " 0x10"
 /// ```
 #[inline]
 pub fn entry_from(
     alloc: Global,
     span: SourceSpan,
     leading: String,
-    key: Option<KeyParts>,
-    ty: Option<TypeParts>,
-    value: KdlValue,
+    given: Given,
     repr: String,
 ) -> KdlEntry
     ensures { entry_tree result
-        ≡ entry_at span (text_of leading) (option_map key_view key) (option_map type_view ty)
-        (value_tree value) (text_of repr) }
+        ≡ entry_at span (text_of leading) (option_map key_view given.key)
+        (option_map type_view given.ty) (value_tree given.value) (text_of repr) }
 {
+    let Given { key, ty, value } = given;
     let mut format = KdlEntryFormat::new(alloc);
     format.value_repr = repr;
     format.leading = leading;
@@ -260,6 +266,7 @@ impl<'a> Item<'a> {
         ensures from { result.from ≡ place.now }
     {
         Item {
+            alloc,
             kept: false,
             owner: Owner::Name,
             stage: Stage::Opened,
@@ -273,21 +280,20 @@ impl<'a> Item<'a> {
         }
     }
 
-    /// Begins an item after the `(` of its type.
+    /// Begins an item at the `(` of its type.
     ///
     /// ```
     /// let mut lexer = Lexer::new("(u8)1", Steps::new());
-    /// let start = lexer.checkpoint();
-    /// let left = lexer.next(alloc)?; // `(`
-    /// let mut item = Item::new(alloc, &start);
-    /// item.open(Owner::Value, empty(alloc), &start, &lexer.checkpoint()); // the type's name is expected
+    /// let mut item = Item::new(alloc, &lexer.checkpoint());
+    /// if let Some(left) = lexer.next(alloc)? {
+    ///     item.open(Owner::Value, empty(alloc), &left.at); // the type's name is expected
+    /// }
     /// ```
     pub fn open(
         &mut self,
         owner: Owner,
         leading: String,
-        start: &Checkpoint<'a>,
-        end: &Checkpoint<'a>,
+        at: &TokenSpan<'a>,
     )
         ensures is { item_view self.new
             ≡ record (item_view self.old) {
@@ -296,37 +302,35 @@ impl<'a> Item<'a> {
               stage = spec.opened;
               leading = text_of leading;
               start
-                  = start.now.rest;
-              from = end.now.rest;
+                  = at.now.start.rest;
+              from = at.now.end.rest;
               key = None;
             } }
-        ensures start { self.new.start ≡ start.now }
-        ensures from { self.new.from ≡ end.now }
+        ensures start { self.new.start ≡ at.now.start }
+        ensures from { self.new.from ≡ at.now.end }
     {
         self.kept = true;
         self.owner = owner;
         self.stage = Stage::Opened;
         self.leading = leading;
-        self.start = start.copied();
-        self.from = end.copied();
+        self.start = at.start.copied();
+        self.from = at.end.copied();
         self.key = None;
     }
 
-    /// Begins a slashdashed item, after the `(` of its type.
+    /// Begins a slashdashed item at the `(` of its type.
     ///
     /// ```
     /// let mut lexer = Lexer::new("(u8)1", Steps::new());
-    /// let start = lexer.checkpoint();
-    /// let left = lexer.next(alloc)?; // `(`
-    /// let mut item = Item::new(alloc, &start);
-    /// item.open_dropped(alloc, Owner::Value, &start, &lexer.checkpoint()); // the type's name is expected
+    /// let mut item = Item::new(alloc, &lexer.checkpoint());
+    /// if let Some(left) = lexer.next(alloc)? {
+    ///     item.open_dropped(Owner::Value, &left.at); // the type's name is expected
+    /// }
     /// ```
     pub fn open_dropped(
         &mut self,
-        alloc: Global,
         owner: Owner,
-        start: &Checkpoint<'a>,
-        end: &Checkpoint<'a>,
+        at: &TokenSpan<'a>,
     )
         ensures is { item_view self.new
             ≡ record (item_view self.old) {
@@ -334,38 +338,37 @@ impl<'a> Item<'a> {
               valued = owner_view owner;
               stage = spec.opened;
               leading = [];
-              start = start.now.rest;
-              from = end.now.rest;
+              start = at.now.start.rest;
+              from = at.now.end.rest;
               key = None;
             } }
-        ensures start { self.new.start ≡ start.now }
-        ensures from { self.new.from ≡ end.now }
+        ensures start { self.new.start ≡ at.now.start }
+        ensures from { self.new.from ≡ at.now.end }
     {
         self.kept = false;
         self.owner = owner;
         self.stage = Stage::Opened;
-        self.leading = empty(alloc);
-        self.start = start.copied();
-        self.from = end.copied();
+        self.leading = empty(self.alloc);
+        self.start = at.start.copied();
+        self.from = at.end.copied();
         self.key = None;
     }
 
-    /// Begins a property after the `=`, by its key and the text before the `=`.
+    /// Begins a property whose key is at `start`, after the `=` that ends at `end`.
     ///
     /// ```
     /// let mut lexer = Lexer::new("a=1", Steps::new());
     /// let start = lexer.checkpoint();
     /// let tokens = (lexer.next(alloc)?, lexer.next(alloc)?); // `a` and `=`
-    /// let name = KdlIdentifier::from_text(alloc, "a")?;
+    /// let key = Key { name: KdlIdentifier::from_text(alloc, "a")?, before: empty(alloc) };
     /// let mut item = Item::new(alloc, &start);
-    /// item.open_keyed(empty(alloc), &start, name, empty(alloc), &lexer.checkpoint()); // its value is expected
+    /// item.open_keyed(empty(alloc), &start, key, &lexer.checkpoint()); // its value is expected
     /// ```
     pub fn open_keyed(
         &mut self,
         leading: String,
         start: &Checkpoint<'a>,
-        name: KdlIdentifier,
-        before: String,
+        key: Key,
         end: &Checkpoint<'a>,
     )
         ensures is { item_view self.new
@@ -378,9 +381,9 @@ impl<'a> Item<'a> {
                   = start.now.rest;
               from = end.now.rest;
               key = None;
-              name = identifier_tree name;
+              name = identifier_tree key.name;
               before
-                  = text_of before;
+                  = text_of key.before;
             } }
         ensures start { self.new.start ≡ start.now }
         ensures from { self.new.from ≡ end.now }
@@ -392,24 +395,23 @@ impl<'a> Item<'a> {
         self.start = start.copied();
         self.from = end.copied();
         self.key = None;
-        self.name = name;
-        self.before = before;
+        self.name = key.name;
+        self.before = key.before;
     }
 
-    /// Begins a slashdashed property, after its `=`.
+    /// Begins a slashdashed property at its `=`.
     ///
     /// ```
     /// let mut lexer = Lexer::new("a=1", Steps::new());
-    /// let start = lexer.checkpoint();
-    /// let tokens = (lexer.next(alloc)?, lexer.next(alloc)?); // `a` and `=`
-    /// let mut item = Item::new(alloc, &start);
-    /// item.open_dropped_keyed(alloc, &start, &lexer.checkpoint()); // its value is expected
+    /// let mut item = Item::new(alloc, &lexer.checkpoint());
+    /// let key = lexer.next(alloc)?; // `a`
+    /// if let Some(equals) = lexer.next(alloc)? {
+    ///     item.open_dropped_keyed(&equals.at); // its value is expected
+    /// }
     /// ```
     pub fn open_dropped_keyed(
         &mut self,
-        alloc: Global,
-        start: &Checkpoint<'a>,
-        end: &Checkpoint<'a>,
+        at: &TokenSpan<'a>,
     )
         ensures is { item_view self.new
             ≡ record (item_view self.old) {
@@ -417,91 +419,84 @@ impl<'a> Item<'a> {
               valued = true;
               stage = spec.keyed;
               leading = [];
-              start = start.now.rest;
-              from = end.now.rest;
+              start = at.now.start.rest;
+              from = at.now.end.rest;
               key = None;
               name = plain_identifier [];
               before = [];
             } }
-        ensures start { self.new.start ≡ start.now }
-        ensures from { self.new.from ≡ end.now }
+        ensures start { self.new.start ≡ at.now.start }
+        ensures from { self.new.from ≡ at.now.end }
     {
         self.kept = false;
         self.owner = Owner::Value;
         self.stage = Stage::Keyed;
-        self.leading = empty(alloc);
-        self.start = start.copied();
-        self.from = end.copied();
+        self.leading = empty(self.alloc);
+        self.start = at.start.copied();
+        self.from = at.end.copied();
         self.key = None;
-        self.name = KdlIdentifier::from(empty(alloc));
-        self.before = empty(alloc);
+        self.name = KdlIdentifier::from(empty(self.alloc));
+        self.before = empty(self.alloc);
     }
 
     /// Continues after the string that is the type's name.
     fn take_name(
         &mut self,
-        alloc: Global,
         lexer: &mut Lexer<'a>,
         whole: &Checkpoint<'a>,
         value: String,
-        start: &Checkpoint<'a>,
-        end: &Checkpoint<'a>,
+        at: &TokenSpan<'a>,
     ) -> Result<(), AllocError>
-        requires from { Ahead self.old.from start.now }
-        requires token { Ahead start.now end.now }
+        requires from { Ahead self.old.from at.now.start }
         ensures named { OnOk result
             (item_view self.new ≡ spec.named_at self.old.kept
-            (identifier_at whole.now.rest (text_of value) start.now.rest end.now.rest)
-            (between self.old.from.rest start.now.rest) end.now.rest (item_view self.old)) }
+            (identifier_at whole.now.rest (text_of value) at.now.start.rest at.now.end.rest)
+            (between self.old.from.rest at.now.start.rest) at.now.end.rest (item_view self.old)) }
         ensures stays { Stays lexer.old lexer.new }
         ensures sliced { OnOk result
             (Sliced (bytes self.old.from.rest)
             (if self.old.kept then bytes self.new.from.rest else bytes self.old.from.rest) lexer.old
             lexer.new) }
-        ensures from { OnOk result (Ahead self.new.from end.now) }
+        ensures from { OnOk result (Ahead self.new.from at.now.end) }
     {
         if self.kept {
-            self.before = text_between(alloc, lexer, &self.from, start)?;
-            self.name = identifier_between(alloc, lexer, whole, value, start, end)?;
+            self.before = text_between(self.alloc, lexer, &self.from, &at.start)?;
+            self.name = identifier_between(self.alloc, lexer, whole, value, at)?;
         }
         self.stage = Stage::Named;
-        self.from = end.copied();
+        self.from = at.end.copied();
         Ok(())
     }
 
     /// Continues after the `)` of the type.
-    #[tactic(auto, using(crate::proofs::Slicing::SliceCost::ahead_fewer))]
+    #[tactic(auto, using(crate::proofs::Slicing::SliceCost::token_fewer))]
     fn close(
         &mut self,
-        alloc: Global,
         lexer: &mut Lexer<'a>,
-        start: &Checkpoint<'a>,
-        end: &Checkpoint<'a>,
+        at: &TokenSpan<'a>,
     ) -> Result<(), AllocError>
-        requires from { Ahead self.old.from start.now }
-        requires token { Ahead start.now end.now }
+        requires from { Ahead self.old.from at.now.start }
         ensures closed { OnOk result
             (item_view self.new ≡ spec.closed_at self.old.kept
-            (between self.old.from.rest start.now.rest) end.now.rest (item_view self.old)) }
+            (between self.old.from.rest at.now.start.rest) at.now.end.rest (item_view self.old)) }
         ensures stays { Stays lexer.old lexer.new }
         ensures sliced { OnOk result
             (Sliced (bytes self.old.from.rest)
             (if self.old.kept then bytes self.new.from.rest else bytes self.old.from.rest) lexer.old
             lexer.new) }
-        ensures from { OnOk result (Ahead self.new.from end.now) }
+        ensures from { OnOk result (Ahead self.new.from at.now.end) }
     {
         if self.kept {
-            self.after = text_between(alloc, lexer, &self.from, start)?;
+            self.after = text_between(self.alloc, lexer, &self.from, &at.start)?;
         }
         self.stage = Stage::Closed;
-        self.from = end.copied();
+        self.from = at.end.copied();
         Ok(())
     }
 
     /// The type, at the start of the value.
     fn type_parts(
         &mut self,
-        alloc: Global,
         lexer: &mut Lexer<'a>,
         start: &Checkpoint<'a>,
     ) -> Result<Option<TypeParts>, AllocError>
@@ -521,10 +516,10 @@ impl<'a> Item<'a> {
         if !self.kept {
             return Ok(None);
         }
-        let behind = text_between(alloc, lexer, &self.from, start)?;
-        let name = mem::replace(&mut self.name, KdlIdentifier::from(empty(alloc)));
-        let before = mem::replace(&mut self.before, empty(alloc));
-        let after = mem::replace(&mut self.after, empty(alloc));
+        let behind = text_between(self.alloc, lexer, &self.from, start)?;
+        let name = mem::replace(&mut self.name, KdlIdentifier::from(empty(self.alloc)));
+        let before = mem::replace(&mut self.before, empty(self.alloc));
+        let after = mem::replace(&mut self.after, empty(self.alloc));
         Ok(Some(TypeParts {
             name,
             before,
@@ -536,7 +531,6 @@ impl<'a> Item<'a> {
     /// The key, at the start of its value or type.
     fn key_parts(
         &mut self,
-        alloc: Global,
         lexer: &mut Lexer<'a>,
         start: &Checkpoint<'a>,
     ) -> Result<Option<KeyParts>, AllocError>
@@ -556,9 +550,9 @@ impl<'a> Item<'a> {
         if !self.kept {
             return Ok(None);
         }
-        let behind = text_between(alloc, lexer, &self.from, start)?;
-        let name = mem::replace(&mut self.name, KdlIdentifier::from(empty(alloc)));
-        let before = mem::replace(&mut self.before, empty(alloc));
+        let behind = text_between(self.alloc, lexer, &self.from, start)?;
+        let name = mem::replace(&mut self.name, KdlIdentifier::from(empty(self.alloc)));
+        let before = mem::replace(&mut self.before, empty(self.alloc));
         Ok(Some(KeyParts {
             name,
             before,
@@ -569,7 +563,6 @@ impl<'a> Item<'a> {
     /// The type and the value, at the value.
     fn give_typed(
         &mut self,
-        alloc: Global,
         lexer: &mut Lexer<'a>,
         value: KdlValue,
         start: &Checkpoint<'a>,
@@ -588,7 +581,7 @@ impl<'a> Item<'a> {
             (if self.old.kept then bytes start.now.rest else bytes self.old.from.rest) lexer.old
             lexer.new) }
     {
-        let ty = self.type_parts(alloc, lexer, start)?;
+        let ty = self.type_parts(lexer, start)?;
         let key = self.key.take();
         Ok(Given { key, ty, value })
     }
@@ -596,7 +589,6 @@ impl<'a> Item<'a> {
     /// The key and the value, at the value.
     fn give_keyed(
         &mut self,
-        alloc: Global,
         lexer: &mut Lexer<'a>,
         value: KdlValue,
         start: &Checkpoint<'a>,
@@ -615,7 +607,7 @@ impl<'a> Item<'a> {
             (if self.old.kept then bytes start.now.rest else bytes self.old.from.rest) lexer.old
             lexer.new) }
     {
-        let key = self.key_parts(alloc, lexer, start)?;
+        let key = self.key_parts(lexer, start)?;
         Ok(Given {
             key,
             ty: None,
@@ -626,136 +618,124 @@ impl<'a> Item<'a> {
     /// Takes a token after the `(` of a type.
     fn at_opened(
         &mut self,
-        alloc: Global,
         lexer: &mut Lexer<'a>,
         whole: &Checkpoint<'a>,
         kind: TokenKind,
-        start: &Checkpoint<'a>,
-        end: &Checkpoint<'a>,
+        at: &TokenSpan<'a>,
     ) -> Result<Option<Given>, LexFailure>
-        requires from { Ahead self.old.from start.now }
-        requires token { Ahead start.now end.now }
+        requires from { Ahead self.old.from at.now.start }
         ensures did { Did (spec.move spec.opened whole.now.rest (item_view self.old)
-            (kind_view kind) start.now.rest end.now.rest) start.now result (item_view self.new) }
+            (kind_view kind) at.now.start.rest at.now.end.rest) at.now.start result (item_view self.new) }
         ensures holds { OnOk result (Holds (item_view self.old) (item_view self.new)) }
-        ensures from { OnOk result (Ahead self.new.from end.now) }
+        ensures from { OnOk result (Ahead self.new.from at.now.end) }
         ensures stays { Stays lexer.old lexer.new }
         ensures sliced { ItemSliced result self.old.kept (bytes self.old.from.rest)
-            (bytes self.new.from.rest) (bytes start.now.rest) lexer.old lexer.new }
+            (bytes self.new.from.rest) (bytes at.now.start.rest) lexer.old lexer.new }
     {
         match kind {
             TokenKind::Space => Ok(None),
             TokenKind::String(value) => {
-                self.take_name(alloc, lexer, whole, value, start, end)?;
+                self.take_name(lexer, whole, value, at)?;
                 Ok(None)
             }
-            _ => Err(LexFailure::Faulty(fault_at(start))),
+            _ => Err(LexFailure::Faulty(fault_at(&at.start))),
         }
     }
 
     /// Takes a token after the name of a type.
     fn at_named(
         &mut self,
-        alloc: Global,
         lexer: &mut Lexer<'a>,
         whole: &Checkpoint<'a>,
         kind: TokenKind,
-        start: &Checkpoint<'a>,
-        end: &Checkpoint<'a>,
+        at: &TokenSpan<'a>,
     ) -> Result<Option<Given>, LexFailure>
-        requires from { Ahead self.old.from start.now }
-        requires token { Ahead start.now end.now }
+        requires from { Ahead self.old.from at.now.start }
         ensures did { Did (spec.move spec.named whole.now.rest (item_view self.old)
-            (kind_view kind) start.now.rest end.now.rest) start.now result (item_view self.new) }
+            (kind_view kind) at.now.start.rest at.now.end.rest) at.now.start result (item_view self.new) }
         ensures holds { OnOk result (Holds (item_view self.old) (item_view self.new)) }
-        ensures from { OnOk result (Ahead self.new.from end.now) }
+        ensures from { OnOk result (Ahead self.new.from at.now.end) }
         ensures stays { Stays lexer.old lexer.new }
         ensures sliced { ItemSliced result self.old.kept (bytes self.old.from.rest)
-            (bytes self.new.from.rest) (bytes start.now.rest) lexer.old lexer.new }
+            (bytes self.new.from.rest) (bytes at.now.start.rest) lexer.old lexer.new }
     {
         match kind {
             TokenKind::Space => Ok(None),
             TokenKind::Right => {
-                self.close(alloc, lexer, start, end)?;
+                self.close(lexer, at)?;
                 Ok(None)
             }
-            _ => Err(LexFailure::Faulty(fault_at(start))),
+            _ => Err(LexFailure::Faulty(fault_at(&at.start))),
         }
     }
 
     /// Takes a token after the `)` of a type.
     fn at_closed(
         &mut self,
-        alloc: Global,
         lexer: &mut Lexer<'a>,
         whole: &Checkpoint<'a>,
         kind: TokenKind,
-        start: &Checkpoint<'a>,
-        end: &Checkpoint<'a>,
+        at: &TokenSpan<'a>,
     ) -> Result<Option<Given>, LexFailure>
-        requires from { Ahead self.old.from start.now }
-        requires token { Ahead start.now end.now }
+        requires from { Ahead self.old.from at.now.start }
         ensures did { Did (spec.move spec.closed whole.now.rest (item_view self.old)
-            (kind_view kind) start.now.rest end.now.rest) start.now result (item_view self.new) }
+            (kind_view kind) at.now.start.rest at.now.end.rest) at.now.start result (item_view self.new) }
         ensures holds { OnOk result (Holds (item_view self.old) (item_view self.new)) }
-        ensures from { OnOk result (Ahead self.new.from end.now) }
+        ensures from { OnOk result (Ahead self.new.from at.now.end) }
         ensures stays { Stays lexer.old lexer.new }
         ensures sliced { ItemSliced result self.old.kept (bytes self.old.from.rest)
-            (bytes self.new.from.rest) (bytes start.now.rest) lexer.old lexer.new }
+            (bytes self.new.from.rest) (bytes at.now.start.rest) lexer.old lexer.new }
     {
         match kind {
             TokenKind::Space => Ok(None),
             TokenKind::String(value) => {
-                let given = self.give_typed(alloc, lexer, KdlValue::String(value), start)?;
+                let given = self.give_typed(lexer, KdlValue::String(value), &at.start)?;
                 Ok(Some(given))
             }
             TokenKind::Value(value) if matches!(self.owner, Owner::Value) => {
-                let given = self.give_typed(alloc, lexer, value, start)?;
+                let given = self.give_typed(lexer, value, &at.start)?;
                 Ok(Some(given))
             }
-            _ => Err(LexFailure::Faulty(fault_at(start))),
+            _ => Err(LexFailure::Faulty(fault_at(&at.start))),
         }
     }
 
     /// Takes a token after the `=` of a property.
-    #[tactic(auto, using(crate::proofs::Slicing::SliceCost::ahead_fewer))]
+    #[tactic(auto, using(crate::proofs::Slicing::SliceCost::token_fewer))]
     fn at_keyed(
         &mut self,
-        alloc: Global,
         lexer: &mut Lexer<'a>,
         whole: &Checkpoint<'a>,
         kind: TokenKind,
-        start: &Checkpoint<'a>,
-        end: &Checkpoint<'a>,
+        at: &TokenSpan<'a>,
     ) -> Result<Option<Given>, LexFailure>
-        requires from { Ahead self.old.from start.now }
-        requires token { Ahead start.now end.now }
+        requires from { Ahead self.old.from at.now.start }
         ensures did { Did (spec.move spec.keyed whole.now.rest (item_view self.old)
-            (kind_view kind) start.now.rest end.now.rest) start.now result (item_view self.new) }
+            (kind_view kind) at.now.start.rest at.now.end.rest) at.now.start result (item_view self.new) }
         ensures holds { OnOk result (Holds (item_view self.old) (item_view self.new)) }
-        ensures from { OnOk result (Ahead self.new.from end.now) }
+        ensures from { OnOk result (Ahead self.new.from at.now.end) }
         ensures stays { Stays lexer.old lexer.new }
         ensures sliced { ItemSliced result self.old.kept (bytes self.old.from.rest)
-            (bytes self.new.from.rest) (bytes start.now.rest) lexer.old lexer.new }
+            (bytes self.new.from.rest) (bytes at.now.start.rest) lexer.old lexer.new }
     {
         match kind {
             TokenKind::Space => Ok(None),
             TokenKind::String(value) => {
-                let given = self.give_keyed(alloc, lexer, KdlValue::String(value), start)?;
+                let given = self.give_keyed(lexer, KdlValue::String(value), &at.start)?;
                 Ok(Some(given))
             }
             TokenKind::Value(value) => {
-                let given = self.give_keyed(alloc, lexer, value, start)?;
+                let given = self.give_keyed(lexer, value, &at.start)?;
                 Ok(Some(given))
             }
             TokenKind::Left => {
-                self.key = self.key_parts(alloc, lexer, start)?;
+                self.key = self.key_parts(lexer, &at.start)?;
                 self.stage = Stage::Opened;
                 self.owner = Owner::Value;
-                self.from = end.copied();
+                self.from = at.end.copied();
                 Ok(None)
             }
-            _ => Err(LexFailure::Faulty(fault_at(start))),
+            _ => Err(LexFailure::Faulty(fault_at(&at.start))),
         }
     }
 
@@ -763,35 +743,32 @@ impl<'a> Item<'a> {
     /// if the token may not be here.
     ///
     /// ```
-    /// let taken = item.take(alloc, &mut lexer, &whole, token.kind, &token.start, &token.end)?;
+    /// let taken = item.take(&mut lexer, &whole, token.kind, &token.at)?;
     /// if let Some(given) = taken {
     ///     let value = given.value; // the item ends with this token
     /// }
     /// ```
     pub fn take(
         &mut self,
-        alloc: Global,
         lexer: &mut Lexer<'a>,
         whole: &Checkpoint<'a>,
         kind: TokenKind,
-        start: &Checkpoint<'a>,
-        end: &Checkpoint<'a>,
+        at: &TokenSpan<'a>,
     ) -> Result<Option<Given>, LexFailure>
-        requires from { Ahead self.old.from start.now }
-        requires token { Ahead start.now end.now }
+        requires from { Ahead self.old.from at.now.start }
         ensures did { Did (spec.step whole.now.rest (item_view self.old)
-            (kind_view kind) start.now.rest end.now.rest) start.now result (item_view self.new) }
+            (kind_view kind) at.now.start.rest at.now.end.rest) at.now.start result (item_view self.new) }
         ensures holds { OnOk result (Holds (item_view self.old) (item_view self.new)) }
-        ensures from { OnOk result (Ahead self.new.from end.now) }
+        ensures from { OnOk result (Ahead self.new.from at.now.end) }
         ensures stays { Stays lexer.old lexer.new }
         ensures sliced { ItemSliced result self.old.kept (bytes self.old.from.rest)
-            (bytes self.new.from.rest) (bytes start.now.rest) lexer.old lexer.new }
+            (bytes self.new.from.rest) (bytes at.now.start.rest) lexer.old lexer.new }
     {
         match self.stage {
-            Stage::Opened => self.at_opened(alloc, lexer, whole, kind, start, end),
-            Stage::Named => self.at_named(alloc, lexer, whole, kind, start, end),
-            Stage::Closed => self.at_closed(alloc, lexer, whole, kind, start, end),
-            Stage::Keyed => self.at_keyed(alloc, lexer, whole, kind, start, end),
+            Stage::Opened => self.at_opened(lexer, whole, kind, at),
+            Stage::Named => self.at_named(lexer, whole, kind, at),
+            Stage::Closed => self.at_closed(lexer, whole, kind, at),
+            Stage::Keyed => self.at_keyed(lexer, whole, kind, at),
         }
     }
 }

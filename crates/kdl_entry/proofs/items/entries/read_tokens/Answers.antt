@@ -1,9 +1,13 @@
-use Rattle.kdl_entry.proofs.Reading.EntryLoop.{next_going, no_end}
+use Rattle.kdl_entry.proofs.Reading.EntryLoop.{next_going, nearer, no_end}
 use Rattle.kdl_entry.proofs.items.entries.read_tokens.Goals as goal
 
 pub tokens-preserved : goal.tokens-preserved
 tokens-preserved c =
     next_going _ _ _ c.next.new.self _ _ c.in-Some.token c.tokens.invariant (rw c.in-Some.is at c.in_ok-token.ensures.lexed) c.next.ensures.moves c.in_ok-state.ensures.did c.take.ensures.stays
+
+pub tokens-smaller : goal.tokens-smaller
+tokens-smaller c =
+    nearer c.tokens.lexer c.next.new.self c.take.new.lexer c.in-Some.token (rw c.in-Some.is at c.in_ok-token.ensures.lexed) c.take.ensures.stays
 
 pub returns-in-None : goal.returns-in-None
 returns-in-None c =
