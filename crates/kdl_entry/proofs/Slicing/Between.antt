@@ -31,5 +31,5 @@ pub ahead_then : (a b c : Position) → Ahead a b → Ahead b c → Ahead a c
 ahead_then a b c x y = (x.0 ++ y.0, x.1 ∙ ap (λ (z : Text). x.0 ++ z) y.1 ∙ sym (append_assoc x.0 y.0 c.rest))
 
 -- a place before a token is before its end
-pub past_token : (from : Spot) (at : TokenSpan) → Ahead from at.start → Ahead from at.end
+pub past_token : (from : Position) (at : TokenSpan) → Ahead from at.start → Ahead from at.end
 past_token from at x = ahead_then from at.start at.end x (ahead at.start at.end at.order)

@@ -17,5 +17,5 @@ pub ahead_fewer : (from to : Position) → Ahead from to → bytes to.rest ≤ b
 ahead_fewer from to (p, e) = omega (arith, ap bytes e, bytes-append p to.rest)
 
 -- what follows a token has fewer bytes than what follows its start
-pub token_fewer : (from to : Spot) → IsEndOf from.rest to.rest → bytes to.rest ≤ bytes from.rest
+pub token_fewer : (from to : Position) → IsEndOf from.rest to.rest → bytes to.rest ≤ bytes from.rest
 token_fewer from to e = ahead_fewer from to (ahead from to e)
