@@ -10,8 +10,7 @@ use Rattle.kdl_entry.specs.Tree.{identifier_tree}
 use Rattle.kdl_entry.specs.declared.items.item.Given.{Given}
 use Rattle.kdl_entry.specs.declared.items.item.Item.{Item}
 use Rattle.kdl_entry.specs.declared.items.item.KeyParts.{KeyParts}
-use Rattle.kdl_entry.specs.declared.items.item.Owner.{Owner}
-use Rattle.kdl_entry.specs.declared.items.item.Owner.TheVariants.{Name, Value}
+use Rattle.kdl_control.specs.Internal.Views.{owner_view}
 use Rattle.kdl_entry.specs.declared.items.item.Stage.{Stage}
 use Rattle.kdl_entry.specs.declared.items.item.Stage.TheVariants.{Opened, Named, Closed, Keyed}
 use Rattle.kdl_entry.specs.declared.items.item.TypeParts.{TypeParts}
@@ -32,11 +31,6 @@ stage_view Opened = items.opened
 stage_view Named = items.named
 stage_view Closed = items.closed
 stage_view Keyed = items.keyed
-
--- whether the type is that of a value
-abbrev pub owner_view : Owner → Bool
-owner_view Name = false
-owner_view Value = true
 
 -- the item that the reader's fields represent
 abbrev pub item_view : Item → items.Item

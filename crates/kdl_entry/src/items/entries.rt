@@ -12,9 +12,10 @@ ghost use Rattle.kdl_text.specs.Internal.Here.{Ahead};
 ghost use Rattle.std.specs.Prelude.{◌≡◌, [], Some, None, true, false, IfOk};
 ghost use Rattle.std.specs.Str.{chars};
 
-use super::item::{Given, Item, Key, Owner, entry_from, piece_between, text_between};
+use super::item::{Given, Item, Key, entry_from, piece_between, text_between};
 use crate::entry::KdlEntry;
 use crate::identifier::{KdlIdentifier, sliced_identifier};
+use kdl_control::Owner;
 use kdl_diagnostics::{Whole, failure};
 use kdl_lexer::{LexFailure, Lexer, Token, TokenKind, TokenSpan, fault_at};
 use kdl_text::cursor::{Checkpoint, Piece, Steps};

@@ -2,7 +2,8 @@
 //!
 //! The rules of types, keys and values, both for an entry that is a whole text and for those of a document.
 
-ghost use Rattle.kdl_entry.specs.Internal.Building.{key_view, owner_view, type_view, item_view, Did, Holds, Stays};
+ghost use Rattle.kdl_control.specs.Internal.Views.{owner_view};
+ghost use Rattle.kdl_entry.specs.Internal.Building.{key_view, type_view, item_view, Did, Holds, Stays};
 ghost use Rattle.kdl_entry.specs.Internal.Counted.{Sliced, ItemSliced};
 ghost use Rattle.kdl_lexer.specs.Internal.Handed.{kind_view};
 ghost use Rattle.kdl_entry.specs.Internal.Items as spec;
@@ -16,6 +17,7 @@ ghost use Rattle.std.specs.Prelude.{◌≡◌, if◌then◌else◌, [], Some, No
 
 use crate::entry::{KdlEntry, KdlEntryFormat};
 use crate::identifier::{KdlIdentifier, sliced_identifier};
+use kdl_control::Owner;
 use kdl_lexer::{LexFailure, Lexer, TokenKind, TokenSpan, fault_at};
 use kdl_text::cursor::{Checkpoint, Piece};
 use kdl_text::span::SourceSpan;
@@ -45,13 +47,6 @@ pub struct KeyParts {
 pub struct Key {
     pub name: KdlIdentifier,
     pub before: String,
-}
-
-/// What a type precedes: the name of a node, or a value.
-#[derive(Clone, Copy)]
-pub enum Owner {
-    Name,
-    Value,
 }
 
 /// A stage of an item: after the `(` of its type, after the type's name, after its `)`, or after the `=` of a property.

@@ -2,7 +2,8 @@
 use Rattle.std.specs.Prelude.{ℕ, ◌+◌, ◌*◌, ◌≤◌, Bool, true, false, Option, Some, None, length, Result, Ok, Err}
 use Rattle.kdl_text.specs.Internal.Here.{Here}
 use Rattle.kdl_text.specs.Spans.{bytes, raise}
-use Rattle.kdl_entry.specs.Internal.Building.{owner_view, stage_view}
+use Rattle.kdl_control.specs.Internal.Views.{owner_view}
+use Rattle.kdl_entry.specs.Internal.Building.{stage_view}
 use Rattle.kdl_entry.specs.Internal.Counted.{Sliced}
 use Rattle.kdl_lexer.specs.declared.lexer.LexFailure.{LexFailure}
 use Rattle.kdl_lexer.specs.declared.lexer.LexFailure.TheVariants.{Faulty, Memory}
