@@ -1,5 +1,5 @@
 -- The item that a reader's fields represent, and what its steps return.
-use Rattle.std.specs.Prelude.{◌≡◌, ◌≤◌, Bool, true, false, Option, Some, None, option_map, Result, Ok, Err}
+use Rattle.std.specs.Prelude.{◌≡◌, ◌≤◌, Option, Some, None, option_map, Result, Ok, Err}
 use Rattle.kdl_text.specs.Internal.Here.{Here, Position}
 use Rattle.kdl_text.specs.Spans.{raise}
 use Rattle.kdl_lexer.specs.Internal.Handed.{IsFaultAt}
