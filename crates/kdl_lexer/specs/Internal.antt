@@ -3,5 +3,7 @@
 
 -- What the lexer returns.
 pub mod Handed
+-- The order of two places, as an equation.
+pub mod Order
 -- Tokens, and the cut of a text into tokens.
 pub mod Tokens

@@ -1,6 +1,4 @@
 -- Strings, numbers and keywords as they are written.
 pub mod Pieces
--- The order of two places, as an equation.
-pub mod Order
 -- Definitions that only proofs and contracts inside the crates use.
 pub mod Internal
