@@ -4,7 +4,7 @@ use Rattle.std.proofs.Math.Seq.{drop-append_seam}
 use Rattle.std.proofs.lemmas.List.{take-append-drop}
 use Rattle.kdl_text.specs.Chars.{Text}
 use Rattle.kdl_text.specs.Internal.Here.{Position, Ahead}
-use Rattle.kdl_lexer.specs.Order.{IsEndOf}
+use Rattle.kdl_lexer.specs.Internal.Order.{IsEndOf}
 
 -- what follows a later place is an end of what follows an earlier one
 pub is_end : (from to : Position) → Ahead from to → IsEndOf from.rest to.rest

@@ -2,3 +2,5 @@
 
 -- What the lexer returns.
 pub mod Handed
+-- The order of two places, as an equation.
+pub mod Order

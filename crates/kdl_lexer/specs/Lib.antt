@@ -2,7 +2,5 @@
 pub mod Pieces
 -- Tokens, and the cut of a text into tokens.
 pub mod Tokens
--- The order of two places, as an equation.
-pub mod Order
 -- Definitions that only proofs and contracts inside the crates use.
 pub mod Internal

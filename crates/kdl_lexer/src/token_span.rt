@@ -1,6 +1,6 @@
 //! Where a token is.
 
-ghost use Rattle.kdl_lexer.specs.Order.{IsEndOf};
+ghost use Rattle.kdl_lexer.specs.Internal.Order.{IsEndOf};
 ghost use Rattle.kdl_text.specs.Internal.Here.{Ahead};
 ghost use Rattle.std.specs.Prelude.{◌≡◌};
 

@@ -4,7 +4,7 @@ use Rattle.kdl_text.specs.Chars.{Text}
 use Rattle.kdl_text.specs.Internal.Here.{Here, Position, Ahead, sliced}
 use Rattle.kdl_text.specs.Spans.{bytes}
 use Rattle.kdl_text.proofs.Looking.MovesJoin.{bytes-append}
-use Rattle.kdl_lexer.specs.Order.{IsEndOf}
+use Rattle.kdl_lexer.specs.Internal.Order.{IsEndOf}
 use Rattle.kdl_lexer.proofs.Order.{ahead}
 use Rattle.kdl_entry.specs.Internal.Counted.{Sliced}
 
