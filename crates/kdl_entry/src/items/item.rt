@@ -289,12 +289,7 @@ impl<'a> Item<'a> {
     ///     item.open(Owner::Value, empty(alloc), &left.at); // the type's name is expected
     /// }
     /// ```
-    pub fn open(
-        &mut self,
-        owner: Owner,
-        leading: String,
-        at: &TokenSpan<'a>,
-    )
+    pub fn open(&mut self, owner: Owner, leading: String, at: &TokenSpan<'a>)
         ensures is { item_view self.new
             ≡ record (item_view self.old) {
               kept = true;
@@ -327,11 +322,7 @@ impl<'a> Item<'a> {
     ///     item.open_dropped(Owner::Value, &left.at); // the type's name is expected
     /// }
     /// ```
-    pub fn open_dropped(
-        &mut self,
-        owner: Owner,
-        at: &TokenSpan<'a>,
-    )
+    pub fn open_dropped(&mut self, owner: Owner, at: &TokenSpan<'a>)
         ensures is { item_view self.new
             ≡ record (item_view self.old) {
               kept = false;
@@ -409,10 +400,7 @@ impl<'a> Item<'a> {
     ///     item.open_dropped_keyed(&equals.at); // its value is expected
     /// }
     /// ```
-    pub fn open_dropped_keyed(
-        &mut self,
-        at: &TokenSpan<'a>,
-    )
+    pub fn open_dropped_keyed(&mut self, at: &TokenSpan<'a>)
         ensures is { item_view self.new
             ≡ record (item_view self.old) {
               kept = false;
@@ -470,11 +458,7 @@ impl<'a> Item<'a> {
 
     /// Continues after the `)` of the type.
     #[tactic(auto, using(crate::proofs::Slicing::SliceCost::token_fewer))]
-    fn close(
-        &mut self,
-        lexer: &mut Lexer<'a>,
-        at: &TokenSpan<'a>,
-    ) -> Result<(), AllocError>
+    fn close(&mut self, lexer: &mut Lexer<'a>, at: &TokenSpan<'a>) -> Result<(), AllocError>
         requires from { Ahead self.old.from at.now.start }
         ensures closed { OnOk result
             (item_view self.new ≡ spec.closed_at self.old.kept
@@ -625,7 +609,8 @@ impl<'a> Item<'a> {
     ) -> Result<Option<Given>, LexFailure>
         requires from { Ahead self.old.from at.now.start }
         ensures did { Did (spec.move spec.opened whole.now.rest (item_view self.old)
-            (kind_view kind) at.now.start.rest at.now.end.rest) at.now.start result (item_view self.new) }
+            (kind_view kind) at.now.start.rest at.now.end.rest) at.now.start result
+            (item_view self.new) }
         ensures holds { OnOk result (Holds (item_view self.old) (item_view self.new)) }
         ensures from { OnOk result (Ahead self.new.from at.now.end) }
         ensures stays { Stays lexer.old lexer.new }
@@ -652,7 +637,8 @@ impl<'a> Item<'a> {
     ) -> Result<Option<Given>, LexFailure>
         requires from { Ahead self.old.from at.now.start }
         ensures did { Did (spec.move spec.named whole.now.rest (item_view self.old)
-            (kind_view kind) at.now.start.rest at.now.end.rest) at.now.start result (item_view self.new) }
+            (kind_view kind) at.now.start.rest at.now.end.rest) at.now.start result
+            (item_view self.new) }
         ensures holds { OnOk result (Holds (item_view self.old) (item_view self.new)) }
         ensures from { OnOk result (Ahead self.new.from at.now.end) }
         ensures stays { Stays lexer.old lexer.new }
@@ -679,7 +665,8 @@ impl<'a> Item<'a> {
     ) -> Result<Option<Given>, LexFailure>
         requires from { Ahead self.old.from at.now.start }
         ensures did { Did (spec.move spec.closed whole.now.rest (item_view self.old)
-            (kind_view kind) at.now.start.rest at.now.end.rest) at.now.start result (item_view self.new) }
+            (kind_view kind) at.now.start.rest at.now.end.rest) at.now.start result
+            (item_view self.new) }
         ensures holds { OnOk result (Holds (item_view self.old) (item_view self.new)) }
         ensures from { OnOk result (Ahead self.new.from at.now.end) }
         ensures stays { Stays lexer.old lexer.new }
@@ -711,7 +698,8 @@ impl<'a> Item<'a> {
     ) -> Result<Option<Given>, LexFailure>
         requires from { Ahead self.old.from at.now.start }
         ensures did { Did (spec.move spec.keyed whole.now.rest (item_view self.old)
-            (kind_view kind) at.now.start.rest at.now.end.rest) at.now.start result (item_view self.new) }
+            (kind_view kind) at.now.start.rest at.now.end.rest) at.now.start result
+            (item_view self.new) }
         ensures holds { OnOk result (Holds (item_view self.old) (item_view self.new)) }
         ensures from { OnOk result (Ahead self.new.from at.now.end) }
         ensures stays { Stays lexer.old lexer.new }
@@ -757,7 +745,8 @@ impl<'a> Item<'a> {
     ) -> Result<Option<Given>, LexFailure>
         requires from { Ahead self.old.from at.now.start }
         ensures did { Did (spec.step whole.now.rest (item_view self.old)
-            (kind_view kind) at.now.start.rest at.now.end.rest) at.now.start result (item_view self.new) }
+            (kind_view kind) at.now.start.rest at.now.end.rest) at.now.start result
+            (item_view self.new) }
         ensures holds { OnOk result (Holds (item_view self.old) (item_view self.new)) }
         ensures from { OnOk result (Ahead self.new.from at.now.end) }
         ensures stays { Stays lexer.old lexer.new }
