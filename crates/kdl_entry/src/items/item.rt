@@ -284,12 +284,7 @@ impl<'a> Item<'a> {
     ///     item.open(Owner::Value, empty(alloc), &left.at); // the type's name is expected
     /// }
     /// ```
-    pub fn open(
-        &mut self,
-        owner: Owner,
-        leading: String,
-        at: &TokenSpan<'a>,
-    )
+    pub fn open(&mut self, owner: Owner, leading: String, at: &TokenSpan<'a>)
         ensures is { item_view self.new
             ≡ record (item_view self.old) {
               kept = true;
@@ -322,11 +317,7 @@ impl<'a> Item<'a> {
     ///     item.open_dropped(Owner::Value, &left.at); // the type's name is expected
     /// }
     /// ```
-    pub fn open_dropped(
-        &mut self,
-        owner: Owner,
-        at: &TokenSpan<'a>,
-    )
+    pub fn open_dropped(&mut self, owner: Owner, at: &TokenSpan<'a>)
         ensures is { item_view self.new
             ≡ record (item_view self.old) {
               kept = false;
@@ -404,10 +395,7 @@ impl<'a> Item<'a> {
     ///     item.open_dropped_keyed(&equals.at); // its value is expected
     /// }
     /// ```
-    pub fn open_dropped_keyed(
-        &mut self,
-        at: &TokenSpan<'a>,
-    )
+    pub fn open_dropped_keyed(&mut self, at: &TokenSpan<'a>)
         ensures is { item_view self.new
             ≡ record (item_view self.old) {
               kept = false;
@@ -465,11 +453,7 @@ impl<'a> Item<'a> {
 
     /// Continues after the `)` of the type.
     #[tactic(auto, using(crate::proofs::Slicing::SliceCost::token_fewer))]
-    fn close(
-        &mut self,
-        lexer: &mut Lexer<'a>,
-        at: &TokenSpan<'a>,
-    ) -> Result<(), AllocError>
+    fn close(&mut self, lexer: &mut Lexer<'a>, at: &TokenSpan<'a>) -> Result<(), AllocError>
         requires from { Ahead self.old.from at.now.start }
         ensures closed { OnOk result
             (item_view self.new ≡ spec.closed_at self.old.kept
@@ -620,7 +604,8 @@ impl<'a> Item<'a> {
     ) -> Result<Option<Given>, LexFailure>
         requires from { Ahead self.old.from at.now.start }
         ensures did { Did (spec.move spec.opened whole.now.rest (item_view self.old)
-            (kind_view kind) at.now.start.rest at.now.end.rest) at.now.start result (item_view self.new) }
+            (kind_view kind) at.now.start.rest at.now.end.rest) at.now.start result
+            (item_view self.new) }
         ensures holds { OnOk result (Holds (item_view self.old) (item_view self.new)) }
         ensures from { OnOk result (Ahead self.new.from at.now.end) }
         ensures stays { Stays lexer.old lexer.new }
@@ -647,7 +632,8 @@ impl<'a> Item<'a> {
     ) -> Result<Option<Given>, LexFailure>
         requires from { Ahead self.old.from at.now.start }
         ensures did { Did (spec.move spec.named whole.now.rest (item_view self.old)
-            (kind_view kind) at.now.start.rest at.now.end.rest) at.now.start result (item_view self.new) }
+            (kind_view kind) at.now.start.rest at.now.end.rest) at.now.start result
+            (item_view self.new) }
         ensures holds { OnOk result (Holds (item_view self.old) (item_view self.new)) }
         ensures from { OnOk result (Ahead self.new.from at.now.end) }
         ensures stays { Stays lexer.old lexer.new }
@@ -674,7 +660,8 @@ impl<'a> Item<'a> {
     ) -> Result<Option<Given>, LexFailure>
         requires from { Ahead self.old.from at.now.start }
         ensures did { Did (spec.move spec.closed whole.now.rest (item_view self.old)
-            (kind_view kind) at.now.start.rest at.now.end.rest) at.now.start result (item_view self.new) }
+            (kind_view kind) at.now.start.rest at.now.end.rest) at.now.start result
+            (item_view self.new) }
         ensures holds { OnOk result (Holds (item_view self.old) (item_view self.new)) }
         ensures from { OnOk result (Ahead self.new.from at.now.end) }
         ensures stays { Stays lexer.old lexer.new }
@@ -706,7 +693,8 @@ impl<'a> Item<'a> {
     ) -> Result<Option<Given>, LexFailure>
         requires from { Ahead self.old.from at.now.start }
         ensures did { Did (spec.move spec.keyed whole.now.rest (item_view self.old)
-            (kind_view kind) at.now.start.rest at.now.end.rest) at.now.start result (item_view self.new) }
+            (kind_view kind) at.now.start.rest at.now.end.rest) at.now.start result
+            (item_view self.new) }
         ensures holds { OnOk result (Holds (item_view self.old) (item_view self.new)) }
         ensures from { OnOk result (Ahead self.new.from at.now.end) }
         ensures stays { Stays lexer.old lexer.new }
@@ -752,7 +740,8 @@ impl<'a> Item<'a> {
     ) -> Result<Option<Given>, LexFailure>
         requires from { Ahead self.old.from at.now.start }
         ensures did { Did (spec.step whole.now.rest (item_view self.old)
-            (kind_view kind) at.now.start.rest at.now.end.rest) at.now.start result (item_view self.new) }
+            (kind_view kind) at.now.start.rest at.now.end.rest) at.now.start result
+            (item_view self.new) }
         ensures holds { OnOk result (Holds (item_view self.old) (item_view self.new)) }
         ensures from { OnOk result (Ahead self.new.from at.now.end) }
         ensures stays { Stays lexer.old lexer.new }
