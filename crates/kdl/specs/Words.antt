@@ -5,8 +5,11 @@ pub use Rattle.kdl_text.specs.Chars.{Text, is_space}
 pub use Rattle.kdl_text.specs.Spans.{InText, bytes}
 -- A refused text, and its errors.
 pub use Rattle.kdl_text.specs.Failures.{IsSyntax, IsToldOf, Tells, TellsOnSyntax}
--- Where the first fault of a refused document is.
-pub use Rattle.kdl_parser.specs.Earliest.{BeginsNone, EarliestOnSyntax, FailsEarliest, IsCut, IsEarliest, IsNear, IsRefusedAt, ReportsEarliest}
+-- Where the first fault of a refused text is.
+pub use Rattle.kdl_lexer.specs.Earliest.{AnswersEarliest, BeginsNoOther, BeginsNone, BeginsSome, FailsEarliest, IsCut, IsEarliest, IsNear, IsRefusedAt, ReportsEarliest}
+pub use Rattle.kdl_parser.specs.Earliest.{EarliestOnSyntax}
+pub use Rattle.kdl_entry.specs.EarliestEntry.{DerivedEntry, EarliestEntryOnSyntax}
+pub use Rattle.kdl_entry.specs.EarliestIdentifier.{DerivedIdentifier, EarliestIdentifierOnSyntax}
 -- A count of steps.
 pub use Rattle.kdl_text.specs.Spans.{raise}
 -- Values: their data, what they print, and their order.

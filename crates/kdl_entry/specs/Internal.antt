@@ -4,13 +4,19 @@
 pub mod Building
 -- What a call costs for the texts that it slices: at most a step for each of their bytes.
 pub mod Counted
+-- The machine of entry texts without data: which token may come where.
+pub mod EntryControl
 -- The machine that reads a text that is one entry: it reads the tokens once. The token k is in the text s before r, in the text `whole`.
 pub mod EntryMachine
 -- The machine's state that a reader of an entry holds, and what its steps return.
 pub mod EntryReading
+-- How far a machine without data reads in a text.
+pub mod Going
 -- What the reader of identifier texts returns.
 pub mod IdentifierReading
 -- An item being read, token by token: the type and value of an entry after its key, or the type and name of a node.
 pub mod Items
 -- What is proved of the machine that reads entry texts.
 pub mod MachineLaws
+-- Where the first diagnostic of an error is.
+pub mod Near

@@ -5,6 +5,7 @@ mod entry;
 mod identifier;
 pub mod items;
 mod print;
+pub mod refusal;
 
 pub use entry::{KdlEntry, KdlEntryFormat};
 pub use identifier::{KdlIdentifier, identifier_allocator, sliced_identifier};

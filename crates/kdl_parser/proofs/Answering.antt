@@ -4,8 +4,6 @@
 pub mod TokenLoop
 -- What the result on a whole text says of the grammar.
 pub mod Outcomes
--- The first diagnostic of a refused document.
-pub mod FirstFault
 -- Every edited document of a result reads back.
 pub mod EditedOutcomes
 -- A text with U+FEFF before it, or without.

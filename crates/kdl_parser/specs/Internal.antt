@@ -16,7 +16,7 @@ pub mod NodeText
 pub mod Parts
 -- The steps of a parse, for a whole text.
 pub mod Steps
--- Where the machine without data stops in a text, and where the first diagnostic of an error is.
+-- Where the machine without data stops in a text.
 pub mod Stopping
 -- Documents that are a whole text.
 pub mod Whole

@@ -12,8 +12,9 @@ ghost use Rattle.std.specs.Prelude.{◌≡◌, ◌+◌, ◌*◌, ◌≤◌, leng
 ghost use Rattle.std.specs.Str.{chars};
 
 use crate::node_parts::{DocumentParts, ParsedNode};
-use crate::refusal::refusal;
 use crate::token_loop::build;
+use kdl_diagnostics::Whole;
+use kdl_entry::refusal::refusal;
 use kdl_lexer::{LexFailure, Lexer};
 use kdl_text::cursor::Steps;
 use kdl_text::error::ParseFailure;
@@ -91,7 +92,7 @@ pub fn read_document<N: ParsedNode>(
 {
     match read_counted(alloc, text, steps) {
         Ok(document) => Ok(document),
-        Err(LexFailure::Faulty(span)) => Err(refusal(alloc, text, span, steps)),
+        Err(LexFailure::Faulty(span)) => Err(refusal(alloc, text, Whole::Document, span, steps)),
         Err(LexFailure::Memory) => Err(ParseFailure::Memory),
     }
 }

@@ -7,7 +7,6 @@ mod document_text;
 mod line_spaces;
 mod node_parts;
 mod node_text;
-mod refusal;
 mod token_loop;
 
 pub use document_text::{DocumentText, read_document};

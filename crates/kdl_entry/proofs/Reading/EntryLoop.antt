@@ -9,10 +9,14 @@ use Rattle.kdl_text.specs.Trivia.{NodeSpace}
 use Rattle.kdl_text.specs.declared.span.SourceSpan.{SourceSpan}
 use Rattle.kdl_text.proofs.Looking.MovesJoin.{bytes-append}
 use Rattle.kdl_entry.specs.Internal.Building.{Stays}
+use Rattle.kdl_entry.specs.EarliestEntry.{DerivedEntry}
+use Rattle.kdl_entry.specs.Internal.EntryControl.{phase_of, EntryReaches, EntryStuck}
 use Rattle.kdl_entry.specs.Internal.EntryMachine.{State, ahead, entry_slashdash, under, dropped, word, done, came, step, finish, Runs, stops, reads, AnswersEntry, given}
 use Rattle.kdl_entry.specs.Internal.EntryReading.{AnswersEntryText, EndsIn, Ended, Same, Stands, Stepped}
 use Rattle.kdl_value.specs.Data.{Value}
+use Rattle.kdl_lexer.specs.Earliest.{IsRefusedAt}
 use Rattle.kdl_lexer.specs.Internal.Handed.{Cuts, one, spaces, IsFaultAt, HandsOut, Lexed, kind_view}
+use Rattle.kdl_entry.specs.Internal.Going.{GoesBy}
 use Rattle.kdl_entry.specs.Internal.Items.{Stage, opened, named, closed, keyed, Item, TypeParts, KeyParts, named_at, closed_at, if_valued}
 use Rattle.kdl_entry.specs.Internal.Items as items
 use Rattle.kdl_lexer.specs.Tokens.{Token, space, newline, slashdash, string, value, left, right, equals, BeginsToken, t_space, NoToken}
@@ -22,7 +26,9 @@ use Rattle.kdl_lexer.specs.declared.lexer.LexFailure.{LexFailure}
 use Rattle.kdl_lexer.specs.declared.lexer.LexFailure.TheVariants.{Faulty, Memory}
 use Rattle.kdl_lexer.specs.declared.lexer.Token.{Token as CodeToken}
 use Rattle.kdl_lexer.proofs.Lexing.TokenUnique.{no_token, token_shorter}
+use Rattle.kdl_entry.proofs.Reading.EntryErased.{turned, not_turned}
 use Rattle.kdl_entry.proofs.Reading.EntryLaws.{goes_on}
+use Rattle.kdl_entry.proofs.Reading.EntryRefused.{goes_over, refused_at, stuck_at, stuck_end, stuck_no_token}
 
 module _ (whole : Text) where
   -- spaces change nothing in an item
@@ -157,10 +163,11 @@ module _ (whole s r : Text) (b : EndsIn s r) where
   step_stands (done x f) st newline e a = to (done x f) st e (then_ends a b)
   step_stands _ st _ e a = absurd cc
 
--- the lexer is in the text, and the machine goes on from here as from the start
+-- the lexer is in the text, the machine goes on from here as from the start, and it goes over the text up to here
 pub record Going (st : State) (here : Here) (t : Text) : Type 0 where
   pub same : Same st here.rest t
   pub from : Stands st here.rest
+  pub reached : EntryReaches t (phase_of st) here.rest
   pub text : EndsIn t here.rest
   pub at : here.at + bytes here.rest ≡ bytes t
 
@@ -168,6 +175,7 @@ pub starts_going : (t : Text) (here : Here) → here.rest ≡ t → here.at ≡ 
 starts_going t here e f = record {
   same = λ d. rw e (λ a. a, λ a. a);
   from = tt;
+  reached = subst (λ (z : Text). EntryReaches z (phase_of ahead) here.rest) e GoesBy.here;
   text = ([], sym e);
   at = omega (arith, ap bytes e);
 }
@@ -180,12 +188,14 @@ next_going st st' old mid new t k g h m e y =
     let went : Going st' mid t = record {
       same = λ d. let a = read_cut t d st st' old.rest mid.rest (kind_view k.kind) h.cuts e' in let b = g.same d in (λ x. b.0 (a.0 x), λ x. a.1 (b.1 x));
       from = step_stands t old.rest mid.rest piece st st' (kind_view k.kind) e' g.from;
+      reached = goes_over g.reached h.cuts (turned t st st' (kind_view k.kind) old.rest mid.rest e');
       text = then_ends g.text piece;
       at = m.at ∙ g.at;
     } in
     record {
       same = rw y.rest went.same;
       from = rw y.rest went.from;
+      reached = rw y.rest went.reached;
       text = rw y.rest went.text;
       at = rw (y.rest, y.at) went.at;
     }
@@ -209,6 +219,10 @@ told : (st : State) (here : Here) (t : Text) (place : Position) (span : SourceSp
 told st here t place span g e f x =
     char_in here.rest g.text.0 t span g.text.1 (x.offset ∙ f ∙ bytes_before g.text.0 here.rest t here.at g.text.1 g.at) (x.len ∙ ap first_len e)
 
+-- where the machine is stuck the text is refused
+refused_here : (st : State) (here : Here) (t : Text) (place : Position) (span : SourceSpan) → Going st here t → place.at ≡ here.at → IsFaultAt place span → EntryStuck (phase_of st) here.rest → IsRefusedAt DerivedEntry t span.offset
+refused_here st here t place span g f x s = refused_at t span.offset (phase_of st) here.rest g.reached g.text (omega (arith, x.offset, f, g.at)) s
+
 no_turn : (st : State) (old mid : Here) (t : Text) (k : CodeToken) → Going st old t → HandsOut old k mid → step t st (kind_view k.kind) k.at.start.rest k.at.end.rest ≡ None
     → (e : Entry) → AnswersEntry t e → ⊥
 no_turn st old mid t k g h e d a =
@@ -217,11 +231,13 @@ no_turn st old mid t k g h e d a =
 
 -- the lexer's failure, and that of a step
 pub lexer_told : (st : State) (old new : Here) (t : Text) (e : LexFailure) → Going st old t → Lexed old (Err e) new → AnswersEntryText t (Err e)
-lexer_told st old new t (Faulty span) g x = (λ d a. faults t d st old.rest x.0 ((g.same d).1 a), told st old t (record { rest = old.rest; at = old.at }) span g refl refl x.1)
+lexer_told st old new t (Faulty span) g x = (λ d a. faults t d st old.rest x.0 ((g.same d).1 a), told st old t (record { rest = old.rest; at = old.at }) span g refl refl x.1, refused_here st old t (record { rest = old.rest; at = old.at }) span g refl x.1 (stuck_no_token (phase_of st) old.rest x.0))
 lexer_told st old new t Memory g x = tt
 
 pub take_told : (st : State) (old mid : Here) (t : Text) (k : CodeToken) (e : LexFailure) → Going st old t → HandsOut old k mid → Stepped (step t st (kind_view k.kind) k.at.start.rest k.at.end.rest) k.at.start (Err e) → AnswersEntryText t (Err e)
-take_told st old mid t k (Faulty span) g h x = (no_turn st old mid t k g h x.0, told st old t k.at.start span g h.start_rest h.start_at x.1)
+take_told st old mid t k (Faulty span) g h x =
+    let e : step t st (kind_view k.kind) old.rest mid.rest ≡ None = rw (h.start_rest, h.end_rest) at x.0 in
+    (no_turn st old mid t k g h x.0, told st old t k.at.start span g h.start_rest h.start_at x.1, refused_here st old t k.at.start span g h.start_at x.1 (stuck_at (phase_of st) old.rest mid.rest (kind_view k.kind) h.cuts (not_turned t st (kind_view k.kind) old.rest mid.rest e)))
 take_told st old mid t k Memory g h x = tt
 
 -- a turn comes nearer to the end
@@ -254,6 +270,7 @@ pub no_end : (st : State) (old new : Here) (t : Text) (place : Position) (span :
 no_end st old new t place span g x m p q f z = (
   λ d a. (let b = (at_stop t d st).0 (subst (λ (z : Text). Runs t d st z) x ((g.same d).1 a)) in cc),
   char_in [] t t span (simp append-nil) (z.offset ∙ q ∙ all_before) (z.len ∙ ap first_len (p ∙ all_read old new x m)),
+  refused_at t span.offset (phase_of st) [] (subst (λ (z : Text). EntryReaches t (phase_of st) z) x g.reached) (t, simp append-nil) (omega (arith, z.offset, q, all_before)) (stuck_end (phase_of st)),
 )
   where
     all_before : new.at ≡ bytes t

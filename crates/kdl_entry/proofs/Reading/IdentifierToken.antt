@@ -1,5 +1,5 @@
 -- What the first token of a text says of it as an identifier.
-use Rattle.std.proofs.Common.{◌≡◌, ◌+◌, true, [], ◌++◌, Err, refl, sym, ap, subst, ◌∙◌, arith}
+use Rattle.std.proofs.Common.{◌≡◌, inl, ◌+◌, true, [], ◌++◌, Err, refl, sym, ap, subst, ◌∙◌, arith}
 use Rattle.std.specs.Prelude.{String}
 use Rattle.std.specs.declared.alloc.Global.{Global}
 use Rattle.kdl_text.specs.Chars.{Text, plus}
@@ -8,6 +8,7 @@ use Rattle.kdl_text.specs.Internal.Reading.{Moves}
 use Rattle.kdl_text.specs.Spans.{InText, bytes}
 use Rattle.kdl_text.specs.Trivia.{ValueEnd}
 use Rattle.kdl_text.specs.Trivia.ValueEnd.{nothing}
+use Rattle.kdl_lexer.specs.Earliest.{BeginsNone}
 use Rattle.kdl_lexer.specs.Pieces.{StringPiece}
 use Rattle.kdl_entry.specs.Entries.{IsString, string, IsIdentifierText}
 use Rattle.kdl_lexer.specs.Internal.Handed.{Cuts, one, spaces, IsFaultAt, HandsOut, Lexed, kind_view}
@@ -27,6 +28,7 @@ use Rattle.kdl_lexer.specs.declared.lexer.TokenKind.{TokenKind}
 use Rattle.kdl_lexer.specs.declared.lexer.TokenKind.TheVariants.{String as StringKind}
 use Rattle.kdl_lexer.proofs.Lexing.TokenUnique.{no_token, token_det}
 use Rattle.kdl_entry.proofs.Reading.EntryLoop.{bytes_before, char_in}
+use Rattle.kdl_entry.proofs.Reading.IdentifierRefused.{refused_behind, refused_empty, refused_other, refused_start}
 use Rattle.kdl_entry.proofs.Slicing.Placing.{place}
 use Rattle.kdl_lexer.proofs.Lexing.StringUnique.{string_end}
 
@@ -47,7 +49,7 @@ place_told t place span p e f x = char_in place.rest p t span e (x.offset ∙ by
 
 -- where no token begins
 pub no_token_told : (t : Text) (old new : Here) (e : LexFailure) → old.rest ≡ t → old.at ≡ 0 → Lexed old (Err e) new → AnswersIdentifierText t (Err e)
-no_token_told t old new (Faulty span) e f x = (λ v d. none v (subst (λ (z : Text). IsIdentifierText true z v) (sym e) d), place_told t (record { rest = old.rest; at = old.at }) span [] (sym e) (omega (arith, ap bytes e, f)) x.1)
+no_token_told t old new (Faulty span) e f x = (λ v d. none v (subst (λ (z : Text). IsIdentifierText true z v) (sym e) d), place_told t (record { rest = old.rest; at = old.at }) span [] (sym e) (omega (arith, ap bytes e, f)) x.1, refused_start t span.offset (x.1.offset ∙ f) (inl (subst BeginsNone e x.0.none)))
   where
     none : (v : Text) → IsIdentifierText true old.rest v → ⊥
     none v (string p q) = x.0.none _ _ (t_string p)
@@ -55,7 +57,7 @@ no_token_told t old new Memory e f x = tt
 
 -- where the text is empty
 pub empty_told : (t : Text) (old : Here) (place : Position) (span : SourceSpan) → old.rest ≡ t → old.rest ≡ [] → place.rest ≡ t → place.at ≡ 0 → IsFaultAt place span → AnswersIdentifierText t (Err (Faulty span))
-empty_told t old place span e n f g x = (λ v d. none v (subst (λ (z : Text). IsIdentifierText true z v) (sym e ∙ n) d), place_told t place span [] (sym f) (omega (arith, ap bytes f, g)) x)
+empty_told t old place span e n f g x = (λ v d. none v (subst (λ (z : Text). IsIdentifierText true z v) (sym e ∙ n) d), place_told t place span [] (sym f) (omega (arith, ap bytes f, g)) x, refused_start t span.offset (x.offset ∙ g) (inl (subst BeginsNone (sym n ∙ e) refused_empty)))
   where
     none : (v : Text) → IsIdentifierText true [] v → ⊥
     none v (string p q) = no_token (t_string p)
@@ -69,13 +71,15 @@ pub other_told : (t : Text) (old mid : Here) (k : CodeToken) (span : SourceSpan)
 other_told t old mid k span e f h n x = (
   λ v d. string_kind k.kind v (is_string (rw e at h.cuts) d).1 n,
   place_told t k.at.start span [] (sym (h.start_rest ∙ e)) (omega (arith, ap bytes (h.start_rest ∙ e), h.start_at, f)) x,
+  refused_start t span.offset (x.offset ∙ h.start_at ∙ f) (refused_other t mid.rest (kind_view k.kind) (rw e at h.cuts) (λ v q. string_kind k.kind v q n)),
 )
 
 -- where the text goes on after the first token
-pub more_told : (t : Text) (old mid : Here) (k : CodeToken) (span : SourceSpan) → old.rest ≡ t → old.at ≡ 0 → HandsOut old k mid → Moves old mid → (k.at.end.rest ≡ [] → ⊥) → IsFaultAt k.at.end span → AnswersIdentifierText t (Err (Faulty span))
-more_told t old mid k span e f h m n x = (
+pub more_told : (t : Text) (old mid : Here) (k : CodeToken) (s : String Global) (span : SourceSpan) → old.rest ≡ t → old.at ≡ 0 → HandsOut old k mid → k.kind ≡ StringKind s → Moves old mid → (k.at.end.rest ≡ [] → ⊥) → IsFaultAt k.at.end span → AnswersIdentifierText t (Err (Faulty span))
+more_told t old mid k s span e f h y m n x = (
   λ v d. n (h.end_rest ∙ (is_string (rw e at h.cuts) d).0),
   place_told t k.at.end span m.piece.0 (sym e ∙ m.piece.1 ∙ ap (λ (z : Text). m.piece.0 ++ z) (sym h.end_rest)) (omega (arith, ap bytes h.end_rest, h.end_at, m.at, f, ap bytes e)) x,
+  refused_behind t mid.rest (text_of s) span.offset (subst (λ (z : Text). Cuts z (tokens.string (text_of s)) mid.rest) e (subst (λ (z : tokens.Token). Cuts old.rest z mid.rest) (ap kind_view y) h.cuts)) (λ q. n (h.end_rest ∙ q)) (omega (arith, x.offset, h.end_at, m.at, f, ap bytes e)),
 )
 
 -- where the first token is a string, and the text ends after it

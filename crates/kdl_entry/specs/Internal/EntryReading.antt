@@ -6,6 +6,8 @@ use Rattle.kdl_text.specs.Spans.{InText}
 use Rattle.kdl_entry.specs.Internal.Building.{item_view}
 use Rattle.kdl_entry.specs.Internal.EntryMachine as machine
 use Rattle.kdl_entry.specs.Internal.EntryMachine.{AnswersEntry, Runs, under, word, done}
+use Rattle.kdl_entry.specs.EarliestEntry.{DerivedEntry}
+use Rattle.kdl_lexer.specs.Earliest.{IsRefusedAt}
 use Rattle.kdl_lexer.specs.Internal.Handed.{IsFaultAt}
 use Rattle.kdl_value.specs.Tree.{text_of}
 use Rattle.kdl_entry.specs.Tree.{entry_tree}
@@ -60,10 +62,10 @@ abbrev pub Ended : Option tree.Entry → Option KdlEntry → Type 0
 Ended o None = o ≡ None
 Ended o (Some e) = o ≡ Some (entry_tree e)
 
--- the machine's result on a text; for a refused text a place is reported
+-- the machine's result on a text; for a refused text the place where it is refused is reported
 abbrev pub AnswersEntryText : Text → Result KdlEntry LexFailure → Type 0
 AnswersEntryText t (Ok e) = AnswersEntry t (entry_tree e)
-AnswersEntryText t (Err (Faulty span)) = ((e : tree.Entry) → AnswersEntry t e → ⊥) × InText t span
+AnswersEntryText t (Err (Faulty span)) = ((e : tree.Entry) → AnswersEntry t e → ⊥) × InText t span × IsRefusedAt DerivedEntry t span.offset
 AnswersEntryText t (Err Memory) = Unit {0}
 
 -- the machine returns from here on what it returns on the whole text

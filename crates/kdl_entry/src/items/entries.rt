@@ -15,8 +15,9 @@ ghost use Rattle.std.specs.Str.{chars};
 use super::item::{Given, Item, Key, entry_from, piece_between, text_between};
 use crate::entry::KdlEntry;
 use crate::identifier::{KdlIdentifier, sliced_identifier};
+use crate::refusal::refusal;
 use kdl_control::Owner;
-use kdl_diagnostics::{Whole, failure};
+use kdl_diagnostics::Whole;
 use kdl_lexer::{LexFailure, Lexer, Token, TokenKind, TokenSpan, fault_at};
 use kdl_text::cursor::{Checkpoint, Piece, Steps};
 use kdl_text::error::ParseFailure;
@@ -467,6 +468,7 @@ fn read_entry(alloc: Global, text: &str) -> Result<KdlEntry, LexFailure>
 
 impl KdlEntry {
     ghost use Rattle.kdl_entry.specs.Data as data';
+    ghost use Rattle.kdl_entry.specs.EarliestEntry.{EarliestEntryOnSyntax};
     ghost use Rattle.kdl_entry.specs.Entries.{IsEntryText};
     ghost use Rattle.kdl_entry.specs.Laid.{LaidEntryText};
     ghost use Rattle.kdl_entry.specs.Print.{print_entry};
@@ -476,7 +478,8 @@ impl KdlEntry {
     /// Parses a text that is exactly one entry, and keeps every byte of its form: line-spaces and slashdashed entries
     /// before it, and line-spaces after it (KDL 2.0.0, Argument, Property). The span of the entry is the whole text.
     /// Returns `Syntax` if the text is not an entry; its error has a diagnostic for each fault, up to the first piece
-    /// that no entry can contain, and at least one. Returns `Memory` if an allocation fails.
+    /// that no entry can contain, and at least one; the first one is near the earliest fault that the text can have.
+    /// Returns `Memory` if an allocation fails.
     ///
     /// ```
     /// let entry = KdlEntry::parse(alloc, "port=(u16)0x1F90")?; // prints the text
@@ -495,14 +498,16 @@ impl KdlEntry {
         // text.
         ensures laid { IfOk result (λ e. LaidEntryText true (chars text.now) (entry_tree e)) }
         ensures prints { IfOk result (λ e. print_entry (entry_tree e) ≡ chars text.now) }
-        // A refused text is not derived, and the error reports where.
+        // A refused text is not derived, and the error reports where: its first diagnostic is near the earliest fault that
+        // the text can have.
         ensures refused { IsSyntax result → (x : data'.Entry) → IsEntryText true (chars text.now) x
             → ⊥ }
         ensures told { TellsOnSyntax text.now result }
+        ensures earliest { EarliestEntryOnSyntax text.now result }
     {
         match read_entry(alloc, text) {
             Ok(entry) => Ok(entry),
-            Err(LexFailure::Faulty(span)) => Err(failure(
+            Err(LexFailure::Faulty(span)) => Err(refusal(
                 alloc,
                 text,
                 Whole::Entry,

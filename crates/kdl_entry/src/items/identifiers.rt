@@ -6,7 +6,8 @@ ghost use Rattle.std.specs.Str.{chars};
 
 use super::item::identifier_between;
 use crate::identifier::KdlIdentifier;
-use kdl_diagnostics::{Whole, failure};
+use crate::refusal::refusal;
+use kdl_diagnostics::Whole;
 use kdl_lexer::{LexFailure, Lexer, Token, TokenKind, fault_at};
 use kdl_text::cursor::{Checkpoint, Steps};
 use kdl_text::error::ParseFailure;
@@ -56,6 +57,7 @@ fn read_identifier(alloc: Global, text: &str) -> Result<KdlIdentifier, LexFailur
 }
 
 impl KdlIdentifier {
+    ghost use Rattle.kdl_entry.specs.EarliestIdentifier.{EarliestIdentifierOnSyntax};
     ghost use Rattle.kdl_entry.specs.Entries.{IsIdentifierText};
     ghost use Rattle.kdl_entry.specs.Laid.{LaidIdentifierText};
     ghost use Rattle.kdl_entry.specs.Print.{print_identifier};
@@ -86,14 +88,16 @@ impl KdlIdentifier {
         ensures laid { IfOk result
             (λ i. LaidIdentifierText true (identifier_tree i) (chars text.now)) }
         ensures prints { IfOk result (λ i. print_identifier (identifier_tree i) ≡ chars text.now) }
-        // A refused text is not derived, and the error reports where.
+        // A refused text is not derived, and the error reports where: its first diagnostic is near the earliest fault that
+        // the text can have.
         ensures refused { IsSyntax result → (v : Text) → IsIdentifierText true (chars text.now) v
             → ⊥ }
         ensures told { TellsOnSyntax text.now result }
+        ensures earliest { EarliestIdentifierOnSyntax text.now result }
     {
         match read_identifier(alloc, text) {
             Ok(identifier) => Ok(identifier),
-            Err(LexFailure::Faulty(span)) => Err(failure(
+            Err(LexFailure::Faulty(span)) => Err(refusal(
                 alloc,
                 text,
                 Whole::Identifier,

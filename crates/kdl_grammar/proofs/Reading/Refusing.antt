@@ -1,44 +1,20 @@
 -- After a token that the machine without data refuses no document goes on.
 use Rattle.std.proofs.Common.{◌≡◌, ◌≢◌, true, false, List, [], ◌∷◌, ◌++◌, take, Some, None, refl, sym, ap, subst, ◌∙◌, arith}
 use Rattle.std.proofs.lemmas.List.{append_cancel_right}
-use Rattle.kdl_text.specs.Chars.{Text, starts, is_identifier_char}
-use Rattle.kdl_text.specs.Numbers.{whole, part, decimal, is_whole, is_decimal, keyword as a_keyword}
+use Rattle.kdl_text.specs.Chars.{Text}
 use Rattle.kdl_text.specs.Internal.Here.{first}
-use Rattle.kdl_lexer.specs.Pieces.{PlainPiece, number, keyword}
-use Rattle.kdl_lexer.specs.Tokens.{Token, space, newline, slashdash, string, value, left, right, opening, closing, equals, semicolon, bom, BeginsToken, t_space, t_newline, t_slashdash, t_string, t_value, t_left, t_right, t_opening, t_closing, t_equals, t_semicolon, t_bom, Lexes, done, next}
+use Rattle.kdl_lexer.specs.Tokens.{Token, space, newline, slashdash, string, value, left, right, opening, closing, equals, semicolon, bom, BeginsToken, Lexes, done, next}
 use Rattle.kdl_lexer.proofs.Lexing.TokenFronts.{RefusedWith, refused_with}
 use Rattle.kdl_lexer.proofs.Lexing.TokenUnique.{token_det, no_token, token_shorter}
-use Rattle.kdl_lexer.proofs.Moving.PieceMoves.{move_plain_piece}
-use Rattle.kdl_lexer.proofs.Moving.Puts.{Put, stands, joined, starts_first}
-use Rattle.kdl_lexer.proofs.Moving.StringMoves.{move_piece_first}
+use Rattle.kdl_lexer.proofs.Moving.Puts.{Put, stands, joined}
+use Rattle.kdl_entry.proofs.Moving.TokenMoves.{near, full_of}
 use Rattle.kdl_value.specs.Data.{Value}
 use Rattle.kdl_grammar.specs.Data.{Nodes}
 use Rattle.kdl_grammar.specs.Grammar.{AreNodes}
 use Rattle.kdl_control.specs.Control.{fresh, spaced, later, gap, node_slashdash, type_open, type_name, type_done, in_node, property, entry_slashdash, block_slashdash, kept, kept_slashdash, Control, at, step, held, accepts}
 use Rattle.kdl_grammar.specs.Going.{Goes, here, goes, RefusesFront}
 use Rattle.kdl_grammar.proofs.Reading.Erased.{accepted_nodes}
-use Rattle.kdl_grammar.proofs.Reading.Viable.{Moved, near_token, goes_length, full_of, Reads}
-
--- no identifier character comes after a number or a keyword
-plain_stops : {s r : Text} {v : Value} → PlainPiece s r v → starts is_identifier_char r ≡ false
-plain_stops (number (is_whole (whole a b d e f g)) q) = e
-plain_stops (number (is_decimal (decimal p a i (part x y z e) f g)) q) = e
-plain_stops (keyword (a_keyword e n) q) = n
-
--- each token comes before each rest that begins with the same character, or is none
-near : {s r : Text} {k : Token} → BeginsToken s k r → (u : Text) → first u ≡ first r → Moved s r k u
-near (t_string p) u e = let m = move_piece_first p in record { at = m.at; there = t_string (m.there u e) }
-near {r = r} (t_value p) u e = let m = move_plain_piece p in record { at = m.at; there = t_value (m.there u (starts_first is_identifier_char u r e ∙ plain_stops p)) }
-near (t_space m) u e = near_token (t_space m) tt u e
-near (t_newline m) u e = near_token (t_newline m) tt u e
-near t_slashdash u e = near_token t_slashdash tt u e
-near t_left u e = near_token t_left tt u e
-near t_right u e = near_token t_right tt u e
-near t_opening u e = near_token t_opening tt u e
-near t_closing u e = near_token t_closing tt u e
-near t_equals u e = near_token t_equals tt u e
-near t_semicolon u e = near_token t_semicolon tt u e
-near t_bom u e = near_token t_bom tt u e
+use Rattle.kdl_grammar.proofs.Reading.Viable.{goes_length, Reads}
 
 pub record Carried (c : Control) (s : Text) (d : Control) (r u : Text) : Type 0 where
   pub at : Put s r

@@ -11,7 +11,7 @@ use Rattle.kdl_text.proofs.Looking.Texts.{bytes-chars}
 use Rattle.kdl_text.proofs.Looking.MovesJoin.{bytes-append}
 use Rattle.kdl_control.specs.Control.{Control}
 use Rattle.kdl_grammar.specs.Data.{Nodes}
-use Rattle.kdl_grammar.specs.GoingOn.{Dead}
+use Rattle.kdl_grammar.specs.GoingOn.{Dead, Derived}
 use Rattle.kdl_grammar.specs.Going.{Goes, here, goes, Reaches, no_bom, behind_bom}
 use Rattle.kdl_grammar.specs.Former.{IsFormerDocument}
 use Rattle.kdl_grammar.specs.Grammar.{IsDocument}
@@ -19,7 +19,7 @@ use Rattle.kdl_grammar.specs.Laid.{LaidDocument, with_bom}
 use Rattle.kdl_grammar.specs.Internal.Machine.{step, initial, Runs, reads, AnswersDocument}
 use Rattle.kdl_grammar.specs.Print.{print_document}
 use Rattle.kdl_grammar.specs.Tree.{Node, Document, document_data}
-use Rattle.kdl_parser.specs.Earliest.{BeginsNone, IsCut, up_to_here, token, IsRefusedAt}
+use Rattle.kdl_lexer.specs.Earliest.{BeginsNone, IsCut, up_to_here, token, IsRefusedAt}
 use Rattle.kdl_parser.specs.Internal.Answered.{AnswersParts}
 use Rattle.kdl_parser.specs.Internal.Building.{EndsIn}
 use Rattle.kdl_parser.specs.Internal.Parts.{document_by}
@@ -49,7 +49,7 @@ cut_up_to (no_bom h g) = cut g
 cut_up_to (behind_bom g) = token t_bom (cut g)
 
 -- where the machine without data is stuck the text is refused
-refused_at : (t : Text) (n : ℕ) {c : Control} {r : Text} → Reaches t c r → EndsIn t r → n + bytes r ≡ bytes t → Stuck c r → IsRefusedAt t n
+refused_at : (t : Text) (n : ℕ) {c : Control} {r : Text} → Reaches t c r → EndsIn t r → n + bytes r ≡ bytes t → Stuck c r → IsRefusedAt Derived t n
 refused_at t n {c = c} {r = r} g (p, e) m s = record { before = p; rest = r; text = e; place = omega (arith, ap bytes e, bytes-append p r, m); cut = cut_up_to g; alive = alive p r c h; stops = stops s }
   where
     h : Reaches (p ++ r) c r

@@ -27,7 +27,7 @@ use Rattle.kdl_parser.specs.Internal.Parts.{document_by}
 use Rattle.kdl_parser.specs.declared.builder.Builder.{Builder}
 use Rattle.kdl_parser.specs.declared.node_parts.DocumentParts.{DocumentParts}
 use Rattle.kdl_parser.proofs.Stepping.PlacesAhead.{placed_step, then_ends}
-use Rattle.kdl_parser.specs.Earliest.{BeginsNone}
+use Rattle.kdl_lexer.specs.Earliest.{BeginsNone}
 use Rattle.kdl_parser.specs.Internal.Stopping.{Stops, Stuck}
 use Rattle.kdl_parser.proofs.Stepping.MachineSteps.{read_cut, refuses, faults, at_stop}
 use Rattle.kdl_parser.proofs.Stepping.WithoutData.{stepped, refused_step, over_cut, stuck_cut}

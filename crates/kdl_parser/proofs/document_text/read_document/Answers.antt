@@ -1,4 +1,5 @@
-use Rattle.kdl_parser.proofs.Answering.FirstFault.{earliest}
+use Rattle.kdl_entry.proofs.FirstFault.{earliest}
+use Rattle.kdl_grammar.specs.GoingOn.{Derived}
 use Rattle.kdl_parser.proofs.Answering.Outcomes.{told_counted}
 use Rattle.kdl_parser.proofs.document_text.read_document.Goals as goal
 
@@ -9,4 +10,4 @@ returns-in-Err-Faulty-clause-told_most g c =
 pub returns-in-Err-Faulty-clause-earliest : goal.returns-in-Err-Faulty-clause-earliest
 returns-in-Err-Faulty-clause-earliest g c =
     let a = rw (c.in-Err-Faulty.is, c.in-Err-Faulty.field-0-is) at c.read_counted.ensures.answers in
-    earliest c.args.text.now c.in-Err-Faulty.span.offset c.refusal.result c.utf8.text a.2 c.refusal.ensures.near
+    earliest Derived c.args.text.now c.in-Err-Faulty.span.offset c.refusal.result c.utf8.text a.2 c.refusal.ensures.near

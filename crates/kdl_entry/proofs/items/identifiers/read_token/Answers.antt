@@ -13,7 +13,7 @@ returns-in_default c = other_told _ c.args.lexer.now c.next.new.self c.in-Ok-Som
 
 pub returns-then-not-is_end : goal.returns-then-not-is_end
 returns-then-not-is_end c =
-    more_told _ c.args.lexer.now c.next.new.self c.in-Ok-Some.token c.fault_at-then-not-is_end.result c.requires.rest c.requires.at (rw c.in-Ok-Some.field-0-is at c.in-Ok-Some.ensures.lexed) c.next.ensures.moves (λ e. let x = c.if-not-is_end.ensures.1 e in cc)
+    more_told _ c.args.lexer.now c.next.new.self c.in-Ok-Some.token c.in-String.value c.fault_at-then-not-is_end.result c.requires.rest c.requires.at (rw c.in-Ok-Some.field-0-is at c.in-Ok-Some.ensures.lexed) c.in-String.is c.next.ensures.moves (λ e. let x = c.if-not-is_end.ensures.1 e in cc)
     c.fault_at-then-not-is_end.ensures
 
 pub returns : goal.returns

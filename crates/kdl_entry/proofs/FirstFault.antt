@@ -1,22 +1,23 @@
--- The first diagnostic of a refused document.
+-- The first diagnostic of a refused text.
 use Rattle.std.proofs.Common.{◌≡◌, ℕ, ◌<◌, List, [], ◌∷◌, length, Some, slice_get, refl, sym, ap, subst, arith}
 use Rattle.std.specs.List.{All, insert}
 use Rattle.std.specs.Str.{chars, IsUtf8}
 use Rattle.std.proofs.lemmas.List.Elements.{All-cons, All-same}
+use Rattle.kdl_text.specs.Chars.{Text}
 use Rattle.kdl_text.specs.Failures.{IsToldOf}
 use Rattle.kdl_text.specs.declared.error.KdlDiagnostic.{KdlDiagnostic}
 use Rattle.kdl_text.specs.declared.error.ParseFailure.{ParseFailure}
 use Rattle.kdl_text.specs.declared.error.ParseFailure.TheVariants.{Syntax, Memory}
 use Rattle.kdl_text.specs.declared.span.SourceSpan.{SourceSpan}
 use Rattle.kdl_text.proofs.Looking.Texts.{bytes-chars}
-use Rattle.kdl_parser.specs.Earliest.{IsNear, contains, IsRefusedAt, FailsEarliest}
-use Rattle.kdl_parser.specs.Internal.Stopping.{BeginNear, FailsNear}
+use Rattle.kdl_lexer.specs.Earliest.{IsNear, contains, IsRefusedAt, FailsEarliest}
+use Rattle.kdl_entry.specs.Internal.Near.{BeginNear, FailsNear}
 
 -- the place where the text is refused, and the span near it
-pub earliest : (text : List ℕ) (n : ℕ) (failure : ParseFailure) → IsUtf8 text → IsRefusedAt (chars text) n → FailsNear text n failure → FailsEarliest text failure
-earliest text n (Syntax e) u r (d, ds, h, x) =
+pub earliest : (derived : Text → Type 0) (text : List ℕ) (n : ℕ) (failure : ParseFailure) → IsUtf8 text → IsRefusedAt derived (chars text) n → FailsNear text n failure → FailsEarliest derived text failure
+earliest derived text n (Syntax e) u r (d, ds, h, x) =
     (d, ds, h, record { place = n; refused = r; near = subst (λ (m : ℕ). IsNear d.span n m) (sym (bytes-chars text u)) x })
-earliest text n Memory u r x = tt
+earliest derived text n Memory u r x = tt
 
 -- the first diagnostic, where there is one
 pub near_first : (ds : List KdlDiagnostic) (d : KdlDiagnostic) (n end : ℕ) → slice_get ds 0 ≡ Some d → IsNear d.span n end → BeginNear ds n end

@@ -1,7 +1,7 @@
-//! The error of a text that is no document: its first diagnostic is near the place where the text is refused.
+//! The error of a refused text: its first diagnostic is near the place where the text is refused.
 
-ghost use Rattle.kdl_parser.specs.Earliest.{IsNear};
-ghost use Rattle.kdl_parser.specs.Internal.Stopping.{BeginNear, FailsNear, ReportsNear};
+ghost use Rattle.kdl_entry.specs.Internal.Near.{BeginNear, FailsNear, ReportsNear};
+ghost use Rattle.kdl_lexer.specs.Earliest.{IsNear};
 ghost use Rattle.kdl_text.specs.Failures.{IsToldOf, Tells, TellsOf};
 ghost use Rattle.kdl_text.specs.Spans.{InText, raise};
 ghost use Rattle.std.specs.Prelude.{◌≡◌, ◌+◌, ◌*◌, ◌≤◌, length, true, IfOk};
@@ -78,10 +78,12 @@ fn with_place(
     Ok(error)
 }
 
-/// The failure of a text that is refused as a document at the span, or of memory that ran out.
-pub(crate) fn refusal(
+/// Returns the failure of a text that is refused at the span, or of memory that ran out. A refused text has a diagnostic
+/// for each fault; the first of them is near the place where the span begins. Adds the steps of reading to the count.
+pub fn refusal(
     alloc: Global,
     text: &str,
+    whole: Whole,
     span: SourceSpan,
     steps: &mut Steps,
 ) -> ParseFailure
@@ -91,7 +93,7 @@ pub(crate) fn refusal(
     ensures most { steps.new ≤ steps.old + 128 * (length text.now + 1) }
     ensures raised { raise steps.old 0 ≤ raise steps.new 0 }
 {
-    match failure(alloc, text, Whole::Document, span, steps) {
+    match failure(alloc, text, whole, span, steps) {
         ParseFailure::Syntax(error) => match with_place(alloc, text, error, span) {
             Ok(error) => ParseFailure::Syntax(error),
             Err(_) => ParseFailure::Memory,

@@ -1,8 +1,8 @@
 use Rattle.std.proofs.Common.{length, subst}
 use Rattle.kdl_text.specs.Failures.{IsToldOf}
-use Rattle.kdl_parser.specs.Internal.Stopping.{BeginNear}
-use Rattle.kdl_parser.proofs.Answering.FirstFault.{put_near, put_told}
-use Rattle.kdl_parser.proofs.refusal.with_place.Goals as goal
+use Rattle.kdl_entry.specs.Internal.Near.{BeginNear}
+use Rattle.kdl_entry.proofs.FirstFault.{put_near, put_told}
+use Rattle.kdl_entry.proofs.refusal.with_place.Goals as goal
 
 pub returns-clause-tells : goal.returns-clause-tells
 returns-clause-tells c =

@@ -1,0 +1,137 @@
+-- The machine of entry texts without data takes the tokens that the machine takes, so it accepts the texts that the grammar derives.
+use Rattle.std.proofs.Common.{◌≡◌, Bool, true, false, [], Option, Some, None, option_map, refl, sym, ap, subst, ◌∙◌}
+use Rattle.kdl_text.specs.Chars.{Text}
+use Rattle.kdl_value.specs.Data.{Value}
+use Rattle.kdl_lexer.specs.Tokens.{Token, space, newline, slashdash, string, value, left, right, opening, closing, equals, semicolon, bom, BeginsToken}
+use Rattle.kdl_lexer.proofs.Lexing.TokenUnique.{token_det, no_token}
+use Rattle.kdl_entry.specs.EarliestEntry.{DerivedEntry}
+use Rattle.kdl_entry.specs.Internal.EntryControl.{Phase, ahead, entry_slashdash, under, dropped, word, done, phase_of, given, if_valued, item_turn, turn, finish}
+use Rattle.kdl_entry.specs.Internal.EntryMachine as machine
+use Rattle.kdl_entry.specs.Internal.EntryMachine.{State, came, step, Runs, stops, reads}
+use Rattle.kdl_entry.specs.Internal.Going.{GoesBy, here, goes}
+use Rattle.kdl_entry.specs.Internal.Items as items
+use Rattle.kdl_entry.specs.Internal.Items.{Stage, opened, named, closed, keyed, Item, KeyParts, TypeParts, named_at, closed_at, emptied}
+use Rattle.kdl_entry.specs.Tree.{Entry, Identifier}
+use Rattle.kdl_entry.proofs.Reading.EntryComplete.{built}
+use Rattle.kdl_entry.proofs.Reading.EntrySound.{derived}
+
+-- the phases of what an item becomes
+named_phase : (b : Bool) (i : Identifier) (p r : Text) (it : Item) → phase_of (machine.under (named_at b i p r it)) ≡ under it.kept it.valued named
+named_phase true i p r it = refl
+named_phase false i p r it = refl
+
+closed_phase : (b : Bool) (p r : Text) (it : Item) → phase_of (machine.under (closed_at b p r it)) ≡ under it.kept it.valued closed
+closed_phase true p r it = refl
+closed_phase false p r it = refl
+
+emptied_kept : (b : Bool) (it : Item) → (emptied b it).kept ≡ it.kept
+emptied_kept true it = refl
+emptied_kept false it = refl
+
+given_phase : (b : Bool) (q : Text) (k : Option KeyParts) (y : Option TypeParts) (v : Value) (s r : Text) → phase_of (machine.given b q k y v s r) ≡ given b
+given_phase true q k y v s r = refl
+given_phase false q k y v s r = refl
+
+valued_phase : (b : Bool) (it : Item) (k : Option KeyParts) (y : Option TypeParts) (v : Value) (s r : Text) → option_map phase_of (came it (items.if_valued b (items.gives k y v)) s r) ≡ if_valued b (given it.kept)
+valued_phase true it k y v s r = ap Some (given_phase it.kept it.leading k y v s r)
+valued_phase false it k y v s r = refl
+
+same_item : (whole : Text) (it : Item) (g : Stage) (k : Token) (s r : Text) → it.stage ≡ g → option_map phase_of (came it (items.move g whole it k s r) s r) ≡ item_turn it.kept it.valued g k
+same_item whole it opened space s r q = ap (λ (z : Stage). Some (under it.kept it.valued z)) q
+same_item whole it opened (string v) s r q = ap Some (named_phase it.kept _ _ r it)
+same_item whole it opened _ s r q = refl
+same_item whole it named space s r q = ap (λ (z : Stage). Some (under it.kept it.valued z)) q
+same_item whole it named right s r q = ap Some (closed_phase it.kept _ r it)
+same_item whole it named _ s r q = refl
+same_item whole it closed space s r q = ap (λ (z : Stage). Some (under it.kept it.valued z)) q
+same_item whole it closed (string v) s r q = ap Some (given_phase it.kept _ _ _ _ s r)
+same_item whole it closed (value v) s r q = valued_phase it.valued it _ _ v s r
+same_item whole it closed _ s r q = refl
+same_item whole it keyed space s r q = ap (λ (z : Stage). Some (under it.kept it.valued z)) q
+same_item whole it keyed (string v) s r q = ap Some (given_phase it.kept _ _ _ _ s r)
+same_item whole it keyed (value v) s r q = ap Some (given_phase it.kept _ _ _ _ s r)
+same_item whole it keyed left s r q = ap (λ (b : Bool). Some (under b true opened)) (emptied_kept it.kept it)
+same_item whole it keyed _ s r q = refl
+
+-- the step of a phase is that of its state
+pub same_turn : (whole : Text) (st : State) (k : Token) (s r : Text) → option_map phase_of (step whole st k s r) ≡ turn (phase_of st) k
+same_turn whole machine.ahead space s r = refl
+same_turn whole machine.ahead _ s r = refl
+same_turn whole machine.entry_slashdash space s r = refl
+same_turn whole machine.entry_slashdash _ s r = refl
+same_turn whole (machine.under it) k s r = same_item whole it it.stage k s r refl
+same_turn whole (machine.dropped true true) space s r = refl
+same_turn whole (machine.dropped true true) _ s r = refl
+same_turn whole (machine.dropped true false) space s r = refl
+same_turn whole (machine.dropped true false) _ s r = refl
+same_turn whole (machine.dropped false true) space s r = refl
+same_turn whole (machine.dropped false true) _ s r = refl
+same_turn whole (machine.dropped false false) space s r = refl
+same_turn whole (machine.dropped false false) _ s r = refl
+same_turn whole (machine.word w f) space s r = refl
+same_turn whole (machine.word w f) _ s r = refl
+same_turn whole (machine.done e f) space s r = refl
+same_turn whole (machine.done e f) _ s r = refl
+
+pub turned : (whole : Text) (st st' : State) (k : Token) (s r : Text) → step whole st k s r ≡ Some st' → turn (phase_of st) k ≡ Some (phase_of st')
+turned whole st st' k s r e = sym (same_turn whole st k s r) ∙ ap (option_map phase_of) e
+
+pub not_turned : (whole : Text) (st : State) (k : Token) (s r : Text) → step whole st k s r ≡ None → turn (phase_of st) k ≡ None
+not_turned whole st k s r e = sym (same_turn whole st k s r) ∙ ap (option_map phase_of) e
+
+-- from the phase on, the text is read to its end
+pub data Accepts : Phase → Text → Type 0 where
+  ends : {c : Phase} → finish c ≡ true → Accepts c []
+  takes : {c d : Phase} {s r : Text} {k : Token} → BeginsToken s k r → turn c k ≡ Some d → Accepts d r → Accepts c s
+
+stopped : (whole : Text) (st : State) (e : Entry) → machine.finish whole st ≡ Some e → finish (phase_of st) ≡ true
+stopped whole (machine.word w f) e x = refl
+stopped whole (machine.done d f) e x = refl
+stopped whole machine.ahead e x = absurd cc
+stopped whole machine.entry_slashdash e x = absurd cc
+stopped whole (machine.under it) e x = absurd cc
+stopped whole (machine.dropped b c) e x = absurd cc
+
+accepted : {whole : Text} {e : Entry} {st : State} {s : Text} → Runs whole e st s → Accepts (phase_of st) s
+accepted {whole = whole} {e = e} (stops {st = st} x) = ends (stopped whole st e x)
+accepted {whole = whole} (reads {st = st} {st' = st'} {s = s} {r = r} {k = k} b x a) = takes b (turned whole st st' k s r x) (accepted a)
+
+taken : (o : Option State) (d : Phase) → option_map phase_of o ≡ Some d → (st : State) × (o ≡ Some st) × (phase_of st ≡ d)
+taken None d e = absurd cc
+taken (Some st) d e = (st, refl, cc)
+
+finished : (whole : Text) (st : State) → finish (phase_of st) ≡ true → (e : Entry) × Runs whole e st []
+finished whole (machine.word w f) x = (_, stops refl)
+finished whole (machine.done e f) x = (_, stops refl)
+finished whole machine.ahead x = absurd cc
+finished whole machine.entry_slashdash x = absurd cc
+finished whole (machine.under it) x = absurd cc
+finished whole (machine.dropped b c) x = absurd cc
+
+runs : (whole : Text) (st : State) {c : Phase} {s : Text} → Accepts c s → phase_of st ≡ c → (e : Entry) × Runs whole e st s
+runs whole st (ends f) q = finished whole st (subst (λ (z : Phase). finish z ≡ true) (sym q) f)
+runs whole st (takes {d = d} {s = s} {r = r} {k = k} b e a) q =
+    let x = taken (step whole st k s r) d (same_turn whole st k s r ∙ ap (λ (z : Phase). turn z k) q ∙ e) in
+    let y = runs whole x.0 a x.2 in
+    (y.0, reads b x.1 y.1)
+
+-- it accepts the texts that are derived, and no others
+pub accepts_derived : {t : Text} → Accepts ahead t → DerivedEntry t
+accepts_derived {t = t} a = let x = runs t machine.ahead a refl in derived t x.0 x.1
+
+pub derived_accepts : {t : Text} → DerivedEntry t → Accepts ahead t
+derived_accepts (x, i) = accepted (built i).answers
+
+-- what is accepted behind what it goes over, and the whole
+pub behind : {c d : Phase} {s r : Text} → GoesBy turn c s d r → Accepts d r → Accepts c s
+behind here a = a
+behind (goes b e g) a = takes b e (behind g a)
+
+pub follow : {c d : Phase} {s r : Text} → GoesBy turn c s d r → Accepts c s → Accepts d r
+follow here a = a
+follow (goes b e g) (ends f) = absurd (no_token b)
+follow {c = c} (goes {c' = c'} {t = t} {k = k} b e g) (takes {d = d} {r = r} {k = j} b' e' a) =
+    let x = token_det b' b in
+    let y : turn c k ≡ Some d = subst (λ (z : Token). turn c z ≡ Some d) x.1 e' in
+    let z : d ≡ c' = cc in
+    follow g (subst (λ (p : Phase). Accepts p t) z (subst (λ (w : Text). Accepts d w) x.0 a))

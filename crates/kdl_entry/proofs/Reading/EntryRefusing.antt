@@ -1,0 +1,106 @@
+-- After a token that the machine of entry texts without data refuses no entry text goes on.
+use Rattle.std.proofs.Common.{◌≡◌, ◌≢◌, Bool, true, false, [], ◌∷◌, ◌++◌, take, Option, Some, None, refl, sym, ap, subst, ◌∙◌, append_assoc}
+use Rattle.std.proofs.lemmas.List.{append_cancel_right}
+use Rattle.kdl_text.specs.Chars.{Text}
+use Rattle.kdl_text.specs.Internal.Here.{first}
+use Rattle.kdl_value.specs.Data.{Value}
+use Rattle.kdl_lexer.specs.Earliest.{BeginsNoOther}
+use Rattle.kdl_lexer.specs.Tokens.{Token, space, newline, slashdash, string, value, left, right, opening, closing, equals, semicolon, bom, BeginsToken}
+use Rattle.kdl_lexer.proofs.Lexing.TokenFronts.{RefusedWith, refused_with}
+use Rattle.kdl_lexer.proofs.Lexing.TokenUnique.{no_token}
+use Rattle.kdl_entry.specs.EarliestEntry.{DerivedEntry}
+use Rattle.kdl_entry.specs.Internal.EntryControl.{Phase, ahead, entry_slashdash, under, dropped, word, done, given, if_valued, item_turn, turn, EntryReaches}
+use Rattle.kdl_entry.specs.Internal.Items.{Stage, opened, named, closed, keyed}
+use Rattle.kdl_entry.proofs.Reading.EntryErased.{Accepts, ends, takes, derived_accepts, follow}
+use Rattle.kdl_entry.proofs.Reading.Going.{near_goes}
+
+-- where a string is refused, so is each other one, and each number and keyword
+no_string : (c : Phase) (v : Text) (w : Text) → turn c (string v) ≡ None → turn c (string w) ≡ None
+no_string ahead v w e = absurd cc
+no_string entry_slashdash v w e = absurd cc
+no_string (under kept valued opened) v w e = absurd cc
+no_string (under kept valued named) v w e = refl
+no_string (under kept valued closed) v w e = absurd cc
+no_string (under kept valued keyed) v w e = absurd cc
+no_string (dropped b false) v w e = refl
+no_string (dropped b true) v w e = absurd cc
+no_string word v w e = refl
+no_string done v w e = refl
+
+no_value : (c : Phase) (v : Text) (w : Value) → turn c (string v) ≡ None → turn c (value w) ≡ None
+no_value ahead v w e = absurd cc
+no_value entry_slashdash v w e = absurd cc
+no_value (under kept valued opened) v w e = absurd cc
+no_value (under kept valued named) v w e = refl
+no_value (under kept valued closed) v w e = absurd cc
+no_value (under kept valued keyed) v w e = absurd cc
+no_value (dropped b false) v w e = refl
+no_value (dropped b true) v w e = absurd cc
+no_value word v w e = refl
+no_value done v w e = refl
+
+no_other : (c : Phase) (v : Value) (w : Value) → turn c (value v) ≡ None → turn c (value w) ≡ None
+no_other ahead v w e = absurd cc
+no_other entry_slashdash v w e = absurd cc
+no_other (under kept valued opened) v w e = refl
+no_other (under kept valued named) v w e = refl
+no_other (under kept true closed) v w e = absurd cc
+no_other (under kept false closed) v w e = refl
+no_other (under kept valued keyed) v w e = absurd cc
+no_other (dropped b false) v w e = refl
+no_other (dropped b true) v w e = absurd cc
+no_other word v w e = refl
+no_other done v w e = refl
+
+refused_too : (c : Phase) (k j : Token) → RefusedWith k j → turn c k ≡ None → turn c j ≡ None
+refused_too c (string v) (string w) a e = no_string c v w e
+refused_too c (string v) (value w) a e = no_value c v w e
+refused_too c (value v) (value w) a e = no_other c v w e
+refused_too c space j a e = ap (turn c) (sym a) ∙ e
+refused_too c newline j a e = ap (turn c) (sym a) ∙ e
+refused_too c slashdash j a e = ap (turn c) (sym a) ∙ e
+refused_too c left j a e = ap (turn c) (sym a) ∙ e
+refused_too c right j a e = ap (turn c) (sym a) ∙ e
+refused_too c opening j a e = ap (turn c) (sym a) ∙ e
+refused_too c closing j a e = ap (turn c) (sym a) ∙ e
+refused_too c equals j a e = ap (turn c) (sym a) ∙ e
+refused_too c semicolon j a e = ap (turn c) (sym a) ∙ e
+refused_too c bom j a e = ap (turn c) (sym a) ∙ e
+refused_too c (string v) _ a e = absurd a
+refused_too c (value v) _ a e = absurd a
+
+-- nothing is accepted that begins with a front of refused tokens alone
+refused_front : (c : Phase) (f u : Text) → f ++ u ≢ [] → ((r : Text) (k : Token) → BeginsToken (f ++ u) k r → turn c k ≡ None) → Accepts c (f ++ u) → ⊥
+refused_front c f u some n a = go (f ++ u) refl a
+  where
+    go : (s : Text) → s ≡ f ++ u → Accepts c s → ⊥
+    go s e (ends h) = some (sym e)
+    go s e (takes {r = r} {k = k} b h a') = let x = n r k (subst (λ (z : Text). BeginsToken z k r) e b) in cc
+
+pub two_parts : (r : Text) → (q : Text) × (r ≡ take 2 r ++ q)
+two_parts [] = ([], refl)
+two_parts (c ∷ []) = ([], refl)
+two_parts (c ∷ d ∷ r) = (r, refl)
+
+-- the front of a text that is not empty hides what follows it
+pub two_first : (r u q : Text) → r ≢ [] → first (take 2 r ++ u) ≡ first (take 2 r ++ q)
+two_first [] u q h = absurd (h refl)
+two_first (c ∷ []) u q h = refl
+two_first (c ∷ d ∷ r) u q h = refl
+
+pub two_some : (r u : Text) → r ≢ [] → take 2 r ++ u ≢ []
+two_some [] u h e = h refl
+two_some (c ∷ []) u h e = cc
+two_some (c ∷ d ∷ r) u h e = cc
+
+-- no entry text begins with what it went over and the first two characters of a token that it refuses
+pub entry_dead : (p r s : Text) (c : Phase) (k : Token) → EntryReaches (p ++ r) c r → BeginsToken r k s → turn c k ≡ None → BeginsNoOther DerivedEntry (p ++ take 2 r)
+entry_dead p r s c k g b n u x =
+    let (q, e) = two_parts r in
+    let f = take 2 r in
+    let some : r ≢ [] = λ y. no_token (subst (λ (z : Text). BeginsToken z k s) y b) in
+    let y = near_goes (f ++ u) (two_first r u q some ∙ ap first (sym e)) g in
+    let same : y.at.piece ≡ p = append_cancel_right y.at.piece p r (sym (y.at.here ∙ y.at.text r)) in
+    let text : p ++ (f ++ u) ≡ y.at.put (f ++ u) = sym (y.at.text (f ++ u) ∙ ap (λ (z : Text). z ++ (f ++ u)) same) in
+    let a : Accepts ahead (y.at.put (f ++ u)) = subst (λ (z : Text). Accepts ahead z) (append_assoc p f u ∙ text) (derived_accepts x) in
+    refused_front c f u (two_some r u some) (λ t j d. refused_too c k j (refused_with r u b d) n) (follow y.there a)

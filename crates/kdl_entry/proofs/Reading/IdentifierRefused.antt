@@ -1,0 +1,76 @@
+-- Where an identifier text is refused.
+use Rattle.std.proofs.Common.{◌≡◌, ◌≢◌, ◌⊎◌, inl, inr, ℕ, ◌+◌, ◌++◌, true, [], ◌∷◌, take, refl, sym, ap, subst, ◌∙◌, arith, append_assoc}
+use Rattle.std.proofs.lemmas.List.{append_cancel_right}
+use Rattle.kdl_text.specs.Bare.{bare as bare_text}
+use Rattle.kdl_text.specs.Chars.{Text, plus}
+use Rattle.kdl_text.specs.Internal.Here.{first}
+use Rattle.kdl_text.specs.Spans.{bytes}
+use Rattle.kdl_text.specs.Trivia.ValueEnd.{nothing}
+use Rattle.kdl_text.proofs.Looking.MovesJoin.{bytes-append}
+use Rattle.kdl_lexer.specs.Earliest.{BeginsSome, BeginsNoOther, BeginsNone, up_to_here, token, IsRefusedAt}
+use Rattle.kdl_lexer.specs.Internal.Handed.{Cuts, one, spaces}
+use Rattle.kdl_lexer.specs.Tokens as tokens
+use Rattle.kdl_lexer.specs.Tokens.{Token, BeginsToken, t_space, t_string}
+use Rattle.kdl_lexer.specs.Pieces.{StringPiece, bare}
+use Rattle.kdl_lexer.proofs.Lexing.TokenFronts.{RefusedWith, refused_with}
+use Rattle.kdl_lexer.proofs.Lexing.TokenUnique.{no_token, token_det}
+use Rattle.kdl_lexer.proofs.Moving.StringMoves.{move_piece, move_piece_first}
+use Rattle.kdl_entry.specs.EarliestIdentifier.{DerivedIdentifier}
+use Rattle.kdl_entry.specs.Entries.{string}
+use Rattle.kdl_entry.proofs.Reading.EntryRefusing.{two_parts, two_first, two_some}
+use Rattle.kdl_entry.proofs.Reading.EntryViable.{is_word}
+
+-- at the start: some identifier begins there
+pub refused_start : (t : Text) (n : ℕ) → n ≡ 0 → BeginsNone t ⊎ BeginsNoOther DerivedIdentifier (take 2 t) → IsRefusedAt DerivedIdentifier t n
+refused_start t n e s = record { before = []; rest = t; text = refl; place = sym e; cut = up_to_here; alive = (97 ∷ [], (97 ∷ [], string (bare (bare_text refl is_word refl)) nothing)); stops = s }
+
+pub refused_empty : BeginsNone []
+refused_empty r k b = no_token b
+
+no_string : (k : Token) (v : Text) → ((v : Text) → k ≡ tokens.string v → ⊥) → RefusedWith k (tokens.string v) → ⊥
+no_string (tokens.string w) v n x = n w refl
+no_string (tokens.value w) v n x = x
+no_string tokens.space v n x = cc
+no_string tokens.newline v n x = cc
+no_string tokens.slashdash v n x = cc
+no_string tokens.left v n x = cc
+no_string tokens.right v n x = cc
+no_string tokens.opening v n x = cc
+no_string tokens.closing v n x = cc
+no_string tokens.equals v n x = cc
+no_string tokens.semicolon v n x = cc
+no_string tokens.bom v n x = cc
+
+-- a token that is no string
+dead_start : (t r : Text) (k : Token) → BeginsToken t k r → ((v : Text) → k ≡ tokens.string v → ⊥) → BeginsNoOther DerivedIdentifier (take 2 t)
+dead_start t r k b n u (v, string p e) = no_string k v n (refused_with t u b (t_string p))
+
+pub refused_other : (t r : Text) (k : Token) → Cuts t k r → ((v : Text) → k ≡ tokens.string v → ⊥) → BeginsNone t ⊎ BeginsNoOther DerivedIdentifier (take 2 t)
+refused_other t r k (one b) n = inr (dead_start t r k b n)
+refused_other t r k (spaces (plus {t = w} x m)) n = inr (dead_start t w tokens.space (t_space x) (λ v e. cc))
+
+-- behind the string
+dead_behind : {t r v : Text} → StringPiece t r v → r ≢ [] → (p : Text) → t ≡ p ++ r → BeginsNoOther DerivedIdentifier (p ++ take 2 r)
+dead_behind {r = r} x some p h u (v', string y e) =
+    let m = move_piece_first x in
+    let (q, g) = two_parts r in
+    let f = take 2 r in
+    let same : m.at.piece ≡ p = append_cancel_right m.at.piece p r (sym (m.at.here ∙ m.at.text r) ∙ h) in
+    let z = m.there (f ++ u) (two_first r u q some ∙ ap first (sym g)) in
+    let text : (p ++ f) ++ u ≡ m.at.put (f ++ u) = append_assoc p f u ∙ sym (m.at.text (f ++ u) ∙ ap (λ (w : Text). w ++ (f ++ u)) same) in
+    two_some r u some (token_det (t_string z) (t_string (subst (λ (w : Text). StringPiece w [] v') text y))).0
+
+pub refused_behind : (t r v : Text) (n : ℕ) → Cuts t (tokens.string v) r → r ≢ [] → n + bytes r ≡ bytes t → IsRefusedAt DerivedIdentifier t n
+refused_behind t r v n (one (t_string x)) some m =
+    let y = move_piece x in
+    let p = y.at.piece in
+    let h : t ≡ p ++ r = y.at.here ∙ y.at.text r in
+    record {
+      before = p;
+      rest = r;
+      text = h;
+      place = omega (arith, ap bytes h, bytes-append p r, m);
+      cut = token (t_string x) up_to_here;
+      alive = ([], (v, string (subst (λ (w : Text). StringPiece w [] v) (y.at.text []) (y.there [] refl refl)) nothing));
+      stops = inr (dead_behind x some p h);
+    }
