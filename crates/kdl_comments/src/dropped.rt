@@ -60,27 +60,27 @@ fn ends_word(control: &Control, kind: &TokenKind) -> bool
 
 /// Where the last token that is not a space ends: this one, or an earlier one.
 fn end_behind(token: &Token, last: usize) -> usize
-    ensures { result ≡ (if of_spaces (kind_view token.now.kind) then last else token.now.end.at) }
+    ensures { result ≡ (if of_spaces (kind_view token.now.kind) then last else token.now.at.end.at) }
 {
     if is_space(&token.kind) {
         last
     } else {
-        token.end.at()
+        token.at.end.at()
     }
 }
 
 /// The end of a node whose terminator is this token: after a `;`, or before the newline of a line.
 fn node_end(text: &str, token: &Token) -> NodeEnd
-    requires at { Before (chars text.now) token.now.start.at token.now.start.rest
-        × Before (chars text.now) token.now.end.at token.now.end.rest }
-    requires token { Cuts token.now.start.rest (kind_view token.now.kind) token.now.end.rest }
+    requires at { Before (chars text.now) token.now.at.start.at token.now.at.start.rest
+        × Before (chars text.now) token.now.at.end.at token.now.at.end.rest }
+    requires token { Cuts token.now.at.start.rest (kind_view token.now.kind) token.now.at.end.rest }
     requires ends { (kind_view token.now.kind ≡ newline) ⊎ (kind_view token.now.kind ≡ semicolon) }
-    ensures { (i : Text) × ItemEnd token.now.start.rest token.now.end.rest i
+    ensures { (i : Text) × ItemEnd token.now.at.start.rest token.now.at.end.rest i
         × Before (chars text.now) result.item i
-        × Before (chars text.now) result.behind token.now.end.rest
-        × HasOpenEnd token.now.start.rest token.now.end.rest result.is_open }
+        × Before (chars text.now) result.behind token.now.at.end.rest
+        × HasOpenEnd token.now.at.start.rest token.now.at.end.rest result.is_open }
 {
-    let behind = token.end.at();
+    let behind = token.at.end.at();
     if let TokenKind::Semicolon = token.kind {
         return NodeEnd {
             item: behind,
@@ -88,7 +88,7 @@ fn node_end(text: &str, token: &Token) -> NodeEnd
             is_open: false,
         };
     }
-    let (_, terminator) = cut(text, token.start.at());
+    let (_, terminator) = cut(text, token.at.start.at());
     let (_, end) = line(terminator);
     NodeEnd {
         item: text.len() - end.len(),

@@ -172,7 +172,7 @@ node_starts t here c e n h = record {
 }
 
 pub node_goes_on : (t : Text) (old new : Here) (c d : Control) (k : CodeToken) (last : ℕ) → NodeGoes old c t last → HandsOut old k new → Moves old new → step c (kind_view k.kind) ≡ Some d → is_gap d ≡ false
-    → NodeGoes new d t (if of_spaces (kind_view k.kind) then last else k.end.at)
+    → NodeGoes new d t (if of_spaces (kind_view k.kind) then last else k.at.end.at)
 node_goes_on t old new c d k last g h m f x = record {
   behind = moved (kind_view k.kind) g.behind new.rest;
   same = λ e. let a = g.same e in let b = cut_turn {last = g.behind} g.between h.cuts f x e in (λ p. b.0 (a.0 p), λ p. a.1 (b.1 p));
@@ -200,14 +200,14 @@ node_stops t here c last (Some e) g z (f, i, b, o) =
     (subst (λ (n : ℕ). Before t n g.behind) (sym i) g.counted) (subst (λ (n : ℕ). Before t n g.behind) (sym b) g.counted) o
 
 -- the terminator's places
-pub token_places : (t : Text) (old new : Here) (c : Control) (k : CodeToken) (last : ℕ) → NodeGoes old c t last → HandsOut old k new → Moves old new → Before t k.start.at k.start.rest × Before t k.end.at k.end.rest
+pub token_places : (t : Text) (old new : Here) (c : Control) (k : CodeToken) (last : ℕ) → NodeGoes old c t last → HandsOut old k new → Moves old new → Before t k.at.start.at k.at.start.rest × Before t k.at.end.at k.at.end.rest
 token_places t old new c k last g h m = rw (h.start_rest, h.start_at, h.end_rest, h.end_at) (g.text, then_before t old new g.text m)
 
 pub token_ends : (old new : Here) (c d : Control) (k : CodeToken) (t : Text) (last : ℕ) → NodeGoes old c t last → step c (kind_view k.kind) ≡ Some d → is_gap d ≡ true → (kind_view k.kind ≡ newline) ⊎ (kind_view k.kind ≡ semicolon)
 token_ends old new c d k t last g f x = gap_turn c (kind_view k.kind) g.between (ap (held is_gap) f ∙ x)
 
 pub node_returns : (t : Text) (old new : Here) (c d : Control) (k : CodeToken) (last : ℕ) (e : CodeEnd) → NodeGoes old c t last → HandsOut old k new → step c (kind_view k.kind) ≡ Some d → is_gap d ≡ true
-    → (i : Text) × ItemEnd k.start.rest k.end.rest i × Before t e.item i × Before t e.behind k.end.rest × HasOpenEnd k.start.rest k.end.rest e.is_open → AnswersDroppedNode t (Some e)
+    → (i : Text) × ItemEnd k.at.start.rest k.at.end.rest i × Before t e.item i × Before t e.behind k.at.end.rest × HasOpenEnd k.at.start.rest k.at.end.rest e.is_open → AnswersDroppedNode t (Some e)
 node_returns t old new c d k last e g h f x (i, y, a, b, o) =
     let p : NodePasses (at node_slashdash []) t t (returned (kind_view k.kind) old.rest new.rest) = (g.same (returned (kind_view k.kind) old.rest new.rest)).1 (last_turn g.between h.cuts f x) in
-    EndsAt.returns {k = kind_view k.kind} {u = k.start.rest} {v = k.end.rest} {i = i} (rw (h.start_rest, h.end_rest) p) y a b o
+    EndsAt.returns {k = kind_view k.kind} {u = k.at.start.rest} {v = k.at.end.rest} {i = i} (rw (h.start_rest, h.end_rest) p) y a b o

@@ -118,7 +118,7 @@ part_starts p t here c e n h = record {
 }
 
 pub part_goes_on : (p : Place) (t : Text) (old new : Here) (c d : Control) (k : CodeToken) (last : ℕ) → PartGoes p old c t last → HandsOut old k new → Moves old new → (is_word c && not (follows_word (kind_view k.kind))) ≡ false → step c (kind_view k.kind) ≡ Some d → is_over d ≡ false
-    → PartGoes p new d t (if of_spaces (kind_view k.kind) then last else k.end.at)
+    → PartGoes p new d t (if of_spaces (kind_view k.kind) then last else k.at.end.at)
 part_goes_on p t old new c d k last g h m w f x = record {
   behind = moved (kind_view k.kind) g.behind new.rest;
   same = λ b u. let a = g.same b u in let z = cut_turn {last = g.behind} g.under_way w h.cuts f b u in (λ y. z.0 (a.0 y), λ y. a.1 (z.1 y));
@@ -164,9 +164,9 @@ part_word p t old new c k last (Some e) g h w (w', i, j) =
 
 -- after a value or a block
 pub part_over : (p : Place) (t : Text) (old new : Here) (c d : Control) (k : CodeToken) (last n : ℕ) (b : Bool) → PartGoes p old c t last → HandsOut old k new → Moves old new → (is_word c && not (follows_word (kind_view k.kind))) ≡ false → step c (kind_view k.kind) ≡ Some d
-    → n ≡ (if of_spaces (kind_view k.kind) then last else k.end.at) → is_over d ≡ true → b ≡ is_block d → AnswersDroppedPart p t (Some (record { at = n; is_block = b }))
+    → n ≡ (if of_spaces (kind_view k.kind) then last else k.at.end.at) → is_over d ≡ true → b ≡ is_block d → AnswersDroppedPart p t (Some (record { at = n; is_block = b }))
 part_over p t old new c d k last n b g h m w f i x j =
     let u = moved (kind_view k.kind) g.behind new.rest in
     let y : PartPasses (slashdash_in p) t t (is_block d) u = (g.same (is_block d) u).1 ((cut_turn {last = g.behind} g.under_way w h.cuts f (is_block d) u).1 (over x)) in
-    let z : Before t (if of_spaces (kind_view k.kind) then last else k.end.at) u = moved_before (kind_view k.kind) g.counted (subst (λ (z : ℕ). Before t z new.rest) (sym h.end_at) (then_before t old new g.text m)) in
+    let z : Before t (if of_spaces (kind_view k.kind) then last else k.at.end.at) u = moved_before (kind_view k.kind) g.counted (subst (λ (z : ℕ). Before t z new.rest) (sym h.end_at) (then_before t old new g.text m)) in
     (u, rw j y, rw i z)
