@@ -1,12 +1,12 @@
 -- Tokens come before another rest too.
-use Rattle.std.proofs.Common.{◌≡◌, ◌<◌, [], ◌∷◌, ◌++◌, length, false, refl, sym, ap, ◌∙◌, arith}
+use Rattle.std.proofs.Common.{◌≡◌, ◌<◌, [], ◌∷◌, ◌++◌, length, false, sym, ap, ◌∙◌, arith}
 use Rattle.kdl_text.specs.Chars.{Text, begins, starts, is_identifier_char}
 use Rattle.kdl_text.specs.Internal.Here.{first}
 use Rattle.kdl_text.specs.Numbers.{whole, part, decimal, is_whole, is_decimal, keyword as a_keyword}
 use Rattle.kdl_text.specs.Trivia.{Break}
 use Rattle.kdl_value.specs.Data.{Value}
 use Rattle.kdl_lexer.specs.Pieces.{PlainPiece, number, keyword}
-use Rattle.kdl_lexer.specs.Tokens.{Token, space, newline, slashdash, string, value, left, right, opening, closing, equals, semicolon, bom, BeginsToken, t_space, t_newline, t_slashdash, t_string, t_value, t_left, t_right, t_opening, t_closing, t_equals, t_semicolon, t_bom}
+use Rattle.kdl_lexer.specs.Tokens.{Token, string, value, BeginsToken, t_space, t_newline, t_slashdash, t_string, t_value, t_left, t_right, t_opening, t_closing, t_equals, t_semicolon, t_bom}
 use Rattle.kdl_lexer.proofs.Moving.FarMoves.{far_space, far_break}
 use Rattle.kdl_lexer.proofs.Moving.PieceMoves.{move_plain_piece}
 use Rattle.kdl_lexer.proofs.Moving.Puts.{Put, stands, also, starts_first, begins_first}

@@ -2,10 +2,10 @@
 use Rattle.std.proofs.Common.{◌≡◌, Bool, true, false, [], Option, Some, None, option_map, refl, sym, ap, subst, ◌∙◌}
 use Rattle.kdl_text.specs.Chars.{Text}
 use Rattle.kdl_value.specs.Data.{Value}
-use Rattle.kdl_lexer.specs.Tokens.{Token, space, newline, slashdash, string, value, left, right, opening, closing, equals, semicolon, bom, BeginsToken}
+use Rattle.kdl_lexer.specs.Tokens.{Token, space, string, value, left, right, BeginsToken}
 use Rattle.kdl_lexer.proofs.Lexing.TokenUnique.{token_det, no_token}
 use Rattle.kdl_entry.specs.EarliestEntry.{DerivedEntry}
-use Rattle.kdl_entry.specs.Internal.EntryControl.{Phase, ahead, entry_slashdash, under, dropped, word, done, phase_of, given, if_valued, item_turn, turn, finish}
+use Rattle.kdl_entry.specs.Internal.EntryControl.{Phase, ahead, under, phase_of, given, if_valued, item_turn, turn, finish}
 use Rattle.kdl_entry.specs.Internal.EntryMachine as machine
 use Rattle.kdl_entry.specs.Internal.EntryMachine.{State, came, step, Runs, stops, reads}
 use Rattle.kdl_entry.specs.Internal.Going.{GoesBy, here, goes}

@@ -1,5 +1,5 @@
 -- Where an entry text is refused.
-use Rattle.std.proofs.Common.{◌≡◌, ◌⊎◌, inl, inr, ℕ, ◌+◌, ◌++◌, true, [], ◌∷◌, take, Some, None, refl, sym, ap, subst, arith}
+use Rattle.std.proofs.Common.{◌≡◌, ◌⊎◌, inl, inr, ℕ, ◌+◌, ◌++◌, true, [], take, Some, None, refl, ap, subst, arith}
 use Rattle.kdl_text.specs.Chars.{Text, Star, plus}
 use Rattle.kdl_text.specs.Chars.Star.{none as no_star, more}
 use Rattle.kdl_text.specs.Spans.{bytes}
@@ -7,7 +7,7 @@ use Rattle.kdl_text.specs.Trivia.{NodeSpace}
 use Rattle.kdl_text.proofs.Looking.MovesJoin.{bytes-append}
 use Rattle.kdl_lexer.specs.Earliest.{BeginsNone, BeginsNoOther, IsCut, up_to_here, token, IsRefusedAt}
 use Rattle.kdl_lexer.specs.Internal.Handed.{Cuts, one, spaces}
-use Rattle.kdl_lexer.specs.Tokens.{Token, space, BeginsToken, t_space, NoToken}
+use Rattle.kdl_lexer.specs.Tokens.{Token, space, t_space, NoToken}
 use Rattle.kdl_lexer.proofs.Lexing.TokenUnique.{no_token}
 use Rattle.kdl_entry.specs.EarliestEntry.{DerivedEntry}
 use Rattle.kdl_entry.specs.Internal.EntryControl.{Phase, ahead, entry_slashdash, under, dropped, word, done, turn, EntryReaches, EntryStuck}

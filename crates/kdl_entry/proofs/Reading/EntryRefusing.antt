@@ -1,5 +1,5 @@
 -- After a token that the machine of entry texts without data refuses no entry text goes on.
-use Rattle.std.proofs.Common.{◌≡◌, ◌≢◌, Bool, true, false, [], ◌∷◌, ◌++◌, take, Option, Some, None, refl, sym, ap, subst, ◌∙◌, append_assoc}
+use Rattle.std.proofs.Common.{◌≡◌, ◌≢◌, true, false, [], ◌∷◌, ◌++◌, take, None, refl, sym, ap, subst, ◌∙◌, append_assoc}
 use Rattle.std.proofs.lemmas.List.{append_cancel_right}
 use Rattle.kdl_text.specs.Chars.{Text}
 use Rattle.kdl_text.specs.Internal.Here.{first}
@@ -9,8 +9,8 @@ use Rattle.kdl_lexer.specs.Tokens.{Token, space, newline, slashdash, string, val
 use Rattle.kdl_lexer.proofs.Lexing.TokenFronts.{RefusedWith, refused_with}
 use Rattle.kdl_lexer.proofs.Lexing.TokenUnique.{no_token}
 use Rattle.kdl_entry.specs.EarliestEntry.{DerivedEntry}
-use Rattle.kdl_entry.specs.Internal.EntryControl.{Phase, ahead, entry_slashdash, under, dropped, word, done, given, if_valued, item_turn, turn, EntryReaches}
-use Rattle.kdl_entry.specs.Internal.Items.{Stage, opened, named, closed, keyed}
+use Rattle.kdl_entry.specs.Internal.EntryControl.{Phase, ahead, entry_slashdash, under, dropped, word, done, turn, EntryReaches}
+use Rattle.kdl_entry.specs.Internal.Items.{opened, named, closed, keyed}
 use Rattle.kdl_entry.proofs.Reading.EntryErased.{Accepts, ends, takes, derived_accepts, follow}
 use Rattle.kdl_entry.proofs.Reading.Going.{near_goes}
 

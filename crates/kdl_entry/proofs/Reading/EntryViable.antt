@@ -1,5 +1,5 @@
 -- From each place that the machine of entry texts without data reaches in a text some text goes on to an entry text.
-use Rattle.std.proofs.Common.{◌≡◌, Bool, true, false, [], ◌∷◌, ◌++◌, Option, Some, refl, sym, ap, subst, ◌∙◌}
+use Rattle.std.proofs.Common.{◌≡◌, Bool, true, false, [], ◌∷◌, ◌++◌, Some, refl, sym, ap, subst, ◌∙◌}
 use Rattle.std.proofs.lemmas.List.{append_cancel_right}
 use Rattle.kdl_text.specs.Bare.{bare as bare_text, is_bare}
 use Rattle.kdl_text.specs.Chars.{Text, begins, starts, is_identifier_char, Space}
@@ -13,7 +13,7 @@ use Rattle.kdl_lexer.proofs.Lexing.TokenUnique.{is_end, end_behind}
 use Rattle.kdl_lexer.proofs.Moving.StringMoves.{value_end_no_quote}
 use Rattle.kdl_entry.specs.EarliestEntry.{DerivedEntry}
 use Rattle.kdl_entry.specs.Entries.{IsEntryText}
-use Rattle.kdl_entry.specs.Internal.EntryControl.{Phase, ahead, entry_slashdash, under, dropped, word, done, given, if_valued, item_turn, turn, finish, EntryReaches}
+use Rattle.kdl_entry.specs.Internal.EntryControl.{Phase, ahead, entry_slashdash, under, dropped, word, done, given, if_valued, turn, EntryReaches}
 use Rattle.kdl_entry.specs.Internal.Items.{Stage, opened, named, closed, keyed}
 use Rattle.kdl_entry.proofs.Moving.TokenMoves.{Fits}
 use Rattle.kdl_entry.proofs.Reading.EntryErased.{Accepts, ends, takes, accepts_derived, behind}

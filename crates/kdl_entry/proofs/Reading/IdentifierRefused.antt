@@ -1,5 +1,5 @@
 -- Where an identifier text is refused.
-use Rattle.std.proofs.Common.{◌≡◌, ◌≢◌, ◌⊎◌, inl, inr, ℕ, ◌+◌, ◌++◌, true, [], ◌∷◌, take, refl, sym, ap, subst, ◌∙◌, arith, append_assoc}
+use Rattle.std.proofs.Common.{◌≡◌, ◌≢◌, ◌⊎◌, inr, ℕ, ◌+◌, ◌++◌, [], ◌∷◌, take, refl, sym, ap, subst, ◌∙◌, arith, append_assoc}
 use Rattle.std.proofs.lemmas.List.{append_cancel_right}
 use Rattle.kdl_text.specs.Bare.{bare as bare_text}
 use Rattle.kdl_text.specs.Chars.{Text, plus}
@@ -7,7 +7,7 @@ use Rattle.kdl_text.specs.Internal.Here.{first}
 use Rattle.kdl_text.specs.Spans.{bytes}
 use Rattle.kdl_text.specs.Trivia.ValueEnd.{nothing}
 use Rattle.kdl_text.proofs.Looking.MovesJoin.{bytes-append}
-use Rattle.kdl_lexer.specs.Earliest.{BeginsSome, BeginsNoOther, BeginsNone, up_to_here, token, IsRefusedAt}
+use Rattle.kdl_lexer.specs.Earliest.{BeginsNoOther, BeginsNone, up_to_here, token, IsRefusedAt}
 use Rattle.kdl_lexer.specs.Internal.Handed.{Cuts, one, spaces}
 use Rattle.kdl_lexer.specs.Tokens as tokens
 use Rattle.kdl_lexer.specs.Tokens.{Token, BeginsToken, t_space, t_string}

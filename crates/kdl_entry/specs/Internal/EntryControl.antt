@@ -1,5 +1,5 @@
 -- The machine of entry texts without data: which token may come where.
-use Rattle.std.specs.Prelude.{◌≡◌, ◌⊎◌, Bool, true, false, [], Option, Some, None}
+use Rattle.std.specs.Prelude.{◌≡◌, ◌⊎◌, Bool, true, false, Option, Some, None}
 use Rattle.kdl_text.specs.Chars.{Text}
 use Rattle.kdl_lexer.specs.Tokens.{Token, space, newline, slashdash, string, value, left, right, equals, BeginsToken}
 use Rattle.kdl_lexer.specs.Earliest.{BeginsNone}
