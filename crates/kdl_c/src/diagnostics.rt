@@ -9,7 +9,7 @@ ghost use Rattle.std.specs.Prelude.{◌≡◌, ◌<◌, ◌≤◌, List, true};
 ghost use Rattle.std.specs.Str.{IsUtf8, chars};
 
 use kdl::{KdlDocument, ParseFailure};
-use kdl_calls::status::{FAULTS, NOT_FOUND, NOT_UTF8, OK, OUT_OF_MEMORY};
+use kdl_call_parts::status::{FAULTS, NOT_FOUND, NOT_UTF8, OK, OUT_OF_MEMORY};
 use kdl_rows::faults::{KdlFault, put_faults};
 use kdl_rows::given_faults::{Reading, put_not_value, read};
 use kdl_rows::reports::{KdlReport, put_reports};

@@ -11,18 +11,19 @@ use Rattle.kdl_value.specs.declared.value.KdlValue.{KdlValue}
 use Rattle.kdl.specs.Words.{document_tree, node_tree, nodes_of}
 use Rattle.kdl.specs.declared.document.KdlDocument.{KdlDocument}
 use Rattle.kdl.specs.declared.node.KdlNode.{KdlNode}
-use Rattle.kdl_calls.specs.Answers.{Each}
-use Rattle.kdl_calls.specs.Changes.{AtEntry, AtNode, changed_at}
+use Rattle.kdl_call_parts.specs.Answers.{Each}
+use Rattle.kdl_call_parts.specs.Changes.{AtEntry, AtNode, changed_at}
 use Rattle.kdl_calls.specs.Edits.{NodeNamed, ValueSet, spelled_as}
-use Rattle.kdl_calls.specs.Internal.Done.{IsDone, IsDoneIn, changed_entry, respelled}
+use Rattle.kdl_call_parts.specs.Entries.{respelled}
+use Rattle.kdl_calls.specs.Internal.Done.{IsDone, IsDoneIn, changed_entry}
 use Rattle.kdl_calls.specs.Internal.Given.{IsSpelled}
-use Rattle.kdl_calls.specs.Internal.Opened.{IsOpened, plugged}
-use Rattle.kdl_calls.specs.Paths.{node_at, nodes_at}
+use Rattle.kdl_call_parts.specs.Internal.Opened.{IsOpened, plugged}
+use Rattle.kdl_call_parts.specs.Paths.{node_at, nodes_at}
 use Rattle.kdl_calls.specs.declared.entry_change.EntryChange.{EntryChange}
 use Rattle.kdl_calls.specs.declared.entry_change.EntryChange.TheVariants as change
 use Rattle.kdl_calls.specs.declared.node_change.NodeChange.{NodeChange}
 use Rattle.kdl_calls.specs.declared.node_change.NodeChange.TheVariants.{ChangeEntry, SetName}
-use Rattle.kdl_calls.specs.declared.opened.Opened.{Opened}
+use Rattle.kdl_call_parts.specs.declared.opened.Opened.{Opened}
 use Rattle.kdl_calls.proofs.PathSteps.{last_step}
 
 pub on_ok : {T E P Q : Type 0} (r : Result T E) → (P → Q) → OnOk r P → OnOk r Q

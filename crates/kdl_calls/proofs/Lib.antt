@@ -1,14 +1,4 @@
 -- One step down a path.
 pub mod PathSteps
--- Trees with one node changed.
-pub mod TreeSteps
--- Documents taken apart along a path: what is put into a block shows in the tree of the whole.
-pub mod OpenSteps
 -- Edits: from what the changes make to what the calls say.
 pub mod EditSteps
--- Lines and columns of a text that grows by a character.
-pub mod PositionSteps
--- Texts in the strings that were written, once more are written.
-pub mod SaysSteps
--- Strings put into a buffer one after another, as far as there is room.
-pub mod Fitting

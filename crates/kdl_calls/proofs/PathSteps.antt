@@ -5,7 +5,7 @@ use Rattle.std.proofs.lemmas.List.{drop_more, drop_all}
 use Rattle.kdl.specs.Words.{nodes_of}
 use Rattle.kdl.specs.declared.node.KdlNode.{KdlNode, out-KdlNode}
 use Rattle.kdl.specs.declared.document.KdlDocument.{KdlDocument}
-use Rattle.kdl_calls.specs.Paths.{block_nodes, node_at, nodes_at}
+use Rattle.kdl_call_parts.specs.Paths.{block_nodes, node_at, nodes_at}
 
 one_step : (p : List ℕ) (i : ℕ) (ns : List KdlNode) → i < length p
     → nodes_at (drop i p) ns ≡ option_and_then (nodes_at (drop (i + 1) p)) (option_and_then block_nodes (slice_get ns (slice_index_or p i 0)))

@@ -1,24 +1,20 @@
 -- The result of each edit of a node, of an entry, or of a document.
 use Rattle.std.specs.List.{insert, remove}
 use Rattle.std.specs.Prelude.{◌≡◌, ◌<◌, ◌≤◌, ◌-◌, ◌^◌, ℕ, zero, suc, List, [], ◌∷◌, Option, None, Some, IfSome, length, option_map, slice_get, true}
-use Rattle.kdl.specs.Words.{ChildPut, Entry, EntryData, EntryFormat, Value, IsPut, PrintsPut, PrintsWithout, Text, cleared, plain_identifier, said_with, said_without}
+use Rattle.kdl.specs.Words.{ChildPut, Entry, EntryFormat, IsPut, PrintsPut, PrintsWithout, Text, cleared, plain_identifier, said_with, said_without}
 use Rattle.kdl.specs.Words.{LaidEntryText, LaidNodeText, document_says, entry_tree, identifier_tree, node_says, node_tree}
 use Rattle.kdl.specs.Words.{block_of, child_nodes, entries_of, held_entries, held_nodes, nodes_of, with_children, with_entries, with_name, with_nodes, with_ty}
 use Rattle.kdl.specs.declared.document.KdlDocument.{KdlDocument}
 use Rattle.kdl.specs.declared.node.KdlNode.{KdlNode}
 use Rattle.kdl_entry.specs.declared.entry.KdlEntry.{KdlEntry}
 use Rattle.kdl_entry.specs.declared.identifier.KdlIdentifier.{KdlIdentifier}
-use Rattle.kdl_calls.specs.Changes.{AtEntry, AtNode}
-use Rattle.kdl_calls.specs.Paths.{node_at}
+use Rattle.kdl_call_parts.specs.Changes.{AtEntry, AtNode}
+use Rattle.kdl_call_parts.specs.Paths.{node_at}
 
 -- the text if the flag is not 0, else none
 abbrev pub text_if : ℕ → Text → Option Text
 text_if zero t = None
 text_if (suc _) t = Some t
-
--- an entry with a value, but with neither a key nor a type
-abbrev pub plain_value : Value → EntryData
-plain_value v = record { key = None; ty = None; value = v }
 
 -- the second format, if there is one, with the spelling of the value from the first, if there is one
 abbrev pub spelled_as : Option EntryFormat → Option EntryFormat → Option EntryFormat
@@ -50,12 +46,6 @@ pub record EntryInserted (t : Text) (i : ℕ) (n m : KdlNode) : Type 0 where
   pub is : entry_tree entry ≡ cleared given
   pub place : i ≤ length (entries_of n)
   pub entries : entries_of m ≡ insert (entries_of n) i entry
-  pub rest : m ≡ with_entries n (held_entries m)
-
--- m is n without the entry at i
-pub record EntryRemoved (i : ℕ) (n m : KdlNode) : Type 0 where
-  pub place : i < length (entries_of n)
-  pub entries : entries_of m ≡ remove (entries_of n) i
   pub rest : m ≡ with_entries n (held_entries m)
 
 -- m is n with that name, in the library's spelling

@@ -2,7 +2,3 @@
 pub mod Given
 -- A node after a change.
 pub mod Done
--- A document that is taken apart along a path.
-pub mod Opened
--- Places in a text that is read character by character.
-pub mod Places

@@ -1,17 +1,17 @@
 //! Changes to the node at a path.
 
 ghost use Rattle.kdl.specs.Words.{nodes_of};
-ghost use Rattle.kdl_calls.specs.Answers.{Each};
-ghost use Rattle.kdl_calls.specs.Changes.{AtNode, SameTree};
+ghost use Rattle.kdl_call_parts.specs.Answers.{Each};
+ghost use Rattle.kdl_call_parts.specs.Changes.{AtNode, SameTree};
 ghost use Rattle.kdl_calls.specs.Internal.Done.{IsDone, IsDoneIn, Lacks};
-ghost use Rattle.kdl_calls.specs.Paths.{node_at};
-ghost use Rattle.kdl_calls.specs.declared.status.Refused.TheVariants.{NotFound};
+ghost use Rattle.kdl_call_parts.specs.Paths.{node_at};
+ghost use Rattle.kdl_call_parts.specs.declared.status.Refused.TheVariants.{NotFound};
 ghost use Rattle.std.specs.Prelude.{◌≡◌, IfErr, IfSome, IsNone, OnErr, OnOk, slice_get};
 
 use crate::node_change::NodeChange;
-use crate::opened::Opened;
-use crate::status::{NO_DOCUMENT, OK, Refused};
 use kdl::KdlDocument;
+use kdl_call_parts::opened::Opened;
+use kdl_call_parts::status::{NO_DOCUMENT, OK, Refused};
 use kdl_held::Handle;
 use std::alloc::Global;
 use std::mem;

@@ -2,10 +2,10 @@
 
 ghost use Rattle.kdl.specs.Words.{entry_format_tree, entry_tree, identifier_tree, value_tree};
 ghost use Rattle.kdl_calls.specs.Internal.Done.{changed_entry};
-ghost use Rattle.kdl_calls.specs.declared.entry_change.EntryChange.TheVariants.{SetValue};
 ghost use Rattle.std.specs.Prelude.{◌≡◌, None, option_map};
 
 use kdl::{KdlEntry, KdlEntryFormat, KdlIdentifier, KdlValue};
+use kdl_call_parts::entries::set_spelled;
 use std::alloc::Global;
 use std::mem;
 
@@ -31,16 +31,6 @@ impl EntryChange {
             EntryChange::SetType(None) => drop_type(alloc, entry),
             EntryChange::SetValue(value, spelling) => set_spelled(entry, value, spelling),
         }
-    }
-}
-
-/// Sets the value, and its spelling if the entry has a format. Nothing else changes.
-fn set_spelled(entry: &mut KdlEntry, value: KdlValue, spelling: String)
-    ensures { entry_tree entry.new ≡ changed_entry (SetValue value spelling) (entry_tree entry.old) }
-{
-    entry.set_value(value);
-    if let Some(format) = entry.format_mut() {
-        format.value_repr = spelling;
     }
 }
 

@@ -1,15 +1,15 @@
 //! Nodes that are inserted into the document itself, and removed from it.
 
 ghost use Rattle.kdl.specs.Words.{nodes_of};
-ghost use Rattle.kdl_calls.specs.Answers.{Each};
-ghost use Rattle.kdl_calls.specs.Changes.{SameTree};
+ghost use Rattle.kdl_call_parts.specs.Answers.{Each};
+ghost use Rattle.kdl_call_parts.specs.Changes.{SameTree};
 ghost use Rattle.kdl_calls.specs.Edits.{FirstRemoved};
 ghost use Rattle.kdl_calls.specs.Internal.Done.{NodePut};
-ghost use Rattle.kdl_calls.specs.declared.status.Refused.TheVariants.{NotFound};
+ghost use Rattle.kdl_call_parts.specs.declared.status.Refused.TheVariants.{NotFound};
 ghost use Rattle.std.specs.Prelude.{◌≡◌, ◌<◌, ◌≤◌, IfErr, IfSome, IsNone, OnErr, OnOk, length};
 
-use crate::status::{NO_DOCUMENT, OK, Refused};
 use kdl::{KdlDocument, KdlNode};
+use kdl_call_parts::status::{NO_DOCUMENT, OK, Refused};
 use kdl_held::Handle;
 use std::alloc::Global;
 

@@ -4,15 +4,16 @@
 //! `Unread::Faults` if the text is refused.
 
 ghost use Rattle.kdl.specs.Words.{EntryData, IsEntryText, IsNodeText, LaidEntryText, LaidNodeText, NodeData, Value, entry_data, entry_tree, identifier_tree, node_tree, plain_identifier, value_tree};
-ghost use Rattle.kdl_calls.specs.Edits.{plain_value, text_if};
+ghost use Rattle.kdl_call_parts.specs.Entries.{plain_value};
+ghost use Rattle.kdl_calls.specs.Edits.{text_if};
 ghost use Rattle.kdl_calls.specs.Internal.Given.{IsCleared, IsPlain, IsSpelled};
 ghost use Rattle.kdl_value.specs.Tree.{text_of};
-ghost use Rattle.kdl_calls.specs.declared.status.Unread.TheVariants.{Faults, NotUtf8};
+ghost use Rattle.kdl_call_parts.specs.declared.status.Unread.TheVariants.{Faults, NotUtf8};
 ghost use Rattle.std.specs.Prelude.{◌≡◌, IfErr, IfOk, IfSome, option_map, true};
 ghost use Rattle.std.specs.Str.{IsUtf8, chars};
 
-use crate::status::Unread;
 use kdl::{KdlEntry, KdlIdentifier, KdlNode, KdlValue, ParseFailure};
+use kdl_call_parts::status::Unread;
 use std::alloc::{AllocError, Global};
 
 /// Parses a text as a node.

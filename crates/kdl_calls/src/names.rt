@@ -1,11 +1,10 @@
-//! Look-ups of nodes by their name, and of entries by their key.
+//! Look-ups of nodes by their name.
 
-ghost use Rattle.kdl.specs.Words.{argument_named, has_name, is_node_named};
-ghost use Rattle.kdl_parts.specs.EntryLists.{last_place};
+ghost use Rattle.kdl.specs.Words.{argument_named, is_node_named};
 ghost use Rattle.std.specs.Prelude.{◌≡◌, None, Some, option_map, position};
 
-use crate::status::{NOT_FOUND, OK};
 use kdl::{KdlDocument, KdlEntry, KdlNode, NodeKey};
+use kdl_call_parts::status::{NOT_FOUND, OK};
 
 /// Returns whether the node has that name.
 fn is_named(node: &KdlNode, name: &str) -> bool
@@ -19,29 +18,6 @@ pub fn first_named(nodes: &[KdlNode], name: &str) -> Option<usize>
     ensures { result ≡ position (is_node_named name.now) nodes.now }
 {
     nodes.iter().position(|node| is_named(node, name))
-}
-
-/// Returns whether the entry is a property with that key.
-fn is_property(entry: &KdlEntry, name: &str) -> bool
-    ensures { result ≡ has_name name.now entry.now }
-{
-    match entry.name() {
-        Some(key) => key.value() == name,
-        None => false,
-    }
-}
-
-/// Returns the index of the last property with that key.
-pub fn last_property(entries: &[KdlEntry], name: &str) -> Option<usize>
-    ensures { result ≡ last_place (has_name name.now) entries.now }
-{
-    let mut found = None;
-    for (index, entry) in entries.iter().enumerate() {
-        if is_property(entry, name) {
-            found = Some(index);
-        }
-    }
-    found
 }
 
 /// Returns the first argument of the first node with that name.

@@ -1,15 +1,16 @@
 //! Changes to one node.
 
 ghost use Rattle.kdl.specs.Words.{ChildPut, child_nodes, entries_of, node_tree};
-ghost use Rattle.kdl_calls.specs.Changes.{AtEntry};
-ghost use Rattle.kdl_calls.specs.Edits.{ChildRemoved, EntryRemoved};
+ghost use Rattle.kdl_call_parts.specs.Changes.{AtEntry};
+ghost use Rattle.kdl_calls.specs.Edits.{ChildRemoved};
 ghost use Rattle.kdl_calls.specs.Internal.Done.{EntryPut, IsDone, Lacks, changed_entry};
-ghost use Rattle.kdl_calls.specs.declared.status.Refused.TheVariants.{NotFound};
+ghost use Rattle.kdl_call_parts.specs.declared.status.Refused.TheVariants.{NotFound};
 ghost use Rattle.std.specs.Prelude.{◌≡◌, ◌<◌, ◌≤◌, IfErr, OnErr, OnOk, length};
 
 use crate::entry_change::EntryChange;
-use crate::status::Refused;
 use kdl::{KdlEntry, KdlIdentifier, KdlNode};
+use kdl_call_parts::entries::remove_entry;
+use kdl_call_parts::status::Refused;
 use std::alloc::Global;
 
 /// A change to one node.
@@ -101,20 +102,6 @@ fn insert_entry(node: &mut KdlNode, index: usize, entry: KdlEntry) -> Result<(),
             Err(Refused::Memory)
         }
     }
-}
-
-/// Removes the entry at the index. Fails if there is none.
-fn remove_entry(node: &mut KdlNode, index: usize) -> Result<(), Refused>
-    ensures done { OnOk result (EntryRemoved index node.old node.new) }
-    ensures refused { OnErr result (node_tree node.new ≡ node_tree node.old) }
-    ensures absent { IfErr result (λ r. r ≡ NotFound → length (entries_of node.old) ≤ index) }
-{
-    let entries = node.entries_mut();
-    if entries.len() <= index {
-        return Err(Refused::NotFound);
-    }
-    drop(entries.remove(index));
-    Ok(())
 }
 
 /// Inserts the node into the block, before the one at the index, or after the last one. Creates the block if there is

@@ -2,7 +2,7 @@
 //! one, and so on.
 
 ghost use Rattle.kdl.specs.Words.{nodes_of};
-ghost use Rattle.kdl_calls.specs.Paths.{node_at, nodes_at};
+ghost use Rattle.kdl_call_parts.specs.Paths.{node_at, nodes_at};
 ghost use Rattle.std.specs.Prelude.{◌≡◌, option_map};
 
 use kdl::{KdlDocument, KdlNode};

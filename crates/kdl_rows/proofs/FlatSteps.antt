@@ -1,22 +1,14 @@
 -- Rows that say items, once a row more is written.
-use Rattle.std.proofs.Common.{arith, ◌≡◌, ◌+◌, ◌++◌, ◌<◌, ◌≤◌, ℕ, ℤ, List, [], ◌∷◌, Option, None, Some, append_assoc, ap, ◌∙◌, sym, get_or, length, map, slice_set, take, take_all}
+use Rattle.std.proofs.Common.{arith, ◌≡◌, ◌+◌, ◌++◌, ◌<◌, ◌≤◌, ℕ, ℤ, List, [], ◌∷◌, append_assoc, ap, ◌∙◌, sym, get_or, length, map, slice_set, take, take_all}
 use Rattle.std.proofs.lemmas.List.{map-append, take_more, take_more_set}
 use mathlib.Core.Path.{subst}
-use Rattle.kdl.specs.Words.{EntryData, NodeData, Text, Value, said_entries, said_type}
+use Rattle.kdl.specs.Words.{EntryData, NodeData, Value, said_entries, said_type}
 use Rattle.kdl_value.specs.Data.{text, integer, float, truth, null}
 use Rattle.kdl_rows.specs.Flat.{Item, RowsSay, SayAll, SaysItem, end_item, entry_item, head_items, node_item}
-use Rattle.kdl_calls.specs.Says.{Grown, SaysKey, SaysType, SaysValue}
-use Rattle.kdl_calls.specs.declared.row.KdlRow.{KdlRow}
+use Rattle.kdl_call_parts.specs.Says.{Grown, SaysValue}
+use Rattle.kdl_call_parts.specs.declared.row.KdlRow.{KdlRow}
 use Rattle.kdl_entry.specs.declared.entry.KdlEntry.{KdlEntry}
-use Rattle.kdl_calls.proofs.SaysSteps.{bytes_kept, text_kept}
-
-key_kept : (s s' more : List ℕ) (k start len : ℕ) (o : Option Text) → s' ≡ s ++ more → SaysKey s k start len o → SaysKey s' k start len o
-key_kept s s' more k start len None e h = h
-key_kept s s' more k start len (Some t) e h = (h.0, text_kept s s' more start len t e h.1)
-
-type_kept : (s s' more : List ℕ) (k start len : ℕ) (o : Option Text) → s' ≡ s ++ more → SaysType s k start len o → SaysType s' k start len o
-type_kept s s' more k start len None e h = h
-type_kept s s' more k start len (Some t) e h = (h.0, text_kept s s' more start len t e h.1)
+use Rattle.kdl_call_parts.proofs.SaysSteps.{bytes_kept, key_kept, text_kept, type_kept}
 
 value_kept : (s s' more : List ℕ) (k : ℕ) (z : ℤ) (start len : ℕ) (v : Value) → s' ≡ s ++ more → SaysValue s k z start len v → SaysValue s' k z start len v
 value_kept s s' more k z start len (text t) e h = (h.0, text_kept s s' more start len t e h.1)

@@ -7,7 +7,7 @@ use Rattle.kdl.specs.Words.{NodeData, Nodes, node_says, said_children, said_node
 use Rattle.kdl.specs.declared.node.KdlNode.{KdlNode}
 use Rattle.kdl_grammar.specs.Data as data'
 use Rattle.kdl_rows.specs.Flat.{Item, RowsSay, end_item, flattened, head_items, node_items}
-use Rattle.kdl_calls.specs.declared.row.KdlRow.{KdlRow}
+use Rattle.kdl_call_parts.specs.declared.row.KdlRow.{KdlRow}
 use Rattle.kdl_rows.proofs.FlatSteps.{none_said}
 
 -- the items of nodes in a list

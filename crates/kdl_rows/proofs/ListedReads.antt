@@ -6,11 +6,11 @@ use Rattle.std.proofs.lemmas.List.Elements.{All-cons}
 use Rattle.std.proofs.lemmas.List.Folds.{concat-append}
 use mathlib.Core.Path.{subst}
 use Rattle.kdl_text.specs.Spans.{raise}
-use Rattle.kdl_calls.specs.Strings.{fitting, over}
+use Rattle.kdl_call_parts.specs.Strings.{fitting, over}
 use Rattle.kdl_rows.specs.Listed.{Fault, HasBytes, SaysFault, SaysReport, all_words, fault_row, fault_rows, messages, report_row, report_rows}
 use Rattle.kdl_rows.specs.declared.faults.KdlFault.{KdlFault}
 use Rattle.kdl_rows.specs.declared.reports.KdlReport.{KdlReport}
-use Rattle.kdl_calls.proofs.Fitting.{fit_short, over_length, over_short}
+use Rattle.kdl_call_parts.proofs.Fitting.{fit_short, over_length, over_short}
 
 fit_split : (room : ℕ) (xs ys : List (List ℕ)) → length (concat xs) ≤ room → fitting room (xs ++ ys) ≡ concat xs ++ fitting (room - length (concat xs)) ys
 fit_split room [] ys k = ap (λ (n : ℕ). fitting n ys) (omega arith)

@@ -6,11 +6,11 @@ use Rattle.std.proofs.lemmas.List.{map-append, take_more}
 use mathlib.Core.Path.{subst}
 use Rattle.kdl_text.specs.Spans.{raise}
 use Rattle.kdl_text.specs.declared.error.KdlDiagnostic.{KdlDiagnostic}
-use Rattle.kdl_calls.specs.Strings.{HasPut, fitting, over}
+use Rattle.kdl_call_parts.specs.Strings.{HasPut, fitting, over}
 use Rattle.kdl_rows.specs.Listed.{AreReportsListed, AreListed, Fault, SaysFault, SaysReport, all_words, fault_of, fault_row, fault_rows, messages, report_row, report_rows}
 use Rattle.kdl_rows.specs.declared.faults.KdlFault.{KdlFault}
 use Rattle.kdl_rows.specs.declared.reports.KdlReport.{KdlReport}
-use Rattle.kdl_calls.proofs.Fitting.{over_more, over_none, put_nothing}
+use Rattle.kdl_call_parts.proofs.Fitting.{over_more, over_none, put_nothing}
 use Rattle.kdl_rows.proofs.ListedReads.{says_faults, says_reports}
 
 -- the diagnostics up to the next one

@@ -4,7 +4,7 @@ use Rattle.std.specs.Prelude.{is_none}
 use Rattle.std.specs.Str.{IsUtf8, chars}
 use Rattle.kdl.specs.Words.{EntryData, Identifier, InText, Value}
 use Rattle.kdl_text.proofs.Looking.Texts.{bytes-chars}
-use Rattle.kdl_calls.specs.Edits.{plain_value}
+use Rattle.kdl_call_parts.specs.Entries.{plain_value}
 
 abbrev said : Option Identifier → Option Identifier → Value → EntryData
 said n t v = record { key = option_map (λ i. i.value) n; ty = option_map (λ i. i.value) t; value = v }

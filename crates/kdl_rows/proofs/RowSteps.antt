@@ -5,9 +5,9 @@ use Rattle.std.proofs.lemmas.List.{take_more_set}
 use mathlib.Core.Path.{subst}
 use Rattle.std.proofs.lemmas.List.Elements.{All-nil, All-push}
 use Rattle.kdl_rows.specs.Rows.{AreTold, AreWithin, IsTold}
-use Rattle.kdl_calls.specs.Says.{IsWithin}
+use Rattle.kdl_call_parts.specs.Says.{IsWithin}
 use Rattle.kdl_rows.specs.declared.faults.KdlFault.{KdlFault}
-use Rattle.kdl_calls.specs.declared.row.KdlRow.{KdlRow}
+use Rattle.kdl_call_parts.specs.declared.row.KdlRow.{KdlRow}
 
 pub wider : (n m : ℕ) → n ≤ m → (r : KdlRow) → IsWithin n r → IsWithin m r
 wider n m k r w = (omega (arith, k, w.0), omega (arith, k, w.1), omega (arith, k, w.2))

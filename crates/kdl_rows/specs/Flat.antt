@@ -2,8 +2,8 @@
 use Rattle.std.specs.Prelude.{◌≡◌, ◌++◌, ◌≤◌, ℕ, List, [], ◌∷◌, length, map, take}
 use Rattle.kdl.specs.Words.{EntryData, NodeData, Nodes, said_entries}
 use Rattle.kdl_grammar.specs.Data as data'
-use Rattle.kdl_calls.specs.Says.{SaysEntry, SaysNode}
-use Rattle.kdl_calls.specs.declared.row.KdlRow.{KdlRow}
+use Rattle.kdl_call_parts.specs.Says.{SaysEntry, SaysNode}
+use Rattle.kdl_call_parts.specs.declared.row.KdlRow.{KdlRow}
 
 -- a node, with its type, its name and whether it has a block; an entry; the end of a block
 pub data Item : Type 0 where

@@ -5,8 +5,8 @@ use Rattle.kdl_text.specs.Spans.{raise}
 use Rattle.kdl_text.specs.declared.error.KdlDiagnostic.{KdlDiagnostic}
 use Rattle.kdl_text.specs.declared.error.KdlError.{KdlError}
 use Rattle.kdl_text.specs.declared.span.SourceSpan.{SourceSpan}
-use Rattle.kdl_calls.specs.Says.{IsBytes}
-use Rattle.kdl_calls.specs.Strings.{HasPut, over, words_of}
+use Rattle.kdl_call_parts.specs.Says.{IsBytes}
+use Rattle.kdl_call_parts.specs.Strings.{HasPut, over, words_of}
 use Rattle.kdl_rows.specs.declared.faults.KdlFault.{KdlFault}
 use Rattle.kdl_rows.specs.declared.reports.KdlReport.{KdlReport}
 

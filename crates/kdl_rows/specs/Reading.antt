@@ -2,7 +2,7 @@
 use Rattle.std.specs.Prelude.{◌≡◌, ◌&&◌, ◌⊎◌, ℕ, zero, suc, Bool, List, [], ◌∷◌, codes, is_none, length, true}
 use Rattle.std.specs.Str.{chars}
 use Rattle.kdl.specs.Words.{Entry, EntryData, IsDocument, IsEntryText, IsNodeText, NodeData, Nodes, Tells, Text, Value}
-use Rattle.kdl_calls.specs.Edits.{plain_value}
+use Rattle.kdl_call_parts.specs.Entries.{plain_value}
 use Rattle.kdl_rows.specs.Listed.{AreFaultsOf, Fault}
 use Rattle.kdl_rows.specs.declared.given_faults.Reading.{Reading}
 use Rattle.kdl_rows.specs.declared.given_faults.Reading.TheVariants.{Read, NotValue, Refused, Memory}

@@ -2,9 +2,9 @@
 use Rattle.std.specs.Prelude.{ℕ, ◌+◌, ◌≤◌, List, All, length, take}
 use Rattle.std.specs.Str.{chars}
 use Rattle.kdl_text.specs.Spans.{InText}
-use Rattle.kdl_calls.specs.Says.{IsWithin}
+use Rattle.kdl_call_parts.specs.Says.{IsWithin}
 use Rattle.kdl_rows.specs.declared.faults.KdlFault.{KdlFault}
-use Rattle.kdl_calls.specs.declared.row.KdlRow.{KdlRow}
+use Rattle.kdl_call_parts.specs.declared.row.KdlRow.{KdlRow}
 
 -- if the rows and the strings fit, the texts of all rows are in the first `used` bytes of the strings
 abbrev pub AreWithin : List KdlRow → ℕ → List ℕ → ℕ → Type 0

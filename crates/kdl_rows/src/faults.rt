@@ -1,13 +1,13 @@
 //! The faults of a text, as rows.
 
 ghost use Rattle.kdl.specs.Words.{IsToldOf};
-ghost use Rattle.kdl_calls.specs.Strings.{HasPut, words_of};
+ghost use Rattle.kdl_call_parts.specs.Strings.{HasPut, words_of};
 ghost use Rattle.kdl_rows.specs.Listed.{AreListed, fault_of, fault_row};
 ghost use Rattle.kdl_rows.specs.Rows.{AreTold};
 ghost use Rattle.std.specs.Prelude.{◌≡◌, ◌+◌, ◌++◌, ◌∷◌, [], ℕ, All, List, length, map, slice_set};
 
 use kdl::KdlDiagnostic;
-use kdl_calls::text::put_words;
+use kdl_call_parts::text::put_words;
 
 /// A fault: the bytes of the text that it concerns, and the place of its message in the strings.
 #[repr(C)]

@@ -8,7 +8,7 @@ ghost use Rattle.std.specs.Prelude.{◌≡◌, ◌≤◌, ◌∷◌, [], IsNone,
 
 use crate::faults::KdlFault;
 use kdl::{KdlDocument, KdlEntry, KdlError, KdlNode, ParseFailure};
-use kdl_calls::text::put_string;
+use kdl_call_parts::text::put_string;
 use std::alloc::Global;
 
 /// The kind of a text that is read as a document.

@@ -1,13 +1,13 @@
 //! The faults of a text, with their labels and helps, as rows.
 
 ghost use Rattle.kdl.specs.Words.{IsToldOf};
-ghost use Rattle.kdl_calls.specs.Strings.{HasPut, words_of};
+ghost use Rattle.kdl_call_parts.specs.Strings.{HasPut, words_of};
 ghost use Rattle.kdl_rows.specs.Listed.{AreReportsListed, fault_of, report_row};
 ghost use Rattle.kdl_rows.specs.Reports.{AreReported};
 ghost use Rattle.std.specs.Prelude.{◌≡◌, ◌+◌, ◌++◌, ◌∷◌, [], ℕ, All, List, length, map, slice_set};
 
 use kdl::KdlDiagnostic;
-use kdl_calls::text::put_words;
+use kdl_call_parts::text::put_words;
 
 /// A fault: the bytes of the text that it concerns, and the places of its message, its label and its help in the
 /// strings. The length of a text that the fault does not have is 0.

@@ -3,11 +3,11 @@
 ghost use Rattle.kdl.specs.Words.{document_says, node_says};
 ghost use Rattle.kdl_rows.specs.Flat.{Item, RowsSay, flattened, head_items};
 ghost use Rattle.kdl_rows.specs.Rows.{AreWithin};
-ghost use Rattle.kdl_calls.specs.Says.{IsWithin};
+ghost use Rattle.kdl_call_parts.specs.Says.{IsWithin};
 ghost use Rattle.std.specs.Prelude.{◌≡◌, ◌≤◌, ◌+◌, ◌++◌, List, OnOk, length, slice_set};
 
 use kdl::{KdlDocument, KdlNode};
-use kdl_calls::row::{END, KdlRow, NO_VALUE, put_entry, put_node};
+use kdl_call_parts::row::{END, KdlRow, NO_VALUE, put_entry, put_node};
 use std::alloc::{AllocError, Global};
 
 /// Returns the row that ends a block.

@@ -1,3 +1,7 @@
--- Lemmas that several proofs share: the bytes of a text, and the data of nodes after an edit.
+-- Lemmas that several proofs share: the bytes of a text, the data of nodes after an edit and of nodes that were made, the
+-- entry that a removal by name removes, and what stays where an edit inside returns None.
 pub mod Bytes
 pub mod SaidAfter
+pub mod MadeNodes
+pub mod Removed
+pub mod Stays

@@ -1,21 +1,12 @@
 //! What look-ups find after an entry is inserted, pushed or removed.
 
-ghost use Rattle.kdl.specs.Words.{argument_count, IsAdded, IsPutIn, IsSet, IsTakenOut, IsTakenOutAt, value_at, value_of, value_tree};
+ghost use Rattle.kdl.specs.Words.{IsAdded, IsPutIn, IsSet, IsTakenOut, IsTakenOutAt, argument_count, entries_of, entry_there, has_name, value_at, value_of, value_tree};
 ghost use Rattle.kdl.specs.declared.node.KdlNode.{KdlNode};
-ghost use Rattle.std.specs.Prelude.{◌≡◌, ◌<◌, IfOk, OnOk, Some, option_map, string_bytes};
+ghost use Rattle.std.specs.Prelude.{◌≡◌, ◌<◌, IfOk, OnOk, Some, option_map, position, string_bytes};
 
+use crate::reads_back::add_argument;
 use kdl::{KdlEntry, KdlIdentifier, KdlNode, KdlValue, NodeKey};
 use std::alloc::{AllocError, Global};
-
-/// Pushes an argument. Its index then finds the value, and all other look-ups find what they found before.
-pub fn add_argument(node: &mut KdlNode, value: KdlValue) -> Result<(), AllocError>
-    ensures { OnOk result (IsAdded (value_tree value) node.old node.new) }
-{
-    match node.push(KdlEntry::new(value)) {
-        Ok(()) => Ok(()),
-        Err((_, error)) => Err(error),
-    }
-}
 
 /// Pushes two arguments to a node that has none, and returns a copy of the first argument.
 pub fn first_of_two(
@@ -52,7 +43,7 @@ pub fn put_first(node: &mut KdlNode, value: KdlValue) -> Result<(), AllocError>
 {
     match node.insert(NodeKey::Index(0), KdlEntry::new(value)) {
         Ok(_) => Ok(()),
-        Err((_, error)) => Err(error),
+        Err(_) => Err(AllocError),
     }
 }
 
@@ -62,7 +53,9 @@ pub fn remove_property(
     node: &mut KdlNode,
     name: &str,
 ) -> Result<Option<KdlEntry>, AllocError>
-    ensures { IfOk result (λ _. IsTakenOut name.now node.old node.new) }
+    ensures first { IfOk result (λ first. first ≡
+        entry_there (position (has_name name.now) (entries_of node.old)) node.old) }
+    ensures taken { IfOk result (λ _. IsTakenOut name.now node.old node.new) }
 {
     let key = NodeKey::from_text(alloc, name)?;
     Ok(node.remove(key))
@@ -70,7 +63,9 @@ pub fn remove_property(
 
 /// Removes and returns the first property of that name. The name is a string, so the call does not allocate.
 pub fn remove_named(node: &mut KdlNode, name: String) -> Option<KdlEntry>
-    ensures { IsTakenOut (string_bytes name) node.old node.new }
+    ensures first { result ≡
+        entry_there (position (has_name (string_bytes name)) (entries_of node.old)) node.old }
+    ensures taken { IsTakenOut (string_bytes name) node.old node.new }
 {
     node.remove(NodeKey::from(name))
 }
@@ -97,6 +92,6 @@ pub fn push_property(
     let key = KdlIdentifier::from_text(alloc, name)?;
     match node.push(KdlEntry::new_prop(key, value)) {
         Ok(()) => Ok(()),
-        Err((_, error)) => Err(error),
+        Err(_) => Err(AllocError),
     }
 }

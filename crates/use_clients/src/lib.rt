@@ -1,6 +1,8 @@
 //! More of what a caller proves of small programs over `kdl`, with the clauses that their users write.
 #![tactic(auto)]
 
+pub mod blocks;
+pub mod built;
 pub mod finds;
 pub mod layout;
 pub mod loans;

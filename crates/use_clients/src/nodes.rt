@@ -35,7 +35,7 @@ pub fn add(document: &mut KdlDocument, node: KdlNode) -> Result<(), AllocError>
 {
     match document.push_node(node) {
         Ok(()) => Ok(()),
-        Err((_, error)) => Err(error),
+        Err(_) => Err(AllocError),
     }
 }
 
@@ -119,7 +119,7 @@ pub fn append(document: &mut KdlDocument, node: KdlNode) -> Result<(), AllocErro
 {
     match document.push_node(node) {
         Ok(()) => Ok(()),
-        Err((_, error)) => Err(error),
+        Err(_) => Err(AllocError),
     }
 }
 

@@ -1,10 +1,11 @@
 //! Edits of the entries of a node.
 
 ghost use Rattle.kdl.specs.Words.{EntryData, IsEntryText, Value, entries_of, nodes_of};
-ghost use Rattle.kdl_calls.specs.Answers.{Each};
-ghost use Rattle.kdl_calls.specs.Changes.{AtEntry, AtNode, SameTree};
-ghost use Rattle.kdl_calls.specs.Edits.{EntryInserted, EntryRemoved, KeySet, TypeSetAt, ValueSet, plain_value, text_if};
-ghost use Rattle.kdl_calls.specs.Paths.{node_at};
+ghost use Rattle.kdl_call_parts.specs.Answers.{Each};
+ghost use Rattle.kdl_call_parts.specs.Changes.{AtEntry, AtNode, SameTree};
+ghost use Rattle.kdl_call_parts.specs.Entries.{EntryRemoved, plain_value};
+ghost use Rattle.kdl_calls.specs.Edits.{EntryInserted, KeySet, TypeSetAt, ValueSet, text_if};
+ghost use Rattle.kdl_call_parts.specs.Paths.{node_at};
 ghost use Rattle.std.specs.Prelude.{◌≡◌, ◌<◌, ◌≤◌, ◌-◌, ◌^◌, IfSome, IsNone, length, true};
 ghost use Rattle.std.specs.Str.{IsUtf8, chars};
 

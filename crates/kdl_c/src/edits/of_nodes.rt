@@ -1,10 +1,10 @@
 //! Edits of nodes: names, insertion and removal.
 
 ghost use Rattle.kdl.specs.Words.{IsNodeText, NodeData, nodes_of};
-ghost use Rattle.kdl_calls.specs.Answers.{Each};
-ghost use Rattle.kdl_calls.specs.Changes.{AtNode, SameTree};
+ghost use Rattle.kdl_call_parts.specs.Answers.{Each};
+ghost use Rattle.kdl_call_parts.specs.Changes.{AtNode, SameTree};
 ghost use Rattle.kdl_calls.specs.Edits.{NoPlaceFor, NodeAbsent, NodeInserted, NodeNamed, NodeRemoved};
-ghost use Rattle.kdl_calls.specs.Paths.{node_at};
+ghost use Rattle.kdl_call_parts.specs.Paths.{node_at};
 ghost use Rattle.std.specs.Prelude.{◌≡◌, IfSome, IsNone, true};
 ghost use Rattle.std.specs.Str.{IsUtf8, chars};
 

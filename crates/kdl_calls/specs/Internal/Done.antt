@@ -1,23 +1,18 @@
 -- A node after a change.
 use Rattle.std.specs.List.{insert}
-use Rattle.std.specs.Prelude.{◌≡◌, ◌≤◌, ◌<◌, ℕ, [], ◌∷◌, Some, String, length, option_map, slice_get}
-use Rattle.std.specs.declared.alloc.Global.{Global}
-use Rattle.kdl.specs.Words.{ChildPut, Entry, EntryFormat, IsPut, PrintsPut, document_says, node_says, said_with, document_tree, identifier_tree, node_tree, value_tree}
+use Rattle.std.specs.Prelude.{◌≡◌, ◌≤◌, ◌<◌, ℕ, [], ◌∷◌, Some, length, option_map, slice_get}
+use Rattle.kdl.specs.Words.{ChildPut, Entry, IsPut, PrintsPut, document_says, node_says, said_with, document_tree, identifier_tree, node_tree, value_tree}
 use Rattle.kdl.specs.Words.{child_nodes, entries_of, held_entries, nodes_of, with_entries, with_name, with_ty}
 use Rattle.kdl.specs.declared.document.KdlDocument.{KdlDocument}
 use Rattle.kdl.specs.declared.node.KdlNode.{KdlNode}
 use Rattle.kdl_entry.specs.declared.entry.KdlEntry.{KdlEntry}
-use Rattle.kdl_value.specs.Tree.{text_of}
-use Rattle.kdl_calls.specs.Changes.{AtEntry, changed_at}
-use Rattle.kdl_calls.specs.Edits.{ChildRemoved, EntryRemoved}
+use Rattle.kdl_call_parts.specs.Changes.{AtEntry, changed_at}
+use Rattle.kdl_call_parts.specs.Entries.{EntryRemoved, respelled}
+use Rattle.kdl_calls.specs.Edits.{ChildRemoved}
 use Rattle.kdl_calls.specs.declared.entry_change.EntryChange.{EntryChange}
 use Rattle.kdl_calls.specs.declared.entry_change.EntryChange.TheVariants as change
 use Rattle.kdl_calls.specs.declared.node_change.NodeChange.{NodeChange}
 use Rattle.kdl_calls.specs.declared.node_change.NodeChange.TheVariants.{SetName, SetType, ChangeEntry, InsertEntry, RemoveEntry, InsertChild, RemoveChild}
-
--- the format with another spelling of the value
-abbrev pub respelled : String Global → EntryFormat → EntryFormat
-respelled s f = record f { value_repr = text_of s }
 
 -- the entry after the change
 abbrev pub changed_entry : EntryChange → Entry → Entry

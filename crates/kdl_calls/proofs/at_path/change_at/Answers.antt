@@ -2,8 +2,8 @@ use Rattle.std.proofs.Common.{◌≡◌}
 use Rattle.std.specs.Prelude.{IfSome, slice_get}
 use Rattle.kdl.specs.Words.{nodes_of}
 use Rattle.kdl_calls.specs.Internal.Done.{Lacks}
-use Rattle.kdl_calls.specs.Paths.{node_at}
-use Rattle.kdl_calls.specs.declared.status.Refused.TheVariants.{NotFound}
+use Rattle.kdl_call_parts.specs.Paths.{node_at}
+use Rattle.kdl_call_parts.specs.declared.status.Refused.TheVariants.{NotFound}
 use Rattle.kdl_calls.proofs.EditSteps.{absent_at, done_at, if_err, not_opened, on_ok}
 use Rattle.kdl_calls.proofs.at_path.change_at.Goals as goal
 

@@ -1,7 +1,7 @@
 use Rattle.std.proofs.Common.{rules, ◌≡◌, length, refl, Some, slice_get}
 use Rattle.std.proofs.lemmas.Option.{slice_get_read}
 use Rattle.kdl_calls.proofs.EditSteps.{on_err, on_ok}
-use Rattle.kdl_calls.proofs.OpenSteps.{same_in, set_in}
+use Rattle.kdl_call_parts.proofs.OpenSteps.{same_in, set_in}
 use Rattle.kdl.specs.Words.{nodes_of}
 use Rattle.kdl_calls.proofs.at_path.change_in.Goals as goal
 

@@ -1,8 +1,8 @@
 use Rattle.std.proofs.Common.{◌≡◌, true}
 use Rattle.std.specs.Str.{chars}
 use Rattle.kdl.specs.Words.{IsEntryText, Value, entry_data, entry_tree}
-use Rattle.kdl_calls.specs.Edits.{plain_value}
-use Rattle.kdl_calls.specs.declared.status.Unread.TheVariants.{Faults}
+use Rattle.kdl_call_parts.specs.Entries.{plain_value}
+use Rattle.kdl_call_parts.specs.declared.status.Unread.TheVariants.{Faults}
 use Rattle.kdl_calls.proofs.EditSteps.{if_err}
 use Rattle.kdl_calls.proofs.given.value.Goals as goal
 

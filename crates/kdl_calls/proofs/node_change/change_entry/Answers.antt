@@ -2,7 +2,7 @@ use Rattle.std.proofs.Common.{rules, ap, ◌∙◌, length, refl, set}
 use Rattle.std.specs.Vec.{with_item}
 use Rattle.std.proofs.lemmas.Option.{slice_get_read}
 use Rattle.kdl.specs.Words.{entries_of}
-use Rattle.kdl_calls.proofs.OpenSteps.{entries_with, own_entries}
+use Rattle.kdl_call_parts.proofs.OpenSteps.{entries_with, own_entries}
 use Rattle.kdl_calls.proofs.node_change.change_entry.Goals as goal
 
 pub returns-in-Some-clause-done : goal.returns-in-Some-clause-done

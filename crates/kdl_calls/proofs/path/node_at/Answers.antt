@@ -1,7 +1,7 @@
 use Rattle.std.proofs.Common.{rules, ◌≡◌, length, None, Some, refl}
 use Rattle.std.proofs.lemmas.Option.{slice_get_past, slice_get_read}
 use Rattle.kdl.specs.Words.{nodes_of}
-use Rattle.kdl_calls.specs.Paths.{nodes_at}
+use Rattle.kdl_call_parts.specs.Paths.{nodes_at}
 use Rattle.kdl_calls.proofs.PathSteps.{at_last}
 use Rattle.kdl_calls.proofs.path.node_at.Goals as goal
 

@@ -2,7 +2,7 @@ use Rattle.std.proofs.Common.{rules, ◌≡◌, ◌+◌, ◌≤◌, length, None
 use Rattle.std.specs.Prelude.{slice_get}
 use Rattle.std.proofs.lemmas.Option.{slice_get_past, slice_get_read}
 use Rattle.kdl.specs.declared.node.KdlNode.{out-KdlNode}
-use Rattle.kdl_calls.specs.Paths.{nodes_at}
+use Rattle.kdl_call_parts.specs.Paths.{nodes_at}
 use Rattle.kdl_calls.proofs.PathSteps.{goes_down, none_there, no_block, at_end}
 use Rattle.kdl_calls.proofs.path.nodes_at.Goals as goal
 

@@ -1,6 +1,6 @@
 use Rattle.std.proofs.Common.{◌≡◌, drop}
 use Rattle.kdl.specs.Words.{nodes_of}
-use Rattle.kdl_calls.specs.Paths.{nodes_at}
+use Rattle.kdl_call_parts.specs.Paths.{nodes_at}
 use Rattle.kdl_calls.proofs.path.nodes_at.Given as goal
 
 -- what is left of the path leads from these nodes where the whole path leads from the document

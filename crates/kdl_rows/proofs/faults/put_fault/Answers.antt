@@ -1,6 +1,6 @@
 use Rattle.std.proofs.Common.{rules, ℕ, ap, ◌∙◌, refl, ◌≡◌, ◌++◌, ◌∷◌, [], length, slice_set}
 use mathlib.Core.Path.{subst}
-use Rattle.kdl_calls.specs.Strings.{HasPut, words_of}
+use Rattle.kdl_call_parts.specs.Strings.{HasPut, words_of}
 use Rattle.kdl_rows.specs.Listed.{fault_of, fault_row}
 use Rattle.kdl_rows.specs.declared.faults.KdlFault.{KdlFault}
 use Rattle.kdl_rows.proofs.RowSteps.{told_more}

@@ -1,6 +1,6 @@
 use Rattle.std.proofs.Common.{rules, refl, ◌≡◌, ◌<◌, ◌^◌, ◌-◌, ◌++◌, ◌∷◌, [], ◌∙◌, ℕ, List, ap, length, slice_set}
 use Rattle.kdl_rows.specs.declared.faults.KdlFault.{KdlFault}
-use Rattle.kdl_calls.specs.Strings.{HasPut}
+use Rattle.kdl_call_parts.specs.Strings.{HasPut}
 use Rattle.kdl_rows.specs.Listed.{AreListed}
 use Rattle.kdl_rows.specs.Reading.{not_value}
 use Rattle.kdl_rows.proofs.ListedSteps.{listed_more, listed_none}

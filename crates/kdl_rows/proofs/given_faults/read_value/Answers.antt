@@ -3,7 +3,7 @@ use mathlib.Core.Path.{subst}
 use Rattle.std.specs.Str.{chars}
 use Rattle.kdl.specs.Words.{IsEntryText, EntryData, Tells, entry_data, entry_tree}
 use Rattle.kdl_text.specs.Failures.{TellsOf}
-use Rattle.kdl_calls.specs.Edits.{plain_value}
+use Rattle.kdl_call_parts.specs.Entries.{plain_value}
 use Rattle.kdl_rows.proofs.ReadingSteps.{alone_data, not_alone}
 use Rattle.kdl_rows.proofs.given_faults.read_value.Goals as goal
 

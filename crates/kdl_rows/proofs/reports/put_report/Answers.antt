@@ -1,7 +1,7 @@
 use Rattle.std.proofs.Common.{rules, arith, ℕ, List, ap, ◌∙◌, refl, ◌≡◌, ◌≤◌, ◌++◌, ◌∷◌, [], sym, append_assoc, length, slice_set}
 use mathlib.Core.Path.{subst}
 use Rattle.kdl_text.specs.Spans.{raise}
-use Rattle.kdl_calls.specs.Strings.{HasPut, words_of}
+use Rattle.kdl_call_parts.specs.Strings.{HasPut, words_of}
 use Rattle.kdl_rows.specs.Listed.{fault_of}
 use Rattle.kdl_rows.specs.declared.reports.KdlReport.{KdlReport}
 use Rattle.kdl_rows.proofs.ListedSteps.{same_report}

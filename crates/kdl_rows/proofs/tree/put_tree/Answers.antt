@@ -6,7 +6,7 @@ use Rattle.kdl.specs.declared.node.KdlNode.{KdlNode}
 use Rattle.kdl_rows.specs.Flat.{end_item, flattened}
 use Rattle.kdl_rows.proofs.FlatSteps.{said_more}
 use Rattle.kdl_rows.proofs.FlatTree.{SoFar, empty, same_so_far, stack, stack_push, start, step_in, step_on, step_out}
-use Rattle.kdl_calls.proofs.SaysSteps.{grown_none}
+use Rattle.kdl_call_parts.proofs.SaysSteps.{grown_none}
 use Rattle.kdl_rows.proofs.RowSteps.{pushed, same_within, wider}
 use Rattle.kdl_rows.proofs.tree.put_tree.Goals as goal
 use Rattle.kdl_rows.proofs.tree.put_tree.Goals.{in-Some+in_ok-put_node_rows+in-Some-children+in_ok-push-in-Some-children, in-Some+in_ok-put_node_rows+in-None, in_default+in-Some-pop}

@@ -1,0 +1,4 @@
+-- A document that is taken apart along a path.
+pub mod Opened
+-- Places in a text that is read character by character.
+pub mod Places

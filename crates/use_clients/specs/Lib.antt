@@ -1,0 +1,2 @@
+-- The words of the clauses of this crate.
+pub mod Edits
