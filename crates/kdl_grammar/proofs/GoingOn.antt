@@ -107,12 +107,12 @@ dead_at_front p f r c some g n u (xs, d) = go (went p (f ++ r) g refl) (parts (s
         let x : s ≡ q ++ (f ++ u) = cc in
         dead_nodes q f r some g n u (subst (λ (z : Text). AreNodes true z [] ys) x m)
 
-two_parts : (r : Text) → (q : Text) × (r ≡ take 2 r ++ q)
+pub two_parts : (r : Text) → (q : Text) × (r ≡ take 2 r ++ q)
 two_parts [] = ([], refl)
 two_parts (c ∷ []) = ([], refl)
 two_parts (c ∷ d ∷ r) = (r, refl)
 
-two_some : (r : Text) → r ≢ [] → take 2 r ≢ []
+pub two_some : (r : Text) → r ≢ [] → take 2 r ≢ []
 two_some [] h e = h e
 two_some (c ∷ []) h e = cc
 two_some (c ∷ d ∷ r) h e = cc

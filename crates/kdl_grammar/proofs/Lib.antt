@@ -14,3 +14,5 @@ pub mod ReadingBack
 pub mod GoingOn
 -- Fronts of texts that no token begins, whatever follows them.
 pub mod Fronts
+-- Which texts begin a node text.
+pub mod NodeTexts

@@ -12,3 +12,7 @@ pub mod NoToken
 pub mod Viable
 -- After a token that it refuses no document goes on.
 pub mod Refusing
+-- The steps of the control of a node text.
+pub mod NodeSteps
+-- What the grammar derives of a node, the control goes over.
+pub mod NodeComplete

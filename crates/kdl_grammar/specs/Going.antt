@@ -1,13 +1,17 @@
 -- How far the control reads in a text.
-use Rattle.std.specs.Prelude.{◌≡◌, false, [], ◌∷◌, ◌++◌, Some, None}
+use Rattle.std.specs.Prelude.{◌≡◌, false, [], ◌∷◌, ◌++◌, Option, Some, None}
 use Rattle.kdl_text.specs.Chars.{Text, begins}
 use Rattle.kdl_lexer.specs.Tokens.{Token, BeginsToken}
 use Rattle.kdl_control.specs.Control.{Control, at, gap, step}
 
+-- by these steps, from one state to the other over the tokens of s up to the rest r
+pub data GoesBy {S : Type 0} (step : S → Token → Option S) : S → Text → S → Text → Type 0 where
+  here : {c : S} {s : Text} → GoesBy step c s c s
+  goes : {c c' d : S} {s t r : Text} {k : Token} → BeginsToken s k t → step c k ≡ Some c' → GoesBy step c' t d r → GoesBy step c s d r
+
 -- it goes from one state to the other by the tokens of s up to the rest r
-pub data Goes : Control → Text → Control → Text → Type 0 where
-  here : {c : Control} {s : Text} → Goes c s c s
-  goes : {c c' d : Control} {s t r : Text} {k : Token} → BeginsToken s k t → step c k ≡ Some c' → Goes c' t d r → Goes c s d r
+abbrev pub Goes : Control → Text → Control → Text → Type 0
+Goes = GoesBy step
 
 -- it reaches the state by the text t of a document up to the rest r: by its tokens, after the U+FEFF that t may begin with
 pub data Reaches : Text → Control → Text → Type 0 where

@@ -1,11 +1,20 @@
--- Which texts begin a document, and what is proved of that.
+-- Which texts begin a document or a node text, and what is proved of that.
 use Rattle.std.specs.Prelude.{◌≡◌, ◌≢◌, ◌↔◌, IsTrue, true, [], ◌++◌, Some, None, take}
 use Rattle.kdl_text.specs.Chars.{Text}
 use Rattle.kdl_lexer.specs.Tokens.{Token, BeginsToken, NoToken}
-use Rattle.kdl_grammar.specs.Data.{Nodes}
-use Rattle.kdl_grammar.specs.Grammar.{IsDocument}
+use Rattle.kdl_grammar.specs.Data.{Node, Nodes}
+use Rattle.kdl_grammar.specs.Grammar.{IsDocument, IsNodeText}
 use Rattle.kdl_control.specs.Control.{Control, step, finish}
 use Rattle.kdl_grammar.specs.Going.{Reaches, RefusesFront}
+use Rattle.kdl_grammar.specs.Internal.NodeControl.{NodeControl, node_step, NodeReaches}
+
+-- some derived text begins with the text
+abbrev pub GoesOn : (Text → Type 0) → Text → Type 0
+GoesOn derived t = (u : Text) × derived (t ++ u)
+
+-- no derived text begins with the text
+abbrev pub NeverGoesOn : (Text → Type 0) → Text → Type 0
+NeverGoesOn derived t = (u : Text) → derived (t ++ u) → ⊥
 
 -- the text is a document
 abbrev pub Derived : Text → Type 0
@@ -13,11 +22,15 @@ Derived t = (xs : Nodes) × IsDocument true t xs
 
 -- some document begins with the text
 abbrev pub Viable : Text → Type 0
-Viable t = (u : Text) × Derived (t ++ u)
+Viable = GoesOn Derived
 
 -- no document begins with the text
 abbrev pub Dead : Text → Type 0
-Dead t = (u : Text) → Derived (t ++ u) → ⊥
+Dead = NeverGoesOn Derived
+
+-- the text is a node
+abbrev pub DerivedNode : Text → Type 0
+DerivedNode t = (x : Node) × IsNodeText true t x
 
 -- what the machine reads begins a document
 abbrev pub Alive : Type 0
@@ -42,3 +55,11 @@ RefusedAtPiece = (p r : Text) (c : Control) → Reaches (p ++ r) c r → NoToken
 -- a text that it reads to the end is a document exactly if the text may end there
 abbrev pub DerivedAtEnd : Type 0
 DerivedAtEnd = (t : Text) (c : Control) → Reaches t c [] → Derived t ↔ IsTrue (finish c)
+
+-- of node texts: what the control goes over begins one
+abbrev pub NodeAlive : Type 0
+NodeAlive = (p r : Text) (c : NodeControl) → NodeReaches (p ++ r) c r → GoesOn DerivedNode p
+
+-- if it refuses a token, no node text begins with what it went over and the next two characters
+abbrev pub NodeDeadAtToken : Type 0
+NodeDeadAtToken = (p r s : Text) (c : NodeControl) (k : Token) → NodeReaches (p ++ r) c r → BeginsToken r k s → node_step c k ≡ None → NeverGoesOn DerivedNode (p ++ take 2 r)

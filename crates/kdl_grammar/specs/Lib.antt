@@ -12,6 +12,8 @@ pub mod Laid
 pub mod Laws
 -- How far the control reads in a text.
 pub mod Going
+-- The control of a node text: that of a document, but after the node only line-spaces may come.
+pub mod NodeControl
 -- Which texts begin a document, and what is proved of that.
 pub mod GoingOn
 -- What may be in the places of a node.

@@ -1,5 +1,5 @@
 -- After a token that the machine without data refuses no document goes on.
-use Rattle.std.proofs.Common.{◌≡◌, ◌≢◌, true, false, List, [], ◌∷◌, ◌++◌, take, Some, None, refl, sym, ap, subst, ◌∙◌, arith}
+use Rattle.std.proofs.Common.{◌≡◌, ◌≢◌, true, false, List, [], ◌∷◌, ◌++◌, take, Option, Some, None, refl, sym, ap, subst, ◌∙◌, arith}
 use Rattle.std.proofs.lemmas.List.{append_cancel_right}
 use Rattle.kdl_text.specs.Chars.{Text}
 use Rattle.kdl_text.specs.Internal.Here.{first}
@@ -12,24 +12,24 @@ use Rattle.kdl_value.specs.Data.{Value}
 use Rattle.kdl_grammar.specs.Data.{Nodes}
 use Rattle.kdl_grammar.specs.Grammar.{AreNodes}
 use Rattle.kdl_control.specs.Control.{fresh, spaced, later, gap, node_slashdash, type_open, type_name, type_done, in_node, property, entry_slashdash, block_slashdash, kept, kept_slashdash, Control, at, step, held, accepts}
-use Rattle.kdl_grammar.specs.Going.{Goes, here, goes, RefusesFront}
+use Rattle.kdl_grammar.specs.Going.{GoesBy, Goes, here, goes, RefusesFront}
 use Rattle.kdl_grammar.proofs.Reading.Erased.{accepted_nodes}
 use Rattle.kdl_grammar.proofs.Reading.Viable.{goes_length, Reads}
 
-pub record Carried (c : Control) (s : Text) (d : Control) (r u : Text) : Type 0 where
+pub record Carried {S : Type 0} (turn : S → Token → Option S) (c : S) (s : Text) (d : S) (r u : Text) : Type 0 where
   pub at : Put s r
-  pub there : Goes c (at.put u) d u
+  pub there : GoesBy turn c (at.put u) d u
 
 -- what the machine goes over it goes over before each such rest
-module _ {d : Control} {r : Text} (u : Text) (same : first u ≡ first r) where
-  nearer : {c c' : Control} {s t : Text} {k : Token} → BeginsToken s k t → step c k ≡ Some c' → Goes c' t d r → Carried c' t d r u → Carried c s d r u
+module _ {S : Type 0} {turn : S → Token → Option S} {d : S} {r : Text} (u : Text) (same : first u ≡ first r) where
+  nearer : {c c' : S} {s t : Text} {k : Token} → BeginsToken s k t → turn c k ≡ Some c' → GoesBy turn c' t d r → Carried turn c' t d r u → Carried turn c s d r u
   nearer x e here y = let m = near x u same in record { at = m.at; there = goes m.there e here }
   nearer x e (goes x' e' g) y =
       let z = full_of y.at (omega (arith, token_shorter x', goes_length g)) u in
       let m = near x (y.at.put u) z in
       record { at = joined m.at y.at; there = goes m.there e y.there }
 
-  pub near_goes : {c : Control} {s : Text} → Goes c s d r → Carried c s d r u
+  pub near_goes : {c : S} {s : Text} → GoesBy turn c s d r → Carried turn c s d r u
   near_goes here = record { at = stands; there = here }
   near_goes (goes x e g) = nearer x e g (near_goes g)
 
@@ -89,7 +89,7 @@ no_other (at block_slashdash fs) v w e = refl
 no_other (at kept fs) v w e = refl
 no_other (at kept_slashdash fs) v w e = refl
 
-refused_too : (c : Control) (k j : Token) → RefusedWith k j → step c k ≡ None → step c j ≡ None
+pub refused_too : (c : Control) (k j : Token) → RefusedWith k j → step c k ≡ None → step c j ≡ None
 refused_too c (string v) (string w) a e = no_string c v w e
 refused_too c (string v) (value w) a e = no_value c v w e
 refused_too c (value v) (value w) a e = no_other c v w e

@@ -1,5 +1,5 @@
 -- From each place that the machine without data reaches in a text some text goes on to a document.
-use Rattle.std.proofs.Common.{◌≡◌, ◌≤◌, Bool, true, false, List, [], ◌∷◌, ◌++◌, length, Some, refl, ap, subst, ◌∙◌, arith}
+use Rattle.std.proofs.Common.{◌≡◌, ◌≤◌, Bool, true, false, List, [], ◌∷◌, ◌++◌, length, Option, Some, refl, ap, subst, ◌∙◌, arith}
 use Rattle.kdl_text.specs.Chars.{Text, begins, starts, is_identifier_char}
 use Rattle.kdl_text.specs.Bare.{bare as bare_text, is_bare}
 use Rattle.kdl_text.proofs.Spacing.ValueEnds.{value_end_no_identifier}
@@ -13,7 +13,7 @@ use Rattle.kdl_entry.proofs.Moving.TokenMoves.{Fits, last_token, near_token, ful
 use Rattle.kdl_grammar.specs.Data.{Nodes}
 use Rattle.kdl_grammar.specs.Grammar.{AreNodes}
 use Rattle.kdl_control.specs.Control.{Spot, fresh, spaced, later, Phase, gap, node_slashdash, type_open, type_name, type_done, in_node, property, entry_slashdash, block_slashdash, kept, kept_slashdash, Frame, in_block, in_dropped, in_later, Control, at, step, held, accepts}
-use Rattle.kdl_grammar.specs.Going.{Goes, here, goes}
+use Rattle.kdl_grammar.specs.Going.{GoesBy, Goes, here, goes}
 use Rattle.kdl_grammar.proofs.Reading.Sound.{derives}
 
 -- Tokens that end a text: what is due, and then a `}` for each open block.
@@ -38,7 +38,7 @@ missing kept = []
 missing kept_slashdash = opening ∷ closing ∷ []
 
 -- where nothing is due but the `}` of open blocks
-data Ends : Phase → Type 0 where
+pub data Ends : Phase → Type 0 where
   at_gap : Ends gap
   at_node : {p : Spot} → Ends (in_node p)
   at_kept : Ends kept
@@ -99,15 +99,15 @@ is_word : is_bare (97 ∷ []) ≡ true
 unfolding is_bare is_identifier_char Rattle.kdl_text.specs.Chars.is_space Rattle.kdl_text.specs.Chars.is_newline_char Rattle.kdl_text.specs.Chars.is_banned Rattle.kdl_text.specs.Chars.is_punctuation
 is_word = refl
 
-no_close : is_identifier_char 125 ≡ false
+pub no_close : is_identifier_char 125 ≡ false
 unfolding is_identifier_char Rattle.kdl_text.specs.Chars.is_space Rattle.kdl_text.specs.Chars.is_newline_char Rattle.kdl_text.specs.Chars.is_banned Rattle.kdl_text.specs.Chars.is_punctuation
 no_close = refl
 
-no_right : is_identifier_char 41 ≡ false
+pub no_right : is_identifier_char 41 ≡ false
 unfolding is_identifier_char Rattle.kdl_text.specs.Chars.is_space Rattle.kdl_text.specs.Chars.is_newline_char Rattle.kdl_text.specs.Chars.is_banned Rattle.kdl_text.specs.Chars.is_punctuation
 no_right = refl
 
-closing_class : (fs : List Frame) → starts is_identifier_char (closing_text fs) ≡ false
+pub closing_class : (fs : List Frame) → starts is_identifier_char (closing_text fs) ≡ false
 closing_class [] = refl
 closing_class (f ∷ fs) = no_close
 
@@ -132,7 +132,7 @@ no_feed block_slashdash fs = refl
 no_feed kept fs = closing_feed fs
 no_feed kept_slashdash fs = refl
 
-a_word : (r : Text) → starts is_identifier_char r ≡ false → BeginsToken (97 ∷ r) word r
+pub a_word : (r : Text) → starts is_identifier_char r ≡ false → BeginsToken (97 ∷ r) word r
 a_word r h = t_string (bare (bare_text refl is_word h))
 
 lexes_closings : (fs : List Frame) → Lexes (closing_text fs) (closings fs)
@@ -261,25 +261,29 @@ fits_rest c equals p fs e = tt
 fits_rest c semicolon p fs e = tt
 fits_rest c bom p fs e = tt
 
-pub goes_length : {c d : Control} {s r : Text} → Goes c s d r → length r ≤ length s
+pub goes_length : {S : Type 0} {turn : S → Token → Option S} {c d : S} {s r : Text} → GoesBy turn c s d r → length r ≤ length s
 goes_length here = omega arith
 goes_length (goes t e g) = omega (arith, token_shorter t, goes_length g)
 
-record Carried (c : Control) (s : Text) (d : Control) (r u : Text) : Type 0 where
-  at : Put s r
-  glue : Text
-  there : Goes c (at.put (glue ++ u)) d u
+pub record Carried {S : Type 0} (turn : S → Token → Option S) (c : S) (s : Text) (d : S) (r u : Text) : Type 0 where
+  pub at : Put s r
+  pub glue : Text
+  pub there : GoesBy turn c (at.put (glue ++ u)) d u
+
+-- each step of these is one of the machine without data, on a part of the state
+abbrev pub Steps : {S : Type 0} → (S → Token → Option S) → (S → Control) → Type 0
+Steps {S = S} turn of = (c d : S) (k : Token) → turn c k ≡ Some d → step (of c) k ≡ Some (of d)
 
 -- what the machine goes over it goes over before another rest too, that goes on with no token
-module _ {d : Control} {r : Text} (u : Text) (no_feed' : begins 10 u ≡ false) (fits : (c : Control) (k : Token) → step c k ≡ Some d → Fits k u) where
-  onwards : {c c' : Control} {s t : Text} {k : Token} → BeginsToken s k t → step c k ≡ Some c' → Goes c' t d r → Carried c' t d r u → Carried c s d r u
+module _ {S : Type 0} {turn : S → Token → Option S} {of : S → Control} (steps : Steps turn of) {d : S} {r : Text} (u : Text) (no_feed' : begins 10 u ≡ false) (fits : (c : S) (k : Token) → turn c k ≡ Some d → Fits k u) where
+  onwards : {c c' : S} {s t : Text} {k : Token} → BeginsToken s k t → turn c k ≡ Some c' → GoesBy turn c' t d r → Carried turn c' t d r u → Carried turn c s d r u
   onwards {c = c} {k = k} b e here x = let m = last_token b u no_feed' (fits c k e) in record { at = m.at; glue = m.glue; there = goes m.there e here }
-  onwards {c = c} {k = k} b e (goes b' e' g) x =
+  onwards {c = c} {c' = c'} {k = k} b e (goes {c' = c''} {k = j} b' e' g) x =
       let y = full_of x.at (omega (arith, token_shorter b', goes_length g)) (x.glue ++ u) in
-      let m = near_token b (fits_next c k _ _ e b' e') (x.at.put (x.glue ++ u)) y in
+      let m = near_token b (fits_next (of c) k (of c') (of c'') (steps c c' k e) b' (steps c' c'' j e')) (x.at.put (x.glue ++ u)) y in
       record { at = joined m.at x.at; glue = x.glue; there = goes m.there e x.there }
 
-  carry : {c : Control} {s : Text} → Goes c s d r → Carried c s d r u
+  pub carry : {c : S} {s : Text} → GoesBy turn c s d r → Carried turn c s d r u
   carry here = record { at = stands; glue = []; there = here }
   carry (goes b e g) = onwards b e g (carry g)
 
@@ -306,7 +310,7 @@ pub record Viable (t r : Text) : Type 0 where
 pub viable : {t r : Text} {d : Control} → Goes (at gap []) t d r → Viable t r
 viable {r = r} {d = at p fs} g =
     let u = rest_text p fs in
-    let x = carry u (no_feed p fs) (λ c k e. fits_rest c k p fs e) g in
+    let x = carry {of = λ (c : Control). c} (λ c d k e. e) u (no_feed p fs) (λ c k e. fits_rest c k p fs e) g in
     let y = reads x.there (lexes_rest p fs) (ends p fs) in
     let z = derives y.lexed y.accepted in
     record { before = x.at.piece; text = x.at.here ∙ x.at.text r; behind = x.glue ++ u; nodes = z.0; derived = subst (λ (s : Text). AreNodes true s [] z.0) (x.at.text (x.glue ++ u)) z.1 }

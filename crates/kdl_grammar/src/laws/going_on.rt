@@ -1,6 +1,6 @@
 //! Which texts begin a document: what the machine without data reads does, and what it refuses does not.
 
-ghost use Rattle.kdl_grammar.specs.GoingOn.{Alive, AliveInToken, DeadAtFront, DeadAtToken, DerivedAtEnd, RefusedAtPiece};
+ghost use Rattle.kdl_grammar.specs.GoingOn.{Alive, AliveInToken, DeadAtFront, DeadAtToken, DerivedAtEnd, NodeAlive, NodeDeadAtToken, RefusedAtPiece};
 
 /// What the machine reads begins a document.
 #[tactic(auto, using(crate::proofs::GoingOn::alive))]
@@ -36,4 +36,16 @@ pub fn refused_at_piece()
 #[tactic(auto, using(crate::proofs::GoingOn::derived_at_end))]
 pub fn derived_at_end()
     ensures { DerivedAtEnd }
+{}
+
+/// What the control of a node text goes over begins a node text.
+#[tactic(auto, using(crate::proofs::NodeTexts::node_alive))]
+pub fn node_alive()
+    ensures { NodeAlive }
+{}
+
+/// If the control of a node text refuses a token, no node text begins with what it went over and the next two
+/// characters.
+pub fn node_dead_at_token()
+    ensures { NodeDeadAtToken }
 {}
