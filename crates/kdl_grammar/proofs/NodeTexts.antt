@@ -11,7 +11,7 @@ use Rattle.kdl_grammar.specs.GoingOn.{NeverGoesOn, DerivedNode, NodeAlive, NodeD
 use Rattle.kdl_grammar.specs.Grammar.{AreNodes, last_gap, node_then, node_text}
 use Rattle.kdl_control.specs.Control.{fresh, spaced, later, Phase, gap, node_slashdash, type_open, type_name, type_done, in_node, property, entry_slashdash, block_slashdash, kept, kept_slashdash, Frame, in_block, in_dropped, in_later, Control, at, step, finish}
 use Rattle.kdl_grammar.specs.Going.{Goes, here, goes}
-use Rattle.kdl_grammar.specs.Internal.NodeControl.{NodeControl, in_text, node_step, node_finish, node_start, NodeReaches, NodeRefusesFront}
+use Rattle.kdl_grammar.specs.NodeControl.{NodeControl, in_text, node_step, node_finish, node_start, NodeReaches, NodeRefusesFront}
 use Rattle.kdl_grammar.proofs.GoingOn.{two_parts, two_some}
 use Rattle.kdl_grammar.proofs.Reading.NodeComplete.{NodeGoes, and_then, lines_stay, at_end, at_close, Stands, between, in_open, kept_open, no_line, found_node, gap_only}
 use Rattle.kdl_grammar.proofs.Reading.NodeSteps.{control_of, steps, refuses_two}

@@ -6,7 +6,7 @@ use Rattle.kdl_grammar.specs.Data.{Node, Nodes}
 use Rattle.kdl_grammar.specs.Grammar.{IsDocument, IsNodeText}
 use Rattle.kdl_control.specs.Control.{Control, step, finish}
 use Rattle.kdl_grammar.specs.Going.{Reaches, RefusesFront}
-use Rattle.kdl_grammar.specs.Internal.NodeControl.{NodeControl, node_step, NodeReaches}
+use Rattle.kdl_grammar.specs.NodeControl.{NodeControl, node_step, NodeReaches}
 
 -- some derived text begins with the text
 abbrev pub GoesOn : (Text → Type 0) → Text → Type 0

@@ -12,7 +12,7 @@ use Rattle.kdl_grammar.specs.Data.{Node, Children, Nodes}
 use Rattle.kdl_grammar.specs.Grammar.{Terminator, IsNode, named, AfterName, kept_entry, dropped_entry, Blocks, dropped_block, block, no_block, AfterBlock, dropped_later, no_more, Gap, no_gap, line_space, dropped_node, AreNodes, last_gap, node_then, braces}
 use Rattle.kdl_control.specs.Control.{Spot, fresh, spaced, later, Phase, gap, node_slashdash, type_open, type_done, in_node, property, entry_slashdash, block_slashdash, kept, kept_slashdash, Frame, in_block, in_dropped, in_later, at, spaced_of, slashdash_at, popped}
 use Rattle.kdl_grammar.specs.Going.{GoesBy, here, goes}
-use Rattle.kdl_grammar.specs.Internal.NodeControl.{NodeControl, in_text, with_begun, node_step, node_finish, node_start}
+use Rattle.kdl_grammar.specs.NodeControl.{NodeControl, in_text, with_begun, node_step, node_finish, node_start}
 
 abbrev pub NodeGoes : NodeControl → Text → NodeControl → Text → Type 0
 NodeGoes = GoesBy node_step
