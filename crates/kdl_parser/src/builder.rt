@@ -1,6 +1,6 @@
 //! The builder: a document being read, token by token.
 
-ghost use Rattle.kdl_parser.specs.Internal.States.{document_now, document_of_nodes, Slices, spot_of, Takes};
+ghost use Rattle.kdl_parser.specs.Internal.States.{document_now, document_of_nodes, spot_of, Steps, Takes, token_step};
 ghost use Rattle.kdl_parser.specs.Internal.Answered.{Finished};
 ghost use Rattle.kdl_grammar.specs.Internal.Machine.{initial};
 ghost use Rattle.kdl_parser.specs.Internal.Building.{state_view, EndsIn, Placed};
@@ -14,11 +14,11 @@ ghost use Rattle.std.specs.Prelude.{◌≡◌, ◌+◌, ◌≤◌, []};
 mod content;
 mod steps;
 
-use self::content::content;
+use self::content::nothing_at;
 use crate::node_parts::{DocumentParts, ParsedNode};
-use kdl_entry::items::item::{Item, TypeParts, text_between};
+use kdl_entry::items::item::{Item, TypeParts};
 use kdl_entry::{KdlEntry, KdlIdentifier};
-use kdl_lexer::{LexFailure, Lexer, Token, TokenKind, fault_at};
+use kdl_lexer::{LexFailure, Lexer, Token, TokenKind, TokenSpan, fault_at};
 use kdl_text::cursor::{Checkpoint, Piece};
 use std::alloc::Global;
 
@@ -65,11 +65,18 @@ struct Kept<'a, N> {
     block: DocumentParts<N>,
 }
 
+/// The node of an open block, and the text before the block. The node is `None` if it is slashdashed.
+#[derive(Drop)]
+struct BlockOwner<'a> {
+    under: Option<Under<'a>>,
+    before: String,
+}
+
 /// An open block: the node it belongs to, and the nodes before that. They are `None` if they are slashdashed.
 #[derive(Drop)]
 enum Frame<'a, N> {
-    /// The block of a node, and the text before it.
-    Block(Option<Under<'a>>, String, Option<Vec<N>>),
+    /// The block of a node.
+    Block(BlockOwner<'a>, Option<Vec<N>>),
     /// A slashdashed block, before the node's own.
     DroppedBlock(Option<Under<'a>>, Option<Vec<N>>),
     /// A slashdashed block, after the node's own.
@@ -106,6 +113,8 @@ enum Waiting<'a> {
 /// A document being read. It holds no separate text of what is slashdashed.
 #[derive(Drop)]
 pub(crate) struct Builder<'a, N> {
+    alloc: Global,
+    /// The start of the text.
     whole: Checkpoint<'a>,
     phase: Phase,
     item: Item<'a>,
@@ -126,6 +135,7 @@ impl<'a, N: ParsedNode> Builder<'a, N> {
     {
         let item = Item::new(alloc, &start);
         Builder {
+            alloc,
             whole,
             phase: Phase::Gap,
             item,
@@ -142,31 +152,25 @@ impl<'a, N: ParsedNode> Builder<'a, N> {
     #[tactic(auto, using(crate::proofs::Stepping::StepsDone::does_did))]
     fn at_gap(
         &mut self,
-        alloc: Global,
         lexer: &mut Lexer<'a>,
         kind: TokenKind,
-        start: &Checkpoint<'a>,
-        end: &Checkpoint<'a>,
+        at: &TokenSpan<'a>,
     ) -> Result<(), LexFailure>
-        requires from { Ahead self.old.from start.now }
-        requires token { Ahead start.now end.now }
+        requires from { Ahead self.old.from at.now.start }
         requires phase { self.old.phase ≡ Phase.Gap }
-        ensures did { Takes N.tree self.old kind start.now end.now result self.new }
-        ensures whole { self.new.whole ≡ self.old.whole }
-        ensures stays { Stays lexer.old lexer.new }
-        ensures sliced { Slices (unsliced self.old) result self.new lexer.old lexer.new }
+        ensures { Takes N.tree self.old kind at.now result self.new lexer.old lexer.new }
     {
-        let counts = self.nodes.is_some();
+        let kept = self.nodes.is_some();
         match kind {
             TokenKind::Space | TokenKind::Newline => Ok(()),
             TokenKind::Slashdash => {
                 self.phase = Phase::NodeSlashdash;
                 Ok(())
             },
-            TokenKind::String(name) => self.name_node(alloc, lexer, counts, name, start, end),
-            TokenKind::Left => self.open_name(alloc, lexer, counts, start, end),
-            TokenKind::Closing => self.close(alloc, lexer, start, end),
-            _ => Err(LexFailure::Faulty(fault_at(start))),
+            TokenKind::String(name) => self.name_node(lexer, kept, name, at),
+            TokenKind::Left => self.open_name(lexer, kept, at),
+            TokenKind::Closing => self.close(lexer, at),
+            _ => Err(LexFailure::Faulty(fault_at(&at.start))),
         }
     }
 
@@ -174,25 +178,19 @@ impl<'a, N: ParsedNode> Builder<'a, N> {
     #[tactic(auto, using(crate::proofs::Stepping::StepsDone::does_did))]
     fn at_slashdash(
         &mut self,
-        alloc: Global,
         lexer: &mut Lexer<'a>,
         kind: TokenKind,
-        start: &Checkpoint<'a>,
-        end: &Checkpoint<'a>,
+        at: &TokenSpan<'a>,
     ) -> Result<(), LexFailure>
-        requires from { Ahead self.old.from start.now }
-        requires token { Ahead start.now end.now }
+        requires from { Ahead self.old.from at.now.start }
         requires phase { self.old.phase ≡ Phase.NodeSlashdash }
-        ensures did { Takes N.tree self.old kind start.now end.now result self.new }
-        ensures whole { self.new.whole ≡ self.old.whole }
-        ensures stays { Stays lexer.old lexer.new }
-        ensures sliced { Slices (unsliced self.old) result self.new lexer.old lexer.new }
+        ensures { Takes N.tree self.old kind at.now result self.new lexer.old lexer.new }
     {
         match kind {
             TokenKind::Space | TokenKind::Newline => Ok(()),
-            TokenKind::String(name) => self.name_node(alloc, lexer, false, name, start, end),
-            TokenKind::Left => self.open_name(alloc, lexer, false, start, end),
-            _ => Err(LexFailure::Faulty(fault_at(start))),
+            TokenKind::String(name) => self.name_node(lexer, false, name, at),
+            TokenKind::Left => self.open_name(lexer, false, at),
+            _ => Err(LexFailure::Faulty(fault_at(&at.start))),
         }
     }
 
@@ -200,31 +198,25 @@ impl<'a, N: ParsedNode> Builder<'a, N> {
     #[tactic(auto, using(crate::proofs::Stepping::StepsDone::does_did, crate::proofs::Stepping::StepsDone::none_sliced))]
     fn at_fresh(
         &mut self,
-        alloc: Global,
         lexer: &mut Lexer<'a>,
         kind: TokenKind,
-        start: &Checkpoint<'a>,
-        end: &Checkpoint<'a>,
+        at: &TokenSpan<'a>,
     ) -> Result<(), LexFailure>
-        requires from { Ahead self.old.from start.now }
-        requires token { Ahead start.now end.now }
+        requires from { Ahead self.old.from at.now.start }
         requires phase { self.old.phase ≡ Phase.Fresh }
-        ensures did { Takes N.tree self.old kind start.now end.now result self.new }
-        ensures whole { self.new.whole ≡ self.old.whole }
-        ensures stays { Stays lexer.old lexer.new }
-        ensures sliced { Slices (unsliced self.old) result self.new lexer.old lexer.new }
+        ensures { Takes N.tree self.old kind at.now result self.new lexer.old lexer.new }
     {
         match kind {
             TokenKind::Space => {
                 self.phase = Phase::Spaced;
                 Ok(())
             },
-            TokenKind::Newline | TokenKind::Semicolon => self.end_node(alloc, lexer, start, end),
-            TokenKind::Closing => self.close_node(alloc, lexer, start, end),
-            TokenKind::Opening => self.open_block(alloc, lexer, start, end),
-            TokenKind::Slashdash => self.behind_slashdash(alloc),
-            TokenKind::Equals => self.open_property(alloc, lexer, start, end),
-            _ => Err(LexFailure::Faulty(fault_at(start))),
+            TokenKind::Newline | TokenKind::Semicolon => self.end_node(lexer, at),
+            TokenKind::Closing => self.close_node(lexer, at),
+            TokenKind::Opening => self.open_block(lexer, at),
+            TokenKind::Slashdash => self.behind_slashdash(),
+            TokenKind::Equals => self.open_property(lexer, at),
+            _ => Err(LexFailure::Faulty(fault_at(&at.start))),
         }
     }
 
@@ -232,31 +224,25 @@ impl<'a, N: ParsedNode> Builder<'a, N> {
     #[tactic(auto, using(crate::proofs::Stepping::StepsDone::does_did, crate::proofs::Stepping::StepsDone::none_sliced))]
     fn at_spaced(
         &mut self,
-        alloc: Global,
         lexer: &mut Lexer<'a>,
         kind: TokenKind,
-        start: &Checkpoint<'a>,
-        end: &Checkpoint<'a>,
+        at: &TokenSpan<'a>,
     ) -> Result<(), LexFailure>
-        requires from { Ahead self.old.from start.now }
-        requires token { Ahead start.now end.now }
+        requires from { Ahead self.old.from at.now.start }
         requires phase { self.old.phase ≡ Phase.Spaced }
-        ensures did { Takes N.tree self.old kind start.now end.now result self.new }
-        ensures whole { self.new.whole ≡ self.old.whole }
-        ensures stays { Stays lexer.old lexer.new }
-        ensures sliced { Slices (unsliced self.old) result self.new lexer.old lexer.new }
+        ensures { Takes N.tree self.old kind at.now result self.new lexer.old lexer.new }
     {
         match kind {
             TokenKind::Space => Ok(()),
-            TokenKind::Newline | TokenKind::Semicolon => self.end_node(alloc, lexer, start, end),
-            TokenKind::Closing => self.close_node(alloc, lexer, start, end),
-            TokenKind::Opening => self.open_block(alloc, lexer, start, end),
-            TokenKind::Slashdash => self.behind_slashdash(alloc),
-            TokenKind::Equals => self.open_property(alloc, lexer, start, end),
-            TokenKind::String(value) => self.wait(alloc, lexer, value, start, end),
-            TokenKind::Value(value) => self.add_argument(alloc, lexer, true, value, start, end),
-            TokenKind::Left => self.open_value(alloc, lexer, true, start, end),
-            _ => Err(LexFailure::Faulty(fault_at(start))),
+            TokenKind::Newline | TokenKind::Semicolon => self.end_node(lexer, at),
+            TokenKind::Closing => self.close_node(lexer, at),
+            TokenKind::Opening => self.open_block(lexer, at),
+            TokenKind::Slashdash => self.behind_slashdash(),
+            TokenKind::Equals => self.open_property(lexer, at),
+            TokenKind::String(value) => self.wait(lexer, value, at),
+            TokenKind::Value(value) => self.add_argument(lexer, true, value, at),
+            TokenKind::Left => self.open_value(lexer, true, at),
+            _ => Err(LexFailure::Faulty(fault_at(&at.start))),
         }
     }
 
@@ -264,30 +250,24 @@ impl<'a, N: ParsedNode> Builder<'a, N> {
     #[tactic(auto, using(crate::proofs::Stepping::StepsDone::does_did))]
     fn at_later(
         &mut self,
-        alloc: Global,
         lexer: &mut Lexer<'a>,
         kind: TokenKind,
-        start: &Checkpoint<'a>,
-        end: &Checkpoint<'a>,
+        at: &TokenSpan<'a>,
     ) -> Result<(), LexFailure>
-        requires from { Ahead self.old.from start.now }
-        requires token { Ahead start.now end.now }
+        requires from { Ahead self.old.from at.now.start }
         requires phase { self.old.phase ≡ Phase.Later }
-        ensures did { Takes N.tree self.old kind start.now end.now result self.new }
-        ensures whole { self.new.whole ≡ self.old.whole }
-        ensures stays { Stays lexer.old lexer.new }
-        ensures sliced { Slices (unsliced self.old) result self.new lexer.old lexer.new }
+        ensures { Takes N.tree self.old kind at.now result self.new lexer.old lexer.new }
     {
         match kind {
             TokenKind::Space => Ok(()),
-            TokenKind::Newline | TokenKind::Semicolon => self.end_node(alloc, lexer, start, end),
-            TokenKind::Closing => self.close_node(alloc, lexer, start, end),
-            TokenKind::Opening => self.open_block(alloc, lexer, start, end),
+            TokenKind::Newline | TokenKind::Semicolon => self.end_node(lexer, at),
+            TokenKind::Closing => self.close_node(lexer, at),
+            TokenKind::Opening => self.open_block(lexer, at),
             TokenKind::Slashdash => {
                 self.phase = Phase::BlockSlashdash;
                 Ok(())
             },
-            _ => Err(LexFailure::Faulty(fault_at(start))),
+            _ => Err(LexFailure::Faulty(fault_at(&at.start))),
         }
     }
 
@@ -295,27 +275,21 @@ impl<'a, N: ParsedNode> Builder<'a, N> {
     #[tactic(auto, using(crate::proofs::Stepping::StepsDone::does_did, crate::proofs::Stepping::StepsDone::none_sliced))]
     fn at_entry_slashdash(
         &mut self,
-        alloc: Global,
         lexer: &mut Lexer<'a>,
         kind: TokenKind,
-        start: &Checkpoint<'a>,
-        end: &Checkpoint<'a>,
+        at: &TokenSpan<'a>,
     ) -> Result<(), LexFailure>
-        requires from { Ahead self.old.from start.now }
-        requires token { Ahead start.now end.now }
+        requires from { Ahead self.old.from at.now.start }
         requires phase { self.old.phase ≡ Phase.EntrySlashdash }
-        ensures did { Takes N.tree self.old kind start.now end.now result self.new }
-        ensures whole { self.new.whole ≡ self.old.whole }
-        ensures stays { Stays lexer.old lexer.new }
-        ensures sliced { Slices (unsliced self.old) result self.new lexer.old lexer.new }
+        ensures { Takes N.tree self.old kind at.now result self.new lexer.old lexer.new }
     {
         match kind {
             TokenKind::Space | TokenKind::Newline => Ok(()),
-            TokenKind::String(_) => self.wait_dropped(alloc),
-            TokenKind::Value(value) => self.add_argument(alloc, lexer, false, value, start, end),
-            TokenKind::Left => self.open_value(alloc, lexer, false, start, end),
-            TokenKind::Opening => self.open_dropped(alloc),
-            _ => Err(LexFailure::Faulty(fault_at(start))),
+            TokenKind::String(_) => self.wait_dropped(),
+            TokenKind::Value(value) => self.add_argument(lexer, false, value, at),
+            TokenKind::Left => self.open_value(lexer, false, at),
+            TokenKind::Opening => self.open_dropped(),
+            _ => Err(LexFailure::Faulty(fault_at(&at.start))),
         }
     }
 
@@ -323,24 +297,18 @@ impl<'a, N: ParsedNode> Builder<'a, N> {
     #[tactic(auto, using(crate::proofs::Stepping::StepsDone::does_did, crate::proofs::Stepping::StepsDone::none_sliced))]
     fn at_block_slashdash(
         &mut self,
-        alloc: Global,
         lexer: &mut Lexer<'a>,
         kind: TokenKind,
-        start: &Checkpoint<'a>,
-        end: &Checkpoint<'a>,
+        at: &TokenSpan<'a>,
     ) -> Result<(), LexFailure>
-        requires from { Ahead self.old.from start.now }
-        requires token { Ahead start.now end.now }
+        requires from { Ahead self.old.from at.now.start }
         requires phase { self.old.phase ≡ Phase.BlockSlashdash }
-        ensures did { Takes N.tree self.old kind start.now end.now result self.new }
-        ensures whole { self.new.whole ≡ self.old.whole }
-        ensures stays { Stays lexer.old lexer.new }
-        ensures sliced { Slices (unsliced self.old) result self.new lexer.old lexer.new }
+        ensures { Takes N.tree self.old kind at.now result self.new lexer.old lexer.new }
     {
         match kind {
             TokenKind::Space | TokenKind::Newline => Ok(()),
-            TokenKind::Opening => self.open_dropped(alloc),
-            _ => Err(LexFailure::Faulty(fault_at(start))),
+            TokenKind::Opening => self.open_dropped(),
+            _ => Err(LexFailure::Faulty(fault_at(&at.start))),
         }
     }
 
@@ -348,29 +316,23 @@ impl<'a, N: ParsedNode> Builder<'a, N> {
     #[tactic(auto, using(crate::proofs::Stepping::StepsDone::does_did))]
     fn at_behind(
         &mut self,
-        alloc: Global,
         lexer: &mut Lexer<'a>,
         kind: TokenKind,
-        start: &Checkpoint<'a>,
-        end: &Checkpoint<'a>,
+        at: &TokenSpan<'a>,
     ) -> Result<(), LexFailure>
-        requires from { Ahead self.old.from start.now }
-        requires token { Ahead start.now end.now }
+        requires from { Ahead self.old.from at.now.start }
         requires phase { self.old.phase ≡ Phase.Behind }
-        ensures did { Takes N.tree self.old kind start.now end.now result self.new }
-        ensures whole { self.new.whole ≡ self.old.whole }
-        ensures stays { Stays lexer.old lexer.new }
-        ensures sliced { Slices (unsliced self.old) result self.new lexer.old lexer.new }
+        ensures { Takes N.tree self.old kind at.now result self.new lexer.old lexer.new }
     {
         match kind {
             TokenKind::Space => Ok(()),
-            TokenKind::Newline | TokenKind::Semicolon => self.end_kept(alloc, lexer, start, end),
-            TokenKind::Closing => self.close_kept(alloc, lexer, start, end),
+            TokenKind::Newline | TokenKind::Semicolon => self.end_kept(lexer, at),
+            TokenKind::Closing => self.close_kept(lexer, at),
             TokenKind::Slashdash => {
                 self.phase = Phase::BehindSlashdash;
                 Ok(())
             },
-            _ => Err(LexFailure::Faulty(fault_at(start))),
+            _ => Err(LexFailure::Faulty(fault_at(&at.start))),
         }
     }
 
@@ -378,68 +340,50 @@ impl<'a, N: ParsedNode> Builder<'a, N> {
     #[tactic(auto, using(crate::proofs::Stepping::StepsDone::does_did, crate::proofs::Stepping::StepsDone::none_sliced))]
     fn at_behind_slashdash(
         &mut self,
-        alloc: Global,
         lexer: &mut Lexer<'a>,
         kind: TokenKind,
-        start: &Checkpoint<'a>,
-        end: &Checkpoint<'a>,
+        at: &TokenSpan<'a>,
     ) -> Result<(), LexFailure>
-        requires from { Ahead self.old.from start.now }
-        requires token { Ahead start.now end.now }
+        requires from { Ahead self.old.from at.now.start }
         requires phase { self.old.phase ≡ Phase.BehindSlashdash }
-        ensures did { Takes N.tree self.old kind start.now end.now result self.new }
-        ensures whole { self.new.whole ≡ self.old.whole }
-        ensures stays { Stays lexer.old lexer.new }
-        ensures sliced { Slices (unsliced self.old) result self.new lexer.old lexer.new }
+        ensures { Takes N.tree self.old kind at.now result self.new lexer.old lexer.new }
     {
         match kind {
             TokenKind::Space | TokenKind::Newline => Ok(()),
             TokenKind::Opening => self.open_later(),
-            _ => Err(LexFailure::Faulty(fault_at(start))),
+            _ => Err(LexFailure::Faulty(fault_at(&at.start))),
         }
     }
 
     /// Takes a token. Fails if the token may not be here, or if an allocation fails; the builder is then in an
     /// unspecified state.
     #[tactic(auto, using(crate::proofs::Stepping::ItemTokens::item_did, crate::proofs::Stepping::ItemTokens::item_placed))]
-    pub(crate) fn take(
-        &mut self,
-        alloc: Global,
-        lexer: &mut Lexer<'a>,
-        token: Token<'a>,
-    ) -> Result<(), LexFailure>
-        requires placed { Placed (state_view N.tree self.old) token.start.rest }
-        requires token { Ahead token.start token.end }
-        ensures did { Takes N.tree self.old token.entry.kind token.entry.start token.entry.end
-            result self.new }
-        ensures whole { self.new.whole ≡ self.old.whole }
-        ensures stays { Stays lexer.old lexer.new }
-        ensures sliced { Slices (unsliced self.old + 1) result self.new lexer.old lexer.new }
+    pub(crate) fn take(&mut self, lexer: &mut Lexer<'a>, token: Token<'a>) -> Result<(), LexFailure>
+        requires placed { Placed (state_view N.tree self.old) token.at.start.rest }
+        ensures takes { Steps N.tree (token_step N.tree self.old token.entry.kind token.entry.at)
+            token.entry.at.start (unsliced self.old + 1) self.old result self.new lexer.old
+            lexer.new }
         ensures looked { raise lexer.old.steps 1 ≤ raise lexer.new.steps 0 }
     {
         lexer.count_look();
-        let Token { kind, start, end } = token;
+        let Token { kind, at } = token;
         match self.phase {
-            Phase::Gap => self.at_gap(alloc, lexer, kind, &start, &end),
-            Phase::NodeSlashdash => self.at_slashdash(alloc, lexer, kind, &start, &end),
-            Phase::InItem => self.at_item(alloc, lexer, kind, &start, &end),
-            Phase::Fresh => self.at_fresh(alloc, lexer, kind, &start, &end),
-            Phase::Spaced => self.at_spaced(alloc, lexer, kind, &start, &end),
-            Phase::Later => self.at_later(alloc, lexer, kind, &start, &end),
-            Phase::EntrySlashdash => self.at_entry_slashdash(alloc, lexer, kind, &start, &end),
-            Phase::BlockSlashdash => self.at_block_slashdash(alloc, lexer, kind, &start, &end),
-            Phase::Behind => self.at_behind(alloc, lexer, kind, &start, &end),
-            Phase::BehindSlashdash => self.at_behind_slashdash(alloc, lexer, kind, &start, &end),
+            Phase::Gap => self.at_gap(lexer, kind, &at),
+            Phase::NodeSlashdash => self.at_slashdash(lexer, kind, &at),
+            Phase::InItem => self.at_item(lexer, kind, &at),
+            Phase::Fresh => self.at_fresh(lexer, kind, &at),
+            Phase::Spaced => self.at_spaced(lexer, kind, &at),
+            Phase::Later => self.at_later(lexer, kind, &at),
+            Phase::EntrySlashdash => self.at_entry_slashdash(lexer, kind, &at),
+            Phase::BlockSlashdash => self.at_block_slashdash(lexer, kind, &at),
+            Phase::Behind => self.at_behind(lexer, kind, &at),
+            Phase::BehindSlashdash => self.at_behind_slashdash(lexer, kind, &at),
         }
     }
 
     /// Returns the document at the end of the text. Fails if something open is not closed. The builder can't be used
     /// afterwards.
-    pub(crate) fn finish(
-        &mut self,
-        alloc: Global,
-        lexer: &mut Lexer<'a>,
-    ) -> Result<DocumentParts<N>, LexFailure>
+    pub(crate) fn finish(&mut self, lexer: &mut Lexer<'a>) -> Result<DocumentParts<N>, LexFailure>
         requires end { lexer.old.rest ≡ [] }
         requires from { EndsIn self.old.from.rest lexer.old.rest }
         ensures finished { Finished N.tree (document_now N.tree self.old) (spot_of lexer.old)
@@ -448,14 +392,13 @@ impl<'a, N: ParsedNode> Builder<'a, N> {
         ensures sliced { SlicedOn result (unsliced self.old) 0 lexer.old lexer.new }
     {
         let here = lexer.checkpoint();
-        self.finish_at(alloc, lexer, &here)
+        self.finish_at(lexer, &here)
     }
 
     /// Returns the document if the text ends at the place.
     #[tactic(auto, using(crate::proofs::Stepping::Origins::between_none, crate::proofs::Stepping::Origins::origin_ends, crate::proofs::Stepping::ItemTokens::unfinished, crate::proofs::Stepping::StepsDone::unfinished_for_memory))]
     fn finish_at(
         &mut self,
-        alloc: Global,
         lexer: &mut Lexer<'a>,
         here: &Checkpoint<'a>,
     ) -> Result<DocumentParts<N>, LexFailure>
@@ -466,14 +409,14 @@ impl<'a, N: ParsedNode> Builder<'a, N> {
         ensures sliced { SlicedOn result (unsliced self.old) 0 lexer.old lexer.new }
     {
         match self.phase {
-            Phase::Gap => self.finish_nodes(alloc, lexer, here),
+            Phase::Gap => self.finish_nodes(lexer, here),
             Phase::Fresh | Phase::Spaced | Phase::Later => {
-                self.end_node(alloc, lexer, here, &here.copied())?;
-                self.finish_nodes(alloc, lexer, here)
+                self.end_node(lexer, &nothing_at(here))?;
+                self.finish_nodes(lexer, here)
             }
             Phase::Behind => {
-                self.end_kept(alloc, lexer, here, &here.copied())?;
-                self.finish_nodes(alloc, lexer, here)
+                self.end_kept(lexer, &nothing_at(here))?;
+                self.finish_nodes(lexer, here)
             }
             Phase::InItem => Err(LexFailure::Faulty(fault_at(here))),
             Phase::NodeSlashdash => Err(LexFailure::Faulty(fault_at(here))),
@@ -486,7 +429,6 @@ impl<'a, N: ParsedNode> Builder<'a, N> {
     /// Returns the document of the nodes, if no block is open.
     fn finish_nodes(
         &mut self,
-        alloc: Global,
         lexer: &mut Lexer<'a>,
         here: &Checkpoint<'a>,
     ) -> Result<DocumentParts<N>, LexFailure>
@@ -502,7 +444,7 @@ impl<'a, N: ParsedNode> Builder<'a, N> {
         let Some(nodes) = self.nodes.take() else {
             return Err(LexFailure::Faulty(fault_at(here)));
         };
-        let place = text_between(alloc, lexer, &self.from, here)?;
-        Ok(content(alloc, &self.whole, nodes, place, here))
+        let document = self.content_up_to(lexer, nodes, here)?;
+        Ok(document)
     }
 }

@@ -28,7 +28,7 @@ fn line_spaces(alloc: Global, text: &str) -> Result<(), LexFailure>
     let mut lexer = Lexer::new(text, Steps::new());
     'tokens: while let Some(token) = lexer.next(alloc)? {
         if !is_line_space(&token.kind) {
-            let span = fault_at(&token.start);
+            let span = fault_at(&token.at.start);
             // Dropped by a call, since that is one step of the proof; the end of its scope would be many.
             drop(token);
             return Err(LexFailure::Faulty(span));

@@ -14,7 +14,7 @@ use kdl_text::cursor::Checkpoint;
 use std::alloc::Global;
 
 /// Returns the machine's result on the text before the lexer, by a builder that has not taken a token yet.
-#[tactic(auto, using(crate::proofs::Stepping::TurnCost::counting_ends, crate::proofs::Answering::TokenLoop::goes_on, crate::proofs::Answering::TokenLoop::placed_start, crate::proofs::Answering::TokenLoop::start_end, crate::proofs::Answering::TokenLoop::lexer_told, crate::proofs::Answering::TokenLoop::take_told, crate::proofs::Answering::TokenLoop::all_read, crate::proofs::Answering::TokenLoop::stops_going, crate::proofs::Answering::TokenLoop::from_now, crate::proofs::Answering::TokenLoop::finish_told, crate::proofs::Answering::TokenLoop::nearer))]
+#[tactic(auto, using(crate::proofs::Stepping::TurnCost::counting_ends, crate::proofs::Answering::TokenLoop::goes_on, crate::proofs::Answering::TokenLoop::placed_start, crate::proofs::Answering::TokenLoop::lexer_told, crate::proofs::Answering::TokenLoop::take_told, crate::proofs::Answering::TokenLoop::all_read, crate::proofs::Answering::TokenLoop::stops_going, crate::proofs::Answering::TokenLoop::from_now, crate::proofs::Answering::TokenLoop::finish_told))]
 fn build_with<'a, N: ParsedNode>(
     alloc: Global,
     builder: &mut Builder<'a, N>,
@@ -29,9 +29,9 @@ fn build_with<'a, N: ParsedNode>(
     ensures counts { raise lexer.old.steps 0 ≤ raise lexer.new.steps 0 }
 {
     'tokens: while let Some(token) = lexer.next(alloc)? {
-        builder.take(alloc, lexer, token)?;
+        builder.take(lexer, token)?;
     }
-    builder.finish(alloc, lexer)
+    builder.finish(lexer)
 }
 
 /// Reads the document before the lexer: the text `whole`, or what follows its U+FEFF. Fails at the first token that may

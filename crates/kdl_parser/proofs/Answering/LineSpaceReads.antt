@@ -107,9 +107,9 @@ lines_told t here place span g e f x =
     char_in here.rest g.text.0 t span g.text.1 (x.offset ∙ f ∙ bytes_before g.text.0 here.rest t here.at g.text.1 g.at) (x.len ∙ ap first_len e)
 
 -- a token that is none, a failure of the lexer, and the end
-pub no_line_space : (t : Text) (old new : Here) (k : CodeToken) (span : SourceSpan) → Lines old t → HandsOut old k new → is_line_space k.kind ≡ false → IsFaultAt k.start span → AreLineSpaces t (Err (Faulty span))
+pub no_line_space : (t : Text) (old new : Here) (k : CodeToken) (span : SourceSpan) → Lines old t → HandsOut old k new → is_line_space k.kind ≡ false → IsFaultAt k.at.start span → AreLineSpaces t (Err (Faulty span))
 no_line_space t old new k span g h e x =
-    (λ a. (let f : of_lines (kind_view k.kind) ≡ true = (behind_cut h.cuts (g.same.1 a)).0 in let l = lines_kind k.kind in cc), lines_told t old k.start span g h.start_rest h.start_at x)
+    (λ a. (let f : of_lines (kind_view k.kind) ≡ true = (behind_cut h.cuts (g.same.1 a)).0 in let l = lines_kind k.kind in cc), lines_told t old k.at.start span g h.start_rest h.start_at x)
 
 no_lines : (s : Text) → NoToken s → Star LineSpace s [] → ⊥
 no_lines s n no_star = n.begun refl

@@ -80,9 +80,9 @@ starts tree t u b here e w f x n = record {
 
 -- a token's turn
 pub goes_on : {N : Type 0} (tree : N → Node) (b b' : Builder N) (before mid after : Here) (t u : Text) (k : CodeToken) → Going tree b before t u → HandsOut before k mid → Moves before mid
-    → option_map held (step b.whole.rest (state_view tree b) (kind_view k.kind) k.start.rest k.end.rest) ≡ Some (held (state_view tree b')) → b'.whole ≡ b.whole → Stays mid after → Going tree b' after t u
+    → option_map held (step b.whole.rest (state_view tree b) (kind_view k.kind) k.at.start.rest k.at.end.rest) ≡ Some (held (state_view tree b')) → b'.whole ≡ b.whole → Stays mid after → Going tree b' after t u
 goes_on tree b b' before mid after t u k g h m e w y =
-    let e' = told_step b.whole.rest t before.rest mid.rest k.start.rest k.end.rest (state_view tree b) (state_view tree b') (kind_view k.kind) g.whole h.start_rest h.end_rest e in
+    let e' = told_step b.whole.rest t before.rest mid.rest k.at.start.rest k.at.end.rest (state_view tree b) (state_view tree b') (kind_view k.kind) g.whole h.start_rest h.end_rest e in
     let piece : EndsIn before.rest mid.rest = m.piece in
     let placed = placed_step t (state_view tree b) (state_view tree b') (kind_view k.kind) before.rest mid.rest e' g.placed piece in
     record {
@@ -95,11 +95,8 @@ goes_on tree b b' before mid after t u k g h m e w y =
     }
 
 -- what the builder asks of the places
-pub placed_start : {N : Type 0} (tree : N → Node) (b : Builder N) (before mid : Here) (t u : Text) (k : CodeToken) → Going tree b before t u → HandsOut before k mid → Placed (state_view tree b) k.start.rest
+pub placed_start : {N : Type 0} (tree : N → Node) (b : Builder N) (before mid : Here) (t u : Text) (k : CodeToken) → Going tree b before t u → HandsOut before k mid → Placed (state_view tree b) k.at.start.rest
 placed_start tree b before mid t u k g h = subst (λ (z : Text). Placed (state_view tree b) z) (sym h.start_rest) g.placed
-
-pub start_end : (before mid : Here) (k : CodeToken) → HandsOut before k mid → Moves before mid → EndsIn k.start.rest k.end.rest
-start_end before mid k h m = rw (h.start_rest, h.end_rest) m.piece
 
 -- a turn comes nearer to the end
 spaces_shorter : {s r : Text} → Star NodeSpace s r → length r ≤ length s
@@ -120,10 +117,10 @@ told tree b here t u place span g e f x =
 no_reading : {N : Type 0} (tree : N → Node) (b : Builder N) (here : Here) (t u : Text) → Going tree b here t u → NoToken here.rest → (d : Document) → Runs t d (initial u) u → ⊥
 no_reading tree b here t u g n d a = faults t d (state_view tree b) here.rest n.begun n.none ((g.same d).1 a)
 
-no_turn : {N : Type 0} (tree : N → Node) (b : Builder N) (before mid : Here) (t u : Text) (k : CodeToken) → Going tree b before t u → HandsOut before k mid → step b.whole.rest (state_view tree b) (kind_view k.kind) k.start.rest k.end.rest ≡ None
+no_turn : {N : Type 0} (tree : N → Node) (b : Builder N) (before mid : Here) (t u : Text) (k : CodeToken) → Going tree b before t u → HandsOut before k mid → step b.whole.rest (state_view tree b) (kind_view k.kind) k.at.start.rest k.at.end.rest ≡ None
     → (d : Document) → Runs t d (initial u) u → ⊥
 no_turn tree b before mid t u k g h e d a =
-    let e' = told_none b.whole.rest t before.rest mid.rest k.start.rest k.end.rest (state_view tree b) (kind_view k.kind) g.whole h.start_rest h.end_rest e in
+    let e' = told_none b.whole.rest t before.rest mid.rest k.at.start.rest k.at.end.rest (state_view tree b) (kind_view k.kind) g.whole h.start_rest h.end_rest e in
     refuses t d (state_view tree b) before.rest mid.rest (kind_view k.kind) h.cuts e' ((g.same d).1 a)
 
 -- the machine without data stops there
@@ -137,8 +134,8 @@ stops_there tree b before t u span g e s = record {
   stuck = s;
 }
 
-stuck_turn : {N : Type 0} (tree : N → Node) (b : Builder N) (before mid : Here) (k : CodeToken) → HandsOut before k mid → step b.whole.rest (state_view tree b) (kind_view k.kind) k.start.rest k.end.rest ≡ None → Stuck (a_state (state_view tree b)) before.rest
-stuck_turn tree b before mid k h e = stuck_cut (a_state (state_view tree b)) h.cuts (refused_step b.whole.rest (state_view tree b) (kind_view k.kind) k.start.rest k.end.rest e)
+stuck_turn : {N : Type 0} (tree : N → Node) (b : Builder N) (before mid : Here) (k : CodeToken) → HandsOut before k mid → step b.whole.rest (state_view tree b) (kind_view k.kind) k.at.start.rest k.at.end.rest ≡ None → Stuck (a_state (state_view tree b)) before.rest
+stuck_turn tree b before mid k h e = stuck_cut (a_state (state_view tree b)) h.cuts (refused_step b.whole.rest (state_view tree b) (kind_view k.kind) k.at.start.rest k.at.end.rest e)
 
 stuck_end : {N : Type 0} (tree : N → Node) (b : Builder N) (here : Here) → here.rest ≡ [] → Stuck (a_state (state_view tree b)) here.rest
 stuck_end tree b here e = inl (subst BeginsNone (sym e) (λ r k x. no_token x))
@@ -149,9 +146,9 @@ lexer_told tree b before after t u (Faulty span) g x = (no_reading tree b before
 lexer_told tree b before after t u Memory g x = tt
 
 pub take_told : {N : Type 0} (tree : N → Node) (b b' : Builder N) (before mid : Here) (t u : Text) (k : CodeToken) (e : LexFailure) → Going tree b before t u → HandsOut before k mid
-    → Did {A = Unit {0}} (step b.whole.rest (state_view tree b) (kind_view k.kind) k.start.rest k.end.rest) k.start (Err e) (state_view tree b') → AnswersParts tree t u (Err e)
+    → Did {A = Unit {0}} (step b.whole.rest (state_view tree b) (kind_view k.kind) k.at.start.rest k.at.end.rest) k.at.start (Err e) (state_view tree b') → AnswersParts tree t u (Err e)
 take_told tree b b' before mid t u k (Faulty span) g h x =
-    (no_turn tree b before mid t u k g h x.0, told tree b before t u k.start span g h.start_rest h.start_at x.1, stops_there tree b before t u span g (x.1.offset ∙ h.start_at) (stuck_turn tree b before mid k h x.0))
+    (no_turn tree b before mid t u k g h x.0, told tree b before t u k.at.start span g h.start_rest h.start_at x.1, stops_there tree b before t u span g (x.1.offset ∙ h.start_at) (stuck_turn tree b before mid k h x.0))
 take_told tree b b' before mid t u k Memory g h x = tt
 
 -- the end of the text

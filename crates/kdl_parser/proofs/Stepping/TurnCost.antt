@@ -10,6 +10,8 @@ use Rattle.kdl_entry.specs.Internal.Building.{Stays}
 use Rattle.kdl_entry.specs.Internal.Counted.{Sliced}
 use Rattle.kdl_value.specs.Data.{Value}
 use Rattle.kdl_lexer.specs.Internal.Handed.{HandsOut}
+use Rattle.kdl_lexer.specs.Internal.Order.{IsEndOf}
+use Rattle.kdl_lexer.proofs.Order.{ahead}
 use Rattle.kdl_entry.specs.Internal.Items as items
 use Rattle.kdl_entry.specs.Internal.Items.{goes, gives, opened, named, closed, keyed}
 use Rattle.kdl_lexer.specs.Tokens.{Token, space, string, value, left, right}
@@ -55,6 +57,10 @@ counting_ends (Err Memory) start before after last n g e v c d y = tt
 -- what is ahead has fewer bytes
 pub fewer : (from to : Position) → Ahead from to → bytes to.rest ≤ bytes from.rest
 fewer from to a = ahead_fewer from to a
+
+-- what follows a token has fewer bytes than what follows its start
+pub token_fewer : (from to : Position) → IsEndOf from.rest to.rest → bytes to.rest ≤ bytes from.rest
+token_fewer from to e = fewer from to (ahead from to e)
 
 -- whether it is an entry stays, where an item goes on
 abbrev entry_of : items.Item → Bool

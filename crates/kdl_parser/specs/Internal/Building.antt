@@ -47,7 +47,7 @@ abbrev pub nodes_view : {N : Type 0} → (N → Node) → Option (Vec N Global) 
 nodes_view tree o = option_map (λ v. nodes_tree tree v.items) o
 
 abbrev pub frame_view : {N : Type 0} → (N → Node) → Frame N → machine.Frame
-frame_view tree (Block under before nodes) = machine.in_block (option_map under_view under) (text_of before) (nodes_view tree nodes)
+frame_view tree (Block owner nodes) = machine.in_block (option_map under_view owner.under) (text_of owner.before) (nodes_view tree nodes)
 frame_view tree (DroppedBlock under nodes) = machine.in_dropped (option_map under_view under) (nodes_view tree nodes)
 frame_view tree (LaterBlock kept nodes) = machine.in_later (option_map (kept_view tree) kept) (nodes_view tree nodes)
 

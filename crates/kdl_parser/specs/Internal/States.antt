@@ -1,15 +1,14 @@
 -- The states to which the builder's methods bring it, in terms of the machine, and what is not sliced there yet.
 -- A token is at s and ends at r.
-use Rattle.std.specs.Prelude.{ℕ, Bool, true, false, if◌then◌else◌, [], ◌∷◌, Option, Some, None, option_map, Result}
+use Rattle.std.specs.Prelude.{◌≡◌, ℕ, Bool, true, false, if◌then◌else◌, [], ◌∷◌, Option, Some, None, option_map, Result}
 use Rattle.std.specs.declared.alloc.Global.{Global}
-use Rattle.std.specs.declared.string.String.{String}
 use Rattle.std.specs.declared.vec.Vec.{Vec}
 use Rattle.kdl_text.specs.Chars.{Text}
 use Rattle.kdl_text.specs.Internal.Here.{Here, Position}
 use Rattle.kdl_text.specs.Spans.{bytes}
 use Rattle.kdl_value.specs.Data.{Value}
 use Rattle.kdl_value.specs.Tree.{text_of}
-use Rattle.kdl_entry.specs.Internal.Building.{item_view}
+use Rattle.kdl_entry.specs.Internal.Building.{item_view, Stays}
 use Rattle.kdl_entry.specs.Internal.Counted.{Sliced}
 use Rattle.kdl_lexer.specs.Internal.Handed.{kind_view}
 use Rattle.kdl_entry.specs.Internal.Items as items
@@ -18,18 +17,19 @@ use Rattle.kdl_entry.specs.Places.{between}
 use Rattle.kdl_entry.specs.Tree.{plain_identifier}
 use Rattle.kdl_lexer.specs.declared.lexer.LexFailure.{LexFailure}
 use Rattle.kdl_lexer.specs.declared.lexer.TokenKind.{TokenKind}
+use Rattle.kdl_lexer.specs.declared.token_span.TokenSpan.{TokenSpan}
 use Rattle.kdl_grammar.specs.Internal.Machine as machine
 use Rattle.kdl_grammar.specs.Internal.Machine.{State, at}
 use Rattle.kdl_grammar.specs.Tree.{Node, Nodes, Document, no_children}
 use Rattle.kdl_parser.specs.Internal.Building.{under_view, kept_view, nodes_view, frames_view, node_now, pending_now, name_slot, entry_slot, item_answer, state_view, Did, Does}
 use Rattle.kdl_parser.specs.Internal.Counted.{up_to, unsliced, SlicedOn}
+use Rattle.kdl_parser.specs.declared.builder.BlockOwner.{BlockOwner}
 use Rattle.kdl_parser.specs.declared.builder.Builder.{Builder}
 use Rattle.kdl_parser.specs.declared.builder.Slot.{Slot}
-use Rattle.kdl_parser.specs.declared.builder.Under.{Under}
 
 -- the machine's step at a token of the kind
-abbrev pub token_step : {N : Type 0} → (N → Node) → Builder N → TokenKind → Position → Position → Option State
-token_step tree b kind s r = machine.step b.whole.rest (state_view tree b) (kind_view kind) s.rest r.rest
+abbrev pub token_step : {N : Type 0} → (N → Node) → Builder N → TokenKind → TokenSpan → Option State
+token_step tree b kind span = machine.step b.whole.rest (state_view tree b) (kind_view kind) span.start.rest span.end.rest
 
 -- what a token of the kind does inside an item
 abbrev pub item_step : {N : Type 0} → (N → Node) → Builder N → TokenKind → Position → Position → Option State
@@ -88,18 +88,18 @@ abbrev pub later_opened : {N : Type 0} → (N → Node) → Builder N → State
 later_opened tree b = at machine.gap None (machine.in_later (kept_now tree b) (nodes_view tree b.nodes) ∷ frames_view tree b) b.from.rest
 
 -- after the block of the node, which ends with the token, and among the nodes before that node
-abbrev pub block_closed : {N : Type 0} → (N → Node) → Builder N → Option Under → String Global → Option (Vec N Global) → Position → Position → State
-block_closed tree b under before nodes s r =
-    at (machine.kept (machine.with_block b.whole.rest (option_map under_view under) (text_of before) (nodes_view tree b.nodes) (between b.from.rest s.rest) s.rest))
-    (nodes_view tree nodes) (frames_view tree b) (machine.origin (option_map under_view under) b.from.rest r.rest)
+abbrev pub block_closed : {N : Type 0} → (N → Node) → Builder N → BlockOwner → Option (Vec N Global) → Position → Position → State
+block_closed tree b owner nodes s r =
+    at (machine.kept (machine.with_block b.whole.rest (option_map under_view owner.under) (text_of owner.before) (nodes_view tree b.nodes) (between b.from.rest s.rest) s.rest))
+    (nodes_view tree nodes) (frames_view tree b) (machine.origin (option_map under_view owner.under) b.from.rest r.rest)
 
 -- the slot of a string that begins a node here
 abbrev pub node_slot : {N : Type 0} → Builder N → Bool → Position → machine.Slot
-node_slot b counts s = name_slot counts (between b.from.rest s.rest) s.rest
+node_slot b kept s = name_slot kept (between b.from.rest s.rest) s.rest
 
 -- the slot of a value that is an argument of the current node
 abbrev pub argument_slot : {N : Type 0} → Builder N → Bool → Position → machine.Slot
-argument_slot b counts s = entry_slot counts (node_now b) (between b.from.rest s.rest) s.rest None
+argument_slot b kept s = entry_slot kept (node_now b) (between b.from.rest s.rest) s.rest None
 
 -- the slot of a name, or of a value with its key
 abbrev pub named_slot : Slot → machine.Slot
@@ -133,11 +133,11 @@ dropped_property tree b r = in_phase tree b (machine.property (machine.no_value 
 
 -- inside the `(` of a type before the name of a node
 abbrev pub name_opened : {N : Type 0} → (N → Node) → Builder N → Bool → Position → Position → State
-name_opened tree b counts s r = in_phase tree b (machine.type_open false (node_slot b counts s) r.rest)
+name_opened tree b kept s r = in_phase tree b (machine.type_open false (node_slot b kept s) r.rest)
 
 -- inside the `(` of a type before a value
 abbrev pub value_opened : {N : Type 0} → (N → Node) → Builder N → Bool → Position → Position → State
-value_opened tree b counts s r = in_phase tree b (machine.type_open true (argument_slot b counts s) r.rest)
+value_opened tree b kept s r = in_phase tree b (machine.type_open true (argument_slot b kept s) r.rest)
 
 -- the document if the text ends here
 abbrev pub document_now : {N : Type 0} → (N → Node) → Builder N → Option Document
@@ -151,21 +151,23 @@ document_of_nodes tree b = machine.at_end b.whole.rest (nodes_view tree b.nodes)
 abbrev pub spot_of : Here → Position
 spot_of here = record { rest = here.rest; at = here.at }
 
+-- a step at a token that is at s, given the machine's result o: the text and the lexer's place stay, and of the n bytes that were not sliced yet all may have been sliced but those that are still not
+pub record Steps {N : Type 0} (tree : N → Node) (o : Option State) (s : Position) (n : ℕ) (old : Builder N) (result : Result (Unit {0}) LexFailure) (new : Builder N) (before behind : Here) : Type 0 where
+  pub did : Did o s result (state_view tree new)
+  pub whole : new.whole ≡ old.whole
+  pub stays : Stays before behind
+  pub sliced : SlicedOn result n (unsliced new) before behind
+
+-- a step that never refuses a token, to the state want
+pub record Reaches {N : Type 0} (tree : N → Node) (want : State) (n : ℕ) (old : Builder N) (result : Result (Unit {0}) LexFailure) (new : Builder N) (before behind : Here) : Type 0 where
+  pub did : Does want result (state_view tree new)
+  pub whole : new.whole ≡ old.whole
+  pub stays : Stays before behind
+  pub sliced : SlicedOn result n (unsliced new) before behind
+
 -- what a token of the kind did, given the machine's step
-abbrev pub Takes : {A N : Type 0} → (N → Node) → Builder N → TokenKind → Position → Position → Result A LexFailure → Builder N → Type 0
-Takes tree old kind s r result new = Did (token_step tree old kind s r) s result (state_view tree new)
-
--- a step at a token that is at s, given the machine's result o
-abbrev pub Steps : {A N : Type 0} → (N → Node) → Option State → Position → Result A LexFailure → Builder N → Type 0
-Steps tree o s result new = Did o s result (state_view tree new)
-
--- a step that never refuses a token, to that state
-abbrev pub Reaches : {A N : Type 0} → (N → Node) → State → Result A LexFailure → Builder N → Type 0
-Reaches tree want result new = Does want result (state_view tree new)
-
--- of the m bytes that were not sliced yet, all may have been sliced but those that are still not
-abbrev pub Slices : {A N : Type 0} → ℕ → Result A LexFailure → Builder N → Here → Here → Type 0
-Slices m result new before behind = SlicedOn result m (unsliced new) before behind
+abbrev pub Takes : {N : Type 0} → (N → Node) → Builder N → TokenKind → TokenSpan → Result (Unit {0}) LexFailure → Builder N → Here → Here → Type 0
+Takes tree old kind span result new before behind = Steps tree (token_step tree old kind span) span.start (unsliced old) old result new before behind
 
 -- the bytes not sliced after a name that begins at s, if it is kept, and else after the start of the current place
 abbrev pub name_unsliced : {N : Type 0} → Builder N → Bool → Position → ℕ

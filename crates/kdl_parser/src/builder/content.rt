@@ -17,11 +17,11 @@ ghost use Rattle.kdl_text.specs.Spans.{bytes};
 ghost use Rattle.kdl_parser.specs.declared.builder.Waiting.{Waiting};
 ghost use Rattle.std.specs.Prelude.{◌≡◌, [], ◌∷◌, ◌++◌, Some, None, true, IfOk, OnOk, option_map};
 
-use super::{Kept, Slot, Under, Waiting, WaitingWord};
+use super::{BlockOwner, Builder, Kept, Slot, Under, Waiting, WaitingWord};
 use crate::node_parts::{DocumentParts, NodeParts, ParsedNode};
 use kdl_entry::items::item::{Given, Item, Owner, Stage, empty, entry_from, span_at, text_between};
 use kdl_entry::{KdlEntry, KdlValue};
-use kdl_lexer::Lexer;
+use kdl_lexer::{Lexer, TokenSpan};
 use kdl_text::cursor::Checkpoint;
 use kdl_text::span::SourceSpan;
 use std::alloc::{AllocError, Global};
@@ -75,55 +75,29 @@ pub(super) fn settle<'a>(
     if let Some(under) = under {
         let repr = repr.to_string(alloc)?;
         let span = span_at(whole, &start, from);
-        let value = KdlValue::String(value);
-        let entry = entry_from(alloc, span, leading, None, None, value, repr);
+        let given = lone(KdlValue::String(value));
+        let entry = entry_from(alloc, span, leading, given, repr);
         add(&mut under.entries, entry)?;
     }
     Ok(())
 }
 
-/// Creates an entry whose value is between two places.
-#[inline]
-pub(super) fn entry_between<'a>(
-    alloc: Global,
-    lexer: &mut Lexer<'a>,
-    whole: &Checkpoint<'a>,
-    slot: Slot<'a>,
-    given: Given,
-    start: &Checkpoint<'a>,
-    end: &Checkpoint<'a>,
-) -> Result<KdlEntry, AllocError>
-    requires { Ahead start.now end.now }
-    ensures is { IfOk result (λ e. entry_tree e ≡ entry_at
-        (span_of whole.now.rest slot.entry.start.rest end.now.rest) (text_of slot.entry.leading)
-        (option_map key_view given.key) (option_map type_view given.ty) (value_tree given.value)
-        (between start.now.rest end.now.rest)) }
-    ensures stays { Stays lexer.old lexer.new }
-    ensures sliced { Sliced (bytes start.now.rest) (bytes end.now.rest) lexer.old lexer.new }
-{
-    let repr = match text_between(alloc, lexer, start, end) {
-        Ok(repr) => repr,
-        Err(e) => {
-            drop(slot);
-            drop(given);
-            return Err(e);
-        }
-    };
-    let span = span_at(whole, &slot.start, end);
-    let Given { key, ty, value } = given;
-    Ok(entry_from(alloc, span, slot.leading, key, ty, value, repr))
-}
-
-/// Creates a node from what was read of it, its block and the texts after its entries.
-#[inline(always)]
-pub(super) fn node_from<N: ParsedNode>(
-    alloc: Global,
-    under: Under,
-    children: Option<DocumentParts<N>>,
-    before_children: String,
-    before_terminator: String,
+/// How a node ends: the text before its terminator, the terminator, and the span of the node.
+#[derive(Drop)]
+struct NodeEnd {
+    before: String,
     terminator: String,
     span: SourceSpan,
+}
+
+/// Creates a node from what was read of it, its block, the text before the block, and its end.
+#[inline(always)]
+fn node_from<N: ParsedNode>(
+    alloc: Global,
+    under: Under,
+    before_children: String,
+    children: Option<DocumentParts<N>>,
+    end: NodeEnd,
 ) -> N
     ensures { N.tree result ≡ node_by N.tree (record {
       leading = under.entry.leading;
@@ -132,9 +106,9 @@ pub(super) fn node_from<N: ParsedNode>(
       entries = under.entry.entries;
       before_children = before_children;
       children = children;
-      before_terminator = before_terminator;
-      terminator = terminator;
-      span = span;
+      before_terminator = end.before;
+      terminator = end.terminator;
+      span = end.span;
     }) }
 {
     let Under {
@@ -145,6 +119,11 @@ pub(super) fn node_from<N: ParsedNode>(
         mut entries,
     } = under;
     entries.shrink_to_fit();
+    let NodeEnd {
+        before: before_terminator,
+        terminator,
+        span,
+    } = end;
     N::from_parts(
         alloc,
         NodeParts {
@@ -175,84 +154,6 @@ fn push_node<N: ParsedNode>(nodes: &mut Option<Vec<N>>, node: N) -> Result<(), A
             Ok(())
         }
     }
-}
-
-/// Takes the current node, which ends at `start`, with its terminator, and appends it to the nodes, if it is kept.
-pub(super) fn push_ended<'a, N: ParsedNode>(
-    alloc: Global,
-    lexer: &mut Lexer<'a>,
-    whole: &Checkpoint<'a>,
-    from: &Checkpoint<'a>,
-    under: &mut Option<Under<'a>>,
-    nodes: &mut Option<Vec<N>>,
-    start: &Checkpoint<'a>,
-    end: &Checkpoint<'a>,
-) -> Result<(), AllocError>
-    requires from { Ahead from.now start.now }
-    requires token { Ahead start.now end.now }
-    ensures is { OnOk result (nodes_view N.tree nodes.new ≡ machine.ended
-        (machine.closed whole.now.rest (option_map under_view under.old) no_children []
-        (between from.now.rest start.now.rest) (between start.now.rest end.now.rest)
-        start.now.rest)
-        (nodes_view N.tree nodes.old)) }
-    ensures taken { OnOk result (under.new ≡ None) }
-    ensures stays { Stays lexer.old lexer.new }
-    ensures sliced { OnOk result (SlicedUpTo under.old from.now end.now lexer.old lexer.new) }
-{
-    if under.is_none() {
-        return Ok(());
-    }
-    let before = text_between(alloc, lexer, from, start)?;
-    let terminator = text_between(alloc, lexer, start, end)?;
-    let Some(under) = under.take() else {
-        return Ok(());
-    };
-    let span = span_at(whole, &under.start, start);
-    let node = node_from(alloc, under, None, empty(alloc), before, terminator, span);
-    push_node(nodes, node)
-}
-
-/// Takes the node with its block, which ends at `start`, with its terminator, and appends it to the nodes, if it is
-/// kept.
-pub(super) fn push_kept<'a, N: ParsedNode>(
-    alloc: Global,
-    lexer: &mut Lexer<'a>,
-    whole: &Checkpoint<'a>,
-    from: &Checkpoint<'a>,
-    kept: &mut Option<Kept<'a, N>>,
-    nodes: &mut Option<Vec<N>>,
-    start: &Checkpoint<'a>,
-    end: &Checkpoint<'a>,
-) -> Result<(), AllocError>
-    requires from { Ahead from.now start.now }
-    requires token { Ahead start.now end.now }
-    ensures is { OnOk result (nodes_view N.tree nodes.new ≡ machine.ended
-        (machine.closed_kept whole.now.rest (option_map (kept_view N.tree) kept.old)
-        (between from.now.rest start.now.rest) (between start.now.rest end.now.rest)
-        start.now.rest)
-        (nodes_view N.tree nodes.old)) }
-    ensures taken { OnOk result (kept.new ≡ None) }
-    ensures stays { Stays lexer.old lexer.new }
-    ensures sliced { OnOk result (SlicedUpTo kept.old from.now end.now lexer.old lexer.new) }
-{
-    if kept.is_none() {
-        return Ok(());
-    }
-    let later = text_between(alloc, lexer, from, start)?;
-    let terminator = text_between(alloc, lexer, start, end)?;
-    let Some(
-        Kept {
-            under,
-            before,
-            block,
-        },
-    ) = kept.take()
-    else {
-        return Ok(());
-    };
-    let span = span_at(whole, &under.start, start);
-    let node = node_from(alloc, under, Some(block), before, later, terminator, span);
-    push_node(nodes, node)
 }
 
 /// The span from the start of the first node to the end of the last one; without nodes the given span.
@@ -305,50 +206,201 @@ pub(super) fn content<N: ParsedNode>(
     }
 }
 
-/// The node with the block of these nodes, if they are kept.
-#[tactic(auto, using(crate::proofs::Stepping::TurnCost::fewer))]
-pub(super) fn with_block<'a, N: ParsedNode>(
-    alloc: Global,
-    lexer: &mut Lexer<'a>,
-    whole: &Checkpoint<'a>,
-    from: &Checkpoint<'a>,
-    under: Option<Under<'a>>,
-    before: String,
-    nodes: Option<Vec<N>>,
-    start: &Checkpoint<'a>,
-) -> Result<Option<Kept<'a, N>>, AllocError>
-    requires { Ahead from.now start.now }
-    ensures is { IfOk result (λ o. option_map (kept_view N.tree) o ≡ machine.with_block
-        whole.now.rest (option_map under_view under.entry) (text_of before)
-        (nodes_view N.tree nodes) (between from.now.rest start.now.rest) start.now.rest) }
-    ensures stays { Stays lexer.old lexer.new }
-    ensures sliced { OnOk result (SlicedUpTo under.entry from.now start.now lexer.old lexer.new) }
-{
-    let Some(under) = under else {
-        drop(before);
-        drop(nodes);
-        return Ok(None);
-    };
-    let Some(nodes) = nodes else {
-        drop(under);
-        drop(before);
-        return Ok(None);
-    };
-    let place = match text_between(alloc, lexer, from, start) {
-        Ok(place) => place,
-        Err(e) => {
-            drop(under);
+impl<'a, N: ParsedNode> Builder<'a, N> {
+    /// Creates an entry whose value is the token.
+    #[inline]
+    #[tactic(auto, using(kdl_lexer::proofs::Order::ahead))]
+    pub(super) fn entry_between(
+        &self,
+        lexer: &mut Lexer<'a>,
+        slot: Slot<'a>,
+        given: Given,
+        at: &TokenSpan<'a>,
+    ) -> Result<KdlEntry, AllocError>
+        ensures is { IfOk result (λ e. entry_tree e ≡ entry_at
+            (span_of self.now.whole.rest slot.entry.start.rest at.now.end.rest)
+            (text_of slot.entry.leading) (option_map key_view given.key)
+            (option_map type_view given.ty) (value_tree given.value)
+            (between at.now.start.rest at.now.end.rest)) }
+        ensures stays { Stays lexer.old lexer.new }
+        ensures sliced { Sliced (bytes at.now.start.rest) (bytes at.now.end.rest) lexer.old
+            lexer.new }
+    {
+        let repr = match text_between(self.alloc, lexer, &at.start, &at.end) {
+            Ok(repr) => repr,
+            Err(e) => {
+                drop(slot);
+                drop(given);
+                return Err(e);
+            }
+        };
+        let span = span_at(&self.whole, &slot.start, &at.end);
+        Ok(entry_from(self.alloc, span, slot.leading, given, repr))
+    }
+
+    /// The nodes, with the text of the current place, which ends here.
+    pub(super) fn content_up_to(
+        &self,
+        lexer: &mut Lexer<'a>,
+        nodes: Vec<N>,
+        end: &Checkpoint<'a>,
+    ) -> Result<DocumentParts<N>, AllocError>
+        requires { Ahead self.now.from end.now }
+        ensures is { IfOk result (λ d. document_by N.tree d ≡ machine.content_at
+            self.now.whole.rest (nodes_tree N.tree nodes.items)
+            (between self.now.from.rest end.now.rest) end.now.rest) }
+        ensures stays { Stays lexer.old lexer.new }
+        ensures sliced { Sliced (bytes self.now.from.rest) (bytes end.now.rest) lexer.old
+            lexer.new }
+    {
+        match text_between(self.alloc, lexer, &self.from, end) {
+            Ok(place) => Ok(content(self.alloc, &self.whole, nodes, place, end)),
+            Err(e) => {
+                drop(nodes);
+                Err(e)
+            }
+        }
+    }
+
+    /// The node with the block of these nodes, which ends here, if they are kept.
+    #[tactic(auto, using(crate::proofs::Stepping::TurnCost::fewer))]
+    pub(super) fn with_block(
+        &self,
+        lexer: &mut Lexer<'a>,
+        owner: BlockOwner<'a>,
+        nodes: Option<Vec<N>>,
+        end: &Checkpoint<'a>,
+    ) -> Result<Option<Kept<'a, N>>, AllocError>
+        requires { Ahead self.now.from end.now }
+        ensures is { IfOk result (λ o. option_map (kept_view N.tree) o ≡ machine.with_block
+            self.now.whole.rest (option_map under_view owner.entry.under)
+            (text_of owner.entry.before) (nodes_view N.tree nodes)
+            (between self.now.from.rest end.now.rest) end.now.rest) }
+        ensures stays { Stays lexer.old lexer.new }
+        ensures sliced { OnOk result
+            (SlicedUpTo owner.entry.under self.now.from end.now lexer.old lexer.new) }
+    {
+        let BlockOwner { under, before } = owner;
+        let Some(under) = under else {
             drop(before);
             drop(nodes);
-            return Err(e);
+            return Ok(None);
+        };
+        let Some(nodes) = nodes else {
+            drop(under);
+            drop(before);
+            return Ok(None);
+        };
+        match self.content_up_to(lexer, nodes, end) {
+            Ok(block) => Ok(Some(Kept {
+                under,
+                before,
+                block,
+            })),
+            Err(e) => {
+                drop(under);
+                drop(before);
+                Err(e)
+            }
         }
-    };
-    let block = content(alloc, whole, nodes, place, start);
-    Ok(Some(Kept {
-        under,
-        before,
-        block,
-    }))
+    }
+
+    /// How the node ends whose terminator is the token.
+    #[inline(always)]
+    #[tactic(auto, using(kdl_lexer::proofs::Order::ahead))]
+    fn node_end(
+        &self,
+        lexer: &mut Lexer<'a>,
+        under: &Under<'a>,
+        at: &TokenSpan<'a>,
+    ) -> Result<NodeEnd, AllocError>
+        requires from { Ahead self.now.from at.now.start }
+        ensures before { IfOk result
+            (λ n. text_of n.before ≡ between self.now.from.rest at.now.start.rest) }
+        ensures terminator { IfOk result
+            (λ n. text_of n.terminator ≡ between at.now.start.rest at.now.end.rest) }
+        ensures span { IfOk result
+            (λ n. n.span ≡ span_of self.now.whole.rest under.now.start.rest at.now.start.rest) }
+        ensures stays { Stays lexer.old lexer.new }
+        ensures sliced { OnOk result
+            (Sliced (bytes self.now.from.rest) (bytes at.now.end.rest) lexer.old lexer.new) }
+    {
+        let before = text_between(self.alloc, lexer, &self.from, &at.start)?;
+        let terminator = text_between(self.alloc, lexer, &at.start, &at.end)?;
+        let span = span_at(&self.whole, &under.start, &at.start);
+        Ok(NodeEnd {
+            before,
+            terminator,
+            span,
+        })
+    }
+
+    /// Takes the current node, whose terminator is the token, and appends it to the nodes, if it is kept.
+    pub(super) fn push_ended(
+        &mut self,
+        lexer: &mut Lexer<'a>,
+        at: &TokenSpan<'a>,
+    ) -> Result<(), AllocError>
+        requires from { Ahead self.old.from at.now.start }
+        ensures is { OnOk result (nodes_view N.tree self.new.nodes ≡ machine.ended
+            (machine.closed self.old.whole.rest (option_map under_view self.old.under) no_children
+            [] (between self.old.from.rest at.now.start.rest) (between at.now.start.rest at.now.end.rest)
+            at.now.start.rest)
+            (nodes_view N.tree self.old.nodes)) }
+        ensures rest { OnOk result (self.new ≡
+            record self.old { under = None; nodes = self.new.nodes }) }
+        ensures whole { self.new.whole ≡ self.old.whole }
+        ensures stays { Stays lexer.old lexer.new }
+        ensures sliced { OnOk result
+            (SlicedUpTo self.old.under self.old.from at.now.end lexer.old lexer.new) }
+    {
+        let Some(under) = &self.under else {
+            return Ok(());
+        };
+        let ending = self.node_end(lexer, under, at)?;
+        let Some(under) = self.under.take() else {
+            return Ok(());
+        };
+        let node = node_from(self.alloc, under, empty(self.alloc), None, ending);
+        push_node(&mut self.nodes, node)
+    }
+
+    /// Takes the node with its block, whose terminator is the token, and appends it to the nodes, if it is kept.
+    pub(super) fn push_kept(
+        &mut self,
+        lexer: &mut Lexer<'a>,
+        at: &TokenSpan<'a>,
+    ) -> Result<(), AllocError>
+        requires from { Ahead self.old.from at.now.start }
+        ensures is { OnOk result (nodes_view N.tree self.new.nodes ≡ machine.ended
+            (machine.closed_kept self.old.whole.rest (option_map (kept_view N.tree) self.old.kept)
+            (between self.old.from.rest at.now.start.rest) (between at.now.start.rest at.now.end.rest)
+            at.now.start.rest)
+            (nodes_view N.tree self.old.nodes)) }
+        ensures rest { OnOk result (self.new ≡
+            record self.old { kept = None; nodes = self.new.nodes }) }
+        ensures whole { self.new.whole ≡ self.old.whole }
+        ensures stays { Stays lexer.old lexer.new }
+        ensures sliced { OnOk result
+            (SlicedUpTo self.old.kept self.old.from at.now.end lexer.old lexer.new) }
+    {
+        let Some(kept) = &self.kept else {
+            return Ok(());
+        };
+        let ending = self.node_end(lexer, &kept.under, at)?;
+        let Some(
+            Kept {
+                under,
+                before,
+                block,
+            },
+        ) = self.kept.take()
+        else {
+            return Ok(());
+        };
+        let node = node_from(self.alloc, under, before, Some(block), ending);
+        push_node(&mut self.nodes, node)
+    }
 }
 
 /// A value without a type and a key.
@@ -362,6 +414,15 @@ pub(super) fn lone(value: KdlValue) -> Given
         ty: None,
         value,
     }
+}
+
+/// The empty span at the place.
+#[inline(always)]
+pub(super) fn nothing_at<'a>(place: &Checkpoint<'a>) -> TokenSpan<'a>
+    ensures start { result.start ≡ place.now }
+    ensures end { result.end ≡ place.now }
+{
+    TokenSpan::new(place.copied(), place.copied())
 }
 
 /// Whether the item is an entry, and not the name of a node.

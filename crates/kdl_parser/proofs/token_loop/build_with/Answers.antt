@@ -1,7 +1,7 @@
 use Rattle.std.proofs.Common.{refl}
 use Rattle.kdl_parser.specs.Internal.Counted.{unsliced}
 use Rattle.kdl_parser.proofs.Stepping.TurnCost.{counting_starts, counting_goes_on}
-use Rattle.kdl_parser.proofs.Answering.TokenLoop.{starts, goes_on}
+use Rattle.kdl_parser.proofs.Answering.TokenLoop.{starts, goes_on, nearer}
 use Rattle.kdl_parser.proofs.token_loop.build_with.Goals as goal
 
 pub tokens-init : goal.tokens-init
@@ -14,6 +14,9 @@ pub tokens-preserved : goal.tokens-preserved
 tokens-preserved g c =
     let handed = rw c.in-Some.is at c.in_ok-token.ensures.lexed in
     let costs = rw c.in-Some.is at c.in_ok-token.ensures.costs in (
-      goes_on g.N.ParsedNode.tree c.tokens.builder c.take.new.self c.tokens.lexer c.next.new.self c.take.new.lexer _ _ c.in-Some.token c.tokens.invariant.0 handed c.next.ensures.moves c.in_ok-take.ensures.did c.take.ensures.whole c.take.ensures.stays,
-      counting_goes_on _ c.tokens.lexer c.next.new.self c.take.new.lexer c.in-Some.token _ _ c.tokens.invariant.1 handed c.next.ensures.moves costs c.in_ok-take.ensures.sliced c.take.ensures.stays,
+      goes_on g.N.ParsedNode.tree c.tokens.builder c.take.new.self c.tokens.lexer c.next.new.self c.take.new.lexer _ _ c.in-Some.token c.tokens.invariant.0 handed c.next.ensures.moves c.in_ok-take.ensures.takes.did c.take.ensures.takes.whole c.take.ensures.takes.stays,
+      counting_goes_on _ c.tokens.lexer c.next.new.self c.take.new.lexer c.in-Some.token _ _ c.tokens.invariant.1 handed c.next.ensures.moves costs c.in_ok-take.ensures.takes.sliced c.take.ensures.takes.stays,
     )
+
+pub tokens-smaller : goal.tokens-smaller
+tokens-smaller g c = nearer c.tokens.lexer c.next.new.self c.take.new.lexer c.in-Some.token (rw c.in-Some.is at c.in_ok-token.ensures.lexed) c.take.ensures.takes.stays

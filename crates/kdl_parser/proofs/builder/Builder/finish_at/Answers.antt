@@ -9,11 +9,11 @@ use Rattle.kdl_parser.proofs.builder.Builder.finish_at.Goals as goal
 
 pub finish_nodes-requires-in-Fresh-clause-from : goal.finish_nodes-requires-in-Fresh-clause-from
 finish_nodes-requires-in-Fresh-clause-from g c =
-    origin_ends (node_now c.args.self.now) c.args.self.now.from.rest c.end_node.new.self.from.rest c.args.here.now.rest (ap from_of c.in_ok-end_node-in-Fresh.ensures.ended ∙ ap (λ (z : Position). origin (node_now c.args.self.now) c.args.self.now.from.rest z.rest) c.copied.ensures) c.requires.from
+    origin_ends (node_now c.args.self.now) c.args.self.now.from.rest c.end_node.new.self.from.rest c.args.here.now.rest (ap from_of c.in_ok-end_node-in-Fresh.ensures.ended.did ∙ ap (λ (z : Position). origin (node_now c.args.self.now) c.args.self.now.from.rest z.rest) c.nothing_at.ensures.end) c.requires.from
 
 pub finish_nodes-requires-in-Behind-clause-from : goal.finish_nodes-requires-in-Behind-clause-from
 finish_nodes-requires-in-Behind-clause-from g c =
-    origin_ends (option_map (kept_view g.N.ParsedNode.tree) c.args.self.now.kept) c.args.self.now.from.rest c.end_kept.new.self.from.rest c.args.here.now.rest (ap from_of c.in_ok-end_kept-in-Behind.ensures.ended ∙ ap (λ (z : Position). origin (option_map (kept_view g.N.ParsedNode.tree) c.args.self.now.kept) c.args.self.now.from.rest z.rest) c.copied-in-Behind.ensures) c.requires.from
+    origin_ends (option_map (kept_view g.N.ParsedNode.tree) c.args.self.now.kept) c.args.self.now.from.rest c.end_kept.new.self.from.rest c.args.here.now.rest (ap from_of c.in_ok-end_kept-in-Behind.ensures.ended.did ∙ ap (λ (z : Position). origin (option_map (kept_view g.N.ParsedNode.tree) c.args.self.now.kept) c.args.self.now.from.rest z.rest) c.nothing_at-in-Behind.ensures.end) c.requires.from
 
 pub returns-in-InItem-clause-finished : goal.returns-in-InItem-clause-finished
 returns-in-InItem-clause-finished g c =

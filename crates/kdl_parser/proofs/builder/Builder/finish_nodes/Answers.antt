@@ -1,5 +1,5 @@
-use Rattle.std.proofs.Common.{ap, sym}
-use Rattle.kdl_value.specs.Tree.{text_of}
+use Rattle.std.proofs.Common.{ap, refl, sym}
+use Rattle.kdl_entry.specs.Places.{between}
 use Rattle.kdl_parser.specs.Internal.Building.{nodes_view}
 use Rattle.kdl_parser.specs.Internal.Parts.{nodes_tree, document_by}
 use Rattle.kdl_parser.proofs.Stepping.Views.{one_open, all_closed}
@@ -15,5 +15,6 @@ pub returns-clause-finished : goal.returns-clause-finished
 returns-clause-finished g c =
     let self = c.args.self.now in
     let tree = g.N.ParsedNode.tree in
-    all_closed tree self.whole.rest self.from.rest c.args.here.now.rest (text_of c.in_ok-place.place) (nodes_view tree self.nodes) (nodes_tree tree c.in-Some.nodes.items) self.frames.items self.frames.len (document_by tree c.content.result)
-    self.frames.ok.0 c.if-not-is_empty.ensures (ap (nodes_view tree) (sym c.in-Some.ensures.value)) c.content.ensures c.in_ok-place.ensures.text c.requires.end
+    let end = c.args.here.now.rest in
+    all_closed tree self.whole.rest self.from.rest end (between self.from.rest end) (nodes_view tree self.nodes) (nodes_tree tree c.in-Some.nodes.items) self.frames.items self.frames.len (document_by tree c.in_ok-document.document)
+    self.frames.ok.0 c.if-not-is_empty.ensures (ap (nodes_view tree) (sym c.in-Some.ensures.value)) c.in_ok-document.ensures.is refl c.requires.end
