@@ -8,7 +8,7 @@ ghost use Rattle.kdl_grammar.specs.Data.{Nodes};
 ghost use Rattle.kdl_grammar.specs.Grammar.{IsDocument, IsNodeText};
 ghost use Rattle.kdl_grammar.specs.Laid.{LaidNodeText};
 ghost use Rattle.kdl_grammar.specs.Internal.Machine.{AnswersDocument};
-ghost use Rattle.kdl_parser.specs.Earliest.{EarliestOnSyntax};
+ghost use Rattle.kdl_parser.specs.Earliest.{EarliestOnSyntax, NodeEarliestOnSyntax};
 ghost use Rattle.kdl_text.specs.Failures.{IsSyntax, TellsOnSyntax};
 ghost use Rattle.kdl_text.specs.Spans.{raise};
 ghost use Rattle.std.specs.Prelude.{◌≡◌, ◌+◌, ◌*◌, ◌≤◌, length, true, IfOk, OnOk};
@@ -43,6 +43,7 @@ fn read_node(alloc: Global, text: &str) -> Result<KdlNode, ParseFailure>
     ensures laid { IfOk result (λ n. LaidNodeText true (chars text.now) (node_tree n)) }
     ensures refused { IsSyntax result → (x : data'.Node) → IsNodeText true (chars text.now) x → ⊥ }
     ensures told { TellsOnSyntax text.now result }
+    ensures earliest { NodeEarliestOnSyntax text.now result }
 {
     match read_node_text(alloc, text) {
         Ok(text) => Ok(KdlNode::from_text(text)),
@@ -180,8 +181,8 @@ impl KdlNode {
     /// have only line-spaces, which are its trailing text. The span is the whole text, in bytes.
     ///
     /// Returns `Syntax` if the text is not a node. The error has a diagnostic for each fault, and at least one: a
-    /// second node, where reading ends, and the end of a text that has no node, are reported too. Returns `Memory` if
-    /// an allocation fails.
+    /// second node, where reading ends, and the end of a text that has no node, are reported too. The first diagnostic
+    /// is near the earliest fault that the text can have. Returns `Memory` if an allocation fails.
     ///
     /// ```
     /// let node = KdlNode::parse(alloc, "// the port\nport 8080\n")?;
@@ -204,6 +205,9 @@ impl KdlNode {
         ensures refused { IsSyntax result → (x : data'.Node)
             → IsNodeText true (chars text.now) x → ⊥ }
         ensures told { TellsOnSyntax text.now result }
+        // The first diagnostic is near the place where the text is refused: what is before that place begins a node
+        // text.
+        ensures earliest { NodeEarliestOnSyntax text.now result }
         // A text of the former language is not refused, and is read as before.
         ensures kept { (x : data'.Node) → IsFormerNodeText (chars text.now) x
             → IsSyntax result → ⊥ }

@@ -7,7 +7,8 @@ use Rattle.kdl_text.specs.Trivia.{LineSpace}
 use Rattle.kdl_lexer.specs.Tokens.{Token, space, newline, slashdash, string, value, left, right, opening, closing, equals, semicolon, bom, BeginsToken, t_space, t_newline, t_right, t_opening, t_closing, t_semicolon, done}
 use Rattle.kdl_lexer.proofs.Lexing.TokenUnique.{token_det, no_token}
 use Rattle.kdl_grammar.specs.Data.{Nodes}
-use Rattle.kdl_grammar.specs.GoingOn.{NeverGoesOn, DerivedNode, NodeAlive, NodeDeadAtToken}
+use Rattle.kdl_lexer.specs.Earliest.{BeginsNoOther}
+use Rattle.kdl_grammar.specs.GoingOn.{DerivedNode, NodeAlive, NodeDeadAtToken}
 use Rattle.kdl_grammar.specs.Grammar.{AreNodes, last_gap, node_then, node_text}
 use Rattle.kdl_control.specs.Control.{fresh, spaced, later, Phase, gap, node_slashdash, type_open, type_name, type_done, in_node, property, entry_slashdash, block_slashdash, kept, kept_slashdash, Frame, in_block, in_dropped, in_later, Control, at, step, finish}
 use Rattle.kdl_grammar.specs.Going.{Goes, here, goes}
@@ -261,7 +262,7 @@ refused {n = n} f u some h x = go (f ++ u) refl x.there
         front_empty (c ∷ f) u e = cc
     go s e (goes {t = t} {k = k} b e' g) = let y = h u t k (subst (λ (z : Text). BeginsToken z k t) e b) in cc
 
-dead_at_front : (p f r : Text) (n : NodeControl) → f ≢ [] → NodeReaches (p ++ (f ++ r)) n (f ++ r) → NodeRefusesFront n f → NeverGoesOn DerivedNode (p ++ f)
+dead_at_front : (p f r : Text) (n : NodeControl) → f ≢ [] → NodeReaches (p ++ (f ++ r)) n (f ++ r) → NodeRefusesFront n f → BeginsNoOther DerivedNode (p ++ f)
 dead_at_front p f r n some g h u d =
     let y = near_goes (f ++ u) (front_first f u r some) g in
     let same : y.at.piece ≡ p = append_cancel_right y.at.piece p (f ++ r) (sym (y.at.here ∙ y.at.text (f ++ r))) in

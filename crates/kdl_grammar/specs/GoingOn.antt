@@ -1,6 +1,7 @@
 -- Which texts begin a document or a node text, and what is proved of that.
 use Rattle.std.specs.Prelude.{◌≡◌, ◌≢◌, ◌↔◌, IsTrue, true, [], ◌++◌, Some, None, take}
 use Rattle.kdl_text.specs.Chars.{Text}
+use Rattle.kdl_lexer.specs.Earliest.{BeginsSome, BeginsNoOther}
 use Rattle.kdl_lexer.specs.Tokens.{Token, BeginsToken, NoToken}
 use Rattle.kdl_grammar.specs.Data.{Node, Nodes}
 use Rattle.kdl_grammar.specs.Grammar.{IsDocument, IsNodeText}
@@ -8,25 +9,17 @@ use Rattle.kdl_control.specs.Control.{Control, step, finish}
 use Rattle.kdl_grammar.specs.Going.{Reaches, RefusesFront}
 use Rattle.kdl_grammar.specs.NodeControl.{NodeControl, node_step, NodeReaches}
 
--- some derived text begins with the text
-abbrev pub GoesOn : (Text → Type 0) → Text → Type 0
-GoesOn derived t = (u : Text) × derived (t ++ u)
-
--- no derived text begins with the text
-abbrev pub NeverGoesOn : (Text → Type 0) → Text → Type 0
-NeverGoesOn derived t = (u : Text) → derived (t ++ u) → ⊥
-
 -- the text is a document
 abbrev pub Derived : Text → Type 0
 Derived t = (xs : Nodes) × IsDocument true t xs
 
 -- some document begins with the text
 abbrev pub Viable : Text → Type 0
-Viable = GoesOn Derived
+Viable = BeginsSome Derived
 
 -- no document begins with the text
 abbrev pub Dead : Text → Type 0
-Dead = NeverGoesOn Derived
+Dead = BeginsNoOther Derived
 
 -- the text is a node
 abbrev pub DerivedNode : Text → Type 0
@@ -58,8 +51,8 @@ DerivedAtEnd = (t : Text) (c : Control) → Reaches t c [] → Derived t ↔ IsT
 
 -- of node texts: what the control goes over begins one
 abbrev pub NodeAlive : Type 0
-NodeAlive = (p r : Text) (c : NodeControl) → NodeReaches (p ++ r) c r → GoesOn DerivedNode p
+NodeAlive = (p r : Text) (c : NodeControl) → NodeReaches (p ++ r) c r → BeginsSome DerivedNode p
 
 -- if it refuses a token, no node text begins with what it went over and the next two characters
 abbrev pub NodeDeadAtToken : Type 0
-NodeDeadAtToken = (p r s : Text) (c : NodeControl) (k : Token) → NodeReaches (p ++ r) c r → BeginsToken r k s → node_step c k ≡ None → NeverGoesOn DerivedNode (p ++ take 2 r)
+NodeDeadAtToken = (p r s : Text) (c : NodeControl) (k : Token) → NodeReaches (p ++ r) c r → BeginsToken r k s → node_step c k ≡ None → BeginsNoOther DerivedNode (p ++ take 2 r)

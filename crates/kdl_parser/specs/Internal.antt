@@ -10,6 +10,8 @@ pub mod Building
 pub mod Counted
 -- Only line-spaces, up to the end of a text.
 pub mod LineSpaces
+-- The place where a text is refused as a node.
+pub mod NodePlace
 -- Nodes that are a whole text, and what is returned on one.
 pub mod NodeText
 -- The trees of nodes and documents from their parts, for a given tree of a node.

@@ -13,7 +13,7 @@ use kdl_text::span::SourceSpan;
 use std::alloc::Global;
 
 /// Whether the token is made of line-spaces.
-fn is_line_space(kind: &TokenKind) -> bool
+pub(crate) fn is_line_space(kind: &TokenKind) -> bool
     ensures { result ≡ lines.is_line_space kind.now }
 {
     matches!(kind, TokenKind::Space | TokenKind::Newline)

@@ -1,19 +1,24 @@
 //! Nodes that are a whole text.
 
 ghost use Rattle.kdl_grammar.specs.Data as data';
+ghost use Rattle.kdl_grammar.specs.GoingOn.{DerivedNode};
 ghost use Rattle.kdl_grammar.specs.Grammar.{IsNodeText};
 ghost use Rattle.kdl_grammar.specs.Laid.{LaidNodeText};
+ghost use Rattle.kdl_lexer.specs.Earliest.{FailsEarliest};
+ghost use Rattle.kdl_parser.specs.Earliest.{NodeEarliestOnSyntax};
 ghost use Rattle.kdl_parser.specs.Internal.NodeText.{RunsOnText, ReadsSome, ReadsOne, IsOnly, AnswersNodeText, text_by};
 ghost use Rattle.kdl_parser.specs.Internal.Parts.{document_by, nodes_tree};
-ghost use Rattle.kdl_text.specs.Failures.{IsSyntax, TellsOnSyntax};
+ghost use Rattle.kdl_text.specs.Failures.{IsSyntax, TellsOf, TellsOnSyntax};
 ghost use Rattle.kdl_value.specs.Tree.{text_of};
 ghost use Rattle.std.specs.Prelude.{IfOk, true};
 ghost use Rattle.std.specs.Str.{chars};
 
 use crate::line_spaces::trailing_line_spaces;
 use crate::node_parts::{DocumentParts, ParsedNode};
+use crate::node_place::refused_place;
 use crate::token_loop::build;
-use kdl_diagnostics::{Whole, failure};
+use kdl_diagnostics::Whole;
+use kdl_entry::refusal::refusal;
 use kdl_lexer::{LexFailure, Lexer};
 use kdl_text::cursor::Steps;
 use kdl_text::error::ParseFailure;
@@ -111,25 +116,32 @@ fn read_whole<N: ParsedNode>(alloc: Global, text: &str) -> Result<NodeText<N>, L
     }
 }
 
+/// The failure of a text that is refused as a node, or of memory that ran out.
+fn node_refusal(alloc: Global, text: &str) -> ParseFailure
+    ensures told { TellsOf text.now result }
+    ensures earliest { FailsEarliest DerivedNode text.now result }
+{
+    match refused_place(alloc, text) {
+        Ok(span) => refusal(alloc, text, Whole::Node, span, &mut Steps::new()),
+        Err(_) => ParseFailure::Memory,
+    }
+}
+
 /// Parses a text that is exactly one node: line-spaces and slashdashed nodes before it, and only line-spaces after its
 /// terminator (KDL 2.0.0, Node). Returns `Syntax` if the text is not a node; its error has a diagnostic for each fault,
 /// and at least one. Returns `Memory` if an allocation fails.
 pub fn read_node_text<N: ParsedNode>(alloc: Global, text: &str) -> Result<NodeText<N>, ParseFailure>
     // The node that is returned is located in the text, which it is.
     ensures found { IfOk result (λ n. LaidNodeText true (chars text.now) (text_by N.tree n)) }
-    // A refused text is not derived, and the error reports where.
+    // A refused text is not derived, and the error reports where: its first diagnostic is near the earliest fault that
+    // the text can have.
     ensures refused { IsSyntax result → (x : data'.Node) → IsNodeText true (chars text.now) x → ⊥ }
     ensures told { TellsOnSyntax text.now result }
+    ensures earliest { NodeEarliestOnSyntax text.now result }
 {
     match read_whole(alloc, text) {
         Ok(node) => Ok(node),
-        Err(LexFailure::Faulty(span)) => Err(failure(
-            alloc,
-            text,
-            Whole::Node,
-            span,
-            &mut Steps::new(),
-        )),
+        Err(LexFailure::Faulty(_)) => Err(node_refusal(alloc, text)),
         Err(LexFailure::Memory) => Err(ParseFailure::Memory),
     }
 }

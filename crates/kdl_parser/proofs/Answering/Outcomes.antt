@@ -1,5 +1,5 @@
 -- What the result on a whole text says of the grammar.
-use Rattle.std.proofs.Common.{◌≡◌, ◌⊎◌, inl, inr, ℕ, List, ◌+◌, ◌*◌, ◌≤◌, length, take, arith, true, false, ◌∷◌, ◌++◌, Ok, Err, refl, sym, ap, subst, ◌∙◌}
+use Rattle.std.proofs.Common.{◌≡◌, ◌⊎◌, inl, inr, ℕ, List, Option, ◌+◌, ◌*◌, ◌≤◌, length, take, arith, true, false, ◌∷◌, ◌++◌, Ok, Err, refl, sym, ap, subst, ◌∙◌}
 use Rattle.std.specs.Str.{chars, IsUtf8}
 use Rattle.kdl_text.specs.Chars.{Text, begins}
 use Rattle.kdl_text.specs.Spans.{bytes}
@@ -11,8 +11,8 @@ use Rattle.kdl_text.proofs.Looking.Texts.{bytes-chars}
 use Rattle.kdl_text.proofs.Looking.MovesJoin.{bytes-append}
 use Rattle.kdl_control.specs.Control.{Control}
 use Rattle.kdl_grammar.specs.Data.{Nodes}
-use Rattle.kdl_grammar.specs.GoingOn.{Dead, Derived}
-use Rattle.kdl_grammar.specs.Going.{Goes, here, goes, Reaches, no_bom, behind_bom}
+use Rattle.kdl_grammar.specs.GoingOn.{Derived, Dead}
+use Rattle.kdl_grammar.specs.Going.{GoesBy, here, goes, Reaches, no_bom, behind_bom}
 use Rattle.kdl_grammar.specs.Former.{IsFormerDocument}
 use Rattle.kdl_grammar.specs.Grammar.{IsDocument}
 use Rattle.kdl_grammar.specs.Laid.{LaidDocument, with_bom}
@@ -40,7 +40,7 @@ no_bom_here whole s d (reads {r = r} t e a) =
     cc
 
 -- what the machine without data goes over is cut into tokens
-cut : {c d : Control} {s r : Text} → Goes c s d r → IsCut s r
+pub cut : {S : Type 0} {turn : S → Token → Option S} {c d : S} {s r : Text} → GoesBy turn c s d r → IsCut s r
 cut here = up_to_here
 cut (goes b f g) = token b (cut g)
 

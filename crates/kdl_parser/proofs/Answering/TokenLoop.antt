@@ -135,7 +135,7 @@ stops_there tree b before t u span g e s = record {
 }
 
 stuck_turn : {N : Type 0} (tree : N → Node) (b : Builder N) (before mid : Here) (k : CodeToken) → HandsOut before k mid → step b.whole.rest (state_view tree b) (kind_view k.kind) k.at.start.rest k.at.end.rest ≡ None → Stuck (a_state (state_view tree b)) before.rest
-stuck_turn tree b before mid k h e = stuck_cut (a_state (state_view tree b)) h.cuts (refused_step b.whole.rest (state_view tree b) (kind_view k.kind) k.at.start.rest k.at.end.rest e)
+stuck_turn tree b before mid k h e = stuck_cut control.step (a_state (state_view tree b)) h.cuts (refused_step b.whole.rest (state_view tree b) (kind_view k.kind) k.at.start.rest k.at.end.rest e)
 
 stuck_end : {N : Type 0} (tree : N → Node) (b : Builder N) (here : Here) → here.rest ≡ [] → Stuck (a_state (state_view tree b)) here.rest
 stuck_end tree b here e = inl (subst BeginsNone (sym e) (λ r k x. no_token x))

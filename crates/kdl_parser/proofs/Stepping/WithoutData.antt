@@ -7,11 +7,11 @@ use Rattle.kdl_lexer.specs.Internal.Handed.{Cuts, one, spaces}
 use Rattle.kdl_lexer.specs.Tokens.{Token, space, t_space, BeginsToken}
 use Rattle.kdl_control.specs.Control as c
 use Rattle.kdl_control.specs.Control.{Control}
-use Rattle.kdl_grammar.specs.Going.{Goes, here, goes}
+use Rattle.kdl_grammar.specs.Going.{GoesBy, Goes, here, goes}
 use Rattle.kdl_grammar.specs.Internal.Machine.{pending, fresh, spaced, later, Phase, type_name, type_done, in_node, property, Frame, in_block, in_dropped, in_later, State, at, step}
 use Rattle.kdl_grammar.proofs.Reading.Erased.{a_phase, a_stack, a_state, erased}
 use Rattle.kdl_parser.specs.Internal.Building.{phase_held, frame_held, held}
-use Rattle.kdl_parser.specs.Internal.Stopping.{Stuck}
+use Rattle.kdl_parser.specs.Internal.Stopping.{StuckBy}
 use Rattle.kdl_parser.proofs.Stepping.Held.{reached}
 
 -- what the machine holds of a dropped item is data
@@ -47,11 +47,11 @@ pub refused_step : (whole : Text) (st : State) (k : Token) (s r : Text) → step
 refused_step whole st k s r e = erased whole st k s r ∙ ap (option_map a_state) e
 
 -- one token more
-behind : {x y z : Control} {s r t : Text} {k : Token} → Goes x s y r → BeginsToken r k t → c.step y k ≡ Some z → Goes x s z t
+behind : {S : Type 0} {turn : S → Token → Option S} {x y z : S} {s r t : Text} {k : Token} → GoesBy turn x s y r → BeginsToken r k t → turn y k ≡ Some z → GoesBy turn x s z t
 behind here b f = goes b f here
 behind (goes u v g) b f = goes u v (behind g b f)
 
-abbrev Of : (Control → Type 0) → Option Control → Type 0
+abbrev pub Of : {S : Type 0} → (S → Type 0) → Option S → Type 0
 Of P None = Unit {0}
 Of P (Some d) = P d
 
@@ -71,15 +71,18 @@ again (c.at c.block_slashdash fs) = refl
 again (c.at c.kept fs) = refl
 again (c.at c.kept_slashdash fs) = refl
 
-run : {x y : Control} {s r t : Text} → Goes x s y r → c.step y space ≡ Some y → Star NodeSpace r t → Goes x s y t
+run : {S : Type 0} {turn : S → Token → Option S} {x y : S} {s r t : Text} → GoesBy turn x s y r → turn y space ≡ Some y → Star NodeSpace r t → GoesBy turn x s y t
 run g e no_star = g
 run g e (more n m) = run (behind g (t_space n) e) e m
 
 -- over what was handed out
-pub over_cut : {x y z : Control} {s r t : Text} {k : Token} → Goes x s y r → Cuts r k t → c.step y k ≡ Some z → Goes x s z t
-over_cut g (one b) f = behind g b f
-over_cut {y = y} g (spaces (plus n m)) f = run (behind g (t_space n) f) (subst (Of (λ z. c.step z space ≡ Some z)) f (again y)) m
+pub over_cut_by : {S : Type 0} {turn : S → Token → Option S} → ((y : S) → Of (λ z. turn z space ≡ Some z) (turn y space)) → {x y z : S} {s r t : Text} {k : Token} → GoesBy turn x s y r → Cuts r k t → turn y k ≡ Some z → GoesBy turn x s z t
+over_cut_by again g (one b) f = behind g b f
+over_cut_by {turn = turn} again {y = y} g (spaces (plus n m)) f = run (behind g (t_space n) f) (subst (Of (λ z. turn z space ≡ Some z)) f (again y)) m
 
-pub stuck_cut : (y : Control) {r t : Text} {k : Token} → Cuts r k t → c.step y k ≡ None → Stuck y r
-stuck_cut y {t = t} {k = k} (one b) f = inr (k, t, b, f)
-stuck_cut y (spaces (plus {t = t} n m)) f = inr (space, t, t_space n, f)
+pub over_cut : {x y z : Control} {s r t : Text} {k : Token} → Goes x s y r → Cuts r k t → c.step y k ≡ Some z → Goes x s z t
+over_cut = over_cut_by again
+
+pub stuck_cut : {S : Type 0} (turn : S → Token → Option S) (y : S) {r t : Text} {k : Token} → Cuts r k t → turn y k ≡ None → StuckBy turn y r
+stuck_cut turn y {t = t} {k = k} (one b) f = inr (k, t, b, f)
+stuck_cut turn y (spaces (plus {t = t} n m)) f = inr (space, t, t_space n, f)

@@ -4,6 +4,7 @@ use Rattle.kdl_text.specs.Chars.{Text}
 use Rattle.kdl_text.specs.Spans.{InText}
 use Rattle.kdl_lexer.specs.declared.lexer.LexFailure.{LexFailure}
 use Rattle.kdl_lexer.specs.declared.lexer.LexFailure.TheVariants.{Faulty, Memory}
+use Rattle.kdl_grammar.specs.GoingOn.{Derived}
 use Rattle.kdl_grammar.specs.Laid.{with_bom}
 use Rattle.kdl_grammar.specs.Internal.Machine.{AnswersDocument}
 use Rattle.kdl_grammar.specs.Tree.{Node, Document}

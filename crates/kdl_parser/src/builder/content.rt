@@ -19,7 +19,8 @@ ghost use Rattle.std.specs.Prelude.{◌≡◌, [], ◌∷◌, ◌++◌, Some, No
 
 use super::{BlockOwner, Builder, Kept, Slot, Under, Waiting, WaitingWord};
 use crate::node_parts::{DocumentParts, NodeParts, ParsedNode};
-use kdl_entry::items::item::{Given, Item, Owner, Stage, empty, entry_from, span_at, text_between};
+use kdl_control::Owner;
+use kdl_entry::items::item::{Given, Item, Stage, empty, entry_from, span_at, text_between};
 use kdl_entry::{KdlEntry, KdlValue};
 use kdl_lexer::{Lexer, TokenSpan};
 use kdl_text::cursor::Checkpoint;

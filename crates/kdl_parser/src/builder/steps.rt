@@ -16,8 +16,9 @@ ghost use Rattle.std.specs.Prelude.{◌≡◌, Some, None, OnOk, option_map};
 use super::content::{add, is_entry, lone, nothing_at, put, settle};
 use super::{BlockOwner, Builder, Frame, Phase, Slot, Under, Waiting, WaitingWord};
 use crate::node_parts::ParsedNode;
+use kdl_control::Owner;
 use kdl_entry::items::item::{
-    Given, Key, Owner, empty, identifier_between, piece_between, span_at, text_between,
+    Given, Key, empty, identifier_between, piece_between, span_at, text_between,
 };
 use kdl_entry::{KdlValue, sliced_identifier};
 use kdl_lexer::{LexFailure, Lexer, TokenKind, TokenSpan, fault_at};
