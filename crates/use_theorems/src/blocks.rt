@@ -19,5 +19,6 @@ pub fn exchange_entry(node: &mut KdlNode, index: usize, entry: KdlEntry) -> Opti
     let Some(place) = node.entry_mut(NodeKey::Index(index)) else {
         return None;
     };
-    Some(replace(place, entry))
+    let old = replace(place, entry);
+    Some(old)
 }
