@@ -18,7 +18,8 @@ use Rattle.kdl_grammar.proofs.Reading.NodeComplete.{NodeGoes, and_then, lines_st
 use Rattle.kdl_grammar.proofs.Reading.NodeSteps.{control_of, steps, refuses_two}
 use Rattle.kdl_grammar.proofs.Reading.Refusing.{near_goes, front_first}
 use Rattle.kdl_grammar.proofs.Reading.Sound.{derives}
-use Rattle.kdl_grammar.proofs.Reading.Viable.{Ends, at_gap, at_node, at_kept, closing_text, missing_text, a_word, no_right, no_close, worded, behind_string, behind_value, Fits, carry, reads}
+use Rattle.kdl_entry.proofs.Moving.TokenMoves.{Fits}
+use Rattle.kdl_grammar.proofs.Reading.Viable.{Ends, at_gap, at_node, at_kept, closing_text, missing_text, a_word, no_right, no_close, worded, behind_string, behind_value, carry, reads}
 
 -- it goes over the text, which may end there
 pub record Passes (n : NodeControl) (s : Text) : Type 0 where
