@@ -69,7 +69,7 @@ fn second_char(text: &str) -> Option<char>
 }
 
 /// Whether the text begins with these two characters.
-#[inline]
+#[inline(always)]
 fn starts_with_two(text: &str, a: char, b: char) -> bool
     ensures { result ≡ class.begins_two a b (chars text.now) }
 {
@@ -334,6 +334,21 @@ impl<'a> Cursor<'a> {
         }
     }
 
+    /// Returns a copy of the cursor, with its count of steps. A function that advances a copy and then
+    /// assigns it can keep it in registers.
+    #[inline]
+    pub(crate) fn copied(&self) -> Cursor<'a>
+        ensures { result ≡ self.now }
+    {
+        Cursor {
+            rest: self.rest,
+            at: self.at,
+            steps: Steps {
+                count: self.steps.count,
+            },
+        }
+    }
+
     /// Consumes the cursor and returns its count of steps.
     pub fn into_steps(self) -> Steps
         ensures { result ≡ self.entry.steps }
@@ -459,7 +474,7 @@ impl<'a> Cursor<'a> {
     }
 
     /// Returns whether the characters a and b are here. Costs two steps.
-    #[inline]
+    #[inline(always)]
     pub fn looks_two(&mut self, a: char, b: char) -> bool
         ensures result { result ≡ class.begins_two a b self.old.rest }
         ensures stayed { Stayed 2 self.old self.new }
@@ -470,7 +485,7 @@ impl<'a> Cursor<'a> {
 
     /// Advances past the characters a and b if they are here, and returns whether they are. Costs
     /// two steps.
-    #[inline]
+    #[inline(always)]
     pub fn eat_two(&mut self, a: char, b: char) -> bool
         ensures { AteTwo a b result self.old self.new }
     {

@@ -5,6 +5,7 @@ ghost use Rattle.kdl_text.specs.Chars as class;
 ghost use Rattle.kdl_text.specs.Internal.Here.{Returned, Stayed};
 ghost use Rattle.kdl_text.specs.Internal.NumberReading.{radix_of, IsBase, LooksBasePrefix, Counts, IsDigit, ReadsDigits, ReadsInteger, ReadsFront, IsFault, IsPartFault, IsPowerFault, IsNumberFault, ReadsFraction, ReadsExponent, ReadsPart, ReadsNumber, ReadsKeyword, AteExponentLetter, WordOf, is_of_number};
 ghost use Rattle.kdl_text.specs.Numbers as spec;
+ghost use Rattle.kdl_text.specs.declared.numbers.Magnitude.TheVariants.{Small};
 ghost use Rattle.kdl_text.specs.Numbers.{Sign, BasePrefix, Decimal, FloatKeyword, FloatText};
 ghost use Rattle.kdl_text.specs.Internal.Reading.{Moves, Costs};
 ghost use Rattle.kdl_text.specs.Spans.{bytes};
@@ -192,7 +193,7 @@ fn digit_of(c: char, radix: u32) -> Option<u32>
 }
 
 /// Advances past a sign if one is here. Returns whether it is `-`.
-#[inline]
+#[inline(always)]
 fn sign(cursor: &mut Cursor) -> bool
     ensures reads { Sign cursor.old.rest cursor.new.rest result }
     ensures moves { Moves cursor.old cursor.new }
@@ -212,7 +213,7 @@ fn sign(cursor: &mut Cursor) -> bool
 }
 
 /// The base whose prefix is here.
-#[inline]
+#[inline(always)]
 fn base_here(cursor: &mut Cursor) -> Option<Radix>
     ensures { LooksBasePrefix result cursor.old cursor.new }
 {
@@ -226,7 +227,7 @@ fn base_here(cursor: &mut Cursor) -> Option<Radix>
 }
 
 /// Advances past the prefix of a base, if one is here.
-#[inline]
+#[inline(always)]
 fn eat_base_prefix(cursor: &mut Cursor) -> Radix
     ensures reads { BasePrefix cursor.old.rest cursor.new.rest (radix_of result) }
     ensures moves { Moves cursor.old cursor.new }
@@ -242,7 +243,8 @@ fn eat_base_prefix(cursor: &mut Cursor) -> Radix
 
 /// Advances past the digits of the base and the `_` here. Returns the number `before` with these
 /// digits appended.
-fn digits(cursor: &mut Cursor, radix: u32, before: Magnitude) -> Magnitude
+#[inline(never)]
+fn more_digits(cursor: &mut Cursor, radix: u32, before: Magnitude) -> Magnitude
     requires low { 2 ≤ radix }
     requires high { radix ≤ 16 }
     ensures reads { ReadsDigits radix before result cursor.old.rest cursor.new.rest }
@@ -265,8 +267,43 @@ fn digits(cursor: &mut Cursor, radix: u32, before: Magnitude) -> Magnitude
     }
 }
 
+/// Advances past the digits of the base and the `_` here. Returns the number `before` with these
+/// digits appended, in 64 bits as long as it is below 2^59.
+#[inline(always)]
+fn digits<'a>(cursor: &mut Cursor<'a>, radix: u32, before: u64) -> Magnitude
+    requires low { 2 ≤ radix }
+    requires high { radix ≤ 16 }
+    ensures reads { ReadsDigits radix (Small before) result cursor.old.rest cursor.new.rest }
+    ensures moves { Moves cursor.old cursor.new }
+    ensures costs { Costs 2 1 cursor.old cursor.new }
+{
+    let mut here = cursor.copied();
+    let mut small = before;
+    'digits: while small < 1 << 59 {
+        match here.look() {
+            Some('_') => here.step(),
+            Some(c) => match digit_of(c, radix) {
+                Some(digit) => {
+                    small = small * u64::from(radix) + u64::from(digit);
+                    here.step();
+                }
+                None => {
+                    *cursor = here;
+                    return Magnitude::Small(small);
+                }
+            },
+            None => {
+                *cursor = here;
+                return Magnitude::Small(small);
+            }
+        }
+    }
+    *cursor = here;
+    more_digits(cursor, radix, Magnitude::Small(small))
+}
+
 /// Advances past an integer of the base, if one is here: a digit, then digits and `_`.
-#[inline]
+#[inline(always)]
 fn integer(cursor: &mut Cursor, radix: u32) -> Option<Magnitude>
     requires low { 2 ≤ radix }
     requires high { radix ≤ 16 }
@@ -281,11 +318,25 @@ fn integer(cursor: &mut Cursor, radix: u32) -> Option<Magnitude>
         return None;
     };
     cursor.step();
-    Some(digits(cursor, radix, Magnitude::Small(u64::from(first))))
+    Some(digits(cursor, radix, u64::from(first)))
+}
+
+/// Advances past an integer of the base, if one is here. Base 10, which most integers have, is
+/// passed as a constant.
+#[inline(always)]
+fn integer_in(cursor: &mut Cursor, radix: Radix) -> Option<Magnitude>
+    ensures reads { ReadsInteger (radix_of radix) result cursor.old.rest cursor.new.rest }
+    ensures moves { Moves cursor.old cursor.new }
+    ensures costs { Costs 2 1 cursor.old cursor.new }
+{
+    if let Radix::Decimal = radix {
+        return integer(cursor, 10);
+    }
+    integer(cursor, radix.value())
 }
 
 /// Whether no identifier character is here.
-#[inline]
+#[inline(always)]
 fn is_end(cursor: &mut Cursor) -> bool
     ensures result { result ≡ not (starts class.is_identifier_char cursor.old.rest) }
     ensures stayed { Stayed 1 cursor.old cursor.new }
@@ -329,7 +380,7 @@ fn read_front(cursor: &mut Cursor) -> Result<Front, NumberFault>
 {
     let minus = sign(cursor);
     let radix = eat_base_prefix(cursor);
-    match integer(cursor, radix.value()) {
+    match integer_in(cursor, radix) {
         Some(magnitude) => Ok(Front {
             minus,
             radix,

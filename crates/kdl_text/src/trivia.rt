@@ -155,7 +155,7 @@ pub fn escline(cursor: &mut Cursor) -> bool
 }
 
 /// Advances past `/-` if it is here, and returns whether it is (KDL 2.0.0, Slashdash Comments).
-#[inline]
+#[inline(always)]
 pub fn eat_slashdash(cursor: &mut Cursor) -> bool
     ensures reads { AteTwo 47 45 result cursor.old cursor.new }
     ensures moves { Moves cursor.old cursor.new }
@@ -165,23 +165,28 @@ pub fn eat_slashdash(cursor: &mut Cursor) -> bool
 
 /// Advances past the block comment, the line comment or the `/-` that begins with the slash here,
 /// if one of them does.
-pub fn slash(cursor: &mut Cursor) -> SlashRead
+pub fn slash<'a>(cursor: &mut Cursor<'a>) -> SlashRead
     ensures reads { ReadsSlash result cursor.old cursor.new }
     ensures moves { Moves cursor.old cursor.new }
     ensures costs { SlashCosts result cursor.old cursor.new }
 {
-    if cursor.eat_two('/', '*') {
+    let mut here = cursor.copied();
+    if here.eat_two('/', '*') {
+        *cursor = here;
         if block_end(cursor) {
             SlashRead::Block
         } else {
             SlashRead::Unclosed
         }
-    } else if cursor.eat_two('/', '/') {
+    } else if here.eat_two('/', '/') {
+        *cursor = here;
         line_end(cursor);
         SlashRead::Line
-    } else if eat_slashdash(cursor) {
+    } else if eat_slashdash(&mut here) {
+        *cursor = here;
         SlashRead::Dash
     } else {
+        *cursor = here;
         SlashRead::Other
     }
 }

@@ -17,9 +17,9 @@ use Rattle.kdl_text.specs.declared.numbers.Magnitude.TheVariants.{Small}
 use Rattle.kdl_text.proofs.Looking.MovesJoin.{moves_then, moves_one, stayed_looked, took_from, fewer_bytes, bytes-append}
 use Rattle.kdl_text.proofs.Looking.Runs.{length-bytes}
 
-value_after : (k : ℕ) (ds : Text) (d n : ℕ) → digits_value_after k n (ds ++ d ∷ []) ≡ digits_value_after k n ds * k + digit_value d
-value_after k [] d n = refl
-value_after k (c ∷ cs) d n = value_after k cs d (n * k + digit_value c)
+value_after : (k : ℕ) (ds es : Text) (n : ℕ) → digits_value_after k n (ds ++ es) ≡ digits_value_after k (digits_value_after k n ds) es
+value_after k [] es n = refl
+value_after k (c ∷ cs) es n = value_after k cs es (n * k + digit_value c)
 
 -- the digits and `_` read so far
 pub record InDigits (k : ℕ) (before now : Magnitude) (f a : Here) : Type 0 where
@@ -47,7 +47,7 @@ module _ (k : ℕ) (before now : Magnitude) (f a b e : Here) (c : ℕ) (i : InDi
       record {
         read = i.read ++ c ∷ [];
         on = λ r w g. subst (Digits k f.rest r) (sym (append_assoc i.read (c ∷ []) w)) (i.on r (c ∷ w) (subst (λ q. Digits k q r (c ∷ w)) (sym t.0) (digit is g)));
-        counts = λ n g. subst (Counts m) (ap (λ q. digits_value_after k n i.read * k + q) value ∙ sym (value_after k i.read c n)) (more (digits_value_after k n i.read) (i.counts n g));
+        counts = λ n g. subst (Counts m) (ap (λ q. digits_value_after k n i.read * k + q) value ∙ sym (value_after k i.read (c ∷ []) n)) (more (digits_value_after k n i.read) (i.counts n g));
         moves = moves_then i.moves (moves_one t);
         costs = record { most = omega (arith, i.costs.most, ap bytes t.0, t.2, (len_utf8_bounds c).0); least = omega (arith, i.costs.least, ap length t.0, t.2) };
       }
@@ -61,6 +61,15 @@ pub digits_costs : (k : ℕ) (before now : Magnitude) (f a b : Here) → InDigit
 digits_costs k before now f a b i x =
     let s = stayed_looked a b x in
     record { most = omega (arith, i.costs.most, s.steps, ap bytes s.rest, fewer_bytes i.moves); least = omega (arith, i.costs.least, s.steps, ap length s.rest) }
+
+-- the digits and `_` read so far, and the ones after them
+pub digits_more : (k : ℕ) (before now after : Magnitude) (f a : Here) (r : Text) → InDigits k before now f a → ReadsDigits k now after a.rest r → ReadsDigits k before after f.rest r
+digits_more k before now after f a r i (w, d, more) =
+    (i.read ++ w, i.on r w d, λ n g. subst (Counts after) (sym (value_after k i.read w n)) (more (digits_value_after k n i.read) (i.counts n g)))
+
+pub more_costs : (k : ℕ) (before now : Magnitude) (f a e : Here) → InDigits k before now f a → Costs 2 1 a e → Costs 2 1 f e
+more_costs k before now f a e i m =
+    record { most = omega (arith, i.costs.most, m.most, fewer_bytes i.moves); least = omega (arith, i.costs.least, m.least) }
 
 pub not_part : (k c : ℕ) (s : Text) → Some c ≡ first s → (c ≡ 95 → ⊥) → is_digit_of k c ≡ false → starts (is_part k) s ≡ false
 not_part k c [] h ne n = cc
