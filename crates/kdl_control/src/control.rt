@@ -311,6 +311,33 @@ impl Control {
         }
     }
 
+    /// Returns the phase of the grammar.
+    ///
+    /// ```
+    /// let mut control = Control::new(alloc, Phase::Gap);
+    /// let taken = control.take(&TokenKind::Slashdash)?; // true
+    /// let phase = control.phase(); // `NodeSlashdash`
+    /// ```
+    pub fn phase(&self) -> Phase
+        ensures { result ≡ self.now.phase }
+    {
+        self.phase
+    }
+
+    /// Continues in another phase. The open blocks stay open.
+    ///
+    /// ```
+    /// let mut control = Control::new(alloc, Phase::Property);
+    /// control.go_to(Phase::Gap);
+    /// let ends = control.may_end(); // true
+    /// ```
+    pub fn go_to(&mut self, phase: Phase)
+        ensures phase { self.new.phase ≡ phase }
+        ensures blocks { self.new.frames ≡ self.old.frames }
+    {
+        self.phase = phase;
+    }
+
     /// Returns whether the control is between nodes, with no block open.
     ///
     /// ```

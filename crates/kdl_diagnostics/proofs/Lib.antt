@@ -10,5 +10,7 @@ pub mod PieceMoves
 pub mod StringLoops
 -- The diagnostics of a text, one for each fault.
 pub mod Diagnostics
+-- The turns of the loop over the tokens of a front.
+pub mod FrontReads
 -- What the turns of a reader of faults cost.
 pub mod ReaderCost

@@ -31,6 +31,10 @@ between text a b x y = go (ends_of x.0 a y.0 b (sym x.1 ∙ y.1))
     go (inl z) = (x.0, z.0, b, x.1 ∙ ap (λ (t : Text). x.0 ++ t) z.1 ∙ sym (append_assoc x.0 z.0 b), omega (arith, ap bytes x.1, bytes-append x.0 a), omega (arith, ap bytes z.1, bytes-append z.0 b))
     go (inr z) = (x.0, [], a, x.1 ∙ ap (λ (t : Text). t ++ a) (sym (append-nil x.0)), omega (arith, ap bytes x.1, bytes-append x.0 a), omega (arith, ap bytes z.1, bytes-append z.0 a))
 
+-- the span of two places of a text
+pub span_at : (text whole : Text) (a b : Position) (s : SourceSpan) → whole ≡ text → LiesIn text a → LiesIn text b → s ≡ span_between whole a.rest b.rest → InText text s
+span_at text whole a b s w u v e = subst (λ (z : SourceSpan). InText text z) (sym (e ∙ ap (λ (z : Text). span_between z a.rest b.rest) w)) (between text a.rest b.rest u v)
+
 -- the span that the reader takes of two places of its text
 pub span_in : (text : Text) (r : Reader) (a b : Position) (s : SourceSpan) → IsReaderOf text r → LiesIn text a → LiesIn text b → s ≡ span_between r.whole.rest a.rest b.rest → InText text s
 span_in text r a b s x u v e = subst (λ (z : SourceSpan). InText text z) (sym (e ∙ ap (λ (z : Text). span_between z a.rest b.rest) x.whole)) (between text a.rest b.rest u v)

@@ -1,15 +1,15 @@
 -- What the turns of a reader of faults cost, and where its cursor goes.
-use Rattle.std.proofs.Common.{◌≡◌, ℕ, ◌+◌, ◌*◌, ◌<◌, ◌≤◌, Bool, true, false, List, [], ◌∷◌, ◌++◌, length, refl, sym, ap, ◌∙◌, arith, append_assoc}
-use Rattle.std.specs.Prelude.{Option, Some, None}
+use Rattle.std.proofs.Common.{◌≡◌, ℕ, ◌+◌, ◌-◌, ◌*◌, ◌<◌, ◌≤◌, Bool, true, false, List, [], ◌∷◌, ◌++◌, length, refl, sym, ap, ◌∙◌, arith, append_assoc}
+use Rattle.std.specs.Prelude.{Option, Some, None, Result, Ok, Err, IfOk}
 use Rattle.std.specs.Str.{chars, IsUtf8}
 use Rattle.kdl_text.specs.Chars.{Text}
 use Rattle.kdl_text.specs.Internal.Here.{Here, Position, Took, looked}
 use Rattle.kdl_text.specs.Spans.{bytes, raise}
 use Rattle.kdl_text.specs.Internal.Reading.{Moves}
-use Rattle.kdl_text.proofs.Looking.MovesJoin.{fewer_bytes, stays}
+use Rattle.kdl_text.proofs.Looking.MovesJoin.{bytes-append, fewer_bytes, stays}
 use Rattle.kdl_text.proofs.Looking.Texts.{bytes-chars}
-use Rattle.kdl_diagnostics.specs.Internal.Noted.{Bounded, IsReaderOf, LiesIn, ReadsAgain}
-use Rattle.kdl_diagnostics.specs.Internal.Reading.{Most, WentPast}
+use Rattle.kdl_diagnostics.specs.Internal.Noted.{Bounded, IsReaderOf, LiesIn, ReadsAgain, Recovers}
+use Rattle.kdl_diagnostics.specs.Internal.Reading.{Most, WentPast, Turning, turns_left}
 use Rattle.kdl_diagnostics.specs.declared.pieces.PieceKind.{PieceKind}
 use Rattle.kdl_diagnostics.specs.declared.pieces.PieceKind.TheVariants.{End}
 use Rattle.kdl_diagnostics.specs.declared.reader.Reader.{Reader}
@@ -32,21 +32,13 @@ took_lies text (Some c) a b x t = (x.0 ++ (c ∷ []), x.1 ∙ ap (λ (z : Text).
 pub place_lies : (text : Text) (a : Here) (place : Position) → ((p : Text) × (text ≡ p ++ a.rest)) → place.rest ≡ a.rest → LiesIn text place
 place_lies text a place x e = same_rest text a.rest place.rest e x
 
--- how far the loop over the pieces is: until reading is over, a last turn is to come
-abbrev pub turns_left : Bool → ℕ
-turns_left true = 0
-turns_left false = 1
-
-pub record Turning (old new : Here) (over : Bool) : Type 0 where
-  pub counts : raise old.steps 0 ≤ raise new.steps 0
-  pub most : new.steps + 124 * bytes new.rest + 65 * turns_left over ≤ old.steps + 124 * bytes old.rest + 66
-
 one_left : (over : Bool) → turns_left over ≤ 1
 one_left true = omega arith
 one_left false = omega arith
 
-pub turning_begins : (a b : Here) (over : Bool) → Moves a b → Most 1 1 a b → Turning a b over
-turning_begins a b over m k = record { counts = m.counts; most = omega (arith, fewer_bytes m, one_left over) }
+-- a text of an entry or a node, and a first piece that was read
+pub turning_begins : (a : Here) (over : Bool) → Turning a a over
+turning_begins a over = record { counts = omega arith; most = omega (arith, one_left over) }
 
 still_left : (over : Bool) → over ≡ false → turns_left over ≡ 1
 still_left over e = ap turns_left e
@@ -64,6 +56,31 @@ turning_turn f a b e k over over' n t m x w m' x' o = record {
   counts = omega (arith, t.counts, m.counts, m'.counts);
   most = omega (arith, t.most, still_left over n, fewer_bytes m, fewer_bytes m', went_on k a b over' w o);
 }
+
+first_more : (k : PieceKind) (a b : Here) (over : Bool) → WentPast k a b → (k ≡ End → over ≡ true) → 65 * turns_left over ≤ 87 * (bytes a.rest - bytes b.rest)
+first_more End a b over w o = omega (arith, none_left over (o refl))
+first_more _ a b over w o = omega (arith, w, one_left over)
+
+pub turning_first : (a b e : Here) (k : PieceKind) (over : Bool) → Moves a b → Most 37 41 a b → WentPast k a b → Moves b e → Most 24 24 b e → (k ≡ End → over ≡ true) → Turning a e over
+turning_first a b e k over m x w m' x' o = record {
+  counts = omega (arith, m.counts, m'.counts);
+  most = omega (arith, fewer_bytes m, fewer_bytes m', first_more k a b over w o);
+}
+
+-- what holds in any case
+pub on_ok : {A E P : Type 0} (r : Result A E) → P → IfOk r (λ (x : A). P)
+on_ok (Ok x) p = p
+on_ok (Err e) p = tt
+
+-- where the turns end
+pub turning_ends : (a b : Here) (over : Bool) → Turning a b over → Bounded 124 a b
+turning_ends a b over t = record { most = omega (arith, t.most); counts = t.counts }
+
+pub piece_bounded : (a b : Here) → Moves a b → Most 37 41 a b → Bounded 124 a b
+piece_bounded a b m x = record { most = omega (arith, x, fewer_bytes m); counts = m.counts }
+
+pub piece_bounded_more : (a b e : Here) → Moves a b → Most 37 41 a b → Moves b e → Most 24 24 b e → Bounded 124 a e
+piece_bounded_more a b e m x m' x' = record { most = omega (arith, x, x', fewer_bytes m, fewer_bytes m'); counts = omega (arith, m.counts, m'.counts) }
 
 pub turning_nearer : (a b e : Here) (k : PieceKind) (over over' : Bool) → over ≡ false → WentPast k a b → Moves b e → (k ≡ End → over' ≡ true) → bytes e.rest + turns_left over' < bytes a.rest + turns_left over
 turning_nearer a b e k over over' n w m o = omega (arith, still_left over n, fewer_bytes m, went_on k a b over' w o)
@@ -91,12 +108,15 @@ pub again_lies : (text : Text) (r : Reader) (a b : Here) → IsReaderOf text r �
 again_lies text r a b x e m = (m.piece.0, sym x.whole ∙ sym (ap (λ (z : Here). z.rest) e) ∙ m.piece.1)
 
 -- a text that is read, and then read again
-pub read_twice : (text : Text) (old mid new : Reader) → IsReaderOf text mid → old.cursor.rest ≡ text → Bounded 124 old.cursor mid.cursor → ReadsAgain 4 mid new → Bounded 128 old.cursor new.cursor
-read_twice text old mid new x e a b = record { most = omega (arith, ap bytes x.whole, ap bytes e, a.most, b.most); counts = omega (arith, a.counts, b.counts) }
+bytes_in : (text rest : Text) → ((p : Text) × (text ≡ p ++ rest)) → bytes rest ≤ bytes text
+bytes_in text rest x = omega (arith, ap bytes x.1, bytes-append x.0 rest)
 
-pub bounded_more : (a b : Here) → Bounded 124 a b → Bounded 128 a b
-bounded_more a b x = record { most = omega (arith, x.most); counts = x.counts }
+pub read_twice : (text : Text) (old mid new : Reader) → IsReaderOf text old → IsReaderOf text mid → Bounded 124 old.cursor mid.cursor → ReadsAgain 4 mid new → Recovers text old.cursor new.cursor
+read_twice text old mid new x y a b = record { most = omega (arith, ap bytes y.whole, bytes_in text old.cursor.rest x.here, a.most, b.most); counts = omega (arith, a.counts, b.counts) }
+
+pub read_once : (text : Text) (old : Reader) (b : Here) → IsReaderOf text old → Bounded 124 old.cursor b → Recovers text old.cursor b
+read_once text old b x a = record { most = omega (arith, bytes_in text old.cursor.rest x.here, a.most); counts = a.counts }
 
 -- the steps over a whole text
-pub steps_bounded : (text : List ℕ) (a b : Here) (before after : ℕ) → IsUtf8 text → Bounded 128 a b → a.rest ≡ chars text → a.steps ≡ before → after ≡ b.steps → after ≤ before + 128 * (length text + 1)
-steps_bounded text a b before after u x e f g = omega (arith, x.most, ap bytes e, bytes-chars text u, f, g)
+pub steps_bounded : (text : List ℕ) (a b : Here) (before after : ℕ) → IsUtf8 text → Recovers (chars text) a b → a.steps ≤ before + 7 → after ≡ b.steps → after ≤ before + (128 * length text + 111)
+steps_bounded text a b before after u x e g = omega (arith, x.most, bytes-chars text u, e, g)

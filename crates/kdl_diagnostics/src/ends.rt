@@ -91,6 +91,17 @@ fn begins_slash_piece(cursor: &mut Cursor) -> bool
     cursor.looks_two('/', '*') || cursor.looks_two('/', '/') || cursor.looks_two('/', '-')
 }
 
+/// Whether a value end is here that is not a backslash.
+pub(crate) fn is_value_end(cursor: &mut Cursor) -> bool
+    ensures stayed { (k : ℕ) × (k ≤ 7) × Stayed k cursor.old cursor.new }
+{
+    match cursor.look() {
+        None => true,
+        Some('/') => begins_slash_piece(cursor),
+        Some(c) => ends_value(c),
+    }
+}
+
 /// The value end at a backslash, if there is one: the backslash itself if it begins an escline, or the place after it
 /// if spaces or a comment follow. A backslash before an unclosed block comment does not begin an escline. If the result
 /// is `None`, the cursor is directly after the backslash.

@@ -1,12 +1,13 @@
 //! The faults of a refused text, each with its span and its message.
 //!
-//! The reader of faults reads the text again, from its start, by its own pieces and its own machine. The machine keeps
-//! the phase of the grammar and the open blocks, builds nothing, and continues after a fault. An accepted text pays
-//! nothing for it.
+//! The lexer and the control read a document again up to its first fault (`front`). From there on, and in other texts
+//! from their start, the reader of faults takes one piece at a time, faulty or not, and continues after a fault
+//! (`reader`). An accepted text pays nothing for it.
 #![tactic(auto)]
 
 mod ends;
 mod esclines;
+mod front;
 mod kind;
 mod machine;
 mod pieces;

@@ -1,62 +1,24 @@
-//! What is expected at a place of a text, and what a piece changes there.
+//! What is expected where a piece does not fit, and what is expected after it.
 //!
-//! The machine keeps the phase of the grammar and the open blocks, and builds nothing. If a piece does not fit, what
-//! was expected counts as read, and the machine continues from there.
+//! Which piece may come where is up to the `Control`. If a piece does not fit, what was expected counts as read, and
+//! the control continues from there.
 
 use crate::kind::Kind;
 use crate::pieces::{PieceKind, StringRole};
+use kdl_control::{Owner, Phase, Spot, Word};
+use kdl_lexer::TokenKind;
+use kdl_value::KdlValue;
+use std::alloc::Global;
 
-/// What a type belongs to.
+/// A place in a text with faults.
 #[derive(Clone, Copy)]
-pub(crate) enum Typed {
-    /// A node: its name follows.
-    Node,
-    /// An argument: its value follows.
-    Argument,
-    /// The value of a property.
-    Property,
-}
-
-/// What a `/-` may drop.
-#[derive(Clone, Copy)]
-pub(crate) enum Dropped {
-    /// An entry or a block.
-    Any,
-    /// A block, before the node's own.
-    Block,
-    /// A block, after the node's own.
-    Last,
-}
-
-/// The phase of the grammar at a place.
-#[derive(Clone, Copy)]
-pub(crate) enum Phase {
-    /// Between nodes.
-    Gap,
-    /// Between nodes, after `/-`.
-    NodeSlashdash,
-    /// After the name or an entry of a node.
-    Node,
-    /// After a string in a node that may be a key.
-    Word,
-    /// After `/-` in a node.
-    Drop(Dropped),
-    /// After a slashdashed block, before the node's own.
-    Later,
-    /// After the node's block.
-    Behind,
-    /// After the `=` of a property.
-    Property,
-    /// After the `(` of a type.
-    TypeOpen(Typed),
-    /// After the name in a type.
-    TypeName(Typed),
-    /// In a faulty type.
-    TypeFaulty,
-    /// After a faulty type: what it belongs to may follow.
+pub(crate) enum Place {
+    /// Where the control is.
+    Control,
+    /// In a faulty type. The control is after the name or an entry of the node.
+    FaultyType,
+    /// After a faulty type: what it belongs to may follow. The control is after the name or an entry of the node.
     Typeless,
-    /// After a type.
-    TypeDone(Typed),
     /// After the only node or entry of a text: only line-spaces may follow.
     Over,
 }
@@ -64,217 +26,146 @@ pub(crate) enum Phase {
 /// What a piece does.
 #[derive(Clone, Copy)]
 pub(crate) enum Move {
-    /// Continues in the phase.
-    To(Phase),
-    /// Opens a block, after which the phase follows.
-    Open(Phase),
-    /// Closes the block, if there is one.
-    Close,
+    /// What its token does in the control.
+    Take,
+    /// Continues in the place.
+    To(Place),
     /// Does not fit.
     Refuse,
 }
 
-impl Phase {
-    /// The fault if a piece does not fit.
-    pub(crate) fn misfit(self) -> Kind {
-        match self {
-            Phase::Gap | Phase::NodeSlashdash | Phase::TypeDone(Typed::Node) => Kind::Name,
-            Phase::Property | Phase::TypeDone(Typed::Property) => Kind::Value,
-            Phase::TypeOpen(_) | Phase::TypeName(_) => Kind::Type,
-            _ => Kind::Misplaced,
+/// The phase in a node, after the name or an entry and spaces.
+pub(crate) fn in_node() -> Phase {
+    Phase::InNode(Spot::Spaced(Word::NoKey))
+}
+
+/// The token of a piece. The value of a string or a number does not matter to the control.
+pub(crate) fn token_kind(alloc: Global, kind: PieceKind) -> Option<TokenKind> {
+    match kind {
+        PieceKind::Space => Some(TokenKind::Space),
+        PieceKind::Newline => Some(TokenKind::Newline),
+        PieceKind::Slashdash => Some(TokenKind::Slashdash),
+        PieceKind::String => Some(TokenKind::String(String::new(alloc))),
+        PieceKind::Value => Some(TokenKind::Value(KdlValue::Null)),
+        PieceKind::Left => Some(TokenKind::Left),
+        PieceKind::Right => Some(TokenKind::Right),
+        PieceKind::Opening => Some(TokenKind::Opening),
+        PieceKind::Closing => Some(TokenKind::Closing),
+        PieceKind::Equals => Some(TokenKind::Equals),
+        PieceKind::Semicolon => Some(TokenKind::Semicolon),
+        PieceKind::Comment | PieceKind::Other | PieceKind::End => None,
+    }
+}
+
+/// The fault if a piece does not fit in the phase. `is_property` is whether the last type is that of a property's value.
+pub(crate) fn misfit(phase: Phase, is_property: bool) -> Kind {
+    match phase {
+        Phase::Gap | Phase::NodeSlashdash | Phase::TypeDone(Owner::Name) => Kind::Name,
+        Phase::Property => Kind::Value,
+        Phase::TypeDone(Owner::Value) if is_property => Kind::Value,
+        Phase::TypeOpen(_) | Phase::TypeName(_) => Kind::Type,
+        _ => Kind::Misplaced,
+    }
+}
+
+/// Whether something is expected in the phase, so that the text may not end here.
+pub(crate) fn is_due(phase: Phase) -> bool {
+    !matches!(phase, Phase::Gap | Phase::InNode(_) | Phase::Kept)
+}
+
+/// Whether a string that may be a key, an entry or a name is directly before, or before the spaces here.
+pub(crate) fn is_before_entry(phase: Phase) -> bool {
+    matches!(
+        phase,
+        Phase::InNode(Spot::Fresh(_)) | Phase::InNode(Spot::Spaced(_))
+    )
+}
+
+/// Whether an entry or a block is slashdashed here.
+pub(crate) fn is_dropping(phase: Phase) -> bool {
+    matches!(
+        phase,
+        Phase::EntrySlashdash | Phase::BlockSlashdash | Phase::KeptSlashdash
+    )
+}
+
+/// The place after a piece that does not fit in the phase, and the phase there: what was expected counts as read.
+pub(crate) fn behind_misfit(phase: Phase, kind: PieceKind) -> (Place, Phase) {
+    match (phase, kind) {
+        (Phase::TypeOpen(_), PieceKind::Right) => (Place::Typeless, in_node()),
+        (Phase::TypeOpen(_) | Phase::TypeName(_), _) => (Place::FaultyType, in_node()),
+        (_, PieceKind::Left) => (Place::Control, behind_left(phase)),
+        (_, PieceKind::String) => (Place::Control, behind_string(phase)),
+        (Phase::KeptSlashdash, PieceKind::Value) => (Place::Control, Phase::Kept),
+        _ => (Place::Control, in_node()),
+    }
+}
+
+/// The phase after a `(` that does not fit in the phase: in its type if it may be one, and else in a node.
+fn behind_left(phase: Phase) -> Phase {
+    match phase {
+        Phase::TypeDone(_) | Phase::InNode(Spot::Later) => Phase::TypeOpen(Owner::Value),
+        Phase::EntrySlashdash | Phase::BlockSlashdash | Phase::KeptSlashdash => {
+            Phase::TypeOpen(Owner::Value)
         }
+        Phase::Kept => Phase::TypeOpen(Owner::Name),
+        _ => in_node(),
     }
+}
 
-    /// Whether something is expected, so that the text may not end here.
-    pub(crate) fn is_due(self) -> bool {
-        !matches!(
-            self,
-            Phase::Gap
-                | Phase::Node
-                | Phase::Word
-                | Phase::Later
-                | Phase::Behind
-                | Phase::TypeFaulty
-                | Phase::Typeless
-                | Phase::Over
-        )
+/// The phase after a string that does not fit in the phase.
+fn behind_string(phase: Phase) -> Phase {
+    match phase {
+        Phase::KeptSlashdash => Phase::Kept,
+        Phase::InNode(Spot::Later) | Phase::EntrySlashdash | Phase::BlockSlashdash | Phase::Kept =>
+            { Phase::InNode(Spot::Spaced(Word::MayBeKey)) }
+        _ => in_node(),
     }
+}
 
-    /// The role of a string in the phase.
-    pub(crate) fn string_role(self) -> StringRole {
-        match self {
-            Phase::TypeOpen(_) => StringRole::TypeName,
-            Phase::TypeName(_) => StringRole::SecondItem,
+impl Place {
+    /// The role of a string at the place, where the control is in the phase.
+    pub(crate) fn string_role(self, phase: Phase) -> StringRole {
+        match (self, phase) {
+            (Place::Control, Phase::TypeOpen(_)) => StringRole::TypeName,
+            (Place::Control, Phase::TypeName(_)) => StringRole::SecondItem,
             _ => StringRole::Plain,
         }
     }
 
-    /// What a piece does in the phase.
+    /// What a piece does at the place.
     pub(crate) fn takes(self, kind: PieceKind) -> Move {
         match self {
-            Phase::Gap => in_gap(kind),
-            Phase::NodeSlashdash => in_node_slashdash(kind),
-            Phase::Node => in_node(kind, false),
-            Phase::Word => in_node(kind, true),
-            Phase::Drop(dropped) => behind_slashdash(dropped, kind),
-            Phase::Later => behind_dropped_block(kind),
-            Phase::Behind => behind_block(kind),
-            Phase::Property => at_value(Typed::Property, kind),
-            Phase::TypeOpen(typed) => in_type(typed, kind),
-            Phase::TypeName(typed) => behind_type_name(typed, kind),
-            Phase::TypeFaulty => in_faulty_type(kind),
-            Phase::Typeless => behind_faulty_type(kind),
-            Phase::TypeDone(typed) => behind_type(typed, kind),
-            Phase::Over => behind_all(kind),
+            Place::Control => Move::Take,
+            Place::FaultyType => in_faulty_type(kind),
+            Place::Typeless => behind_faulty_type(kind),
+            Place::Over => behind_all(kind),
         }
-    }
-
-    /// The phase after a piece that does not fit: what was expected counts as read.
-    pub(crate) fn behind_misfit(self, kind: PieceKind) -> Phase {
-        match (self, kind) {
-            (Phase::TypeOpen(_), PieceKind::Right) => Phase::Typeless,
-            (Phase::TypeOpen(_) | Phase::TypeName(_), _) => Phase::TypeFaulty,
-            (Phase::TypeDone(_) | Phase::Later | Phase::Drop(_), PieceKind::Left) => {
-                Phase::TypeOpen(Typed::Argument)
-            }
-            (Phase::Behind, PieceKind::Left) => Phase::TypeOpen(Typed::Node),
-            (Phase::Drop(Dropped::Last), PieceKind::String | PieceKind::Value) => Phase::Behind,
-            (Phase::Later | Phase::Drop(_) | Phase::Behind, PieceKind::String) => Phase::Word,
-            _ => Phase::Node,
-        }
-    }
-}
-
-/// What a piece does between nodes.
-fn in_gap(kind: PieceKind) -> Move {
-    match kind {
-        PieceKind::Newline => Move::To(Phase::Gap),
-        PieceKind::Slashdash => Move::To(Phase::NodeSlashdash),
-        PieceKind::String => Move::To(Phase::Node),
-        PieceKind::Left => Move::To(Phase::TypeOpen(Typed::Node)),
-        PieceKind::Closing => Move::Close,
-        _ => Move::Refuse,
-    }
-}
-
-/// What a piece does between nodes, after `/-`.
-fn in_node_slashdash(kind: PieceKind) -> Move {
-    match kind {
-        PieceKind::Newline => Move::To(Phase::NodeSlashdash),
-        PieceKind::String => Move::To(Phase::Node),
-        PieceKind::Left => Move::To(Phase::TypeOpen(Typed::Node)),
-        _ => Move::Refuse,
-    }
-}
-
-/// What ends a node: its terminator, or the `}` of the block that it is in.
-fn at_end_of_node(kind: PieceKind) -> Move {
-    match kind {
-        PieceKind::Newline | PieceKind::Semicolon => Move::To(Phase::Gap),
-        PieceKind::Closing => Move::Close,
-        _ => Move::Refuse,
-    }
-}
-
-/// What a piece does after the name or an entry of a node, which may be a key.
-fn in_node(kind: PieceKind, is_key: bool) -> Move {
-    match kind {
-        PieceKind::String => Move::To(Phase::Word),
-        PieceKind::Value => Move::To(Phase::Node),
-        PieceKind::Left => Move::To(Phase::TypeOpen(Typed::Argument)),
-        PieceKind::Slashdash => Move::To(Phase::Drop(Dropped::Any)),
-        PieceKind::Opening => Move::Open(Phase::Behind),
-        PieceKind::Equals if is_key => Move::To(Phase::Property),
-        _ => at_end_of_node(kind),
-    }
-}
-
-/// What a piece does after `/-` in a node.
-fn behind_slashdash(dropped: Dropped, kind: PieceKind) -> Move {
-    match (kind, dropped) {
-        (PieceKind::Newline, _) => Move::To(Phase::Drop(dropped)),
-        (PieceKind::Opening, Dropped::Last) => Move::Open(Phase::Behind),
-        (PieceKind::Opening, _) => Move::Open(Phase::Later),
-        (PieceKind::String, Dropped::Any) => Move::To(Phase::Word),
-        (PieceKind::Value, Dropped::Any) => Move::To(Phase::Node),
-        (PieceKind::Left, Dropped::Any) => Move::To(Phase::TypeOpen(Typed::Argument)),
-        _ => Move::Refuse,
-    }
-}
-
-/// What a piece does after a slashdashed block, before the node's own.
-fn behind_dropped_block(kind: PieceKind) -> Move {
-    match kind {
-        PieceKind::Slashdash => Move::To(Phase::Drop(Dropped::Block)),
-        PieceKind::Opening => Move::Open(Phase::Behind),
-        _ => at_end_of_node(kind),
-    }
-}
-
-/// What a piece does after the node's block.
-fn behind_block(kind: PieceKind) -> Move {
-    match kind {
-        PieceKind::Slashdash => Move::To(Phase::Drop(Dropped::Last)),
-        _ => at_end_of_node(kind),
-    }
-}
-
-/// What a piece does where a value is expected, which may have a type.
-fn at_value(typed: Typed, kind: PieceKind) -> Move {
-    match kind {
-        PieceKind::String | PieceKind::Value => Move::To(Phase::Node),
-        PieceKind::Left => Move::To(Phase::TypeOpen(typed)),
-        _ => Move::Refuse,
-    }
-}
-
-/// What a piece does after the `(` of a type.
-fn in_type(typed: Typed, kind: PieceKind) -> Move {
-    match kind {
-        PieceKind::String => Move::To(Phase::TypeName(typed)),
-        _ => Move::Refuse,
-    }
-}
-
-/// What a piece does after the name in a type.
-fn behind_type_name(typed: Typed, kind: PieceKind) -> Move {
-    match kind {
-        PieceKind::Right => Move::To(Phase::TypeDone(typed)),
-        _ => Move::Refuse,
     }
 }
 
 /// What a piece does in a faulty type: up to its `)`, or to what opens or ends a block or ends the node.
 fn in_faulty_type(kind: PieceKind) -> Move {
     match kind {
-        PieceKind::Right => Move::To(Phase::Typeless),
-        PieceKind::Opening => Move::Open(Phase::Behind),
-        PieceKind::Newline | PieceKind::Semicolon | PieceKind::Closing => at_end_of_node(kind),
-        _ => Move::To(Phase::TypeFaulty),
+        PieceKind::Right => Move::To(Place::Typeless),
+        PieceKind::Opening | PieceKind::Newline | PieceKind::Semicolon | PieceKind::Closing =>
+            Move::Take,
+        _ => Move::To(Place::FaultyType),
     }
 }
 
 /// What a piece does after a faulty type: a name or a value may follow, or what follows that.
 fn behind_faulty_type(kind: PieceKind) -> Move {
     match kind {
-        PieceKind::String | PieceKind::Value => Move::To(Phase::Node),
-        _ => in_node(kind, false),
-    }
-}
-
-/// What a piece does after a type.
-fn behind_type(typed: Typed, kind: PieceKind) -> Move {
-    match (kind, typed) {
-        (PieceKind::String, _) => Move::To(Phase::Node),
-        (PieceKind::Value, Typed::Argument | Typed::Property) => Move::To(Phase::Node),
-        _ => Move::Refuse,
+        PieceKind::String | PieceKind::Value => Move::To(Place::Control),
+        _ => Move::Take,
     }
 }
 
 /// What a piece does after the only node or entry of a text.
 fn behind_all(kind: PieceKind) -> Move {
     match kind {
-        PieceKind::Newline => Move::To(Phase::Over),
+        PieceKind::Newline => Move::To(Place::Over),
         _ => Move::Refuse,
     }
 }

@@ -2,6 +2,7 @@
 
 ghost use Rattle.kdl_diagnostics.specs.Internal.Noted.{
   Bounded,
+  IsFrontOf,
   IsPlaceAt,
   Keeps,
   KeepsAt,
@@ -9,21 +10,27 @@ ghost use Rattle.kdl_diagnostics.specs.Internal.Noted.{
   KeepsUpTo,
   IsReaderOf,
   ReadsAgain,
+  Recovers,
 };
-ghost use Rattle.kdl_diagnostics.specs.Internal.Reading.{Most};
+ghost use Rattle.kdl_diagnostics.specs.Internal.Reading.{Most, Stands, Turning, WentPast};
 ghost use Rattle.kdl_diagnostics.specs.declared.pieces.PieceKind.TheVariants.{End};
 ghost use Rattle.kdl_text.specs.Internal.Reading.{Moves};
 ghost use Rattle.kdl_text.specs.Chars.{Text};
 ghost use Rattle.kdl_text.specs.Spans.{raise};
-ghost use Rattle.std.specs.Prelude.{◌≡◌, [], true};
+ghost use Rattle.std.specs.Prelude.{◌≡◌, ◌+◌, ◌≤◌, true, false, IfOk};
 ghost use Rattle.std.specs.Str.{chars};
 
-use crate::ends::value_end;
+use crate::ends::{is_value_end, value_end};
 use crate::esclines::{Candidate, esclines};
+use crate::front::Front;
 use crate::kind::Kind;
-use crate::machine::{Move, Phase};
+use crate::machine::{
+    Move, Place, behind_misfit, in_node, is_before_entry, is_dropping, is_due, misfit, token_kind,
+};
 use crate::pieces::{Piece, PieceKind, StringRole, next_piece};
 use crate::whole::Whole;
+use kdl_control::{Control, Phase};
+use kdl_lexer::TokenKind;
 use kdl_text::cursor::{Checkpoint, Cursor, Steps};
 use kdl_text::span::SourceSpan;
 use std::alloc::{AllocError, Global};
@@ -35,12 +42,11 @@ pub struct Fault {
     pub span: SourceSpan,
 }
 
-/// An open block: its `{`, the phase of the grammar after its `}`, and whether a fault was noted at its `{`.
+/// An open block: its `{`, and whether a fault was noted at its `{`.
 #[derive(Clone, Copy)]
-struct Block {
-    span: SourceSpan,
-    behind: Phase,
-    is_told: bool,
+pub(crate) struct Block {
+    pub span: SourceSpan,
+    pub is_told: bool,
 }
 
 /// A reader of faults.
@@ -52,10 +58,14 @@ pub(crate) struct Reader<'a> {
     /// The start of the text.
     whole: Checkpoint<'a>,
     cursor: Cursor<'a>,
-    phase: Phase,
+    /// The phase of the grammar. Spaces count as read after each piece.
+    control: Control,
+    place: Place,
     blocks: Vec<Block>,
     /// The place after the last `(` that was read.
     left: Checkpoint<'a>,
+    /// Whether the last `(` begins the type of a property's value.
+    is_property: bool,
     /// Whether the only node or entry of the text has begun.
     has_item: bool,
     /// Whether an entry was slashdashed.
@@ -92,25 +102,37 @@ fn goes_on(kind: PieceKind) -> bool {
 }
 
 impl<'a> Reader<'a> {
-    /// Creates a reader at the start of the text, which adds to the given count of steps.
-    pub(crate) fn new(alloc: Global, text: &'a str, whole: Whole, steps: Steps) -> Self
-        ensures reads { IsReaderOf (chars text.now) result }
-        ensures cursor { result.cursor ≡ record { rest = chars text.now; at = 0; steps = steps } }
-        ensures none { result.faults.items ≡ [] }
+    /// Creates a reader that continues after the front of the text, and adds to the given count of steps. If no value
+    /// end is there, it begins at the string, number or keyword that ends there.
+    pub(crate) fn new(text: &'a str, whole: Whole, front: Front<'a>, steps: Steps) -> Self
+        ensures reads { (t : Text) → IsFrontOf t front.entry → IsReaderOf t result }
+        ensures most { result.cursor.steps ≤ steps + 7 }
+        ensures counts { raise steps 0 ≤ raise result.cursor.steps 0 }
     {
-        let cursor = Cursor::new(text, steps);
-        let phase = match whole {
-            Whole::Document | Whole::Node => Phase::Gap,
-            Whole::Entry | Whole::Identifier => Phase::Node,
-        };
-        Reader {
+        let Front {
+            alloc,
+            whole: start,
+            control,
+            blocks,
+            left,
+            is_property,
+            place,
+            from,
+            phase,
+            ..
+        } = front;
+        let mut cursor = Cursor::new(text, steps);
+        cursor.go_to(&place);
+        let mut reader = Reader {
             alloc,
             text: whole,
-            whole: cursor.checkpoint(),
-            left: cursor.checkpoint(),
+            whole: start,
+            left,
+            is_property,
             cursor,
-            phase,
-            blocks: Vec::new(alloc),
+            control,
+            place: Place::Control,
+            blocks,
             has_item: false,
             has_dropped: false,
             is_apart: false,
@@ -118,7 +140,22 @@ impl<'a> Reader<'a> {
             is_over: false,
             faults: Vec::new(alloc),
             candidates: Vec::new(alloc),
+        };
+        reader.go_back(&from, phase);
+        reader
+    }
+
+    /// Goes back to the place, where the control was in the phase, if no value end is here.
+    fn go_back(&mut self, from: &Checkpoint<'a>, phase: Phase)
+        ensures keeps { KeepsBetween from.now from.now self.old self.new }
+        ensures most { self.new.cursor.steps ≤ self.old.cursor.steps + 7 }
+        ensures counts { raise self.old.cursor.steps 0 ≤ raise self.new.cursor.steps 0 }
+    {
+        if is_value_end(&mut self.cursor) {
+            return;
         }
+        self.cursor.go_to(from);
+        self.control.go_to(phase);
     }
 
     /// The faults that were noted, and the count of steps.
@@ -237,15 +274,15 @@ impl<'a> Reader<'a> {
         ensures most { Most 24 24 self.old.cursor self.new.cursor }
         ensures over { self.old.is_over ≡ true → self.new.is_over ≡ true }
     {
-        let kind = match (self.phase.misfit(), piece.kind) {
+        let kind = match (misfit(self.control.phase(), self.is_property), piece.kind) {
             (Kind::Name, PieceKind::Opening) => Kind::Nameless,
             (Kind::Name, PieceKind::Closing) if self.blocks.is_empty() => Kind::Misplaced,
             (kind, _) => kind,
         };
         self.note_misfit(kind, piece)?;
-        let is_last = match (self.text, self.phase) {
+        let is_last = match (self.text, self.place) {
             (Whole::Entry, _) => matches!(kind, Kind::Misplaced),
-            (_, Phase::Over) => true,
+            (_, Place::Over) => true,
             _ => false,
         };
         if is_last {
@@ -256,40 +293,54 @@ impl<'a> Reader<'a> {
 
     /// Whether the place is after an entry, or before the first one, in the text of an entry.
     fn is_between_entries(&self) -> bool {
-        matches!(self.phase, Phase::Node | Phase::Word | Phase::Typeless)
+        match self.place {
+            Place::Control => is_before_entry(self.control.phase()),
+            Place::Typeless => true,
+            Place::FaultyType | Place::Over => false,
+        }
+    }
+
+    /// Whether an entry may begin here, as far as the control knows.
+    fn is_before_entry(&self) -> bool {
+        matches!(self.place, Place::Control) && is_before_entry(self.control.phase())
     }
 
     /// What the piece does in the text of an entry, where a space follows each slashdashed entry.
     fn move_in_entry(&self, kind: PieceKind) -> Move {
-        match (self.phase, kind) {
-            (_, PieceKind::Opening | PieceKind::Closing | PieceKind::Semicolon) => Move::Refuse,
-            (_, PieceKind::Slashdash) if self.has_dropped && !self.is_apart => Move::Refuse,
-            (_, PieceKind::Newline) if self.is_between_entries() => {
+        match kind {
+            PieceKind::Opening | PieceKind::Closing | PieceKind::Semicolon => Move::Refuse,
+            PieceKind::Slashdash if self.has_dropped && !self.is_apart => Move::Refuse,
+            PieceKind::Newline if self.is_between_entries() => {
                 if self.has_item {
-                    Move::To(Phase::Over)
+                    Move::To(Place::Over)
                 } else if self.has_dropped {
                     Move::Refuse
                 } else {
-                    Move::To(Phase::Node)
+                    Move::To(Place::Control)
                 }
             }
-            (Phase::Node | Phase::Word, PieceKind::Equals) => self.phase.takes(kind),
-            (Phase::Node | Phase::Word, _) if self.has_item => Move::Refuse,
-            _ => self.phase.takes(kind),
+            PieceKind::Equals => self.place.takes(kind),
+            _ if self.has_item && self.is_before_entry() => Move::Refuse,
+            _ => self.place.takes(kind),
         }
     }
 
     /// What the piece does. A faulty string is not the name of a type.
     fn move_of(&self, piece: &Piece<'a>) -> Move {
         if piece.fault.is_some()
-            && let Phase::TypeOpen(_) = self.phase
+            && let StringRole::TypeName = self.string_role()
         {
             return Move::Refuse;
         }
         match self.text {
             Whole::Entry => self.move_in_entry(piece.kind),
-            _ => self.phase.takes(piece.kind),
+            _ => self.place.takes(piece.kind),
         }
+    }
+
+    /// The role of a string here.
+    fn string_role(&self) -> StringRole {
+        self.place.string_role(self.control.phase())
     }
 
     /// Notes that the only node or entry of a text, or a slashdashed entry, begins with the piece.
@@ -301,82 +352,87 @@ impl<'a> Reader<'a> {
         if !begins_item(kind) || !self.blocks.is_empty() {
             return;
         }
-        match (self.text, self.phase) {
-            (Whole::Node, Phase::Gap) | (Whole::Entry, Phase::Node | Phase::Word) => {
-                self.has_item = true;
-            }
-            (Whole::Entry, Phase::Drop(_)) => self.has_dropped = true,
+        match (self.text, self.control.phase()) {
+            (Whole::Node, Phase::Gap) => self.has_item = true,
+            (Whole::Entry, _) if self.is_before_entry() => self.has_item = true,
+            (Whole::Entry, phase) if is_dropping(phase) => self.has_dropped = true,
             _ => {}
         }
     }
 
-    /// Continues in the phase. After the only node of a text only line-spaces may follow.
-    fn go_to(&mut self, phase: Phase)
+    /// Continues in the place, after the name or an entry of a node.
+    fn go_to(&mut self, place: Place)
         ensures keeps { Keeps self.old self.new }
         ensures cursor { self.new.cursor ≡ self.old.cursor }
         ensures same { self.new.is_over ≡ self.old.is_over }
     {
-        let is_behind = self.has_item && self.blocks.is_empty();
-        self.phase = match (self.text, phase) {
-            (Whole::Node, Phase::Gap) if is_behind => Phase::Over,
-            _ => phase,
-        };
+        self.place = place;
+        self.control.go_to(in_node());
     }
 
-    /// Closes the innermost open block. A `}` outside blocks is misplaced, and is reported once.
-    fn close_block(&mut self, piece: &Piece<'a>, is_told: bool) -> Result<(), AllocError>
-        ensures keeps { KeepsAt piece.now self.old self.new }
+    /// After the only node of a text only line-spaces may follow.
+    fn end_node(&mut self)
+        ensures keeps { Keeps self.old self.new }
         ensures cursor { self.new.cursor ≡ self.old.cursor }
         ensures same { self.new.is_over ≡ self.old.is_over }
     {
-        match self.blocks.pop() {
-            Some(block) => self.phase = block.behind,
-            None => {
-                if !is_told {
-                    self.note(Kind::Misplaced, &piece.start, &piece.next)?;
-                }
-                self.go_to(Phase::Gap);
-            }
+        if let (Whole::Node, Phase::Gap) = (self.text, self.control.phase())
+            && self.has_item
+            && self.blocks.is_empty()
+        {
+            self.go_to(Place::Over);
         }
-        Ok(())
     }
 
     /// Opens a block with the piece.
-    fn open_block(
-        &mut self,
-        piece: &Piece<'a>,
-        behind: Phase,
-        is_told: bool,
-    ) -> Result<(), AllocError>
+    fn open_block(&mut self, piece: &Piece<'a>, is_told: bool) -> Result<(), AllocError>
         ensures keeps { KeepsAt piece.now self.old self.new }
         ensures cursor { self.new.cursor ≡ self.old.cursor }
         ensures same { self.new.is_over ≡ self.old.is_over }
     {
         let span = self.whole.span_between(&piece.start, &piece.next);
-        self.blocks.push(Block {
-            span,
-            behind,
-            is_told,
-        })?;
-        self.phase = Phase::Gap;
+        self.blocks.push(Block { span, is_told })?;
         Ok(())
     }
 
-    /// Does what the move says.
-    fn go_on(&mut self, piece: &Piece<'a>, step: Move, is_told: bool) -> Result<(), AllocError>
+    /// Notes the block that the piece opens or closes.
+    fn note_block(&mut self, piece: &Piece<'a>, is_told: bool) -> Result<(), AllocError>
         ensures keeps { KeepsAt piece.now self.old self.new }
         ensures cursor { self.new.cursor ≡ self.old.cursor }
         ensures same { self.new.is_over ≡ self.old.is_over }
     {
-        match step {
-            Move::To(phase) => {
-                self.go_to(phase);
+        match piece.kind {
+            PieceKind::Opening => self.open_block(piece, is_told),
+            PieceKind::Closing => {
+                let _ = self.blocks.pop();
                 Ok(())
             }
-            Move::Open(behind) => self.open_block(piece, behind, is_told),
-            Move::Close => self.close_block(piece, is_told),
-            Move::Refuse => Ok(()),
+            _ => Ok(()),
         }
+    }
+
+    /// Takes the token of the piece if it may come here, and returns whether it may.
+    fn take_token(&mut self, piece: &Piece<'a>, is_told: bool) -> Result<bool, AllocError>
+        ensures keeps { KeepsAt piece.now self.old self.new }
+        ensures cursor { self.new.cursor ≡ self.old.cursor }
+        ensures same { self.new.is_over ≡ self.old.is_over }
+    {
+        let Some(kind) = token_kind(self.alloc, piece.kind) else {
+            return Ok(false);
+        };
+        let phase = self.control.phase();
+        if !self.control.take(&kind)? {
+            return Ok(false);
+        }
+        let _ = self.control.take(&TokenKind::Space)?;
+        self.place = Place::Control;
+        self.is_property = match piece.kind {
+            PieceKind::Left => matches!(phase, Phase::Property),
+            _ => self.is_property,
+        };
+        self.note_block(piece, is_told)?;
+        self.end_node();
+        Ok(true)
     }
 
     /// Notes the place after a `(`.
@@ -390,30 +446,58 @@ impl<'a> Reader<'a> {
         }
     }
 
-    /// Applies the move of the piece.
-    fn apply(&mut self, piece: &Piece<'a>, step: Move, is_told: bool) -> Result<(), AllocError>
+    /// Does what the move says if the piece fits, and returns whether it fits.
+    fn apply(&mut self, piece: &Piece<'a>, step: Move, is_told: bool) -> Result<bool, AllocError>
         ensures keeps { KeepsAt piece.now self.old self.new }
         ensures cursor { self.new.cursor ≡ self.old.cursor }
         ensures same { self.new.is_over ≡ self.old.is_over }
     {
-        self.go_on(piece, step, is_told)?;
-        self.note_left(piece);
-        Ok(())
+        match step {
+            Move::To(place) => {
+                self.go_to(place);
+                Ok(true)
+            }
+            Move::Take => self.take_token(piece, is_told),
+            Move::Refuse => Ok(false),
+        }
     }
 
-    /// Takes a piece that fits, and notes its own fault, except for a string in a type that is faulty already.
-    fn fit(&mut self, piece: &Piece<'a>, step: Move) -> Result<(), AllocError>
+    /// Notes the own fault of a piece that fits at the place, except for a string in a type that is faulty already.
+    fn fit(&mut self, piece: &Piece<'a>, place: Place) -> Result<(), AllocError>
         ensures keeps { KeepsAt piece.now self.old self.new }
         ensures cursor { self.new.cursor ≡ self.old.cursor }
         ensures same { self.new.is_over ≡ self.old.is_over }
     {
-        if let Some(kind) = piece.fault {
-            match self.phase {
-                Phase::TypeFaulty => {}
-                _ => self.note_up_to(kind, &piece.start, &piece.end, piece)?,
-            }
+        self.note_left(piece);
+        if let Place::FaultyType = place {
+            return Ok(());
         }
-        self.apply(piece, step, false)
+        match piece.fault {
+            Some(kind) => self.note_up_to(kind, &piece.start, &piece.end, piece),
+            None => Ok(()),
+        }
+    }
+
+    /// After a piece that does not fit, which ends or begins a node, a block or what a `/-` drops: it does so. A `}`
+    /// outside blocks ends a node.
+    fn go_on(&mut self, piece: &Piece<'a>) -> Result<(), AllocError>
+        ensures keeps { KeepsAt piece.now self.old self.new }
+        ensures cursor { self.new.cursor ≡ self.old.cursor }
+        ensures same { self.new.is_over ≡ self.old.is_over }
+    {
+        let step = self.move_of(piece);
+        if self.apply(piece, step, true)? {
+            return Ok(());
+        }
+        match step {
+            Move::Take => {
+                self.place = Place::Control;
+                self.control.go_to(Phase::Gap);
+                self.end_node();
+                Ok(())
+            }
+            _ => Ok(()),
+        }
     }
 
     /// Takes a piece that does not fit, and notes that. What was expected counts as read; then the piece ends or begins
@@ -425,12 +509,14 @@ impl<'a> Reader<'a> {
         ensures over { self.old.is_over ≡ true → self.new.is_over ≡ true }
     {
         self.misfit(piece)?;
-        self.phase = self.phase.behind_misfit(piece.kind);
-        if goes_on(piece.kind) && !self.is_over {
-            let step = self.move_of(piece);
-            return self.apply(piece, step, true);
-        }
+        let (place, phase) = behind_misfit(self.control.phase(), piece.kind);
+        self.place = place;
+        self.control.go_to(phase);
+        self.is_property = false;
         self.note_left(piece);
+        if goes_on(piece.kind) && !self.is_over {
+            return self.go_on(piece);
+        }
         Ok(())
     }
 
@@ -462,7 +548,7 @@ impl<'a> Reader<'a> {
         if self.is_cut {
             return Ok(());
         }
-        if self.phase.is_due() {
+        if is_due(self.control.phase()) {
             return self.misfit(piece);
         }
         if let Some(kind) = self.missing() {
@@ -479,9 +565,11 @@ impl<'a> Reader<'a> {
     {
         let step = self.move_of(piece);
         self.begin(piece.kind);
-        match step {
-            Move::Refuse => self.mend(piece),
-            _ => self.fit(piece, step),
+        let place = self.place;
+        if self.apply(piece, step, false)? {
+            self.fit(piece, place)
+        } else {
+            self.mend(piece)
         }
     }
 
@@ -568,15 +656,55 @@ impl<'a> Reader<'a> {
         self.note_character(&piece.end)
     }
 
-    /// Advances past a U+FEFF at the start of a document.
-    fn skip_bom(&mut self)
-        ensures keeps { Keeps self.old self.new }
+    /// Takes a piece that has a fault, or else does not fit, without what follows it.
+    fn refuse(&mut self, piece: &Piece<'a>) -> Result<(), AllocError>
+        ensures keeps { KeepsAt piece.now self.old self.new }
         ensures moves { Moves self.old.cursor self.new.cursor }
-        ensures most { Most 1 1 self.old.cursor self.new.cursor }
+        ensures most { Most 24 24 self.old.cursor self.new.cursor }
+        ensures over { piece.now.kind ≡ End → self.new.is_over ≡ true }
     {
-        if let Whole::Document = self.text {
-            let _ = self.cursor.eat('\u{feff}');
+        match piece.kind {
+            PieceKind::Comment | PieceKind::End => self.take_alone(piece),
+            _ if piece.fault.is_some() => self.take_part(piece),
+            _ => self.mend(piece),
         }
+    }
+
+    /// Takes a piece that has a fault, or else does not fit.
+    fn take_refused(&mut self, piece: &Piece<'a>) -> Result<(), AllocError>
+        ensures keeps { KeepsAt piece.now self.old self.new }
+        ensures moves { Moves self.old.cursor self.new.cursor }
+        ensures most { Most 24 24 self.old.cursor self.new.cursor }
+        ensures over { piece.now.kind ≡ End → self.new.is_over ≡ true }
+    {
+        self.refuse(piece)?;
+        self.behind(piece)
+    }
+
+    /// Reads the next piece.
+    fn next(&mut self) -> Result<Piece<'a>, AllocError>
+        ensures keeps { Keeps self.old self.new }
+        ensures piece { IfOk result (λ p. Stands self.old.cursor.rest p) }
+        ensures went { IfOk result (λ p. WentPast p.kind self.old.cursor self.new.cursor) }
+        ensures moves { Moves self.old.cursor self.new.cursor }
+        ensures most { Most 37 41 self.old.cursor self.new.cursor }
+        ensures same { self.new.is_over ≡ self.old.is_over }
+    {
+        let role = self.string_role();
+        next_piece(self.alloc, &mut self.cursor, role)
+    }
+
+    /// Notes the first fault of a document, where its front ends.
+    fn begin_document(&mut self) -> Result<(), AllocError>
+        ensures keeps { Keeps self.old self.new }
+        ensures turning { IfOk result (λ _. Turning self.old.cursor self.new.cursor self.new.is_over) }
+        ensures bounded { Bounded 124 self.old.cursor self.new.cursor }
+    {
+        let Whole::Document = self.text else {
+            return Ok(());
+        };
+        let piece = self.next()?;
+        self.take_refused(&piece)
     }
 
     /// Notes the faults of the text, as if no candidate began an escline.
@@ -587,10 +715,9 @@ impl<'a> Reader<'a> {
         if let Whole::Identifier = self.text {
             return self.read_identifier();
         }
-        self.skip_bom();
+        self.begin_document()?;
         'pieces: while !self.is_over {
-            let role = self.phase.string_role();
-            let piece = next_piece(self.alloc, &mut self.cursor, role)?;
+            let piece = self.next()?;
             self.take(&piece)?;
         }
         Ok(())
@@ -629,8 +756,7 @@ impl<'a> Reader<'a> {
     /// Notes the faults of the text.
     pub(crate) fn find(&mut self) -> Result<(), AllocError>
         ensures keeps { Keeps self.old self.new }
-        ensures bounded { (text : Text) → IsReaderOf text self.old → self.old.cursor.rest ≡ text
-            → Bounded 128 self.old.cursor self.new.cursor }
+        ensures bounded { (text : Text) → IsReaderOf text self.old → Recovers text self.old.cursor self.new.cursor }
     {
         self.read()?;
         self.settle_all()

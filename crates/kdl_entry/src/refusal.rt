@@ -1,5 +1,6 @@
 //! The error of a refused text: its first diagnostic is near the place where the text is refused.
 
+ghost use Rattle.kdl_diagnostics.specs.Internal.Noted.{OnRefused};
 ghost use Rattle.kdl_entry.specs.Internal.Near.{BeginNear, FailsNear, ReportsNear};
 ghost use Rattle.kdl_lexer.specs.Earliest.{IsNear};
 ghost use Rattle.kdl_text.specs.Failures.{IsToldOf, Tells, TellsOf};
@@ -90,7 +91,7 @@ pub fn refusal(
     requires { InText (chars text.now) span }
     ensures tells { TellsOf text.now result }
     ensures near { FailsNear text.now span.offset result }
-    ensures most { steps.new ≤ steps.old + 128 * (length text.now + 1) }
+    ensures most { OnRefused result (steps.new ≤ steps.old + 152 * (length text.now + 1)) }
     ensures raised { raise steps.old 0 ≤ raise steps.new 0 }
 {
     match failure(alloc, text, whole, span, steps) {

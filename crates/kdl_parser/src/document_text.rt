@@ -84,10 +84,10 @@ pub fn read_document<N: ParsedNode>(
     ensures told { TellsOnSyntax text.now result }
     ensures earliest { EarliestOnSyntax text.now result }
     // At least a step for each character is counted, and at most 32 for each byte and 32 more; for a refused text and
-    // the report of its faults, at most 160.
+    // the report of its faults, at most 184.
     ensures least { OnOk result (raise steps.old (length (chars text.now)) ≤ steps.new) }
     ensures most { OnOk result (steps.new ≤ steps.old + 32 * (length text.now + 1)) }
-    ensures told_most { IsSyntax result → steps.new ≤ steps.old + 160 * (length text.now + 1) }
+    ensures told_most { IsSyntax result → steps.new ≤ steps.old + 184 * (length text.now + 1) }
     ensures raised { raise steps.old 1 ≤ steps.new }
 {
     match read_counted(alloc, text, steps) {

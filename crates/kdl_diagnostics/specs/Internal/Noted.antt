@@ -3,11 +3,14 @@ use Rattle.std.specs.Prelude.{◌≡◌, ℕ, ◌+◌, ◌*◌, ◌≤◌, ◌++
 use Rattle.kdl_text.specs.Chars.{Text}
 use Rattle.kdl_text.specs.Internal.Here.{Here, Position}
 use Rattle.kdl_text.specs.Spans.{InText, bytes, raise}
+use Rattle.kdl_text.specs.declared.error.ParseFailure.{ParseFailure}
+use Rattle.kdl_text.specs.declared.error.ParseFailure.TheVariants.{Syntax, Memory}
 use Rattle.kdl_diagnostics.specs.Internal.Reading.{Stands}
 use Rattle.kdl_diagnostics.specs.declared.pieces.Piece.{Piece}
 use Rattle.kdl_diagnostics.specs.declared.reader.Block.{Block}
 use Rattle.kdl_diagnostics.specs.declared.reader.Fault.{Fault}
 use Rattle.kdl_diagnostics.specs.declared.esclines.Candidate.{Candidate}
+use Rattle.kdl_diagnostics.specs.declared.front.Front.{Front}
 use Rattle.kdl_diagnostics.specs.declared.reader.Reader.{Reader}
 
 -- the place is in the text
@@ -35,6 +38,22 @@ pub record IsReaderOf (text : Text) (r : Reader) : Type 0 where
   pub blocks : Opened text r.blocks.items
   pub candidates : Candidates text r.candidates.items
 
+-- a front of the text: all its places and all its spans are in the text
+pub record IsFrontOf (text : Text) (f : Front) : Type 0 where
+  pub whole : f.whole.rest ≡ text
+  pub left : LiesIn text f.left
+  pub place : LiesIn text f.place
+  pub from : LiesIn text f.from
+  pub blocks : Opened text f.blocks.items
+
+-- a front of a text stays a front of the text
+abbrev pub KeepsFront : Front → Front → Type 0
+KeepsFront old new = (text : Text) → IsFrontOf text old → IsFrontOf text new
+
+-- if two places are in the text, a front of the text stays one
+abbrev pub KeepsFrontBetween : Position → Position → Front → Front → Type 0
+KeepsFrontBetween a b old new = (text : Text) → IsFrontOf text old → LiesIn text a → LiesIn text b → IsFrontOf text new
+
 -- a reader of a text stays a reader of the text
 abbrev pub Keeps : Reader → Reader → Type 0
 Keeps old new = (text : Text) → IsReaderOf text old → IsReaderOf text new
@@ -55,12 +74,22 @@ KeepsUpTo p a b old new = (text : Text) → IsReaderOf text old → Stands text 
 abbrev pub IsPlaceAt : Reader → Piece → Position → Type 0
 IsPlaceAt r p place = (text : Text) → IsReaderOf text r → Stands text p → LiesIn text place
 
--- at most k steps for each byte that was to be read, and k more; the count did not fall
+-- at most k steps for each byte that was to be read, and 100 more; the count did not fall
 pub record Bounded (k : ℕ) (old new : Here) : Type 0 where
-  pub most : new.steps ≤ old.steps + k * (bytes old.rest + 1)
+  pub most : new.steps ≤ old.steps + (k * bytes old.rest + 100)
   pub counts : raise old.steps 0 ≤ raise new.steps 0
 
 -- at most k steps for each byte of the text that is read again, and k more; the count did not fall
 pub record ReadsAgain (k : ℕ) (old new : Reader) : Type 0 where
   pub most : new.cursor.steps ≤ old.cursor.steps + k * (bytes old.whole.rest + 1)
   pub counts : raise old.cursor.steps 0 ≤ raise new.cursor.steps 0
+
+-- at most 128 steps for each byte of the text, and 104 more; the count did not fall
+pub record Recovers (text : Text) (old new : Here) : Type 0 where
+  pub most : new.steps ≤ old.steps + (128 * bytes text + 104)
+  pub counts : raise old.steps 0 ≤ raise new.steps 0
+
+-- if the text was refused, and memory did not run out, P
+abbrev pub OnRefused : ParseFailure → Type 0 → Type 0
+OnRefused (Syntax e) P = P
+OnRefused Memory P = Unit {0}

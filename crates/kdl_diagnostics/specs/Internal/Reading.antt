@@ -1,9 +1,9 @@
 -- What the readers of pieces and value ends advance past, and what that costs.
-use Rattle.std.specs.Prelude.{◌≡◌, ℕ, ◌+◌, ◌-◌, ◌*◌, ◌<◌, ◌≤◌, ◌++◌, Option, Some, None}
+use Rattle.std.specs.Prelude.{◌≡◌, ℕ, ◌+◌, ◌-◌, ◌*◌, ◌<◌, ◌≤◌, ◌++◌, Bool, true, false, Option, Some, None}
 use Rattle.std.specs.Option.{IfSome}
 use Rattle.kdl_text.specs.Chars.{Text}
 use Rattle.kdl_text.specs.Internal.Here.{Ahead, Here, Position}
-use Rattle.kdl_text.specs.Spans.{bytes}
+use Rattle.kdl_text.specs.Spans.{bytes, raise}
 use Rattle.kdl_text.specs.Internal.Reading.{Moves}
 use Rattle.kdl_diagnostics.specs.declared.ends.Unclosed.{Unclosed}
 use Rattle.kdl_diagnostics.specs.declared.ends.ValueEnd.{ValueEnd}
@@ -98,3 +98,13 @@ pub record IsPiece (place : Position) (p : Piece) (new : Here) : Type 0 where
   pub stands : Stands place.rest p
   pub more : p.kind ≡ End → ⊥
   pub went : bytes new.rest < bytes place.rest
+
+-- how far the loop over the pieces is: until reading is over, a last turn is to come
+abbrev pub turns_left : Bool → ℕ
+turns_left true = 0
+turns_left false = 1
+
+-- what the turns of that loop cost: at most 124 steps for each byte, and 66 more
+pub record Turning (old new : Here) (over : Bool) : Type 0 where
+  pub counts : raise old.steps 0 ≤ raise new.steps 0
+  pub most : new.steps + 124 * bytes new.rest + 65 * turns_left over ≤ old.steps + 124 * bytes old.rest + 66

@@ -6,6 +6,10 @@ use Rattle.kdl_text.specs.Spans.{bytes}
 use Rattle.kdl_lexer.specs.Tokens.{Token, t_bom}
 use Rattle.kdl_lexer.specs.declared.lexer.LexFailure.{LexFailure}
 use Rattle.kdl_lexer.specs.declared.lexer.LexFailure.TheVariants.{Faulty, Memory}
+use Rattle.kdl_text.specs.Failures.{IsSyntax}
+use Rattle.kdl_text.specs.declared.error.ParseFailure.{ParseFailure}
+use Rattle.kdl_text.specs.declared.error.ParseFailure.TheVariants.{Syntax, Memory as NoMemory}
+use Rattle.kdl_diagnostics.specs.Internal.Noted.{OnRefused}
 use Rattle.kdl_lexer.proofs.Lexing.TokenUnique.{token_det}
 use Rattle.kdl_text.proofs.Looking.Texts.{bytes-chars}
 use Rattle.kdl_text.proofs.Looking.MovesJoin.{bytes-append}
@@ -115,5 +119,6 @@ pub most_counted : (text : List ℕ) (old new : ℕ) → IsUtf8 text → Counted
 most_counted text old new u c = omega (arith, c.most, bytes-chars text u)
 
 -- where it is refused, and the faults are reported from mid on
-pub told_counted : (text : List ℕ) (old mid new : ℕ) → IsUtf8 text → mid ≤ old + 32 * (bytes (chars text) + 1) → new ≤ mid + 128 * (length text + 1) → new ≤ old + 160 * (length text + 1)
-told_counted text old mid new u c d = omega (arith, c, d, bytes-chars text u)
+pub told_counted : {A : Type 0} (text : List ℕ) (old mid new : ℕ) (f : ParseFailure) → IsUtf8 text → mid ≤ old + 32 * (bytes (chars text) + 1) → OnRefused f (new ≤ mid + 152 * (length text + 1)) → IsSyntax {A = A} (Err f) → new ≤ old + 184 * (length text + 1)
+told_counted text old mid new (Syntax e) u c d s = omega (arith, c, d, bytes-chars text u)
+told_counted text old mid new NoMemory u c d s = absurd s

@@ -5,7 +5,7 @@ use Rattle.kdl_parser.proofs.document_text.read_document.Goals as goal
 
 pub returns-in-Err-Faulty-clause-told_most : goal.returns-in-Err-Faulty-clause-told_most
 returns-in-Err-Faulty-clause-told_most g c =
-    λ _. told_counted c.args.text.now c.args.steps.now c.read_counted.new.steps c.refusal.new.steps c.utf8.text (rw (c.in-Err-Faulty.is, c.in-Err-Faulty.field-0-is) at c.read_counted.ensures.counted) c.refusal.ensures.most
+    told_counted c.args.text.now c.args.steps.now c.read_counted.new.steps c.refusal.new.steps c.refusal.result c.utf8.text (rw (c.in-Err-Faulty.is, c.in-Err-Faulty.field-0-is) at c.read_counted.ensures.counted) c.refusal.ensures.most
 
 pub returns-in-Err-Faulty-clause-earliest : goal.returns-in-Err-Faulty-clause-earliest
 returns-in-Err-Faulty-clause-earliest g c =

@@ -1,4 +1,4 @@
 use Rattle.kdl_diagnostics.proofs.reader.Reader.apply.Goals as goal
 
-pub returns-clause-keeps : goal.returns-clause-keeps
-returns-clause-keeps c text x s = c.note_left.ensures.keeps text (c.in_ok-go_on.ensures.keeps text x s) s
+pub returns-in-To-clause-keeps : goal.returns-in-To-clause-keeps
+returns-in-To-clause-keeps c text x s = c.go_to.ensures.keeps text x

@@ -1,7 +1,7 @@
 use Rattle.std.proofs.Common.{◌+◌}
 use Rattle.kdl_text.specs.Spans.{bytes}
 use Rattle.kdl_diagnostics.specs.Internal.Noted.{Keeps}
-use Rattle.kdl_diagnostics.proofs.ReaderCost.{Turning, turns_left}
+use Rattle.kdl_diagnostics.specs.Internal.Reading.{Turning, turns_left}
 use Rattle.kdl_diagnostics.proofs.reader.Reader.read.Given as goal
 
 abbrev pub invariant-pieces : goal.invariant-pieces

@@ -1,0 +1,20 @@
+use Rattle.kdl_diagnostics.proofs.NotedSpans.{opened_more, opened_same, span_at}
+use Rattle.kdl_diagnostics.proofs.front.Front.open_block.Goals as goal
+
+pub returns-in_err-push : goal.returns-in_err-push
+returns-in_err-push c text x u v = record {
+  whole = x.whole;
+  left = x.left;
+  place = x.place;
+  from = x.from;
+  blocks = opened_same text c.args.self.now.blocks.items c.push.new.self.items c.in_err-push.ensures.items x.blocks;
+}
+
+pub returns : goal.returns
+returns c text x u v = record {
+  whole = x.whole;
+  left = x.left;
+  place = x.place;
+  from = x.from;
+  blocks = opened_more text c.args.self.now.blocks.items c.push.new.self.items _ c.in_ok-push.ensures.items x.blocks (span_at text c.args.self.now.whole.rest c.args.token.now.at.start c.args.token.now.at.end c.span_between-span.result x.whole u v c.span_between-span.ensures);
+}
