@@ -38,7 +38,7 @@ pub fn parse_counted(
 ) -> Result<KdlDocument, ParseFailure>
     ensures least { OnOk result (raise steps.old (length (chars text.now)) ≤ steps.new) }
     ensures most { OnOk result (steps.new ≤ steps.old + 32 * (length text.now + 1)) }
-    ensures told_most { IsSyntax result → steps.new ≤ steps.old + 160 * (length text.now + 1) }
+    ensures told_most { IsSyntax result → steps.new ≤ steps.old + 184 * (length text.now + 1) }
     ensures raised { raise steps.old 1 ≤ steps.new }
 {
     KdlDocument::parse_counted(alloc, text, steps)

@@ -29,7 +29,7 @@ fn parse_from(alloc: Global, text: &str, steps: &mut Steps) -> Result<KdlDocumen
     ensures earliest { EarliestOnSyntax text.now result }
     ensures least { OnOk result (raise steps.old (length (chars text.now)) ≤ steps.new) }
     ensures most { OnOk result (steps.new ≤ steps.old + 32 * (length text.now + 1)) }
-    ensures told_most { IsSyntax result → steps.new ≤ steps.old + 160 * (length text.now + 1) }
+    ensures told_most { IsSyntax result → steps.new ≤ steps.old + 184 * (length text.now + 1) }
     ensures raised { raise steps.old 1 ≤ steps.new }
 {
     match read_document(alloc, text, steps) {
@@ -106,7 +106,7 @@ impl KdlDocument {
     /// step is one look at a character or at a token, or one byte of a slice of the text.
     ///
     /// A document of n bytes takes at least a step for each character and at most 32 (n + 1) steps. A refused text
-    /// takes at least one step, and at most 160 (n + 1).
+    /// takes at least one step, and at most 184 (n + 1).
     ///
     /// ```
     /// let mut steps = Steps::new();
@@ -136,10 +136,10 @@ impl KdlDocument {
             → IsDocument true (print_document e 0) (document_data e)) }
         ensures reads { IfOk result (λ d. DocumentReadsBack d) }
         // At least a step for each character is counted, and at most 32 for each byte and 32 more. For a refused text,
-        // with its diagnostics, it is at most 160.
+        // with its diagnostics, it is at most 184.
         ensures least { OnOk result (raise steps.old (length (chars text.now)) ≤ steps.new) }
         ensures most { OnOk result (steps.new ≤ steps.old + 32 * (length text.now + 1)) }
-        ensures told_most { IsSyntax result → steps.new ≤ steps.old + 160 * (length text.now + 1) }
+        ensures told_most { IsSyntax result → steps.new ≤ steps.old + 184 * (length text.now + 1) }
         ensures raised { raise steps.old 1 ≤ steps.new }
     {
         parse_from(alloc, text, steps)
