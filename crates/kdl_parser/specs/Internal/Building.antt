@@ -141,7 +141,7 @@ abbrev pub pending_held : Option machine.Pending → Option machine.Pending
 pending_held None = None
 pending_held (Some (pending c k a)) = Some (pending c (only c k (plain_identifier [])) (only c a []))
 
-abbrev pub spot_held : machine.Position → machine.Position
+abbrev pub spot_held : machine.Spot → machine.Spot
 spot_held (machine.fresh o) = machine.fresh (pending_held o)
 spot_held (machine.spaced o) = machine.spaced (pending_held o)
 spot_held machine.later = machine.later
