@@ -14,10 +14,13 @@ use std::fmt::{Formatter, Write};
 /// ```
 /// write_text("two words", f)?; // writes these nine characters, without quotes
 /// ```
-#[inline]
+#[inline(always)]
 pub fn write_text<W: Write>(text: &str, f: &mut Formatter<W>) -> fmt::Result
     ensures { WritesOnOk W.write_str_gives f.old result (encode_utf8_all (chars text.now)) f.new }
 {
+    if text.is_empty() {
+        return Ok(());
+    }
     f.write_str(text)
 }
 
