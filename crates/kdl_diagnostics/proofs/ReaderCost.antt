@@ -6,7 +6,7 @@ use Rattle.kdl_text.specs.Chars.{Text}
 use Rattle.kdl_text.specs.Internal.Here.{Here, Position, Took, looked}
 use Rattle.kdl_text.specs.Spans.{bytes, raise}
 use Rattle.kdl_text.specs.Internal.Reading.{Moves}
-use Rattle.kdl_text.proofs.Looking.MovesJoin.{bytes-append, fewer_bytes, stays}
+use Rattle.kdl_text.proofs.Looking.MovesJoin.{bytes-append, fewer_bytes}
 use Rattle.kdl_text.proofs.Looking.Texts.{bytes-chars}
 use Rattle.kdl_diagnostics.specs.Internal.Noted.{Bounded, IsReaderOf, LiesIn, ReadsAgain, Recovers}
 use Rattle.kdl_diagnostics.specs.Internal.Reading.{Most, WentPast, Turning, turns_left}
@@ -91,10 +91,6 @@ turning_fails f a b over n t m x = record { most = omega (arith, t.most, still_l
 
 pub turning_stops : (f a b e : Here) (over : Bool) → over ≡ false → Turning f a over → Moves a b → Most 37 41 a b → Moves b e → Most 24 24 b e → Bounded 124 f e
 turning_stops f a b e over n t m x m' x' = record { most = omega (arith, t.most, still_left over n, fewer_bytes m, fewer_bytes m'); counts = omega (arith, t.counts, m.counts, m'.counts) }
-
--- where the cursor stays
-pub same_cursor : (a b : Here) → b ≡ a → Moves a b × Most 24 24 a b
-same_cursor a b e = (rw e (stays a), rw e (omega arith))
 
 -- the text of a reader, read again from its start
 pub read_again : (old new : Reader) (a b : Here) → a ≡ record { rest = old.whole.rest; at = old.whole.at; steps = old.cursor.steps } → Moves a b → Most 4 1 a b → new.cursor ≡ b → ReadsAgain 4 old new

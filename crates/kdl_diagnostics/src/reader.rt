@@ -18,7 +18,6 @@ ghost use Rattle.kdl_text.specs.Internal.Reading.{Moves};
 ghost use Rattle.kdl_text.specs.Chars.{Text};
 ghost use Rattle.kdl_text.specs.Spans.{raise};
 ghost use Rattle.std.specs.Prelude.{◌≡◌, ◌+◌, ◌≤◌, true, false, IfOk};
-ghost use Rattle.std.specs.Str.{chars};
 
 use crate::ends::{is_value_end, value_end};
 use crate::esclines::{Candidate, esclines};

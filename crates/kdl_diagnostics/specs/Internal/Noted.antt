@@ -46,10 +46,6 @@ pub record IsFrontOf (text : Text) (f : Front) : Type 0 where
   pub from : LiesIn text f.from
   pub blocks : Opened text f.blocks.items
 
--- a front of a text stays a front of the text
-abbrev pub KeepsFront : Front → Front → Type 0
-KeepsFront old new = (text : Text) → IsFrontOf text old → IsFrontOf text new
-
 -- if two places are in the text, a front of the text stays one
 abbrev pub KeepsFrontBetween : Position → Position → Front → Front → Type 0
 KeepsFrontBetween a b old new = (text : Text) → IsFrontOf text old → LiesIn text a → LiesIn text b → IsFrontOf text new
