@@ -28,7 +28,7 @@ stands_at s p m n c is_start is_next is_comment spans (q, e) back unclosed backs
       comment = λ k h. met c k (sym is_comment ∙ h) unclosed;
     }
   where
-    met : (c : Option Unclosed) (k : Unclosed) → c ≡ Some k → OnUnclosed m c n → (q r : Text) × (s.place.rest ≡ q ++ k.at.start.rest) × (k.at.start.rest ≡ r ++ k.at.end.rest)
+    met : (c : Option Unclosed) (k : Unclosed) → c ≡ Some k → OnUnclosed m c n → (q r : Text) × (s.place.rest ≡ q ++ k.start.rest) × (k.start.rest ≡ r ++ k.end.rest)
     met None k h u = cc
     met (Some j) k h u =
         let same : j ≡ k = cc in
