@@ -11,8 +11,8 @@ use std::alloc::Global;
 use std::io::ErrorKind;
 use std::process::ExitCode;
 use std::{env, io};
-use tool::{Outcome, run};
 use tool::watched::Watched;
+use tool::{Outcome, run};
 
 /// Runs the tool with the arguments, standard input and standard output, and writes to standard error why it stopped.
 fn main(rt: HostRuntime) -> ExitCode {

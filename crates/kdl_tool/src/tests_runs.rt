@@ -5,8 +5,8 @@ use crate::tests::{NEVER, Sink, Source, equal, holds};
 use std::alloc::{AllocError, Global};
 use std::process::Abort;
 use std::test::Fail;
-use tool::{Outcome, run};
 use tool::watched::Watched;
+use tool::{Outcome, run};
 
 /// What a run reads: the input, how many bytes a read returns, and which read fails.
 #[derive(Clone, Copy)]
