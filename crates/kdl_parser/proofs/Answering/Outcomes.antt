@@ -119,6 +119,6 @@ pub most_counted : (text : List ℕ) (old new : ℕ) → IsUtf8 text → Counted
 most_counted text old new u c = omega (arith, c.most, bytes-chars text u)
 
 -- where it is refused, and the faults are reported from mid on
-pub told_counted : {A : Type 0} (text : List ℕ) (old mid new : ℕ) (f : ParseFailure) → IsUtf8 text → mid ≤ old + 32 * (bytes (chars text) + 1) → OnRefused f (new ≤ mid + 152 * (length text + 1)) → IsSyntax {A = A} (Err f) → new ≤ old + 184 * (length text + 1)
+pub told_counted : (text : List ℕ) (old mid new : ℕ) (f : ParseFailure) → IsUtf8 text → mid ≤ old + 32 * (bytes (chars text) + 1) → OnRefused f (new ≤ mid + 152 * (length text + 1)) → IsSyntax {A = Text} (Err f) → new ≤ old + 184 * (length text + 1)
 told_counted text old mid new (Syntax e) u c d s = omega (arith, c, d, bytes-chars text u)
 told_counted text old mid new NoMemory u c d s = absurd s
