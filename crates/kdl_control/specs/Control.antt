@@ -119,6 +119,11 @@ step (at kept_slashdash fs) newline = Some (at kept_slashdash fs)
 step (at kept_slashdash fs) opening = Some (at gap (in_later ∷ fs))
 step _ _ = None
 
+-- the phase, where no block is open
+abbrev pub without_block : Option Control → Option Phase
+without_block (Some (at p [])) = Some p
+without_block _ = None
+
 -- the text may end here
 abbrev pub finish : Control → Bool
 finish (at gap []) = true

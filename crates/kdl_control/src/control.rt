@@ -1,11 +1,11 @@
 //! Which token may come where, and the open blocks.
 
 ghost use Rattle.kdl_control.specs.Control as control;
-ghost use Rattle.kdl_control.specs.Control.{is_block, is_gap, is_over, is_word};
+ghost use Rattle.kdl_control.specs.Control.{is_block, is_gap, is_over, is_word, without_block};
 ghost use Rattle.kdl_control.specs.Internal.Views.{IsMove, control_view, frame_view, move_view, owner_view, phase_view, spot_view};
 ghost use Rattle.kdl_control.specs.declared.control.Phase.TheVariants.{InNode};
 ghost use Rattle.kdl_lexer.specs.Internal.Handed.{kind_view};
-ghost use Rattle.std.specs.Prelude.{◌≡◌, ◌∷◌, IfOk, List, MatchOption, Some, None, [], true, false, if◌then◌else◌};
+ghost use Rattle.std.specs.Prelude.{◌≡◌, ◌∷◌, IfOk, List, MatchOption, Some, None, [], true, false, if◌then◌else◌, option_map};
 
 use kdl_lexer::TokenKind;
 use std::alloc::{AllocError, Global};
@@ -265,6 +265,26 @@ fn token_move(phase: Phase, kind: &TokenKind) -> Move
         Phase::BlockSlashdash => in_block_slashdash(kind),
         Phase::Kept => in_kept(kind),
         Phase::KeptSlashdash => in_kept_slashdash(kind),
+    }
+}
+
+impl Phase {
+    /// Returns the phase after a token, where no block is open, or `None` if the token may not come
+    /// here or opens a block.
+    ///
+    /// ```
+    /// let behind = Phase::Property.after(&TokenKind::Space); // `Some(Phase::Property)`
+    /// let refused = Phase::Property.after(&TokenKind::Equals); // `None`
+    /// let block = Phase::EntrySlashdash.after(&TokenKind::Opening); // `None`
+    /// ```
+    pub fn after(self, kind: &TokenKind) -> Option<Phase>
+        ensures { option_map phase_view result ≡
+            without_block (control.step (control.at (phase_view self) []) (kind_view kind.now)) }
+    {
+        match token_move(self, kind) {
+            Move::To(phase) => Some(phase),
+            _ => None,
+        }
     }
 }
 
