@@ -7,8 +7,9 @@ use Rattle.kdl_text.proofs.Looking.Ends.{End, then, end_star}
 use Rattle.kdl_entry.specs.Data as data'
 use Rattle.kdl_value.specs.Data.{Value, text}
 use Rattle.kdl_entry.specs.Entries.{IsString, string as a_string', IsPlainValue, a_string, a_plain, parens, MaybeType, untyped, typed, value as a_value, IsEntry, property, argument, DroppedFirst, dropped_first, BeforeEntry, before_entry, IsEntryText, entry_text}
-use Rattle.kdl_entry.specs.Internal.EntryMachine.{Word, State, ahead, entry_slashdash, under, dropped, word, done, opened_item, word_at, entry_by, argument_of, step, ended, Runs, stops, reads, AnswersEntry}
+use Rattle.kdl_entry.specs.Internal.EntryMachine.{Word, State, ahead, dropping, under, word, done, opened_item, word_at, entry_by, argument_of, step, ended, Runs, stops, reads, AnswersEntry}
 use Rattle.kdl_entry.specs.Internal.Items.{TypeParts, KeyParts, type_of, before_name, after_name, behind_type, identifier_at, Stage, opened, named, closed, keyed, Item}
+use Rattle.kdl_control.specs.Control.{fresh, spaced, type_open, type_name, type_done, in_node, property as in_property, entry_slashdash}
 use Rattle.kdl_entry.specs.Laid.{LaidIdentifier, spelled, LaidType, no_type, a_type, no_key, a_key, LaidItem, item, LaidEntryText, laid_entry_text}
 use Rattle.kdl_entry.specs.Places.{span_of, between}
 use Rattle.kdl_lexer.specs.Tokens.{space, newline, slashdash as a_slashdash, string, value, left, t_space, t_newline, t_slashdash, t_string, t_value, t_left, t_right, t_equals}
@@ -39,13 +40,13 @@ module _ (whole : Text) where
   record Starts (st : State) : Type 0 where
     to_string : (v s r : Text) → step whole st (string v) s r ≡ Some (word (word_at whole v s r) r)
     to_value : (v : Value) (s r : Text) → step whole st (value v) s r ≡ Some (done (entry_by (between whole s) None None v (between s r)) r)
-    to_left : (s r : Text) → step whole st left s r ≡ Some (under (opened_item s true (between whole s) r))
-    to_slashdash : (s r : Text) → step whole st a_slashdash s r ≡ Some entry_slashdash
+    to_left : (s r : Text) → step whole st left s r ≡ Some (under (opened_item s (between whole s) r))
+    to_slashdash : (s r : Text) → step whole st a_slashdash s r ≡ Some (dropping entry_slashdash)
 
   at_ahead : Starts ahead
   at_ahead = record { to_string = λ v s r. refl; to_value = λ v s r. refl; to_left = λ s r. refl; to_slashdash = λ s r. refl }
 
-  at_spaced : (b : Bool) → Starts (dropped b true)
+  at_spaced : (b : Bool) → Starts (dropping (in_node (spaced b)))
   at_spaced b = record { to_string = λ v s r. refl; to_value = λ v s r. refl; to_left = λ s r. refl; to_slashdash = λ s r. refl }
 
   -- after the entry e
@@ -53,28 +54,28 @@ module _ (whole : Text) where
     is_word : {w : Word} → argument_of w ≡ e → After e r (word w r)
     is_done : After e r (done e r)
 
-  abbrev item_at : Text → Stage → Bool → Text → Text → Option KeyParts → Identifier → Text → Text → Item
-  item_at h g kept q from k i b a = record { kept = kept; valued = true; stage = g; leading = q; start = h; from = from; key = k; name = i; before = b; after = a }
+  abbrev item_at : Text → Stage → Text → Text → Option KeyParts → Identifier → Text → Text → Item
+  item_at h g q from k i b a = record { valued = true; stage = g; leading = q; start = h; from = from; key = k; name = i; before = b; after = a }
 
   abbrev parts : Text → Text → Text → Text → Text → Text → TypeParts
   parts y s1 s2 s3 s4 t = record { name = identifier_at whole y s2 s3; before = between s1 s2; after = between s3 (41 ∷ s4); behind = between s4 t }
 
   kept_type : (out : Entry) → {s1 s2 s3 s4 t r y : Text} {v : Value} → Star NodeSpace s1 s2 → IsString true s2 s3 y → Star NodeSpace s3 (41 ∷ s4) → Star NodeSpace s4 t → IsPlainValue true t r v
-      → (h q : Text) (k : Option KeyParts) (i : Identifier) (b a : Text) → Runs whole out (done (entry_by q k (Some (parts y s1 s2 s3 s4 t)) v (between t r)) r) r → Runs whole out (under (item_at h opened true q s1 k i b a)) s1
+      → (h q : Text) (k : Option KeyParts) (i : Identifier) (b a : Text) → Runs whole out (done (entry_by q k (Some (parts y s1 s2 s3 s4 t)) v (between t r)) r) r → Runs whole out (under (item_at h opened q s1 k i b a)) s1
   kept_type out {s1 = s1} {s2 = s2} {s3 = s3} {s4 = s4} {t = t} {r = r} {y = y} ss d us vs p h q k i b a x =
       let n = identifier_at whole y s2 s3 in
-      stay out (under (item_at h opened true q s1 k i b a)) (λ s r. refl) ss (read_string out d refl
-      (stay out (under (item_at h named true q s3 k n (between s1 s2) a)) (λ s r. refl) us (reads t_right refl
-      (stay out (under (item_at h closed true q s4 k n (between s1 s2) (between s3 (41 ∷ s4)))) (λ s r. refl) vs
-      (read_plain out p (under (item_at h closed true q s4 k n (between s1 s2) (between s3 (41 ∷ s4)))) (λ v. done (entry_by q k (Some (parts y s1 s2 s3 s4 t)) v (between t r)) r) (λ v. refl) (λ v. refl) x)))))
+      stay out (under (item_at h opened q s1 k i b a)) (λ s r. refl) ss (read_string out d refl
+      (stay out (under (item_at h named q s3 k n (between s1 s2) a)) (λ s r. refl) us (reads t_right refl
+      (stay out (under (item_at h closed q s4 k n (between s1 s2) (between s3 (41 ∷ s4)))) (λ s r. refl) vs
+      (read_plain out p (under (item_at h closed q s4 k n (between s1 s2) (between s3 (41 ∷ s4)))) (λ v. done (entry_by q k (Some (parts y s1 s2 s3 s4 t)) v (between t r)) r) (λ v. refl) (λ v. refl) x)))))
 
   dropped_type : (out : Entry) → {s1 s2 s3 s4 t r y : Text} {v : Value} → Star NodeSpace s1 s2 → IsString true s2 s3 y → Star NodeSpace s3 (41 ∷ s4) → Star NodeSpace s4 t → IsPlainValue true t r v
-      → (h q : Text) (k : Option KeyParts) (i : Identifier) (b a : Text) → Runs whole out (dropped false false) r → Runs whole out (under (item_at h opened false q s1 k i b a)) s1
-  dropped_type out {s1 = s1} {s2 = s2} {s3 = s3} {s4 = s4} {t = t} {r = r} ss d us vs p h q k i b a x =
-      stay out (under (item_at h opened false q s1 k i b a)) (λ s r. refl) ss (read_string out d refl
-      (stay out (under (item_at h named false q s3 k i b a)) (λ s r. refl) us (reads t_right refl
-      (stay out (under (item_at h closed false q s4 k i b a)) (λ s r. refl) vs
-      (read_plain out p (under (item_at h closed false q s4 k i b a)) (λ v. dropped false false) (λ v. refl) (λ v. refl) x)))))
+      → Runs whole out (dropping (in_node (fresh false))) r → Runs whole out (dropping (type_open true)) s1
+  dropped_type out ss d us vs p x =
+      stay out (dropping (type_open true)) (λ s r. refl) ss (read_string out d refl
+      (stay out (dropping (type_name true)) (λ s r. refl) us (reads t_right refl
+      (stay out (dropping (type_done true)) (λ s r. refl) vs
+      (read_plain out p (dropping (type_done true)) (λ v. dropping (in_node (fresh false))) (λ v. refl) (λ v. refl) x)))))
 
   spelled_at : {s r v : Text} → IsString true s r v → LaidIdentifier true whole (identifier_at whole v s r) s r
   spelled_at d = spelled (place d (end_string d)) refl
@@ -85,16 +86,16 @@ module _ (whole : Text) where
     laid : LaidType true whole (type_of type) (before_name type) (after_name type) (behind_type type) s t
     same : option_map (λ (i : Identifier). i.value) (type_of type) ≡ y
     starts : (out : Entry) (st : State) → Starts st → ((st' : State) → After (entry_by (between whole s) None type v (between t r)) r st' → Runs whole out st' r) → Runs whole out st s
-    drops : (out : Entry) → ((b : Bool) → Runs whole out (dropped b false) r) → Runs whole out entry_slashdash s
+    drops : (out : Entry) → ((b : Bool) → Runs whole out (dropping (in_node (fresh b))) r) → Runs whole out (dropping entry_slashdash) s
     behind_key : (out : Entry) (h q from : Text) (i : Identifier) (b : Text) → Runs whole out (done (entry_by q (Some (record { name = i; before = b; behind = between from s })) type v (between t r)) r) r
-        → Runs whole out (under (item_at h keyed true q from None i b [])) s
-    drops_behind : (out : Entry) (h from : Text) → Runs whole out (dropped false false) r → Runs whole out (under (item_at h keyed false [] from None (plain_identifier []) [] [])) s
+        → Runs whole out (under (item_at h keyed q from None i b [])) s
+    drops_behind : (out : Entry) → Runs whole out (dropping (in_node (fresh false))) r → Runs whole out (dropping in_property) s
 
   starts_plain : {s r : Text} {v : Value} → IsPlainValue true s r v → (out : Entry) (st : State) → Starts st → ((st' : State) → After (entry_by (between whole s) None None v (between s r)) r st' → Runs whole out st' r) → Runs whole out st s
   starts_plain {s = s} {r = r} (a_string {v = v} d) out st z a = read_string out d (z.to_string v s r) (a (word (word_at whole v s r) r) (is_word refl))
   starts_plain {s = s} {r = r} (a_plain {v = v} p e) out st z a = reads (t_value p) (z.to_value v s r) (a (done (entry_by (between whole s) None None v (between s r)) r) is_done)
 
-  drops_plain : {s r : Text} {v : Value} → IsPlainValue true s r v → (out : Entry) → ((b : Bool) → Runs whole out (dropped b false) r) → Runs whole out entry_slashdash s
+  drops_plain : {s r : Text} {v : Value} → IsPlainValue true s r v → (out : Entry) → ((b : Bool) → Runs whole out (dropping (in_node (fresh b))) r) → Runs whole out (dropping entry_slashdash) s
   drops_plain (a_string d) out a = read_string out d refl (a true)
   drops_plain (a_plain p e) out a = reads (t_value p) refl (a false)
 
@@ -105,17 +106,17 @@ module _ (whole : Text) where
     same = refl;
     starts = λ out st z a. starts_plain d out st z a;
     drops = λ out a. drops_plain d out a;
-    behind_key = λ out h q from i b x. read_plain out d (under (item_at h keyed true q from None i b [])) (λ v. done (entry_by q (Some (record { name = i; before = b; behind = between from s })) None v (between s r)) r) (λ v. refl) (λ v. refl) x;
-    drops_behind = λ out h from x. read_plain out d (under (item_at h keyed false [] from None (plain_identifier []) [] [])) (λ v. dropped false false) (λ v. refl) (λ v. refl) x;
+    behind_key = λ out h q from i b x. read_plain out d (under (item_at h keyed q from None i b [])) (λ v. done (entry_by q (Some (record { name = i; before = b; behind = between from s })) None v (between s r)) r) (λ v. refl) (λ v. refl) x;
+    drops_behind = λ out x. read_plain out d (dropping in_property) (λ v. dropping (in_node (fresh false))) (λ v. refl) (λ v. refl) x;
   }
   read_value {s = s} {t = t} {r = r} {v = v} (typed (parens {s = s1} {t = s2} {u = s3} {r = s4} {v = y} ss u us) vs) d = record {
     type = Some (parts y s1 s2 s3 s4 t);
     laid = a_type (place ss (end_spaces ss)) (spelled_at u) (place us (end_spaces us)) (place vs (end_spaces vs));
     same = refl;
     starts = λ out st z a. reads t_left (z.to_left s s1) (kept_type out ss u us vs d s (between whole s) None (plain_identifier []) [] [] (a (done (entry_by (between whole s) None (Some (parts y s1 s2 s3 s4 t)) v (between t r)) r) is_done));
-    drops = λ out a. reads t_left refl (dropped_type out ss u us vs d s [] None (plain_identifier []) [] [] (a false));
+    drops = λ out a. reads t_left refl (dropped_type out ss u us vs d (a false));
     behind_key = λ out h q from i b x. reads t_left refl (kept_type out ss u us vs d h q (Some (record { name = i; before = b; behind = between from s })) (plain_identifier []) [] [] x);
-    drops_behind = λ out h from x. reads t_left refl (dropped_type out ss u us vs d h [] None (plain_identifier []) [] [] x);
+    drops_behind = λ out x. reads t_left refl (dropped_type out ss u us vs d x);
   }
 
   record ReadItem (s r : Text) (e : data'.Entry) : Type 0 where
@@ -123,12 +124,12 @@ module _ (whole : Text) where
     laid : (leading trailing : Text) → LaidItem true whole leading trailing (span_of whole whole []) (ended whole trailing (tree leading)) s r
     same : (leading trailing : Text) → entry_data (ended whole trailing (tree leading)) ≡ e
     starts : (out : Entry) (st : State) → Starts st → ((st' : State) → After (tree (between whole s)) r st' → Runs whole out st' r) → Runs whole out st s
-    drops : (out : Entry) → ((b : Bool) → Runs whole out (dropped b false) r) → Runs whole out entry_slashdash s
+    drops : (out : Entry) → ((b : Bool) → Runs whole out (dropping (in_node (fresh b))) r) → Runs whole out (dropping entry_slashdash) s
 
   -- over the spaces between a dropped string and its `=`
-  to_equals : (out : Entry) → {s u : Text} → Star NodeSpace s (61 ∷ u) → Runs whole out (under (item_at (61 ∷ u) keyed false [] u None (plain_identifier []) [] [])) u → Runs whole out (dropped true false) s
+  to_equals : (out : Entry) → {s u : Text} → Star NodeSpace s (61 ∷ u) → Runs whole out (dropping in_property) u → Runs whole out (dropping (in_node (fresh true))) s
   to_equals out no_star a = reads t_equals refl a
-  to_equals out (more n m) a = reads (t_space n) refl (stay out (dropped true true) (λ s r. refl) m (reads t_equals refl a))
+  to_equals out (more n m) a = reads (t_space n) refl (stay out (dropping (in_node (spaced true))) (λ s r. refl) m (reads t_equals refl a))
 
   read_item : {s r : Text} {e : data'.Entry} → IsEntry true s r e → ReadItem s r e
   read_item {s = s} {r = r} (argument {v = v} (a_value {t = t} y d)) =
@@ -150,16 +151,16 @@ module _ (whole : Text) where
         same = λ q x. ap (λ (z : Option Text). record { key = Some k; ty = z; value = v }) V.same;
         starts = λ out st x a.
             read_string out d (x.to_string k s t) (stay out (word (word_at whole k s t) t) (λ s r. refl) ss (reads t_equals refl
-            (stay out (under (item_at whole keyed true (between whole s) u None i (between t (61 ∷ u)) [])) (λ s r. refl) us
+            (stay out (under (item_at whole keyed (between whole s) u None i (between t (61 ∷ u)) [])) (λ s r. refl) us
             (V.behind_key out whole (between whole s) u i (between t (61 ∷ u)) (a (done (entry_by (between whole s) (Some n) V.type v (between p r)) r) is_done)))));
-        drops = λ out a. read_string out d refl (to_equals out ss (stay out (under (item_at (61 ∷ u) keyed false [] u None (plain_identifier []) [] [])) (λ s r. refl) us (V.drops_behind out (61 ∷ u) u (a false))));
+        drops = λ out a. read_string out d refl (to_equals out ss (stay out (dropping in_property) (λ s r. refl) us (V.drops_behind out (a false))));
       }
 
   read_dropped : (out : Entry) → {s t : Text} → Star (DroppedFirst true) s t → (st : State) → Starts st → ((st' : State) → Starts st' → Runs whole out st' t) → Runs whole out st s
   read_dropped out no_star st z f = f st z
   read_dropped out (more (dropped_first (slashdash ls) i (plus n ss)) ds) st z f =
-      reads t_slashdash (z.to_slashdash _ _) (lines out entry_slashdash (λ s r. refl) (λ s r. refl) ls ((read_item i).drops out
-      (λ b. reads (t_space n) refl (stay out (dropped b true) (λ s r. refl) ss (read_dropped out ds (dropped b true) (at_spaced b) f)))))
+      reads t_slashdash (z.to_slashdash _ _) (lines out (dropping entry_slashdash) (λ s r. refl) (λ s r. refl) ls ((read_item i).drops out
+      (λ b. reads (t_space n) refl (stay out (dropping (in_node (spaced b))) (λ s r. refl) ss (read_dropped out ds (dropping (in_node (spaced b))) (at_spaced b) f)))))
 
   behind_done : {r : Text} (e : Entry) (from : Text) → Star LineSpace r [] → Runs whole (ended whole (between from []) e) (done e from) r
   behind_done e from ls = lines (ended whole (between from []) e) (done e from) (λ s r. refl) (λ s r. refl) ls (stops refl)

@@ -2,72 +2,49 @@
 use Rattle.std.proofs.Common.{◌≡◌, Bool, true, false, [], Option, Some, None, option_map, refl, sym, ap, subst, ◌∙◌}
 use Rattle.kdl_text.specs.Chars.{Text}
 use Rattle.kdl_value.specs.Data.{Value}
-use Rattle.kdl_lexer.specs.Tokens.{Token, space, string, value, left, right, BeginsToken}
+use Rattle.kdl_lexer.specs.Tokens.{Token, space, string, value, left, BeginsToken}
 use Rattle.kdl_lexer.proofs.Lexing.TokenUnique.{token_det, no_token}
+use Rattle.kdl_control.specs.Control as control
+use Rattle.kdl_control.specs.Control.{spaced, in_node}
 use Rattle.kdl_entry.specs.EarliestEntry.{DerivedEntry}
-use Rattle.kdl_entry.specs.Internal.EntryControl.{Phase, ahead, under, phase_of, given, if_valued, item_turn, turn, finish}
+use Rattle.kdl_entry.specs.Internal.EntryControl.{Phase, ahead, dropping, under, phase_of, if_valued, item_turn, turn, finish}
 use Rattle.kdl_entry.specs.Internal.EntryMachine as machine
-use Rattle.kdl_entry.specs.Internal.EntryMachine.{State, came, step, Runs, stops, reads}
+use Rattle.kdl_entry.specs.Internal.EntryMachine.{State, came, dropped_turn, step, Runs, stops, reads}
 use Rattle.kdl_entry.specs.Internal.Going.{GoesBy, here, goes}
 use Rattle.kdl_entry.specs.Internal.Items as items
-use Rattle.kdl_entry.specs.Internal.Items.{Stage, opened, named, closed, keyed, Item, KeyParts, TypeParts, named_at, closed_at, emptied}
-use Rattle.kdl_entry.specs.Tree.{Entry, Identifier}
+use Rattle.kdl_entry.specs.Internal.Items.{Stage, opened, named, closed, keyed, Item, KeyParts, TypeParts}
+use Rattle.kdl_entry.specs.Tree.{Entry}
 use Rattle.kdl_entry.proofs.Reading.EntryComplete.{built}
 use Rattle.kdl_entry.proofs.Reading.EntrySound.{derived}
 
--- the phases of what an item becomes
-named_phase : (b : Bool) (i : Identifier) (p r : Text) (it : Item) → phase_of (machine.under (named_at b i p r it)) ≡ under it.kept it.valued named
-named_phase true i p r it = refl
-named_phase false i p r it = refl
-
-closed_phase : (b : Bool) (p r : Text) (it : Item) → phase_of (machine.under (closed_at b p r it)) ≡ under it.kept it.valued closed
-closed_phase true p r it = refl
-closed_phase false p r it = refl
-
-emptied_kept : (b : Bool) (it : Item) → (emptied b it).kept ≡ it.kept
-emptied_kept true it = refl
-emptied_kept false it = refl
-
-given_phase : (b : Bool) (q : Text) (k : Option KeyParts) (y : Option TypeParts) (v : Value) (s r : Text) → phase_of (machine.given b q k y v s r) ≡ given b
-given_phase true q k y v s r = refl
-given_phase false q k y v s r = refl
-
-valued_phase : (b : Bool) (it : Item) (k : Option KeyParts) (y : Option TypeParts) (v : Value) (s r : Text) → option_map phase_of (came it (items.if_valued b (items.gives k y v)) s r) ≡ if_valued b (given it.kept)
-valued_phase true it k y v s r = ap Some (given_phase it.kept it.leading k y v s r)
+valued_phase : (b : Bool) (it : Item) (k : Option KeyParts) (y : Option TypeParts) (v : Value) (s r : Text) → option_map phase_of (came it (items.if_valued b (items.gives k y v)) s r) ≡ if_valued b
+valued_phase true it k y v s r = refl
 valued_phase false it k y v s r = refl
 
-same_item : (whole : Text) (it : Item) (g : Stage) (k : Token) (s r : Text) → it.stage ≡ g → option_map phase_of (came it (items.move g whole it k s r) s r) ≡ item_turn it.kept it.valued g k
-same_item whole it opened space s r q = ap (λ (z : Stage). Some (under it.kept it.valued z)) q
-same_item whole it opened (string v) s r q = ap Some (named_phase it.kept _ _ r it)
+same_item : (whole : Text) (it : Item) (g : Stage) (k : Token) (s r : Text) → it.stage ≡ g → option_map phase_of (came it (items.move g whole it k s r) s r) ≡ item_turn it.valued g k
+same_item whole it opened space s r q = ap (λ (z : Stage). Some (under it.valued z)) q
 same_item whole it opened _ s r q = refl
-same_item whole it named space s r q = ap (λ (z : Stage). Some (under it.kept it.valued z)) q
-same_item whole it named right s r q = ap Some (closed_phase it.kept _ r it)
+same_item whole it named space s r q = ap (λ (z : Stage). Some (under it.valued z)) q
 same_item whole it named _ s r q = refl
-same_item whole it closed space s r q = ap (λ (z : Stage). Some (under it.kept it.valued z)) q
-same_item whole it closed (string v) s r q = ap Some (given_phase it.kept _ _ _ _ s r)
+same_item whole it closed space s r q = ap (λ (z : Stage). Some (under it.valued z)) q
 same_item whole it closed (value v) s r q = valued_phase it.valued it _ _ v s r
 same_item whole it closed _ s r q = refl
-same_item whole it keyed space s r q = ap (λ (z : Stage). Some (under it.kept it.valued z)) q
-same_item whole it keyed (string v) s r q = ap Some (given_phase it.kept _ _ _ _ s r)
-same_item whole it keyed (value v) s r q = ap Some (given_phase it.kept _ _ _ _ s r)
-same_item whole it keyed left s r q = ap (λ (b : Bool). Some (under b true opened)) (emptied_kept it.kept it)
+same_item whole it keyed space s r q = ap (λ (z : Stage). Some (under it.valued z)) q
 same_item whole it keyed _ s r q = refl
+
+same_phase : (o : Option control.Phase) → option_map phase_of (option_map machine.dropping o) ≡ option_map dropping o
+same_phase None = refl
+same_phase (Some p) = refl
 
 -- the step of a phase is that of its state
 pub same_turn : (whole : Text) (st : State) (k : Token) (s r : Text) → option_map phase_of (step whole st k s r) ≡ turn (phase_of st) k
 same_turn whole machine.ahead space s r = refl
 same_turn whole machine.ahead _ s r = refl
-same_turn whole machine.entry_slashdash space s r = refl
-same_turn whole machine.entry_slashdash _ s r = refl
+same_turn whole (machine.dropping (in_node (spaced b))) (string v) s r = refl
+same_turn whole (machine.dropping (in_node (spaced b))) (value v) s r = refl
+same_turn whole (machine.dropping (in_node (spaced b))) left s r = refl
+same_turn whole (machine.dropping p) k s r = same_phase (dropped_turn p k)
 same_turn whole (machine.under it) k s r = same_item whole it it.stage k s r refl
-same_turn whole (machine.dropped true true) space s r = refl
-same_turn whole (machine.dropped true true) _ s r = refl
-same_turn whole (machine.dropped true false) space s r = refl
-same_turn whole (machine.dropped true false) _ s r = refl
-same_turn whole (machine.dropped false true) space s r = refl
-same_turn whole (machine.dropped false true) _ s r = refl
-same_turn whole (machine.dropped false false) space s r = refl
-same_turn whole (machine.dropped false false) _ s r = refl
 same_turn whole (machine.word w f) space s r = refl
 same_turn whole (machine.word w f) _ s r = refl
 same_turn whole (machine.done e f) space s r = refl
@@ -88,9 +65,8 @@ stopped : (whole : Text) (st : State) (e : Entry) → machine.finish whole st �
 stopped whole (machine.word w f) e x = refl
 stopped whole (machine.done d f) e x = refl
 stopped whole machine.ahead e x = absurd cc
-stopped whole machine.entry_slashdash e x = absurd cc
+stopped whole (machine.dropping p) e x = absurd cc
 stopped whole (machine.under it) e x = absurd cc
-stopped whole (machine.dropped b c) e x = absurd cc
 
 accepted : {whole : Text} {e : Entry} {st : State} {s : Text} → Runs whole e st s → Accepts (phase_of st) s
 accepted {whole = whole} {e = e} (stops {st = st} x) = ends (stopped whole st e x)
@@ -104,9 +80,8 @@ finished : (whole : Text) (st : State) → finish (phase_of st) ≡ true → (e 
 finished whole (machine.word w f) x = (_, stops refl)
 finished whole (machine.done e f) x = (_, stops refl)
 finished whole machine.ahead x = absurd cc
-finished whole machine.entry_slashdash x = absurd cc
+finished whole (machine.dropping p) x = absurd cc
 finished whole (machine.under it) x = absurd cc
-finished whole (machine.dropped b c) x = absurd cc
 
 runs : (whole : Text) (st : State) {c : Phase} {s : Text} → Accepts c s → phase_of st ≡ c → (e : Entry) × Runs whole e st s
 runs whole st (ends f) q = finished whole st (subst (λ (z : Phase). finish z ≡ true) (sym q) f)

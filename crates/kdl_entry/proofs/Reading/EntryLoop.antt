@@ -1,5 +1,5 @@
 -- The turns of the loop that reads an entry text, token by token.
-use Rattle.std.proofs.Common.{◌≡◌, ◌↔◌, ℕ, ◌+◌, ◌<◌, Bool, true, false, length, [], ◌∷◌, ◌++◌, Some, None, Ok, Err, refl, sym, ap, subst, ◌∙◌, arith, append_assoc, append-nil}
+use Rattle.std.proofs.Common.{◌≡◌, ◌↔◌, ℕ, ◌+◌, ◌<◌, Bool, true, false, length, [], ◌∷◌, ◌++◌, Option, Some, None, option_map, Ok, Err, refl, sym, ap, subst, ◌∙◌, arith, append_assoc, append-nil}
 use Rattle.kdl_text.specs.Chars.{Text, Star, plus}
 use Rattle.kdl_text.specs.Chars.Star.{none as no_star, more}
 use Rattle.kdl_text.specs.Internal.Here.{Here, Position, Ahead, first_len}
@@ -8,19 +8,20 @@ use Rattle.kdl_text.specs.Spans.{InText, bytes}
 use Rattle.kdl_text.specs.Trivia.{NodeSpace}
 use Rattle.kdl_text.specs.declared.span.SourceSpan.{SourceSpan}
 use Rattle.kdl_text.proofs.Looking.MovesJoin.{bytes-append}
+use Rattle.kdl_control.specs.Control.{Phase, fresh, spaced, type_open, type_name, type_done, in_node, property, entry_slashdash}
 use Rattle.kdl_entry.specs.Internal.Building.{Stays}
 use Rattle.kdl_entry.specs.EarliestEntry.{DerivedEntry}
 use Rattle.kdl_entry.specs.Internal.EntryControl.{phase_of, EntryReaches, EntryStuck}
-use Rattle.kdl_entry.specs.Internal.EntryMachine.{State, ahead, entry_slashdash, under, dropped, word, done, came, step, finish, Runs, stops, reads, AnswersEntry, given}
+use Rattle.kdl_entry.specs.Internal.EntryMachine.{State, ahead, dropping, under, word, done, came, dropped_turn, step, finish, Runs, stops, reads, AnswersEntry}
 use Rattle.kdl_entry.specs.Internal.EntryReading.{AnswersEntryText, EndsIn, Ended, Same, Stands, Stepped}
 use Rattle.kdl_value.specs.Data.{Value}
 use Rattle.kdl_lexer.specs.Earliest.{IsRefusedAt}
 use Rattle.kdl_lexer.specs.Internal.Handed.{Cuts, one, spaces, IsFaultAt, HandsOut, Lexed, kind_view}
 use Rattle.kdl_entry.specs.Internal.Going.{GoesBy}
-use Rattle.kdl_entry.specs.Internal.Items.{Stage, opened, named, closed, keyed, Item, TypeParts, KeyParts, named_at, closed_at, if_valued}
+use Rattle.kdl_entry.specs.Internal.Items.{Stage, opened, named, closed, keyed, Item, TypeParts, KeyParts, if_valued}
 use Rattle.kdl_entry.specs.Internal.Items as items
 use Rattle.kdl_lexer.specs.Tokens.{Token, space, newline, slashdash, string, value, left, right, equals, BeginsToken, t_space, NoToken}
-use Rattle.kdl_entry.specs.Tree.{Entry, Identifier, entry_tree}
+use Rattle.kdl_entry.specs.Tree.{Entry, entry_tree}
 use Rattle.kdl_entry.specs.declared.entry.KdlEntry.{KdlEntry}
 use Rattle.kdl_lexer.specs.declared.lexer.LexFailure.{LexFailure}
 use Rattle.kdl_lexer.specs.declared.lexer.LexFailure.TheVariants.{Faulty, Memory}
@@ -41,24 +42,36 @@ module _ (whole : Text) where
   -- the place of a space does not matter
   anywhere : (st : State) (s r t q : Text) → step whole st space s r ≡ step whole st space t q
   anywhere ahead s r t q = refl
-  anywhere entry_slashdash s r t q = refl
+  anywhere (dropping (in_node (spaced b))) s r t q = refl
+  anywhere (dropping p) s r t q = refl
   anywhere (under it) s r t q = item_space it it.stage s r ∙ sym (item_space it it.stage t q)
-  anywhere (dropped b c) s r t q = refl
   anywhere (word w f) s r t q = refl
   anywhere (done e f) s r t q = refl
+
+  to_same : (x st' : State) (t q : Text) → Some x ≡ Some st' → step whole x space t q ≡ Some x → step whole st' space t q ≡ Some st'
+  to_same x st' t q e f = let y : x ≡ st' = cc in subst (λ (z : State). step whole z space t q ≡ Some z) y f
+
+  again_dropped : (p : Phase) (st' : State) (s r t q : Text) → step whole (dropping p) space s r ≡ Some st' → step whole st' space t q ≡ Some st'
+  again_dropped entry_slashdash st' s r t q e = to_same (dropping entry_slashdash) st' t q e refl
+  again_dropped (type_open b) st' s r t q e = to_same (dropping (type_open b)) st' t q e refl
+  again_dropped (type_name b) st' s r t q e = to_same (dropping (type_name b)) st' t q e refl
+  again_dropped (type_done b) st' s r t q e = to_same (dropping (type_done b)) st' t q e refl
+  again_dropped property st' s r t q e = to_same (dropping property) st' t q e refl
+  again_dropped (in_node (fresh b)) st' s r t q e = to_same (dropping (in_node (spaced b))) st' t q e refl
+  again_dropped (in_node (spaced b)) st' s r t q e = to_same (dropping (in_node (spaced b))) st' t q e refl
+  again_dropped _ st' s r t q e = absurd cc
 
   -- and a space more changes nothing
   again : (st st' : State) (s r t q : Text) → step whole st space s r ≡ Some st' → step whole st' space t q ≡ Some st'
   again st st' s r t q e = go st e
     where
       same : (x : State) → Some x ≡ Some st' → step whole x space t q ≡ Some x → step whole st' space t q ≡ Some st'
-      same x e f = let y : x ≡ st' = cc in subst (λ (z : State). step whole z space t q ≡ Some z) y f
+      same x e f = to_same x st' t q e f
 
       go : (st : State) → step whole st space s r ≡ Some st' → step whole st' space t q ≡ Some st'
       go ahead e = same ahead e refl
-      go entry_slashdash e = same entry_slashdash e refl
+      go (dropping p) e = again_dropped p st' s r t q e
       go (under it) e = same (under it) (sym (item_space it it.stage s r) ∙ e) (item_space it it.stage t q)
-      go (dropped b c) e = same (dropped b true) e refl
       go (word w f) e = same (word w f) e refl
       go (done x f) e = same (done x f) e refl
 
@@ -107,55 +120,40 @@ module _ (whole s r : Text) (b : EndsIn s r) where
   to : (x y : State) → Some x ≡ Some y → Stands x r → Stands y r
   to x y e a = let q : x ≡ y = cc in subst (λ (z : State). Stands z r) q a
 
-  given_stands : (c : Bool) (q : Text) (k : Rattle.std.specs.Prelude.Option KeyParts) (y : Rattle.std.specs.Prelude.Option TypeParts) (v : Value) → Stands (given c q k y v s r) r
-  given_stands true q k y v = ends_here r
-  given_stands false q k y v = tt
-
-  named_stands : (c : Bool) (i : Identifier) (p : Text) (it : Item) → Stands (under (named_at c i p r it)) r
-  named_stands true i p it = ends_here r
-  named_stands false i p it = ends_here r
-
-  closed_stands : (c : Bool) (p : Text) (it : Item) → Stands (under (closed_at c p r it)) r
-  closed_stands true p it = ends_here r
-  closed_stands false p it = ends_here r
-
-  valued_stands : (c : Bool) (it : Item) (k : Rattle.std.specs.Prelude.Option KeyParts) (y : Rattle.std.specs.Prelude.Option TypeParts) (v : Value) (st : State) → came it (if_valued c (items.gives k y v)) s r ≡ Some st → Stands st r
-  valued_stands true it k y v st e = to _ st e (given_stands it.kept it.leading k y v)
+  valued_stands : (c : Bool) (it : Item) (k : Option KeyParts) (y : Option TypeParts) (v : Value) (st : State) → came it (if_valued c (items.gives k y v)) s r ≡ Some st → Stands st r
+  valued_stands true it k y v st e = to _ st e (ends_here r)
   valued_stands false it k y v st e = absurd cc
 
   item_stands : (it : Item) (g : Stage) (k : Token) (st : State) → came it (items.move g whole it k s r) s r ≡ Some st → EndsIn it.from s → Stands st r
   item_stands it opened space st e a = to (under it) st e (then_ends a b)
-  item_stands it opened (string v) st e a = to _ st e (named_stands it.kept _ _ it)
+  item_stands it opened (string v) st e a = to _ st e (ends_here r)
   item_stands it named space st e a = to (under it) st e (then_ends a b)
-  item_stands it named right st e a = to _ st e (closed_stands it.kept _ it)
+  item_stands it named right st e a = to _ st e (ends_here r)
   item_stands it closed space st e a = to (under it) st e (then_ends a b)
-  item_stands it closed (string v) st e a = to _ st e (given_stands it.kept _ _ _ _)
+  item_stands it closed (string v) st e a = to _ st e (ends_here r)
   item_stands it closed (value v) st e a = valued_stands it.valued it _ _ v st e
   item_stands it keyed space st e a = to (under it) st e (then_ends a b)
-  item_stands it keyed (string v) st e a = to _ st e (given_stands it.kept _ _ _ _)
-  item_stands it keyed (value v) st e a = to _ st e (given_stands it.kept _ _ _ _)
+  item_stands it keyed (string v) st e a = to _ st e (ends_here r)
+  item_stands it keyed (value v) st e a = to _ st e (ends_here r)
   item_stands it keyed left st e a = to _ st e (ends_here r)
   item_stands it _ k st e a = absurd cc
+
+  dropped_stands : (o : Option Phase) (st : State) → option_map dropping o ≡ Some st → Stands st r
+  dropped_stands None st e = absurd cc
+  dropped_stands (Some p) st e = to (dropping p) st e tt
 
   step_stands : (x st : State) (k : Token) → step whole x k s r ≡ Some st → Stands x s → Stands st r
   step_stands ahead st space e a = to ahead st e tt
   step_stands ahead st newline e a = to ahead st e tt
-  step_stands ahead st slashdash e a = to entry_slashdash st e tt
+  step_stands ahead st slashdash e a = to (dropping entry_slashdash) st e tt
   step_stands ahead st (string v) e a = to _ st e (ends_here r)
   step_stands ahead st (value v) e a = to _ st e (ends_here r)
   step_stands ahead st left e a = to _ st e (ends_here r)
-  step_stands entry_slashdash st space e a = to entry_slashdash st e tt
-  step_stands entry_slashdash st newline e a = to entry_slashdash st e tt
-  step_stands entry_slashdash st (string v) e a = to (dropped true false) st e tt
-  step_stands entry_slashdash st (value v) e a = to (dropped false false) st e tt
-  step_stands entry_slashdash st left e a = to _ st e (ends_here r)
+  step_stands (dropping (in_node (spaced b))) st (string v) e a = to _ st e (ends_here r)
+  step_stands (dropping (in_node (spaced b))) st (value v) e a = to _ st e (ends_here r)
+  step_stands (dropping (in_node (spaced b))) st left e a = to _ st e (ends_here r)
+  step_stands (dropping p) st k e a = dropped_stands (dropped_turn p k) st e
   step_stands (under it) st k e a = item_stands it it.stage k st e a
-  step_stands (dropped c d) st space e a = to (dropped c true) st e tt
-  step_stands (dropped true d) st equals e a = to _ st e (ends_here r)
-  step_stands (dropped c true) st slashdash e a = to entry_slashdash st e tt
-  step_stands (dropped c true) st (string v) e a = to _ st e (ends_here r)
-  step_stands (dropped c true) st (value v) e a = to _ st e (ends_here r)
-  step_stands (dropped c true) st left e a = to _ st e (ends_here r)
   step_stands (word w f) st space e a = to (word w f) st e (then_ends a b)
   step_stands (word w f) st newline e a = to (done _ f) st e (then_ends a b)
   step_stands (word w f) st equals e a = to _ st e (ends_here r)

@@ -8,8 +8,9 @@ use Rattle.kdl_lexer.specs.Earliest.{BeginsNoOther}
 use Rattle.kdl_lexer.specs.Tokens.{Token, space, newline, slashdash, string, value, left, right, opening, closing, equals, semicolon, bom, BeginsToken}
 use Rattle.kdl_lexer.proofs.Lexing.TokenFronts.{RefusedWith, refused_with}
 use Rattle.kdl_lexer.proofs.Lexing.TokenUnique.{no_token}
+use Rattle.kdl_control.specs.Control.{spaced, gap, node_slashdash, type_open, type_done, in_node, property, entry_slashdash}
 use Rattle.kdl_entry.specs.EarliestEntry.{DerivedEntry}
-use Rattle.kdl_entry.specs.Internal.EntryControl.{Phase, ahead, entry_slashdash, under, dropped, word, done, turn, EntryReaches}
+use Rattle.kdl_entry.specs.Internal.EntryControl.{Phase, ahead, dropping, under, word, done, turn, EntryReaches}
 use Rattle.kdl_entry.specs.Internal.Items.{opened, named, closed, keyed}
 use Rattle.kdl_entry.proofs.Reading.EntryErased.{Accepts, ends, takes, derived_accepts, follow}
 use Rattle.kdl_entry.proofs.Reading.Going.{near_goes}
@@ -17,38 +18,51 @@ use Rattle.kdl_entry.proofs.Reading.Going.{near_goes}
 -- where a string is refused, so is each other one, and each number and keyword
 no_string : (c : Phase) (v : Text) (w : Text) → turn c (string v) ≡ None → turn c (string w) ≡ None
 no_string ahead v w e = absurd cc
-no_string entry_slashdash v w e = absurd cc
-no_string (under kept valued opened) v w e = absurd cc
-no_string (under kept valued named) v w e = refl
-no_string (under kept valued closed) v w e = absurd cc
-no_string (under kept valued keyed) v w e = absurd cc
-no_string (dropped b false) v w e = refl
-no_string (dropped b true) v w e = absurd cc
+no_string (dropping gap) v w e = absurd cc
+no_string (dropping node_slashdash) v w e = absurd cc
+no_string (dropping (type_open b)) v w e = absurd cc
+no_string (dropping (type_done b)) v w e = absurd cc
+no_string (dropping property) v w e = absurd cc
+no_string (dropping entry_slashdash) v w e = absurd cc
+no_string (dropping (in_node (spaced b))) v w e = absurd cc
+no_string (dropping _) v w e = refl
+no_string (under valued opened) v w e = absurd cc
+no_string (under valued named) v w e = refl
+no_string (under valued closed) v w e = absurd cc
+no_string (under valued keyed) v w e = absurd cc
 no_string word v w e = refl
 no_string done v w e = refl
 
 no_value : (c : Phase) (v : Text) (w : Value) → turn c (string v) ≡ None → turn c (value w) ≡ None
 no_value ahead v w e = absurd cc
-no_value entry_slashdash v w e = absurd cc
-no_value (under kept valued opened) v w e = absurd cc
-no_value (under kept valued named) v w e = refl
-no_value (under kept valued closed) v w e = absurd cc
-no_value (under kept valued keyed) v w e = absurd cc
-no_value (dropped b false) v w e = refl
-no_value (dropped b true) v w e = absurd cc
+no_value (dropping gap) v w e = absurd cc
+no_value (dropping node_slashdash) v w e = absurd cc
+no_value (dropping (type_open b)) v w e = absurd cc
+no_value (dropping (type_done b)) v w e = absurd cc
+no_value (dropping property) v w e = absurd cc
+no_value (dropping entry_slashdash) v w e = absurd cc
+no_value (dropping (in_node (spaced b))) v w e = absurd cc
+no_value (dropping _) v w e = refl
+no_value (under valued opened) v w e = absurd cc
+no_value (under valued named) v w e = refl
+no_value (under valued closed) v w e = absurd cc
+no_value (under valued keyed) v w e = absurd cc
 no_value word v w e = refl
 no_value done v w e = refl
 
 no_other : (c : Phase) (v : Value) (w : Value) → turn c (value v) ≡ None → turn c (value w) ≡ None
 no_other ahead v w e = absurd cc
-no_other entry_slashdash v w e = absurd cc
-no_other (under kept valued opened) v w e = refl
-no_other (under kept valued named) v w e = refl
-no_other (under kept true closed) v w e = absurd cc
-no_other (under kept false closed) v w e = refl
-no_other (under kept valued keyed) v w e = absurd cc
-no_other (dropped b false) v w e = refl
-no_other (dropped b true) v w e = absurd cc
+no_other (dropping (type_done true)) v w e = absurd cc
+no_other (dropping (type_done false)) v w e = refl
+no_other (dropping property) v w e = absurd cc
+no_other (dropping entry_slashdash) v w e = absurd cc
+no_other (dropping (in_node (spaced b))) v w e = absurd cc
+no_other (dropping _) v w e = refl
+no_other (under valued opened) v w e = refl
+no_other (under valued named) v w e = refl
+no_other (under true closed) v w e = absurd cc
+no_other (under false closed) v w e = refl
+no_other (under valued keyed) v w e = absurd cc
 no_other word v w e = refl
 no_other done v w e = refl
 

@@ -6,11 +6,12 @@ use Rattle.kdl_text.specs.Trivia.{NodeSpace, LineSpace, slashdash, ValueEnd}
 use Rattle.kdl_entry.specs.Data as data'
 use Rattle.kdl_value.specs.Data.{Value}
 use Rattle.kdl_entry.specs.Entries.{IsString, string as a_string', IsPlainValue, a_string, a_plain, parens, untyped, typed, IsValue, value as a_value, IsEntry, property, argument, DroppedFirst, dropped_first, before_entry, IsEntryText, entry_text}
-use Rattle.kdl_entry.specs.Internal.EntryMachine.{Word, State, ahead, entry_slashdash, under, dropped, word, done, given, came, step, Runs, stops, reads, AnswersEntry}
-use Rattle.kdl_entry.specs.Internal.Items.{TypeParts, KeyParts, Stage, opened, named, closed, keyed, Item, Answer, named_at, closed_at, emptied, if_valued}
+use Rattle.kdl_entry.specs.Internal.EntryMachine.{Word, State, ahead, dropping, under, word, done, came, step, Runs, stops, reads, AnswersEntry}
+use Rattle.kdl_control.specs.Control.{Phase, fresh, spaced, later, gap, node_slashdash, type_open, type_name, type_done, in_node, property as in_property, entry_slashdash, block_slashdash, kept, kept_slashdash}
+use Rattle.kdl_entry.specs.Internal.Items.{Stage, opened, named, closed, keyed, Item, Answer, if_valued}
 use Rattle.kdl_entry.specs.Internal.Items as items
 use Rattle.kdl_lexer.specs.Tokens.{Token, string, value, left, bom, BeginsToken, t_space, t_newline, t_slashdash, t_string, t_value, t_left, t_right, t_equals}
-use Rattle.kdl_entry.specs.Tree.{Identifier, Entry}
+use Rattle.kdl_entry.specs.Tree.{Entry}
 use Rattle.kdl_lexer.proofs.Lexing.TokenUnique.{is_end, end_behind}
 
 -- What is left of the text, by what is under way. The flag: the entry is kept.
@@ -57,15 +58,20 @@ abbrev Key : Bool → Bool → Text → Type 0
 Key false b s = ⊥
 Key true b s = KeyThen b s
 
-abbrev Behind : Bool → Text → Type 0
-Behind false s = Then false s
-Behind true s = SpacedThen s
+abbrev DroppedThen : Phase → Text → Type 0
+DroppedThen entry_slashdash s = SlashdashThen s
+DroppedThen (type_open b) s = OpenThen false s
+DroppedThen (type_name b) s = NamedThen false s
+DroppedThen (type_done b) s = ClosedThen false s
+DroppedThen in_property s = ValueThen false s
+DroppedThen (in_node (fresh b)) s = Then false s ⊎ Key b false s
+DroppedThen (in_node (spaced b)) s = SpacedThen s ⊎ Key b false s
+DroppedThen _ s = Unit {0}
 
 abbrev Rest : State → Text → Type 0
 Rest ahead s = (x : data'.Entry) × IsEntryText true s x
-Rest entry_slashdash s = SlashdashThen s
-Rest (under it) s = InItem it.stage it.kept s
-Rest (dropped b c) s = Behind c s ⊎ Key b false s
+Rest (dropping p) s = DroppedThen p s
+Rest (under it) s = InItem it.stage true s
 Rest (word w from) s = Then true s ⊎ KeyThen true s
 Rest (done e from) s = Then true s
 
@@ -107,10 +113,13 @@ maybe_key : {s r : Text} (b : Bool) → NodeSpace s r → Key b false r → Key 
 maybe_key false n k = k
 maybe_key true n k = key_space n k
 
-dropped_space : {s r : Text} (b c : Bool) → NodeSpace s r → Rest (dropped b true) r → Rest (dropped b c) s
-dropped_space b false n (inl (spaced_then ss l)) = inl (and_more (plus n ss) l)
-dropped_space b true n (inl (spaced_then ss l)) = inl (spaced_then (more n ss) l)
-dropped_space b c n (inr k) = inr (maybe_key b n k)
+fresh_space : {s r : Text} (b : Bool) → NodeSpace s r → SpacedThen r ⊎ Key b false r → Then false s ⊎ Key b false s
+fresh_space b n (inl (spaced_then ss l)) = inl (and_more (plus n ss) l)
+fresh_space b n (inr k) = inr (maybe_key b n k)
+
+spaced_space : {s r : Text} (b : Bool) → NodeSpace s r → SpacedThen r ⊎ Key b false r → SpacedThen s ⊎ Key b false s
+spaced_space b n (inl (spaced_then ss l)) = inl (spaced_then (more n ss) l)
+spaced_space b n (inr k) = inr (maybe_key b n k)
 
 no_key : {s : Text} → Then false s ⊎ Key false false s → Then false s
 no_key (inl d) = d
@@ -151,16 +160,19 @@ module _ (whole : Text) (out : Entry) where
   done_ends x from bom s r st e = absurd cc
   done_ends x from _ s r st e = refl
 
-  dropped_ends : (b : Bool) (k : Token) (s r : Text) (st : State) → step whole (dropped b false) k s r ≡ Some st → is_end k ≡ true
-  dropped_ends true (string v) s r st e = absurd cc
-  dropped_ends true (value v) s r st e = absurd cc
-  dropped_ends true left s r st e = absurd cc
-  dropped_ends true bom s r st e = absurd cc
-  dropped_ends false (string v) s r st e = absurd cc
-  dropped_ends false (value v) s r st e = absurd cc
-  dropped_ends false left s r st e = absurd cc
-  dropped_ends false bom s r st e = absurd cc
-  dropped_ends _ _ s r st e = refl
+  fresh_ends : (b : Bool) (k : Token) (s r : Text) (st : State) → step whole (dropping (in_node (fresh b))) k s r ≡ Some st → is_end k ≡ true
+  fresh_ends b (string v) s r st e = absurd cc
+  fresh_ends b (value v) s r st e = absurd cc
+  fresh_ends b left s r st e = absurd cc
+  fresh_ends b bom s r st e = absurd cc
+  fresh_ends b _ s r st e = refl
+
+  type_ends : (b : Bool) (k : Token) (s r : Text) (st : State) → step whole (dropping (type_name b)) k s r ≡ Some st → is_end k ≡ true
+  type_ends b (string v) s r st e = absurd cc
+  type_ends b (value v) s r st e = absurd cc
+  type_ends b left s r st e = absurd cc
+  type_ends b bom s r st e = absurd cc
+  type_ends b _ s r st e = refl
 
   named_ends : (it : Item) (k : Token) (s r : Text) (st : State) → came it (items.move named whole it k s r) s r ≡ Some st → is_end k ≡ true
   named_ends it (string v) s r st e = absurd cc
@@ -176,62 +188,71 @@ module _ (whole : Text) (out : Entry) where
   word_end : {s : Text} (w : Word) (from : Text) → Runs whole out (word w from) s → ValueEnd true s
   word_end w from a = ends a (word_ends w from)
 
-  dropped_end : {s : Text} (b : Bool) → Runs whole out (dropped b false) s → ValueEnd true s
-  dropped_end b a = ends a (dropped_ends b)
+  fresh_end : {s : Text} (b : Bool) → Runs whole out (dropping (in_node (fresh b))) s → ValueEnd true s
+  fresh_end b a = ends a (fresh_ends b)
+
+  type_end : {s : Text} (b : Bool) → Runs whole out (dropping (type_name b)) s → ValueEnd true s
+  type_end b a = ends a (type_ends b)
 
   done_end : {s : Text} (x : Entry) (from : Text) → Runs whole out (done x from) s → ValueEnd true s
   done_end x from a = ends a (done_ends x from)
 
-  given_end : {t : Text} (b : Bool) (q : Text) (k : Option KeyParts) (y : Option TypeParts) (v : Value) (s r : Text) → Runs whole out (given b q k y v s r) t → ValueEnd true t
-  given_end true q k y v s r a = ends a (done_ends _ _)
-  given_end false q k y v s r a = dropped_end false a
-
-  given_then : {t : Text} (b : Bool) (q : Text) (k : Option KeyParts) (y : Option TypeParts) (v : Value) (s r : Text) → Rest (given b q k y v s r) t → Then b t
-  given_then true q k y v s r d = d
-  given_then false q k y v s r d = no_key d
-
   named_end : {s : Text} (it : Item) → it.stage ≡ named → Runs whole out (under it) s → ValueEnd true s
   named_end it q a = ends a (λ k s r st e. named_ends it k s r st (subst (λ (g : Stage). came it (items.move g whole it k s r) s r ≡ Some st) q e))
-
-  named_stage : (b : Bool) (i : Identifier) (p r : Text) (it : Item) → (named_at b i p r it).stage ≡ named
-  named_stage true i p r it = refl
-  named_stage false i p r it = refl
-
-  named_rest : {t : Text} (b : Bool) (i : Identifier) (p r : Text) (it : Item) → Rest (under (named_at b i p r it)) t → NamedThen it.kept t
-  named_rest true i p r it d = d
-  named_rest false i p r it d = d
-
-  closed_rest : {t : Text} (b : Bool) (p r : Text) (it : Item) → Rest (under (closed_at b p r it)) t → ClosedThen it.kept t
-  closed_rest true p r it d = d
-  closed_rest false p r it d = d
-
-  emptied_kept : (b : Bool) (it : Item) → (emptied b it).kept ≡ it.kept
-  emptied_kept true it = refl
-  emptied_kept false it = refl
 
   valued_gives : (b : Bool) (it : Item) (a : Answer) (s r : Text) (st : State) → came it (if_valued b a) s r ≡ Some st → came it a s r ≡ Some st
   valued_gives true it a s r st e = e
   valued_gives false it a s r st e = absurd cc
 
-  in_item : {s r : Text} {k : Token} {st : State} (it : Item) (g : Stage) → it.stage ≡ g → BeginsToken s k r → came it (items.move g whole it k s r) s r ≡ Some st → Runs whole out st r → Rest st r → InItem g it.kept s
-  in_item {r = r} {st = st} it opened q (t_space n) e a d = item_space opened it.kept n (subst (λ (z : Stage). InItem z it.kept r) q (back r (under it) st e d))
-  in_item {r = r} {st = st} it named q (t_space n) e a d = item_space named it.kept n (subst (λ (z : Stage). InItem z it.kept r) q (back r (under it) st e d))
-  in_item {r = r} {st = st} it closed q (t_space n) e a d = item_space closed it.kept n (subst (λ (z : Stage). InItem z it.kept r) q (back r (under it) st e d))
-  in_item {r = r} {st = st} it keyed q (t_space n) e a d = item_space keyed it.kept n (subst (λ (z : Stage). InItem z it.kept r) q (back r (under it) st e d))
-  in_item it opened q (t_string p) e a d =
-      open_then no_star (a_string' p (named_end _ (named_stage it.kept _ _ _ it) (back_run _ _ e a))) (named_rest it.kept _ _ _ it (back _ _ _ e d))
-  in_item it named q t_right e a d = named_then no_star (closed_rest it.kept _ _ it (back _ _ _ e d))
-  in_item it closed q (t_string p) e a d =
-      closed_then no_star (a_string (a_string' p (given_end it.kept _ _ _ _ _ _ (back_run _ _ e a)))) (given_then it.kept _ _ _ _ _ _ (back _ _ _ e d))
+  in_item : {s r : Text} {k : Token} {st : State} (it : Item) (g : Stage) → it.stage ≡ g → BeginsToken s k r → came it (items.move g whole it k s r) s r ≡ Some st → Runs whole out st r → Rest st r → InItem g true s
+  in_item {r = r} {st = st} it opened q (t_space n) e a d = item_space opened true n (subst (λ (z : Stage). InItem z true r) q (back r (under it) st e d))
+  in_item {r = r} {st = st} it named q (t_space n) e a d = item_space named true n (subst (λ (z : Stage). InItem z true r) q (back r (under it) st e d))
+  in_item {r = r} {st = st} it closed q (t_space n) e a d = item_space closed true n (subst (λ (z : Stage). InItem z true r) q (back r (under it) st e d))
+  in_item {r = r} {st = st} it keyed q (t_space n) e a d = item_space keyed true n (subst (λ (z : Stage). InItem z true r) q (back r (under it) st e d))
+  in_item it opened q (t_string p) e a d = open_then no_star (a_string' p (named_end _ refl (back_run _ _ e a))) (back _ (under _) _ e d)
+  in_item it named q t_right e a d = named_then no_star (back _ (under _) _ e d)
+  in_item it closed q (t_string p) e a d = closed_then no_star (a_string (a_string' p (done_end _ _ (back_run _ _ e a)))) (back _ (done _ _) _ e d)
   in_item {s = s} {r = r} {st = st} it closed q (t_value p) e a d =
       let f = valued_gives it.valued it _ s r st e in
-      closed_then no_star (a_plain p (given_end it.kept _ _ _ _ _ _ (back_run _ _ f a))) (given_then it.kept _ _ _ _ _ _ (back _ _ _ f d))
-  in_item it keyed q (t_string p) e a d =
-      value_of (a_string (a_string' p (given_end it.kept _ _ _ _ _ _ (back_run _ _ e a)))) (given_then it.kept _ _ _ _ _ _ (back _ _ _ e d))
-  in_item it keyed q (t_value p) e a d =
-      value_of (a_plain p (given_end it.kept _ _ _ _ _ _ (back_run _ _ e a))) (given_then it.kept _ _ _ _ _ _ (back _ _ _ e d))
-  in_item {r = r} it keyed q t_left e a d = value_typed (subst (λ (b : Bool). OpenThen b r) (emptied_kept it.kept it) (back _ _ _ e d))
+      closed_then no_star (a_plain p (done_end _ _ (back_run _ _ f a))) (back _ (done _ _) _ f d)
+  in_item it keyed q (t_string p) e a d = value_of (a_string (a_string' p (done_end _ _ (back_run _ _ e a)))) (back _ (done _ _) _ e d)
+  in_item it keyed q (t_value p) e a d = value_of (a_plain p (done_end _ _ (back_run _ _ e a))) (back _ (done _ _) _ e d)
+  in_item it keyed q t_left e a d = value_typed (back _ (under _) _ e d)
   in_item it _ q t e a d = absurd cc
+
+  -- in or after a slashdashed entry
+  in_dropped : {s r : Text} {k : Token} {st : State} (p : Phase) → BeginsToken s k r → step whole (dropping p) k s r ≡ Some st → Runs whole out st r → Rest st r → DroppedThen p s
+  in_dropped entry_slashdash (t_space n) e a d = slashdash_space (LineSpace.space n) (back _ (dropping entry_slashdash) _ e d)
+  in_dropped entry_slashdash (t_newline n) e a d = slashdash_space (LineSpace.«break» n) (back _ (dropping entry_slashdash) _ e d)
+  in_dropped entry_slashdash (t_string p) e a d = slashdash_then no_star (entry_of (a_string' p (fresh_end true (back_run _ _ e a))) (back _ (dropping (in_node (fresh true))) _ e d))
+  in_dropped entry_slashdash (t_value p) e a d = slashdash_then no_star (entry_plain (a_plain p (fresh_end false (back_run _ _ e a))) (no_key (back _ (dropping (in_node (fresh false))) _ e d)))
+  in_dropped entry_slashdash t_left e a d = slashdash_then no_star (entry_typed (back _ (dropping (type_open true)) _ e d))
+  in_dropped (type_open b) (t_space n) e a d = item_space opened false n (back _ (dropping (type_open b)) _ e d)
+  in_dropped (type_open b) (t_string p) e a d = open_then no_star (a_string' p (type_end b (back_run _ _ e a))) (back _ (dropping (type_name b)) _ e d)
+  in_dropped (type_name b) (t_space n) e a d = item_space named false n (back _ (dropping (type_name b)) _ e d)
+  in_dropped (type_name b) t_right e a d = named_then no_star (back _ (dropping (type_done b)) _ e d)
+  in_dropped (type_done b) (t_space n) e a d = item_space closed false n (back _ (dropping (type_done b)) _ e d)
+  in_dropped (type_done b) (t_string p) e a d = closed_then no_star (a_string (a_string' p (fresh_end false (back_run _ _ e a)))) (no_key (back _ (dropping (in_node (fresh false))) _ e d))
+  in_dropped (type_done true) (t_value p) e a d = closed_then no_star (a_plain p (fresh_end false (back_run _ _ e a))) (no_key (back _ (dropping (in_node (fresh false))) _ e d))
+  in_dropped in_property (t_space n) e a d = item_space keyed false n (back _ (dropping in_property) _ e d)
+  in_dropped in_property (t_string p) e a d = value_of (a_string (a_string' p (fresh_end false (back_run _ _ e a)))) (no_key (back _ (dropping (in_node (fresh false))) _ e d))
+  in_dropped in_property (t_value p) e a d = value_of (a_plain p (fresh_end false (back_run _ _ e a))) (no_key (back _ (dropping (in_node (fresh false))) _ e d))
+  in_dropped in_property t_left e a d = value_typed (back _ (dropping (type_open true)) _ e d)
+  in_dropped (in_node (fresh b)) (t_space n) e a d = fresh_space b n (back _ (dropping (in_node (spaced b))) _ e d)
+  in_dropped (in_node (fresh true)) t_equals e a d = inr (key_then no_star (back _ (dropping in_property) _ e d))
+  in_dropped (in_node (spaced b)) (t_space n) e a d = spaced_space b n (back _ (dropping (in_node (spaced b))) _ e d)
+  in_dropped (in_node (spaced true)) t_equals e a d = inr (key_then no_star (back _ (dropping in_property) _ e d))
+  in_dropped (in_node (spaced b)) t_slashdash e a d = inl (spaced_then no_star (left_slashdash (back _ (dropping entry_slashdash) _ e d)))
+  in_dropped (in_node (spaced b)) (t_string p) e a d = inl (spaced_then no_star (left_entry (entry_of (a_string' p (word_end _ _ (back_run _ _ e a))) (back _ (word _ _) _ e d))))
+  in_dropped (in_node (spaced b)) (t_value p) e a d = inl (spaced_then no_star (left_entry (entry_plain (a_plain p (done_end _ _ (back_run _ _ e a))) (back _ (done _ _) _ e d))))
+  in_dropped (in_node (spaced b)) t_left e a d = inl (spaced_then no_star (left_entry (entry_typed (back _ (under _) _ e d))))
+  in_dropped gap t e a d = tt
+  in_dropped node_slashdash t e a d = tt
+  in_dropped (in_node later) t e a d = tt
+  in_dropped block_slashdash t e a d = tt
+  in_dropped kept t e a d = tt
+  in_dropped kept_slashdash t e a d = tt
+  in_dropped _ t e a d = absurd cc
 
   sound : {s : Text} {st : State} → Runs whole out st s → Rest st s
   sound (stops {st = word w from} e) = inl (at_last no_star)
@@ -239,22 +260,12 @@ module _ (whole : Text) (out : Entry) where
   sound (stops e) = absurd cc
   sound (reads {st = ahead} (t_space n) e a) = text_space (LineSpace.space n) (back _ ahead _ e (sound a))
   sound (reads {st = ahead} (t_newline n) e a) = text_space (LineSpace.«break» n) (back _ ahead _ e (sound a))
-  sound (reads {st = ahead} t_slashdash e a) = text_left (left_slashdash (back _ entry_slashdash _ e (sound a)))
+  sound (reads {st = ahead} t_slashdash e a) = text_left (left_slashdash (back _ (dropping entry_slashdash) _ e (sound a)))
   sound (reads {st = ahead} (t_string p) e a) = text_left (left_entry (entry_of (a_string' p (word_end _ _ (back_run _ _ e a))) (back _ (word _ _) _ e (sound a))))
   sound (reads {st = ahead} (t_value p) e a) = text_left (left_entry (entry_plain (a_plain p (done_end _ _ (back_run _ _ e a))) (back _ (done _ _) _ e (sound a))))
   sound (reads {st = ahead} t_left e a) = text_left (left_entry (entry_typed (back _ (under _) _ e (sound a))))
-  sound (reads {st = entry_slashdash} (t_space n) e a) = slashdash_space (LineSpace.space n) (back _ entry_slashdash _ e (sound a))
-  sound (reads {st = entry_slashdash} (t_newline n) e a) = slashdash_space (LineSpace.«break» n) (back _ entry_slashdash _ e (sound a))
-  sound (reads {st = entry_slashdash} (t_string p) e a) = slashdash_then no_star (entry_of (a_string' p (dropped_end true (back_run _ _ e a))) (back _ (dropped true false) _ e (sound a)))
-  sound (reads {st = entry_slashdash} (t_value p) e a) = slashdash_then no_star (entry_plain (a_plain p (dropped_end false (back_run _ _ e a))) (no_key (back _ (dropped false false) _ e (sound a))))
-  sound (reads {st = entry_slashdash} t_left e a) = slashdash_then no_star (entry_typed (back _ (under _) _ e (sound a)))
+  sound (reads {st = dropping p} t e a) = in_dropped p t e a (sound a)
   sound (reads {st = under it} t e a) = in_item it it.stage refl t e a (sound a)
-  sound (reads {st = dropped b c} (t_space n) e a) = dropped_space b c n (back _ (dropped b true) _ e (sound a))
-  sound (reads {st = dropped true c} t_equals e a) = inr (key_then no_star (back _ (under _) _ e (sound a)))
-  sound (reads {st = dropped b true} t_slashdash e a) = inl (spaced_then no_star (left_slashdash (back _ entry_slashdash _ e (sound a))))
-  sound (reads {st = dropped b true} (t_string p) e a) = inl (spaced_then no_star (left_entry (entry_of (a_string' p (word_end _ _ (back_run _ _ e a))) (back _ (word _ _) _ e (sound a)))))
-  sound (reads {st = dropped b true} (t_value p) e a) = inl (spaced_then no_star (left_entry (entry_plain (a_plain p (done_end _ _ (back_run _ _ e a))) (back _ (done _ _) _ e (sound a)))))
-  sound (reads {st = dropped b true} t_left e a) = inl (spaced_then no_star (left_entry (entry_typed (back _ (under _) _ e (sound a)))))
   sound (reads {st = word w from} (t_space n) e a) = word_space n (back _ (word w from) _ e (sound a))
   sound (reads {st = word w from} (t_newline n) e a) = inl (last_space (LineSpace.«break» n) (back _ (done _ _) _ e (sound a)))
   sound (reads {st = word w from} t_equals e a) = inr (key_then no_star (back _ (under _) _ e (sound a)))

@@ -1,5 +1,5 @@
 -- From each place that the machine of entry texts without data reaches in a text some text goes on to an entry text.
-use Rattle.std.proofs.Common.{◌≡◌, Bool, true, false, [], ◌∷◌, ◌++◌, Some, refl, sym, ap, subst, ◌∙◌}
+use Rattle.std.proofs.Common.{◌≡◌, Bool, true, false, [], ◌∷◌, ◌++◌, Option, Some, None, option_map, refl, sym, ap, subst, ◌∙◌}
 use Rattle.std.proofs.lemmas.List.{append_cancel_right}
 use Rattle.kdl_text.specs.Bare.{bare as bare_text, is_bare}
 use Rattle.kdl_text.specs.Chars.{Text, begins, starts, is_identifier_char, Space}
@@ -11,31 +11,40 @@ use Rattle.kdl_lexer.specs.Tokens.{Token, space, newline, slashdash, string, val
 use Rattle.kdl_lexer.specs.Pieces.{bare}
 use Rattle.kdl_lexer.proofs.Lexing.TokenUnique.{is_end, end_behind}
 use Rattle.kdl_lexer.proofs.Moving.StringMoves.{value_end_no_quote}
+use Rattle.kdl_control.specs.Control as control
+use Rattle.kdl_control.specs.Control.{fresh, spaced, gap, node_slashdash, type_open, type_name, type_done, in_node, property, entry_slashdash, at, without_block}
 use Rattle.kdl_entry.specs.EarliestEntry.{DerivedEntry}
 use Rattle.kdl_entry.specs.Entries.{IsEntryText}
-use Rattle.kdl_entry.specs.Internal.EntryControl.{Phase, ahead, entry_slashdash, under, dropped, word, done, given, if_valued, turn, EntryReaches}
+use Rattle.kdl_entry.specs.Internal.EntryControl.{Phase, ahead, dropping, under, word, done, if_valued, item_turn, turn, EntryReaches}
+use Rattle.kdl_entry.specs.Internal.EntryMachine.{in_dropped, if_dropped, dropped_phase, dropped_turn}
+use Rattle.kdl_entry.specs.Internal.Going.{GoesBy, here, goes}
 use Rattle.kdl_entry.specs.Internal.Items.{Stage, opened, named, closed, keyed}
 use Rattle.kdl_entry.proofs.Moving.TokenMoves.{Fits}
 use Rattle.kdl_entry.proofs.Reading.EntryErased.{Accepts, ends, takes, accepts_derived, behind}
 use Rattle.kdl_entry.proofs.Reading.Going.{carry}
 
 -- Texts that end an entry text: what is due, and after an entry that is slashdashed an entry.
-abbrev then_text : Bool → Text
-then_text true = []
-then_text false = 32 ∷ 97 ∷ []
+abbrev item_text : Stage → Text
+item_text opened = 97 ∷ 41 ∷ 97 ∷ []
+item_text named = 41 ∷ 97 ∷ []
+item_text closed = 97 ∷ []
+item_text keyed = 97 ∷ []
 
-abbrev item_text : Stage → Text → Text
-item_text opened u = 97 ∷ 41 ∷ 97 ∷ u
-item_text named u = 41 ∷ 97 ∷ u
-item_text closed u = 97 ∷ u
-item_text keyed u = 97 ∷ u
+-- an entry after spaces
+abbrev one_more : Text
+one_more = 32 ∷ 97 ∷ []
+
+abbrev dropped_text : control.Phase → Text
+dropped_text (type_open b) = 97 ∷ 41 ∷ 97 ∷ one_more
+dropped_text (type_name b) = 41 ∷ 97 ∷ one_more
+dropped_text (in_node (fresh b)) = one_more
+dropped_text (in_node (spaced b)) = 97 ∷ []
+dropped_text _ = 97 ∷ one_more
 
 abbrev rest_text : Phase → Text
 rest_text ahead = 97 ∷ []
-rest_text entry_slashdash = 97 ∷ 32 ∷ 97 ∷ []
-rest_text (under kept valued g) = item_text g (then_text kept)
-rest_text (dropped b false) = 32 ∷ 97 ∷ []
-rest_text (dropped b true) = 97 ∷ []
+rest_text (dropping p) = dropped_text p
+rest_text (under valued g) = item_text g
 rest_text word = []
 rest_text done = []
 
@@ -58,85 +67,158 @@ a_space : (r : Text) → BeginsToken (32 ∷ r) space r
 unfolding Rattle.kdl_text.specs.Chars.is_space
 a_space r = t_space (NodeSpace.ws (Ws.space (Space.space refl)))
 
-then_class : (kept : Bool) → starts is_identifier_char (then_text kept) ≡ false
-then_class true = refl
-then_class false = no_space
+value_accepted : (valued : Bool) → Accepts (under valued closed) (97 ∷ [])
+value_accepted valued = takes (a_word [] refl) refl (ends refl)
 
-then_accepted : (kept : Bool) → Accepts (given kept) (then_text kept)
-then_accepted true = ends refl
-then_accepted false = takes (a_space (97 ∷ [])) refl (takes (a_word [] refl) refl (ends refl))
+item_accepted : (valued : Bool) (g : Stage) → Accepts (under valued g) (item_text g)
+item_accepted valued opened = takes (a_word (41 ∷ 97 ∷ []) no_right) refl (takes t_right refl (value_accepted valued))
+item_accepted valued named = takes t_right refl (value_accepted valued)
+item_accepted valued closed = value_accepted valued
+item_accepted valued keyed = takes (a_word [] refl) refl (ends refl)
 
-value_accepted : (kept valued : Bool) → Accepts (under kept valued closed) (97 ∷ then_text kept)
-value_accepted kept valued = takes (a_word (then_text kept) (then_class kept)) refl (then_accepted kept)
+spaced_accepted : (b : Bool) → Accepts (dropping (in_node (spaced b))) (97 ∷ [])
+spaced_accepted b = takes (a_word [] refl) refl (ends refl)
 
-item_accepted : (kept valued : Bool) (g : Stage) → Accepts (under kept valued g) (item_text g (then_text kept))
-item_accepted kept valued opened = takes (a_word (41 ∷ 97 ∷ then_text kept) no_right) refl (takes t_right refl (value_accepted kept valued))
-item_accepted kept valued named = takes t_right refl (value_accepted kept valued)
-item_accepted kept valued closed = value_accepted kept valued
-item_accepted kept valued keyed = takes (a_word (then_text kept) (then_class kept)) refl (then_accepted kept)
+fresh_accepted : (b : Bool) → Accepts (dropping (in_node (fresh b))) one_more
+fresh_accepted b = takes (a_space (97 ∷ [])) refl (spaced_accepted b)
+
+done_accepted : (b : Bool) → Accepts (dropping (type_done b)) (97 ∷ one_more)
+done_accepted b = takes (a_word one_more no_space) refl (fresh_accepted false)
+
+name_accepted : (b : Bool) → Accepts (dropping (type_name b)) (41 ∷ 97 ∷ one_more)
+name_accepted b = takes t_right refl (done_accepted b)
+
+dropped_accepted : (p : control.Phase) → in_dropped p ≡ true → Accepts (dropping p) (dropped_text p)
+dropped_accepted entry_slashdash h = takes (a_word one_more no_space) refl (fresh_accepted true)
+dropped_accepted (type_open b) h = takes (a_word (41 ∷ 97 ∷ one_more) no_right) refl (name_accepted b)
+dropped_accepted (type_name b) h = name_accepted b
+dropped_accepted (type_done b) h = done_accepted b
+dropped_accepted property h = takes (a_word one_more no_space) refl (fresh_accepted false)
+dropped_accepted (in_node (fresh b)) h = fresh_accepted b
+dropped_accepted (in_node (spaced b)) h = spaced_accepted b
+dropped_accepted _ h = absurd cc
+
+-- the machine is in such a phase only in or after a slashdashed entry
+abbrev Placed : Phase → Type 0
+Placed (dropping p) = in_dropped p ≡ true
+Placed _ = Unit {0}
+
+to_placed : (c d : Phase) → Some c ≡ Some d → Placed c → Placed d
+to_placed c d e h = let q : c ≡ d = cc in subst (λ (z : Phase). Placed z) q h
+
+filtered : (b : Bool) (p q : control.Phase) → b ≡ in_dropped p → if_dropped b p ≡ Some q → in_dropped q ≡ true
+filtered true p q h e = let x : p ≡ q = cc in subst (λ (z : control.Phase). in_dropped z ≡ true) x (sym h)
+filtered false p q h e = absurd cc
+
+one_of : (o : Option control.Phase) (q : control.Phase) → dropped_phase o ≡ Some q → in_dropped q ≡ true
+one_of None q e = absurd cc
+one_of (Some p) q e = filtered (in_dropped p) p q refl e
+
+dropped_goes : (p : control.Phase) (k : Token) (q : control.Phase) → dropped_turn p k ≡ Some q → in_dropped q ≡ true
+dropped_goes (in_node (fresh b)) slashdash q e = absurd cc
+dropped_goes p k q e = one_of (without_block (control.step (at p []) k)) q e
+
+dropped_placed : (o : Option control.Phase) (d : Phase) → ((q : control.Phase) → o ≡ Some q → in_dropped q ≡ true) → option_map dropping o ≡ Some d → Placed d
+dropped_placed None d h e = absurd cc
+dropped_placed (Some q) d h e = to_placed (dropping q) d e (h q refl)
+
+item_placed : (valued : Bool) (g : Stage) (k : Token) (d : Phase) → item_turn valued g k ≡ Some d → Placed d
+item_placed valued opened space d e = to_placed (under valued opened) d e tt
+item_placed valued opened (string v) d e = to_placed (under valued named) d e tt
+item_placed valued named space d e = to_placed (under valued named) d e tt
+item_placed valued named right d e = to_placed (under valued closed) d e tt
+item_placed valued closed space d e = to_placed (under valued closed) d e tt
+item_placed valued closed (string v) d e = to_placed done d e tt
+item_placed true closed (value v) d e = to_placed done d e tt
+item_placed valued keyed space d e = to_placed (under valued keyed) d e tt
+item_placed valued keyed (string v) d e = to_placed done d e tt
+item_placed valued keyed (value v) d e = to_placed done d e tt
+item_placed valued keyed left d e = to_placed (under true opened) d e tt
+item_placed _ _ _ d e = absurd cc
+
+turn_placed : (c : Phase) (k : Token) (d : Phase) → turn c k ≡ Some d → Placed d
+turn_placed ahead space d e = to_placed ahead d e tt
+turn_placed ahead newline d e = to_placed ahead d e tt
+turn_placed ahead slashdash d e = to_placed (dropping entry_slashdash) d e refl
+turn_placed ahead (string v) d e = to_placed word d e tt
+turn_placed ahead (value v) d e = to_placed done d e tt
+turn_placed ahead left d e = to_placed (under true opened) d e tt
+turn_placed (dropping (in_node (spaced b))) (string v) d e = to_placed word d e tt
+turn_placed (dropping (in_node (spaced b))) (value v) d e = to_placed done d e tt
+turn_placed (dropping (in_node (spaced b))) left d e = to_placed (under true opened) d e tt
+turn_placed (dropping p) k d e = dropped_placed (dropped_turn p k) d (dropped_goes p k) e
+turn_placed (under valued g) k d e = item_placed valued g k d e
+turn_placed word space d e = to_placed word d e tt
+turn_placed word newline d e = to_placed done d e tt
+turn_placed word equals d e = to_placed (under true keyed) d e tt
+turn_placed done space d e = to_placed done d e tt
+turn_placed done newline d e = to_placed done d e tt
+turn_placed _ _ d e = absurd cc
 
 -- from each phase its text is accepted
-rest_accepted : (c : Phase) → Accepts c (rest_text c)
-rest_accepted ahead = takes (a_word [] refl) refl (ends refl)
-rest_accepted entry_slashdash = takes (a_word (32 ∷ 97 ∷ []) no_space) refl (takes (a_space (97 ∷ [])) refl (takes (a_word [] refl) refl (ends refl)))
-rest_accepted (under kept valued g) = item_accepted kept valued g
-rest_accepted (dropped b false) = takes (a_space (97 ∷ [])) refl (takes (a_word [] refl) refl (ends refl))
-rest_accepted (dropped b true) = takes (a_word [] refl) refl (ends refl)
-rest_accepted word = ends refl
-rest_accepted done = ends refl
+rest_accepted : (c : Phase) → Placed c → Accepts c (rest_text c)
+rest_accepted ahead h = takes (a_word [] refl) refl (ends refl)
+rest_accepted (dropping p) h = dropped_accepted p h
+rest_accepted (under valued g) h = item_accepted valued g
+rest_accepted word h = ends refl
+rest_accepted done h = ends refl
 
 no_feed : (c : Phase) → begins 10 (rest_text c) ≡ false
 no_feed ahead = refl
-no_feed entry_slashdash = refl
-no_feed (under kept valued opened) = refl
-no_feed (under kept valued named) = refl
-no_feed (under kept valued closed) = refl
-no_feed (under kept valued keyed) = refl
-no_feed (dropped b false) = refl
-no_feed (dropped b true) = refl
+no_feed (dropping (in_node (fresh b))) = refl
+no_feed (dropping (in_node (spaced b))) = refl
+no_feed (dropping _) = refl
+no_feed (under valued opened) = refl
+no_feed (under valued named) = refl
+no_feed (under valued closed) = refl
+no_feed (under valued keyed) = refl
 no_feed word = refl
 no_feed done = refl
 
 -- after a string, a number or a keyword
 abbrev worded : Phase → Bool
+worded (dropping (in_node (fresh b))) = true
+worded (dropping (type_name b)) = true
+worded (under valued named) = true
 worded word = true
 worded done = true
-worded (dropped b false) = true
-worded (under kept valued named) = true
 worded _ = false
-
-given_worded : (kept : Bool) → worded (given kept) ≡ true
-given_worded true = refl
-given_worded false = refl
 
 to_worded : (c d : Phase) → Some c ≡ Some d → worded c ≡ true → worded d ≡ true
 to_worded c d e h = let q : c ≡ d = cc in subst (λ (z : Phase). worded z ≡ true) q h
 
-valued_worded : (valued kept : Bool) (d : Phase) → if_valued valued (given kept) ≡ Some d → worded d ≡ true
-valued_worded true kept d e = to_worded _ d e (given_worded kept)
-valued_worded false kept d e = absurd cc
+valued_worded : (valued : Bool) (d : Phase) → if_valued valued ≡ Some d → worded d ≡ true
+valued_worded true d e = to_worded _ d e refl
+valued_worded false d e = absurd cc
 
 behind_string : (c : Phase) (v : Text) (d : Phase) → turn c (string v) ≡ Some d → worded d ≡ true
 behind_string ahead v d e = to_worded _ d e refl
-behind_string entry_slashdash v d e = to_worded _ d e refl
-behind_string (under kept valued opened) v d e = to_worded _ d e refl
-behind_string (under kept valued named) v d e = absurd cc
-behind_string (under kept valued closed) v d e = to_worded _ d e (given_worded kept)
-behind_string (under kept valued keyed) v d e = to_worded _ d e (given_worded kept)
-behind_string (dropped b false) v d e = absurd cc
-behind_string (dropped b true) v d e = to_worded _ d e refl
+behind_string (dropping (in_node (spaced b))) v d e = to_worded _ d e refl
+behind_string (dropping gap) v d e = to_worded _ d e refl
+behind_string (dropping node_slashdash) v d e = to_worded _ d e refl
+behind_string (dropping (type_open b)) v d e = to_worded _ d e refl
+behind_string (dropping (type_done b)) v d e = to_worded _ d e refl
+behind_string (dropping property) v d e = to_worded _ d e refl
+behind_string (dropping entry_slashdash) v d e = to_worded _ d e refl
+behind_string (dropping _) v d e = absurd cc
+behind_string (under valued opened) v d e = to_worded _ d e refl
+behind_string (under valued named) v d e = absurd cc
+behind_string (under valued closed) v d e = to_worded _ d e refl
+behind_string (under valued keyed) v d e = to_worded _ d e refl
 behind_string word v d e = absurd cc
 behind_string done v d e = absurd cc
 
 behind_value : (c : Phase) (v : Value) (d : Phase) → turn c (value v) ≡ Some d → worded d ≡ true
 behind_value ahead v d e = to_worded _ d e refl
-behind_value entry_slashdash v d e = to_worded _ d e refl
-behind_value (under kept valued opened) v d e = absurd cc
-behind_value (under kept valued named) v d e = absurd cc
-behind_value (under kept valued closed) v d e = valued_worded valued kept d e
-behind_value (under kept valued keyed) v d e = to_worded _ d e (given_worded kept)
-behind_value (dropped b false) v d e = absurd cc
-behind_value (dropped b true) v d e = to_worded _ d e refl
+behind_value (dropping (in_node (spaced b))) v d e = to_worded _ d e refl
+behind_value (dropping (type_done true)) v d e = to_worded _ d e refl
+behind_value (dropping property) v d e = to_worded _ d e refl
+behind_value (dropping entry_slashdash) v d e = to_worded _ d e refl
+behind_value (dropping _) v d e = absurd cc
+behind_value (under valued opened) v d e = absurd cc
+behind_value (under valued named) v d e = absurd cc
+behind_value (under valued closed) v d e = valued_worded valued d e
+behind_value (under valued keyed) v d e = to_worded _ d e refl
 behind_value word v d e = absurd cc
 behind_value done v d e = absurd cc
 
@@ -152,22 +234,22 @@ next_end done (value v) d w e = absurd cc
 next_end done left d w e = absurd cc
 next_end done bom d w e = absurd cc
 next_end done _ d w e = refl
-next_end (dropped b false) (string v) d w e = absurd cc
-next_end (dropped b false) (value v) d w e = absurd cc
-next_end (dropped b false) left d w e = absurd cc
-next_end (dropped b false) bom d w e = absurd cc
-next_end (dropped b false) _ d w e = refl
-next_end (under kept valued named) (string v) d w e = absurd cc
-next_end (under kept valued named) (value v) d w e = absurd cc
-next_end (under kept valued named) left d w e = absurd cc
-next_end (under kept valued named) bom d w e = absurd cc
-next_end (under kept valued named) _ d w e = refl
-next_end ahead k d w e = absurd cc
-next_end entry_slashdash k d w e = absurd cc
-next_end (dropped b true) k d w e = absurd cc
-next_end (under kept valued opened) k d w e = absurd cc
-next_end (under kept valued closed) k d w e = absurd cc
-next_end (under kept valued keyed) k d w e = absurd cc
+next_end (dropping (in_node (fresh b))) (string v) d w e = absurd cc
+next_end (dropping (in_node (fresh b))) (value v) d w e = absurd cc
+next_end (dropping (in_node (fresh b))) left d w e = absurd cc
+next_end (dropping (in_node (fresh b))) bom d w e = absurd cc
+next_end (dropping (in_node (fresh b))) _ d w e = refl
+next_end (dropping (type_name b)) (string v) d w e = absurd cc
+next_end (dropping (type_name b)) (value v) d w e = absurd cc
+next_end (dropping (type_name b)) left d w e = absurd cc
+next_end (dropping (type_name b)) bom d w e = absurd cc
+next_end (dropping (type_name b)) _ d w e = refl
+next_end (under valued named) (string v) d w e = absurd cc
+next_end (under valued named) (value v) d w e = absurd cc
+next_end (under valued named) left d w e = absurd cc
+next_end (under valued named) bom d w e = absurd cc
+next_end (under valued named) _ d w e = refl
+next_end _ k d w e = absurd cc
 
 -- what ends a value goes on with none
 fits_next : (c d d' : Phase) (k j : Token) (t r : Text) → turn c k ≡ Some d → BeginsToken t j r → turn d j ≡ Some d' → Fits k t
@@ -188,14 +270,10 @@ fits_next c d d' bom j t r e b f = tt
 word_fits : (d : Phase) → worded d ≡ true → (starts is_identifier_char (rest_text d) ≡ false) × (begins 34 (rest_text d) ≡ false)
 word_fits word w = (refl, refl)
 word_fits done w = (refl, refl)
-word_fits (dropped b false) w = (no_space, refl)
-word_fits (under kept valued named) w = (no_right, refl)
-word_fits ahead w = absurd cc
-word_fits entry_slashdash w = absurd cc
-word_fits (dropped b true) w = absurd cc
-word_fits (under kept valued opened) w = absurd cc
-word_fits (under kept valued closed) w = absurd cc
-word_fits (under kept valued keyed) w = absurd cc
+word_fits (dropping (in_node (fresh b))) w = (no_space, refl)
+word_fits (dropping (type_name b)) w = (no_right, refl)
+word_fits (under valued named) w = (no_right, refl)
+word_fits _ w = absurd cc
 
 fits_rest : (c : Phase) (k : Token) (d : Phase) → turn c k ≡ Some d → Fits k (rest_text d)
 fits_rest c (string v) d e = word_fits d (behind_string c v d e)
@@ -211,11 +289,15 @@ fits_rest c equals d e = tt
 fits_rest c semicolon d e = tt
 fits_rest c bom d e = tt
 
+placed : {c d : Phase} {s r : Text} → Placed c → GoesBy turn c s d r → Placed d
+placed h here = h
+placed h (goes {c = c} {c' = c'} {k = k} b e g) = placed (turn_placed c k c' e) g
+
 -- what it goes over begins a derived text
 pub entry_alive : (p r : Text) (c : Phase) → EntryReaches (p ++ r) c r → BeginsSome DerivedEntry p
 entry_alive p r c g =
     let u = rest_text c in
     let x = carry fits_next u (no_feed c) (λ d k e. fits_rest d k c e) g in
-    let (y, d) = accepts_derived (behind x.there (rest_accepted c)) in
+    let (y, d) = accepts_derived (behind x.there (rest_accepted c (placed {c = ahead} tt g))) in
     let same : x.at.piece ≡ p = append_cancel_right x.at.piece p r (sym (x.at.here ∙ x.at.text r)) in
     (x.glue ++ u, (y, subst (λ (z : Text). IsEntryText true z y) (x.at.text (x.glue ++ u) ∙ ap (λ (z : Text). z ++ (x.glue ++ u)) same) d))

@@ -35,7 +35,6 @@ stage_view Keyed = items.keyed
 -- the item that the reader's fields represent
 abbrev pub item_view : Item → items.Item
 item_view it = record {
-  kept = it.kept;
   valued = owner_view it.owner;
   stage = stage_view it.stage;
   leading = text_of it.leading;
@@ -54,9 +53,8 @@ Did o place (Ok (Some g)) it = o ≡ gives (option_map key_view g.key) (option_m
 Did o place (Err (Faulty span)) it = (o ≡ refuses) × IsFaultAt place span
 Did o place (Err Memory) it = Unit {0}
 
--- the item is kept or not as before, and begins where it began
+-- the item begins where it began
 pub record Holds (old new : items.Item) : Type 0 where
-  pub kept : new.kept ≡ old.kept
   pub leading : new.leading ≡ old.leading
   pub start : new.start ≡ old.start
 

@@ -1,6 +1,8 @@
 -- The machine that reads a text that is one entry: it reads the tokens once. The token k is in the text s before r, in the text `whole`.
--- The start of a place is kept as the text from there on. No text of a slashdashed entry is kept.
+-- The start of a place is kept as the text from there on. Of a slashdashed entry only the phase of the control grammar is kept.
 use Rattle.std.specs.Prelude.{◌≡◌, Bool, true, false, [], Option, Some, None, option_map}
+use Rattle.kdl_control.specs.Control as control
+use Rattle.kdl_control.specs.Control.{Phase, fresh, spaced, type_open, type_name, type_done, in_node, property, entry_slashdash, at, without_block}
 use Rattle.kdl_text.specs.Chars.{Text}
 use Rattle.kdl_text.specs.declared.span.SourceSpan.{SourceSpan}
 use Rattle.kdl_value.specs.Data.{Value, text}
@@ -17,25 +19,57 @@ pub record Word : Type 0 where
   pub repr : Text
   pub span : SourceSpan
 
--- before the entry, after only line-spaces; after a slashdash; in an entry that has a type or a key;
--- after a slashdashed entry, which may be a key or not, directly or after spaces;
--- after a string that may be a key; after the entry
+-- before the entry, after only line-spaces; in or after a slashdashed entry;
+-- in an entry that has a type or a key; after a string that may be a key; after the entry
 pub data State : Type 0 where
   ahead : State
-  entry_slashdash : State
+  dropping : Phase → State
   under : Item → State
-  dropped : Bool → Bool → State
   word : Word → Text → State
   done : Entry → Text → State
 
+-- the phases from a slashdash on, in a text that is one entry
+abbrev pub in_dropped : Phase → Bool
+in_dropped entry_slashdash = true
+in_dropped (type_open b) = true
+in_dropped (type_name b) = true
+in_dropped (type_done b) = true
+in_dropped property = true
+in_dropped (in_node (fresh b)) = true
+in_dropped (in_node (spaced b)) = true
+in_dropped _ = false
+
+-- the phase, if it is one of these
+abbrev pub if_dropped : Bool → Phase → Option Phase
+if_dropped true p = Some p
+if_dropped false p = None
+
+-- the phase of a slashdashed entry, if there is one of these
+abbrev pub dropped_phase : Option Phase → Option Phase
+dropped_phase None = None
+dropped_phase (Some p) = if_dropped (in_dropped p) p
+
+-- the phase after a token in or after a slashdashed entry; no slashdash may come directly after the entry
+abbrev pub dropped_turn : Phase → Token → Option Phase
+dropped_turn (in_node (fresh b)) slashdash = None
+dropped_turn p k = dropped_phase (without_block (control.step (at p []) k))
+
+-- the token begins an entry that is not slashdashed, after one that is
+abbrev pub begins_next : Phase → Token → Bool
+begins_next (in_node (spaced b)) (string v) = true
+begins_next (in_node (spaced b)) (value v) = true
+begins_next (in_node (spaced b)) left = true
+begins_next _ _ = false
+
 -- an entry being read, after the `(` of its type, which is in s before r
-abbrev pub opened_item : Text → Bool → Text → Text → Item
-opened_item s kept leading r = record { kept = kept; valued = true; stage = opened; leading = leading; start = s; from = r; key = None; name = plain_identifier []; before = []; after = [] }
+abbrev pub opened_item : Text → Text → Text → Item
+opened_item s leading r = record { valued = true; stage = opened; leading = leading; start = s; from = r; key = None; name = plain_identifier []; before = []; after = [] }
 
 -- an entry being read, after the `=` that follows its key and this text
-abbrev pub keyed_item : Text → Bool → Text → Identifier → Text → Text → Item
-keyed_item start kept leading name before r = record { kept = kept; valued = true; stage = keyed; leading = leading; start = start; from = r; key = None; name = name; before = before; after = [] }
+abbrev pub keyed_item : Text → Text → Identifier → Text → Text → Item
+keyed_item start leading name before r = record { valued = true; stage = keyed; leading = leading; start = start; from = r; key = None; name = name; before = before; after = [] }
 
+-- the string that is in s before r
 abbrev pub word_at : Text → Text → Text → Text → Word
 word_at whole v s r = record { leading = between whole s; value = v; repr = between s r; span = span_of whole s r }
 
@@ -51,40 +85,28 @@ entry_by leading k y v repr = entry_at no_span leading k y v repr
 abbrev pub argument_of : Word → Entry
 argument_of w = entry_by w.leading None None (text w.value) w.repr
 
--- after an entry that is kept, or that is slashdashed
-abbrev pub given : Bool → Text → Option KeyParts → Option TypeParts → Value → Text → Text → State
-given true leading k y v s r = done (entry_by leading k y v (between s r)) r
-given false leading k y v s r = dropped false false
-
 -- the state after an answer of the item
 abbrev pub came : Item → Answer → Text → Text → Option State
 came it (goes next) s r = Some (under next)
-came it (gives k y v) s r = Some (given it.kept it.leading k y v s r)
+came it (gives k y v) s r = Some (done (entry_by it.leading k y v (between s r)) r)
 came it refuses s r = None
 
 -- the token k is in s before r, in the text `whole`
 abbrev pub step : Text → State → Token → Text → Text → Option State
 step whole ahead space s r = Some ahead
 step whole ahead newline s r = Some ahead
-step whole ahead slashdash s r = Some entry_slashdash
+step whole ahead slashdash s r = Some (dropping entry_slashdash)
 step whole ahead (string v) s r = Some (word (word_at whole v s r) r)
-step whole ahead (value v) s r = Some (given true (between whole s) None None v s r)
-step whole ahead left s r = Some (under (opened_item s true (between whole s) r))
-step whole entry_slashdash space s r = Some entry_slashdash
-step whole entry_slashdash newline s r = Some entry_slashdash
-step whole entry_slashdash (string v) s r = Some (dropped true false)
-step whole entry_slashdash (value v) s r = Some (dropped false false)
-step whole entry_slashdash left s r = Some (under (opened_item s false [] r))
+step whole ahead (value v) s r = Some (done (entry_by (between whole s) None None v (between s r)) r)
+step whole ahead left s r = Some (under (opened_item s (between whole s) r))
+step whole (dropping (in_node (spaced b))) (string v) s r = Some (word (word_at whole v s r) r)
+step whole (dropping (in_node (spaced b))) (value v) s r = Some (done (entry_by (between whole s) None None v (between s r)) r)
+step whole (dropping (in_node (spaced b))) left s r = Some (under (opened_item s (between whole s) r))
+step whole (dropping p) k s r = option_map dropping (dropped_turn p k)
 step whole (under it) k s r = came it (items.step whole it k s r) s r
-step whole (dropped b c) space s r = Some (dropped b true)
-step whole (dropped true c) equals s r = Some (under (keyed_item s false [] (plain_identifier []) [] r))
-step whole (dropped b true) slashdash s r = Some entry_slashdash
-step whole (dropped b true) (string v) s r = Some (word (word_at whole v s r) r)
-step whole (dropped b true) (value v) s r = Some (given true (between whole s) None None v s r)
-step whole (dropped b true) left s r = Some (under (opened_item s true (between whole s) r))
 step whole (word w from) space s r = Some (word w from)
 step whole (word w from) newline s r = Some (done (argument_of w) from)
-step whole (word w from) equals s r = Some (under (keyed_item whole true w.leading (word_identifier w) (between from s) r))
+step whole (word w from) equals s r = Some (under (keyed_item whole w.leading (word_identifier w) (between from s) r))
 step whole (done e from) space s r = Some (done e from)
 step whole (done e from) newline s r = Some (done e from)
 step _ _ _ _ _ = None

@@ -1,8 +1,9 @@
 -- The machine's state that a reader of an entry holds, and what its steps return.
-use Rattle.std.specs.Prelude.{◌≡◌, ◌↔◌, ◌++◌, Bool, true, false, Option, Some, None, Result, Ok, Err}
+use Rattle.std.specs.Prelude.{◌≡◌, ◌↔◌, ◌++◌, Option, Some, None, Result, Ok, Err}
 use Rattle.kdl_text.specs.Chars.{Text}
 use Rattle.kdl_text.specs.Internal.Here.{Position}
 use Rattle.kdl_text.specs.Spans.{InText}
+use Rattle.kdl_control.specs.Internal.Views.{phase_view}
 use Rattle.kdl_entry.specs.Internal.Building.{item_view}
 use Rattle.kdl_entry.specs.Internal.EntryMachine as machine
 use Rattle.kdl_entry.specs.Internal.EntryMachine.{AnswersEntry, Runs, under, word, done}
@@ -13,10 +14,8 @@ use Rattle.kdl_value.specs.Tree.{text_of}
 use Rattle.kdl_entry.specs.Tree.{entry_tree}
 use Rattle.kdl_entry.specs.Tree as tree
 use Rattle.kdl_entry.specs.declared.entry.KdlEntry.{KdlEntry}
-use Rattle.kdl_entry.specs.declared.items.entries.Dropped.{Dropped}
-use Rattle.kdl_entry.specs.declared.items.entries.Dropped.TheVariants.{MayBeKey, NoKey}
 use Rattle.kdl_entry.specs.declared.items.entries.State.{State}
-use Rattle.kdl_entry.specs.declared.items.entries.State.TheVariants.{Start, EntrySlashdash, Under, Dropped as AfterDropped, Spaced, Pending, Done}
+use Rattle.kdl_entry.specs.declared.items.entries.State.TheVariants.{Start, Dropping, Under, Pending, Done}
 use Rattle.kdl_entry.specs.declared.items.entries.Word.{Word}
 use Rattle.kdl_lexer.specs.declared.lexer.LexFailure.{LexFailure}
 use Rattle.kdl_lexer.specs.declared.lexer.LexFailure.TheVariants.{Faulty, Memory}
@@ -25,18 +24,11 @@ use Rattle.kdl_lexer.specs.declared.lexer.LexFailure.TheVariants.{Faulty, Memory
 abbrev pub word_view : Word → machine.Word
 word_view w = record { leading = text_of w.leading; value = text_of w.value; repr = w.repr; span = w.span }
 
--- whether the entry that is slashdashed may be a key
-abbrev pub dropped_view : Dropped → Bool
-dropped_view MayBeKey = true
-dropped_view NoKey = false
-
 -- the machine's state that the reader's state represents
 abbrev pub state_view : State → machine.State
 state_view Start = machine.ahead
-state_view EntrySlashdash = machine.entry_slashdash
+state_view (Dropping p) = machine.dropping (phase_view p)
 state_view (Under it) = under (item_view it)
-state_view (AfterDropped d) = machine.dropped (dropped_view d) false
-state_view (Spaced d) = machine.dropped (dropped_view d) true
 state_view (Pending w) = word (word_view w) w.end.rest
 state_view (Done e from) = done (entry_tree e) from.rest
 

@@ -88,9 +88,8 @@ pub data Stage : Type 0 where
   keyed : Stage
 
 -- an item being read; the name and the texts around it are those of its type, or after `=` those of its key.
--- No text of an item that is not kept is held; an item that is not valued takes only a string.
+-- An item that is not valued takes only a string.
 pub record Item : Type 0 where
-  pub kept : Bool
   pub valued : Bool
   pub stage : Stage
   pub leading : Text
@@ -103,7 +102,7 @@ pub record Item : Type 0 where
 
 -- no item yet, at the place s
 abbrev pub no_item : Text → Item
-no_item s = record { kept = false; valued = false; stage = opened; leading = []; start = s; from = s; key = None; name = plain_identifier []; before = []; after = [] }
+no_item s = record { valued = false; stage = opened; leading = []; start = s; from = s; key = None; name = plain_identifier []; before = []; after = [] }
 
 -- the item continues, or gives its key, its type and its value, or the token may not be here
 pub data Answer : Type 0 where
@@ -111,34 +110,29 @@ pub data Answer : Type 0 where
   gives : Option KeyParts → Option TypeParts → Value → Answer
   refuses : Answer
 
--- the item with the name of its type, and the text before it, if it is kept
-abbrev pub named_at : Bool → Identifier → Text → Text → Item → Item
-named_at true i before r it = record it { stage = named; name = i; before = before; from = r }
-named_at false i before r it = record it { stage = named; from = r }
+-- the item with the name of its type, and the text before it
+abbrev pub named_at : Identifier → Text → Text → Item → Item
+named_at i before r it = record it { stage = named; name = i; before = before; from = r }
 
--- the item with the text after the name of its type, if it is kept
-abbrev pub closed_at : Bool → Text → Text → Item → Item
-closed_at true after r it = record it { stage = closed; after = after; from = r }
-closed_at false after r it = record it { stage = closed; from = r }
+-- the item with the text after the name of its type
+abbrev pub closed_at : Text → Text → Item → Item
+closed_at after r it = record it { stage = closed; after = after; from = r }
 
 -- the type, if what follows it begins at s
-abbrev pub type_at : Bool → Item → Text → Option TypeParts
-type_at true it s = Some (record { name = it.name; before = it.before; after = it.after; behind = between it.from s })
-type_at false it s = None
+abbrev pub type_at : Item → Text → TypeParts
+type_at it s = record { name = it.name; before = it.before; after = it.after; behind = between it.from s }
 
 -- the key, if what follows its `=` begins at s
-abbrev pub key_at : Bool → Item → Text → Option KeyParts
-key_at true it s = Some (record { name = it.name; before = it.before; behind = between it.from s })
-key_at false it s = None
+abbrev pub key_at : Item → Text → KeyParts
+key_at it s = record { name = it.name; before = it.before; behind = between it.from s }
 
 -- the name and the text before it were taken
-abbrev pub emptied : Bool → Item → Item
-emptied true it = record it { name = plain_identifier []; before = [] }
-emptied false it = it
+abbrev pub emptied : Item → Item
+emptied it = record it { name = plain_identifier []; before = [] }
 
 -- after the `(` of a type that follows the key k
-abbrev pub reopened : Option KeyParts → Text → Item → Item
-reopened k r it = record (emptied it.kept it) { stage = opened; valued = true; key = k; from = r }
+abbrev pub reopened : KeyParts → Text → Item → Item
+reopened k r it = record (emptied it) { stage = opened; valued = true; key = Some k; from = r }
 
 -- a number or a keyword gives only a value, and not a name
 abbrev pub if_valued : Bool → Answer → Answer
@@ -148,16 +142,16 @@ if_valued false a = refuses
 -- the step at each stage
 abbrev pub move : Stage → Text → Item → Token → Text → Text → Answer
 move opened whole it space s r = goes it
-move opened whole it (string v) s r = goes (named_at it.kept (identifier_at whole v s r) (between it.from s) r it)
+move opened whole it (string v) s r = goes (named_at (identifier_at whole v s r) (between it.from s) r it)
 move named whole it space s r = goes it
-move named whole it right s r = goes (closed_at it.kept (between it.from s) r it)
+move named whole it right s r = goes (closed_at (between it.from s) r it)
 move closed whole it space s r = goes it
-move closed whole it (string v) s r = gives it.key (type_at it.kept it s) (text v)
-move closed whole it (value v) s r = if_valued it.valued (gives it.key (type_at it.kept it s) v)
+move closed whole it (string v) s r = gives it.key (Some (type_at it s)) (text v)
+move closed whole it (value v) s r = if_valued it.valued (gives it.key (Some (type_at it s)) v)
 move keyed whole it space s r = goes it
-move keyed whole it (string v) s r = gives (key_at it.kept it s) None (text v)
-move keyed whole it (value v) s r = gives (key_at it.kept it s) None v
-move keyed whole it left s r = goes (reopened (key_at it.kept it s) r it)
+move keyed whole it (string v) s r = gives (Some (key_at it s)) None (text v)
+move keyed whole it (value v) s r = gives (Some (key_at it s)) None v
+move keyed whole it left s r = goes (reopened (key_at it s) r it)
 move _ whole it k s r = refuses
 
 -- the step at a token

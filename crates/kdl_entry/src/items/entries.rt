@@ -1,22 +1,23 @@
 //! Entries that are a whole text, read token by token.
 
+ghost use Rattle.kdl_control.specs.Internal.Views.{phase_view};
 ghost use Rattle.kdl_entry.specs.Internal.Building.{item_view, Stays};
 ghost use Rattle.kdl_entry.specs.Internal.EntryMachine as machine;
-ghost use Rattle.kdl_entry.specs.Internal.EntryMachine.{argument_of, ended, finish, keyed_item, entry_by, opened_item, step, word_at};
-ghost use Rattle.kdl_entry.specs.Internal.EntryReading.{dropped_view, word_view, state_view, AnswersEntryText, Stands, Stepped, Ended};
+ghost use Rattle.kdl_entry.specs.Internal.EntryMachine.{argument_of, begins_next, dropped_turn, ended, entry_by, finish, in_dropped, keyed_item, opened_item, step, word_at};
+ghost use Rattle.kdl_entry.specs.Internal.EntryReading.{word_view, state_view, AnswersEntryText, Stands, Stepped, Ended};
 ghost use Rattle.kdl_lexer.specs.Internal.Handed.{kind_view};
 ghost use Rattle.kdl_entry.specs.Places.{between};
 ghost use Rattle.kdl_value.specs.Tree.{text_of, value_tree};
-ghost use Rattle.kdl_entry.specs.Tree.{entry_tree, identifier_tree, plain_identifier};
+ghost use Rattle.kdl_entry.specs.Tree.{entry_tree, identifier_tree};
 ghost use Rattle.kdl_text.specs.Internal.Here.{Ahead};
-ghost use Rattle.std.specs.Prelude.{◌≡◌, [], Some, None, true, false, IfOk};
+ghost use Rattle.std.specs.Prelude.{◌≡◌, [], None, Some, true, IfOk, option_map};
 ghost use Rattle.std.specs.Str.{chars};
 
 use super::item::{Given, Item, Key, entry_from, piece_between, text_between};
 use crate::entry::KdlEntry;
-use crate::identifier::{KdlIdentifier, sliced_identifier};
+use crate::identifier::sliced_identifier;
 use crate::refusal::refusal;
-use kdl_control::Owner;
+use kdl_control::{Owner, Phase, Spot};
 use kdl_diagnostics::Whole;
 use kdl_lexer::{LexFailure, Lexer, Token, TokenKind, TokenSpan, fault_at};
 use kdl_text::cursor::{Checkpoint, Piece, Steps};
@@ -41,26 +42,15 @@ struct Word<'a> {
     end: Checkpoint<'a>,
 }
 
-/// A slashdashed entry: a string, which may still be a key, or something else.
-#[derive(Clone, Copy)]
-enum Dropped {
-    MayBeKey,
-    NoKey,
-}
-
 /// What of the text was read so far.
 #[derive(Drop)]
 enum State<'a> {
     /// Only line-spaces.
     Start,
-    /// A slashdash.
-    EntrySlashdash,
+    /// A slashdash, and perhaps the entry that it drops and spaces after that, up to this phase.
+    Dropping(Phase),
     /// An entry being read, which has a type or a key.
     Under(Item<'a>),
-    /// A slashdashed entry.
-    Dropped(Dropped),
-    /// Spaces after a slashdashed entry.
-    Spaced(Dropped),
     /// A string that may still be a key.
     Pending(Word<'a>),
     /// The entry, and where it ended.
@@ -70,19 +60,10 @@ enum State<'a> {
 /// Begins an entry at the `(` of its type.
 fn opened<'a>(alloc: Global, leading: String, at: &TokenSpan<'a>) -> Item<'a>
     ensures { item_view result
-        ≡ opened_item at.now.start.rest true (text_of leading) at.now.end.rest }
+        ≡ opened_item at.now.start.rest (text_of leading) at.now.end.rest }
 {
     let mut item = Item::new(alloc, &at.start);
     item.open(Owner::Value, leading, at);
-    item
-}
-
-/// An entry under way that is slashdashed, at the `(` of its type.
-fn opened_dropped<'a>(alloc: Global, at: &TokenSpan<'a>) -> Item<'a>
-    ensures { item_view result ≡ opened_item at.now.start.rest false [] at.now.end.rest }
-{
-    let mut item = Item::new(alloc, &at.start);
-    item.open_dropped(Owner::Value, at);
     item
 }
 
@@ -95,21 +76,11 @@ fn keyed<'a>(
     end: &Checkpoint<'a>,
 ) -> Item<'a>
     ensures { item_view result
-        ≡ keyed_item whole.now.rest true (text_of leading) (identifier_tree key.name)
+        ≡ keyed_item whole.now.rest (text_of leading) (identifier_tree key.name)
         (text_of key.before) end.now.rest }
 {
     let mut item = Item::new(alloc, whole);
     item.open_keyed(leading, whole, key, end);
-    item
-}
-
-/// A property under way that is slashdashed, at its `=`.
-fn keyed_dropped<'a>(alloc: Global, at: &TokenSpan<'a>) -> Item<'a>
-    ensures { item_view result
-        ≡ keyed_item at.now.start.rest false [] (plain_identifier []) [] at.now.end.rest }
-{
-    let mut item = Item::new(alloc, &at.start);
-    item.open_dropped_keyed(at);
     item
 }
 
@@ -200,7 +171,7 @@ fn at_start<'a>(
     let Token { kind, at } = token;
     match kind {
         TokenKind::Space | TokenKind::Newline => Ok(State::Start),
-        TokenKind::Slashdash => Ok(State::EntrySlashdash),
+        TokenKind::Slashdash => Ok(State::Dropping(Phase::EntrySlashdash)),
         TokenKind::String(value) => {
             let word = word_between(alloc, lexer, whole, value, at)?;
             Ok(State::Pending(word))
@@ -213,26 +184,6 @@ fn at_start<'a>(
             let leading = text_between(alloc, lexer, whole, &at.start)?;
             Ok(State::Under(opened(alloc, leading, &at)))
         }
-        _ => Err(LexFailure::Faulty(fault_at(&at.start))),
-    }
-}
-
-/// Takes a token after a slashdash.
-fn at_slashdash<'a>(
-    alloc: Global,
-    whole: &Checkpoint<'a>,
-    token: Token<'a>,
-) -> Result<State<'a>, LexFailure>
-    ensures { Stepped (step whole.now.rest machine.entry_slashdash
-        (kind_view token.entry.kind) token.entry.at.start.rest token.entry.at.end.rest)
-        token.entry.at.start result }
-{
-    let Token { kind, at } = token;
-    match kind {
-        TokenKind::Space | TokenKind::Newline => Ok(State::EntrySlashdash),
-        TokenKind::String(_) => Ok(State::Dropped(Dropped::MayBeKey)),
-        TokenKind::Value(_) => Ok(State::Dropped(Dropped::NoKey)),
-        TokenKind::Left => Ok(State::Under(opened_dropped(alloc, &at))),
         _ => Err(LexFailure::Faulty(fault_at(&at.start))),
     }
 }
@@ -255,53 +206,64 @@ fn at_under<'a>(
     let Some(given) = item.take(lexer, whole, kind, &at)? else {
         return Ok(State::Under(item));
     };
-    if !item.kept {
-        return Ok(State::Dropped(Dropped::NoKey));
-    }
     let repr = text_between(item.alloc, lexer, &at.start, &at.end)?;
     let entry = entry_from(item.alloc, UNPLACED, item.leading, given, repr);
     Ok(State::Done(entry, at.end))
 }
 
-/// Takes a token directly after a slashdashed entry.
-fn at_dropped<'a>(
-    dropped: Dropped,
-    alloc: Global,
-    whole: &Checkpoint<'a>,
-    token: Token<'a>,
-) -> Result<State<'a>, LexFailure>
-    ensures { Stepped (step whole.now.rest (machine.dropped (dropped_view dropped) false)
-        (kind_view token.entry.kind) token.entry.at.start.rest token.entry.at.end.rest)
-        token.entry.at.start result }
+/// Whether a text that is one entry has the phase from a slashdash on.
+fn in_dropped(phase: Phase) -> bool
+    ensures { result ≡ in_dropped (phase_view phase) }
 {
-    let Token { kind, at } = token;
-    match kind {
-        TokenKind::Space => Ok(State::Spaced(dropped)),
-        TokenKind::Equals if matches!(dropped, Dropped::MayBeKey) => {
-            Ok(State::Under(keyed_dropped(alloc, &at)))
-        }
-        _ => Err(LexFailure::Faulty(fault_at(&at.start))),
+    match phase {
+        Phase::EntrySlashdash | Phase::Property => true,
+        Phase::TypeOpen(_) | Phase::TypeName(_) | Phase::TypeDone(_) => true,
+        Phase::InNode(spot) => !matches!(spot, Spot::Later),
+        _ => false,
     }
 }
 
-/// Takes a token after a slashdashed entry and spaces.
-fn at_spaced<'a>(
-    dropped: Dropped,
+/// The phase after a token in or directly after a slashdashed entry, or `None` if the token may not be here.
+fn dropped_turn(phase: Phase, kind: &TokenKind) -> Option<Phase>
+    ensures { option_map phase_view result ≡ dropped_turn (phase_view phase) (kind_view kind.now) }
+{
+    match (phase, kind) {
+        (Phase::InNode(Spot::Fresh(_)), TokenKind::Slashdash) => None,
+        _ => phase.after(kind).filter(|phase| in_dropped(*phase)),
+    }
+}
+
+/// Whether the token begins an entry that is not slashdashed, after one that is.
+fn begins_next(phase: Phase, kind: &TokenKind) -> bool
+    ensures { result ≡ begins_next (phase_view phase) (kind_view kind.now) }
+{
+    matches!(phase, Phase::InNode(Spot::Spaced(_)))
+        && matches!(
+            kind,
+            TokenKind::String(_) | TokenKind::Value(_) | TokenKind::Left
+        )
+}
+
+/// Takes a token in or after a slashdashed entry.
+fn at_dropping<'a>(
+    phase: Phase,
     alloc: Global,
     lexer: &mut Lexer<'a>,
     whole: &Checkpoint<'a>,
     token: Token<'a>,
 ) -> Result<State<'a>, LexFailure>
     requires leading { Ahead whole.now token.at.start }
-    ensures did { Stepped (step whole.now.rest (machine.dropped (dropped_view dropped) true)
+    ensures did { Stepped (step whole.now.rest (machine.dropping (phase_view phase))
         (kind_view token.entry.kind) token.entry.at.start.rest token.entry.at.end.rest)
         token.entry.at.start result }
     ensures stays { Stays lexer.old lexer.new }
 {
-    match token.kind {
-        TokenKind::Space | TokenKind::Equals => at_dropped(dropped, alloc, whole, token),
-        TokenKind::Newline => Err(LexFailure::Faulty(fault_at(&token.at.start))),
-        _ => at_start(alloc, lexer, whole, token),
+    if begins_next(phase, &token.kind) {
+        return at_start(alloc, lexer, whole, token);
+    }
+    match dropped_turn(phase, &token.kind) {
+        Some(next) => Ok(State::Dropping(next)),
+        None => Err(LexFailure::Faulty(fault_at(&token.at.start))),
     }
 }
 
@@ -403,10 +365,8 @@ impl<'a> State<'a> {
     {
         match self {
             State::Start => at_start(alloc, lexer, whole, token),
-            State::EntrySlashdash => at_slashdash(alloc, whole, token),
+            State::Dropping(phase) => at_dropping(phase, alloc, lexer, whole, token),
             State::Under(item) => at_under(item, lexer, whole, token),
-            State::Dropped(dropped) => at_dropped(dropped, alloc, whole, token),
-            State::Spaced(dropped) => at_spaced(dropped, alloc, lexer, whole, token),
             State::Pending(word) => at_pending(word, alloc, lexer, whole, token),
             State::Done(entry, from) => at_done(entry, from, whole, token),
         }

@@ -10,10 +10,10 @@ ghost use Rattle.kdl_entry.specs.Internal.Items as spec;
 ghost use Rattle.kdl_entry.specs.Internal.Items.{entry_at, identifier_at};
 ghost use Rattle.kdl_entry.specs.Places.{span_of, between};
 ghost use Rattle.kdl_value.specs.Tree.{value_tree, text_of};
-ghost use Rattle.kdl_entry.specs.Tree.{entry_tree, identifier_tree, plain_identifier};
+ghost use Rattle.kdl_entry.specs.Tree.{entry_tree, identifier_tree};
 ghost use Rattle.kdl_text.specs.Internal.Here.{Ahead};
 ghost use Rattle.kdl_text.specs.Spans.{bytes};
-ghost use Rattle.std.specs.Prelude.{◌≡◌, if◌then◌else◌, [], Some, None, true, false, IfOk, OnOk, option_map};
+ghost use Rattle.std.specs.Prelude.{◌≡◌, [], Some, None, true, IfOk, OnOk, option_map};
 
 use crate::entry::{KdlEntry, KdlEntryFormat};
 use crate::identifier::{KdlIdentifier, sliced_identifier};
@@ -62,8 +62,6 @@ pub enum Stage {
 #[derive(Drop)]
 pub struct Item<'a> {
     pub alloc: Global,
-    /// Whether the item is kept, and not slashdashed. No text is held of an item that is not kept.
-    pub kept: bool,
     /// What its type precedes. A name is a string, a value any value.
     pub owner: Owner,
     pub stage: Stage,
@@ -262,7 +260,6 @@ impl<'a> Item<'a> {
     {
         Item {
             alloc,
-            kept: false,
             owner: Owner::Name,
             stage: Stage::Opened,
             leading: empty(alloc),
@@ -287,7 +284,6 @@ impl<'a> Item<'a> {
     pub fn open(&mut self, owner: Owner, leading: String, at: &TokenSpan<'a>)
         ensures is { item_view self.new
             ≡ record (item_view self.old) {
-              kept = true;
               valued = owner_view owner;
               stage = spec.opened;
               leading = text_of leading;
@@ -299,42 +295,9 @@ impl<'a> Item<'a> {
         ensures start { self.new.start ≡ at.now.start }
         ensures from { self.new.from ≡ at.now.end }
     {
-        self.kept = true;
         self.owner = owner;
         self.stage = Stage::Opened;
         self.leading = leading;
-        self.start = at.start.copied();
-        self.from = at.end.copied();
-        self.key = None;
-    }
-
-    /// Begins a slashdashed item at the `(` of its type.
-    ///
-    /// ```
-    /// let mut lexer = Lexer::new("(u8)1", Steps::new());
-    /// let mut item = Item::new(alloc, &lexer.checkpoint());
-    /// if let Some(left) = lexer.next(alloc)? {
-    ///     item.open_dropped(Owner::Value, &left.at); // the type's name is expected
-    /// }
-    /// ```
-    pub fn open_dropped(&mut self, owner: Owner, at: &TokenSpan<'a>)
-        ensures is { item_view self.new
-            ≡ record (item_view self.old) {
-              kept = false;
-              valued = owner_view owner;
-              stage = spec.opened;
-              leading = [];
-              start = at.now.start.rest;
-              from = at.now.end.rest;
-              key = None;
-            } }
-        ensures start { self.new.start ≡ at.now.start }
-        ensures from { self.new.from ≡ at.now.end }
-    {
-        self.kept = false;
-        self.owner = owner;
-        self.stage = Stage::Opened;
-        self.leading = empty(self.alloc);
         self.start = at.start.copied();
         self.from = at.end.copied();
         self.key = None;
@@ -359,7 +322,6 @@ impl<'a> Item<'a> {
     )
         ensures is { item_view self.new
             ≡ record (item_view self.old) {
-              kept = true;
               valued = true;
               stage = spec.keyed;
               leading = text_of leading;
@@ -374,7 +336,6 @@ impl<'a> Item<'a> {
         ensures start { self.new.start ≡ start.now }
         ensures from { self.new.from ≡ end.now }
     {
-        self.kept = true;
         self.owner = Owner::Value;
         self.stage = Stage::Keyed;
         self.leading = leading;
@@ -383,43 +344,6 @@ impl<'a> Item<'a> {
         self.key = None;
         self.name = key.name;
         self.before = key.before;
-    }
-
-    /// Begins a slashdashed property at its `=`.
-    ///
-    /// ```
-    /// let mut lexer = Lexer::new("a=1", Steps::new());
-    /// let mut item = Item::new(alloc, &lexer.checkpoint());
-    /// let key = lexer.next(alloc)?; // `a`
-    /// if let Some(equals) = lexer.next(alloc)? {
-    ///     item.open_dropped_keyed(&equals.at); // its value is expected
-    /// }
-    /// ```
-    pub fn open_dropped_keyed(&mut self, at: &TokenSpan<'a>)
-        ensures is { item_view self.new
-            ≡ record (item_view self.old) {
-              kept = false;
-              valued = true;
-              stage = spec.keyed;
-              leading = [];
-              start = at.now.start.rest;
-              from = at.now.end.rest;
-              key = None;
-              name = plain_identifier [];
-              before = [];
-            } }
-        ensures start { self.new.start ≡ at.now.start }
-        ensures from { self.new.from ≡ at.now.end }
-    {
-        self.kept = false;
-        self.owner = Owner::Value;
-        self.stage = Stage::Keyed;
-        self.leading = empty(self.alloc);
-        self.start = at.start.copied();
-        self.from = at.end.copied();
-        self.key = None;
-        self.name = KdlIdentifier::from(empty(self.alloc));
-        self.before = empty(self.alloc);
     }
 
     /// Continues after the string that is the type's name.
@@ -432,20 +356,16 @@ impl<'a> Item<'a> {
     ) -> Result<(), AllocError>
         requires from { Ahead self.old.from at.now.start }
         ensures named { OnOk result
-            (item_view self.new ≡ spec.named_at self.old.kept
+            (item_view self.new ≡ spec.named_at
             (identifier_at whole.now.rest (text_of value) at.now.start.rest at.now.end.rest)
             (between self.old.from.rest at.now.start.rest) at.now.end.rest (item_view self.old)) }
         ensures stays { Stays lexer.old lexer.new }
         ensures sliced { OnOk result
-            (Sliced (bytes self.old.from.rest)
-            (if self.old.kept then bytes self.new.from.rest else bytes self.old.from.rest) lexer.old
-            lexer.new) }
+            (Sliced (bytes self.old.from.rest) (bytes self.new.from.rest) lexer.old lexer.new) }
         ensures from { OnOk result (Ahead self.new.from at.now.end) }
     {
-        if self.kept {
-            self.before = text_between(self.alloc, lexer, &self.from, &at.start)?;
-            self.name = identifier_between(self.alloc, lexer, whole, value, at)?;
-        }
+        self.before = text_between(self.alloc, lexer, &self.from, &at.start)?;
+        self.name = identifier_between(self.alloc, lexer, whole, value, at)?;
         self.stage = Stage::Named;
         self.from = at.end.copied();
         Ok(())
@@ -456,18 +376,14 @@ impl<'a> Item<'a> {
     fn close(&mut self, lexer: &mut Lexer<'a>, at: &TokenSpan<'a>) -> Result<(), AllocError>
         requires from { Ahead self.old.from at.now.start }
         ensures closed { OnOk result
-            (item_view self.new ≡ spec.closed_at self.old.kept
+            (item_view self.new ≡ spec.closed_at
             (between self.old.from.rest at.now.start.rest) at.now.end.rest (item_view self.old)) }
         ensures stays { Stays lexer.old lexer.new }
         ensures sliced { OnOk result
-            (Sliced (bytes self.old.from.rest)
-            (if self.old.kept then bytes self.new.from.rest else bytes self.old.from.rest) lexer.old
-            lexer.new) }
+            (Sliced (bytes self.old.from.rest) (bytes self.new.from.rest) lexer.old lexer.new) }
         ensures from { OnOk result (Ahead self.new.from at.now.end) }
     {
-        if self.kept {
-            self.after = text_between(self.alloc, lexer, &self.from, &at.start)?;
-        }
+        self.after = text_between(self.alloc, lexer, &self.from, &at.start)?;
         self.stage = Stage::Closed;
         self.from = at.end.copied();
         Ok(())
@@ -478,33 +394,27 @@ impl<'a> Item<'a> {
         &mut self,
         lexer: &mut Lexer<'a>,
         start: &Checkpoint<'a>,
-    ) -> Result<Option<TypeParts>, AllocError>
+    ) -> Result<TypeParts, AllocError>
         requires from { Ahead self.old.from start.now }
         ensures is { IfOk result
-            (λ y. option_map type_view y
-            ≡ spec.type_at self.old.kept (item_view self.old) start.now.rest) }
+            (λ y. type_view y ≡ spec.type_at (item_view self.old) start.now.rest) }
         ensures key { option_map key_view self.new.key ≡ option_map key_view self.old.key }
         ensures holds { OnOk result (Holds (item_view self.old) (item_view self.new)) }
         ensures from { self.new.from ≡ self.old.from }
         ensures stays { Stays lexer.old lexer.new }
         ensures sliced { OnOk result
-            (Sliced (bytes self.old.from.rest)
-            (if self.old.kept then bytes start.now.rest else bytes self.old.from.rest) lexer.old
-            lexer.new) }
+            (Sliced (bytes self.old.from.rest) (bytes start.now.rest) lexer.old lexer.new) }
     {
-        if !self.kept {
-            return Ok(None);
-        }
         let behind = text_between(self.alloc, lexer, &self.from, start)?;
         let name = mem::replace(&mut self.name, KdlIdentifier::from(empty(self.alloc)));
         let before = mem::replace(&mut self.before, empty(self.alloc));
         let after = mem::replace(&mut self.after, empty(self.alloc));
-        Ok(Some(TypeParts {
+        Ok(TypeParts {
             name,
             before,
             after,
             behind,
-        }))
+        })
     }
 
     /// The key, at the start of its value or type.
@@ -512,31 +422,24 @@ impl<'a> Item<'a> {
         &mut self,
         lexer: &mut Lexer<'a>,
         start: &Checkpoint<'a>,
-    ) -> Result<Option<KeyParts>, AllocError>
+    ) -> Result<KeyParts, AllocError>
         requires from { Ahead self.old.from start.now }
         ensures is { IfOk result
-            (λ k. option_map key_view k
-            ≡ spec.key_at self.old.kept (item_view self.old) start.now.rest) }
-        ensures taken { OnOk result
-            (item_view self.new ≡ spec.emptied self.old.kept (item_view self.old)) }
+            (λ k. key_view k ≡ spec.key_at (item_view self.old) start.now.rest) }
+        ensures taken { OnOk result (item_view self.new ≡ spec.emptied (item_view self.old)) }
         ensures from { self.new.from ≡ self.old.from }
         ensures stays { Stays lexer.old lexer.new }
         ensures sliced { OnOk result
-            (Sliced (bytes self.old.from.rest)
-            (if self.old.kept then bytes start.now.rest else bytes self.old.from.rest) lexer.old
-            lexer.new) }
+            (Sliced (bytes self.old.from.rest) (bytes start.now.rest) lexer.old lexer.new) }
     {
-        if !self.kept {
-            return Ok(None);
-        }
         let behind = text_between(self.alloc, lexer, &self.from, start)?;
         let name = mem::replace(&mut self.name, KdlIdentifier::from(empty(self.alloc)));
         let before = mem::replace(&mut self.before, empty(self.alloc));
-        Ok(Some(KeyParts {
+        Ok(KeyParts {
             name,
             before,
             behind,
-        }))
+        })
     }
 
     /// The type and the value, at the value.
@@ -550,19 +453,20 @@ impl<'a> Item<'a> {
         ensures key { IfOk result (λ g. option_map key_view g.key ≡ (item_view self.old).key) }
         ensures is { IfOk result
             (λ g. option_map type_view g.ty
-            ≡ spec.type_at self.old.kept (item_view self.old) start.now.rest) }
+            ≡ Some (spec.type_at (item_view self.old) start.now.rest)) }
         ensures value { IfOk result (λ g. g.value ≡ value) }
         ensures holds { OnOk result (Holds (item_view self.old) (item_view self.new)) }
         ensures from { self.new.from ≡ self.old.from }
         ensures stays { Stays lexer.old lexer.new }
         ensures sliced { OnOk result
-            (Sliced (bytes self.old.from.rest)
-            (if self.old.kept then bytes start.now.rest else bytes self.old.from.rest) lexer.old
-            lexer.new) }
+            (Sliced (bytes self.old.from.rest) (bytes start.now.rest) lexer.old lexer.new) }
     {
         let ty = self.type_parts(lexer, start)?;
-        let key = self.key.take();
-        Ok(Given { key, ty, value })
+        Ok(Given {
+            key: self.key.take(),
+            ty: Some(ty),
+            value,
+        })
     }
 
     /// The key and the value, at the value.
@@ -575,20 +479,18 @@ impl<'a> Item<'a> {
         requires from { Ahead self.old.from start.now }
         ensures key { IfOk result
             (λ g. option_map key_view g.key
-            ≡ spec.key_at self.old.kept (item_view self.old) start.now.rest) }
+            ≡ Some (spec.key_at (item_view self.old) start.now.rest)) }
         ensures is { IfOk result (λ g. option_map type_view g.ty ≡ None) }
         ensures value { IfOk result (λ g. g.value ≡ value) }
         ensures holds { OnOk result (Holds (item_view self.old) (item_view self.new)) }
         ensures from { self.new.from ≡ self.old.from }
         ensures stays { Stays lexer.old lexer.new }
         ensures sliced { OnOk result
-            (Sliced (bytes self.old.from.rest)
-            (if self.old.kept then bytes start.now.rest else bytes self.old.from.rest) lexer.old
-            lexer.new) }
+            (Sliced (bytes self.old.from.rest) (bytes start.now.rest) lexer.old lexer.new) }
     {
         let key = self.key_parts(lexer, start)?;
         Ok(Given {
-            key,
+            key: Some(key),
             ty: None,
             value,
         })
@@ -609,8 +511,8 @@ impl<'a> Item<'a> {
         ensures holds { OnOk result (Holds (item_view self.old) (item_view self.new)) }
         ensures from { OnOk result (Ahead self.new.from at.now.end) }
         ensures stays { Stays lexer.old lexer.new }
-        ensures sliced { ItemSliced result self.old.kept (bytes self.old.from.rest)
-            (bytes self.new.from.rest) (bytes at.now.start.rest) lexer.old lexer.new }
+        ensures sliced { ItemSliced result (bytes self.old.from.rest) (bytes self.new.from.rest)
+            (bytes at.now.start.rest) lexer.old lexer.new }
     {
         match kind {
             TokenKind::Space => Ok(None),
@@ -637,8 +539,8 @@ impl<'a> Item<'a> {
         ensures holds { OnOk result (Holds (item_view self.old) (item_view self.new)) }
         ensures from { OnOk result (Ahead self.new.from at.now.end) }
         ensures stays { Stays lexer.old lexer.new }
-        ensures sliced { ItemSliced result self.old.kept (bytes self.old.from.rest)
-            (bytes self.new.from.rest) (bytes at.now.start.rest) lexer.old lexer.new }
+        ensures sliced { ItemSliced result (bytes self.old.from.rest) (bytes self.new.from.rest)
+            (bytes at.now.start.rest) lexer.old lexer.new }
     {
         match kind {
             TokenKind::Space => Ok(None),
@@ -665,8 +567,8 @@ impl<'a> Item<'a> {
         ensures holds { OnOk result (Holds (item_view self.old) (item_view self.new)) }
         ensures from { OnOk result (Ahead self.new.from at.now.end) }
         ensures stays { Stays lexer.old lexer.new }
-        ensures sliced { ItemSliced result self.old.kept (bytes self.old.from.rest)
-            (bytes self.new.from.rest) (bytes at.now.start.rest) lexer.old lexer.new }
+        ensures sliced { ItemSliced result (bytes self.old.from.rest) (bytes self.new.from.rest)
+            (bytes at.now.start.rest) lexer.old lexer.new }
     {
         match kind {
             TokenKind::Space => Ok(None),
@@ -698,8 +600,8 @@ impl<'a> Item<'a> {
         ensures holds { OnOk result (Holds (item_view self.old) (item_view self.new)) }
         ensures from { OnOk result (Ahead self.new.from at.now.end) }
         ensures stays { Stays lexer.old lexer.new }
-        ensures sliced { ItemSliced result self.old.kept (bytes self.old.from.rest)
-            (bytes self.new.from.rest) (bytes at.now.start.rest) lexer.old lexer.new }
+        ensures sliced { ItemSliced result (bytes self.old.from.rest) (bytes self.new.from.rest)
+            (bytes at.now.start.rest) lexer.old lexer.new }
     {
         match kind {
             TokenKind::Space => Ok(None),
@@ -712,7 +614,8 @@ impl<'a> Item<'a> {
                 Ok(Some(given))
             }
             TokenKind::Left => {
-                self.key = self.key_parts(lexer, &at.start)?;
+                let key = self.key_parts(lexer, &at.start)?;
+                self.key = Some(key);
                 self.stage = Stage::Opened;
                 self.owner = Owner::Value;
                 self.from = at.end.copied();
@@ -745,8 +648,8 @@ impl<'a> Item<'a> {
         ensures holds { OnOk result (Holds (item_view self.old) (item_view self.new)) }
         ensures from { OnOk result (Ahead self.new.from at.now.end) }
         ensures stays { Stays lexer.old lexer.new }
-        ensures sliced { ItemSliced result self.old.kept (bytes self.old.from.rest)
-            (bytes self.new.from.rest) (bytes at.now.start.rest) lexer.old lexer.new }
+        ensures sliced { ItemSliced result (bytes self.old.from.rest) (bytes self.new.from.rest)
+            (bytes at.now.start.rest) lexer.old lexer.new }
     {
         match self.stage {
             Stage::Opened => self.at_opened(lexer, whole, kind, at),
