@@ -1,7 +1,7 @@
 -- What a step of the builder does, by the machine's.
 
--- In an item the machine's step is the item's own.
-pub mod ItemSteps
+-- The document at the end of the text, after the current node.
+pub mod Endings
 -- The span of nodes, from the first to the last, and their document.
 pub mod NodeSpans
 -- What the turns of the loop over the tokens cost.
@@ -10,8 +10,8 @@ pub mod TurnCost
 pub mod StepsDone
 -- What the machine holds of a dropped item changes nothing.
 pub mod Held
--- What a token did inside an item.
-pub mod ItemTokens
+-- Inside what is slashdashed the machine's step is that of the machine without data.
+pub mod Dropped
 -- What a token, a fault and the end do to the machine's runs.
 pub mod MachineSteps
 -- Where the place under way begins.

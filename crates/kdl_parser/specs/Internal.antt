@@ -8,6 +8,8 @@ pub mod States
 pub mod Building
 -- The steps of a parse: for the texts that the builder slices, and for the text before the lexer.
 pub mod Counted
+-- The machine's states inside what is slashdashed, by those of the machine without data.
+pub mod Dropping
 -- Only line-spaces, up to the end of a text.
 pub mod LineSpaces
 -- The place where a text is refused as a node.

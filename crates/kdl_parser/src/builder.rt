@@ -1,53 +1,35 @@
 //! The builder: a document being read, token by token.
 
-ghost use Rattle.kdl_parser.specs.Internal.States.{document_now, document_of_nodes, spot_of, Steps, Takes, token_step};
-ghost use Rattle.kdl_parser.specs.Internal.Answered.{Finished};
-ghost use Rattle.kdl_grammar.specs.Internal.Machine.{initial};
-ghost use Rattle.kdl_parser.specs.Internal.Building.{state_view, EndsIn, Placed};
-ghost use Rattle.kdl_parser.specs.Internal.Counted.{unsliced, SlicedOn};
+ghost use Rattle.kdl_control.specs.declared.control.Phase.TheVariants.{Gap, InNode, Kept, TypeOpen, TypeName, TypeDone, Property};
+ghost use Rattle.kdl_control.specs.declared.control.Spot.TheVariants.{Fresh, Spaced, Later};
 ghost use Rattle.kdl_entry.specs.Internal.Building.{Stays};
+ghost use Rattle.kdl_grammar.specs.Internal.Machine.{initial};
+ghost use Rattle.kdl_parser.specs.Internal.Answered.{Finished};
+ghost use Rattle.kdl_parser.specs.Internal.Building.{state_view, EndsIn, Placed, under_view};
+ghost use Rattle.kdl_parser.specs.Internal.Counted.{unsliced, SlicedOn};
+ghost use Rattle.kdl_parser.specs.Internal.States.{document_now, document_of_nodes, property_opened, spot_of, Steps, Takes, token_step};
+ghost use Rattle.kdl_parser.specs.declared.builder.dropping.Dropped.TheVariants.{Nothing};
 ghost use Rattle.kdl_text.specs.Internal.Here.{Ahead};
 ghost use Rattle.kdl_text.specs.Spans.{bytes, raise};
-ghost use Rattle.kdl_parser.specs.declared.builder.Phase.{Phase};
 ghost use Rattle.std.specs.Prelude.{◌≡◌, ◌+◌, ◌≤◌, []};
 
 mod content;
+mod dropping;
 mod steps;
 
 use self::content::nothing_at;
+use self::dropping::Dropped;
 use crate::node_parts::{DocumentParts, ParsedNode};
-use kdl_entry::items::item::{Item, TypeParts};
-use kdl_entry::{KdlEntry, KdlIdentifier};
+use kdl_control::{Owner, Phase, Spot, Word};
+use kdl_entry::items::item::{Item, TypeParts, empty};
+use kdl_entry::{KdlEntry, KdlIdentifier, KdlValue};
 use kdl_lexer::{LexFailure, Lexer, Token, TokenKind, TokenSpan, fault_at};
 use kdl_text::cursor::{Checkpoint, Piece};
+use kdl_text::span::SourceSpan;
 use std::alloc::Global;
+use std::mem;
 
-/// The phase of the grammar.
-#[derive(Clone, Copy)]
-enum Phase {
-    /// Between nodes.
-    Gap,
-    /// Between nodes, after `/-`.
-    NodeSlashdash,
-    /// In a type, or after the `=` of a property.
-    InItem,
-    /// Directly after the name or an entry of a node.
-    Fresh,
-    /// After spaces in a node.
-    Spaced,
-    /// After a slashdashed block, where the node's own may follow.
-    Later,
-    /// After `/-` where an entry or a block may follow.
-    EntrySlashdash,
-    /// After `/-` where a block may follow.
-    BlockSlashdash,
-    /// After the node's block.
-    Behind,
-    /// After a `/-` that follows a node's block.
-    BehindSlashdash,
-}
-
-/// The current node.
+/// A node being read.
 #[derive(Drop)]
 struct Under<'a> {
     leading: String,
@@ -57,30 +39,12 @@ struct Under<'a> {
     entries: Vec<KdlEntry>,
 }
 
-/// A node with its block, and the text before the block.
+/// An open block: its node, the text before the block, and the nodes before its node.
 #[derive(Drop)]
-struct Kept<'a, N> {
+struct Level<'a, N> {
     under: Under<'a>,
     before: String,
-    block: DocumentParts<N>,
-}
-
-/// The node of an open block, and the text before the block. The node is `None` if it is slashdashed.
-#[derive(Drop)]
-struct BlockOwner<'a> {
-    under: Option<Under<'a>>,
-    before: String,
-}
-
-/// An open block: the node it belongs to, and the nodes before that. They are `None` if they are slashdashed.
-#[derive(Drop)]
-enum Frame<'a, N> {
-    /// The block of a node.
-    Block(BlockOwner<'a>, Option<Vec<N>>),
-    /// A slashdashed block, before the node's own.
-    DroppedBlock(Option<Under<'a>>, Option<Vec<N>>),
-    /// A slashdashed block, after the node's own.
-    LaterBlock(Option<Kept<'a, N>>, Option<Vec<N>>),
+    nodes: Vec<N>,
 }
 
 /// A pending string in a node: a key if `=` follows, and else an argument.
@@ -93,37 +57,52 @@ struct WaitingWord<'a> {
     repr: Piece<'a>,
 }
 
-/// Where a name or an entry begins, and whether it is kept. No text is held of what is not kept.
+/// The text before a name or an entry, and where that begins.
 #[derive(Drop)]
 struct Slot<'a> {
-    kept: bool,
     leading: String,
     start: Checkpoint<'a>,
 }
 
-/// The pending string that may be a key, if there is one.
-#[derive(Drop)]
-enum Waiting<'a> {
-    Nothing,
-    /// The string of a slashdashed entry.
-    Dropped,
-    Word(WaitingWord<'a>),
-}
-
-/// A document being read. It holds no separate text of what is slashdashed.
+/// A document being read. It holds nothing of what is slashdashed.
 #[derive(Drop)]
 pub(crate) struct Builder<'a, N> {
     alloc: Global,
     /// The start of the text.
     whole: Checkpoint<'a>,
+    /// The phase of the grammar, outside of what is slashdashed.
     phase: Phase,
+    /// What is slashdashed and being read.
+    dropped: Dropped,
+    /// The type of the next name or value, or the key of the next value.
     item: Item<'a>,
-    waiting: Waiting<'a>,
-    under: Option<Under<'a>>,
-    kept: Option<Kept<'a, N>>,
-    nodes: Option<Vec<N>>,
-    frames: Vec<Frame<'a, N>>,
+    /// A string that may be a key.
+    waiting: Option<WaitingWord<'a>>,
+    /// The current node; in no node, nothing of it is used.
+    under: Under<'a>,
+    /// The text before its block.
+    before: String,
+    /// Its block.
+    block: DocumentParts<N>,
+    /// The nodes before it.
+    nodes: Vec<N>,
+    /// The open blocks, the innermost last.
+    levels: Vec<Level<'a, N>>,
+    /// The start of the current place.
     from: Checkpoint<'a>,
+}
+
+impl<'a> Under<'a> {
+    /// Creates a node without content. Does not allocate.
+    fn new(alloc: Global, start: &Checkpoint<'a>) -> Self {
+        Under {
+            leading: empty(alloc),
+            start: start.copied(),
+            ty: None,
+            name: KdlIdentifier::from(empty(alloc)),
+            entries: Vec::new(alloc),
+        }
+    }
 }
 
 impl<'a, N: ParsedNode> Builder<'a, N> {
@@ -133,17 +112,23 @@ impl<'a, N: ParsedNode> Builder<'a, N> {
         ensures unsliced { unsliced result ≡ bytes start.entry.rest }
         ensures whole { result.whole ≡ whole.entry }
     {
-        let item = Item::new(alloc, &start);
         Builder {
             alloc,
             whole,
             phase: Phase::Gap,
-            item,
-            waiting: Waiting::Nothing,
-            under: None,
-            kept: None,
-            nodes: Some(Vec::new(alloc)),
-            frames: Vec::new(alloc),
+            dropped: Dropped::Nothing,
+            item: Item::new(alloc, &start),
+            waiting: None,
+            under: Under::new(alloc, &start),
+            before: empty(alloc),
+            block: DocumentParts {
+                leading: empty(alloc),
+                nodes: Vec::new(alloc),
+                trailing: empty(alloc),
+                span: SourceSpan { offset: 0, len: 0 },
+            },
+            nodes: Vec::new(alloc),
+            levels: Vec::new(alloc),
             from: start,
         }
     }
@@ -156,41 +141,39 @@ impl<'a, N: ParsedNode> Builder<'a, N> {
         kind: TokenKind,
         at: &TokenSpan<'a>,
     ) -> Result<(), LexFailure>
+        requires live { self.old.dropped ≡ Nothing }
         requires from { Ahead self.old.from at.now.start }
-        requires phase { self.old.phase ≡ Phase.Gap }
+        requires phase { self.old.phase ≡ Gap }
         ensures { Takes N.tree self.old kind at.now result self.new lexer.old lexer.new }
     {
-        let kept = self.nodes.is_some();
         match kind {
             TokenKind::Space | TokenKind::Newline => Ok(()),
             TokenKind::Slashdash => {
                 self.phase = Phase::NodeSlashdash;
                 Ok(())
-            },
-            TokenKind::String(name) => self.name_node(lexer, kept, name, at),
-            TokenKind::Left => self.open_name(lexer, kept, at),
+            }
+            TokenKind::String(name) => self.name_node(lexer, name, at),
+            TokenKind::Left => self.open_name(lexer, at),
             TokenKind::Closing => self.close(lexer, at),
             _ => Err(LexFailure::Faulty(fault_at(&at.start))),
         }
     }
 
-    /// Takes a token after `/-` between nodes.
-    #[tactic(auto, using(crate::proofs::Stepping::StepsDone::does_did))]
-    fn at_slashdash(
+    /// Takes an `=` in a node, which may come only after a string that may be a key.
+    fn at_equals(
         &mut self,
         lexer: &mut Lexer<'a>,
-        kind: TokenKind,
+        word: Word,
         at: &TokenSpan<'a>,
     ) -> Result<(), LexFailure>
+        requires live { self.old.dropped ≡ Nothing }
         requires from { Ahead self.old.from at.now.start }
-        requires phase { self.old.phase ≡ Phase.NodeSlashdash }
-        ensures { Takes N.tree self.old kind at.now result self.new lexer.old lexer.new }
+        ensures { Steps N.tree (property_opened N.tree self.old word at.now.start at.now.end)
+            at.now.start (bytes self.old.from.rest) self.old result self.new lexer.old lexer.new }
     {
-        match kind {
-            TokenKind::Space | TokenKind::Newline => Ok(()),
-            TokenKind::String(name) => self.name_node(lexer, false, name, at),
-            TokenKind::Left => self.open_name(lexer, false, at),
-            _ => Err(LexFailure::Faulty(fault_at(&at.start))),
+        match word {
+            Word::MayBeKey => self.open_property(lexer, at),
+            Word::NoKey => Err(LexFailure::Faulty(fault_at(&at.start))),
         }
     }
 
@@ -199,23 +182,25 @@ impl<'a, N: ParsedNode> Builder<'a, N> {
     fn at_fresh(
         &mut self,
         lexer: &mut Lexer<'a>,
+        word: Word,
         kind: TokenKind,
         at: &TokenSpan<'a>,
     ) -> Result<(), LexFailure>
+        requires live { self.old.dropped ≡ Nothing }
         requires from { Ahead self.old.from at.now.start }
-        requires phase { self.old.phase ≡ Phase.Fresh }
+        requires phase { self.old.phase ≡ InNode (Fresh word) }
         ensures { Takes N.tree self.old kind at.now result self.new lexer.old lexer.new }
     {
         match kind {
             TokenKind::Space => {
-                self.phase = Phase::Spaced;
+                self.phase = Phase::InNode(Spot::Spaced(word));
                 Ok(())
-            },
+            }
             TokenKind::Newline | TokenKind::Semicolon => self.end_node(lexer, at),
             TokenKind::Closing => self.close_node(lexer, at),
             TokenKind::Opening => self.open_block(lexer, at),
-            TokenKind::Slashdash => self.behind_slashdash(),
-            TokenKind::Equals => self.open_property(lexer, at),
+            TokenKind::Slashdash => self.go_past_slashdash(),
+            TokenKind::Equals => self.at_equals(lexer, word, at),
             _ => Err(LexFailure::Faulty(fault_at(&at.start))),
         }
     }
@@ -225,11 +210,13 @@ impl<'a, N: ParsedNode> Builder<'a, N> {
     fn at_spaced(
         &mut self,
         lexer: &mut Lexer<'a>,
+        word: Word,
         kind: TokenKind,
         at: &TokenSpan<'a>,
     ) -> Result<(), LexFailure>
+        requires live { self.old.dropped ≡ Nothing }
         requires from { Ahead self.old.from at.now.start }
-        requires phase { self.old.phase ≡ Phase.Spaced }
+        requires phase { self.old.phase ≡ InNode (Spaced word) }
         ensures { Takes N.tree self.old kind at.now result self.new lexer.old lexer.new }
     {
         match kind {
@@ -237,11 +224,11 @@ impl<'a, N: ParsedNode> Builder<'a, N> {
             TokenKind::Newline | TokenKind::Semicolon => self.end_node(lexer, at),
             TokenKind::Closing => self.close_node(lexer, at),
             TokenKind::Opening => self.open_block(lexer, at),
-            TokenKind::Slashdash => self.behind_slashdash(),
-            TokenKind::Equals => self.open_property(lexer, at),
+            TokenKind::Slashdash => self.go_past_slashdash(),
+            TokenKind::Equals => self.at_equals(lexer, word, at),
             TokenKind::String(value) => self.wait(lexer, value, at),
-            TokenKind::Value(value) => self.add_argument(lexer, true, value, at),
-            TokenKind::Left => self.open_value(lexer, true, at),
+            TokenKind::Value(value) => self.add_argument(lexer, value, at),
+            TokenKind::Left => self.open_value(lexer, at),
             _ => Err(LexFailure::Faulty(fault_at(&at.start))),
         }
     }
@@ -254,8 +241,9 @@ impl<'a, N: ParsedNode> Builder<'a, N> {
         kind: TokenKind,
         at: &TokenSpan<'a>,
     ) -> Result<(), LexFailure>
+        requires live { self.old.dropped ≡ Nothing }
         requires from { Ahead self.old.from at.now.start }
-        requires phase { self.old.phase ≡ Phase.Later }
+        requires phase { self.old.phase ≡ InNode Later }
         ensures { Takes N.tree self.old kind at.now result self.new lexer.old lexer.new }
     {
         match kind {
@@ -266,62 +254,22 @@ impl<'a, N: ParsedNode> Builder<'a, N> {
             TokenKind::Slashdash => {
                 self.phase = Phase::BlockSlashdash;
                 Ok(())
-            },
-            _ => Err(LexFailure::Faulty(fault_at(&at.start))),
-        }
-    }
-
-    /// Takes a token after `/-`, where an entry or a block may follow.
-    #[tactic(auto, using(crate::proofs::Stepping::StepsDone::does_did, crate::proofs::Stepping::StepsDone::none_sliced))]
-    fn at_entry_slashdash(
-        &mut self,
-        lexer: &mut Lexer<'a>,
-        kind: TokenKind,
-        at: &TokenSpan<'a>,
-    ) -> Result<(), LexFailure>
-        requires from { Ahead self.old.from at.now.start }
-        requires phase { self.old.phase ≡ Phase.EntrySlashdash }
-        ensures { Takes N.tree self.old kind at.now result self.new lexer.old lexer.new }
-    {
-        match kind {
-            TokenKind::Space | TokenKind::Newline => Ok(()),
-            TokenKind::String(_) => self.wait_dropped(),
-            TokenKind::Value(value) => self.add_argument(lexer, false, value, at),
-            TokenKind::Left => self.open_value(lexer, false, at),
-            TokenKind::Opening => self.open_dropped(),
-            _ => Err(LexFailure::Faulty(fault_at(&at.start))),
-        }
-    }
-
-    /// Takes a token after `/-`, where a block may follow.
-    #[tactic(auto, using(crate::proofs::Stepping::StepsDone::does_did, crate::proofs::Stepping::StepsDone::none_sliced))]
-    fn at_block_slashdash(
-        &mut self,
-        lexer: &mut Lexer<'a>,
-        kind: TokenKind,
-        at: &TokenSpan<'a>,
-    ) -> Result<(), LexFailure>
-        requires from { Ahead self.old.from at.now.start }
-        requires phase { self.old.phase ≡ Phase.BlockSlashdash }
-        ensures { Takes N.tree self.old kind at.now result self.new lexer.old lexer.new }
-    {
-        match kind {
-            TokenKind::Space | TokenKind::Newline => Ok(()),
-            TokenKind::Opening => self.open_dropped(),
+            }
             _ => Err(LexFailure::Faulty(fault_at(&at.start))),
         }
     }
 
     /// Takes a token after a node's block.
     #[tactic(auto, using(crate::proofs::Stepping::StepsDone::does_did))]
-    fn at_behind(
+    fn at_kept(
         &mut self,
         lexer: &mut Lexer<'a>,
         kind: TokenKind,
         at: &TokenSpan<'a>,
     ) -> Result<(), LexFailure>
+        requires live { self.old.dropped ≡ Nothing }
         requires from { Ahead self.old.from at.now.start }
-        requires phase { self.old.phase ≡ Phase.Behind }
+        requires phase { self.old.phase ≡ Kept }
         ensures { Takes N.tree self.old kind at.now result self.new lexer.old lexer.new }
     {
         match kind {
@@ -329,55 +277,154 @@ impl<'a, N: ParsedNode> Builder<'a, N> {
             TokenKind::Newline | TokenKind::Semicolon => self.end_kept(lexer, at),
             TokenKind::Closing => self.close_kept(lexer, at),
             TokenKind::Slashdash => {
-                self.phase = Phase::BehindSlashdash;
+                self.phase = Phase::KeptSlashdash;
                 Ok(())
-            },
+            }
             _ => Err(LexFailure::Faulty(fault_at(&at.start))),
         }
     }
 
-    /// Takes a token after `/-`, where another block may follow.
-    #[tactic(auto, using(crate::proofs::Stepping::StepsDone::does_did, crate::proofs::Stepping::StepsDone::none_sliced))]
-    fn at_behind_slashdash(
+    /// Takes a token after the `(` of a type.
+    fn at_type_open(
+        &mut self,
+        lexer: &mut Lexer<'a>,
+        owner: Owner,
+        kind: TokenKind,
+        at: &TokenSpan<'a>,
+    ) -> Result<(), LexFailure>
+        requires live { self.old.dropped ≡ Nothing }
+        requires from { Ahead self.old.item.from at.now.start }
+        requires phase { self.old.phase ≡ TypeOpen owner }
+        ensures { Takes N.tree self.old kind at.now result self.new lexer.old lexer.new }
+    {
+        match kind {
+            TokenKind::Space => Ok(()),
+            TokenKind::String(name) => {
+                self.item.take_name(lexer, &self.whole, name, at)?;
+                self.phase = Phase::TypeName(owner);
+                Ok(())
+            }
+            _ => Err(LexFailure::Faulty(fault_at(&at.start))),
+        }
+    }
+
+    /// Takes a token after the name of a type.
+    fn at_type_name(
+        &mut self,
+        lexer: &mut Lexer<'a>,
+        owner: Owner,
+        kind: TokenKind,
+        at: &TokenSpan<'a>,
+    ) -> Result<(), LexFailure>
+        requires live { self.old.dropped ≡ Nothing }
+        requires from { Ahead self.old.item.from at.now.start }
+        requires phase { self.old.phase ≡ TypeName owner }
+        ensures { Takes N.tree self.old kind at.now result self.new lexer.old lexer.new }
+    {
+        match kind {
+            TokenKind::Space => Ok(()),
+            TokenKind::Right => {
+                self.item.close(lexer, at)?;
+                self.phase = Phase::TypeDone(owner);
+                Ok(())
+            }
+            _ => Err(LexFailure::Faulty(fault_at(&at.start))),
+        }
+    }
+
+    /// Takes a token after the `)` of a type.
+    #[tactic(auto, using(crate::proofs::Stepping::StepsDone::does_did))]
+    fn at_type_done(
+        &mut self,
+        lexer: &mut Lexer<'a>,
+        owner: Owner,
+        kind: TokenKind,
+        at: &TokenSpan<'a>,
+    ) -> Result<(), LexFailure>
+        requires live { self.old.dropped ≡ Nothing }
+        requires from { Ahead self.old.item.from at.now.start }
+        requires phase { self.old.phase ≡ TypeDone owner }
+        ensures { Takes N.tree self.old kind at.now result self.new lexer.old lexer.new }
+    {
+        match (owner, kind) {
+            (_, TokenKind::Space) => Ok(()),
+            (Owner::Name, TokenKind::String(name)) => self.name_typed(lexer, name, at),
+            (Owner::Value, TokenKind::String(text)) => {
+                self.add_typed(lexer, KdlValue::String(text), at)
+            }
+            (Owner::Value, TokenKind::Value(value)) => self.add_typed(lexer, value, at),
+            _ => Err(LexFailure::Faulty(fault_at(&at.start))),
+        }
+    }
+
+    /// Takes a token after the `=` of a property.
+    fn at_property(
         &mut self,
         lexer: &mut Lexer<'a>,
         kind: TokenKind,
         at: &TokenSpan<'a>,
     ) -> Result<(), LexFailure>
-        requires from { Ahead self.old.from at.now.start }
-        requires phase { self.old.phase ≡ Phase.BehindSlashdash }
+        requires live { self.old.dropped ≡ Nothing }
+        requires from { Ahead self.old.item.from at.now.start }
+        requires phase { self.old.phase ≡ Property }
         ensures { Takes N.tree self.old kind at.now result self.new lexer.old lexer.new }
     {
         match kind {
-            TokenKind::Space | TokenKind::Newline => Ok(()),
-            TokenKind::Opening => self.open_later(),
+            TokenKind::Space => Ok(()),
+            TokenKind::String(text) => self.add_keyed(lexer, KdlValue::String(text), at),
+            TokenKind::Value(value) => self.add_keyed(lexer, value, at),
+            TokenKind::Left => {
+                self.item.open_typed(lexer, at)?;
+                self.phase = Phase::TypeOpen(Owner::Value);
+                Ok(())
+            }
             _ => Err(LexFailure::Faulty(fault_at(&at.start))),
+        }
+    }
+
+    /// Takes a token outside of what is slashdashed.
+    #[tactic(auto, using(crate::proofs::Stepping::PlacesAhead::item_placed, crate::proofs::Stepping::StepsDone::none_sliced))]
+    #[inline(always)]
+    fn take_kept(
+        &mut self,
+        lexer: &mut Lexer<'a>,
+        kind: TokenKind,
+        at: &TokenSpan<'a>,
+    ) -> Result<(), LexFailure>
+        requires live { self.old.dropped ≡ Nothing }
+        requires placed { Placed (state_view N.tree self.old) at.now.start.rest }
+        ensures { Takes N.tree self.old kind at.now result self.new lexer.old lexer.new }
+    {
+        match self.phase {
+            Phase::Gap => self.at_gap(lexer, kind, at),
+            Phase::InNode(Spot::Fresh(word)) => self.at_fresh(lexer, word, kind, at),
+            Phase::InNode(Spot::Spaced(word)) => self.at_spaced(lexer, word, kind, at),
+            Phase::InNode(Spot::Later) => self.at_later(lexer, kind, at),
+            Phase::Kept => self.at_kept(lexer, kind, at),
+            Phase::TypeOpen(owner) => self.at_type_open(lexer, owner, kind, at),
+            Phase::TypeName(owner) => self.at_type_name(lexer, owner, kind, at),
+            Phase::TypeDone(owner) => self.at_type_done(lexer, owner, kind, at),
+            Phase::Property => self.at_property(lexer, kind, at),
+            Phase::NodeSlashdash => self.drop_token(Dropped::node(self.alloc), kind, at),
+            Phase::EntrySlashdash | Phase::BlockSlashdash | Phase::KeptSlashdash => {
+                self.drop_token(Dropped::part(self.alloc, self.phase), kind, at)
+            }
         }
     }
 
     /// Takes a token. Fails if the token may not be here, or if an allocation fails; the builder is then in an
     /// unspecified state.
-    #[tactic(auto, using(crate::proofs::Stepping::ItemTokens::item_did, crate::proofs::Stepping::ItemTokens::item_placed))]
+    #[inline(always)]
     pub(crate) fn take(&mut self, lexer: &mut Lexer<'a>, token: Token<'a>) -> Result<(), LexFailure>
         requires placed { Placed (state_view N.tree self.old) token.at.start.rest }
-        ensures takes { Steps N.tree (token_step N.tree self.old token.entry.kind token.entry.at)
-            token.entry.at.start (unsliced self.old + 1) self.old result self.new lexer.old
-            lexer.new }
+        ensures takes { Steps N.tree (token_step N.tree self.old token.entry.kind token.entry.at) token.entry.at.start (unsliced self.old + 1) self.old result self.new lexer.old lexer.new }
         ensures looked { raise lexer.old.steps 1 ≤ raise lexer.new.steps 0 }
     {
         lexer.count_look();
         let Token { kind, at } = token;
-        match self.phase {
-            Phase::Gap => self.at_gap(lexer, kind, &at),
-            Phase::NodeSlashdash => self.at_slashdash(lexer, kind, &at),
-            Phase::InItem => self.at_item(lexer, kind, &at),
-            Phase::Fresh => self.at_fresh(lexer, kind, &at),
-            Phase::Spaced => self.at_spaced(lexer, kind, &at),
-            Phase::Later => self.at_later(lexer, kind, &at),
-            Phase::EntrySlashdash => self.at_entry_slashdash(lexer, kind, &at),
-            Phase::BlockSlashdash => self.at_block_slashdash(lexer, kind, &at),
-            Phase::Behind => self.at_behind(lexer, kind, &at),
-            Phase::BehindSlashdash => self.at_behind_slashdash(lexer, kind, &at),
+        match self.dropped {
+            Dropped::Nothing => self.take_kept(lexer, kind, &at),
+            _ => self.take_dropped(lexer, kind, &at),
         }
     }
 
@@ -386,22 +433,24 @@ impl<'a, N: ParsedNode> Builder<'a, N> {
     pub(crate) fn finish(&mut self, lexer: &mut Lexer<'a>) -> Result<DocumentParts<N>, LexFailure>
         requires end { lexer.old.rest ≡ [] }
         requires from { EndsIn self.old.from.rest lexer.old.rest }
-        ensures finished { Finished N.tree (document_now N.tree self.old) (spot_of lexer.old)
-            result }
+        ensures finished { Finished N.tree (document_now N.tree self.old) (spot_of lexer.old) result }
         ensures stays { Stays lexer.old lexer.new }
         ensures sliced { SlicedOn result (unsliced self.old) 0 lexer.old lexer.new }
     {
         let here = lexer.checkpoint();
-        self.finish_at(lexer, &here)
+        match self.dropped {
+            Dropped::Nothing => self.finish_at(lexer, &here),
+            _ => self.finish_dropped(lexer, &here),
+        }
     }
 
     /// Returns the document if the text ends at the place.
-    #[tactic(auto, using(crate::proofs::Stepping::Origins::between_none, crate::proofs::Stepping::Origins::origin_ends, crate::proofs::Stepping::ItemTokens::unfinished, crate::proofs::Stepping::StepsDone::unfinished_for_memory))]
     fn finish_at(
         &mut self,
         lexer: &mut Lexer<'a>,
         here: &Checkpoint<'a>,
     ) -> Result<DocumentParts<N>, LexFailure>
+        requires live { self.old.dropped ≡ Nothing }
         requires end { here.now.rest ≡ [] }
         requires from { Ahead self.old.from here.now }
         ensures finished { Finished N.tree (document_now N.tree self.old) here.now result }
@@ -410,23 +459,20 @@ impl<'a, N: ParsedNode> Builder<'a, N> {
     {
         match self.phase {
             Phase::Gap => self.finish_nodes(lexer, here),
-            Phase::Fresh | Phase::Spaced | Phase::Later => {
+            Phase::InNode(_) => {
                 self.end_node(lexer, &nothing_at(here))?;
                 self.finish_nodes(lexer, here)
             }
-            Phase::Behind => {
+            Phase::Kept => {
                 self.end_kept(lexer, &nothing_at(here))?;
                 self.finish_nodes(lexer, here)
             }
-            Phase::InItem => Err(LexFailure::Faulty(fault_at(here))),
-            Phase::NodeSlashdash => Err(LexFailure::Faulty(fault_at(here))),
-            Phase::EntrySlashdash => Err(LexFailure::Faulty(fault_at(here))),
-            Phase::BlockSlashdash => Err(LexFailure::Faulty(fault_at(here))),
-            Phase::BehindSlashdash => Err(LexFailure::Faulty(fault_at(here))),
+            _ => Err(LexFailure::Faulty(fault_at(here))),
         }
     }
 
     /// Returns the document of the nodes, if no block is open.
+    #[tactic(auto, using(crate::proofs::Stepping::Views::one_open, crate::proofs::Stepping::Views::all_closed))]
     fn finish_nodes(
         &mut self,
         lexer: &mut Lexer<'a>,
@@ -438,12 +484,10 @@ impl<'a, N: ParsedNode> Builder<'a, N> {
         ensures stays { Stays lexer.old lexer.new }
         ensures sliced { SlicedOn result (bytes self.old.from.rest) 0 lexer.old lexer.new }
     {
-        if !self.frames.is_empty() {
+        if !self.levels.is_empty() {
             return Err(LexFailure::Faulty(fault_at(here)));
         }
-        let Some(nodes) = self.nodes.take() else {
-            return Err(LexFailure::Faulty(fault_at(here)));
-        };
+        let nodes = mem::replace(&mut self.nodes, Vec::new(self.alloc));
         let document = self.content_up_to(lexer, nodes, here)?;
         Ok(document)
     }

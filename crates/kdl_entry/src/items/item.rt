@@ -347,7 +347,7 @@ impl<'a> Item<'a> {
     }
 
     /// Continues after the string that is the type's name.
-    fn take_name(
+    pub fn take_name(
         &mut self,
         lexer: &mut Lexer<'a>,
         whole: &Checkpoint<'a>,
@@ -373,7 +373,7 @@ impl<'a> Item<'a> {
 
     /// Continues after the `)` of the type.
     #[tactic(auto, using(crate::proofs::Slicing::SliceCost::token_fewer))]
-    fn close(&mut self, lexer: &mut Lexer<'a>, at: &TokenSpan<'a>) -> Result<(), AllocError>
+    pub fn close(&mut self, lexer: &mut Lexer<'a>, at: &TokenSpan<'a>) -> Result<(), AllocError>
         requires from { Ahead self.old.from at.now.start }
         ensures closed { OnOk result
             (item_view self.new ≡ spec.closed_at
@@ -390,7 +390,7 @@ impl<'a> Item<'a> {
     }
 
     /// The type, at the start of the value.
-    fn type_parts(
+    pub fn type_parts(
         &mut self,
         lexer: &mut Lexer<'a>,
         start: &Checkpoint<'a>,
@@ -418,7 +418,7 @@ impl<'a> Item<'a> {
     }
 
     /// The key, at the start of its value or type.
-    fn key_parts(
+    pub fn key_parts(
         &mut self,
         lexer: &mut Lexer<'a>,
         start: &Checkpoint<'a>,
@@ -440,6 +440,30 @@ impl<'a> Item<'a> {
             before,
             behind,
         })
+    }
+
+    /// Begins the type of the value at its `(`, after the key.
+    #[tactic(auto, using(crate::proofs::Slicing::SliceCost::token_fewer))]
+    pub fn open_typed(
+        &mut self,
+        lexer: &mut Lexer<'a>,
+        at: &TokenSpan<'a>,
+    ) -> Result<(), AllocError>
+        requires from { Ahead self.old.from at.now.start }
+        ensures is { OnOk result (item_view self.new ≡ spec.reopened
+            (spec.key_at (item_view self.old) at.now.start.rest) at.now.end.rest
+            (item_view self.old)) }
+        ensures from { OnOk result (self.new.from ≡ at.now.end) }
+        ensures stays { Stays lexer.old lexer.new }
+        ensures sliced { OnOk result
+            (Sliced (bytes self.old.from.rest) (bytes self.new.from.rest) lexer.old lexer.new) }
+    {
+        let key = self.key_parts(lexer, &at.start)?;
+        self.key = Some(key);
+        self.stage = Stage::Opened;
+        self.owner = Owner::Value;
+        self.from = at.end.copied();
+        Ok(())
     }
 
     /// The type and the value, at the value.
@@ -614,11 +638,7 @@ impl<'a> Item<'a> {
                 Ok(Some(given))
             }
             TokenKind::Left => {
-                let key = self.key_parts(lexer, &at.start)?;
-                self.key = Some(key);
-                self.stage = Stage::Opened;
-                self.owner = Owner::Value;
-                self.from = at.end.copied();
+                self.open_typed(lexer, at)?;
                 Ok(None)
             }
             _ => Err(LexFailure::Faulty(fault_at(&at.start))),

@@ -26,7 +26,7 @@ use Rattle.kdl_grammar.specs.Tree.{Node, Document}
 use Rattle.kdl_parser.specs.Internal.Parts.{document_by}
 use Rattle.kdl_parser.specs.declared.builder.Builder.{Builder}
 use Rattle.kdl_parser.specs.declared.node_parts.DocumentParts.{DocumentParts}
-use Rattle.kdl_parser.proofs.Stepping.PlacesAhead.{placed_step, then_ends}
+use Rattle.kdl_parser.proofs.Stepping.PlacesAhead.{placed_step, state_from, then_ends}
 use Rattle.kdl_lexer.specs.Earliest.{BeginsNone}
 use Rattle.kdl_parser.specs.Internal.Stopping.{Stops, Stuck}
 use Rattle.kdl_parser.proofs.Stepping.MachineSteps.{read_cut, refuses, faults, at_stop}
@@ -172,7 +172,7 @@ stops_going tree b before after t u g e m =
     }
 
 pub from_now : {N : Type 0} (tree : N → Node) (b : Builder N) (here : Here) (t u : Text) → Going tree b here t u → EndsIn b.from.rest here.rest
-from_now tree b here t u g = g.placed.0
+from_now tree b here t u g = state_from tree b here.rest g.placed
 
 -- where the text ends, the machine's document is the result
 run_there : (t u s : Text) (st : State) (d : Document) → Same t u st s → s ≡ [] → finish t st ≡ Some d → Runs t d (initial u) u

@@ -43,6 +43,10 @@ module _ (whole : Text) where
   stack_step p k l fs from s r = let e = stack_twice fs in cc
 
   phase_step : (p : Phase) (k : Token) (l : Option Nodes) (fs : List Frame) (from s r : Text) → option_map held (step whole (at (phase_held p) l fs from) k s r) ≡ option_map held (step whole (at p l fs from) k s r)
+  phase_step (type_open b no_name a) space l fs from s r = refl
+  phase_step (type_open b (for_name h c) a) space l fs from s r = refl
+  phase_step (type_open b (no_value h) a) space l fs from s r = refl
+  phase_step (type_open b (for_value h c e j) a) space l fs from s r = refl
   phase_step (type_name b no_name q i a) space l fs from s r = refl
   phase_step (type_name b (for_name h c) q i a) space l fs from s r = refl
   phase_step (type_name b (no_value h) q i a) space l fs from s r = refl

@@ -1,26 +1,23 @@
 //! Nodes, blocks and documents, from their parts.
 
-ghost use Rattle.kdl_grammar.specs.Internal.Machine as machine;
-ghost use Rattle.kdl_parser.specs.Internal.Building.{under_view, kept_view, nodes_view, under_now, valued_at};
-ghost use Rattle.kdl_parser.specs.Internal.States.{SlicedUpTo};
-ghost use Rattle.kdl_grammar.specs.Laid as laid;
-ghost use Rattle.kdl_grammar.specs.Tree.{no_children};
-ghost use Rattle.kdl_parser.specs.Internal.Parts.{nodes_tree, document_by, node_by};
-ghost use Rattle.kdl_entry.specs.Internal.Building.{key_view, type_view, item_view, Stays};
+ghost use Rattle.kdl_entry.specs.Internal.Building.{key_view, type_view, Stays};
 ghost use Rattle.kdl_entry.specs.Internal.Counted.{Sliced};
 ghost use Rattle.kdl_entry.specs.Internal.Items.{entry_at};
 ghost use Rattle.kdl_entry.specs.Places.{span_of, between};
-ghost use Rattle.kdl_value.specs.Tree.{value_tree, text_of};
 ghost use Rattle.kdl_entry.specs.Tree.{entry_tree};
+ghost use Rattle.kdl_grammar.specs.Internal.Machine as machine;
+ghost use Rattle.kdl_grammar.specs.Laid as laid;
+ghost use Rattle.kdl_grammar.specs.Tree.{no_children};
+ghost use Rattle.kdl_parser.specs.Internal.Building.{under_view, under_now, kept_by, nodes_now};
+ghost use Rattle.kdl_parser.specs.Internal.Parts.{nodes_tree, document_by, node_by};
 ghost use Rattle.kdl_text.specs.Internal.Here.{Ahead};
 ghost use Rattle.kdl_text.specs.Spans.{bytes};
-ghost use Rattle.kdl_parser.specs.declared.builder.Waiting.{Waiting};
-ghost use Rattle.std.specs.Prelude.{◌≡◌, [], ◌∷◌, ◌++◌, Some, None, true, IfOk, OnOk, option_map};
+ghost use Rattle.kdl_value.specs.Tree.{value_tree, text_of};
+ghost use Rattle.std.specs.Prelude.{◌≡◌, [], ◌∷◌, ◌++◌, Some, None, IfOk, OnOk, option_map};
 
-use super::{BlockOwner, Builder, Kept, Slot, Under, Waiting, WaitingWord};
+use super::{Builder, Slot, Under, WaitingWord};
 use crate::node_parts::{DocumentParts, NodeParts, ParsedNode};
-use kdl_control::Owner;
-use kdl_entry::items::item::{Given, Item, Stage, empty, entry_from, span_at, text_between};
+use kdl_entry::items::item::{Given, empty, entry_from, span_at, text_between};
 use kdl_entry::{KdlEntry, KdlValue};
 use kdl_lexer::{Lexer, TokenSpan};
 use kdl_text::cursor::Checkpoint;
@@ -56,31 +53,23 @@ pub(super) fn settle<'a>(
     alloc: Global,
     whole: &Checkpoint<'a>,
     from: &Checkpoint<'a>,
-    waiting: Waiting<'a>,
-    under: &mut Option<Under<'a>>,
+    word: WaitingWord<'a>,
+    under: &mut Under<'a>,
 ) -> Result<(), AllocError>
-    ensures { OnOk result (option_map under_view under.new ≡
-        under_now whole.now.rest from.now.rest waiting.entry (option_map under_view under.old)) }
+    ensures { OnOk result (under_view under.new ≡
+        under_now whole.now.rest from.now.rest (Some word.entry) (under_view under.old)) }
 {
-    let Waiting::Word(
-        WaitingWord {
-            leading,
-            start,
-            value,
-            repr,
-        },
-    ) = waiting
-    else {
-        return Ok(());
-    };
-    if let Some(under) = under {
-        let repr = repr.to_string(alloc)?;
-        let span = span_at(whole, &start, from);
-        let given = lone(KdlValue::String(value));
-        let entry = entry_from(alloc, span, leading, given, repr);
-        add(&mut under.entries, entry)?;
-    }
-    Ok(())
+    let WaitingWord {
+        leading,
+        start,
+        value,
+        repr,
+    } = word;
+    let repr = repr.to_string(alloc)?;
+    let span = span_at(whole, &start, from);
+    let given = lone(KdlValue::String(value));
+    let entry = entry_from(alloc, span, leading, given, repr);
+    add(&mut under.entries, entry)
 }
 
 /// How a node ends: the text before its terminator, the terminator, and the span of the node.
@@ -141,22 +130,6 @@ fn node_from<N: ParsedNode>(
     )
 }
 
-/// Appends a node, if the nodes are kept.
-#[inline(always)]
-#[tactic(auto, using(crate::proofs::Stepping::Views::node_pushed))]
-fn push_node<N: ParsedNode>(nodes: &mut Option<Vec<N>>, node: N) -> Result<(), AllocError>
-    ensures { OnOk result (nodes_view N.tree nodes.new ≡
-        machine.ended (Some (N.tree node)) (nodes_view N.tree nodes.old)) }
-{
-    match nodes {
-        Some(nodes) => add(nodes, node),
-        None => {
-            drop(node);
-            Ok(())
-        }
-    }
-}
-
 /// The span from the start of the first node to the end of the last one; without nodes the given span.
 #[tactic(auto, using(crate::proofs::Stepping::NodeSpans::spans, crate::proofs::Stepping::NodeSpans::nothing, crate::proofs::Stepping::NodeSpans::no_last))]
 pub(super) fn content_span<N: ParsedNode>(nodes: &[N], place: SourceSpan) -> SourceSpan
@@ -204,6 +177,16 @@ pub(super) fn content<N: ParsedNode>(
         nodes,
         trailing: place,
         span,
+    }
+}
+
+/// An empty document, for a builder outside of a block. Does not allocate.
+pub(super) fn no_content<N: ParsedNode>(alloc: Global) -> DocumentParts<N> {
+    DocumentParts {
+        leading: empty(alloc),
+        nodes: Vec::new(alloc),
+        trailing: empty(alloc),
+        span: SourceSpan { offset: 0, len: 0 },
     }
 }
 
@@ -263,56 +246,12 @@ impl<'a, N: ParsedNode> Builder<'a, N> {
         }
     }
 
-    /// The node with the block of these nodes, which ends here, if they are kept.
-    #[tactic(auto, using(crate::proofs::Stepping::TurnCost::fewer))]
-    pub(super) fn with_block(
-        &self,
-        lexer: &mut Lexer<'a>,
-        owner: BlockOwner<'a>,
-        nodes: Option<Vec<N>>,
-        end: &Checkpoint<'a>,
-    ) -> Result<Option<Kept<'a, N>>, AllocError>
-        requires { Ahead self.now.from end.now }
-        ensures is { IfOk result (λ o. option_map (kept_view N.tree) o ≡ machine.with_block
-            self.now.whole.rest (option_map under_view owner.entry.under)
-            (text_of owner.entry.before) (nodes_view N.tree nodes)
-            (between self.now.from.rest end.now.rest) end.now.rest) }
-        ensures stays { Stays lexer.old lexer.new }
-        ensures sliced { OnOk result
-            (SlicedUpTo owner.entry.under self.now.from end.now lexer.old lexer.new) }
-    {
-        let BlockOwner { under, before } = owner;
-        let Some(under) = under else {
-            drop(before);
-            drop(nodes);
-            return Ok(None);
-        };
-        let Some(nodes) = nodes else {
-            drop(under);
-            drop(before);
-            return Ok(None);
-        };
-        match self.content_up_to(lexer, nodes, end) {
-            Ok(block) => Ok(Some(Kept {
-                under,
-                before,
-                block,
-            })),
-            Err(e) => {
-                drop(under);
-                drop(before);
-                Err(e)
-            }
-        }
-    }
-
     /// How the node ends whose terminator is the token.
     #[inline(always)]
     #[tactic(auto, using(kdl_lexer::proofs::Order::ahead))]
     fn node_end(
         &self,
         lexer: &mut Lexer<'a>,
-        under: &Under<'a>,
         at: &TokenSpan<'a>,
     ) -> Result<NodeEnd, AllocError>
         requires from { Ahead self.now.from at.now.start }
@@ -321,14 +260,14 @@ impl<'a, N: ParsedNode> Builder<'a, N> {
         ensures terminator { IfOk result
             (λ n. text_of n.terminator ≡ between at.now.start.rest at.now.end.rest) }
         ensures span { IfOk result
-            (λ n. n.span ≡ span_of self.now.whole.rest under.now.start.rest at.now.start.rest) }
+            (λ n. n.span ≡ span_of self.now.whole.rest self.now.under.start.rest at.now.start.rest) }
         ensures stays { Stays lexer.old lexer.new }
         ensures sliced { OnOk result
             (Sliced (bytes self.now.from.rest) (bytes at.now.end.rest) lexer.old lexer.new) }
     {
         let before = text_between(self.alloc, lexer, &self.from, &at.start)?;
         let terminator = text_between(self.alloc, lexer, &at.start, &at.end)?;
-        let span = span_at(&self.whole, &under.start, &at.start);
+        let span = span_at(&self.whole, &self.under.start, &at.start);
         Ok(NodeEnd {
             before,
             terminator,
@@ -336,71 +275,58 @@ impl<'a, N: ParsedNode> Builder<'a, N> {
         })
     }
 
-    /// Takes the current node, whose terminator is the token, and appends it to the nodes, if it is kept.
+    /// Takes the current node, whose terminator is the token, and appends it to the nodes.
+    #[tactic(auto, using(crate::proofs::Stepping::Views::node_pushed))]
     pub(super) fn push_ended(
         &mut self,
         lexer: &mut Lexer<'a>,
         at: &TokenSpan<'a>,
     ) -> Result<(), AllocError>
         requires from { Ahead self.old.from at.now.start }
-        ensures is { OnOk result (nodes_view N.tree self.new.nodes ≡ machine.ended
-            (machine.closed self.old.whole.rest (option_map under_view self.old.under) no_children
-            [] (between self.old.from.rest at.now.start.rest) (between at.now.start.rest at.now.end.rest)
+        ensures is { OnOk result (nodes_now N.tree self.new ≡ machine.ended
+            (machine.closed self.old.whole.rest (Some (under_view self.old.under)) no_children []
+            (between self.old.from.rest at.now.start.rest) (between at.now.start.rest at.now.end.rest)
             at.now.start.rest)
-            (nodes_view N.tree self.old.nodes)) }
+            (nodes_now N.tree self.old)) }
         ensures rest { OnOk result (self.new ≡
-            record self.old { under = None; nodes = self.new.nodes }) }
+            record self.old { under = self.new.under; nodes = self.new.nodes }) }
         ensures whole { self.new.whole ≡ self.old.whole }
         ensures stays { Stays lexer.old lexer.new }
         ensures sliced { OnOk result
-            (SlicedUpTo self.old.under self.old.from at.now.end lexer.old lexer.new) }
+            (Sliced (bytes self.old.from.rest) (bytes at.now.end.rest) lexer.old lexer.new) }
     {
-        let Some(under) = &self.under else {
-            return Ok(());
-        };
-        let ending = self.node_end(lexer, under, at)?;
-        let Some(under) = self.under.take() else {
-            return Ok(());
-        };
+        let ending = self.node_end(lexer, at)?;
+        let under = mem::replace(&mut self.under, Under::new(self.alloc, &self.whole));
         let node = node_from(self.alloc, under, empty(self.alloc), None, ending);
-        push_node(&mut self.nodes, node)
+        add(&mut self.nodes, node)
     }
 
-    /// Takes the node with its block, whose terminator is the token, and appends it to the nodes, if it is kept.
+    /// Takes the node with its block, whose terminator is the token, and appends it to the nodes.
+    #[tactic(auto, using(crate::proofs::Stepping::Views::node_pushed))]
     pub(super) fn push_kept(
         &mut self,
         lexer: &mut Lexer<'a>,
         at: &TokenSpan<'a>,
     ) -> Result<(), AllocError>
         requires from { Ahead self.old.from at.now.start }
-        ensures is { OnOk result (nodes_view N.tree self.new.nodes ≡ machine.ended
-            (machine.closed_kept self.old.whole.rest (option_map (kept_view N.tree) self.old.kept)
+        ensures is { OnOk result (nodes_now N.tree self.new ≡ machine.ended
+            (machine.closed_kept self.old.whole.rest (Some (kept_by N.tree self.old))
             (between self.old.from.rest at.now.start.rest) (between at.now.start.rest at.now.end.rest)
             at.now.start.rest)
-            (nodes_view N.tree self.old.nodes)) }
+            (nodes_now N.tree self.old)) }
         ensures rest { OnOk result (self.new ≡
-            record self.old { kept = None; nodes = self.new.nodes }) }
+            record self.old { under = self.new.under; before = self.new.before; block = self.new.block; nodes = self.new.nodes }) }
         ensures whole { self.new.whole ≡ self.old.whole }
         ensures stays { Stays lexer.old lexer.new }
         ensures sliced { OnOk result
-            (SlicedUpTo self.old.kept self.old.from at.now.end lexer.old lexer.new) }
+            (Sliced (bytes self.old.from.rest) (bytes at.now.end.rest) lexer.old lexer.new) }
     {
-        let Some(kept) = &self.kept else {
-            return Ok(());
-        };
-        let ending = self.node_end(lexer, &kept.under, at)?;
-        let Some(
-            Kept {
-                under,
-                before,
-                block,
-            },
-        ) = self.kept.take()
-        else {
-            return Ok(());
-        };
+        let ending = self.node_end(lexer, at)?;
+        let under = mem::replace(&mut self.under, Under::new(self.alloc, &self.whole));
+        let before = mem::replace(&mut self.before, empty(self.alloc));
+        let block = mem::replace(&mut self.block, no_content(self.alloc));
         let node = node_from(self.alloc, under, before, Some(block), ending);
-        push_node(&mut self.nodes, node)
+        add(&mut self.nodes, node)
     }
 }
 
@@ -424,14 +350,4 @@ pub(super) fn nothing_at<'a>(place: &Checkpoint<'a>) -> TokenSpan<'a>
     ensures end { result.end ≡ place.now }
 {
     TokenSpan::new(place.copied(), place.copied())
-}
-
-/// Whether the item is an entry, and not the name of a node.
-pub(super) fn is_entry(item: &Item) -> bool
-    ensures { result ≡ valued_at (item_view item.now).stage (item_view item.now).valued }
-{
-    match item.stage {
-        Stage::Keyed => true,
-        Stage::Opened | Stage::Named | Stage::Closed => matches!(item.owner, Owner::Value),
-    }
 }

@@ -1,24 +1,25 @@
 //! What the builder does at a token: nodes begin and end, blocks open and close, entries are added.
 
-ghost use Rattle.kdl_parser.specs.Internal.States.{argument_slot, around, around_kept, around_node, block_closed, block_opened, dropped_opened, dropped_property, dropped_worded, entry_unsliced, given_at, in_phase, item_step, kept_ended, later_opened, name_opened, name_unsliced, named_slot, node_ended, node_slot, property_opened, Reaches, Steps, value_opened, valued_slot, worded};
-ghost use Rattle.kdl_grammar.specs.Internal.Machine as machine;
-ghost use Rattle.kdl_parser.specs.Internal.Building.{Does, under_view, node_now, state_view, held};
+ghost use Rattle.kdl_control.specs.declared.control.Word.TheVariants.{MayBeKey};
+ghost use Rattle.kdl_entry.specs.Internal.Building.{key_view, type_view};
+ghost use Rattle.kdl_parser.specs.Internal.Building.{in_phase, node_now, state_view, under_view, Does};
 ghost use Rattle.kdl_parser.specs.Internal.Counted.{unsliced};
-ghost use Rattle.kdl_entry.specs.Internal.Building.{type_view, key_view};
-ghost use Rattle.kdl_value.specs.Data.{text};
-ghost use Rattle.kdl_value.specs.Tree.{value_tree, text_of};
+ghost use Rattle.kdl_parser.specs.Internal.States.{argument_slot, around, around_kept, around_node, block_opened, given_at, item_name_slot, item_value_slot, key_now, kept_ended, name_opened, name_slot, named_slot, node_ended, property_opened, Reaches, Steps, type_now, value_opened, valued_slot, worded};
+ghost use Rattle.kdl_grammar.specs.Internal.Machine as machine;
+ghost use Rattle.kdl_parser.specs.declared.builder.dropping.Dropped.TheVariants.{Nothing};
 ghost use Rattle.kdl_text.specs.Internal.Here.{Ahead};
 ghost use Rattle.kdl_text.specs.Spans.{bytes};
-ghost use Rattle.kdl_parser.specs.declared.builder.Phase.{Phase};
-ghost use Rattle.kdl_parser.specs.declared.builder.Waiting.{Waiting};
+ghost use Rattle.kdl_value.specs.Data.{text};
+ghost use Rattle.kdl_value.specs.Tree.{value_tree, text_of};
 ghost use Rattle.std.specs.Prelude.{◌≡◌, Some, None, OnOk, option_map};
 
-use super::content::{add, is_entry, lone, nothing_at, put, settle};
-use super::{BlockOwner, Builder, Frame, Phase, Slot, Under, Waiting, WaitingWord};
+use super::content::{add, lone, nothing_at, put, settle};
+use super::dropping::Dropped;
+use super::{Builder, Level, Slot, Under, WaitingWord};
 use crate::node_parts::ParsedNode;
-use kdl_control::Owner;
+use kdl_control::{Owner, Phase, Spot, Word};
 use kdl_entry::items::item::{
-    Given, Key, empty, identifier_between, piece_between, span_at, text_between,
+    Given, Key, TypeParts, empty, identifier_between, piece_between, span_at, text_between,
 };
 use kdl_entry::{KdlValue, sliced_identifier};
 use kdl_lexer::{LexFailure, Lexer, TokenKind, TokenSpan, fault_at};
@@ -27,23 +28,28 @@ use std::mem;
 
 impl<'a, N: ParsedNode> Builder<'a, N> {
     /// Turns the pending string into an argument.
+    #[inline(always)]
     pub(super) fn settle_word(&mut self) -> Result<(), AllocError>
-        ensures under { OnOk result (option_map under_view self.new.under ≡ node_now self.old) }
-        ensures rest { OnOk result (self.new ≡
-            record self.old { under = self.new.under; waiting = Waiting.Nothing }) }
+        ensures under { OnOk result (under_view self.new.under ≡ node_now self.old) }
+        ensures rest { OnOk result (self.new ≡ record self.old { under = self.new.under; waiting = None }) }
         ensures whole { self.new.whole ≡ self.old.whole }
     {
-        if matches!(self.waiting, Waiting::Nothing) {
+        if self.waiting.is_none() {
             return Ok(());
         }
-        let waiting = mem::replace(&mut self.waiting, Waiting::Nothing);
-        settle(
-            self.alloc,
-            &self.whole,
-            &self.from,
-            waiting,
-            &mut self.under,
-        )
+        self.settle_waiting()
+    }
+
+    /// Turns the pending string, which is there, into an argument.
+    fn settle_waiting(&mut self) -> Result<(), AllocError>
+        ensures under { OnOk result (under_view self.new.under ≡ node_now self.old) }
+        ensures rest { OnOk result (self.new ≡ record self.old { under = self.new.under; waiting = None }) }
+        ensures whole { self.new.whole ≡ self.old.whole }
+    {
+        match self.waiting.take() {
+            Some(word) => settle(self.alloc, &self.whole, &self.from, word, &mut self.under),
+            None => Ok(()),
+        }
     }
 
     /// Ends the current node, which has no block.
@@ -52,17 +58,16 @@ impl<'a, N: ParsedNode> Builder<'a, N> {
         lexer: &mut Lexer<'a>,
         at: &TokenSpan<'a>,
     ) -> Result<(), LexFailure>
+        requires live { self.old.dropped ≡ Nothing }
         requires from { Ahead self.old.from at.now.start }
-        ensures ended { Reaches N.tree (node_ended N.tree self.old at.now.start at.now.end)
-            (bytes self.old.from.rest) self.old result self.new lexer.old lexer.new }
+        ensures ended { Reaches N.tree (node_ended N.tree self.old at.now.start at.now.end) (bytes self.old.from.rest) self.old result self.new lexer.old lexer.new }
+        ensures live { OnOk result (self.new.dropped ≡ Nothing) }
+        ensures from { OnOk result (self.new.from ≡ at.now.end) }
         ensures unsliced { OnOk result (unsliced self.new ≡ bytes self.new.from.rest) }
     {
         self.settle_word()?;
-        let kept = self.under.is_some();
         self.push_ended(lexer, at)?;
-        if kept {
-            self.from = at.end.copied();
-        }
+        self.from = at.end.copied();
         self.phase = Phase::Gap;
         Ok(())
     }
@@ -73,186 +78,108 @@ impl<'a, N: ParsedNode> Builder<'a, N> {
         lexer: &mut Lexer<'a>,
         at: &TokenSpan<'a>,
     ) -> Result<(), LexFailure>
+        requires live { self.old.dropped ≡ Nothing }
         requires from { Ahead self.old.from at.now.start }
-        ensures ended { Reaches N.tree (kept_ended N.tree self.old at.now.start at.now.end)
-            (bytes self.old.from.rest) self.old result self.new lexer.old lexer.new }
+        ensures ended { Reaches N.tree (kept_ended N.tree self.old at.now.start at.now.end) (bytes self.old.from.rest) self.old result self.new lexer.old lexer.new }
+        ensures live { OnOk result (self.new.dropped ≡ Nothing) }
+        ensures from { OnOk result (self.new.from ≡ at.now.end) }
         ensures unsliced { OnOk result (unsliced self.new ≡ bytes self.new.from.rest) }
     {
-        let kept = self.kept.is_some();
+        self.settle_word()?;
         self.push_kept(lexer, at)?;
-        if kept {
-            self.from = at.end.copied();
-        }
+        self.from = at.end.copied();
         self.phase = Phase::Gap;
         Ok(())
     }
 
     /// Opens the block of the current node.
-    #[tactic(auto, using(crate::proofs::Stepping::TurnCost::fewer, crate::proofs::Stepping::TurnCost::token_fewer, crate::proofs::Stepping::Views::frame_pushed))]
+    #[tactic(auto, using(crate::proofs::Stepping::TurnCost::fewer, crate::proofs::Stepping::TurnCost::token_fewer, crate::proofs::Stepping::Views::level_pushed))]
     pub(super) fn open_block(
         &mut self,
         lexer: &mut Lexer<'a>,
         at: &TokenSpan<'a>,
     ) -> Result<(), LexFailure>
+        requires live { self.old.dropped ≡ Nothing }
         requires from { Ahead self.old.from at.now.start }
-        ensures { Steps N.tree (Some (block_opened N.tree self.old at.now.start at.now.end))
-            at.now.start (bytes self.old.from.rest) self.old result self.new lexer.old lexer.new }
+        ensures { Reaches N.tree (block_opened N.tree self.old at.now.start at.now.end) (bytes self.old.from.rest) self.old result self.new lexer.old lexer.new }
     {
         self.settle_word()?;
+        let before = text_between(self.alloc, lexer, &self.from, &at.start)?;
+        let under = mem::replace(&mut self.under, Under::new(self.alloc, &self.whole));
+        let nodes = mem::replace(&mut self.nodes, Vec::new(self.alloc));
+        self.levels.push(Level {
+            under,
+            before,
+            nodes,
+        })?;
+        self.from = at.end.copied();
         self.phase = Phase::Gap;
-        if self.under.is_some() {
-            let before = text_between(self.alloc, lexer, &self.from, &at.start)?;
-            let under = self.under.take();
-            let nodes = mem::replace(&mut self.nodes, Some(Vec::new(self.alloc)));
-            self.frames
-                .push(Frame::Block(BlockOwner { under, before }, nodes))?;
-            self.from = at.end.copied();
-        } else {
-            let owner = BlockOwner {
-                under: None,
-                before: empty(self.alloc),
-            };
-            let nodes = self.nodes.take();
-            self.frames.push(Frame::Block(owner, nodes))?;
-        }
-        Ok(())
-    }
-
-    /// Opens a slashdashed block, before the node's own.
-    #[tactic(auto, using(crate::proofs::Stepping::Views::frame_pushed))]
-    pub(super) fn open_dropped(&mut self) -> Result<(), LexFailure>
-        ensures did { Does (dropped_opened N.tree self.old) result (state_view N.tree self.new) }
-        ensures whole { self.new.whole ≡ self.old.whole }
-        ensures unsliced { OnOk result (unsliced self.new ≡ bytes self.old.from.rest) }
-    {
-        self.settle_word()?;
-        let under = self.under.take();
-        let nodes = self.nodes.take();
-        self.frames.push(Frame::DroppedBlock(under, nodes))?;
-        self.phase = Phase::Gap;
-        Ok(())
-    }
-
-    /// Opens a slashdashed block, after the node's own.
-    #[tactic(auto, using(crate::proofs::Stepping::Views::frame_pushed))]
-    pub(super) fn open_later(&mut self) -> Result<(), LexFailure>
-        ensures did { Does (later_opened N.tree self.old) result (state_view N.tree self.new) }
-        ensures whole { self.new.whole ≡ self.old.whole }
-        ensures unsliced { OnOk result (unsliced self.new ≡ bytes self.old.from.rest) }
-    {
-        let kept = self.kept.take();
-        let nodes = self.nodes.take();
-        self.frames.push(Frame::LaterBlock(kept, nodes))?;
-        self.phase = Phase::Gap;
-        Ok(())
-    }
-
-    /// Gives the node its block, which ends here, and continues with the nodes before it.
-    #[tactic(auto, using(crate::proofs::Stepping::TurnCost::fewer, crate::proofs::Stepping::TurnCost::token_fewer))]
-    pub(super) fn close_block(
-        &mut self,
-        lexer: &mut Lexer<'a>,
-        owner: BlockOwner<'a>,
-        nodes: Option<Vec<N>>,
-        at: &TokenSpan<'a>,
-    ) -> Result<(), LexFailure>
-        requires from { Ahead self.old.from at.now.start }
-        ensures { Reaches N.tree
-            (block_closed N.tree self.old owner.entry nodes at.now.start at.now.end)
-            (bytes self.old.from.rest) self.old result self.new lexer.old lexer.new }
-    {
-        let inner = mem::replace(&mut self.nodes, nodes);
-        self.phase = Phase::Behind;
-        if owner.under.is_some() {
-            let kept = self.with_block(lexer, owner, inner, &at.start)?;
-            put(&mut self.kept, kept);
-            self.from = at.end.copied();
-            return Ok(());
-        }
-        drop(owner);
-        drop(inner);
-        put(&mut self.kept, None);
         Ok(())
     }
 
     /// Continues with the node around the block that ends here.
-    #[tactic(auto, using(crate::proofs::Stepping::Views::frame_pushed, crate::proofs::Stepping::StepsDone::does_did))]
+    #[tactic(auto, using(crate::proofs::Stepping::TurnCost::fewer, crate::proofs::Stepping::TurnCost::token_fewer, crate::proofs::Stepping::Views::level_pushed))]
     pub(super) fn close(
         &mut self,
         lexer: &mut Lexer<'a>,
         at: &TokenSpan<'a>,
     ) -> Result<(), LexFailure>
+        requires live { self.old.dropped ≡ Nothing }
         requires from { Ahead self.old.from at.now.start }
-        ensures { Steps N.tree (around N.tree self.old at.now.start at.now.end) at.now.start
-            (bytes self.old.from.rest) self.old result self.new lexer.old lexer.new }
+        ensures { Steps N.tree (around N.tree self.old at.now.start at.now.end) at.now.start (bytes self.old.from.rest) self.old result self.new lexer.old lexer.new }
     {
-        match self.frames.pop() {
-            Some(Frame::Block(owner, nodes)) => self.close_block(lexer, owner, nodes, at),
-            Some(Frame::DroppedBlock(under, nodes)) => {
-                put(&mut self.under, under);
-                put(&mut self.waiting, Waiting::Nothing);
-                put(&mut self.nodes, nodes);
-                self.phase = Phase::Later;
-                Ok(())
-            }
-            Some(Frame::LaterBlock(kept, nodes)) => {
-                put(&mut self.kept, kept);
-                put(&mut self.nodes, nodes);
-                self.phase = Phase::Behind;
-                Ok(())
-            }
-            None => Err(LexFailure::Faulty(fault_at(&at.start))),
-        }
+        let Some(
+            Level {
+                under,
+                before,
+                nodes,
+            },
+        ) = self.levels.pop()
+        else {
+            return Err(LexFailure::Faulty(fault_at(&at.start)));
+        };
+        let inner = mem::replace(&mut self.nodes, nodes);
+        put(&mut self.waiting, None);
+        put(&mut self.under, under);
+        put(&mut self.before, before);
+        let block = self.content_up_to(lexer, inner, &at.start)?;
+        put(&mut self.block, block);
+        self.from = at.end.copied();
+        self.phase = Phase::Kept;
+        Ok(())
     }
 
     /// Begins a node, whose name is the token.
-    #[tactic(auto, using(crate::proofs::Stepping::TurnCost::fewer, crate::proofs::Stepping::TurnCost::token_fewer))]
+    #[tactic(auto, using(crate::proofs::Stepping::TurnCost::fewer, crate::proofs::Stepping::TurnCost::token_fewer, kdl_lexer::proofs::Order::ahead))]
     pub(super) fn begin_node(
         &mut self,
         lexer: &mut Lexer<'a>,
         slot: Slot<'a>,
-        given: Given,
+        ty: Option<TypeParts>,
+        name: String,
         at: &TokenSpan<'a>,
     ) -> Result<(), LexFailure>
-        ensures { Reaches N.tree (given_at N.tree self.old (named_slot slot.entry)
-            (option_map type_view given.ty) (value_tree given.value) at.now.start at.now.end)
-            (name_unsliced self.old slot.entry.kept at.now.start) self.old result self.new lexer.old
-            lexer.new }
+        requires live { self.old.dropped ≡ Nothing }
+        ensures { Reaches N.tree (given_at N.tree self.old (named_slot slot.entry) (option_map type_view ty) (text (text_of name)) at.now.start at.now.end) (bytes at.now.start.rest) self.old result self.new lexer.old lexer.new }
     {
-        put(&mut self.waiting, Waiting::Nothing);
-        self.phase = Phase::Fresh;
-        if !slot.kept {
-            put(&mut self.under, None);
-            drop(slot);
-            drop(given);
-            return Ok(());
-        }
-        self.from = at.end.copied();
-        let Slot {
+        let name = identifier_between(self.alloc, lexer, &self.whole, name, at)?;
+        let Slot { leading, start } = slot;
+        let under = Under {
             leading,
-            start: node_start,
-            ..
-        } = slot;
-        let Given { key, ty, value } = given;
-        drop(key);
-        if let KdlValue::String(name) = value {
-            let name = identifier_between(self.alloc, lexer, &self.whole, name, at)?;
-            let under = Under {
-                leading,
-                start: node_start,
-                ty,
-                name,
-                entries: Vec::new(self.alloc),
-            };
-            put(&mut self.under, Some(under));
-        } else {
-            put(&mut self.under, None);
-        }
+            start,
+            ty,
+            name,
+            entries: Vec::new(self.alloc),
+        };
+        put(&mut self.under, under);
+        put(&mut self.waiting, None);
+        self.from = at.end.copied();
+        self.phase = Phase::InNode(Spot::Fresh(Word::NoKey));
         Ok(())
     }
 
     /// Adds an entry to the current node. Its value is the token.
-    #[tactic(auto, using(crate::proofs::Stepping::Views::entry_pushed))]
+    #[tactic(auto, using(crate::proofs::Stepping::Views::entry_pushed, crate::proofs::Stepping::TurnCost::fewer, crate::proofs::Stepping::TurnCost::token_fewer, kdl_lexer::proofs::Order::ahead))]
     pub(super) fn add_entry(
         &mut self,
         lexer: &mut Lexer<'a>,
@@ -260,26 +187,14 @@ impl<'a, N: ParsedNode> Builder<'a, N> {
         given: Given,
         at: &TokenSpan<'a>,
     ) -> Result<(), LexFailure>
-        ensures { Reaches N.tree (given_at N.tree self.old
-            (valued_slot self.old slot.entry (option_map key_view given.key))
-            (option_map type_view given.ty) (value_tree given.value) at.now.start at.now.end)
-            (entry_unsliced self.old slot.entry.kept at.now.start) self.old result self.new
-            lexer.old lexer.new }
+        requires live { self.old.dropped ≡ Nothing }
+        ensures { Reaches N.tree (given_at N.tree self.old (valued_slot self.old slot.entry (option_map key_view given.key)) (option_map type_view given.ty) (value_tree given.value) at.now.start at.now.end) (bytes at.now.start.rest) self.old result self.new lexer.old lexer.new }
     {
-        put(&mut self.waiting, Waiting::Nothing);
-        self.phase = Phase::Fresh;
-        if !slot.kept || self.under.is_none() {
-            drop(slot);
-            drop(given);
-            return Ok(());
-        }
         let entry = self.entry_between(lexer, slot, given, at)?;
-        if let Some(under) = &mut self.under {
-            add(&mut under.entries, entry)?;
-            self.from = at.end.copied();
-            return Ok(());
-        }
-        drop(entry);
+        add(&mut self.under.entries, entry)?;
+        put(&mut self.waiting, None);
+        self.from = at.end.copied();
+        self.phase = Phase::InNode(Spot::Fresh(Word::NoKey));
         Ok(())
     }
 
@@ -291,17 +206,11 @@ impl<'a, N: ParsedNode> Builder<'a, N> {
         value: String,
         at: &TokenSpan<'a>,
     ) -> Result<(), LexFailure>
+        requires live { self.old.dropped ≡ Nothing }
         requires from { Ahead self.old.from at.now.start }
-        ensures { Steps N.tree
-            (Some (worded N.tree self.old (text_of value) at.now.start at.now.end)) at.now.start
-            (bytes self.old.from.rest) self.old result self.new lexer.old lexer.new }
+        ensures { Reaches N.tree (worded N.tree self.old (text_of value) at.now.start at.now.end) (bytes self.old.from.rest) self.old result self.new lexer.old lexer.new }
     {
         self.settle_word()?;
-        self.phase = Phase::Fresh;
-        if self.under.is_none() {
-            put(&mut self.waiting, Waiting::Dropped);
-            return Ok(());
-        }
         let leading = text_between(self.alloc, lexer, &self.from, &at.start)?;
         let word = WaitingWord {
             leading,
@@ -309,60 +218,40 @@ impl<'a, N: ParsedNode> Builder<'a, N> {
             value,
             repr: piece_between(lexer, &at.start, &at.end),
         };
-        put(&mut self.waiting, Waiting::Word(word));
+        put(&mut self.waiting, Some(word));
         self.from = at.end.copied();
+        self.phase = Phase::InNode(Spot::Fresh(Word::MayBeKey));
         Ok(())
     }
 
-    /// Begins a property at its `=`; its key is the pending string.
+    /// Begins a property at its `=`. Its key is the pending string; without one the key is slashdashed.
     #[tactic(auto, using(crate::proofs::Stepping::TurnCost::fewer, crate::proofs::Stepping::TurnCost::token_fewer))]
     pub(super) fn open_property(
         &mut self,
         lexer: &mut Lexer<'a>,
         at: &TokenSpan<'a>,
     ) -> Result<(), LexFailure>
+        requires live { self.old.dropped ≡ Nothing }
         requires from { Ahead self.old.from at.now.start }
-        ensures { Steps N.tree (property_opened N.tree self.old at.now.start at.now.end)
-            at.now.start (bytes self.old.from.rest) self.old result self.new lexer.old lexer.new }
+        ensures { Steps N.tree (property_opened N.tree self.old MayBeKey at.now.start at.now.end) at.now.start (bytes self.old.from.rest) self.old result self.new lexer.old lexer.new }
     {
-        match mem::replace(&mut self.waiting, Waiting::Nothing) {
-            Waiting::Nothing => Err(LexFailure::Faulty(fault_at(&at.start))),
-            Waiting::Dropped => {
-                self.open_dropped_property(at);
-                Ok(())
-            }
-            Waiting::Word(word) => {
-                if self.under.is_none() {
-                    drop(word);
-                    self.open_dropped_property(at);
-                    return Ok(());
-                }
-                let before = text_between(self.alloc, lexer, &self.from, &at.start)?;
-                let WaitingWord {
-                    leading,
-                    start: word_start,
-                    value,
-                    repr,
-                } = word;
-                let span = span_at(&self.whole, &word_start, &self.from);
-                let name = sliced_identifier(self.alloc, value, &repr, span)?;
-                self.item
-                    .open_keyed(leading, &word_start, Key { name, before }, &at.end);
-                self.phase = Phase::InItem;
-                Ok(())
-            }
-        }
-    }
-
-    /// Begins a slashdashed property at its `=`.
-    pub(super) fn open_dropped_property(&mut self, at: &TokenSpan<'a>)
-        ensures opened { held (state_view N.tree self.new) ≡
-            held (dropped_property N.tree self.old at.now.end) }
-        ensures whole { self.new.whole ≡ self.old.whole }
-        ensures unsliced { unsliced self.new ≡ bytes self.old.from.rest }
-    {
-        self.item.open_dropped_keyed(at);
-        self.phase = Phase::InItem;
+        let Some(word) = self.waiting.take() else {
+            put(&mut self.dropped, Dropped::part(self.alloc, Phase::Property));
+            return Ok(());
+        };
+        let before = text_between(self.alloc, lexer, &self.from, &at.start)?;
+        let WaitingWord {
+            leading,
+            start: word_start,
+            value,
+            repr,
+        } = word;
+        let span = span_at(&self.whole, &word_start, &self.from);
+        let name = sliced_identifier(self.alloc, value, &repr, span)?;
+        self.item
+            .open_keyed(leading, &word_start, Key { name, before }, &at.end);
+        self.phase = Phase::Property;
+        Ok(())
     }
 
     /// Begins the type of a node at its `(`.
@@ -370,20 +259,15 @@ impl<'a, N: ParsedNode> Builder<'a, N> {
     pub(super) fn open_name(
         &mut self,
         lexer: &mut Lexer<'a>,
-        kept: bool,
         at: &TokenSpan<'a>,
     ) -> Result<(), LexFailure>
+        requires live { self.old.dropped ≡ Nothing }
         requires from { Ahead self.old.from at.now.start }
-        ensures { Reaches N.tree (name_opened N.tree self.old kept at.now.start at.now.end)
-            (bytes self.old.from.rest) self.old result self.new lexer.old lexer.new }
+        ensures { Reaches N.tree (name_opened N.tree self.old at.now.start at.now.end) (bytes self.old.from.rest) self.old result self.new lexer.old lexer.new }
     {
-        self.phase = Phase::InItem;
-        if kept {
-            let leading = text_between(self.alloc, lexer, &self.from, &at.start)?;
-            self.item.open(Owner::Name, leading, at);
-            return Ok(());
-        }
-        self.item.open_dropped(Owner::Name, at);
+        let leading = text_between(self.alloc, lexer, &self.from, &at.start)?;
+        self.item.open(Owner::Name, leading, at);
+        self.phase = Phase::TypeOpen(Owner::Name);
         Ok(())
     }
 
@@ -392,21 +276,16 @@ impl<'a, N: ParsedNode> Builder<'a, N> {
     pub(super) fn open_value(
         &mut self,
         lexer: &mut Lexer<'a>,
-        kept: bool,
         at: &TokenSpan<'a>,
     ) -> Result<(), LexFailure>
+        requires live { self.old.dropped ≡ Nothing }
         requires from { Ahead self.old.from at.now.start }
-        ensures { Reaches N.tree (value_opened N.tree self.old kept at.now.start at.now.end)
-            (bytes self.old.from.rest) self.old result self.new lexer.old lexer.new }
+        ensures { Reaches N.tree (value_opened N.tree self.old at.now.start at.now.end) (bytes self.old.from.rest) self.old result self.new lexer.old lexer.new }
     {
         self.settle_word()?;
-        self.phase = Phase::InItem;
-        if kept && self.under.is_some() {
-            let leading = text_between(self.alloc, lexer, &self.from, &at.start)?;
-            self.item.open(Owner::Value, leading, at);
-            return Ok(());
-        }
-        self.item.open_dropped(Owner::Value, at);
+        let leading = text_between(self.alloc, lexer, &self.from, &at.start)?;
+        self.item.open(Owner::Value, leading, at);
+        self.phase = Phase::TypeOpen(Owner::Value);
         Ok(())
     }
 
@@ -414,105 +293,124 @@ impl<'a, N: ParsedNode> Builder<'a, N> {
     pub(super) fn add_argument(
         &mut self,
         lexer: &mut Lexer<'a>,
-        kept: bool,
         value: KdlValue,
         at: &TokenSpan<'a>,
     ) -> Result<(), LexFailure>
+        requires live { self.old.dropped ≡ Nothing }
         requires from { Ahead self.old.from at.now.start }
-        ensures { Reaches N.tree (given_at N.tree self.old
-            (argument_slot self.old kept at.now.start) None (value_tree value) at.now.start
-            at.now.end) (bytes self.old.from.rest) self.old result self.new lexer.old lexer.new }
+        ensures { Reaches N.tree (given_at N.tree self.old (argument_slot self.old at.now.start) None (value_tree value) at.now.start at.now.end) (bytes self.old.from.rest) self.old result self.new lexer.old lexer.new }
     {
         self.settle_word()?;
-        if kept && self.under.is_some() {
-            let leading = text_between(self.alloc, lexer, &self.from, &at.start)?;
-            let slot = Slot {
-                kept: true,
-                leading,
-                start: at.start.copied(),
-            };
-            return self.add_entry(lexer, slot, lone(value), at);
-        }
-        self.phase = Phase::Fresh;
-        Ok(())
+        let leading = text_between(self.alloc, lexer, &self.from, &at.start)?;
+        let slot = Slot {
+            leading,
+            start: at.start.copied(),
+        };
+        self.add_entry(lexer, slot, lone(value), at)
     }
 
-    /// Takes a token inside a type, or after the `=` of a property.
-    #[tactic(auto, using(crate::proofs::Stepping::TurnCost::stays_entry, crate::proofs::Stepping::TurnCost::item_went, crate::proofs::Stepping::TurnCost::on_entry_given, crate::proofs::Stepping::TurnCost::on_name_given, crate::proofs::Stepping::StepsDone::does_did))]
-    pub(super) fn at_item(
-        &mut self,
-        lexer: &mut Lexer<'a>,
-        kind: TokenKind,
-        at: &TokenSpan<'a>,
-    ) -> Result<(), LexFailure>
-        requires from { Ahead self.old.item.from at.now.start }
-        requires phase { self.old.phase ≡ Phase.InItem }
-        ensures { Steps N.tree (item_step N.tree self.old kind at.now.start at.now.end) at.now.start
-            (unsliced self.old) self.old result self.new lexer.old lexer.new }
+    /// The text before the name or entry that has a type or a key, and its start.
+    fn item_slot(&mut self) -> Slot<'a>
+        ensures leading { text_of result.leading ≡ text_of self.old.item.leading }
+        ensures start { result.start ≡ self.old.item.start }
+        ensures rest { self.new ≡ record self.old { item = self.new.item } }
     {
-        let entry = is_entry(&self.item);
-        let Some(given) = self.item.take(lexer, &self.whole, kind, at)? else {
-            return Ok(());
-        };
-        let slot = Slot {
-            kept: self.item.kept,
+        Slot {
             leading: mem::replace(&mut self.item.leading, empty(self.alloc)),
             start: self.item.start.copied(),
-        };
-        if entry {
-            return self.add_entry(lexer, slot, given, at);
         }
-        self.begin_node(lexer, slot, given, at)
+    }
+
+    /// Adds a value that has a type, and maybe a key.
+    pub(super) fn add_typed(
+        &mut self,
+        lexer: &mut Lexer<'a>,
+        value: KdlValue,
+        at: &TokenSpan<'a>,
+    ) -> Result<(), LexFailure>
+        requires live { self.old.dropped ≡ Nothing }
+        requires from { Ahead self.old.item.from at.now.start }
+        ensures { Reaches N.tree (given_at N.tree self.old (item_value_slot self.old (option_map key_view self.old.item.key)) (type_now self.old at.now.start) (value_tree value) at.now.start at.now.end) (bytes self.old.item.from.rest) self.old result self.new lexer.old lexer.new }
+    {
+        let ty = self.item.type_parts(lexer, &at.start)?;
+        let key = self.item.key.take();
+        let slot = self.item_slot();
+        self.add_entry(
+            lexer,
+            slot,
+            Given {
+                key,
+                ty: Some(ty),
+                value,
+            },
+            at,
+        )
+    }
+
+    /// Adds a value that has a key and no type.
+    pub(super) fn add_keyed(
+        &mut self,
+        lexer: &mut Lexer<'a>,
+        value: KdlValue,
+        at: &TokenSpan<'a>,
+    ) -> Result<(), LexFailure>
+        requires live { self.old.dropped ≡ Nothing }
+        requires from { Ahead self.old.item.from at.now.start }
+        ensures { Reaches N.tree (given_at N.tree self.old (item_value_slot self.old (key_now self.old at.now.start)) None (value_tree value) at.now.start at.now.end) (bytes self.old.item.from.rest) self.old result self.new lexer.old lexer.new }
+    {
+        let key = self.item.key_parts(lexer, &at.start)?;
+        let slot = self.item_slot();
+        self.add_entry(
+            lexer,
+            slot,
+            Given {
+                key: Some(key),
+                ty: None,
+                value,
+            },
+            at,
+        )
     }
 
     /// Takes a string that is a node's name.
     pub(super) fn name_node(
         &mut self,
         lexer: &mut Lexer<'a>,
-        kept: bool,
         name: String,
         at: &TokenSpan<'a>,
     ) -> Result<(), LexFailure>
+        requires live { self.old.dropped ≡ Nothing }
         requires from { Ahead self.old.from at.now.start }
-        ensures { Reaches N.tree (given_at N.tree self.old (node_slot self.old kept at.now.start)
-            None (text (text_of name)) at.now.start at.now.end) (bytes self.old.from.rest) self.old
-            result self.new lexer.old lexer.new }
+        ensures { Reaches N.tree (given_at N.tree self.old (name_slot self.old at.now.start) None (text (text_of name)) at.now.start at.now.end) (bytes self.old.from.rest) self.old result self.new lexer.old lexer.new }
     {
-        if kept {
-            let leading = text_between(self.alloc, lexer, &self.from, &at.start)?;
-            let slot = Slot {
-                kept: true,
-                leading,
-                start: at.start.copied(),
-            };
-            let given = lone(KdlValue::String(name));
-            return self.begin_node(lexer, slot, given, at);
-        }
+        let leading = text_between(self.alloc, lexer, &self.from, &at.start)?;
         let slot = Slot {
-            kept: false,
-            leading: empty(self.alloc),
+            leading,
             start: at.start.copied(),
         };
-        let given = lone(KdlValue::String(name));
-        self.begin_node(lexer, slot, given, at)
+        self.begin_node(lexer, slot, None, name, at)
     }
 
-    /// Takes a string after `/-`, which may be a key.
-    pub(super) fn wait_dropped(&mut self) -> Result<(), LexFailure>
-        ensures did { Does (dropped_worded N.tree self.old) result (state_view N.tree self.new) }
-        ensures whole { self.new.whole ≡ self.old.whole }
-        ensures unsliced { OnOk result (unsliced self.new ≡ bytes self.old.from.rest) }
+    /// Takes a string that is a node's name and has a type.
+    pub(super) fn name_typed(
+        &mut self,
+        lexer: &mut Lexer<'a>,
+        name: String,
+        at: &TokenSpan<'a>,
+    ) -> Result<(), LexFailure>
+        requires live { self.old.dropped ≡ Nothing }
+        requires from { Ahead self.old.item.from at.now.start }
+        ensures { Reaches N.tree (given_at N.tree self.old (item_name_slot self.old) (type_now self.old at.now.start) (text (text_of name)) at.now.start at.now.end) (bytes self.old.item.from.rest) self.old result self.new lexer.old lexer.new }
     {
-        self.settle_word()?;
-        put(&mut self.waiting, Waiting::Dropped);
-        self.phase = Phase::Fresh;
-        Ok(())
+        let ty = self.item.type_parts(lexer, &at.start)?;
+        let slot = self.item_slot();
+        self.begin_node(lexer, slot, Some(ty), name, at)
     }
 
     /// Takes a `/-` in a node, before its block.
-    pub(super) fn behind_slashdash(&mut self) -> Result<(), LexFailure>
-        ensures did { Does (in_phase N.tree self.old (machine.entry_slashdash (node_now self.old)))
-            result (state_view N.tree self.new) }
+    pub(super) fn go_past_slashdash(&mut self) -> Result<(), LexFailure>
+        requires live { self.old.dropped ≡ Nothing }
+        ensures did { Does (in_phase N.tree self.old (machine.entry_slashdash (Some (node_now self.old)))) result (state_view N.tree self.new) }
         ensures whole { self.new.whole ≡ self.old.whole }
         ensures unsliced { OnOk result (unsliced self.new ≡ bytes self.old.from.rest) }
     {
@@ -528,9 +426,9 @@ impl<'a, N: ParsedNode> Builder<'a, N> {
         lexer: &mut Lexer<'a>,
         at: &TokenSpan<'a>,
     ) -> Result<(), LexFailure>
+        requires live { self.old.dropped ≡ Nothing }
         requires from { Ahead self.old.from at.now.start }
-        ensures { Steps N.tree (around_node N.tree self.old at.now.start at.now.end) at.now.start
-            (bytes self.old.from.rest) self.old result self.new lexer.old lexer.new }
+        ensures { Steps N.tree (around_node N.tree self.old at.now.start at.now.end) at.now.start (bytes self.old.from.rest) self.old result self.new lexer.old lexer.new }
     {
         self.end_node(lexer, &nothing_at(&at.start))?;
         self.close(lexer, at)
@@ -543,9 +441,9 @@ impl<'a, N: ParsedNode> Builder<'a, N> {
         lexer: &mut Lexer<'a>,
         at: &TokenSpan<'a>,
     ) -> Result<(), LexFailure>
+        requires live { self.old.dropped ≡ Nothing }
         requires from { Ahead self.old.from at.now.start }
-        ensures { Steps N.tree (around_kept N.tree self.old at.now.start at.now.end) at.now.start
-            (bytes self.old.from.rest) self.old result self.new lexer.old lexer.new }
+        ensures { Steps N.tree (around_kept N.tree self.old at.now.start at.now.end) at.now.start (bytes self.old.from.rest) self.old result self.new lexer.old lexer.new }
     {
         self.end_kept(lexer, &nothing_at(&at.start))?;
         self.close(lexer, at)

@@ -1,21 +1,21 @@
-use Rattle.std.proofs.Common.{ap, ◌∙◌, option_map}
+use Rattle.std.proofs.Common.{ap, ◌∙◌}
 use Rattle.kdl_text.specs.Internal.Here.{Position}
-use Rattle.kdl_entry.specs.Internal.Building.{item_view}
-use Rattle.kdl_grammar.specs.Internal.Machine.{origin}
-use Rattle.kdl_parser.specs.Internal.Building.{node_now, under_view, kept_view, nodes_view, frames_view}
-use Rattle.kdl_parser.proofs.Stepping.ItemTokens.{unfinished}
-use Rattle.kdl_parser.proofs.Stepping.Origins.{origin_ends, from_of}
+use Rattle.kdl_parser.specs.Internal.States.{node_ended, kept_ended}
+use Rattle.kdl_parser.proofs.Stepping.Endings.{node_finishes, kept_finishes}
 use Rattle.kdl_parser.proofs.builder.Builder.finish_at.Goals as goal
 
-pub finish_nodes-requires-in-Fresh-clause-from : goal.finish_nodes-requires-in-Fresh-clause-from
-finish_nodes-requires-in-Fresh-clause-from g c =
-    origin_ends (node_now c.args.self.now) c.args.self.now.from.rest c.end_node.new.self.from.rest c.args.here.now.rest (ap from_of c.in_ok-end_node-in-Fresh.ensures.ended.did ∙ ap (λ (z : Position). origin (node_now c.args.self.now) c.args.self.now.from.rest z.rest) c.nothing_at.ensures.end) c.requires.from
-
-pub finish_nodes-requires-in-Behind-clause-from : goal.finish_nodes-requires-in-Behind-clause-from
-finish_nodes-requires-in-Behind-clause-from g c =
-    origin_ends (option_map (kept_view g.N.ParsedNode.tree) c.args.self.now.kept) c.args.self.now.from.rest c.end_kept.new.self.from.rest c.args.here.now.rest (ap from_of c.in_ok-end_kept-in-Behind.ensures.ended.did ∙ ap (λ (z : Position). origin (option_map (kept_view g.N.ParsedNode.tree) c.args.self.now.kept) c.args.self.now.from.rest z.rest) c.nothing_at-in-Behind.ensures.end) c.requires.from
-
-pub returns-in-InItem-clause-finished : goal.returns-in-InItem-clause-finished
-returns-in-InItem-clause-finished g c =
+pub returns-in_ok-end_node-in-InNode-clause-finished : goal.returns-in_ok-end_node-in-InNode-clause-finished
+returns-in_ok-end_node-in-InNode-clause-finished g c =
+    let tree = g.N.ParsedNode.tree in
     let self = c.args.self.now in
-    (rw c.in-InItem.is (unfinished self.whole.rest (item_view self.item) (option_map under_view self.under) (nodes_view g.N.ParsedNode.tree self.nodes) (frames_view g.N.ParsedNode.tree self) self.from.rest), c.fault_at.ensures)
+    let there = c.in_ok-end_node-in-InNode.ensures in
+    let s = there.ended.did ∙ ap (λ (z : Position). node_ended tree self z c.nothing_at.result.end) c.nothing_at.ensures.start ∙ ap (λ (z : Position). node_ended tree self c.args.here.now z) c.nothing_at.ensures.end in
+    node_finishes tree self c.end_node.new.self c.in-InNode.field-0 c.args.here.now c.finish_nodes-in-InNode.result c.requires.live c.in-InNode.is c.requires.end s there.live there.ended.whole c.finish_nodes-in-InNode.ensures.finished
+
+pub returns-in_ok-end_kept-in-Kept-clause-finished : goal.returns-in_ok-end_kept-in-Kept-clause-finished
+returns-in_ok-end_kept-in-Kept-clause-finished g c =
+    let tree = g.N.ParsedNode.tree in
+    let self = c.args.self.now in
+    let there = c.in_ok-end_kept-in-Kept.ensures in
+    let s = there.ended.did ∙ ap (λ (z : Position). kept_ended tree self z c.nothing_at-in-Kept.result.end) c.nothing_at-in-Kept.ensures.start ∙ ap (λ (z : Position). kept_ended tree self c.args.here.now z) c.nothing_at-in-Kept.ensures.end in
+    kept_finishes tree self c.end_kept.new.self c.args.here.now c.finish_nodes-in-Kept.result c.requires.live c.in-Kept.is c.requires.end s there.live there.ended.whole c.finish_nodes-in-Kept.ensures.finished

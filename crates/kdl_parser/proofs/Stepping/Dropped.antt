@@ -1,0 +1,245 @@
+-- Inside what is slashdashed the machine's step is that of the machine without data.
+use Rattle.std.proofs.Common.{◌≡◌, ℕ, Bool, true, false, List, [], ◌∷◌, Option, Some, None, option_map, refl, sym, ap, ◌∙◌}
+use Rattle.kdl_text.specs.Chars.{Text}
+use Rattle.kdl_control.specs.Control as c
+use Rattle.kdl_lexer.specs.Tokens.{Token, space, newline, slashdash, string, value, left, right, opening, closing, equals, semicolon, bom}
+use Rattle.kdl_grammar.specs.Internal.Machine.{Under, Kept, Frame, State, at, gap, in_node, fresh, spaced, later, pending, no_value, kept, step, finish, at_end}
+use Rattle.kdl_grammar.specs.Tree.{Node, Nodes}
+use Rattle.kdl_parser.specs.Internal.Building.{held, reading_view, under_view, node_now, kept_now, nodes_now, frames_view, in_phase, phase_now}
+use Rattle.kdl_control.specs.Internal.Views.{phase_view}
+use Rattle.kdl_control.specs.declared.control.Phase.{Phase}
+use Rattle.kdl_control.specs.declared.control.Phase.TheVariants.{Gap, InNode, Kept as KeptPhase}
+use Rattle.kdl_control.specs.declared.control.Spot.TheVariants.{Fresh, Spaced, Later}
+use Rattle.kdl_control.specs.declared.control.Word.TheVariants.{MayBeKey, NoKey}
+use Rattle.kdl_entry.specs.Tree.{plain_identifier}
+use Rattle.kdl_value.specs.Tree.{text_of}
+use Rattle.kdl_parser.specs.Internal.Parts.{document_by}
+use Rattle.kdl_parser.specs.declared.builder.Builder.{Builder}
+use Rattle.kdl_parser.specs.declared.builder.Under.{Under as Under'}
+use Rattle.kdl_parser.specs.Internal.Counted.{unsliced_at}
+use Rattle.kdl_parser.specs.declared.builder.dropping.Dropped.{Dropped}
+use Rattle.kdl_parser.specs.declared.builder.dropping.Dropped.TheVariants.{Nothing, Node as DroppedNode, Part as DroppedPart}
+use Rattle.kdl_parser.proofs.Stepping.Held.{not_reached}
+use Rattle.kdl_parser.specs.Internal.Dropping.{inside, frames, is_node_over, is_before_node, Reading, nothing, node, part, is_reading, is_over, next, reading_state, Begun}
+
+-- the step inside is the step without data
+abbrev Steps : Text → Option Under → Option Kept → Option Nodes → List Frame → Text → c.Control → Token → Text → Text → Type 0
+Steps whole u x l fs from d k s r = option_map held (step whole (inside u x l fs from d) k s r) ≡ option_map held (option_map (inside u x l fs from) (c.step d k))
+
+module _ (whole : Text) (l : Option Nodes) (fs : List Frame) (from : Text) where
+  -- at the `}` of an inner block
+  at_block_end : (u : Option Under) (x : Option Kept) (p : c.Phase) (g : c.Frame) (gs : List c.Frame) (s r : Text) → Steps whole u x l fs from (c.at p (g ∷ gs)) closing s r
+  at_block_end u None c.gap c.in_block [] s r = refl
+  at_block_end u (Some x) c.gap c.in_block [] s r = refl
+  at_block_end u x c.gap c.in_dropped [] s r = refl
+  at_block_end u x c.gap c.in_later [] s r = refl
+  at_block_end u x c.gap c.in_block (h ∷ gs) s r = refl
+  at_block_end u x c.gap c.in_dropped (h ∷ gs) s r = refl
+  at_block_end u x c.gap c.in_later (h ∷ gs) s r = refl
+  at_block_end u None c.kept c.in_block [] s r = refl
+  at_block_end u (Some x) c.kept c.in_block [] s r = refl
+  at_block_end u x c.kept c.in_dropped [] s r = refl
+  at_block_end u x c.kept c.in_later [] s r = refl
+  at_block_end u x c.kept c.in_block (h ∷ gs) s r = refl
+  at_block_end u x c.kept c.in_dropped (h ∷ gs) s r = refl
+  at_block_end u x c.kept c.in_later (h ∷ gs) s r = refl
+  at_block_end u None (c.in_node p) c.in_block [] s r = refl
+  at_block_end u (Some x) (c.in_node p) c.in_block [] s r = refl
+  at_block_end u x (c.in_node p) c.in_dropped [] s r = refl
+  at_block_end u x (c.in_node p) c.in_later [] s r = refl
+  at_block_end u x (c.in_node p) c.in_block (h ∷ gs) s r = refl
+  at_block_end u x (c.in_node p) c.in_dropped (h ∷ gs) s r = refl
+  at_block_end u x (c.in_node p) c.in_later (h ∷ gs) s r = refl
+  at_block_end u x p g gs s r = refl
+
+  -- in an inner block
+  in_block : (u : Option Under) (x : Option Kept) (p : c.Phase) (g : c.Frame) (gs : List c.Frame) (k : Token) (s r : Text) → Steps whole u x l fs from (c.at p (g ∷ gs)) k s r
+  in_block u x (c.type_open false) g gs space s r = refl
+  in_block u x (c.type_open true) g gs space s r = refl
+  in_block u x (c.type_name false) g gs space s r = refl
+  in_block u x (c.type_name true) g gs space s r = refl
+  in_block u x (c.type_done false) g gs space s r = refl
+  in_block u x (c.type_done true) g gs space s r = refl
+  in_block u x (c.in_node (c.fresh false)) g gs space s r = refl
+  in_block u x (c.in_node (c.fresh true)) g gs space s r = refl
+  in_block u x (c.in_node (c.spaced false)) g gs space s r = refl
+  in_block u x (c.in_node (c.spaced true)) g gs space s r = refl
+  in_block u x (c.in_node c.later) g gs space s r = refl
+  in_block u x c.gap g gs space s r = refl
+  in_block u x c.kept g gs space s r = refl
+  in_block u x c.node_slashdash g gs space s r = refl
+  in_block u x c.property g gs space s r = refl
+  in_block u x c.entry_slashdash g gs space s r = refl
+  in_block u x c.block_slashdash g gs space s r = refl
+  in_block u x c.kept_slashdash g gs space s r = refl
+  in_block u x p g gs closing s r = at_block_end u x p g gs s r
+  in_block u x p g gs k s r = refl
+
+  -- in a slashdashed node, outside of its blocks
+  in_dropped_node : (p : c.Phase) (k : Token) (s r : Text) → is_node_over k (c.at p []) ≡ false → Steps whole None None l fs from (c.at p []) k s r
+  in_dropped_node c.gap closing s r e = absurd cc
+  in_dropped_node c.gap k s r e = absurd cc
+  in_dropped_node (c.in_node (c.fresh false)) closing s r e = absurd cc
+  in_dropped_node (c.in_node (c.fresh true)) closing s r e = absurd cc
+  in_dropped_node (c.in_node (c.spaced false)) closing s r e = absurd cc
+  in_dropped_node (c.in_node (c.spaced true)) closing s r e = absurd cc
+  in_dropped_node (c.in_node c.later) closing s r e = absurd cc
+  in_dropped_node c.kept closing s r e = absurd cc
+  in_dropped_node (c.type_open false) space s r e = refl
+  in_dropped_node (c.type_open true) space s r e = refl
+  in_dropped_node (c.type_name false) space s r e = refl
+  in_dropped_node (c.type_name true) space s r e = refl
+  in_dropped_node (c.type_done false) space s r e = refl
+  in_dropped_node (c.type_done true) space s r e = refl
+  in_dropped_node (c.in_node (c.fresh false)) space s r e = refl
+  in_dropped_node (c.in_node (c.fresh true)) space s r e = refl
+  in_dropped_node (c.in_node (c.spaced false)) space s r e = refl
+  in_dropped_node (c.in_node (c.spaced true)) space s r e = refl
+  in_dropped_node (c.in_node c.later) space s r e = refl
+  in_dropped_node c.kept space s r e = refl
+  in_dropped_node c.node_slashdash space s r e = refl
+  in_dropped_node c.property space s r e = refl
+  in_dropped_node c.entry_slashdash space s r e = refl
+  in_dropped_node c.block_slashdash space s r e = refl
+  in_dropped_node c.kept_slashdash space s r e = refl
+  in_dropped_node p k s r e = refl
+
+  -- in a slashdashed part of a node, outside of its blocks
+  in_dropped_part : (u : Under) (x : Kept) (p : c.Phase) (k : Token) (s r : Text) → c.finish (c.at p []) ≡ false → is_before_node (c.at p []) ≡ false → Steps whole (Some u) (Some x) l fs from (c.at p []) k s r
+  in_dropped_part u x c.gap k s r e f = absurd cc
+  in_dropped_part u x c.node_slashdash k s r e f = absurd cc
+  in_dropped_part u x (c.in_node p) k s r e f = absurd cc
+  in_dropped_part u x c.kept k s r e f = absurd cc
+  in_dropped_part u x (c.type_open false) space s r e f = refl
+  in_dropped_part u x (c.type_open true) space s r e f = refl
+  in_dropped_part u x (c.type_name false) space s r e f = refl
+  in_dropped_part u x (c.type_name true) space s r e f = refl
+  in_dropped_part u x (c.type_done false) space s r e f = refl
+  in_dropped_part u x (c.type_done true) space s r e f = refl
+  in_dropped_part u x c.property space s r e f = refl
+  in_dropped_part u x c.entry_slashdash space s r e f = refl
+  in_dropped_part u x c.block_slashdash space s r e f = refl
+  in_dropped_part u x c.kept_slashdash space s r e f = refl
+  in_dropped_part u x p k s r e f = refl
+
+  -- at a token of what is slashdashed
+  pub reads : (u : Under) (x : Kept) (st : State) (d : Reading) (k : Token) (s r : Text) → is_reading d ≡ true → is_over k d ≡ false → Begun d
+      → option_map held (step whole (reading_state u x l fs from st d) k s r) ≡ option_map held (option_map (reading_state u x l fs from st) (next k d))
+  reads u x st nothing k s r a e f = absurd cc
+  reads u x st (node (c.at p [])) k s r a e f = in_dropped_node p k s r e ∙ mapped (c.step (c.at p []) k)
+    where
+      mapped : (o : Option c.Control) → option_map held (option_map (inside None None l fs from) o) ≡ option_map held (option_map (reading_state u x l fs from st) (option_map node o))
+      mapped None = refl
+      mapped (Some d) = refl
+  reads u x st (node (c.at p (g ∷ gs))) k s r a e f = in_block None None p g gs k s r ∙ mapped (c.step (c.at p (g ∷ gs)) k)
+    where
+      mapped : (o : Option c.Control) → option_map held (option_map (inside None None l fs from) o) ≡ option_map held (option_map (reading_state u x l fs from st) (option_map node o))
+      mapped None = refl
+      mapped (Some d) = refl
+  reads u x st (part (c.at p [])) k s r a e f = in_dropped_part u x p k s r e f ∙ mapped (c.step (c.at p []) k)
+    where
+      mapped : (o : Option c.Control) → option_map held (option_map (inside (Some u) (Some x) l fs from) o) ≡ option_map held (option_map (reading_state u x l fs from st) (option_map part o))
+      mapped None = refl
+      mapped (Some d) = refl
+  reads u x st (part (c.at p (g ∷ gs))) k s r a e f = in_block (Some u) (Some x) p g gs k s r ∙ mapped (c.step (c.at p (g ∷ gs)) k)
+    where
+      mapped : (o : Option c.Control) → option_map held (option_map (inside (Some u) (Some x) l fs from) o) ≡ option_map held (option_map (reading_state u x l fs from st) (option_map part o))
+      mapped None = refl
+      mapped (Some d) = refl
+
+  pub reads_on : (u : Under) (x : Kept) (st : State) (d e : Reading) (k : Token) (s r : Text) → is_reading d ≡ true → is_over k d ≡ false → Begun d → Some e ≡ next k d
+      → option_map held (step whole (reading_state u x l fs from st d) k s r) ≡ Some (held (reading_state u x l fs from st e))
+  reads_on u x st d e k s r a b f g = reads u x st d k s r a b f ∙ ap (λ (o : Option Reading). option_map held (option_map (reading_state u x l fs from st) o)) (sym g)
+
+  pub refuses : (u : Under) (x : Kept) (st : State) (d : Reading) (k : Token) (s r : Text) → is_reading d ≡ true → is_over k d ≡ false → Begun d → None ≡ next k d
+      → step whole (reading_state u x l fs from st d) k s r ≡ None
+  refuses u x st d k s r a b f g = not_reached (step whole (reading_state u x l fs from st d) k s r) (reads u x st d k s r a b f ∙ ap (λ (o : Option Reading). option_map held (option_map (reading_state u x l fs from st) o)) (sym g))
+
+-- a part of a node has begun after its `/-`
+pub begun : (d : Dropped) → Begun (reading_view d)
+begun Nothing = tt
+begun (DroppedNode d) = tt
+begun (DroppedPart p) = p.begun
+
+-- in an inner block the text may not end, and no node
+inner_ends : (p : c.Phase) (g : c.Frame) (gs : List c.Frame) → c.finish (c.at p (g ∷ gs)) ≡ false
+inner_ends c.gap g gs = refl
+inner_ends c.kept g gs = refl
+inner_ends (c.in_node p) g gs = refl
+inner_ends p g gs = refl
+
+inner_gap : (p : c.Phase) (g : c.Frame) (gs : List c.Frame) → c.is_gap (c.at p (g ∷ gs)) ≡ false
+inner_gap c.gap g gs = refl
+inner_gap p g gs = refl
+
+over_in : (p : c.Phase) (g : c.Frame) (gs : List c.Frame) (k : Token) → is_node_over k (c.at p (g ∷ gs)) ≡ false
+over_in p g gs closing = inner_ends p g gs
+over_in p g gs k = inner_gap p g gs
+
+gap_at : (p : c.Phase) → c.finish (c.at p []) ≡ false → c.is_gap (c.at p []) ≡ false
+gap_at c.gap e = absurd cc
+gap_at p e = refl
+
+over_at : (p : c.Phase) (k : Token) → (c.finish (c.at p []) ≡ false) → is_node_over k (c.at p []) ≡ false
+over_at p closing e = e
+over_at p k e = gap_at p e
+
+-- after what is slashdashed the machine goes on as outside of it
+pub node_over : (whole : Text) (l : Option Nodes) (fs : List Frame) (from : Text) (d : c.Control) (k : Token) (s r : Text) → is_node_over k d ≡ true → step whole (inside None None l fs from d) k s r ≡ step whole (at gap l fs from) k s r
+node_over whole l fs from (c.at c.gap []) k s r e = refl
+node_over whole l fs from (c.at c.kept []) closing s r e = refl
+node_over whole l fs from (c.at c.kept []) k s r e = absurd cc
+node_over whole l fs from (c.at (c.in_node (c.fresh b)) []) closing s r e = refl
+node_over whole l fs from (c.at (c.in_node (c.spaced b)) []) closing s r e = refl
+node_over whole l fs from (c.at (c.in_node c.later) []) closing s r e = refl
+node_over whole l fs from (c.at (c.in_node p) []) k s r e = absurd cc
+node_over whole l fs from (c.at p []) k s r e = let f = over_at p k refl in absurd cc
+node_over whole l fs from (c.at p (g ∷ gs)) k s r e = let f = over_in p g gs k in absurd cc
+
+-- the end of the text
+pub node_ends : (whole : Text) (l : Option Nodes) (fs : List Frame) (from : Text) (d : c.Control) → c.finish d ≡ true → finish whole (inside None None l fs from d) ≡ finish whole (at gap l fs from)
+node_ends whole l fs from (c.at c.gap []) e = refl
+node_ends whole l fs from (c.at c.kept []) e = refl
+node_ends whole l fs from (c.at (c.in_node p) []) e = refl
+node_ends whole l fs from (c.at p []) e = absurd cc
+node_ends whole l fs from (c.at p (g ∷ gs)) e = let f = inner_ends p g gs in absurd cc
+
+open_frames : (whole : Text) (u : Option Under) (x : Option Kept) (l m : Option Nodes) (fs : List Frame) (from : Text) (g : c.Frame) (gs : List c.Frame) → at_end whole m (frames u x l fs (g ∷ gs)) from ≡ None
+open_frames whole u x l m fs from g [] = refl
+open_frames whole u x l m fs from g (h ∷ gs) = refl
+
+pub unfinished : (whole : Text) (u : Option Under) (x : Option Kept) (l : Option Nodes) (fs : List Frame) (from : Text) (d : c.Control) → c.finish d ≡ false → finish whole (inside u x l fs from d) ≡ None
+unfinished whole u x l fs from (c.at c.gap []) e = absurd cc
+unfinished whole u x l fs from (c.at c.kept []) e = absurd cc
+unfinished whole u x l fs from (c.at (c.in_node p) []) e = absurd cc
+unfinished whole u x l fs from (c.at p []) e = refl
+unfinished whole u x l fs from (c.at c.gap (g ∷ gs)) e = open_frames whole u x l None fs from g gs
+unfinished whole u x l fs from (c.at c.kept (g ∷ gs)) e = open_frames whole u x l None fs from g gs
+unfinished whole u x l fs from (c.at (c.in_node p) (g ∷ gs)) e = open_frames whole u x l None fs from g gs
+unfinished whole u x l fs from (c.at p (g ∷ gs)) e = refl
+
+-- what goes on is slashdashed, so nothing of it is sliced
+none_next : (o : Option c.Control) (f : c.Control → Reading) → ((d : c.Control) → f d ≡ nothing → ⊥) → Some nothing ≡ option_map f o → ⊥
+none_next None f h e = absurd cc
+none_next (Some d) f h e = h d (cc)
+
+pub still_dropped : (d : Reading) (e : Dropped) (k : Token) (p : Phase) (n m : ℕ) → Some (reading_view e) ≡ next k d → unsliced_at e p n m ≡ n
+still_dropped d (DroppedNode c) k p n m e = refl
+still_dropped d (DroppedPart c) k p n m e = refl
+still_dropped nothing Nothing k p n m e = absurd cc
+still_dropped (node d) Nothing k p n m e = absurd (none_next (c.step d k) node (λ x y. cc) e)
+still_dropped (part d) Nothing k p n m e = absurd (none_next (c.step d k) part (λ x y. cc) e)
+
+-- after a slashdashed part of a node, the phase is that of the control
+part_goes : {N : Type 0} (tree : N → Node) (b : Builder N) (u : Under') (p : Phase) (gs : List c.Frame) → c.finish (c.at (phase_view p) gs) ≡ true → under_view u ≡ node_now b
+    → inside (Some (node_now b)) (Some (kept_now tree b)) (nodes_now tree b) (frames_view tree b) b.from.rest (c.at (phase_view p) gs)
+    ≡ in_phase tree b (phase_now tree (record b { dropped = Nothing; under = u; waiting = None; phase = p }) p)
+part_goes tree b u Gap [] e f = refl
+part_goes tree b u (InNode (Fresh NoKey)) [] e f = ap (λ (z : Under). at (in_node (Some z) (fresh None)) (nodes_now tree b) (frames_view tree b) b.from.rest) (sym f)
+part_goes tree b u (InNode (Fresh MayBeKey)) [] e f = ap (λ (z : Under). at (in_node (Some z) (fresh (Some (pending (no_value (Some z)) (plain_identifier []) [])))) (nodes_now tree b) (frames_view tree b) b.from.rest) (sym f)
+part_goes tree b u (InNode (Spaced NoKey)) [] e f = ap (λ (z : Under). at (in_node (Some z) (spaced None)) (nodes_now tree b) (frames_view tree b) b.from.rest) (sym f)
+part_goes tree b u (InNode (Spaced MayBeKey)) [] e f = ap (λ (z : Under). at (in_node (Some z) (spaced (Some (pending (no_value (Some z)) (plain_identifier []) [])))) (nodes_now tree b) (frames_view tree b) b.from.rest) (sym f)
+part_goes tree b u (InNode Later) [] e f = ap (λ (z : Under). at (in_node (Some z) later) (nodes_now tree b) (frames_view tree b) b.from.rest) (sym f)
+part_goes tree b u KeptPhase [] e f = ap (λ (z : Under). at (kept (Some (record { under = z; before = text_of b.before; block = document_by tree b.block }))) (nodes_now tree b) (frames_view tree b) b.from.rest) (sym f)
+part_goes tree b u p [] e f = absurd cc
+part_goes tree b u p (g ∷ gs) e f = let h = inner_ends (phase_view p) g gs in absurd cc
