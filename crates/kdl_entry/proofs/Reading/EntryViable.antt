@@ -12,11 +12,11 @@ use Rattle.kdl_lexer.specs.Pieces.{bare}
 use Rattle.kdl_lexer.proofs.Lexing.TokenUnique.{is_end, end_behind}
 use Rattle.kdl_lexer.proofs.Moving.StringMoves.{value_end_no_quote}
 use Rattle.kdl_control.specs.Control as control
-use Rattle.kdl_control.specs.Control.{fresh, spaced, gap, node_slashdash, type_open, type_name, type_done, in_node, property, entry_slashdash, at, without_block}
+use Rattle.kdl_control.specs.Control.{fresh, spaced, gap, node_slashdash, type_open, type_name, type_done, in_node, property, entry_slashdash}
 use Rattle.kdl_entry.specs.EarliestEntry.{DerivedEntry}
 use Rattle.kdl_entry.specs.Entries.{IsEntryText}
 use Rattle.kdl_entry.specs.Internal.EntryControl.{Phase, ahead, dropping, under, word, done, if_valued, item_turn, turn, EntryReaches}
-use Rattle.kdl_entry.specs.Internal.EntryMachine.{in_dropped, if_dropped, dropped_phase, dropped_turn}
+use Rattle.kdl_entry.specs.Internal.EntryMachine.{dropped_turn}
 use Rattle.kdl_entry.specs.Internal.Going.{GoesBy, here, goes}
 use Rattle.kdl_entry.specs.Internal.Items.{Stage, opened, named, closed, keyed}
 use Rattle.kdl_entry.proofs.Moving.TokenMoves.{Fits}
@@ -88,6 +88,17 @@ done_accepted b = takes (a_word one_more no_space) refl (fresh_accepted false)
 name_accepted : (b : Bool) → Accepts (dropping (type_name b)) (41 ∷ 97 ∷ one_more)
 name_accepted b = takes t_right refl (done_accepted b)
 
+-- the phases from a slashdash on
+abbrev in_dropped : control.Phase → Bool
+in_dropped entry_slashdash = true
+in_dropped (type_open b) = true
+in_dropped (type_name b) = true
+in_dropped (type_done b) = true
+in_dropped property = true
+in_dropped (in_node (fresh b)) = true
+in_dropped (in_node (spaced b)) = true
+in_dropped _ = false
+
 dropped_accepted : (p : control.Phase) → in_dropped p ≡ true → Accepts (dropping p) (dropped_text p)
 dropped_accepted entry_slashdash h = takes (a_word one_more no_space) refl (fresh_accepted true)
 dropped_accepted (type_open b) h = takes (a_word (41 ∷ 97 ∷ one_more) no_right) refl (name_accepted b)
@@ -106,17 +117,35 @@ Placed _ = Unit {0}
 to_placed : (c d : Phase) → Some c ≡ Some d → Placed c → Placed d
 to_placed c d e h = let q : c ≡ d = cc in subst (λ (z : Phase). Placed z) q h
 
-filtered : (b : Bool) (p q : control.Phase) → b ≡ in_dropped p → if_dropped b p ≡ Some q → in_dropped q ≡ true
-filtered true p q h e = let x : p ≡ q = cc in subst (λ (z : control.Phase). in_dropped z ≡ true) x (sym h)
-filtered false p q h e = absurd cc
+to_phase : (p q : control.Phase) → Some p ≡ Some q → in_dropped p ≡ true → in_dropped q ≡ true
+to_phase p q e h = let x : p ≡ q = cc in subst (λ (z : control.Phase). in_dropped z ≡ true) x h
 
-one_of : (o : Option control.Phase) (q : control.Phase) → dropped_phase o ≡ Some q → in_dropped q ≡ true
-one_of None q e = absurd cc
-one_of (Some p) q e = filtered (in_dropped p) p q refl e
-
-dropped_goes : (p : control.Phase) (k : Token) (q : control.Phase) → dropped_turn p k ≡ Some q → in_dropped q ≡ true
-dropped_goes (in_node (fresh b)) slashdash q e = absurd cc
-dropped_goes p k q e = one_of (without_block (control.step (at p []) k)) q e
+dropped_goes : (p : control.Phase) (k : Token) (q : control.Phase) → in_dropped p ≡ true → dropped_turn p k ≡ Some q → in_dropped q ≡ true
+dropped_goes entry_slashdash space q h e = to_phase _ q e refl
+dropped_goes entry_slashdash newline q h e = to_phase _ q e refl
+dropped_goes entry_slashdash (string v) q h e = to_phase _ q e refl
+dropped_goes entry_slashdash (value v) q h e = to_phase _ q e refl
+dropped_goes entry_slashdash left q h e = to_phase _ q e refl
+dropped_goes (type_open b) space q h e = to_phase _ q e refl
+dropped_goes (type_open b) (string v) q h e = to_phase _ q e refl
+dropped_goes (type_name b) space q h e = to_phase _ q e refl
+dropped_goes (type_name b) right q h e = to_phase _ q e refl
+dropped_goes (type_done b) space q h e = to_phase _ q e refl
+dropped_goes (type_done b) (string v) q h e = to_phase _ q e refl
+dropped_goes (type_done true) (value v) q h e = to_phase _ q e refl
+dropped_goes property space q h e = to_phase _ q e refl
+dropped_goes property (string v) q h e = to_phase _ q e refl
+dropped_goes property (value v) q h e = to_phase _ q e refl
+dropped_goes property left q h e = to_phase _ q e refl
+dropped_goes (in_node (fresh b)) space q h e = to_phase _ q e refl
+dropped_goes (in_node (fresh true)) equals q h e = to_phase _ q e refl
+dropped_goes (in_node (spaced b)) space q h e = to_phase _ q e refl
+dropped_goes (in_node (spaced b)) slashdash q h e = to_phase _ q e refl
+dropped_goes (in_node (spaced true)) equals q h e = to_phase _ q e refl
+dropped_goes (in_node (spaced b)) (string v) q h e = to_phase _ q e refl
+dropped_goes (in_node (spaced b)) (value v) q h e = to_phase _ q e refl
+dropped_goes (in_node (spaced b)) left q h e = to_phase _ q e refl
+dropped_goes _ _ q h e = absurd cc
 
 dropped_placed : (o : Option control.Phase) (d : Phase) → ((q : control.Phase) → o ≡ Some q → in_dropped q ≡ true) → option_map dropping o ≡ Some d → Placed d
 dropped_placed None d h e = absurd cc
@@ -136,24 +165,24 @@ item_placed valued keyed (value v) d e = to_placed done d e tt
 item_placed valued keyed left d e = to_placed (under true opened) d e tt
 item_placed _ _ _ d e = absurd cc
 
-turn_placed : (c : Phase) (k : Token) (d : Phase) → turn c k ≡ Some d → Placed d
-turn_placed ahead space d e = to_placed ahead d e tt
-turn_placed ahead newline d e = to_placed ahead d e tt
-turn_placed ahead slashdash d e = to_placed (dropping entry_slashdash) d e refl
-turn_placed ahead (string v) d e = to_placed word d e tt
-turn_placed ahead (value v) d e = to_placed done d e tt
-turn_placed ahead left d e = to_placed (under true opened) d e tt
-turn_placed (dropping (in_node (spaced b))) (string v) d e = to_placed word d e tt
-turn_placed (dropping (in_node (spaced b))) (value v) d e = to_placed done d e tt
-turn_placed (dropping (in_node (spaced b))) left d e = to_placed (under true opened) d e tt
-turn_placed (dropping p) k d e = dropped_placed (dropped_turn p k) d (dropped_goes p k) e
-turn_placed (under valued g) k d e = item_placed valued g k d e
-turn_placed word space d e = to_placed word d e tt
-turn_placed word newline d e = to_placed done d e tt
-turn_placed word equals d e = to_placed (under true keyed) d e tt
-turn_placed done space d e = to_placed done d e tt
-turn_placed done newline d e = to_placed done d e tt
-turn_placed _ _ d e = absurd cc
+turn_placed : (c : Phase) (k : Token) (d : Phase) → Placed c → turn c k ≡ Some d → Placed d
+turn_placed ahead space d h e = to_placed ahead d e tt
+turn_placed ahead newline d h e = to_placed ahead d e tt
+turn_placed ahead slashdash d h e = to_placed (dropping entry_slashdash) d e refl
+turn_placed ahead (string v) d h e = to_placed word d e tt
+turn_placed ahead (value v) d h e = to_placed done d e tt
+turn_placed ahead left d h e = to_placed (under true opened) d e tt
+turn_placed (dropping (in_node (spaced b))) (string v) d h e = to_placed word d e tt
+turn_placed (dropping (in_node (spaced b))) (value v) d h e = to_placed done d e tt
+turn_placed (dropping (in_node (spaced b))) left d h e = to_placed (under true opened) d e tt
+turn_placed (dropping p) k d h e = dropped_placed (dropped_turn p k) d (λ q x. dropped_goes p k q h x) e
+turn_placed (under valued g) k d h e = item_placed valued g k d e
+turn_placed word space d h e = to_placed word d e tt
+turn_placed word newline d h e = to_placed done d e tt
+turn_placed word equals d h e = to_placed (under true keyed) d e tt
+turn_placed done space d h e = to_placed done d e tt
+turn_placed done newline d h e = to_placed done d e tt
+turn_placed _ _ d h e = absurd cc
 
 -- from each phase its text is accepted
 rest_accepted : (c : Phase) → Placed c → Accepts c (rest_text c)
@@ -291,7 +320,7 @@ fits_rest c bom d e = tt
 
 placed : {c d : Phase} {s r : Text} → Placed c → GoesBy turn c s d r → Placed d
 placed h here = h
-placed h (goes {c = c} {c' = c'} {k = k} b e g) = placed (turn_placed c k c' e) g
+placed h (goes {c = c} {c' = c'} {k = k} b e g) = placed (turn_placed c k c' h e) g
 
 -- what it goes over begins a derived text
 pub entry_alive : (p r : Text) (c : Phase) → EntryReaches (p ++ r) c r → BeginsSome DerivedEntry p
