@@ -14,7 +14,6 @@ use Rattle.kdl_entry.specs.EarliestEntry.{DerivedEntry}
 use Rattle.kdl_entry.specs.Internal.EntryControl.{Phase, ahead, dropping, under, word, done, turn, EntryReaches, EntryStuck}
 use Rattle.kdl_entry.specs.Internal.EntryReading.{EndsIn}
 use Rattle.kdl_entry.specs.Internal.Going.{GoesBy, here, goes}
-use Rattle.kdl_entry.specs.Internal.Items.{opened, named, closed, keyed}
 use Rattle.kdl_entry.proofs.Reading.EntryRefusing.{entry_dead}
 use Rattle.kdl_entry.proofs.Reading.EntryViable.{entry_alive}
 
@@ -26,10 +25,8 @@ again : (c d : Phase) → turn c space ≡ Some d → turn d space ≡ Some d
 again ahead d e = to_same ahead d e refl
 again (dropping (in_node (fresh b))) d e = to_same (dropping (in_node (spaced b))) d e refl
 again (dropping p) d e = to_same (dropping p) d e refl
-again (under valued opened) d e = to_same (under valued opened) d e refl
-again (under valued named) d e = to_same (under valued named) d e refl
-again (under valued closed) d e = to_same (under valued closed) d e refl
-again (under valued keyed) d e = to_same (under valued keyed) d e refl
+again (under (in_node q)) d e = to_same done d e refl
+again (under p) d e = to_same (under p) d e refl
 again word d e = to_same word d e refl
 again done d e = to_same done d e refl
 

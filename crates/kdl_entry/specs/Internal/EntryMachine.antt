@@ -1,6 +1,6 @@
 -- The machine that reads a text that is one entry: it reads the tokens once. The token k is in the text s before r, in the text `whole`.
 -- The start of a place is kept as the text from there on. Of a slashdashed entry only the phase of the control grammar is kept.
-use Rattle.std.specs.Prelude.{◌≡◌, Bool, true, false, [], Option, Some, None, option_map}
+use Rattle.std.specs.Prelude.{◌≡◌, true, [], Option, Some, None, option_map}
 use Rattle.kdl_control.specs.Control as control
 use Rattle.kdl_control.specs.Control.{Phase, fresh, spaced, in_node, entry_slashdash, at, without_block}
 use Rattle.kdl_text.specs.Chars.{Text}
