@@ -5,9 +5,9 @@ use Rattle.kdl_value.specs.Data.{Value}
 use Rattle.kdl_lexer.specs.Tokens.{Token, space, string, value, left, BeginsToken}
 use Rattle.kdl_lexer.proofs.Lexing.TokenUnique.{token_det, no_token}
 use Rattle.kdl_control.specs.Control as control
-use Rattle.kdl_control.specs.Control.{spaced, in_node}
+use Rattle.kdl_control.specs.Control.{spaced, type_done, in_node}
 use Rattle.kdl_entry.specs.EarliestEntry.{DerivedEntry}
-use Rattle.kdl_entry.specs.Internal.EntryControl.{Phase, ahead, dropping, under, phase_of, if_valued, item_turn, turn, finish}
+use Rattle.kdl_entry.specs.Internal.EntryControl.{Phase, ahead, dropping, under, item_phase, phase_of, turn, finish}
 use Rattle.kdl_entry.specs.Internal.EntryMachine as machine
 use Rattle.kdl_entry.specs.Internal.EntryMachine.{State, came, dropped_turn, step, Runs, stops, reads}
 use Rattle.kdl_entry.specs.Internal.Going.{GoesBy, here, goes}
@@ -17,19 +17,19 @@ use Rattle.kdl_entry.specs.Tree.{Entry}
 use Rattle.kdl_entry.proofs.Reading.EntryComplete.{built}
 use Rattle.kdl_entry.proofs.Reading.EntrySound.{derived}
 
-valued_phase : (b : Bool) (it : Item) (k : Option KeyParts) (y : Option TypeParts) (v : Value) (s r : Text) → option_map phase_of (came it (items.if_valued b (items.gives k y v)) s r) ≡ if_valued b
-valued_phase true it k y v s r = refl
-valued_phase false it k y v s r = refl
+valued_phase : (b : Bool) (it : Item) (k : Option KeyParts) (y : Option TypeParts) (v w : Value) (s r : Text) → option_map phase_of (came it (items.if_valued b (items.gives k y v)) s r) ≡ turn (under (type_done b)) (value w)
+valued_phase true it k y v w s r = refl
+valued_phase false it k y v w s r = refl
 
-same_item : (whole : Text) (it : Item) (g : Stage) (k : Token) (s r : Text) → it.stage ≡ g → option_map phase_of (came it (items.move g whole it k s r) s r) ≡ item_turn it.valued g k
-same_item whole it opened space s r q = ap (λ (z : Stage). Some (under it.valued z)) q
+same_item : (whole : Text) (it : Item) (g : Stage) (k : Token) (s r : Text) → it.stage ≡ g → option_map phase_of (came it (items.move g whole it k s r) s r) ≡ turn (under (item_phase g it.valued)) k
+same_item whole it opened space s r q = ap (λ (z : Stage). Some (under (item_phase z it.valued))) q
 same_item whole it opened _ s r q = refl
-same_item whole it named space s r q = ap (λ (z : Stage). Some (under it.valued z)) q
+same_item whole it named space s r q = ap (λ (z : Stage). Some (under (item_phase z it.valued))) q
 same_item whole it named _ s r q = refl
-same_item whole it closed space s r q = ap (λ (z : Stage). Some (under it.valued z)) q
-same_item whole it closed (value v) s r q = valued_phase it.valued it _ _ v s r
+same_item whole it closed space s r q = ap (λ (z : Stage). Some (under (item_phase z it.valued))) q
+same_item whole it closed (value v) s r q = valued_phase it.valued it _ _ v v s r
 same_item whole it closed _ s r q = refl
-same_item whole it keyed space s r q = ap (λ (z : Stage). Some (under it.valued z)) q
+same_item whole it keyed space s r q = ap (λ (z : Stage). Some (under (item_phase z it.valued))) q
 same_item whole it keyed _ s r q = refl
 
 same_phase : (o : Option control.Phase) → option_map phase_of (option_map machine.dropping o) ≡ option_map dropping o

@@ -8,7 +8,7 @@ use Rattle.kdl_text.specs.Spans.{InText, bytes}
 use Rattle.kdl_text.specs.Trivia.{NodeSpace}
 use Rattle.kdl_text.specs.declared.span.SourceSpan.{SourceSpan}
 use Rattle.kdl_text.proofs.Looking.MovesJoin.{bytes-append}
-use Rattle.kdl_control.specs.Control.{Phase, fresh, spaced, type_open, type_name, type_done, in_node, property, entry_slashdash}
+use Rattle.kdl_control.specs.Control.{Phase, fresh, spaced, in_node, entry_slashdash}
 use Rattle.kdl_entry.specs.Internal.Building.{Stays}
 use Rattle.kdl_entry.specs.EarliestEntry.{DerivedEntry}
 use Rattle.kdl_entry.specs.Internal.EntryControl.{phase_of, EntryReaches, EntryStuck}
@@ -52,14 +52,8 @@ module _ (whole : Text) where
   to_same x st' t q e f = let y : x ≡ st' = cc in subst (λ (z : State). step whole z space t q ≡ Some z) y f
 
   again_dropped : (p : Phase) (st' : State) (s r t q : Text) → step whole (dropping p) space s r ≡ Some st' → step whole st' space t q ≡ Some st'
-  again_dropped entry_slashdash st' s r t q e = to_same (dropping entry_slashdash) st' t q e refl
-  again_dropped (type_open b) st' s r t q e = to_same (dropping (type_open b)) st' t q e refl
-  again_dropped (type_name b) st' s r t q e = to_same (dropping (type_name b)) st' t q e refl
-  again_dropped (type_done b) st' s r t q e = to_same (dropping (type_done b)) st' t q e refl
-  again_dropped property st' s r t q e = to_same (dropping property) st' t q e refl
   again_dropped (in_node (fresh b)) st' s r t q e = to_same (dropping (in_node (spaced b))) st' t q e refl
-  again_dropped (in_node (spaced b)) st' s r t q e = to_same (dropping (in_node (spaced b))) st' t q e refl
-  again_dropped _ st' s r t q e = absurd cc
+  again_dropped p st' s r t q e = to_same (dropping p) st' t q e refl
 
   -- and a space more changes nothing
   again : (st st' : State) (s r t q : Text) → step whole st space s r ≡ Some st' → step whole st' space t q ≡ Some st'

@@ -9,12 +9,11 @@ use Rattle.kdl_lexer.specs.Earliest.{BeginsNone, BeginsNoOther, IsCut, up_to_her
 use Rattle.kdl_lexer.specs.Internal.Handed.{Cuts, one, spaces}
 use Rattle.kdl_lexer.specs.Tokens.{Token, space, t_space, NoToken}
 use Rattle.kdl_lexer.proofs.Lexing.TokenUnique.{no_token}
-use Rattle.kdl_control.specs.Control.{fresh, spaced, type_open, type_name, type_done, in_node, property, entry_slashdash}
+use Rattle.kdl_control.specs.Control.{fresh, spaced, in_node}
 use Rattle.kdl_entry.specs.EarliestEntry.{DerivedEntry}
 use Rattle.kdl_entry.specs.Internal.EntryControl.{Phase, ahead, dropping, under, word, done, turn, EntryReaches, EntryStuck}
 use Rattle.kdl_entry.specs.Internal.EntryReading.{EndsIn}
 use Rattle.kdl_entry.specs.Internal.Going.{GoesBy, here, goes}
-use Rattle.kdl_entry.specs.Internal.Items.{opened, named, closed, keyed}
 use Rattle.kdl_entry.proofs.Reading.EntryRefusing.{entry_dead}
 use Rattle.kdl_entry.proofs.Reading.EntryViable.{entry_alive}
 
@@ -24,18 +23,10 @@ to_same c d e f = let q : c ≡ d = cc in subst (λ (z : Phase). turn z space �
 
 again : (c d : Phase) → turn c space ≡ Some d → turn d space ≡ Some d
 again ahead d e = to_same ahead d e refl
-again (dropping entry_slashdash) d e = to_same (dropping entry_slashdash) d e refl
-again (dropping (type_open b)) d e = to_same (dropping (type_open b)) d e refl
-again (dropping (type_name b)) d e = to_same (dropping (type_name b)) d e refl
-again (dropping (type_done b)) d e = to_same (dropping (type_done b)) d e refl
-again (dropping property) d e = to_same (dropping property) d e refl
 again (dropping (in_node (fresh b))) d e = to_same (dropping (in_node (spaced b))) d e refl
-again (dropping (in_node (spaced b))) d e = to_same (dropping (in_node (spaced b))) d e refl
-again (dropping _) d e = absurd cc
-again (under valued opened) d e = to_same (under valued opened) d e refl
-again (under valued named) d e = to_same (under valued named) d e refl
-again (under valued closed) d e = to_same (under valued closed) d e refl
-again (under valued keyed) d e = to_same (under valued keyed) d e refl
+again (dropping p) d e = to_same (dropping p) d e refl
+again (under (in_node q)) d e = to_same done d e refl
+again (under p) d e = to_same (under p) d e refl
 again word d e = to_same word d e refl
 again done d e = to_same done d e refl
 

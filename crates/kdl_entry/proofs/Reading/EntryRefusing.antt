@@ -1,5 +1,5 @@
 -- After a token that the machine of entry texts without data refuses no entry text goes on.
-use Rattle.std.proofs.Common.{◌≡◌, ◌≢◌, true, false, [], ◌∷◌, ◌++◌, take, None, refl, sym, ap, subst, ◌∙◌, append_assoc}
+use Rattle.std.proofs.Common.{◌≡◌, ◌≢◌, true, [], ◌∷◌, ◌++◌, take, Option, Some, None, option_map, refl, sym, ap, subst, ◌∙◌, append_assoc}
 use Rattle.std.proofs.lemmas.List.{append_cancel_right}
 use Rattle.kdl_text.specs.Chars.{Text}
 use Rattle.kdl_text.specs.Internal.Here.{first}
@@ -8,61 +8,72 @@ use Rattle.kdl_lexer.specs.Earliest.{BeginsNoOther}
 use Rattle.kdl_lexer.specs.Tokens.{Token, space, newline, slashdash, string, value, left, right, opening, closing, equals, semicolon, bom, BeginsToken}
 use Rattle.kdl_lexer.proofs.Lexing.TokenFronts.{RefusedWith, refused_with}
 use Rattle.kdl_lexer.proofs.Lexing.TokenUnique.{no_token}
-use Rattle.kdl_control.specs.Control.{spaced, gap, node_slashdash, type_open, type_done, in_node, property, entry_slashdash}
+use Rattle.kdl_control.specs.Control as control
+use Rattle.kdl_control.specs.Control.{spaced, gap, node_slashdash, type_open, type_done, in_node, property, entry_slashdash, at, without_block}
 use Rattle.kdl_entry.specs.EarliestEntry.{DerivedEntry}
-use Rattle.kdl_entry.specs.Internal.EntryControl.{Phase, ahead, dropping, under, word, done, turn, EntryReaches}
-use Rattle.kdl_entry.specs.Internal.Items.{opened, named, closed, keyed}
+use Rattle.kdl_entry.specs.Internal.EntryControl.{Phase, ahead, dropping, under, word, done, under_phase, turn, EntryReaches}
 use Rattle.kdl_entry.proofs.Reading.EntryErased.{Accepts, ends, takes, derived_accepts, follow}
 use Rattle.kdl_entry.proofs.Reading.Going.{near_goes}
 
--- where a string is refused, so is each other one, and each number and keyword
+-- where the control refuses a string, it refuses each other one, and each number and keyword
+string_refused : (p : control.Phase) (v : Text) (w : Text) → without_block (control.step (at p []) (string v)) ≡ None → without_block (control.step (at p []) (string w)) ≡ None
+string_refused gap v w e = absurd cc
+string_refused node_slashdash v w e = absurd cc
+string_refused (type_open b) v w e = absurd cc
+string_refused (type_done b) v w e = absurd cc
+string_refused property v w e = absurd cc
+string_refused entry_slashdash v w e = absurd cc
+string_refused (in_node (spaced b)) v w e = absurd cc
+string_refused _ v w e = refl
+
+value_refused : (p : control.Phase) (v : Text) (w : Value) → without_block (control.step (at p []) (string v)) ≡ None → without_block (control.step (at p []) (value w)) ≡ None
+value_refused gap v w e = absurd cc
+value_refused node_slashdash v w e = absurd cc
+value_refused (type_open b) v w e = absurd cc
+value_refused (type_done b) v w e = absurd cc
+value_refused property v w e = absurd cc
+value_refused entry_slashdash v w e = absurd cc
+value_refused (in_node (spaced b)) v w e = absurd cc
+value_refused _ v w e = refl
+
+other_refused : (p : control.Phase) (v : Value) (w : Value) → without_block (control.step (at p []) (value v)) ≡ None → without_block (control.step (at p []) (value w)) ≡ None
+other_refused (type_done true) v w e = absurd cc
+other_refused property v w e = absurd cc
+other_refused entry_slashdash v w e = absurd cc
+other_refused (in_node (spaced b)) v w e = absurd cc
+other_refused _ v w e = refl
+
+not_under : (o : Option control.Phase) → under_phase o ≡ None → o ≡ None
+not_under None e = refl
+not_under (Some (in_node p)) e = absurd cc
+not_under (Some p) e = absurd cc
+
+not_dropping : (o : Option control.Phase) → option_map dropping o ≡ None → o ≡ None
+not_dropping None e = refl
+not_dropping (Some p) e = absurd cc
+
+-- and so does the machine of entry texts
 no_string : (c : Phase) (v : Text) (w : Text) → turn c (string v) ≡ None → turn c (string w) ≡ None
 no_string ahead v w e = absurd cc
-no_string (dropping gap) v w e = absurd cc
-no_string (dropping node_slashdash) v w e = absurd cc
-no_string (dropping (type_open b)) v w e = absurd cc
-no_string (dropping (type_done b)) v w e = absurd cc
-no_string (dropping property) v w e = absurd cc
-no_string (dropping entry_slashdash) v w e = absurd cc
 no_string (dropping (in_node (spaced b))) v w e = absurd cc
-no_string (dropping _) v w e = refl
-no_string (under valued opened) v w e = absurd cc
-no_string (under valued named) v w e = refl
-no_string (under valued closed) v w e = absurd cc
-no_string (under valued keyed) v w e = absurd cc
+no_string (dropping p) v w e = ap (option_map dropping) (string_refused p v w (not_dropping _ e))
+no_string (under p) v w e = ap under_phase (string_refused p v w (not_under _ e))
 no_string word v w e = refl
 no_string done v w e = refl
 
 no_value : (c : Phase) (v : Text) (w : Value) → turn c (string v) ≡ None → turn c (value w) ≡ None
 no_value ahead v w e = absurd cc
-no_value (dropping gap) v w e = absurd cc
-no_value (dropping node_slashdash) v w e = absurd cc
-no_value (dropping (type_open b)) v w e = absurd cc
-no_value (dropping (type_done b)) v w e = absurd cc
-no_value (dropping property) v w e = absurd cc
-no_value (dropping entry_slashdash) v w e = absurd cc
 no_value (dropping (in_node (spaced b))) v w e = absurd cc
-no_value (dropping _) v w e = refl
-no_value (under valued opened) v w e = absurd cc
-no_value (under valued named) v w e = refl
-no_value (under valued closed) v w e = absurd cc
-no_value (under valued keyed) v w e = absurd cc
+no_value (dropping p) v w e = ap (option_map dropping) (value_refused p v w (not_dropping _ e))
+no_value (under p) v w e = ap under_phase (value_refused p v w (not_under _ e))
 no_value word v w e = refl
 no_value done v w e = refl
 
 no_other : (c : Phase) (v : Value) (w : Value) → turn c (value v) ≡ None → turn c (value w) ≡ None
 no_other ahead v w e = absurd cc
-no_other (dropping (type_done true)) v w e = absurd cc
-no_other (dropping (type_done false)) v w e = refl
-no_other (dropping property) v w e = absurd cc
-no_other (dropping entry_slashdash) v w e = absurd cc
 no_other (dropping (in_node (spaced b))) v w e = absurd cc
-no_other (dropping _) v w e = refl
-no_other (under valued opened) v w e = refl
-no_other (under valued named) v w e = refl
-no_other (under true closed) v w e = absurd cc
-no_other (under false closed) v w e = refl
-no_other (under valued keyed) v w e = absurd cc
+no_other (dropping p) v w e = ap (option_map dropping) (other_refused p v w (not_dropping _ e))
+no_other (under p) v w e = ap under_phase (other_refused p v w (not_under _ e))
 no_other word v w e = refl
 no_other done v w e = refl
 

@@ -12,39 +12,32 @@ use Rattle.kdl_lexer.specs.Pieces.{bare}
 use Rattle.kdl_lexer.proofs.Lexing.TokenUnique.{is_end, end_behind}
 use Rattle.kdl_lexer.proofs.Moving.StringMoves.{value_end_no_quote}
 use Rattle.kdl_control.specs.Control as control
-use Rattle.kdl_control.specs.Control.{fresh, spaced, gap, node_slashdash, type_open, type_name, type_done, in_node, property, entry_slashdash, at, without_block}
+use Rattle.kdl_control.specs.Control.{fresh, spaced, gap, node_slashdash, type_open, type_name, type_done, in_node, property, entry_slashdash}
 use Rattle.kdl_entry.specs.EarliestEntry.{DerivedEntry}
 use Rattle.kdl_entry.specs.Entries.{IsEntryText}
-use Rattle.kdl_entry.specs.Internal.EntryControl.{Phase, ahead, dropping, under, word, done, if_valued, item_turn, turn, EntryReaches}
-use Rattle.kdl_entry.specs.Internal.EntryMachine.{in_dropped, if_dropped, dropped_phase, dropped_turn}
+use Rattle.kdl_entry.specs.Internal.EntryControl.{Phase, ahead, dropping, under, word, done, turn, EntryReaches}
+use Rattle.kdl_entry.specs.Internal.EntryMachine.{dropped_turn}
 use Rattle.kdl_entry.specs.Internal.Going.{GoesBy, here, goes}
-use Rattle.kdl_entry.specs.Internal.Items.{Stage, opened, named, closed, keyed}
 use Rattle.kdl_entry.proofs.Moving.TokenMoves.{Fits}
 use Rattle.kdl_entry.proofs.Reading.EntryErased.{Accepts, ends, takes, accepts_derived, behind}
 use Rattle.kdl_entry.proofs.Reading.Going.{carry}
 
 -- Texts that end an entry text: what is due, and after an entry that is slashdashed an entry.
-abbrev item_text : Stage → Text
-item_text opened = 97 ∷ 41 ∷ 97 ∷ []
-item_text named = 41 ∷ 97 ∷ []
-item_text closed = 97 ∷ []
-item_text keyed = 97 ∷ []
+abbrev due : control.Phase → Text → Text
+due (type_open b) u = 97 ∷ 41 ∷ 97 ∷ u
+due (type_name b) u = 41 ∷ 97 ∷ u
+due (in_node (fresh b)) u = u
+due (in_node (spaced b)) u = 97 ∷ []
+due _ u = 97 ∷ u
 
 -- an entry after spaces
 abbrev one_more : Text
 one_more = 32 ∷ 97 ∷ []
 
-abbrev dropped_text : control.Phase → Text
-dropped_text (type_open b) = 97 ∷ 41 ∷ 97 ∷ one_more
-dropped_text (type_name b) = 41 ∷ 97 ∷ one_more
-dropped_text (in_node (fresh b)) = one_more
-dropped_text (in_node (spaced b)) = 97 ∷ []
-dropped_text _ = 97 ∷ one_more
-
 abbrev rest_text : Phase → Text
 rest_text ahead = 97 ∷ []
-rest_text (dropping p) = dropped_text p
-rest_text (under valued g) = item_text g
+rest_text (dropping p) = due p one_more
+rest_text (under p) = due p []
 rest_text word = []
 rest_text done = []
 
@@ -67,14 +60,34 @@ a_space : (r : Text) → BeginsToken (32 ∷ r) space r
 unfolding Rattle.kdl_text.specs.Chars.is_space
 a_space r = t_space (NodeSpace.ws (Ws.space (Space.space refl)))
 
-value_accepted : (valued : Bool) → Accepts (under valued closed) (97 ∷ [])
-value_accepted valued = takes (a_word [] refl) refl (ends refl)
+-- the phases from a slashdash on
+abbrev in_dropped : control.Phase → Bool
+in_dropped entry_slashdash = true
+in_dropped (type_open b) = true
+in_dropped (type_name b) = true
+in_dropped (type_done b) = true
+in_dropped property = true
+in_dropped (in_node (fresh b)) = true
+in_dropped (in_node (spaced b)) = true
+in_dropped _ = false
 
-item_accepted : (valued : Bool) (g : Stage) → Accepts (under valued g) (item_text g)
-item_accepted valued opened = takes (a_word (41 ∷ 97 ∷ []) no_right) refl (takes t_right refl (value_accepted valued))
-item_accepted valued named = takes t_right refl (value_accepted valued)
-item_accepted valued closed = value_accepted valued
-item_accepted valued keyed = takes (a_word [] refl) refl (ends refl)
+-- the phases in an entry that has a type or a key
+abbrev in_item : control.Phase → Bool
+in_item (type_open b) = true
+in_item (type_name b) = true
+in_item (type_done b) = true
+in_item property = true
+in_item _ = false
+
+last_accepted : (b : Bool) → Accepts (under (type_done b)) (97 ∷ [])
+last_accepted b = takes (a_word [] refl) refl (ends refl)
+
+under_accepted : (p : control.Phase) → in_item p ≡ true → Accepts (under p) (due p [])
+under_accepted (type_open b) h = takes (a_word (41 ∷ 97 ∷ []) no_right) refl (takes t_right refl (last_accepted b))
+under_accepted (type_name b) h = takes t_right refl (last_accepted b)
+under_accepted (type_done b) h = last_accepted b
+under_accepted property h = takes (a_word [] refl) refl (ends refl)
+under_accepted _ h = absurd cc
 
 spaced_accepted : (b : Bool) → Accepts (dropping (in_node (spaced b))) (97 ∷ [])
 spaced_accepted b = takes (a_word [] refl) refl (ends refl)
@@ -88,7 +101,7 @@ done_accepted b = takes (a_word one_more no_space) refl (fresh_accepted false)
 name_accepted : (b : Bool) → Accepts (dropping (type_name b)) (41 ∷ 97 ∷ one_more)
 name_accepted b = takes t_right refl (done_accepted b)
 
-dropped_accepted : (p : control.Phase) → in_dropped p ≡ true → Accepts (dropping p) (dropped_text p)
+dropped_accepted : (p : control.Phase) → in_dropped p ≡ true → Accepts (dropping p) (due p one_more)
 dropped_accepted entry_slashdash h = takes (a_word one_more no_space) refl (fresh_accepted true)
 dropped_accepted (type_open b) h = takes (a_word (41 ∷ 97 ∷ one_more) no_right) refl (name_accepted b)
 dropped_accepted (type_name b) h = name_accepted b
@@ -98,68 +111,87 @@ dropped_accepted (in_node (fresh b)) h = fresh_accepted b
 dropped_accepted (in_node (spaced b)) h = spaced_accepted b
 dropped_accepted _ h = absurd cc
 
--- the machine is in such a phase only in or after a slashdashed entry
+-- the machine is in no other phases
 abbrev Placed : Phase → Type 0
 Placed (dropping p) = in_dropped p ≡ true
+Placed (under p) = in_item p ≡ true
 Placed _ = Unit {0}
 
 to_placed : (c d : Phase) → Some c ≡ Some d → Placed c → Placed d
 to_placed c d e h = let q : c ≡ d = cc in subst (λ (z : Phase). Placed z) q h
 
-filtered : (b : Bool) (p q : control.Phase) → b ≡ in_dropped p → if_dropped b p ≡ Some q → in_dropped q ≡ true
-filtered true p q h e = let x : p ≡ q = cc in subst (λ (z : control.Phase). in_dropped z ≡ true) x (sym h)
-filtered false p q h e = absurd cc
+to_phase : (p q : control.Phase) → Some p ≡ Some q → in_dropped p ≡ true → in_dropped q ≡ true
+to_phase p q e h = let x : p ≡ q = cc in subst (λ (z : control.Phase). in_dropped z ≡ true) x h
 
-one_of : (o : Option control.Phase) (q : control.Phase) → dropped_phase o ≡ Some q → in_dropped q ≡ true
-one_of None q e = absurd cc
-one_of (Some p) q e = filtered (in_dropped p) p q refl e
-
-dropped_goes : (p : control.Phase) (k : Token) (q : control.Phase) → dropped_turn p k ≡ Some q → in_dropped q ≡ true
-dropped_goes (in_node (fresh b)) slashdash q e = absurd cc
-dropped_goes p k q e = one_of (without_block (control.step (at p []) k)) q e
+dropped_goes : (p : control.Phase) (k : Token) (q : control.Phase) → in_dropped p ≡ true → dropped_turn p k ≡ Some q → in_dropped q ≡ true
+dropped_goes entry_slashdash space q h e = to_phase _ q e refl
+dropped_goes entry_slashdash newline q h e = to_phase _ q e refl
+dropped_goes entry_slashdash (string v) q h e = to_phase _ q e refl
+dropped_goes entry_slashdash (value v) q h e = to_phase _ q e refl
+dropped_goes entry_slashdash left q h e = to_phase _ q e refl
+dropped_goes (type_open b) space q h e = to_phase _ q e refl
+dropped_goes (type_open b) (string v) q h e = to_phase _ q e refl
+dropped_goes (type_name b) space q h e = to_phase _ q e refl
+dropped_goes (type_name b) right q h e = to_phase _ q e refl
+dropped_goes (type_done b) space q h e = to_phase _ q e refl
+dropped_goes (type_done b) (string v) q h e = to_phase _ q e refl
+dropped_goes (type_done true) (value v) q h e = to_phase _ q e refl
+dropped_goes property space q h e = to_phase _ q e refl
+dropped_goes property (string v) q h e = to_phase _ q e refl
+dropped_goes property (value v) q h e = to_phase _ q e refl
+dropped_goes property left q h e = to_phase _ q e refl
+dropped_goes (in_node (fresh b)) space q h e = to_phase _ q e refl
+dropped_goes (in_node (fresh true)) equals q h e = to_phase _ q e refl
+dropped_goes (in_node (spaced b)) space q h e = to_phase _ q e refl
+dropped_goes (in_node (spaced b)) slashdash q h e = to_phase _ q e refl
+dropped_goes (in_node (spaced true)) equals q h e = to_phase _ q e refl
+dropped_goes (in_node (spaced b)) (string v) q h e = to_phase _ q e refl
+dropped_goes (in_node (spaced b)) (value v) q h e = to_phase _ q e refl
+dropped_goes (in_node (spaced b)) left q h e = to_phase _ q e refl
+dropped_goes _ _ q h e = absurd cc
 
 dropped_placed : (o : Option control.Phase) (d : Phase) → ((q : control.Phase) → o ≡ Some q → in_dropped q ≡ true) → option_map dropping o ≡ Some d → Placed d
 dropped_placed None d h e = absurd cc
 dropped_placed (Some q) d h e = to_placed (dropping q) d e (h q refl)
 
-item_placed : (valued : Bool) (g : Stage) (k : Token) (d : Phase) → item_turn valued g k ≡ Some d → Placed d
-item_placed valued opened space d e = to_placed (under valued opened) d e tt
-item_placed valued opened (string v) d e = to_placed (under valued named) d e tt
-item_placed valued named space d e = to_placed (under valued named) d e tt
-item_placed valued named right d e = to_placed (under valued closed) d e tt
-item_placed valued closed space d e = to_placed (under valued closed) d e tt
-item_placed valued closed (string v) d e = to_placed done d e tt
-item_placed true closed (value v) d e = to_placed done d e tt
-item_placed valued keyed space d e = to_placed (under valued keyed) d e tt
-item_placed valued keyed (string v) d e = to_placed done d e tt
-item_placed valued keyed (value v) d e = to_placed done d e tt
-item_placed valued keyed left d e = to_placed (under true opened) d e tt
-item_placed _ _ _ d e = absurd cc
+under_placed : (p : control.Phase) (k : Token) (d : Phase) → in_item p ≡ true → turn (under p) k ≡ Some d → Placed d
+under_placed (type_open b) space d h e = to_placed (under (type_open b)) d e refl
+under_placed (type_open b) (string v) d h e = to_placed (under (type_name b)) d e refl
+under_placed (type_name b) space d h e = to_placed (under (type_name b)) d e refl
+under_placed (type_name b) right d h e = to_placed (under (type_done b)) d e refl
+under_placed (type_done b) space d h e = to_placed (under (type_done b)) d e refl
+under_placed (type_done b) (string v) d h e = to_placed done d e tt
+under_placed (type_done true) (value v) d h e = to_placed done d e tt
+under_placed property space d h e = to_placed (under property) d e refl
+under_placed property (string v) d h e = to_placed done d e tt
+under_placed property (value v) d h e = to_placed done d e tt
+under_placed property left d h e = to_placed (under (type_open true)) d e refl
+under_placed _ _ d h e = absurd cc
 
-turn_placed : (c : Phase) (k : Token) (d : Phase) → turn c k ≡ Some d → Placed d
-turn_placed ahead space d e = to_placed ahead d e tt
-turn_placed ahead newline d e = to_placed ahead d e tt
-turn_placed ahead slashdash d e = to_placed (dropping entry_slashdash) d e refl
-turn_placed ahead (string v) d e = to_placed word d e tt
-turn_placed ahead (value v) d e = to_placed done d e tt
-turn_placed ahead left d e = to_placed (under true opened) d e tt
-turn_placed (dropping (in_node (spaced b))) (string v) d e = to_placed word d e tt
-turn_placed (dropping (in_node (spaced b))) (value v) d e = to_placed done d e tt
-turn_placed (dropping (in_node (spaced b))) left d e = to_placed (under true opened) d e tt
-turn_placed (dropping p) k d e = dropped_placed (dropped_turn p k) d (dropped_goes p k) e
-turn_placed (under valued g) k d e = item_placed valued g k d e
-turn_placed word space d e = to_placed word d e tt
-turn_placed word newline d e = to_placed done d e tt
-turn_placed word equals d e = to_placed (under true keyed) d e tt
-turn_placed done space d e = to_placed done d e tt
-turn_placed done newline d e = to_placed done d e tt
-turn_placed _ _ d e = absurd cc
+turn_placed : (c : Phase) (k : Token) (d : Phase) → Placed c → turn c k ≡ Some d → Placed d
+turn_placed ahead space d h e = to_placed ahead d e tt
+turn_placed ahead newline d h e = to_placed ahead d e tt
+turn_placed ahead slashdash d h e = to_placed (dropping entry_slashdash) d e refl
+turn_placed ahead (string v) d h e = to_placed word d e tt
+turn_placed ahead (value v) d h e = to_placed done d e tt
+turn_placed ahead left d h e = to_placed (under (type_open true)) d e refl
+turn_placed (dropping (in_node (spaced b))) (string v) d h e = to_placed word d e tt
+turn_placed (dropping (in_node (spaced b))) (value v) d h e = to_placed done d e tt
+turn_placed (dropping (in_node (spaced b))) left d h e = to_placed (under (type_open true)) d e refl
+turn_placed (dropping p) k d h e = dropped_placed (dropped_turn p k) d (λ q x. dropped_goes p k q h x) e
+turn_placed (under p) k d h e = under_placed p k d h e
+turn_placed word space d h e = to_placed word d e tt
+turn_placed word newline d h e = to_placed done d e tt
+turn_placed word equals d h e = to_placed (under property) d e refl
+turn_placed done space d h e = to_placed done d e tt
+turn_placed done newline d h e = to_placed done d e tt
+turn_placed _ _ d h e = absurd cc
 
 -- from each phase its text is accepted
 rest_accepted : (c : Phase) → Placed c → Accepts c (rest_text c)
 rest_accepted ahead h = takes (a_word [] refl) refl (ends refl)
 rest_accepted (dropping p) h = dropped_accepted p h
-rest_accepted (under valued g) h = item_accepted valued g
+rest_accepted (under p) h = under_accepted p h
 rest_accepted word h = ends refl
 rest_accepted done h = ends refl
 
@@ -168,10 +200,9 @@ no_feed ahead = refl
 no_feed (dropping (in_node (fresh b))) = refl
 no_feed (dropping (in_node (spaced b))) = refl
 no_feed (dropping _) = refl
-no_feed (under valued opened) = refl
-no_feed (under valued named) = refl
-no_feed (under valued closed) = refl
-no_feed (under valued keyed) = refl
+no_feed (under (in_node (fresh b))) = refl
+no_feed (under (in_node (spaced b))) = refl
+no_feed (under _) = refl
 no_feed word = refl
 no_feed done = refl
 
@@ -179,17 +210,13 @@ no_feed done = refl
 abbrev worded : Phase → Bool
 worded (dropping (in_node (fresh b))) = true
 worded (dropping (type_name b)) = true
-worded (under valued named) = true
+worded (under (type_name b)) = true
 worded word = true
 worded done = true
 worded _ = false
 
 to_worded : (c d : Phase) → Some c ≡ Some d → worded c ≡ true → worded d ≡ true
 to_worded c d e h = let q : c ≡ d = cc in subst (λ (z : Phase). worded z ≡ true) q h
-
-valued_worded : (valued : Bool) (d : Phase) → if_valued valued ≡ Some d → worded d ≡ true
-valued_worded true d e = to_worded _ d e refl
-valued_worded false d e = absurd cc
 
 behind_string : (c : Phase) (v : Text) (d : Phase) → turn c (string v) ≡ Some d → worded d ≡ true
 behind_string ahead v d e = to_worded _ d e refl
@@ -201,10 +228,14 @@ behind_string (dropping (type_done b)) v d e = to_worded _ d e refl
 behind_string (dropping property) v d e = to_worded _ d e refl
 behind_string (dropping entry_slashdash) v d e = to_worded _ d e refl
 behind_string (dropping _) v d e = absurd cc
-behind_string (under valued opened) v d e = to_worded _ d e refl
-behind_string (under valued named) v d e = absurd cc
-behind_string (under valued closed) v d e = to_worded _ d e refl
-behind_string (under valued keyed) v d e = to_worded _ d e refl
+behind_string (under (in_node (spaced b))) v d e = to_worded _ d e refl
+behind_string (under gap) v d e = to_worded _ d e refl
+behind_string (under node_slashdash) v d e = to_worded _ d e refl
+behind_string (under (type_open b)) v d e = to_worded _ d e refl
+behind_string (under (type_done b)) v d e = to_worded _ d e refl
+behind_string (under property) v d e = to_worded _ d e refl
+behind_string (under entry_slashdash) v d e = to_worded _ d e refl
+behind_string (under _) v d e = absurd cc
 behind_string word v d e = absurd cc
 behind_string done v d e = absurd cc
 
@@ -215,10 +246,11 @@ behind_value (dropping (type_done true)) v d e = to_worded _ d e refl
 behind_value (dropping property) v d e = to_worded _ d e refl
 behind_value (dropping entry_slashdash) v d e = to_worded _ d e refl
 behind_value (dropping _) v d e = absurd cc
-behind_value (under valued opened) v d e = absurd cc
-behind_value (under valued named) v d e = absurd cc
-behind_value (under valued closed) v d e = valued_worded valued d e
-behind_value (under valued keyed) v d e = to_worded _ d e refl
+behind_value (under (in_node (spaced b))) v d e = to_worded _ d e refl
+behind_value (under (type_done true)) v d e = to_worded _ d e refl
+behind_value (under property) v d e = to_worded _ d e refl
+behind_value (under entry_slashdash) v d e = to_worded _ d e refl
+behind_value (under _) v d e = absurd cc
 behind_value word v d e = absurd cc
 behind_value done v d e = absurd cc
 
@@ -244,11 +276,11 @@ next_end (dropping (type_name b)) (value v) d w e = absurd cc
 next_end (dropping (type_name b)) left d w e = absurd cc
 next_end (dropping (type_name b)) bom d w e = absurd cc
 next_end (dropping (type_name b)) _ d w e = refl
-next_end (under valued named) (string v) d w e = absurd cc
-next_end (under valued named) (value v) d w e = absurd cc
-next_end (under valued named) left d w e = absurd cc
-next_end (under valued named) bom d w e = absurd cc
-next_end (under valued named) _ d w e = refl
+next_end (under (type_name b)) (string v) d w e = absurd cc
+next_end (under (type_name b)) (value v) d w e = absurd cc
+next_end (under (type_name b)) left d w e = absurd cc
+next_end (under (type_name b)) bom d w e = absurd cc
+next_end (under (type_name b)) _ d w e = refl
 next_end _ k d w e = absurd cc
 
 -- what ends a value goes on with none
@@ -272,7 +304,7 @@ word_fits word w = (refl, refl)
 word_fits done w = (refl, refl)
 word_fits (dropping (in_node (fresh b))) w = (no_space, refl)
 word_fits (dropping (type_name b)) w = (no_right, refl)
-word_fits (under valued named) w = (no_right, refl)
+word_fits (under (type_name b)) w = (no_right, refl)
 word_fits _ w = absurd cc
 
 fits_rest : (c : Phase) (k : Token) (d : Phase) → turn c k ≡ Some d → Fits k (rest_text d)
@@ -291,7 +323,7 @@ fits_rest c bom d e = tt
 
 placed : {c d : Phase} {s r : Text} → Placed c → GoesBy turn c s d r → Placed d
 placed h here = h
-placed h (goes {c = c} {c' = c'} {k = k} b e g) = placed (turn_placed c k c' e) g
+placed h (goes {c = c} {c' = c'} {k = k} b e g) = placed (turn_placed c k c' h e) g
 
 -- what it goes over begins a derived text
 pub entry_alive : (p r : Text) (c : Phase) → EntryReaches (p ++ r) c r → BeginsSome DerivedEntry p

@@ -3,7 +3,7 @@
 ghost use Rattle.kdl_control.specs.Internal.Views.{phase_view};
 ghost use Rattle.kdl_entry.specs.Internal.Building.{item_view, Stays};
 ghost use Rattle.kdl_entry.specs.Internal.EntryMachine as machine;
-ghost use Rattle.kdl_entry.specs.Internal.EntryMachine.{argument_of, begins_next, dropped_turn, ended, entry_by, finish, in_dropped, keyed_item, opened_item, step, word_at};
+ghost use Rattle.kdl_entry.specs.Internal.EntryMachine.{argument_of, dropped_turn, ended, entry_by, finish, keyed_item, opened_item, step, word_at};
 ghost use Rattle.kdl_entry.specs.Internal.EntryReading.{word_view, state_view, AnswersEntryText, Stands, Stepped, Ended};
 ghost use Rattle.kdl_lexer.specs.Internal.Handed.{kind_view};
 ghost use Rattle.kdl_entry.specs.Places.{between};
@@ -211,37 +211,15 @@ fn at_under<'a>(
     Ok(State::Done(entry, at.end))
 }
 
-/// Whether a text that is one entry has the phase from a slashdash on.
-fn in_dropped(phase: Phase) -> bool
-    ensures { result ≡ in_dropped (phase_view phase) }
-{
-    match phase {
-        Phase::EntrySlashdash | Phase::Property => true,
-        Phase::TypeOpen(_) | Phase::TypeName(_) | Phase::TypeDone(_) => true,
-        Phase::InNode(spot) => !matches!(spot, Spot::Later),
-        _ => false,
-    }
-}
-
-/// The phase after a token in or directly after a slashdashed entry, or `None` if the token may not be here.
+/// The phase after a token in or after a slashdashed entry, or `None` if the token may not be here.
 fn dropped_turn(phase: Phase, kind: &TokenKind) -> Option<Phase>
     ensures { option_map phase_view result ≡ dropped_turn (phase_view phase) (kind_view kind.now) }
 {
     match (phase, kind) {
         (Phase::InNode(Spot::Fresh(_)), TokenKind::Slashdash) => None,
-        _ => phase.after(kind).filter(|phase| in_dropped(*phase)),
+        (Phase::InNode(_), TokenKind::Newline | TokenKind::Semicolon) => None,
+        _ => phase.after(kind),
     }
-}
-
-/// Whether the token begins an entry that is not slashdashed, after one that is.
-fn begins_next(phase: Phase, kind: &TokenKind) -> bool
-    ensures { result ≡ begins_next (phase_view phase) (kind_view kind.now) }
-{
-    matches!(phase, Phase::InNode(Spot::Spaced(_)))
-        && matches!(
-            kind,
-            TokenKind::String(_) | TokenKind::Value(_) | TokenKind::Left
-        )
 }
 
 /// Takes a token in or after a slashdashed entry.
@@ -258,12 +236,15 @@ fn at_dropping<'a>(
         token.entry.at.start result }
     ensures stays { Stays lexer.old lexer.new }
 {
-    if begins_next(phase, &token.kind) {
-        return at_start(alloc, lexer, whole, token);
-    }
-    match dropped_turn(phase, &token.kind) {
-        Some(next) => Ok(State::Dropping(next)),
-        None => Err(LexFailure::Faulty(fault_at(&token.at.start))),
+    let is_spaced = matches!(phase, Phase::InNode(Spot::Spaced(_)));
+    match token.kind {
+        TokenKind::String(_) | TokenKind::Value(_) | TokenKind::Left if is_spaced => {
+            at_start(alloc, lexer, whole, token)
+        }
+        _ => match dropped_turn(phase, &token.kind) {
+            Some(next) => Ok(State::Dropping(next)),
+            None => Err(LexFailure::Faulty(fault_at(&token.at.start))),
+        },
     }
 }
 
