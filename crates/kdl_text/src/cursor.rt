@@ -275,6 +275,14 @@ impl<'a> Model for Piece<'a> {
 }
 
 impl<'a> Piece<'a> {
+    /// Returns the characters of the piece.
+    #[inline]
+    pub(crate) fn characters(&self) -> Characters<'a>
+        ensures { result ≡ self.now }
+    {
+        Characters { text: self.text }
+    }
+
     /// Returns a copy of the piece. An empty piece does not allocate.
     #[inline]
     pub fn to_string(&self, alloc: Global) -> Result<String, AllocError>
