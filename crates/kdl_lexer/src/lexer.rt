@@ -355,12 +355,12 @@ fn plain_token(
     ensures moves { Moves cursor.old cursor.new }
     ensures costs { KindCosts 22 result cursor.old cursor.new }
 {
-    if is_identifier_char(c) {
-        return word_token(c, cursor, alloc, start);
-    }
     if is_space(c) {
         cursor.skip(Class::Space);
         return Ok(TokenKind::Space);
+    }
+    if is_identifier_char(c) {
+        return word_token(c, cursor, alloc, start);
     }
     if is_newline_char(c) {
         let _ = newline(cursor);
