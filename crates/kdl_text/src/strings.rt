@@ -13,7 +13,7 @@ ghost use Rattle.kdl_text.specs.Strings as spec;
 ghost use Rattle.kdl_text.specs.Strings.{QuotedBody, StringUnit, IsUnit, HexNumber, Run, unit_value};
 ghost use Rattle.kdl_text.specs.declared.strings.StringFault.TheVariants.{Newline, Banned};
 ghost use Rattle.kdl_text.specs.declared.strings.StringFailure.TheVariants.{Memory, Fault};
-ghost use Rattle.std.specs.Prelude.{◌≡◌, ◌&&◌, ◌||◌, ℕ, true, false, ◌∷◌, ◌++◌, MatchOption, MatchResult, IfSome, IfNone, IfOk, IfErr, string_bytes};
+ghost use Rattle.std.specs.Prelude.{◌≡◌, ◌&&◌, ◌||◌, ℕ, true, false, ◌∷◌, ◌++◌, MatchOption, MatchResult, IfSome, IfNone, IfOk, IfErr, string_bytes, encode_utf8};
 ghost use Rattle.std.specs.List.{list_all};
 ghost use Rattle.std.specs.Str.{chars, bytes_eq};
 
@@ -274,6 +274,20 @@ pub fn escaped_unit(cursor: &mut Cursor) -> Result<Option<char>, StringFault>
     Ok(Some(c))
 }
 
+/// How many bytes to reserve in a short string after its first escape.
+const ROOM: usize = 96;
+
+/// Appends the character of an escape.
+fn push_escaped(out: &mut String, c: char) -> Result<(), AllocError>
+    ensures { IfOk result (λ _. string_bytes out.new ≡ string_bytes out.old ++ encode_utf8 c) }
+{
+    if out.capacity() < ROOM {
+        out.reserve(ROOM)?;
+    }
+    out.push(c)?;
+    Ok(())
+}
+
 /// Reads what follows a backslash, and appends its character, or nothing for spaces and newlines.
 fn escape(cursor: &mut Cursor, out: &mut String) -> Result<(), StringFailure>
     ensures found { IfOk result
@@ -286,7 +300,7 @@ fn escape(cursor: &mut Cursor, out: &mut String) -> Result<(), StringFailure>
 {
     match escaped_unit(cursor)? {
         Some(c) => {
-            out.push(c)?;
+            push_escaped(out, c)?;
             Ok(())
         }
         None => Ok(()),
