@@ -78,7 +78,7 @@ impl From<StringFault> for StringFailure {
 }
 
 /// Advances past the longest run of characters of the class, and returns it.
-#[inline]
+#[inline(always)]
 fn run_of<'a>(class: Class, cursor: &mut Cursor<'a>) -> Piece<'a>
     ensures run { Run (in_class class) cursor.old.rest cursor.new.rest }
     ensures result { cursor.old.rest ≡ result ++ cursor.new.rest }
@@ -135,7 +135,7 @@ fn follows_sign(characters: &mut Characters) -> bool
 }
 
 /// Whether identifier characters are a bare string.
-#[inline]
+#[inline(always)]
 fn has_bare_form(word: &Piece) -> bool
     ensures { result ≡ bare.bare_form word.now }
 {

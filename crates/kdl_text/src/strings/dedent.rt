@@ -245,11 +245,16 @@ fn push_plain<'a>(
         → LineValue prefix.now (literals segment.now) v → ⊥) }
     ensures returned { Returned (2 * (bytes segment.now + 1)) cursor.old cursor.new }
 {
+    let mut characters = cursor.characters(segment);
+    let begins = eat_prefix(prefix, &mut characters);
+    if begins && characters.begins_text() {
+        characters.into_piece().push_to(out)?;
+        return Ok(());
+    }
     if is_space_segment(segment, cursor) {
         return Ok(());
     }
-    let mut characters = cursor.characters(segment);
-    if !eat_prefix(prefix, &mut characters) {
+    if !begins {
         return Err(StringFailure::Fault(StringFault::NoPrefix));
     }
     characters.into_piece().push_to(out)?;
