@@ -2,9 +2,9 @@
 //! text.
 //!
 //! Readers look at a text only through a `Cursor`, which counts each look and each byte of a slice.
-//! A slice is a `Piece`, which can be copied, or compared as a whole. Text that is read again is a
-//! `Segment`: a cursor enters it and counts each look in it, or counts its bytes at once and
-//! returns its `Characters`.
+//! A slice is a `Piece`, which can be copied, or compared as a whole, or read by its `Characters`.
+//! Text that is read again is a `Segment`: a cursor enters it and counts each look in it, or counts
+//! its bytes at once and returns its `Characters`.
 
 ghost use Rattle.kdl_text.specs.Chars as class;
 ghost use Rattle.kdl_text.specs.Chars.{Text};
@@ -212,7 +212,7 @@ impl<'a> Segment<'a> {
     }
 }
 
-/// The characters of a segment, whose bytes were counted. Each character is read once.
+/// The characters of a segment or a piece, whose bytes were counted. Each character is read once.
 #[derive(Drop)]
 pub struct Characters<'a> {
     text: &'a str,
@@ -270,7 +270,8 @@ impl<'a> Characters<'a> {
     }
 }
 
-/// A piece of a text, whose slice was counted. It can be copied, or compared as a whole.
+/// A piece of a text, whose slice was counted. It can be copied, or compared as a whole, or read by
+/// its characters.
 #[derive(Drop)]
 pub struct Piece<'a> {
     text: &'a str,
