@@ -7,7 +7,7 @@ ghost use Rattle.kdl_lexer.specs.Pieces as spec;
 ghost use Rattle.kdl_lexer.specs.Internal.Handed.{Lexed, LexCosts, ReadsKind, KindCosts, IsFaultAt, Passes, IsPunctuation};
 ghost use Rattle.kdl_value.specs.Tree.{value_tree};
 ghost use Rattle.kdl_lexer.specs.declared.lexer.LexFailure.TheVariants.{Memory};
-ghost use Rattle.kdl_text.specs.Chars.{starts, is_identifier_char};
+ghost use Rattle.kdl_text.specs.Chars.{starts, is_identifier_char, is_space};
 ghost use Rattle.kdl_text.specs.Numbers as numbers;
 ghost use Rattle.kdl_text.specs.Numbers.{FloatText};
 ghost use Rattle.kdl_text.specs.Internal.Here.{Ahead, Ate, Stayed, looked, sliced, first, tail};
@@ -341,8 +341,8 @@ fn sign_kind(c: char) -> Option<TokenKind>
     }
 }
 
-/// Reads the token that begins with the character c here, which is not one of `" # / \`.
-#[tactic(auto, using(crate::proofs::Lexing::TokenReads::spaces_here, crate::proofs::Lexing::TokenReads::skip_moves, crate::proofs::Lexing::TokenReads::newline_here, crate::proofs::Lexing::TokenReads::newline_costs, crate::proofs::Lexing::TokenReads::punctuation_here, crate::proofs::Lexing::TokenReads::take_moves, crate::proofs::Lexing::TokenReads::punctuation_costs))]
+/// Reads the token that begins with the character c here, which is neither a space nor one of `" # / \`.
+#[tactic(auto, using(crate::proofs::Lexing::TokenReads::newline_here, crate::proofs::Lexing::TokenReads::newline_costs, crate::proofs::Lexing::TokenReads::punctuation_here, crate::proofs::Lexing::TokenReads::take_moves, crate::proofs::Lexing::TokenReads::punctuation_costs))]
 fn plain_token(
     c: char,
     cursor: &mut Cursor,
@@ -351,16 +351,13 @@ fn plain_token(
 ) -> Result<TokenKind, LexFailure>
     requires first { first cursor.old.rest ≡ Some c }
     requires plain { ((c == 34 || c == 35) || (c == 47 || c == 92)) ≡ false }
+    requires no_space { is_space c ≡ false }
     ensures read { ReadsKind cursor.old.rest start.now result cursor.new.rest }
     ensures moves { Moves cursor.old cursor.new }
     ensures costs { KindCosts 22 result cursor.old cursor.new }
 {
     if is_identifier_char(c) {
         return word_token(c, cursor, alloc, start);
-    }
-    if is_space(c) {
-        cursor.skip(Class::Space);
-        return Ok(TokenKind::Space);
     }
     if is_newline_char(c) {
         let _ = newline(cursor);
@@ -375,14 +372,15 @@ fn plain_token(
     }
 }
 
-/// Reads the token that begins with the character c here, and returns its kind.
+/// Reads the token that begins with the character c here, which is not a space, and returns its kind.
 fn token_kind(
     c: char,
     cursor: &mut Cursor,
     alloc: Global,
     start: &Checkpoint,
 ) -> Result<TokenKind, LexFailure>
-    requires { first cursor.old.rest ≡ Some c }
+    requires first { first cursor.old.rest ≡ Some c }
+    requires no_space { is_space c ≡ false }
     ensures read { ReadsKind cursor.old.rest start.now result cursor.new.rest }
     ensures moves { Moves cursor.old cursor.new }
     ensures costs { KindCosts 22 result cursor.old cursor.new }
@@ -394,6 +392,32 @@ fn token_kind(
         '\\' => escline_token(cursor, start),
         _ => plain_token(c, cursor, alloc, start),
     }
+}
+
+/// Reads the token that begins with the character c here, and returns its kind. Spaces and newlines, which are the
+/// most common tokens, are read where this is called.
+#[inline(always)]
+#[tactic(auto, using(crate::proofs::Lexing::TokenReads::spaces_here, crate::proofs::Lexing::TokenReads::skip_moves, crate::proofs::Lexing::TokenReads::line_feed_here, crate::proofs::Lexing::TokenReads::take_moves, crate::proofs::Lexing::TokenReads::punctuation_costs))]
+fn any_token(
+    c: char,
+    cursor: &mut Cursor,
+    alloc: Global,
+    start: &Checkpoint,
+) -> Result<TokenKind, LexFailure>
+    requires { first cursor.old.rest ≡ Some c }
+    ensures read { ReadsKind cursor.old.rest start.now result cursor.new.rest }
+    ensures moves { Moves cursor.old cursor.new }
+    ensures costs { KindCosts 22 result cursor.old cursor.new }
+{
+    if is_space(c) {
+        cursor.skip(Class::Space);
+        return Ok(TokenKind::Space);
+    }
+    if c == '\n' {
+        let _ = cursor.take();
+        return Ok(TokenKind::Newline);
+    }
+    token_kind(c, cursor, alloc, start)
 }
 
 /// The tokens of a text, one at a time.
@@ -519,7 +543,7 @@ impl<'a> Lexer<'a> {
         let Some(c) = self.cursor.look() else {
             return Ok(None);
         };
-        let kind = token_kind(c, &mut self.cursor, alloc, &start)?;
+        let kind = any_token(c, &mut self.cursor, alloc, &start)?;
         Ok(Some(Token {
             kind,
             at: TokenSpan::new(start, self.cursor.checkpoint()),

@@ -1,6 +1,7 @@
 //! Characters: their classes, and the runs of one class at the start of a text.
 
 ghost use Rattle.kdl_text.specs.Chars as class;
+ghost use Rattle.kdl_text.specs.Chars.{starts};
 ghost use Rattle.kdl_text.specs.Internal.Here.{first, in_class, RunOf, AsciiOf};
 ghost use Rattle.kdl_text.specs.Spans.{bytes};
 ghost use Rattle.kdl_text.specs.Internal.Tables.{TableOf};
@@ -16,12 +17,12 @@ use crate::tables::{inside_len, is_inside};
 pub fn is_space(c: char) -> bool
     ensures { result ≡ class.is_space c }
 {
+    if c.is_ascii() {
+        return matches!(c, '\t' | ' ');
+    }
     matches!(
         c,
-        '\t' | ' ' | '\u{a0}' | '\u{1680}' | '\u{2000}'..='\u{200a}'
-            | '\u{202f}'
-            | '\u{205f}'
-            | '\u{3000}'
+        '\u{a0}' | '\u{1680}' | '\u{2000}'..='\u{200a}' | '\u{202f}' | '\u{205f}' | '\u{3000}'
     )
 }
 
@@ -31,7 +32,10 @@ pub fn is_space(c: char) -> bool
 pub fn is_newline_char(c: char) -> bool
     ensures { result ≡ class.is_newline_char c }
 {
-    matches!(c, '\n'..='\r' | '\u{85}' | '\u{2028}' | '\u{2029}')
+    if c.is_ascii() {
+        return matches!(c, '\n'..='\r');
+    }
+    matches!(c, '\u{85}' | '\u{2028}' | '\u{2029}')
 }
 
 /// Returns whether KDL 2.0.0 bans the character from documents (Disallowed Literal Code Points). In
@@ -273,7 +277,7 @@ fn skip_beyond<'a>(text: &str, behind: &'a str, read: u64, class: Class) -> (&'a
 /// Returns the text after its longest run of characters of the class, and the number of characters
 /// in the run.
 #[inline]
-pub(crate) fn skip_class(text: &str, class: Class) -> (&str, u64)
+fn skip_run(text: &str, class: Class) -> (&str, u64)
     ensures { RunOf (in_class class) text.now result.0.now result.1 }
 {
     let (rest, count) = skip_ascii(text, class);
@@ -284,4 +288,40 @@ pub(crate) fn skip_class(text: &str, class: Class) -> (&str, u64)
         return (rest, count);
     }
     skip_beyond(text, rest, count, class)
+}
+
+/// Whether the text begins with a space.
+#[inline(always)]
+fn begins_space(text: &str) -> bool
+    ensures { result ≡ starts class.is_space (chars text.now) }
+{
+    match first_char(text) {
+        Some(c) => is_space(c),
+        None => false,
+    }
+}
+
+/// The text after the U+0020 with which the text begins, if no other space follows it.
+#[inline(always)]
+fn after_one_space(text: &str) -> Option<&str>
+    ensures { IfSome result (λ rest. RunOf class.is_space text.now rest.now 1) }
+{
+    match split_first(text) {
+        Some((c, rest)) if c == ' ' && !begins_space(rest) => Some(rest),
+        _ => None,
+    }
+}
+
+/// Returns the text after its longest run of characters of the class, and the number of characters
+/// in the run. Most runs of spaces are one character.
+#[inline(always)]
+pub(crate) fn skip_class(text: &str, class: Class) -> (&str, u64)
+    ensures { RunOf (in_class class) text.now result.0.now result.1 }
+{
+    if let Class::Space = class {
+        if let Some(rest) = after_one_space(text) {
+            return (rest, 1);
+        }
+    }
+    skip_run(text, class)
 }

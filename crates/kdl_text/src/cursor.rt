@@ -2,9 +2,9 @@
 //! text.
 //!
 //! Readers look at a text only through a `Cursor`, which counts each look and each byte of a slice.
-//! A slice is a `Piece`, which can be copied, or compared as a whole. Text that is read again is a
-//! `Segment`: a cursor enters it and counts each look in it, or counts its bytes at once and
-//! returns its `Characters`.
+//! A slice is a `Piece`, which can be copied, or compared as a whole, or read by its `Characters`.
+//! Text that is read again is a `Segment`: a cursor enters it and counts each look in it, or counts
+//! its bytes at once and returns its `Characters`.
 
 ghost use Rattle.kdl_text.specs.Chars as class;
 ghost use Rattle.kdl_text.specs.Chars.{Text};
@@ -12,10 +12,10 @@ ghost use Rattle.kdl_text.specs.Internal.Here.{Ahead, Behind, Skips, Took, Ate, 
 ghost use Rattle.kdl_text.specs.Spans.{bytes, raise};
 ghost use Rattle.kdl_text.specs.Internal.Reading.{Moves, Costs, ReadsNewline};
 ghost use Rattle.kdl_text.specs.Spans as spans;
-ghost use Rattle.std.specs.Prelude.{◌≡◌, ◌+◌, ◌<◌, ◌^◌, ◌++◌, ◌∷◌, [], length, MatchOption, IfOk, IsTrue, ◌↔◌, string_bytes};
+ghost use Rattle.std.specs.Prelude.{◌≡◌, ◌+◌, ◌<◌, ◌^◌, ◌++◌, ◌∷◌, [], length, MatchOption, IfOk, IsTrue, ◌↔◌, not, string_bytes};
 ghost use Rattle.std.specs.Str.{chars};
 
-use crate::chars::{Class, first_char, is_newline_char, skip_class, split_first};
+use crate::chars::{Class, first_char, is_newline_char, is_space, skip_class, split_first};
 use crate::span::SourceSpan;
 use std::alloc::{AllocError, Global};
 use std::marker::Model;
@@ -212,7 +212,7 @@ impl<'a> Segment<'a> {
     }
 }
 
-/// The characters of a segment, whose bytes were counted. Each character is read once.
+/// The characters of a segment or a piece, whose bytes were counted. Each character is read once.
 #[derive(Drop)]
 pub struct Characters<'a> {
     text: &'a str,
@@ -242,6 +242,17 @@ impl<'a> Characters<'a> {
         }
     }
 
+    /// Returns whether there is a next character, which is not a space.
+    #[inline]
+    pub(crate) fn begins_text(&self) -> bool
+        ensures { result ≡ class.starts (λ c. not (class.is_space c)) self.now }
+    {
+        match first_char(self.text) {
+            Some(c) => !is_space(c),
+            None => false,
+        }
+    }
+
     /// Returns the number of bytes of the remaining characters.
     #[inline]
     pub fn byte_len(&self) -> usize
@@ -259,7 +270,8 @@ impl<'a> Characters<'a> {
     }
 }
 
-/// A piece of a text, whose slice was counted. It can be copied, or compared as a whole.
+/// A piece of a text, whose slice was counted. It can be copied, or compared as a whole, or read by
+/// its characters.
 #[derive(Drop)]
 pub struct Piece<'a> {
     text: &'a str,
@@ -275,6 +287,14 @@ impl<'a> Model for Piece<'a> {
 }
 
 impl<'a> Piece<'a> {
+    /// Returns the characters of the piece.
+    #[inline]
+    pub(crate) fn characters(&self) -> Characters<'a>
+        ensures { result ≡ self.now }
+    {
+        Characters { text: self.text }
+    }
+
     /// Returns a copy of the piece. An empty piece does not allocate.
     #[inline]
     pub fn to_string(&self, alloc: Global) -> Result<String, AllocError>

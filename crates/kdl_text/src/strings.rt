@@ -6,20 +6,20 @@
 ghost use Rattle.kdl_text.specs.Bare as bare;
 ghost use Rattle.kdl_text.specs.Bare.{BareString};
 ghost use Rattle.kdl_text.specs.Chars.{Text, is_digit, is_identifier_char, is_newline_char, within};
-ghost use Rattle.kdl_text.specs.Internal.Here.{Counted, in_class};
+ghost use Rattle.kdl_text.specs.Internal.Here.{first, in_class};
 ghost use Rattle.kdl_text.specs.MultiLine.{IsQuoted};
 ghost use Rattle.kdl_text.specs.Internal.Reading.{Moves, Costs};
 ghost use Rattle.kdl_text.specs.Strings as spec;
 ghost use Rattle.kdl_text.specs.Strings.{QuotedBody, StringUnit, IsUnit, HexNumber, Run, unit_value};
 ghost use Rattle.kdl_text.specs.declared.strings.StringFault.TheVariants.{Newline, Banned};
 ghost use Rattle.kdl_text.specs.declared.strings.StringFailure.TheVariants.{Memory, Fault};
-ghost use Rattle.std.specs.Prelude.{◌≡◌, ◌&&◌, ◌||◌, ℕ, true, false, ◌∷◌, ◌++◌, MatchOption, MatchResult, IfSome, IfNone, IfOk, IfErr, string_bytes};
+ghost use Rattle.std.specs.Prelude.{◌≡◌, ◌&&◌, ◌||◌, ℕ, true, false, ◌∷◌, ◌++◌, MatchOption, MatchResult, IfSome, IfNone, IfOk, IfErr, string_bytes, encode_utf8};
 ghost use Rattle.std.specs.List.{list_all};
 ghost use Rattle.std.specs.Str.{chars, bytes_eq};
 
 use self::multiline::many_lines;
 use crate::chars::{Class, is_digit, is_newline_char, is_space};
-use crate::cursor::{Cursor, Piece};
+use crate::cursor::{Characters, Cursor, Piece};
 use std::alloc::{AllocError, Global};
 
 mod dedent;
@@ -78,7 +78,7 @@ impl From<StringFault> for StringFailure {
 }
 
 /// Advances past the longest run of characters of the class, and returns it.
-#[inline]
+#[inline(always)]
 fn run_of<'a>(class: Class, cursor: &mut Cursor<'a>) -> Piece<'a>
     ensures run { Run (in_class class) cursor.old.rest cursor.new.rest }
     ensures result { cursor.old.rest ≡ result ++ cursor.new.rest }
@@ -97,57 +97,53 @@ fn is_word(piece: &Piece, word: &str) -> bool
     piece.is(word)
 }
 
-/// Whether the piece is one of the words that may not be bare strings.
-fn is_excluded(piece: &Piece) -> bool
+/// Whether the piece, which begins with the character c, is one of the words that may not be bare
+/// strings.
+#[inline]
+fn is_excluded(c: char, piece: &Piece) -> bool
+    requires { first piece.now ≡ Some c }
     ensures { result ≡ bare.is_excluded piece.now }
 {
-    is_word(piece, "true")
-        || is_word(piece, "false")
-        || is_word(piece, "null")
-        || is_word(piece, "inf")
-        || is_word(piece, "nan")
+    match c {
+        't' => is_word(piece, "true"),
+        'f' => is_word(piece, "false"),
+        'n' => is_word(piece, "null") || is_word(piece, "nan"),
+        'i' => is_word(piece, "inf"),
+        _ => false,
+    }
 }
 
-/// Whether what comes next may follow a point in a bare string.
-fn follows_point(cursor: &mut Cursor) -> bool
-    ensures result { result ≡ bare.after_point cursor.old.rest }
-    ensures counted { Counted 1 cursor.old cursor.new }
+/// Whether the next character may follow a point in a bare string.
+fn follows_point(characters: &mut Characters) -> bool
+    ensures { result ≡ bare.after_point characters.old }
 {
-    match cursor.take() {
+    match characters.next() {
         Some(c) => !is_digit(c),
         None => true,
     }
 }
 
-/// Whether what comes next may follow a sign in a bare string.
-fn follows_sign(cursor: &mut Cursor) -> bool
-    ensures result { result ≡ bare.after_sign cursor.old.rest }
-    ensures counted { Counted 2 cursor.old cursor.new }
+/// Whether the next characters may follow a sign in a bare string.
+fn follows_sign(characters: &mut Characters) -> bool
+    ensures { result ≡ bare.after_sign characters.old }
 {
-    match cursor.take() {
-        Some('.') => follows_point(cursor),
+    match characters.next() {
+        Some('.') => follows_point(characters),
         Some(c) => !is_digit(c),
         None => true,
     }
 }
 
-/// Whether the identifier characters from here to the end of the text, which are `word`, are a bare
-/// string.
-fn has_bare_form(word: &Piece, cursor: &mut Cursor) -> bool
-    requires { word.now ≡ cursor.old.rest }
-    ensures result { result ≡ bare.bare_form word.now }
-    ensures counted { Counted 3 cursor.old cursor.new }
+/// Whether identifier characters are a bare string.
+#[inline(always)]
+fn has_bare_form(word: &Piece) -> bool
+    ensures { result ≡ bare.bare_form word.now }
 {
-    match cursor.look() {
-        Some('+' | '-') => {
-            cursor.step();
-            follows_sign(cursor)
-        }
-        Some('.') => {
-            cursor.step();
-            follows_point(cursor)
-        }
-        Some(c) => !is_digit(c) && !is_excluded(word),
+    let mut characters = word.characters();
+    match characters.next() {
+        Some('+' | '-') => follows_sign(&mut characters),
+        Some('.') => follows_point(&mut characters),
+        Some(c) => !is_digit(c) && !is_excluded(c, word),
         None => false,
     }
 }
@@ -164,11 +160,8 @@ pub fn bare_string<'a>(cursor: &mut Cursor<'a>) -> Option<Piece<'a>>
     ensures costs { Costs 2 4 cursor.old cursor.new }
     ensures cost { IfSome result (λ _. Costs 24 0 cursor.old cursor.new) }
 {
-    let start = cursor.checkpoint();
     let word = run_of(Class::Identifier, cursor);
-    let place = cursor.enter(&start.up_to(&cursor.checkpoint()));
-    let is_bare = has_bare_form(&word, cursor);
-    cursor.go_to(&place);
+    let is_bare = has_bare_form(&word);
     if is_bare { Some(word) } else { None }
 }
 
@@ -281,6 +274,20 @@ pub fn escaped_unit(cursor: &mut Cursor) -> Result<Option<char>, StringFault>
     Ok(Some(c))
 }
 
+/// How many bytes to reserve in a short string after its first escape.
+const ROOM: usize = 96;
+
+/// Appends the character of an escape.
+fn push_escaped(out: &mut String, c: char) -> Result<(), AllocError>
+    ensures { IfOk result (λ _. string_bytes out.new ≡ string_bytes out.old ++ encode_utf8 c) }
+{
+    if out.capacity() < ROOM {
+        out.reserve(ROOM)?;
+    }
+    out.push(c)?;
+    Ok(())
+}
+
 /// Reads what follows a backslash, and appends its character, or nothing for spaces and newlines.
 fn escape(cursor: &mut Cursor, out: &mut String) -> Result<(), StringFailure>
     ensures found { IfOk result
@@ -293,7 +300,7 @@ fn escape(cursor: &mut Cursor, out: &mut String) -> Result<(), StringFailure>
 {
     match escaped_unit(cursor)? {
         Some(c) => {
-            out.push(c)?;
+            push_escaped(out, c)?;
             Ok(())
         }
         None => Ok(()),

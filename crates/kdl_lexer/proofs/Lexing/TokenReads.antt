@@ -11,6 +11,7 @@ use Rattle.std.specs.Str.{chars, IsAscii}
 use Rattle.std.specs.declared.alloc.Global.{Global}
 use Rattle.kdl_text.specs.Chars.{Text, Newline, Star, Plus, is_space, is_newline_char, is_identifier_char, is_banned, is_punctuation, begins_two, starts, times, is_digit, is_sign}
 use Rattle.kdl_text.specs.Chars.Star.{none, more}
+use Rattle.kdl_text.specs.Chars.Newline.{one as newline_one}
 use Rattle.kdl_text.specs.Chars.Plus.{plus}
 use Rattle.kdl_text.specs.Chars.Space.{space as space_char}
 use Rattle.kdl_text.specs.Bare.{BareString}
@@ -308,6 +309,13 @@ took_here c (Some d) a b h (x, y, z) = let e : d ≡ c = let f : first a.rest �
 
 pub punctuation_here : (c : ℕ) (k : TokenKind) (o : Option ℕ) (a b : Here) → first a.rest ≡ Some c → IsPunctuation c (Some k) → Took o a b → Cuts a.rest (kind_view k) b.rest
 punctuation_here c k o a b h i t = rw (took_here c o a b h t).0 (one (i b.rest))
+
+line_feed : (s : Text) → Newline (10 ∷ s) s
+unfolding is_newline_char
+line_feed s = newline_one refl refl
+
+pub line_feed_here : (c : ℕ) (o : Option ℕ) (a b : Here) → first a.rest ≡ Some c → c ≡ 10 → Took o a b → Cuts a.rest newline b.rest
+line_feed_here c o a b h e t = rw ((took_here c o a b h t).0, e) (one (t_newline (break_newline (line_feed b.rest))))
 
 pub take_moves : (c : ℕ) (o : Option ℕ) (a b : Here) → first a.rest ≡ Some c → Took o a b → Moves a b
 take_moves c o a b h t = moves_one (took_here c o a b h t)

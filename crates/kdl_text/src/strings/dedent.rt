@@ -38,10 +38,19 @@ pub enum Line<'a> {
     Units(Vec<LineUnit>),
 }
 
+/// How many lines to reserve for a string at first.
+const LINES: usize = 8;
+
+/// How many units to reserve for a line at first.
+const UNITS: usize = 64;
+
 /// Appends a line.
 pub fn add_line<'a>(lines: &mut Vec<Line<'a>>, line: Line<'a>) -> Result<(), AllocError>
     ensures { IfOk result (λ _. lines.new.items ≡ lines.old.items ++ line.entry ∷ []) }
 {
+    if lines.capacity() < LINES {
+        lines.reserve(LINES)?;
+    }
     lines.push(line)?;
     Ok(())
 }
@@ -58,6 +67,9 @@ pub fn push_unit(units: &mut Vec<LineUnit>, unit: LineUnit) -> Result<(), AllocE
 fn push_chars(units: &mut Vec<LineUnit>, mut characters: Characters) -> Result<(), AllocError>
     ensures { IfOk result (λ _. units.new.items ≡ units.old.items ++ literals characters.entry) }
 {
+    if units.capacity() < UNITS {
+        units.reserve(UNITS)?;
+    }
     units.reserve(characters.byte_len())?;
     'chars: while let Some(c) = characters.next() {
         push_unit(units, LineUnit::Literal(c))?;
@@ -233,11 +245,16 @@ fn push_plain<'a>(
         → LineValue prefix.now (literals segment.now) v → ⊥) }
     ensures returned { Returned (2 * (bytes segment.now + 1)) cursor.old cursor.new }
 {
+    let mut characters = cursor.characters(segment);
+    let begins = eat_prefix(prefix, &mut characters);
+    if begins && characters.begins_text() {
+        characters.into_piece().push_to(out)?;
+        return Ok(());
+    }
     if is_space_segment(segment, cursor) {
         return Ok(());
     }
-    let mut characters = cursor.characters(segment);
-    if !eat_prefix(prefix, &mut characters) {
+    if !begins {
         return Err(StringFailure::Fault(StringFault::NoPrefix));
     }
     characters.into_piece().push_to(out)?;

@@ -1,9 +1,6 @@
 use Rattle.std.proofs.Common.{sym, ◌∙◌}
-use Rattle.kdl_lexer.proofs.Lexing.TokenReads.{spaces_costs, other_here}
+use Rattle.kdl_lexer.proofs.Lexing.TokenReads.{other_here}
 use Rattle.kdl_lexer.proofs.lexer.plain_token.Goals as goal
 
-pub returns-then-is_space-clause-costs : goal.returns-then-is_space-clause-costs
-returns-then-is_space-clause-costs c = spaces_costs _ _ _ c.requires.first (sym c.is_space.ensures ∙ c.if-is_space.true) c.skip.ensures
-
 pub returns-in-None-clause-read : goal.returns-in-None-clause-read
-returns-in-None-clause-read c = other_here c.args.c _ c.args.cursor.now.rest _ _ c.requires.first c.requires.plain (sym c.is_identifier_char.ensures ∙ c.if-is_identifier_char.false) (sym c.is_space.ensures ∙ c.if-is_space.false) (sym c.is_newline_char.ensures ∙ c.if-is_newline_char.false) c.in-None.ensures c.fault_at.ensures
+returns-in-None-clause-read c = other_here c.args.c _ c.args.cursor.now.rest _ _ c.requires.first c.requires.plain (sym c.is_identifier_char.ensures ∙ c.if-is_identifier_char.false) c.requires.no_space (sym c.is_newline_char.ensures ∙ c.if-is_newline_char.false) c.in-None.ensures c.fault_at.ensures

@@ -1,7 +1,7 @@
 use Rattle.std.proofs.Common.{sym, ◌∙◌}
 use Rattle.kdl_text.specs.Internal.Here.{in_class}
 use Rattle.kdl_text.proofs.Looking.Runs.{ascii_ends, ascii_stops}
-use Rattle.kdl_text.proofs.chars.skip_class.Goals as goal
+use Rattle.kdl_text.proofs.chars.skip_run.Goals as goal
 
 pub returns-in_default : goal.returns-in_default
 returns-in_default c = ascii_ends (in_class c.args.class) _ _ _ c.skip_ascii-count.ensures c.in_default.ensures.first
