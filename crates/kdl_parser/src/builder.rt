@@ -5,7 +5,7 @@ ghost use Rattle.kdl_control.specs.declared.control.Spot.TheVariants.{Fresh, Spa
 ghost use Rattle.kdl_entry.specs.Internal.Building.{Stays};
 ghost use Rattle.kdl_grammar.specs.Internal.Machine.{initial};
 ghost use Rattle.kdl_parser.specs.Internal.Answered.{Finished};
-ghost use Rattle.kdl_parser.specs.Internal.Building.{state_view, EndsIn, Placed, under_view};
+ghost use Rattle.kdl_parser.specs.Internal.Building.{state_view, EndsIn, Placed};
 ghost use Rattle.kdl_parser.specs.Internal.Counted.{unsliced, SlicedOn};
 ghost use Rattle.kdl_parser.specs.Internal.States.{document_now, document_of_nodes, property_opened, spot_of, Steps, Takes, token_step};
 ghost use Rattle.kdl_parser.specs.declared.builder.dropping.Dropped.TheVariants.{Nothing};

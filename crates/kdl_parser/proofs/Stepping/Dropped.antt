@@ -1,26 +1,17 @@
 -- Inside what is slashdashed the machine's step is that of the machine without data.
-use Rattle.std.proofs.Common.{◌≡◌, ℕ, Bool, true, false, List, [], ◌∷◌, Option, Some, None, option_map, refl, sym, ap, ◌∙◌}
+use Rattle.std.proofs.Common.{◌≡◌, ℕ, true, false, List, [], ◌∷◌, Option, Some, None, option_map, refl, sym, ap, ◌∙◌}
 use Rattle.kdl_text.specs.Chars.{Text}
 use Rattle.kdl_control.specs.Control as c
-use Rattle.kdl_lexer.specs.Tokens.{Token, space, newline, slashdash, string, value, left, right, opening, closing, equals, semicolon, bom}
-use Rattle.kdl_grammar.specs.Internal.Machine.{Under, Kept, Frame, State, at, gap, in_node, fresh, spaced, later, pending, no_value, kept, step, finish, at_end}
-use Rattle.kdl_grammar.specs.Tree.{Node, Nodes}
-use Rattle.kdl_parser.specs.Internal.Building.{held, reading_view, under_view, node_now, kept_now, nodes_now, frames_view, in_phase, phase_now}
-use Rattle.kdl_control.specs.Internal.Views.{phase_view}
+use Rattle.kdl_lexer.specs.Tokens.{Token, space, closing}
+use Rattle.kdl_grammar.specs.Internal.Machine.{Under, Kept, Frame, State, step}
+use Rattle.kdl_grammar.specs.Tree.{Nodes}
+use Rattle.kdl_parser.specs.Internal.Building.{held, reading_view}
 use Rattle.kdl_control.specs.declared.control.Phase.{Phase}
-use Rattle.kdl_control.specs.declared.control.Phase.TheVariants.{Gap, InNode, Kept as KeptPhase}
-use Rattle.kdl_control.specs.declared.control.Spot.TheVariants.{Fresh, Spaced, Later}
-use Rattle.kdl_control.specs.declared.control.Word.TheVariants.{MayBeKey, NoKey}
-use Rattle.kdl_entry.specs.Tree.{plain_identifier}
-use Rattle.kdl_value.specs.Tree.{text_of}
-use Rattle.kdl_parser.specs.Internal.Parts.{document_by}
-use Rattle.kdl_parser.specs.declared.builder.Builder.{Builder}
-use Rattle.kdl_parser.specs.declared.builder.Under.{Under as Under'}
 use Rattle.kdl_parser.specs.Internal.Counted.{unsliced_at}
 use Rattle.kdl_parser.specs.declared.builder.dropping.Dropped.{Dropped}
 use Rattle.kdl_parser.specs.declared.builder.dropping.Dropped.TheVariants.{Nothing, Node as DroppedNode, Part as DroppedPart}
 use Rattle.kdl_parser.proofs.Stepping.Held.{not_reached}
-use Rattle.kdl_parser.specs.Internal.Dropping.{inside, frames, is_node_over, is_before_node, Reading, nothing, node, part, is_reading, is_over, next, reading_state, Begun}
+use Rattle.kdl_parser.specs.Internal.Dropping.{inside, is_node_over, is_before_node, Reading, nothing, node, part, is_reading, is_over, next, reading_state, Begun}
 
 -- the step inside is the step without data
 abbrev Steps : Text → Option Under → Option Kept → Option Nodes → List Frame → Text → c.Control → Token → Text → Text → Type 0
@@ -161,63 +152,6 @@ begun Nothing = tt
 begun (DroppedNode d) = tt
 begun (DroppedPart p) = p.begun
 
--- in an inner block the text may not end, and no node
-inner_ends : (p : c.Phase) (g : c.Frame) (gs : List c.Frame) → c.finish (c.at p (g ∷ gs)) ≡ false
-inner_ends c.gap g gs = refl
-inner_ends c.kept g gs = refl
-inner_ends (c.in_node p) g gs = refl
-inner_ends p g gs = refl
-
-inner_gap : (p : c.Phase) (g : c.Frame) (gs : List c.Frame) → c.is_gap (c.at p (g ∷ gs)) ≡ false
-inner_gap c.gap g gs = refl
-inner_gap p g gs = refl
-
-over_in : (p : c.Phase) (g : c.Frame) (gs : List c.Frame) (k : Token) → is_node_over k (c.at p (g ∷ gs)) ≡ false
-over_in p g gs closing = inner_ends p g gs
-over_in p g gs k = inner_gap p g gs
-
-gap_at : (p : c.Phase) → c.finish (c.at p []) ≡ false → c.is_gap (c.at p []) ≡ false
-gap_at c.gap e = absurd cc
-gap_at p e = refl
-
-over_at : (p : c.Phase) (k : Token) → (c.finish (c.at p []) ≡ false) → is_node_over k (c.at p []) ≡ false
-over_at p closing e = e
-over_at p k e = gap_at p e
-
--- after what is slashdashed the machine goes on as outside of it
-pub node_over : (whole : Text) (l : Option Nodes) (fs : List Frame) (from : Text) (d : c.Control) (k : Token) (s r : Text) → is_node_over k d ≡ true → step whole (inside None None l fs from d) k s r ≡ step whole (at gap l fs from) k s r
-node_over whole l fs from (c.at c.gap []) k s r e = refl
-node_over whole l fs from (c.at c.kept []) closing s r e = refl
-node_over whole l fs from (c.at c.kept []) k s r e = absurd cc
-node_over whole l fs from (c.at (c.in_node (c.fresh b)) []) closing s r e = refl
-node_over whole l fs from (c.at (c.in_node (c.spaced b)) []) closing s r e = refl
-node_over whole l fs from (c.at (c.in_node c.later) []) closing s r e = refl
-node_over whole l fs from (c.at (c.in_node p) []) k s r e = absurd cc
-node_over whole l fs from (c.at p []) k s r e = let f = over_at p k refl in absurd cc
-node_over whole l fs from (c.at p (g ∷ gs)) k s r e = let f = over_in p g gs k in absurd cc
-
--- the end of the text
-pub node_ends : (whole : Text) (l : Option Nodes) (fs : List Frame) (from : Text) (d : c.Control) → c.finish d ≡ true → finish whole (inside None None l fs from d) ≡ finish whole (at gap l fs from)
-node_ends whole l fs from (c.at c.gap []) e = refl
-node_ends whole l fs from (c.at c.kept []) e = refl
-node_ends whole l fs from (c.at (c.in_node p) []) e = refl
-node_ends whole l fs from (c.at p []) e = absurd cc
-node_ends whole l fs from (c.at p (g ∷ gs)) e = let f = inner_ends p g gs in absurd cc
-
-open_frames : (whole : Text) (u : Option Under) (x : Option Kept) (l m : Option Nodes) (fs : List Frame) (from : Text) (g : c.Frame) (gs : List c.Frame) → at_end whole m (frames u x l fs (g ∷ gs)) from ≡ None
-open_frames whole u x l m fs from g [] = refl
-open_frames whole u x l m fs from g (h ∷ gs) = refl
-
-pub unfinished : (whole : Text) (u : Option Under) (x : Option Kept) (l : Option Nodes) (fs : List Frame) (from : Text) (d : c.Control) → c.finish d ≡ false → finish whole (inside u x l fs from d) ≡ None
-unfinished whole u x l fs from (c.at c.gap []) e = absurd cc
-unfinished whole u x l fs from (c.at c.kept []) e = absurd cc
-unfinished whole u x l fs from (c.at (c.in_node p) []) e = absurd cc
-unfinished whole u x l fs from (c.at p []) e = refl
-unfinished whole u x l fs from (c.at c.gap (g ∷ gs)) e = open_frames whole u x l None fs from g gs
-unfinished whole u x l fs from (c.at c.kept (g ∷ gs)) e = open_frames whole u x l None fs from g gs
-unfinished whole u x l fs from (c.at (c.in_node p) (g ∷ gs)) e = open_frames whole u x l None fs from g gs
-unfinished whole u x l fs from (c.at p (g ∷ gs)) e = refl
-
 -- what goes on is slashdashed, so nothing of it is sliced
 none_next : (o : Option c.Control) (f : c.Control → Reading) → ((d : c.Control) → f d ≡ nothing → ⊥) → Some nothing ≡ option_map f o → ⊥
 none_next None f h e = absurd cc
@@ -229,17 +163,3 @@ still_dropped d (DroppedPart c) k p n m e = refl
 still_dropped nothing Nothing k p n m e = absurd cc
 still_dropped (node d) Nothing k p n m e = absurd (none_next (c.step d k) node (λ x y. cc) e)
 still_dropped (part d) Nothing k p n m e = absurd (none_next (c.step d k) part (λ x y. cc) e)
-
--- after a slashdashed part of a node, the phase is that of the control
-part_goes : {N : Type 0} (tree : N → Node) (b : Builder N) (u : Under') (p : Phase) (gs : List c.Frame) → c.finish (c.at (phase_view p) gs) ≡ true → under_view u ≡ node_now b
-    → inside (Some (node_now b)) (Some (kept_now tree b)) (nodes_now tree b) (frames_view tree b) b.from.rest (c.at (phase_view p) gs)
-    ≡ in_phase tree b (phase_now tree (record b { dropped = Nothing; under = u; waiting = None; phase = p }) p)
-part_goes tree b u Gap [] e f = refl
-part_goes tree b u (InNode (Fresh NoKey)) [] e f = ap (λ (z : Under). at (in_node (Some z) (fresh None)) (nodes_now tree b) (frames_view tree b) b.from.rest) (sym f)
-part_goes tree b u (InNode (Fresh MayBeKey)) [] e f = ap (λ (z : Under). at (in_node (Some z) (fresh (Some (pending (no_value (Some z)) (plain_identifier []) [])))) (nodes_now tree b) (frames_view tree b) b.from.rest) (sym f)
-part_goes tree b u (InNode (Spaced NoKey)) [] e f = ap (λ (z : Under). at (in_node (Some z) (spaced None)) (nodes_now tree b) (frames_view tree b) b.from.rest) (sym f)
-part_goes tree b u (InNode (Spaced MayBeKey)) [] e f = ap (λ (z : Under). at (in_node (Some z) (spaced (Some (pending (no_value (Some z)) (plain_identifier []) [])))) (nodes_now tree b) (frames_view tree b) b.from.rest) (sym f)
-part_goes tree b u (InNode Later) [] e f = ap (λ (z : Under). at (in_node (Some z) later) (nodes_now tree b) (frames_view tree b) b.from.rest) (sym f)
-part_goes tree b u KeptPhase [] e f = ap (λ (z : Under). at (kept (Some (record { under = z; before = text_of b.before; block = document_by tree b.block }))) (nodes_now tree b) (frames_view tree b) b.from.rest) (sym f)
-part_goes tree b u p [] e f = absurd cc
-part_goes tree b u p (g ∷ gs) e f = let h = inner_ends (phase_view p) g gs in absurd cc

@@ -4,8 +4,6 @@ use Rattle.kdl_text.specs.Internal.Here.{Here, Position}
 use Rattle.kdl_lexer.specs.declared.lexer.LexFailure.{LexFailure}
 use Rattle.kdl_lexer.specs.declared.lexer.LexFailure.TheVariants.{Faulty, Memory}
 use Rattle.kdl_grammar.specs.Internal.Machine.{State}
-use Rattle.kdl_grammar.specs.Tree.{Node, Document}
-use Rattle.kdl_parser.specs.Internal.Answered.{Finished}
 use Rattle.kdl_parser.specs.Internal.Building.{held, Did, Does}
 use Rattle.kdl_parser.specs.Internal.Counted.{SlicedOn}
 
@@ -18,10 +16,6 @@ does_did o want st place (Err Memory) d e = tt
 pub failed : (o : Option State) (want st st' : State) (place : Position) (e : LexFailure) → Does {A = Unit {0}} want (Err e) st → Did {A = Unit {0}} o place (Err e) st'
 failed o want st st' place (Faulty span) d = absurd d
 failed o want st st' place Memory d = tt
-
-pub unfinished_for_memory : {N : Type 0} (tree : N → Node) (o : Option Document) (want st : State) (place : Position) (e : LexFailure) → Does {A = Unit {0}} want (Err e) st → Finished tree o place (Err e)
-unfinished_for_memory tree o want st place (Faulty span) d = absurd d
-unfinished_for_memory tree o want st place Memory d = tt
 
 -- nothing was sliced
 pub none_sliced : {A : Type 0} (m n k : ℕ) (a : Here) (result : Result A LexFailure) → OnOk result (n ≡ m) → k ≡ m → SlicedOn result k n a a

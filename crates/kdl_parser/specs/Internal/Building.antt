@@ -1,7 +1,5 @@
 -- The machine's state that the builder's fields represent, and what its steps return.
 use Rattle.std.specs.Prelude.{◌≡◌, List, [], ◌∷◌, map, Option, Some, None, option_map, Result, Ok, Err}
-use Rattle.std.specs.declared.alloc.Global.{Global}
-use Rattle.std.specs.declared.vec.Vec.{Vec}
 use Rattle.kdl_text.specs.Chars.{Text}
 use Rattle.kdl_text.specs.Internal.Here.{Position}
 use Rattle.kdl_control.specs.Internal.Views.{owner_view, control_view}
@@ -17,7 +15,7 @@ use Rattle.kdl_value.specs.Data.{text}
 pub use Rattle.kdl_entry.specs.Internal.EntryReading.{EndsIn}
 use Rattle.kdl_lexer.specs.Internal.Handed.{IsFaultAt}
 use Rattle.kdl_entry.specs.Internal.Items as items
-use Rattle.kdl_entry.specs.Internal.Items.{KeyParts, entry_at}
+use Rattle.kdl_entry.specs.Internal.Items.{entry_at}
 use Rattle.kdl_entry.specs.Places.{span_of}
 use Rattle.kdl_value.specs.Tree.{text_of}
 use Rattle.kdl_entry.specs.Tree.{Identifier, identifier_tree, plain_identifier, Entry, entry_tree}

@@ -1,8 +1,6 @@
 -- The states to which the builder's methods bring it, in terms of the machine, and what is not sliced there yet.
 -- A token is at s and ends at r.
-use Rattle.std.specs.Prelude.{◌≡◌, ℕ, true, false, [], ◌∷◌, Option, Some, None, option_map, Result}
-use Rattle.std.specs.declared.alloc.Global.{Global}
-use Rattle.std.specs.declared.vec.Vec.{Vec}
+use Rattle.std.specs.Prelude.{◌≡◌, ℕ, true, false, [], ◌∷◌, Option, Some, None, Result}
 use Rattle.kdl_text.specs.Chars.{Text}
 use Rattle.kdl_text.specs.Internal.Here.{Here, Position}
 use Rattle.kdl_control.specs.declared.control.Word.{Word}

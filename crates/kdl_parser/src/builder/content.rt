@@ -249,11 +249,7 @@ impl<'a, N: ParsedNode> Builder<'a, N> {
     /// How the node ends whose terminator is the token.
     #[inline(always)]
     #[tactic(auto, using(kdl_lexer::proofs::Order::ahead))]
-    fn node_end(
-        &self,
-        lexer: &mut Lexer<'a>,
-        at: &TokenSpan<'a>,
-    ) -> Result<NodeEnd, AllocError>
+    fn node_end(&self, lexer: &mut Lexer<'a>, at: &TokenSpan<'a>) -> Result<NodeEnd, AllocError>
         requires from { Ahead self.now.from at.now.start }
         ensures before { IfOk result
             (λ n. text_of n.before ≡ between self.now.from.rest at.now.start.rest) }

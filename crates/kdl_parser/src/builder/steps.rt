@@ -236,7 +236,10 @@ impl<'a, N: ParsedNode> Builder<'a, N> {
         ensures { Steps N.tree (property_opened N.tree self.old MayBeKey at.now.start at.now.end) at.now.start (bytes self.old.from.rest) self.old result self.new lexer.old lexer.new }
     {
         let Some(word) = self.waiting.take() else {
-            put(&mut self.dropped, Dropped::part(self.alloc, Phase::Property));
+            put(
+                &mut self.dropped,
+                Dropped::part(self.alloc, Phase::Property),
+            );
             return Ok(());
         };
         let before = text_between(self.alloc, lexer, &self.from, &at.start)?;
