@@ -2,7 +2,8 @@
 //! text.
 //!
 //! Readers look at a text only through a `Cursor`, which counts each look and each byte of a slice.
-//! A slice is a `Piece`, which can be copied, or compared as a whole, or read by its `Characters`.
+//! A slice is a `Piece`, which can be copied, or compared as a whole, or read by its `Characters`, each
+//! of which is counted again (`count_looks`).
 //! Text that is read again is a `Segment`: a cursor enters it and counts each look in it, or counts
 //! its bytes at once and returns its `Characters`.
 
@@ -390,6 +391,14 @@ impl<'a> Cursor<'a> {
         ensures { self.new ≡ looked self.old }
     {
         self.steps.raise(1);
+    }
+
+    /// Counts looks at characters of a piece. Costs as many steps.
+    #[inline]
+    pub(crate) fn count_looks(&mut self, looks: u64)
+        ensures { self.new ≡ record self.old { steps = raise self.old.steps looks } }
+    {
+        self.steps.raise(looks);
     }
 
     /// Returns the place of the cursor, to slice from later.

@@ -134,7 +134,7 @@ fn follows_sign(characters: &mut Characters) -> bool
     }
 }
 
-/// Whether identifier characters are a bare string.
+/// Whether identifier characters are a bare string. Looks at three of them at most.
 #[inline(always)]
 fn has_bare_form(word: &Piece) -> bool
     ensures { result ≡ bare.bare_form word.now }
@@ -161,6 +161,7 @@ pub fn bare_string<'a>(cursor: &mut Cursor<'a>) -> Option<Piece<'a>>
     ensures cost { IfSome result (λ _. Costs 24 0 cursor.old cursor.new) }
 {
     let word = run_of(Class::Identifier, cursor);
+    cursor.count_looks(3);
     let is_bare = has_bare_form(&word);
     if is_bare { Some(word) } else { None }
 }

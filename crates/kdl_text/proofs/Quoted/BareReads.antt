@@ -5,7 +5,7 @@ use Rattle.std.specs.List.{list_all}
 use Rattle.kdl_text.specs.Chars.{Text, is_identifier_char, starts}
 use Rattle.kdl_text.specs.Bare.{BareString, bare, is_bare, bare_form}
 use Rattle.kdl_text.specs.Internal.Here.{Here}
-use Rattle.kdl_text.specs.Spans.{bytes}
+use Rattle.kdl_text.specs.Spans.{bytes, raise}
 use Rattle.kdl_text.specs.Internal.Reading.{Costs}
 use Rattle.kdl_text.specs.Strings.{Run}
 use Rattle.kdl_text.proofs.Looking.MovesJoin.{bytes-append}
@@ -56,7 +56,7 @@ module _ (x t r : Text) (i : Run is_identifier_char t r) (e : t ≡ x ++ r) wher
       let (ends, same) = past_only s w (bare f h k) in
       false≢true (sym v ∙ ap bare_form (sym same) ∙ (bare_parts w h).1)
 
-pub past_cost : (x : Text) (a e : Here) → a.rest ≡ x ++ e.rest → bare_form x ≡ true → Costs 2 1 a e → Costs 24 0 a e
-past_cost x a e t v k =
+pub past_cost : (x : Text) (a e d : Here) → a.rest ≡ x ++ e.rest → bare_form x ≡ true → Costs 2 1 a e → d ≡ record e { steps = raise e.steps 3 } → Costs 24 0 a d
+past_cost x a e d t v k f =
     let n = some_form x v in
-    record { most = omega (arith, k.most, ap bytes t, bytes-append x e.rest, length-bytes x); least = k.least }
+    rw f (record { most = omega (arith, k.most, ap bytes t, bytes-append x e.rest, length-bytes x); least = omega (arith, k.least) })
